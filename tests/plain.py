@@ -6,11 +6,11 @@ import os, sys
 
 sys.dont_write_bytecode = True
 
-from plain_campaign import Campaign, Month, Structure, Unit, World
-from plain_month import produce, recruit, season, sweep, tax, upkeep, work
+from plain_campaign import Campaign, Month, Structure, Unit, World, stock
+from plain_month import buy, produce, recruit, season, sell, sweep, tax, upkeep, work
 from plain_orders import build, each, form, give, guard, learn, move, name, place, quit_campaign, sail, transfer
 
-ENTRIES = "founding joining income wages recruiting study upkeep lost births starved left made used".split()
+ENTRIES = "founding joining income wages recruiting study upkeep lost births starved left made used bought sold stocked".split()
 
 # ---- the phases
 
@@ -21,6 +21,8 @@ def carry_out(c, m):
     each(c, m, place, "LEAVE", "ENTER", "PROMOTE")
     each(c, m, give, "GIVE", "PAY")
     each(c, m, transfer, "TRANSFER")
+    sell(c, m)
+    buy(c, m)
     tax(c, m)
     recruit(c, m)
     each(c, m, guard, "GUARD", flag="1")
@@ -120,6 +122,8 @@ def put(c, word, words):
     elif word == "structure":
         region, done, owner = map(int, words[1:])
         c.structures[len(c.structures) + 1] = Structure(words[0], region, done, owner)
+    elif word == "stock":
+        c.regions[int(words[0])][stock(words[1])] = int(words[2])
     elif word == "menless":
         c.units[int(words[0])].men, c.units[int(words[0])].days = 0, {}
     elif word == "next_unit":

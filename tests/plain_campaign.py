@@ -4,11 +4,13 @@ from dataclasses import dataclass, field
 
 HOLDING_LIMIT, MEN_LIMIT = 999_999_999, 999_999
 MONTH_LONG = ("STUDY", "TEACH", "WORK", "PRODUCE", "BUILD", "MOVE", "SAIL")
-KNOWN = "NAME GUARD ENTER BOARD LEAVE TAX WORK PROMOTE GIVE PAY TRANSFER RECRUIT QUIT STUDY PRODUCE TEACH BUILD MOVE SAIL".split()
+KNOWN = "NAME GUARD ENTER BOARD LEAVE TAX WORK PROMOTE GIVE PAY TRANSFER SELL BUY RECRUIT QUIT STUDY PRODUCE TEACH BUILD MOVE SAIL".split()
 FAULTS = (
     "NotYours NotHere NotEnough NoRoom Guarded NotOwner NotInside UnitLimit AtSea NoMen WrongNumber NotGuarding NoSkill NoMaterial Complete "
-    "StructureLimit NoWay TooHeavy NotComplete NoCrew NotLearning CannotTeach NoFee"
+    "StructureLimit NoWay TooHeavy NotComplete NoCrew NotLearning CannotTeach NoFee NoMarket"
 ).split()
+# verbs of which a unit carries out one order, the last
+ONCE = ("TAX", "RECRUIT", "SELL", "BUY")
 # a level n takes LEVEL_DAYS * n * (n + 1) days of each man
 LEVEL_DAYS, HIGHEST_LEVEL = 15, 5
 
@@ -33,6 +35,8 @@ class World:
         named = lambda key: {it["name"]: it for it in text.get(key, [])}
         self.terrains, self.items, self.skills, self.kinds = named("terrain"), named("item"), named("skill"), named("kind")
         self.regions = {it["number"]: it for it in text["region"]}
+        # of each region its markets by their items
+        self.markets = {n: {it["item"]: it for it in region.get("market", [])} for n, region in self.regions.items()}
 
     def terrain(self, region):
         return self.terrains[self.regions[region]["terrain"]]
@@ -45,6 +49,11 @@ class World:
 
 
 # ---- the campaign
+
+
+def stock(item):
+    """Under what name a region has its stock of an item."""
+    return f"stock {item}"
 
 
 @dataclass
@@ -80,7 +89,8 @@ class Campaign:
     def __init__(self, world):
         self.world = world
         self.units, self.structures, self.books = {}, {}, {}
-        self.regions = {n: {"peasants": it["peasants"], "money": it["money"]} for n, it in world.regions.items()}
+        stocks = {stock(item): 0 for item in world.items}
+        self.regions = {n: {"peasants": it["peasants"], "money": it["money"], **stocks} for n, it in world.regions.items()}
         self.factions = {1: {"name": "Avalon", "gone": 0}, 2: {"name": "Bree", "gone": 0}}
         self.next_unit = 1
 
@@ -193,7 +203,7 @@ class Month:
     def of(self, *verbs):
         """The orders of some verbs that stand, by unit, line and faction."""
         def slot(order):
-            return "long" if order.verb in MONTH_LONG else order.verb if order.verb in ("TAX", "RECRUIT") else None
+            return "long" if order.verb in MONTH_LONG else order.verb if order.verb in ONCE else None
 
         def key(order):
             return self.unit(order.faction, order.unit), order.line, order.faction

@@ -1,5 +1,5 @@
 """The phases that share pots, and those that end a month, as tests/plain.py reckons them."""
-from plain_campaign import HOLDING_LIMIT, MEN_LIMIT, MONTH_LONG, Fault, Order, must, own
+from plain_campaign import HOLDING_LIMIT, MEN_LIMIT, MONTH_LONG, Fault, Order, must, own, stock
 
 HUNDRED = 100
 # a pot of which all get what they want
@@ -39,6 +39,40 @@ def pots(c, m, orders, fault, want, pot_of, pot, pay):
 
 def region_of(unit, order):
     return unit.region
+
+
+def trade(c, m, verb, fault, want, pot, pay):
+    """Units sell or buy: each item of each region has a pot of its own. `fault` and `want` are told of the unit, the item
+    and its market, `pot` of the market and its stock. `pay` says how many pieces and how much money a share brings the unit."""
+    item = lambda order: order.words[1].lower()
+    market = lambda unit, order: c.world.markets[unit.region].get(item(order))
+
+    def paid(number, unit, order, share):
+        pieces, money, entry = pay(share, market(unit, order))
+        unit.items[item(order)] = unit.has(item(order)) + pieces
+        unit.money += money
+        c.regions[unit.region][stock(item(order))] -= pieces
+        c.book("money", entry, money)
+        return share
+
+    fault_of = lambda u, o: "NoMarket" if not market(u, o) else fault(u, item(o), market(u, o))
+    want_of = lambda u, o: min(int(o.words[0]), want(u, item(o), market(u, o)))
+    left = lambda place: pot(c.world.markets[place[0]][place[1]], c.regions[place[0]][stock(place[1])])
+    pots(c, m, m.of(verb), fault_of, want_of, lambda unit, order: (unit.region, item(order)), left, paid)
+
+
+def sell(c, m):
+    fault = lambda unit, item, market: None if unit.has(item) else "NotEnough"
+    want = lambda unit, item, market: min(unit.has(item), (HOLDING_LIMIT - unit.money) // market["pays"])
+    pay = lambda share, market: (-share, share * market["pays"], "sold")
+    trade(c, m, "SELL", fault, want, lambda market, held: market["limit"] - held, pay)
+
+
+def buy(c, m):
+    fault = lambda unit, item, market: "NotEnough" if unit.money < market["price"] else None
+    want = lambda unit, item, market: min(unit.money // market["price"], HOLDING_LIMIT - unit.has(item))
+    pay = lambda share, market: (share, -share * market["price"], "bought")
+    trade(c, m, "BUY", fault, want, lambda market, held: held, pay)
 
 
 def tax(c, m):
@@ -168,6 +202,10 @@ def season(c, m):
         region["money"] += income
         c.book("people", "births", births)
         c.book("money", "income", income)
+        for item, market in c.world.markets[n].items():
+            more = min(market["restock"], market["limit"] - region[stock(item)])
+            region[stock(item)] += more
+            c.book(item, "stocked", more)
 
 
 def give_up(c, gone, heir):

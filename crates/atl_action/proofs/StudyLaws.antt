@@ -39,7 +39,7 @@ use Rattle.atl_state.proofs.RegionLaws.{steady-amount, total-amount}
 use Rattle.atl_instant.specs.Meaning.{HasRoom, HaveRoom, moves_only}
 use Rattle.atl_instant.specs.Outcomes.{unless}
 use Rattle.atl_instant.specs.Steps.{IsDrawn, IsOrderly, IsOwnOrder, IsSpared, IsSparing, StepsWell}
-use Rattle.atl_instant.proofs.AmountsLaws.{every_amount}
+use Rattle.atl_state.proofs.HeldLaws.{every_amount}
 use Rattle.atl_instant.proofs.BookingLaws.{booked-near, within-neg}
 use Rattle.atl_instant.proofs.MarkLaws.{marks_by}
 use Rattle.atl_instant.proofs.MovingLaws.{lent_marks}

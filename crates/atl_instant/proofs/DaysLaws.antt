@@ -13,7 +13,7 @@ use Rattle.atl_state.proofs.EveryLaws.{each-from_every, every-empty}
 use Rattle.atl_instant.specs.Raising.{raised_list, rest_set, with_days}
 use Rattle.atl_instant.specs.Transfer.{DaysGoWithMen, days_going, going_of, raised_of, staying_of, with_fewer, with_more}
 use Rattle.atl_instant.proofs.AmountsForLaws.{as_said, each_said, same_amounts}
-use Rattle.atl_instant.proofs.AmountsLaws.{alike, every_amount, set_amount}
+use Rattle.atl_state.proofs.HeldLaws.{alike, every_amount, set_amount}
 
 -- the amounts of some numbers, each set by the one that it has in a map
 module _ (days : FinMap nat_cmp ℕ) (f : ℕ → ℕ → ℕ) (s : ℕ) where

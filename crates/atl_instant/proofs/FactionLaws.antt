@@ -65,6 +65,7 @@ module _ (c : CampaignValue) (n : ℕ) (x : Faction) (name : List ℕ) (is : get
   known_kept : (w : WorldValue) → AreKnown w c → AreKnown w shown
   known_kept w old = record {
     regions = old.regions;
+    markets = old.markets;
     units = λ k u here. let p = old.units k u here in record { faction = there u.faction p.faction; region = p.region; structure = p.structure; items = p.items; skills = p.skills };
     structures = λ k s here. let b = old.structures k s here in record { kind = b.kind; region = b.region; owner = b.owner };
     mail = λ k text here. there k (old.mail k text here);

@@ -97,6 +97,7 @@ module _ (w : WorldValue) (c : CampaignValue) (p : ℕ) (u : Unit) (is : get c.u
       let k = old.known in
       record {
         regions = k.regions;
+        markets = k.markets;
         units = every-insert (λ n x. IsPlaced w begun x) c.units c.next_unit child
             (let q = k.units p u is in record { faction = q.faction; region = q.region; structure = q.structure; items = every-empty (λ i amount. i < length w.items); skills = every-empty (λ s days. s < length w.skills) })
             (λ n x there. let q = k.units n x there in record { faction = q.faction; region = q.region; structure = q.structure; items = q.items; skills = q.skills });

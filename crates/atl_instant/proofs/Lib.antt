@@ -13,7 +13,6 @@ pub mod BookingLaws
 pub mod StayingLaws
 pub mod StepLaws
 pub mod OutcomeLaws
-pub mod AmountsLaws
 pub mod AmountsForLaws
 pub mod MovingLaws
 pub mod GiveLaws

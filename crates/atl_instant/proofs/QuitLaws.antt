@@ -50,7 +50,7 @@ use Rattle.atl_instant.specs.PhaseOrders.{Task}
 use Rattle.atl_instant.specs.Quit.{booked_off, gone_under, item_gone, leaves, left_at, left_by, quit, quit_concerns, quit_fault, quit_moves, quit_reserve, quit_said, quit_step, with_gone_amount}
 use Rattle.atl_instant.specs.Staying.{IsNoWorse}
 use Rattle.atl_instant.specs.Steps.{IsDrawn, IsOrderly, IsSpared, IsUnitOf, StepsWell}
-use Rattle.atl_instant.proofs.AmountsLaws.{amount_within}
+use Rattle.atl_state.proofs.HeldLaws.{amount_within}
 use Rattle.atl_instant.proofs.BookingLaws.{booked-near, booked-room, within-neg}
 use Rattle.atl_instant.proofs.MeaningLaws.{less_room, near_more, near_same, near_twice, room_less}
 use Rattle.atl_instant.proofs.OutcomeLaws.{none_fits, not_apart}

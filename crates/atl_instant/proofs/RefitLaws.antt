@@ -107,6 +107,7 @@ module _ (w : WorldValue) (c : CampaignValue) (n : ℕ) (u : Unit) (s : ℕ) (is
     known_kept : AreKnown w c → AreKnown w refitted
     known_kept old = record {
       regions = old.regions;
+      markets = old.markets;
       units = every-insert (λ k x. IsPlaced w refitted x) c.units n moved_unit
           (let p = old.units n u is in record { faction = p.faction; region = p.region; structure = λ some. still_inside s u.region (refit.inside some); items = p.items; skills = p.skills })
           (λ k x there. let p = old.units k x there in record { faction = p.faction; region = p.region; structure = λ some. still_inside x.structure x.region (p.structure some); items = p.items; skills = p.skills });

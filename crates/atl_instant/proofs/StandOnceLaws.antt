@@ -19,7 +19,7 @@ use Rattle.atl_state.specs.Deciding.{EachOf}
 use Rattle.atl_state.proofs.BackLaws.{append_each}
 use Rattle.atl_state.proofs.EveryLaws.{each-from_every}
 use Rattle.atl_instant.specs.declared.standing.Slot.{Slot}
-use Rattle.atl_instant.specs.declared.standing.Slot.TheVariants.{MonthLong, Taxing, Recruiting}
+use Rattle.atl_instant.specs.declared.standing.Slot.TheVariants.{MonthLong, Selling, Buying, Taxing, Recruiting}
 use Rattle.atl_instant.specs.declared.written.Arrangement.{Arrangement}
 use Rattle.atl_instant.specs.Month.{Aliases}
 use Rattle.atl_instant.specs.Fit.{AreFit}
@@ -52,6 +52,8 @@ same_place n (x ∷ es) (suc i) (suc j) d e rise one two line = ap suc (same_pla
 
 slots_are : (s o : Slot) → (slot_number s == slot_number o) ≡ true → s ≡ o
 slots_are MonthLong MonthLong same = refl
+slots_are Selling Selling same = refl
+slots_are Buying Buying same = refl
 slots_are Taxing Taxing same = refl
 slots_are Recruiting Recruiting same = refl
 slots_are s o same = cc

@@ -12,7 +12,7 @@ use Rattle.atl_orders.specs.Mailing.{EntrySaid, Reading}
 use Rattle.atl_orders.specs.Orders.{Said, verb_of_order}
 use Rattle.atl_instant.specs.Month.{Aliases, MonthValue, alias_unit}
 use Rattle.atl_instant.specs.declared.standing.Slot.{Slot}
-use Rattle.atl_instant.specs.declared.standing.Slot.TheVariants.{MonthLong, Taxing, Recruiting}
+use Rattle.atl_instant.specs.declared.standing.Slot.TheVariants.{MonthLong, Selling, Buying, Taxing, Recruiting}
 use Rattle.atl_instant.specs.declared.written.Written.{Written}
 use Rattle.atl_instant.specs.declared.written.Arrangement.{Arrangement}
 use Rattle.atl_instant.specs.declared.written.Arrangement.TheVariants.{ByUnit, ByFaction}
@@ -44,7 +44,7 @@ tasks_of aliases faction r = tasks_from aliases faction 0 r.entries
 
 -- ---- the orders that stand
 
--- The month-long orders of a unit share a slot; its TAX orders have one, and its RECRUIT orders.
+-- The month-long orders of a unit share a slot; its SELL orders have one, its BUY orders, its TAX orders, and its RECRUIT orders.
 abbrev pub slot_of : Verb → Option Slot
 slot_of verbs.Move = Some MonthLong
 slot_of verbs.Sail = Some MonthLong
@@ -53,6 +53,8 @@ slot_of verbs.Teach = Some MonthLong
 slot_of verbs.Study = Some MonthLong
 slot_of verbs.Produce = Some MonthLong
 slot_of verbs.Work = Some MonthLong
+slot_of verbs.Sell = Some Selling
+slot_of verbs.Buy = Some Buying
 slot_of verbs.Tax = Some Taxing
 slot_of verbs.Recruit = Some Recruiting
 slot_of verbs.Form = None
@@ -69,8 +71,10 @@ slot_of verbs.Quit = None
 -- No two slots have one number.
 abbrev pub slot_number : Slot → ℕ
 slot_number MonthLong = 0
-slot_number Taxing = 1
-slot_number Recruiting = 2
+slot_number Selling = 1
+slot_number Buying = 2
+slot_number Taxing = 3
+slot_number Recruiting = 4
 
 abbrev pub is_slot : Slot → Option Slot → Bool
 is_slot slot None = false

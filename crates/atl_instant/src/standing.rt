@@ -14,6 +14,8 @@ use std::alloc::{AllocError, Global};
 pub enum Slot {
     /// Of the verbs that take the whole month.
     MonthLong,
+    Selling,
+    Buying,
     Taxing,
     Recruiting,
 }
@@ -30,6 +32,8 @@ pub(crate) fn slot_of(verb: Verb) -> Option<Slot>
         | Verb::Study
         | Verb::Produce
         | Verb::Work => Some(Slot::MonthLong),
+        Verb::Sell => Some(Slot::Selling),
+        Verb::Buy => Some(Slot::Buying),
         Verb::Tax => Some(Slot::Taxing),
         Verb::Recruit => Some(Slot::Recruiting),
         Verb::Form
@@ -52,8 +56,10 @@ impl Slot {
     {
         match self {
             Slot::MonthLong => 0,
-            Slot::Taxing => 1,
-            Slot::Recruiting => 2,
+            Slot::Selling => 1,
+            Slot::Buying => 2,
+            Slot::Taxing => 3,
+            Slot::Recruiting => 4,
         }
     }
 }

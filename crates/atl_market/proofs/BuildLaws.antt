@@ -38,7 +38,7 @@ use Rattle.atl_instant.specs.Meaning.{HaveRoom, LeavesWell, most_moved}
 use Rattle.atl_instant.specs.Outcomes.{unless}
 use Rattle.atl_instant.specs.Staying.{IsNoWorse}
 use Rattle.atl_instant.specs.Steps.{IsOrderly, IsOwnOrder, StepsWell, carried, done_for, of_faction}
-use Rattle.atl_instant.proofs.AmountsLaws.{amount_within}
+use Rattle.atl_state.proofs.HeldLaws.{amount_within}
 use Rattle.atl_instant.proofs.OutcomeLaws.{none_fits, not_less}
 use Rattle.atl_instant.proofs.PlacingLaws.{place_stays}
 use Rattle.atl_instant.proofs.QuitLaws.{sum_within}

@@ -25,7 +25,7 @@ use Rattle.atl_state.proofs.RegionLaws.{get-insert_same}
 use Rattle.atl_state.proofs.RemovedLaws.{sum_over-remove}
 use Rattle.atl_instant.specs.Meaning.{HasRoom, HaveRoom, LeavesWell, moves_only}
 use Rattle.atl_instant.specs.Steps.{IsDrawn, StepsWell}
-use Rattle.atl_instant.proofs.AmountsLaws.{alike, set_amount}
+use Rattle.atl_state.proofs.HeldLaws.{alike, set_amount}
 use Rattle.atl_instant.proofs.MeaningLaws.{less_room, near_more}
 use Rattle.atl_instant.proofs.StepLaws.{drawn_near}
 use Rattle.atl_market.specs.Build.{CanBuild, build_reserve, usable}

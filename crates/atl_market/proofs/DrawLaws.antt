@@ -158,6 +158,34 @@ module _ {K : Type 0} (pots : DrawnPots K) where
         left_over : (share rest less all : ℕ) → share + rest ≤ all → less + share ≡ all → rest ≤ less
         left_over share rest less all h k = omega (arith, h, k)
 
+  module _ (d : CampaignValue) (e : ℕ × ℕ) (after : CampaignValue) where
+    no_less : (a : ℕ) → a + 0 ≡ a
+    no_less a = omega arith
+
+    -- a region changes, and each pot there has less by the share of the unit, where that draws from it
+    pub region_drains : (r : ℕ) (q : Region) → get d.regions r ≡ Some q → (f : Region → Region) → after.regions ≡ (region_changed f d r).regions
+        → ((k : K) → pots.place k ≡ r → pots.left k (f q) + cond (pots.draws k e.0) e.1 0 ≡ pots.left k q)
+        → ((k : K) → pots.place k ≢ r → pots.draws k e.0 ≡ false) → Drains d e after
+    region_drains r q around f changed here others k x found = elim (cases_eq (pots.place k) r) [
+      | inl same ↦
+          let new : Some (f q) ≡ Some x = sym (get-insert_same d.regions r (f q)) ∙ ap (get (insert d.regions r (f q))) (sym same) ∙ put in
+          let value : f q ≡ x = cc in
+          (q, ap (get d.regions) same ∙ around, subst (λ y. pots.left k y + cond (pots.draws k e.0) e.1 0 ≡ pots.left k q) value (here k same))
+      | inr apart ↦
+          (x, sym (get-insert_other d.regions r (pots.place k) (f q) apart) ∙ put, subst (λ b. pots.left k x + cond b e.1 0 ≡ pots.left k x) (sym (others k apart)) (no_less (pots.left k x)))
+    ]
+      where
+        put : get (insert d.regions r (f q)) (pots.place k) ≡ Some x
+        put = sym (ap (λ m. get m (pots.place k)) (changed ∙ changed-known f d.regions r q around)) ∙ found
+
+    -- nothing is drawn, and no region changes
+    pub nothing_drains : after.regions ≡ d.regions → e.1 ≡ 0 → Drains d e after
+    nothing_drains same none k x found = (x, sym (ap (λ m. get m (pots.place k)) same) ∙ found, ap (λ s. pots.left k x + cond (pots.draws k e.0) s 0) none ∙ neither (pots.draws k e.0) (pots.left k x))
+      where
+        neither : (b : Bool) (a : ℕ) → a + cond b 0 0 ≡ a
+        neither true a = no_less a
+        neither false a = no_less a
+
 -- ---- the pots of regions: those draw who stand there
 
 abbrev pub who_stand : FinMap nat_cmp Unit → ℕ → Drawers
@@ -170,37 +198,30 @@ module _ (units : FinMap nat_cmp Unit) (left : Region → ℕ) where
   module _ (d : CampaignValue) (e : ℕ × ℕ) (u : Unit) (q : Region) (there : get units e.0 ≡ Some u) (around : get d.regions u.region ≡ Some q) where
     -- a unit's region changes, and has so much less
     pub one_drains : (after : CampaignValue) (f : Region → Region) → after.regions ≡ (region_changed f d u.region).regions → left (f q) + e.1 ≡ left q → Drains region_pots d e after
-    one_drains after f changed less k x found = elim (cases_eq k u.region) [
-      | inl same ↦
-          let new : Some (f q) ≡ Some x = sym (get-insert_same d.regions u.region (f q)) ∙ ap (get (insert d.regions u.region (f q))) (sym same) ∙ put in
-          let value : f q ≡ x = cc in
-          let mine : who_stand units k e.0 ≡ true = ap (stands_in k) there ∙ ap (λ r. u.region == r) same ∙ same_number u.region in
-          (q, ap (get d.regions) same ∙ around, subst (λ y. left y + cond (who_stand units k e.0) e.1 0 ≡ left q) value (subst (λ b. left (f q) + cond b e.1 0 ≡ left q) (sym mine) less))
-      | inr apart ↦
-          let other : who_stand units k e.0 ≡ false = ap (stands_in k) there ∙ other_number u.region k (λ is. apart (sym is)) in
-          (x, sym (get-insert_other d.regions u.region k (f q) apart) ∙ put, subst (λ b. left x + cond b e.1 0 ≡ left x) (sym other) (no_less (left x)))
-    ]
-      where
-        put : get (insert d.regions u.region (f q)) k ≡ Some x
-        put = sym (ap (λ m. get m k) (changed ∙ changed-known f d.regions u.region q around)) ∙ found
-
-        no_less : (a : ℕ) → a + 0 ≡ a
-        no_less a = omega arith
+    one_drains after f changed less =
+        region_drains region_pots d e after u.region q around f changed
+        (λ k same. subst (λ b. left (f q) + cond b e.1 0 ≡ left q) (sym (ap (stands_in k) there ∙ ap (λ r. u.region == r) same ∙ same_number u.region)) less)
+        (λ k apart. ap (stands_in k) there ∙ other_number u.region k (λ is. apart (sym is)))
 
     -- who stands in a region can draw its share
     pub one_draws : (es : List (ℕ × ℕ)) → HaveEnough region_pots d (e ∷ es) → e.1 ≤ left q
     one_draws es enough = first_draws region_pots d e es enough u.region q around (ap (stands_in u.region) there ∙ same_number u.region)
 
--- each has enough: what the units of a region get together is its pot at most
-module _ (pot_of : ℕ → ℕ) (wants : FinMap nat_cmp ℕ) (c : CampaignValue) (r : ℕ) where
+-- each has enough: what the units of a region get together is its pot at most, where those who draw get shares of it
+module _ (pot_of : ℕ → ℕ) (wants : FinMap nat_cmp ℕ) (c : CampaignValue) (r : ℕ) (draws : Drawers) (given : FinMap nat_cmp ℕ) where
   abbrev amount : ℕ → ℕ
   amount n = amount_given pot_of wants c n
 
   abbrev takers : List ℕ
   takers = takers_in wants c.units r
 
-  listed : (n share : ℕ) → get (pot_shares pot_of wants c) n ≡ Some share → Listed (who_stand c.units r) amount takers (n, share)
-  listed n share is stands =
+  -- who draws stands there, and its share is one of the pot
+  abbrev pub DrawShares : Type 0
+  DrawShares = (n share : ℕ) → get given n ≡ Some share → draws n ≡ true → (get (pot_shares pot_of wants c) n ≡ Some share) × (stands_in r (get c.units n) ≡ true)
+
+  listed : DrawShares → (n share : ℕ) → get given n ≡ Some share → Listed draws amount takers (n, share)
+  listed shared n share found drawing =
+      let (is, stands) = shared n share found drawing in
       let (want, u, wanted, low, at, region) = only_takers_get pot_of wants c n share is in
       let here : u.region ≡ r = eqb-true u.region r (ap (stands_in r) (sym at) ∙ stands) in
       let (i, less, found) = taker_place wants c.units n want u wanted at in
@@ -210,13 +231,15 @@ module _ (pot_of : ℕ → ℕ) (wants : FinMap nat_cmp ℕ) (c : CampaignValue)
   least : (drawing pot all : ℕ) → drawing ≤ min pot all → drawing ≤ pot
   least drawing pot all h = omega (arith, h)
 
-  pub pot_is_enough : IsThere c.regions r → drawn (who_stand c.units r) (entries (pot_shares pot_of wants c)) ≤ pot_of r
-  pot_is_enough there =
-      let given = pot_shares pot_of wants c in
-      let drawing = drawn (who_stand c.units r) (entries given) in
-      let each = all_pairs (Listed (who_stand c.units r) amount takers) (entries given) (each-from_every (λ n share. Listed (who_stand c.units r) amount takers (n, share)) given listed) in
-      let few = drawn_among (who_stand c.units r) amount takers (entries given) (takers_risen wants c.units r) (entries_rise given) each in
+  pub shares_are_enough : DrawShares → IsThere c.regions r → drawn draws (entries given) ≤ pot_of r
+  shares_are_enough shared there =
+      let drawing = drawn draws (entries given) in
+      let each = all_pairs (Listed draws amount takers) (entries given) (each-from_every (λ n share. Listed draws amount takers (n, share)) given (listed shared)) in
+      let few = drawn_among draws amount takers (entries given) (takers_risen wants c.units r) (entries_rise given) each in
       least drawing (pot_of r) (sum (wants_in wants c.units r)) (subst (λ s. drawing ≤ s) (gives_each_pot pot_of wants c r there) few)
+
+pub pot_is_enough : (pot_of : ℕ → ℕ) (wants : FinMap nat_cmp ℕ) (c : CampaignValue) (r : ℕ) → IsThere c.regions r → drawn (who_stand c.units r) (entries (pot_shares pot_of wants c)) ≤ pot_of r
+pot_is_enough pot_of wants c r there = shares_are_enough pot_of wants c r (who_stand c.units r) (pot_shares pot_of wants c) (λ n share is stands. (is, stands)) there
 
 -- ---- units whose turn is still to come are as they were
 
@@ -232,23 +255,23 @@ module _ (c : CampaignValue) where
   untouched [] = tt
   untouched (e ∷ es) = (refl, untouched es)
 
--- ---- shares of the units of regions, one after the other
+-- ---- shares of pots, one after the other
 
--- c as the phase began, d as it is: each share that is still to come fits its unit, and each region has enough for them
-pub record AreReady (left : Region → ℕ) (Fits : ℕ × ℕ → Type 0) (w : WorldValue) (c d : CampaignValue) (es : List (ℕ × ℕ)) : Type 0 where
+-- c as the phase began, d as it is: each share that is still to come fits its unit, and each pot has enough for them
+pub record AreReady {K : Type 0} (pots : DrawnPots K) (Fits : ℕ × ℕ → Type 0) (w : WorldValue) (c d : CampaignValue) (es : List (ℕ × ℕ)) : Type 0 where
   pub early : IsEarly w d
   pub rise : Rise es
   pub same : AreUntouched c d es
   pub fits : AllByRecursion Fits es
-  pub enough : HaveEnough (region_pots c.units left) d es
+  pub enough : HaveEnough pots d es
 
-pub ready_behind : (left : Region → ℕ) {Fits : ℕ × ℕ → Type 0} (w : WorldValue) (c d : CampaignValue) (e : ℕ × ℕ) (es : List (ℕ × ℕ)) (after : CampaignValue)
-    → AreReady left Fits w c d (e ∷ es) → IsEarly w after → ((k : ℕ) → k ≢ e.0 → get after.units k ≡ get d.units k)
-    → Drains (region_pots c.units left) d e after → AreReady left Fits w c after es
-ready_behind left w c d e es after ready early others drains = record {
+pub ready_behind : {K : Type 0} (pots : DrawnPots K) {Fits : ℕ × ℕ → Type 0} (w : WorldValue) (c d : CampaignValue) (e : ℕ × ℕ) (es : List (ℕ × ℕ)) (after : CampaignValue)
+    → AreReady pots Fits w c d (e ∷ es) → IsEarly w after → ((k : ℕ) → k ≢ e.0 → get after.units k ≡ get d.units k)
+    → Drains pots d e after → AreReady pots Fits w c after es
+ready_behind pots w c d e es after ready early others drains = record {
   early = early;
   rise = ready.rise.1;
   same = still c d after e.0 es others ready.rise.0 ready.same.1;
   fits = ready.fits.1;
-  enough = others_draw (region_pots c.units left) d e es ready.enough after drains;
+  enough = others_draw pots d e es ready.enough after drains;
 }

@@ -29,7 +29,7 @@ use Rattle.atl_state.proofs.HavingLaws.{MayHave, may_have}
 use Rattle.atl_state.proofs.HoldingLaws.{marks-lent, steady-held, total-held}
 use Rattle.atl_state.proofs.RegionLaws.{get-insert_same, steady-amount, total-amount}
 use Rattle.atl_instant.specs.Meaning.{LeavesWell, moves_only}
-use Rattle.atl_instant.proofs.AmountsLaws.{alike, amount_within, every_amount, set_amount}
+use Rattle.atl_state.proofs.HeldLaws.{alike, amount_within, every_amount, set_amount}
 use Rattle.atl_instant.proofs.BookingLaws.{booked-near, within-neg, within-pos}
 use Rattle.atl_instant.proofs.MarkLaws.{marks_by}
 use Rattle.atl_market.specs.Goods.{CanMake, CanUse, made_to, used_by, with_item, with_made, with_used}

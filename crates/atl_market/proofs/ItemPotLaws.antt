@@ -6,7 +6,7 @@ use Rattle.std.specs.Ordering.{nat_cmp, eq_by_cmp, is_eq, is_lt}
 use Rattle.std.specs.Cmp.{nat_cmp_total}
 use Rattle.std.specs.declared.cmp.Ordering.TheVariants.{Less, Equal, Greater}
 use Rattle.std.specs.FinMap.Entries.{below_all}
-use Rattle.std.specs.FinMap.{FinMap, contains_key-keys, empty, entries, entries-from_sorted, find, from_sorted, get, get-empty, get-from_sorted, get-retain_keys, insert, is_sorted, keys, nat_cmp-IsAntisymmetric, same_map}
+use Rattle.std.specs.FinMap.{FinMap, contains_key-keys, empty, entries, entries-from_sorted, find, from_sorted, get, get-empty, get-entries, get-from_entries, get-from_sorted, get-retain_keys, insert, is_sorted, keys, nat_cmp-IsAntisymmetric, same_map}
 use Rattle.std.proofs.lemmas.Bool.{cases_eq, eqb-true, false≢true}
 use Rattle.atl_tables.specs.Groups.{group_of}
 use Rattle.atl_state.specs.Deciding.{EachOf}
@@ -14,13 +14,13 @@ use Rattle.atl_state.specs.Good.{IsThere}
 use Rattle.atl_state.specs.Campaign.{CampaignValue, numbers_in}
 use Rattle.atl_state.specs.declared.records.Region.{Region}
 use Rattle.atl_state.proofs.BackLaws.{append_each}
-use Rattle.atl_state.proofs.EveryLaws.{each-from_every, found_of, get-insert_other, none_some}
+use Rattle.atl_state.proofs.EveryLaws.{each-from_every, first, found_of, get-insert_other, none_some}
 use Rattle.atl_state.proofs.ListLaws.{other_number, same_number}
 use Rattle.atl_state.proofs.OrderLaws.{each_so}
 use Rattle.atl_state.proofs.RegionLaws.{get-insert_same}
 use Rattle.atl_instant.proofs.MappedLaws.{no_entries}
 use Rattle.atl_market.specs.ItemGroups.{Groups, item_shares_in, region_shares, want_put, with_want}
-use Rattle.atl_market.specs.ItemPots.{is_for, item_share, share_for, wants_for}
+use Rattle.atl_market.specs.ItemPots.{is_for, item_share, item_shares, listed, share_for, wants_for}
 use Rattle.atl_market.specs.Pots.{shares_in, takers_in, want_of}
 use Rattle.atl_market.specs.Puts.{with_each}
 use Rattle.atl_market.specs.Share.{shares}
@@ -63,6 +63,10 @@ module _ (g : ℕ → Option ℕ) where
       by_find (Some s) is =
           let at : g n ≡ Some s = found_of (λ k t. g k ≡ Some t) es n s (as_pairs (λ k t. g k ≡ Some t) es tells) is in
           told_comes empty es n s tells at (ap is_some is) ∙ sym at
+
+either : (b : Bool) (o : Option ℕ) → cond b o o ≡ o
+either true o = refl
+either false o = refl
 
 -- what is found among the entries of some list is found among all
 found_among : {A : Type 0} (f : A → Entries) (n : ℕ) (e : A → A → Bool) → ((x y : A) → e x y ≡ true → x ≡ y) → (xs : List A) (x : A)
@@ -272,6 +276,40 @@ module _ (item_of : ℕ → Option ℕ) (pot_of : (item region : ℕ) → ℕ) (
       by_item (Some i) is =
           let (want, wanted, low) = pots_give (pot_of i) c (mine item_of wants i) n s is in
           (want, is_wanted item_of wants i n want wanted, low)
+
+  -- what is listed of them by unit
+  abbrev of_wants : Entries → Entries
+  of_wants es = flat_map (λ e. listed item_of pot_of wants c e.0 (gets e.0)) es
+
+  found_listed : (es : Entries) (n : ℕ) → find nat_cmp n (of_wants es) ≡ cond (is_some (find nat_cmp n es)) (gets n) None
+  found_listed [] n = refl
+  found_listed (e ∷ es) n = elim (cases_eq n e.0) [
+    | inl same ↦
+        let mine : find nat_cmp n (e ∷ es) ≡ Some e.1 = ap (λ k. find nat_cmp k (e ∷ es)) same ∙ first e es in
+        here same (gets e.0) refl (found_listed es n) ∙ sym (ap (λ o. cond (is_some o) (gets n) None) mine ∙ ap gets same)
+    | inr apart ↦ other apart (gets e.0) ∙ found_listed es n ∙ sym (ap (λ o. cond (is_some o) (gets n) None) (found_other e es n apart))
+  ]
+    where
+      here : n ≡ e.0 → (o : Option ℕ) → gets e.0 ≡ o → find nat_cmp n (of_wants es) ≡ cond (is_some (find nat_cmp n es)) (gets n) None → find nat_cmp n (listed item_of pot_of wants c e.0 o ++ of_wants es) ≡ o
+      here same None is rest = rest ∙ ap (λ o. cond (is_some (find nat_cmp n es)) o None) (ap gets same ∙ is) ∙ either (is_some (find nat_cmp n es)) None
+      here same (Some s) is rest = ap (λ k. find nat_cmp k ((e.0, s) ∷ of_wants es)) same ∙ first (e.0, s) (of_wants es)
+
+      other : (n ≡ e.0 → ⊥) → (o : Option ℕ) → find nat_cmp n (listed item_of pot_of wants c e.0 o ++ of_wants es) ≡ find nat_cmp n (of_wants es)
+      other apart None = refl
+      other apart (Some s) = found_other (e.0, s) (of_wants es) n apart
+
+  pub shares_at : (n : ℕ) → get (item_shares item_of pot_of wants c) n ≡ gets n
+  shares_at n = get-from_entries nat_cmp_total (of_wants (entries wants)) n ∙ found_listed (entries wants) n ∙ by_share (gets n) refl
+    where
+      by_share : (o : Option ℕ) → gets n ≡ o → cond (is_some (find nat_cmp n (entries wants))) o None ≡ o
+      by_share None is = either (is_some (find nat_cmp n (entries wants))) None
+      by_share (Some s) is =
+          let (want, wanted, low) = items_give n s is in
+          ap (λ o. cond (is_some o) (Some s) None) (sym (get-entries wants n) ∙ wanted)
+
+  -- a map of them is the one by unit
+  pub shares_are : (given : FinMap nat_cmp ℕ) → ((n : ℕ) → get given n ≡ gets n) → given ≡ item_shares item_of pot_of wants c
+  shares_are given at = same_map nat_cmp_total nat_cmp-IsAntisymmetric given (item_shares item_of pot_of wants c) (λ n. at n ∙ sym (shares_at n))
 
   abbrev all_shares : Entries
   all_shares = flat_map (region_shares item_of pot_of wants c) (keys c.regions)

@@ -22,3 +22,4 @@ pub mod GoodsLaws
 pub mod ProduceLaws
 pub mod PaidLaws
 pub mod UnmailedMakeLaws
+pub mod TradeLaws

@@ -26,7 +26,7 @@ use Rattle.atl_state.proofs.EveryLaws.{each-from_every, none_some}
 use Rattle.atl_state.proofs.ListLaws.{same_number}
 use Rattle.atl_instant.specs.Meaning.{HasRoom, HaveRoom, LeavesWell, Moving, both_move, most_moved, moved_times, moves_only}
 use Rattle.atl_instant.specs.declared.written.Written.{Written}
-use Rattle.atl_instant.proofs.AmountsLaws.{amount_within}
+use Rattle.atl_state.proofs.HeldLaws.{amount_within}
 use Rattle.atl_instant.proofs.MeaningLaws.{MovesLess, both_leave_well, less_room, room_behind, room_less, well_unchanged, well_within}
 use Rattle.atl_market.specs.Making.{CanMakeOf, CanProduce, Fits}
 use Rattle.atl_market.specs.PotPhase.{CanInTurn, given_by, shared_out}
@@ -77,7 +77,7 @@ both_less r i booked.Used (things.Item j) = omega (arith, used_less r booked.Use
 both_less r i e t = omega (arith, used_less r e t, made_less i e t)
 
 -- room for an amount alone is room under its entry
-only_room : (e : Entry) (t : Thing) (z : ℤ) → HasRoom (moves_only holding_limit e t e t) z → HasRoom holding_limit z
+pub only_room : (e : Entry) (t : Thing) (z : ℤ) → HasRoom (moves_only holding_limit e t e t) z → HasRoom holding_limit z
 only_room e t z room = subst (λ b. HasRoom (if b then holding_limit else 0) z) (same_number (amount_number e t)) room
 
 -- ---- one step

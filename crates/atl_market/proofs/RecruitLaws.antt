@@ -96,7 +96,7 @@ module _ (w : WorldValue) (c : CampaignValue) (n : ℕ) (u : Unit) (q : Region) 
         let before = early-having w c n u more is may (λ g. g) early in
         let within = early.steady.numbers.regions u.region q around in
         record {
-          steady = steady-amount w left Recruiting Money (neg_ℤ (pos cost)) (steady-region (leave q recruits) peopled u.region q around w (IsRegion-peasants q (q.peasants - recruits) (omega (arith, within.peasants)) within) before.steady);
+          steady = steady-amount w left Recruiting Money (neg_ℤ (pos cost)) (steady-region (leave q recruits) peopled u.region q around w (IsRegion-peasants q (q.peasants - recruits) (omega (arith, within.peasants)) within) (early.steady.known.markets u.region q around) before.steady);
           flags = before.flags;
         }
 
@@ -106,11 +106,11 @@ module _ (w : WorldValue) (c : CampaignValue) (n : ℕ) (u : Unit) (q : Region) 
     total_of People s a b = omega (arith, ints, s, a, b, enough)
     total_of (Item i) s a b =
         let other : (2 + i == 0) ≡ false = grind (arith, nat_tests) in
-        ap pos (same (total after (Item i)) (total left (Item i)) (total peopled (Item i)) (total c (Item i)) (amount_of u.holding.items i) s a b)
+        ap pos (same (total after (Item i)) (total left (Item i)) (total peopled (Item i)) (total c (Item i)) (amount_of q.stocks i) (amount_of u.holding.items i) s a b)
         ∙ sym (ap (λ b. pos (total c (Item i)) +ℤ cond b (neg_ℤ (pos cost)) (pos 0)) other ∙ zero_more (total c (Item i)))
       where
-        same : (v x y z k : ℕ) → v ≡ x → x + 0 ≡ y + 0 → y + k ≡ z + k → v ≡ z
-        same v x y z k s a b = omega (arith, s, a, b)
+        same : (v x y z j k : ℕ) → v ≡ x → x + j ≡ y + j → y + k ≡ z + k → v ≡ z
+        same v x y z j k s a b = omega (arith, s, a, b)
 
         zero_more : (x : ℕ) → pos x +ℤ pos 0 ≡ pos x
         zero_more x = omega (arith, ints)
@@ -215,7 +215,7 @@ module _ (w : WorldValue) (c : CampaignValue) where
   CanHave e = (u : Unit) × (get c.units e.0 ≡ Some u) × (u.holding.men + e.1 ≤ men_limit) × (e.1 * w.rules.recruit_price ≤ u.holding.money)
 
   abbrev AreToJoin : CampaignValue → List (ℕ × ℕ) → Type 0
-  AreToJoin = AreReady peasants_of CanHave w c
+  AreToJoin = AreReady pots CanHave w c
 
   -- there is room in the books for their price
   abbrev CanBook : CampaignValue → List (ℕ × ℕ) → Type 0
@@ -236,7 +236,7 @@ module _ (w : WorldValue) (c : CampaignValue) where
       let well = recruited_well w d e can in
       let joined = recruited w d e in (
         can,
-        all_can joined es (ready_behind peasants_of w c d e es joined ready well.leaves_it (recruited_others w d e) (recruited_drains w d e can c.units (sym ready.same.0 ∙ can.at.there)))
+        all_can joined es (ready_behind pots w c d e es joined ready well.leaves_it (recruited_others w d e) (recruited_drains w d e can c.units (sym ready.same.0 ∙ can.at.there)))
             (later_room step_moves w d joined e es well room),
       )
 

@@ -61,10 +61,10 @@ module _ (w : WorldValue) (c : CampaignValue) (n : ℕ) (u : Unit) (q : Region) 
         → total (richer c n u share) t + held t u.holding ≡ total c t + held t (paid c n u share) → total after t ≡ total c t
     same_total Money a b = omega (arith, a, b, enough)
     same_total People a b = omega (arith, a, b)
-    same_total (Item i) a b = same (total after (Item i)) (total (richer c n u share) (Item i)) (total c (Item i)) (amount_of u.holding.items i) a b
+    same_total (Item i) a b = same (total after (Item i)) (total (richer c n u share) (Item i)) (total c (Item i)) (amount_of q.stocks i) (amount_of u.holding.items i) a b
       where
-        same : (x y z k : ℕ) → x + 0 ≡ y + 0 → y + k ≡ z + k → x ≡ z
-        same x y z k a b = omega (arith, a, b)
+        same : (x y z j k : ℕ) → x + j ≡ y + j → y + k ≡ z + k → x ≡ z
+        same x y z j k a b = omega (arith, a, b)
 
     pub tax_leaves_well : u.holding.money + share ≤ holding_limit → IsEarly w c → LeavesWell IsEarly moves_nothing w c after
     tax_leaves_well fits early =
@@ -72,7 +72,7 @@ module _ (w : WorldValue) (c : CampaignValue) (n : ℕ) (u : Unit) (q : Region) 
         let within = steady.numbers.regions u.region q around in
         record {
           leaves_it = record {
-            steady = steady-region (drain q share) (richer c n u share) u.region q around w (IsRegion-money q (q.money - share) (omega (arith, within.money)) within)
+            steady = steady-region (drain q share) (richer c n u share) u.region q around w (IsRegion-money q (q.money - share) (omega (arith, within.money)) within) (steady.known.markets u.region q around)
                 (steady-held w c n u (paid c n u share) is (may_hold_money w c n (u.holding.money + share) u is fits steady) steady);
             flags = of_one_faction_kept w c n u (paid c n u share) is (λ v. v.holding.guard) (λ g. g) early.flags;
           };
@@ -144,7 +144,7 @@ module _ (w : WorldValue) (c : CampaignValue) where
   HasRoomFor e = (u : Unit) × (get c.units e.0 ≡ Some u) × (u.holding.money + e.1 ≤ holding_limit)
 
   abbrev AreTaken : CampaignValue → List (ℕ × ℕ) → Type 0
-  AreTaken = AreReady money_of HasRoomFor w c
+  AreTaken = AreReady pots HasRoomFor w c
 
   first_can : (d : CampaignValue) (e : ℕ × ℕ) (es : List (ℕ × ℕ)) → AreTaken d (e ∷ es) → CanTax w d e
   first_can d e es ready =
@@ -160,7 +160,7 @@ module _ (w : WorldValue) (c : CampaignValue) where
       let can = first_can d e es ready in
       let early = (taxed_well w d e can).leaves_it in (
         can,
-        all_can (taxed d e) es (ready_behind money_of w c d e es (taxed d e) ready early (taxed_others w d e can) (taxed_drains w d e can c.units (sym ready.same.0 ∙ can.at.there))),
+        all_can (taxed d e) es (ready_behind pots w c d e es (taxed d e) ready early (taxed_others w d e can) (taxed_drains w d e can c.units (sym ready.same.0 ∙ can.at.there))),
       )
 
   module _ (early : IsEarly w c) (os : List Written) where

@@ -1,4 +1,4 @@
--- What TAX, RECRUIT and WORK leave to the units of a faction that sent no mailing.
+-- What TAX, RECRUIT, WORK, SELL and BUY leave to the units of a faction that sent no mailing.
 use Rattle.std.proofs.Common.{◌≡◌, ◌≢◌, ◌==◌, ◌&&◌, ◌||◌, ◌+◌, ℕ, Bool, true, false, List, [], ◌∷◌, ◌++◌, map, Option, Some, None, refl, ap, ◌∙◌, arith}
 use Rattle.std.specs.Prelude.{if◌then◌else◌}
 use Rattle.std.specs.List.{AllByRecursion, list_any}
@@ -23,14 +23,18 @@ use Rattle.atl_instant.specs.declared.written.Written.{Written}
 use Rattle.atl_instant.proofs.TermsLaws.{Leaves}
 use Rattle.atl_instant.proofs.UnmailedLaws.{HasItsItems, HasItsMen, HaveTheirMen, LeavesUnmailed, UnmailedAre, items_of_no_worse, men_changed, men_in_turn, men_stay, none_ordered, whole_leaves}
 use Rattle.atl_market.specs.PotPhase.{PotMeaning, event_of, events_by, given_by, pots_meaning, shared_out}
-use Rattle.atl_market.specs.Asking.{asked_pots, count_in}
+use Rattle.atl_market.specs.Asking.{asked_of, asked_pots, count_in, item_in}
 use Rattle.atl_market.specs.Recruit.{is_recruit, recruit_pots, recruit_terms, recruits_at}
 use Rattle.atl_market.specs.Tax.{is_tax, tax_pots, tax_terms, taxed, taxed_by, taxed_from}
+use Rattle.atl_market.specs.Trade.{buy_terms, is_trade, sell_terms, trade_asked, trade_keeps, trade_meaning}
+use Rattle.atl_market.specs.declared.trade.Trade.{Trade}
+use Rattle.atl_market.specs.declared.trade.Trade.TheVariants.{Buy, Sell}
 use Rattle.atl_market.specs.Unordered.{OthersAreNoWorse, is_ordered}
 use Rattle.atl_market.specs.Work.{earned, work_orders, work_pots, work_terms, worked, worked_by}
 use Rattle.atl_market.proofs.OrderedLaws.{unordered_stays}
 use Rattle.atl_market.proofs.PotLaws.{pots_give}
 use Rattle.atl_market.proofs.RecruitLaws.{recruited_others}
+use Rattle.atl_market.proofs.TradeLaws.{traded_others, trades_give}
 
 -- ---- all phases with pots
 
@@ -140,3 +144,29 @@ recruit_leaves =
       spared = record { faction = refl; men = refl };
     })
     (λ w c d m. others_items is_recruit m c d)
+
+-- ---- SELL and BUY
+
+module _ (trade : Trade) where
+  abbrev items_of : CampaignValue → MonthValue → FinMap nat_cmp ℕ
+  items_of c m = asked_of item_in c (orders_by_unit (is_trade trade) m)
+
+  abbrev counts_of : CampaignValue → MonthValue → FinMap nat_cmp ℕ
+  counts_of c m = asked_of count_in c (orders_by_unit (is_trade trade) m)
+
+  trade_leaves : LeavesUnmailed (trade_meaning trade) (trade_keeps trade)
+  trade_leaves =
+      shared_leave (trade_asked trade) (written_of (is_trade trade))
+      (λ w c m n u there none.
+      record {
+        unit = u;
+        there = unordered_stays (trade_asked trade c m) w (traded_others trade (items_of c m) w) c (trades_give trade (items_of c m) (counts_of c m) w c) (written_of (is_trade trade) c m) n u there (unordered (is_trade trade) m n u none) ∙ there;
+        spared = record { faction = refl; men = refl };
+      })
+      (λ w c d m. others_items (is_trade trade) m c d)
+
+pub sell_leaves : Leaves sell_terms
+sell_leaves = trade_leaves Sell
+
+pub buy_leaves : Leaves buy_terms
+buy_leaves = trade_leaves Buy

@@ -16,11 +16,15 @@ use Rattle.atl_market.specs.PotPhase.{PotMeaning, pots_meaning}
 -- the item that an order names, where it names one
 abbrev pub item_in : Said → Option ℕ
 item_in (orders.Produce i) = Some i
+item_in (orders.Sell n i) = Some i
+item_in (orders.Buy n i) = Some i
 item_in other = None
 
 -- how many an order asks for, where it names a number
 abbrev pub count_in : Said → Option ℕ
 count_in (orders.Recruit n) = Some n
+count_in (orders.Sell n i) = Some n
+count_in (orders.Buy n i) = Some n
 count_in other = None
 
 abbrev pub entry_of : (n : ℕ) → Option ℕ → List (ℕ × ℕ)

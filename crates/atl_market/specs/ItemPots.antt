@@ -1,7 +1,8 @@
 -- Pots of items: in each region, those that ask for one item share what the region has of it. See docs/RULES.md, "Shares".
-use Rattle.std.specs.Prelude.{◌==◌, ℕ, Bool, false, Option, Some, None}
+use Rattle.std.specs.Prelude.{◌==◌, ℕ, Bool, false, List, [], ◌∷◌, Option, Some, None}
+use Rattle.std.specs.List.{flat_map}
 use Rattle.std.specs.Ordering.{nat_cmp}
-use Rattle.std.specs.FinMap.{FinMap, retain_keys}
+use Rattle.std.specs.FinMap.{FinMap, entries, from_entries, retain_keys}
 use Rattle.atl_state.specs.Campaign.{CampaignValue}
 use Rattle.atl_market.specs.Pots.{share_of}
 
@@ -22,3 +23,11 @@ module _ (item_of : ℕ → Option ℕ) where
     -- What a unit, by its number, gets: its share of what its region has of the item that it asks for.
     abbrev pub item_share : ℕ → Option ℕ
     item_share number = share_for number (item_of number)
+
+    abbrev pub listed : ℕ → Option ℕ → List (ℕ × ℕ)
+    listed number None = []
+    listed number (Some share) = (number, share) ∷ []
+
+    -- and by unit, what each gets that has a want
+    abbrev pub item_shares : FinMap nat_cmp ℕ
+    item_shares = from_entries (flat_map (λ e. listed e.0 (item_share e.0)) (entries wants))

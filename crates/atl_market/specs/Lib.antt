@@ -21,3 +21,5 @@ pub mod Outputs
 pub mod Produce
 pub mod Making
 pub mod Paid
+pub mod Trade
+pub mod Trading

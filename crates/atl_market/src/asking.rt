@@ -17,6 +17,8 @@ fn count_named(month: &Month, order: Written) -> Option<u32>
 {
     match month.order(order.faction, order.place) {
         Some((_, Order::Recruit(men))) => Some(*men),
+        Some((_, Order::Sell { amount, .. })) => Some(*amount),
+        Some((_, Order::Buy { amount, .. })) => Some(*amount),
         _ => None,
     }
 }
@@ -27,6 +29,8 @@ fn item_named(month: &Month, order: Written) -> Option<u16>
 {
     match month.order(order.faction, order.place) {
         Some((_, Order::Produce(item))) => Some(*item),
+        Some((_, Order::Sell { item, .. })) => Some(*item),
+        Some((_, Order::Buy { item, .. })) => Some(*item),
         _ => None,
     }
 }

@@ -13,6 +13,7 @@ pub mod produce;
 pub mod recruit;
 pub mod shares;
 pub mod tax;
+pub mod trade;
 pub mod work;
 
 pub use build::BuildPhase;
@@ -21,4 +22,5 @@ pub use produce::ProducePhase;
 pub use recruit::RecruitPhase;
 pub use shares::share;
 pub use tax::TaxPhase;
+pub use trade::{BuyPhase, SellPhase};
 pub use work::{WorkPhase, work_pays_all_at_once};

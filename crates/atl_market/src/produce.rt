@@ -96,7 +96,7 @@ fn items_asked(
 }
 
 /// Does nothing. Its clause is what is so of every world.
-fn world_is_sound(world: &World)
+pub(crate) fn world_is_sound(world: &World)
     ensures { IsWorld world.now }
 {
     let _ = world.items();

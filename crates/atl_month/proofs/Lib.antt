@@ -3,6 +3,7 @@ pub mod SweepLaws
 pub mod SweepAllLaws
 pub mod ReceiverLaws
 pub mod SweepRunLaws
+pub mod RestockLaws
 pub mod SeasonLaws
 pub mod CountLaws
 pub mod MonthLaws

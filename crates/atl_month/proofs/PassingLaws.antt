@@ -29,7 +29,7 @@ use Rattle.atl_state.proofs.HoldingLaws.{MayHold, may_hold_money, steady-held, t
 use Rattle.atl_state.proofs.RegionLaws.{changed-known, get-insert_same, steady-amount, total-amount}
 use Rattle.atl_instant.specs.Meaning.{IsNear, IsSameMonth, Moving, both_move, moves_only}
 use Rattle.atl_instant.proofs.MeaningLaws.{near_same, near_twice}
-use Rattle.atl_instant.proofs.AmountsLaws.{amount_within, every_amount, set_amount}
+use Rattle.atl_state.proofs.HeldLaws.{amount_within, every_amount, set_amount}
 use Rattle.atl_instant.proofs.BookingLaws.{booked-near, within-neg}
 use Rattle.atl_instant.proofs.QuitLaws.{owing_items, part_of}
 use Rattle.atl_instant.proofs.StayingLaws.{no_worse, no_worse_twice}

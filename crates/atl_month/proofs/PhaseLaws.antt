@@ -23,13 +23,14 @@ use Rattle.atl_market.specs.Build.{build_terms}
 use Rattle.atl_market.specs.Produce.{produce_terms}
 use Rattle.atl_market.specs.Work.{work_terms}
 use Rattle.atl_market.proofs.UnmailedMakeLaws.{build_leaves, produce_leaves}
-use Rattle.atl_market.proofs.UnmailedPotLaws.{recruit_leaves, tax_leaves, work_leaves}
+use Rattle.atl_market.proofs.UnmailedPotLaws.{buy_leaves, recruit_leaves, sell_leaves, tax_leaves, work_leaves}
 use Rattle.atl_instant.specs.Form.{form_terms}
 use Rattle.atl_instant.specs.Name.{name_terms}
 use Rattle.atl_instant.specs.Place.{place_terms}
 use Rattle.atl_instant.specs.Give.{give_terms}
 use Rattle.atl_instant.specs.Transfer.{transfer_terms}
 use Rattle.atl_market.specs.Tax.{tax_terms}
+use Rattle.atl_market.specs.Trade.{buy_terms, sell_terms}
 use Rattle.atl_market.specs.Recruit.{recruit_terms}
 use Rattle.atl_instant.specs.Guard.{guard_terms}
 use Rattle.atl_action.specs.Walk.{walk_terms}
@@ -97,9 +98,6 @@ work_alone = money_alone entries.Wages
 pub upkeep_alone : MovesItsOwn upkeep_terms
 upkeep_alone = money_and_people entries.Upkeep entries.Starved
 
-pub season_alone : MovesItsOwn season_terms
-season_alone = money_and_people entries.Income entries.Births
-
 both_hold : (a b : Bool) → (if a && b then most_moved else 0) ≤ (if a then most_moved else 0)
 both_hold true true = omega arith
 both_hold true false = omega arith
@@ -108,6 +106,11 @@ both_hold false b = omega arith
 never : (a : Bool) → (if a && false then most_moved else 0) ≤ 0
 never true = omega arith
 never false = omega arith
+
+pub season_alone : MovesItsOwn season_terms
+season_alone e Money = omega (arith, money_and_people entries.Income entries.Births e Money, never (entry_place e == entry_place entries.Stocked))
+season_alone e People = omega (arith, money_and_people entries.Income entries.Births e People, never (entry_place e == entry_place entries.Stocked))
+season_alone e (Item i) = omega (arith, money_and_people entries.Income entries.Births e (Item i), both_hold (entry_place e == entry_place entries.Stocked) true)
 
 pub sweep_alone : MovesItsOwn sweep_terms
 sweep_alone e Money = both_hold (entry_place e == entry_place entries.Lost) true
@@ -135,6 +138,8 @@ early_are =
     ▹ is_phase place_terms (nothing nothing_moved) place_leaves
     ▹ is_phase give_terms (nothing nothing_moved) give_leaves
     ▹ is_phase transfer_terms (nothing nothing_moved) transfer_leaves
+    ▹ is_phase sell_terms (money_alone entries.Sold) sell_leaves
+    ▹ is_phase buy_terms (money_alone entries.Bought) buy_leaves
     ▹ is_phase tax_terms (nothing nothing_moved) tax_leaves
     ▹ is_phase recruit_terms (money_alone entries.Recruiting) recruit_leaves
     ▹ tt

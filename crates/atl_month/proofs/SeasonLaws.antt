@@ -1,5 +1,5 @@
 -- The season leaves a campaign well.
-use Rattle.std.proofs.Common.{◌≡◌, ◌==◌, ℕ, ◌+◌, ◌-◌, ◌*◌, ◌/◌, ◌%◌, ◌≤◌, min, Bool, true, false, cond, Option, Some, None, List, [], ◌∷◌, length, map, refl, sym, ap, subst, ◌∙◌, arith}
+use Rattle.std.proofs.Common.{◌≡◌, ◌==◌, ◌&&◌, ℕ, ◌+◌, ◌-◌, ◌*◌, ◌/◌, ◌%◌, ◌≤◌, min, Bool, true, false, cond, Option, Some, None, List, [], ◌∷◌, length, map, refl, sym, ap, subst, ◌∙◌, arith}
 use Rattle.std.specs.Prelude.{ℤ, pos, ◌+ℤ◌, fold, zip, option_and_then, if◌then◌else◌}
 use Rattle.std.specs.List.{slice_get}
 use Rattle.std.specs.FinMap.{entries, get, len-entries}
@@ -12,13 +12,14 @@ use Rattle.atl_tables.specs.declared.world.Terrain.{Terrain}
 use Rattle.atl_tables.specs.declared.world.RegionPlan.{RegionPlan}
 use Rattle.atl_tables.specs.ByNumber.{terrain_of}
 use Rattle.atl_state.specs.declared.books.Entry.{Entry}
-use Rattle.atl_state.specs.declared.books.Entry.TheVariants.{Births, Income}
+use Rattle.atl_state.specs.declared.books.Entry.TheVariants.{Births, Income, Stocked}
 use Rattle.atl_state.specs.declared.books.Thing.{Thing}
 use Rattle.atl_state.specs.declared.books.Thing.TheVariants.{Money, People, Item}
 use Rattle.atl_state.specs.declared.records.Region.{Region}
-use Rattle.atl_state.specs.Books.{IsGrid, amount_in, with_booked}
+use Rattle.atl_state.specs.Books.{IsGrid, amount_in, entry_place, with_booked}
 use Rattle.atl_state.specs.Founding.{things_of}
 use Rattle.atl_state.specs.Good.{IsSteady}
+use Rattle.atl_state.specs.Held.{amount_of}
 use Rattle.atl_state.specs.Covers.{MarksChanges}
 use Rattle.atl_state.specs.Marking.{mark_amount, mark_region}
 use Rattle.atl_state.specs.Marks.{amount_number}
@@ -30,9 +31,11 @@ use Rattle.atl_state.proofs.RegionLaws.{IsRegion-money, IsRegion-peasants, regio
 use Rattle.atl_state.proofs.EveryLaws.{none_some}
 use Rattle.atl_instant.specs.Meaning.{HaveRoom, IsNear, LeavesWell, both_move, most_moved, moved_times, moves_only}
 use Rattle.atl_instant.proofs.MarkLaws.{marks_by}
-use Rattle.atl_instant.proofs.MeaningLaws.{fold_leaves_well, near_more, near_twice, room_behind_one, room_for_one, room_less, well_unchanged, well_within}
+use Rattle.atl_instant.proofs.MeaningLaws.{both_leave_well, fold_leaves_well, near_more, near_twice, room_behind_one, room_for_one, room_less, well_unchanged, well_within}
 use Rattle.atl_instant.proofs.BookingLaws.{booked-near, within-pos}
-use Rattle.atl_month.specs.Season.{births, grows_by, income, season, season_at, season_in, with_growth}
+use Rattle.atl_month.specs.Restock.{is_item, markets_of, restocked, stocks_by}
+use Rattle.atl_month.specs.Season.{births, grows_by, income, season, season_at, season_in, season_moves, with_growth}
+use Rattle.atl_month.proofs.RestockLaws.{restocked_keeps, restocked_leaves_well}
 
 -- ---- how much there is
 
@@ -69,8 +72,9 @@ module _ (w : WorldValue) (c : CampaignValue) (n : ℕ) (r : Region) (born earne
   growth_steady : r.peasants + born ≤ most_amount → r.money + earned ≤ most_amount → IsSteady w c → IsSteady w (with_growth c n r.peasants r.money born earned)
   growth_steady p m old =
       let grown = IsRegion-peasants r (r.peasants + born) p (old.numbers.regions n r is) in
+      let stocks = old.known.markets n r is in
       steady-amount w counted Income Money (pos earned) (steady-amount w paid Births People (pos born)
-      (steady-region more_money peopled n (more_people r) peopled_there w (IsRegion-money (more_people r) (r.money + earned) m grown) (steady-region more_people c n r is w grown old)))
+      (steady-region more_money peopled n (more_people r) peopled_there w (IsRegion-money (more_people r) (r.money + earned) m grown) stocks (steady-region more_people c n r is w grown stocks old)))
 
   total_grown : (t : Thing) → pos (total (with_growth c n r.peasants r.money born earned) t) ≡ (pos (total c t) +ℤ share_of t People (pos born)) +ℤ share_of t Money (pos earned)
   total_grown t =
@@ -85,12 +89,12 @@ module _ (w : WorldValue) (c : CampaignValue) (n : ℕ) (r : Region) (born earne
       total_of (Item i) a b g h =
           let people : (2 + i == 1) ≡ false = grind (arith, nat_tests) in
           let money : (2 + i == 0) ≡ false = grind (arith, nat_tests) in
-          ap pos (same _ _ _ _ a b g h)
+          ap pos (same _ _ _ _ (amount_of r.stocks i) a b g h)
           ∙ sym (ap (λ q. (pos (total c (Item i)) +ℤ cond q (pos born) (pos 0)) +ℤ cond (2 + i == 0) (pos earned) (pos 0)) people
           ∙ ap (λ q. (pos (total c (Item i)) +ℤ pos 0) +ℤ cond q (pos earned) (pos 0)) money ∙ zeros (total c (Item i)))
         where
-          same : (x y z u : ℕ) → x ≡ y → y ≡ z → u + 0 ≡ total c (Item i) + 0 → z + 0 ≡ u + 0 → x ≡ total c (Item i)
-          same x y z u a b g h = omega arith
+          same : (x y z u k : ℕ) → x ≡ y → y ≡ z → u + k ≡ total c (Item i) + k → z + k ≡ u + k → x ≡ total c (Item i)
+          same x y z u k a b g h = omega arith
 
           zeros : (x : ℕ) → (pos x +ℤ pos 0) +ℤ pos 0 ≡ pos x
           zeros x = omega (arith, ints)
@@ -160,24 +164,35 @@ limits_fit w n t world is = terrain_in w (get w.regions n) t world is
 
 -- ---- the season of a region, and of all
 
-pub season_at_leaves_well : (w : WorldValue) → IsWorld w → (c : CampaignValue) (x : ℕ × ℕ) → IsSteady w c → LeavesWell IsSteady (grows_by most_amount) w c (season_at w c x)
+-- births and income
+pub region_grows_well : (w : WorldValue) → IsWorld w → (c : CampaignValue) (n word : ℕ) (t : Terrain) (r : Region) → terrain_of w n ≡ Some t → get c.regions n ≡ Some r → IsSteady w c
+    → LeavesWell IsSteady (grows_by most_amount) w c (with_growth c n r.peasants r.money (births w.rules.growth t.peasant_limit word r.peasants) (income w.rules.income t.money_limit (r.peasants + births w.rules.growth t.peasant_limit word r.peasants) r.money))
+region_grows_well w world c n word t r here is steady =
+    let born = births w.rules.growth t.peasant_limit word r.peasants in
+    let (peasant_limit, money_limit) = limits_fit w n t world here in
+    let within = steady.numbers.regions n r is in
+    growth_leaves_well w c n r born (income w.rules.income t.money_limit (r.peasants + born) r.money) is
+    (births_fit w.rules.growth t.peasant_limit word r.peasants peasant_limit within.peasants)
+    (income_fits w.rules.income t.money_limit (r.peasants + born) r.money money_limit within.money) steady
+
+pub season_at_leaves_well : (w : WorldValue) → IsWorld w → (c : CampaignValue) (x : ℕ × ℕ) → IsSteady w c → LeavesWell IsSteady (season_moves most_amount) w c (season_at w c x)
 unfolding season_at
 season_at_leaves_well w world c (n, word) steady = by_terrain (terrain_of w n) refl
   where
-    same : LeavesWell IsSteady (grows_by most_amount) w c c
-    same = well_unchanged (grows_by most_amount) w c steady
+    same : LeavesWell IsSteady (season_moves most_amount) w c c
+    same = well_unchanged (season_moves most_amount) w c steady
 
-    by_region : (t : Terrain) → terrain_of w n ≡ Some t → (o : Option Region) → get c.regions n ≡ o → LeavesWell IsSteady (grows_by most_amount) w c (season_in w c n word (Some t) o)
+    by_region : (t : Terrain) → terrain_of w n ≡ Some t → (o : Option Region) → get c.regions n ≡ o → LeavesWell IsSteady (season_moves most_amount) w c (season_in w c n word (Some t) o)
     by_region t here None is = same
     by_region t here (Some r) is =
         let born = births w.rules.growth t.peasant_limit word r.peasants in
-        let (peasant_limit, money_limit) = limits_fit w n t world here in
-        let within = steady.numbers.regions n r is in
-        growth_leaves_well w c n r born (income w.rules.income t.money_limit (r.peasants + born) r.money) is
-        (births_fit w.rules.growth t.peasant_limit word r.peasants peasant_limit within.peasants)
-        (income_fits w.rules.income t.money_limit (r.peasants + born) r.money money_limit within.money) steady
+        let earned = income w.rules.income t.money_limit (r.peasants + born) r.money in
+        let grown = with_growth c n r.peasants r.money born earned in
+        let growth = region_grows_well w world c n word t r here is steady in
+        both_leave_well (grows_by most_amount) (stocks_by most_amount) w c grown (restocked n grown (entries (markets_of w n))) growth
+        (restocked_leaves_well w world n grown growth.leaves_it)
 
-    by_terrain : (o : Option Terrain) → terrain_of w n ≡ o → LeavesWell IsSteady (grows_by most_amount) w c (season_in w c n word o (get c.regions n))
+    by_terrain : (o : Option Terrain) → terrain_of w n ≡ o → LeavesWell IsSteady (season_moves most_amount) w c (season_in w c n word o (get c.regions n))
     by_terrain None is = same
     by_terrain (Some t) is = by_region t is (get c.regions n) refl
 
@@ -186,26 +201,38 @@ length-zip [] ys = omega arith
 length-zip (x ∷ xs) [] = omega arith
 length-zip (x ∷ xs) (y ∷ ys) = omega (arith, length-zip xs ys)
 
-pub grows_little : (k : ℕ) → k ≤ most_regions → (e : Entry) (t : Thing) → moved_times k (grows_by most_amount) e t ≤ grows_by most_moved e t
-grows_little k few e t = scaled (amount_number e t == amount_number Income Money) (amount_number e t == amount_number Births People)
+pub season_little : (k : ℕ) → k ≤ most_regions → (e : Entry) (t : Thing) → moved_times k (season_moves most_amount) e t ≤ season_moves most_moved e t
+season_little k few e t = scaled (amount_number e t == amount_number Income Money) (amount_number e t == amount_number Births People) ((entry_place e == entry_place Stocked) && is_item t)
   where
-    scaled : (a b : Bool) → k * ((if a then most_amount else 0) + (if b then most_amount else 0)) ≤ (if a then most_moved else 0) + (if b then most_moved else 0)
-    scaled true true = omega (arith, few)
-    scaled true false = omega (arith, few)
-    scaled false true = omega (arith, few)
-    scaled false false = omega (arith, few)
+    one : Bool → ℕ
+    one a = if a then most_amount else 0
 
-pub season_leaves_well : (w : WorldValue) → IsWorld w → (c : CampaignValue) (words : List ℕ) → IsSteady w c → LeavesWell IsSteady (grows_by most_moved) w c (season w c words)
+    most : Bool → ℕ
+    most a = if a then most_moved else 0
+
+    each : (a : Bool) → k * one a ≤ most a
+    each true = omega (arith, few)
+    each false = omega arith
+
+    parts : (x y z : ℕ) → k * ((x + y) + z) ≡ (k * x + k * y) + k * z
+    parts x y z = omega arith
+
+    scaled : (a b d : Bool) → k * ((one a + one b) + one d) ≤ (most a + most b) + most d
+    scaled a b d = omega (arith, parts (one a) (one b) (one d), each a, each b, each d)
+
+pub season_leaves_well : (w : WorldValue) → IsWorld w → (c : CampaignValue) (words : List ℕ) → IsSteady w c → LeavesWell IsSteady (season_moves most_moved) w c (season w c words)
 season_leaves_well w world c words steady =
     let numbers = map (λ (e : ℕ × RegionPlan). e.0) (entries w.regions) in
     let pairs = zip numbers words in
     let few : length pairs ≤ most_regions = omega (arith, length-zip numbers words, length-map (entries w.regions) (λ (e : ℕ × RegionPlan). e.0), len-entries w.regions, world.few_regions) in
-    well_within (moved_times (length pairs) (grows_by most_amount)) (grows_by most_moved) w c (season w c words) (grows_little (length pairs) few)
-    (fold_leaves_well (grows_by most_amount) w (season_at w) (season_at_leaves_well w world) c pairs steady)
+    well_within (moved_times (length pairs) (season_moves most_amount)) (season_moves most_moved) w c (season w c words) (season_little (length pairs) few)
+    (fold_leaves_well (season_moves most_amount) w (season_at w) (season_at_leaves_well w world) c pairs steady)
 
 -- the season changes no unit
 season_in_keeps : (w : WorldValue) (c : CampaignValue) (n word : ℕ) (o : Option Terrain) (p : Option Region) → (season_in w c n word o p).units ≡ c.units
-season_in_keeps w c n word (Some t) (Some r) = refl
+season_in_keeps w c n word (Some t) (Some r) =
+    let born = births w.rules.growth t.peasant_limit word r.peasants in
+    restocked_keeps n (with_growth c n r.peasants r.money born (income w.rules.income t.money_limit (r.peasants + born) r.money)) (entries (markets_of w n))
 season_in_keeps w c n word (Some t) None = refl
 season_in_keeps w c n word None p = refl
 
@@ -231,11 +258,11 @@ season_goes_on w c d all regions rest words tail n word plan listed given is who
     ∙ whole
 
 pub room_goes_on : (w : WorldValue) → IsWorld w → (c d : CampaignValue) (regions rest : List (ℕ × RegionPlan)) (n word : ℕ) (plan : RegionPlan)
-    → regions ≡ (n, plan) ∷ rest → d ≡ season_at w c (n, word) → IsSteady w c → HaveRoom (moved_times (length regions) (grows_by most_amount)) c → HaveRoom (moved_times (length rest) (grows_by most_amount)) d
+    → regions ≡ (n, plan) ∷ rest → d ≡ season_at w c (n, word) → IsSteady w c → HaveRoom (moved_times (length regions) (season_moves most_amount)) c → HaveRoom (moved_times (length rest) (season_moves most_amount)) d
 room_goes_on w world c d regions rest n word plan listed is steady room =
-    rw is (room_behind_one (grows_by most_amount) w (season_at w) (season_at_leaves_well w world) c (n, word) (n, plan) rest steady (subst (λ (l : List (ℕ × RegionPlan)). HaveRoom (moved_times (length l) (grows_by most_amount)) c) listed room))
+    rw is (room_behind_one (season_moves most_amount) w (season_at w) (season_at_leaves_well w world) c (n, word) (n, plan) rest steady (subst (λ (l : List (ℕ × RegionPlan)). HaveRoom (moved_times (length l) (season_moves most_amount)) c) listed room))
 
 pub room_now : (w : WorldValue) → IsWorld w → (c : CampaignValue) (regions rest : List (ℕ × RegionPlan)) (n : ℕ) (plan : RegionPlan)
-    → regions ≡ (n, plan) ∷ rest → HaveRoom (moved_times (length regions) (grows_by most_amount)) c → HaveRoom (grows_by most_amount) c
+    → regions ≡ (n, plan) ∷ rest → HaveRoom (moved_times (length regions) (season_moves most_amount)) c → HaveRoom (season_moves most_amount) c
 room_now w world c regions rest n plan listed room =
-    room_for_one (grows_by most_amount) w (season_at w) (season_at_leaves_well w world) c (n, plan) rest (subst (λ (l : List (ℕ × RegionPlan)). HaveRoom (moved_times (length l) (grows_by most_amount)) c) listed room)
+    room_for_one (season_moves most_amount) w (season_at w) (season_at_leaves_well w world) c (n, plan) rest (subst (λ (l : List (ℕ × RegionPlan)). HaveRoom (moved_times (length l) (season_moves most_amount)) c) listed room)

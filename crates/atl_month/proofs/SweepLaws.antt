@@ -28,7 +28,7 @@ use Rattle.atl_state.specs.Totals.{Balances, held, total}
 use Rattle.atl_state.proofs.EveryEntryLaws.{entry_small}
 use Rattle.atl_state.proofs.EveryLaws.{each-from_every, sorted}
 use Rattle.atl_instant.specs.Meaning.{IsNear, LeavesWell, Moving, both_move, moves_only}
-use Rattle.atl_instant.proofs.AmountsLaws.{amount_within}
+use Rattle.atl_state.proofs.HeldLaws.{amount_within}
 use Rattle.atl_instant.proofs.MeaningLaws.{near_more}
 use Rattle.atl_instant.proofs.QuitLaws.{no_money, no_people, of_item, owing_items, part_of}
 use Rattle.atl_instant.specs.LostItems.{moving_items}

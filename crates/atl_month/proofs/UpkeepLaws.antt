@@ -39,7 +39,7 @@ use Rattle.atl_state.proofs.RegionLaws.{steady-amount, total-amount}
 use Rattle.atl_instant.specs.Meaning.{HaveRoom, IsNear, LeavesWell, Moving, moved_times, moves_only, most_moved}
 use Rattle.atl_instant.proofs.MarkLaws.{marks_by}
 use Rattle.atl_instant.proofs.MeaningLaws.{MovesLess, near_twice, room_less, well_within}
-use Rattle.atl_instant.proofs.AmountsLaws.{every_amount}
+use Rattle.atl_state.proofs.HeldLaws.{every_amount}
 use Rattle.atl_instant.proofs.BookingLaws.{booked-near, within-neg}
 use Rattle.atl_market.specs.PotPhase.{CanInTurn}
 use Rattle.atl_market.proofs.TurnLaws.{first_room, later_room, turns_leave_well}

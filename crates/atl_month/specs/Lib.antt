@@ -1,4 +1,5 @@
 pub mod Limits
+pub mod Restock
 pub mod Season
 pub mod Swept
 pub mod Settling

@@ -28,6 +28,7 @@ use Rattle.atl_market.specs.Build.{build_terms}
 use Rattle.atl_market.specs.Produce.{produce_terms}
 use Rattle.atl_market.specs.Recruit.{recruit_terms}
 use Rattle.atl_market.specs.Tax.{tax_terms}
+use Rattle.atl_market.specs.Trade.{buy_terms, sell_terms}
 use Rattle.atl_market.specs.Work.{work_terms}
 use Rattle.atl_month.specs.Season.{season_terms}
 use Rattle.atl_month.specs.Sweep.{sweep_terms}
@@ -41,7 +42,7 @@ begun readings words = record { readings = readings; aliases = empty; words = wo
 
 -- the phases of orders that are carried out while no flag is set anew
 abbrev pub early_phases : List PhaseTerms
-early_phases = form_terms ∷ name_terms ∷ place_terms ∷ give_terms ∷ transfer_terms ∷ tax_terms ∷ recruit_terms ∷ []
+early_phases = form_terms ∷ name_terms ∷ place_terms ∷ give_terms ∷ transfer_terms ∷ sell_terms ∷ buy_terms ∷ tax_terms ∷ recruit_terms ∷ []
 
 -- those of the other orders, but for WORK, which units do without an order as well
 abbrev pub later_phases : List PhaseTerms

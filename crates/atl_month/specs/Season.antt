@@ -1,17 +1,18 @@
--- The season of a month: what each region has of births and of income. See docs/RULES.md, "Season".
-use Rattle.std.specs.Prelude.{◌≡◌, ℕ, pos, ◌+◌, ◌-◌, ◌*◌, ◌/◌, ◌%◌, min, List, map, fold, zip, Option, Some, None}
+-- The season of a month: what each region has of births and of income, and what its markets get. See docs/RULES.md, "Season".
+use Rattle.std.specs.Prelude.{◌≡◌, ℕ, pos, ◌+◌, ◌-◌, ◌*◌, ◌/◌, ◌%◌, min, List, [], ◌∷◌, map, fold, zip, Option, Some, None}
 use Rattle.std.specs.FinMap.{entries, get}
 use Rattle.atl_tables.specs.Worlds.{WorldValue}
 use Rattle.atl_tables.specs.declared.world.Terrain.{Terrain}
 use Rattle.atl_tables.specs.ByNumber.{terrain_of}
-use Rattle.atl_state.specs.declared.books.Entry.TheVariants.{Births, Income}
+use Rattle.atl_state.specs.declared.books.Entry.TheVariants.{Births, Income, Stocked}
 use Rattle.atl_state.specs.declared.books.Thing.TheVariants.{Money, People}
 use Rattle.atl_state.specs.declared.records.Region.{Region}
 use Rattle.atl_state.specs.Campaign.{CampaignValue, with_amount, with_peasants, with_region_money}
 use Rattle.atl_instant.specs.Month.{MonthValue}
-use Rattle.atl_instant.specs.Meaning.{Keeping, Moving, both_move, moves_only}
+use Rattle.atl_instant.specs.Meaning.{Keeping, Moving, both_move, most_moved, moves_only}
 use Rattle.atl_month.specs.Limits.{per_hundred}
-use Rattle.atl_instant.specs.Terms.{PhaseTerms, books_money_and_people}
+use Rattle.atl_instant.specs.Terms.{PhaseTerms}
+use Rattle.atl_month.specs.Restock.{markets_of, restocked, stocks_by}
 
 -- So many of a hundred peasants are born as the word says, from 0 to the growth; at most up to the terrain's limit.
 abbrev pub births : (growth limit word peasants : ℕ) → ℕ
@@ -27,11 +28,12 @@ with_growth c n peasants money born earned =
     let grown = with_region_money (with_peasants c n (peasants + born)) n (money + earned) in
     with_amount (with_amount grown Births People (pos born)) Income Money (pos earned)
 
--- The births come first, and those who are born bring income as well.
+-- The births come first, and those who are born bring income as well. Then the region's markets get new goods.
 abbrev pub season_in : WorldValue → CampaignValue → (n word : ℕ) → Option Terrain → Option Region → CampaignValue
 season_in w c n word (Some t) (Some r) =
     let born = births w.rules.growth t.peasant_limit word r.peasants in
-    with_growth c n r.peasants r.money born (income w.rules.income t.money_limit (r.peasants + born) r.money)
+    let grown = with_growth c n r.peasants r.money born (income w.rules.income t.money_limit (r.peasants + born) r.money) in
+    restocked n grown (entries (markets_of w n))
 season_in w c n word (Some t) None = c
 season_in w c n word None r = c
 
@@ -51,9 +53,18 @@ season_meaning w c m = (season w c m.words, m)
 abbrev pub grows_by : ℕ → Moving
 grows_by most = both_move (moves_only most Income Money) (moves_only most Births People)
 
+-- and of each item so much at most comes into the stocks of a region
+abbrev pub season_moves : ℕ → Moving
+season_moves most = both_move (grows_by most) (stocks_by most)
+
 -- the season changes no unit
 abbrev pub season_keeps : Keeping
 season_keeps w m before after = after.units ≡ before.units
 
 abbrev pub season_terms : PhaseTerms
-season_terms = books_money_and_people Income Births season_meaning season_keeps
+season_terms = record {
+  meaning = season_meaning;
+  moving = season_moves most_moved;
+  moved = record { money = Income ∷ []; people = Births ∷ []; items = Stocked ∷ [] };
+  keeps = season_keeps;
+}

@@ -6,6 +6,7 @@ mod close;
 mod limits;
 mod orders;
 mod receivers;
+mod restock;
 mod room;
 mod season;
 mod settling;

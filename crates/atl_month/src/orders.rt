@@ -6,7 +6,7 @@ use atl_action::{LearnPhase, MovePhase, SailPhase};
 use atl_instant::{
     FormPhase, GivePhase, GuardPhase, Month, NamePhase, Phase, PlacePhase, QuitPhase, TransferPhase,
 };
-use atl_market::{BuildPhase, ProducePhase, RecruitPhase, TaxPhase};
+use atl_market::{BuildPhase, BuyPhase, ProducePhase, RecruitPhase, SellPhase, TaxPhase};
 use atl_state::Campaign;
 use atl_tables::World;
 use std::alloc::{AllocError, Global};
@@ -32,7 +32,8 @@ impl Phase for OrderPhases {
         campaign: Campaign,
         month: Month,
     ) -> Result<(Campaign, Month), AllocError> {
-        let goods = (GivePhase, (TransferPhase, (TaxPhase, RecruitPhase)));
+        let pots = (SellPhase, (BuyPhase, (TaxPhase, RecruitPhase)));
+        let goods = (GivePhase, (TransferPhase, pots));
         let early = (FormPhase, (NamePhase, (PlacePhase, goods)));
         let making = (BuildPhase, (LearnPhase, ProducePhase));
         let later = (GuardPhase, (QuitPhase, (MovePhase, (SailPhase, making))));

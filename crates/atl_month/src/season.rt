@@ -1,21 +1,22 @@
 //! The season of a month.
-ghost use Rattle.std.specs.Prelude.{ℕ, ◌≡◌, ◌≤◌, ◌<◌, ◌+◌};
+ghost use Rattle.std.specs.Prelude.{ℕ, ◌≡◌, ◌≤◌, ◌<◌, ◌+◌, OnOk};
 ghost use Rattle.atl_tables.specs.Worlds.{IsWorld};
 ghost use Rattle.atl_tables.specs.Limits.{most_amount, most_growth};
 ghost use Rattle.atl_state.specs.Books.{IsGrid};
 ghost use Rattle.atl_state.specs.Covers.{MarksChanges};
 ghost use Rattle.atl_state.specs.Good.{IsSteady};
 ghost use Rattle.atl_instant.specs.Meaning.{HaveRoom, most_moved};
-ghost use Rattle.atl_month.specs.Season.{births, grows_by, income, season, season_at, season_keeps, season_meaning, with_growth};
+ghost use Rattle.atl_month.specs.Season.{births, grows_by, income, season, season_at, season_keeps, season_meaning, season_moves, with_growth};
 
 use crate::limits::PER_HUNDRED;
+use crate::restock::restock_region;
 use atl_instant::{Month, Phase};
 use atl_state::{Campaign, Entry, Thing};
 use atl_tables::World;
 use std::alloc::{AllocError, Global};
 
-/// Births and income of the regions, with one word of the dice for each region in the order of their numbers; a region
-/// without a word has neither. See docs/RULES.md, "Season".
+/// Births and income of the regions, and new goods of their markets, with one word of the dice for each region in the order
+/// of their numbers; a region without a word has none of it. See docs/RULES.md, "Season".
 #[derive(Drop, Clone, Copy)]
 pub struct SeasonPhase;
 
@@ -52,50 +53,57 @@ fn grow(campaign: &mut Campaign, number: u32, peasants: u32, money: u32, born: u
     campaign.book(Entry::Income, Thing::Money, i64::from(earned));
 }
 
-/// The season of a region.
+/// The season of a region. AllocError without memory; the campaign may then be changed in part.
 #[tactic(auto, unfolding(crate::specs::Season::season_at))]
-fn turn_region(world: &World, campaign: &mut Campaign, number: u32, word: u32)
+fn turn_region(
+    world: &World,
+    campaign: &mut Campaign,
+    number: u32,
+    word: u32,
+) -> Result<(), AllocError>
     requires steady { IsSteady world.now campaign.old.value }
-    requires room { HaveRoom (grows_by most_amount) campaign.old.value }
-    ensures what { campaign.new.value ≡ season_at world.now campaign.old.value (number, word) }
-    ensures marks { MarksChanges campaign.old campaign.new }
+    requires room { HaveRoom (season_moves most_amount) campaign.old.value }
+    ensures what { OnOk result (campaign.new.value ≡ season_at world.now campaign.old.value (number, word)) }
+    ensures marks { OnOk result (MarksChanges campaign.old campaign.new) }
 {
     let terrain = match world.terrain_of(number) {
         Some(terrain) => terrain,
-        None => return,
+        None => return Ok(()),
     };
     let (peasants, money) = match campaign.region(number) {
         Some(region) => (region.peasants, region.money),
-        None => return,
+        None => return Ok(()),
     };
     let rules = world.rules();
     let born = births(rules.growth, terrain.peasant_limit, word, peasants);
     let earned = income(rules.income, terrain.money_limit, peasants + born, money);
     grow(campaign, number, peasants, money, born, earned);
+    restock_region(world, campaign, number)
 }
 
 /// The season of the regions, as far as there are words.
-fn turn_regions(world: &World, campaign: &mut Campaign, words: &[u32])
+fn turn_regions(world: &World, campaign: &mut Campaign, words: &[u32]) -> Result<(), AllocError>
     requires steady { IsSteady world.now campaign.old.value }
-    requires room { HaveRoom (grows_by most_moved) campaign.old.value }
-    ensures what { campaign.new.value ≡ season world.now campaign.old.value words.now }
-    ensures marks { MarksChanges campaign.old campaign.new }
+    requires room { HaveRoom (season_moves most_moved) campaign.old.value }
+    ensures what { OnOk result (campaign.new.value ≡ season world.now campaign.old.value words.now) }
+    ensures marks { OnOk result (MarksChanges campaign.old campaign.new) }
     ensures world { IsWorld world.now }
 {
     let mut place = 0;
     for (number, _) in world.regions().iter() {
         match words.get(place) {
-            Some(word) => turn_region(world, campaign, number, *word),
-            None => return,
+            Some(word) => turn_region(world, campaign, number, *word)?,
+            None => return Ok(()),
         }
         place += 1;
     }
+    Ok(())
 }
 
 impl Phase for SeasonPhase {
     ghost meaning = { season_meaning };
 
-    ghost moving = { grows_by most_moved };
+    ghost moving = { season_moves most_moved };
 
     ghost keeps = { season_keeps };
 
@@ -106,7 +114,7 @@ impl Phase for SeasonPhase {
         mut campaign: Campaign,
         month: Month,
     ) -> Result<(Campaign, Month), AllocError> {
-        turn_regions(world, &mut campaign, month.words());
+        turn_regions(world, &mut campaign, month.words())?;
         Ok((campaign, month))
     }
 }

@@ -19,9 +19,9 @@ use Rattle.atl_orders.specs.declared.verb.Verb.{Verb}
 use Rattle.atl_orders.specs.declared.verb.Verb.TheVariants as verbs
 use Rattle.atl_orders.specs.Words.{WordText, is_word, number_of}
 use Rattle.atl_tables.specs.Steps.{◌>>=◌}
-use Rattle.atl_orders.specs.Operands.{or_fault, not_zero, word_at, count_at, number_at, alias_at, unit_at, item_at, skill_at, kind_at, direction_at, numbered, named_new, and_then_units, units_of, some_units_at}
+use Rattle.atl_orders.specs.Operands.{or_fault, not_zero, word_at, count_at, number_at, alias_at, unit_at, item_at, amount_of_item_at, skill_at, kind_at, direction_at, numbered, named_new, and_then_units, units_of, some_units_at}
 use Rattle.atl_orders.specs.declared.order.Order.TheVariants as orders
-use Rattle.atl_orders.specs.Orders.{Said, kind_of_name, form_at, name_at, guard_at, enter_at, promote_at, give_at, pay_at, transfer_at, recruit_at, quit_at, move_at, sail_at, build_at, teach_at, study_at, produce_at, said_by}
+use Rattle.atl_orders.specs.Orders.{Said, kind_of_name, form_at, name_at, guard_at, enter_at, promote_at, give_at, pay_at, transfer_at, sell_at, buy_at, recruit_at, quit_at, move_at, sail_at, build_at, teach_at, study_at, produce_at, said_by}
 use Rattle.atl_orders.specs.Bounds.{IsWithin, IsNumber, IsAlias, IsUnitRef, IsOrderOf}
 
 -- what holds of a value that was read
@@ -118,6 +118,15 @@ unfolding item_at
 item_holds world [] = tt
 item_holds world (w ∷ ws) = found _ UnknownThing _ (λ i h. place_within _ world.items w.bytes w.quoted i h)
 
+abbrev Goods : Type 0
+Goods = ℕ × ℕ
+
+goods_hold : (world : WorldValue) (ws : List WordText) → Holds (λ (x : Goods). IsNumber x.0 × (x.1 < length world.items)) (amount_of_item_at world ws)
+unfolding amount_of_item_at
+goods_hold world ws =
+    after (λ (x : Counted). IsNumber x.0) _ (number_at ws) _ (count_holds most_number BadNumber ws) (λ amount h.
+    after (λ i. i < length world.items) _ (item_at world amount.1) _ (item_holds world amount.1) (λ item k. (h, k)))
+
 skill_holds : (world : WorldValue) (ws : List WordText) → Holds (λ i. i < length world.skills) (skill_at world ws)
 unfolding skill_at
 skill_holds world [] = tt
@@ -168,8 +177,7 @@ module _ (world : WorldValue) where
   unfolding give_at
   give_sound ws =
       after _ (IsOrderOf world) (unit_at ws) _ (unit_holds ws) (λ to h.
-      after _ (IsOrderOf world) (number_at to.1) _ (count_holds most_number BadNumber to.1) (λ amount k.
-      after _ (IsOrderOf world) (item_at world amount.1) _ (item_holds world amount.1) (λ item l. (h, k, l))))
+      after _ (IsOrderOf world) (amount_of_item_at world to.1) _ (goods_hold world to.1) (λ goods k. (h, k.0, k.1)))
 
   pay_sound : (ws : List WordText) → Sound world (pay_at ws)
   unfolding pay_at
@@ -182,6 +190,14 @@ module _ (world : WorldValue) where
   transfer_sound ws =
       after _ (IsOrderOf world) (unit_at ws) _ (unit_holds ws) (λ to h.
       after _ (IsOrderOf world) (number_at to.1) _ (count_holds most_number BadNumber to.1) (λ men k. (h, k)))
+
+  sell_sound : (ws : List WordText) → Sound world (sell_at world ws)
+  unfolding sell_at
+  sell_sound ws = after _ (IsOrderOf world) (amount_of_item_at world ws) _ (goods_hold world ws) (λ goods h. h)
+
+  buy_sound : (ws : List WordText) → Sound world (buy_at world ws)
+  unfolding buy_at
+  buy_sound ws = after _ (IsOrderOf world) (amount_of_item_at world ws) _ (goods_hold world ws) (λ goods h. h)
 
   recruit_sound : (ws : List WordText) → Sound world (recruit_at ws)
   unfolding recruit_at
@@ -241,6 +257,8 @@ module _ (world : WorldValue) where
   said_sound verbs.Give ws = give_sound ws
   said_sound verbs.Pay ws = pay_sound ws
   said_sound verbs.Transfer ws = transfer_sound ws
+  said_sound verbs.Sell ws = sell_sound ws
+  said_sound verbs.Buy ws = buy_sound ws
   said_sound verbs.Tax ws = tt
   said_sound verbs.Recruit ws = recruit_sound ws
   said_sound verbs.Quit ws = quit_sound ws

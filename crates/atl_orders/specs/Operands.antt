@@ -54,6 +54,13 @@ item_at world ws = do
   w ← word_at ws
   or_fault UnknownThing (item_named world w.0.bytes w.0.quoted)
 
+-- an amount from 1 on, and an item of the world
+unfoldable pub amount_of_item_at : WorldValue → List WordText → Result (ℕ × ℕ) LineFault
+amount_of_item_at world ws = do
+  amount ← number_at ws
+  item ← item_at world amount.1
+  Ok (amount.0, item)
+
 unfoldable pub skill_at : WorldValue → List WordText → Result ℕ LineFault
 skill_at world ws = do
   w ← word_at ws

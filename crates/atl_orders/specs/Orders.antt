@@ -15,7 +15,7 @@ use Rattle.atl_orders.specs.declared.verb.Verb.{Verb}
 use Rattle.atl_orders.specs.declared.verb.Verb.TheVariants as verbs
 use Rattle.atl_orders.specs.Words.{WordText, is_word, number_of}
 use Rattle.atl_tables.specs.Steps.{◌>>=◌}
-use Rattle.atl_orders.specs.Operands.{or_fault, word_at, number_at, alias_at, unit_at, item_at, skill_at, kind_at, direction_at, some_units_at}
+use Rattle.atl_orders.specs.Operands.{or_fault, word_at, number_at, alias_at, unit_at, item_at, amount_of_item_at, skill_at, kind_at, direction_at, some_units_at}
 
 -- An order, with a name by its bytes; items, skills and kinds are by their numbers in the world.
 abbrev pub Said : Type 0
@@ -65,9 +65,8 @@ promote_at ws = do
 unfoldable pub give_at : WorldValue → List WordText → Result Said LineFault
 give_at world ws = do
   to ← unit_at ws
-  amount ← number_at to.1
-  item ← item_at world amount.1
-  Ok (orders.Give to.0 amount.0 item)
+  goods ← amount_of_item_at world to.1
+  Ok (orders.Give to.0 goods.0 goods.1)
 
 unfoldable pub pay_at : List WordText → Result Said LineFault
 pay_at ws = do
@@ -80,6 +79,16 @@ transfer_at ws = do
   to ← unit_at ws
   men ← number_at to.1
   Ok (orders.Transfer to.0 men.0)
+
+unfoldable pub sell_at : WorldValue → List WordText → Result Said LineFault
+sell_at world ws = do
+  goods ← amount_of_item_at world ws
+  Ok (orders.Sell goods.0 goods.1)
+
+unfoldable pub buy_at : WorldValue → List WordText → Result Said LineFault
+buy_at world ws = do
+  goods ← amount_of_item_at world ws
+  Ok (orders.Buy goods.0 goods.1)
 
 unfoldable pub recruit_at : List WordText → Result Said LineFault
 recruit_at ws = do
@@ -133,6 +142,8 @@ said_by world verbs.Promote ws = promote_at ws
 said_by world verbs.Give ws = give_at world ws
 said_by world verbs.Pay ws = pay_at ws
 said_by world verbs.Transfer ws = transfer_at ws
+said_by world verbs.Sell ws = sell_at world ws
+said_by world verbs.Buy ws = buy_at world ws
 said_by world verbs.Tax ws = Ok orders.Tax
 said_by world verbs.Recruit ws = recruit_at ws
 said_by world verbs.Quit ws = quit_at ws
@@ -161,6 +172,8 @@ said text (orders.Promote unit) = orders.Promote unit
 said text (orders.Give to amount item) = orders.Give to amount item
 said text (orders.Pay to amount) = orders.Pay to amount
 said text (orders.Transfer to men) = orders.Transfer to men
+said text (orders.Sell amount item) = orders.Sell amount item
+said text (orders.Buy amount item) = orders.Buy amount item
 said text orders.Tax = orders.Tax
 said text (orders.Recruit men) = orders.Recruit men
 said text (orders.Quit faction) = orders.Quit faction
@@ -183,6 +196,8 @@ verb_of_order (orders.Promote unit) = verbs.Promote
 verb_of_order (orders.Give to amount item) = verbs.Give
 verb_of_order (orders.Pay to amount) = verbs.Pay
 verb_of_order (orders.Transfer to men) = verbs.Transfer
+verb_of_order (orders.Sell amount item) = verbs.Sell
+verb_of_order (orders.Buy amount item) = verbs.Buy
 verb_of_order orders.Tax = verbs.Tax
 verb_of_order (orders.Recruit men) = verbs.Recruit
 verb_of_order (orders.Quit faction) = verbs.Quit

@@ -1,7 +1,7 @@
 -- The keywords of orders.
 use Rattle.std.specs.Prelude.{ℕ, List, [], ◌∷◌, codes, Option, Some, find, if◌then◌else◌}
 use Rattle.atl_orders.specs.declared.verb.Verb.{Verb}
-use Rattle.atl_orders.specs.declared.verb.Verb.TheVariants.{Form, Name, Guard, Enter, Leave, Promote, Give, Pay, Transfer, Tax, Recruit, Quit, Move, Sail, Build, Teach, Study, Produce, Work}
+use Rattle.atl_orders.specs.declared.verb.Verb.TheVariants.{Form, Name, Guard, Enter, Leave, Promote, Give, Pay, Transfer, Sell, Buy, Tax, Recruit, Quit, Move, Sail, Build, Teach, Study, Produce, Work}
 use Rattle.atl_orders.specs.Words.{WordText, is_word}
 
 abbrev pub keyword : Verb → List ℕ
@@ -14,6 +14,8 @@ keyword Promote = codes "PROMOTE"
 keyword Give = codes "GIVE"
 keyword Pay = codes "PAY"
 keyword Transfer = codes "TRANSFER"
+keyword Sell = codes "SELL"
+keyword Buy = codes "BUY"
 keyword Tax = codes "TAX"
 keyword Recruit = codes "RECRUIT"
 keyword Quit = codes "QUIT"
@@ -25,7 +27,7 @@ keyword Study = codes "STUDY"
 keyword Produce = codes "PRODUCE"
 keyword Work = codes "WORK"
 
--- the verbs of the order table, which FORM isn't in
+-- the verbs of the order table, which FORM isn't in, nor SELL and BUY yet
 abbrev pub table : List Verb
 table =
     Name ∷ Guard ∷ Enter ∷ Leave ∷ Promote ∷ Give ∷ Pay ∷ Transfer ∷ Tax ∷ Recruit ∷ Quit ∷ Move ∷ Sail ∷ Build ∷ Teach ∷ Study ∷ Produce ∷ Work ∷ []

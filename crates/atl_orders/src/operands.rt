@@ -5,7 +5,7 @@ ghost use Rattle.atl_orders.specs.Limits.{most_number, last_alias};
 ghost use Rattle.atl_orders.specs.Words.{words};
 ghost use Rattle.atl_orders.specs.Views.{word_text, Gives};
 ghost use Rattle.atl_orders.specs.Standing.{StandsIn, EndsWith};
-ghost use Rattle.atl_orders.specs.Operands.{word_at, count_at, number_at, alias_at, unit_at, item_at, skill_at, kind_at, direction_of, direction_at, units_of};
+ghost use Rattle.atl_orders.specs.Operands.{word_at, count_at, number_at, alias_at, unit_at, item_at, amount_of_item_at, skill_at, kind_at, direction_of, direction_at, units_of};
 
 use crate::fault::LineFault;
 use crate::limits::{LAST_ALIAS, MOST_NUMBER};
@@ -75,6 +75,16 @@ pub fn item_at(world: &World, line: &[u8]) -> Result<u16, LineFault>
     world
         .item_named(word.bytes, word.quoted)
         .ok_or(LineFault::UnknownThing)
+}
+
+/// The next words as an amount from 1 to 999,999,999, and an item of the world.
+#[tactic(auto, unfolding(crate::specs::Operands::amount_of_item_at))]
+pub fn amount_of_item_at(world: &World, line: &[u8]) -> Result<(u32, u16), LineFault>
+    ensures { Gives (λ x. x) result (amount_of_item_at world.now (words line.now)) }
+{
+    let (amount, rest) = number_at(line)?;
+    let item = item_at(world, rest)?;
+    Ok((amount, item))
 }
 
 /// The next word as a skill of the world.

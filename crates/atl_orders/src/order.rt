@@ -59,6 +59,10 @@ pub enum Order<N = Span> {
     Pay { to: UnitRef, amount: u32 },
     /// So many men to a unit, with their days of study.
     Transfer { to: UnitRef, men: u32 },
+    /// So much of an item to the market of the region. Not in the order table yet.
+    Sell { amount: u32, item: u16 },
+    /// So much of an item from the market of the region. Not in the order table yet.
+    Buy { amount: u32, item: u16 },
     /// Takes tax from the region.
     Tax,
     /// How many men.
@@ -97,6 +101,8 @@ impl<N: Drop> Drop for Order<N> {
             } => {}
             Order::Pay { to: _, amount: _ } => {}
             Order::Transfer { to: _, men: _ } => {}
+            Order::Sell { amount: _, item: _ } => {}
+            Order::Buy { amount: _, item: _ } => {}
             Order::Tax => {}
             Order::Recruit(_) => {}
             Order::Quit(_) => {}
@@ -128,6 +134,8 @@ impl<N> Order<N> {
             Order::Give { .. } => Verb::Give,
             Order::Pay { .. } => Verb::Pay,
             Order::Transfer { .. } => Verb::Transfer,
+            Order::Sell { .. } => Verb::Sell,
+            Order::Buy { .. } => Verb::Buy,
             Order::Tax => Verb::Tax,
             Order::Recruit(_) => Verb::Recruit,
             Order::Quit(_) => Verb::Quit,

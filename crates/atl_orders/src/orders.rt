@@ -3,11 +3,12 @@ ghost use Rattle.std.specs.Prelude.{◌≡◌, IfOk};
 ghost use Rattle.atl_orders.specs.Words.{words};
 ghost use Rattle.atl_orders.specs.Views.{word_text, Gives};
 ghost use Rattle.atl_orders.specs.Standing.{IsCursor};
-ghost use Rattle.atl_orders.specs.Orders.{said, kind_of_name, form_at, name_at, guard_at, enter_at, promote_at, give_at, pay_at, transfer_at, recruit_at, quit_at, move_at, sail_at, build_at, teach_at, study_at, produce_at, said_by};
+ghost use Rattle.atl_orders.specs.Orders.{said, kind_of_name, form_at, name_at, guard_at, enter_at, promote_at, give_at, pay_at, transfer_at, sell_at, buy_at, recruit_at, quit_at, move_at, sail_at, build_at, teach_at, study_at, produce_at, said_by};
 
 use crate::fault::LineFault;
 use crate::operands::{
-    alias_at, direction_at, item_at, kind_at, number_at, skill_at, unit_at, units_of, word_at,
+    alias_at, amount_of_item_at, direction_at, item_at, kind_at, number_at, skill_at, unit_at,
+    units_of, word_at,
 };
 use crate::order::{NameKind, Order, Span};
 use crate::verb::Verb;
@@ -96,8 +97,7 @@ fn give_at(world: &World, cursor: Cursor) -> Result<Order, LineFault>
     ensures { Gives (said cursor.entry.text.now) result (give_at world.now (words cursor.entry.rest.now)) }
 {
     let (to, rest) = unit_at(cursor.rest)?;
-    let (amount, rest) = number_at(rest)?;
-    let item = item_at(world, rest)?;
+    let (amount, item) = amount_of_item_at(world, rest)?;
     Ok(Order::Give { to, amount, item })
 }
 
@@ -119,6 +119,24 @@ fn transfer_at(cursor: Cursor) -> Result<Order, LineFault>
     let (to, rest) = unit_at(cursor.rest)?;
     let (men, _) = number_at(rest)?;
     Ok(Order::Transfer { to, men })
+}
+
+/// SELL, an amount and an item, else MissingWord, BadNumber or UnknownThing.
+#[tactic(auto, unfolding(crate::specs::Orders::sell_at))]
+fn sell_at(world: &World, cursor: Cursor) -> Result<Order, LineFault>
+    ensures { Gives (said cursor.entry.text.now) result (sell_at world.now (words cursor.entry.rest.now)) }
+{
+    let (amount, item) = amount_of_item_at(world, cursor.rest)?;
+    Ok(Order::Sell { amount, item })
+}
+
+/// BUY, an amount and an item, else MissingWord, BadNumber or UnknownThing.
+#[tactic(auto, unfolding(crate::specs::Orders::buy_at))]
+fn buy_at(world: &World, cursor: Cursor) -> Result<Order, LineFault>
+    ensures { Gives (said cursor.entry.text.now) result (buy_at world.now (words cursor.entry.rest.now)) }
+{
+    let (amount, item) = amount_of_item_at(world, cursor.rest)?;
+    Ok(Order::Buy { amount, item })
 }
 
 /// RECRUIT and a number of men, else MissingWord or BadNumber.
@@ -223,6 +241,8 @@ pub fn said_by(
         Verb::Give => Ok(give_at(world, cursor)),
         Verb::Pay => Ok(pay_at(cursor)),
         Verb::Transfer => Ok(transfer_at(cursor)),
+        Verb::Sell => Ok(sell_at(world, cursor)),
+        Verb::Buy => Ok(buy_at(world, cursor)),
         Verb::Tax => Ok(Ok(Order::Tax)),
         Verb::Recruit => Ok(recruit_at(cursor)),
         Verb::Quit => Ok(quit_at(cursor)),

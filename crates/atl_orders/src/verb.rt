@@ -6,7 +6,7 @@ ghost use Rattle.atl_orders.specs.Views.{word_text};
 use crate::words::{Word, is_same};
 use atl_tables::variants;
 
-/// What an order does.
+/// What an order does. SELL and BUY aren't in the order table yet: no line is read as one of them.
 #[derive(Drop, Clone, Copy, Debug, PartialEq, Eq)]
 pub enum Verb {
     Form,
@@ -18,6 +18,8 @@ pub enum Verb {
     Give,
     Pay,
     Transfer,
+    Sell,
+    Buy,
     Tax,
     Recruit,
     Quit,
@@ -30,7 +32,7 @@ pub enum Verb {
     Work,
 }
 
-/// The verbs of the order table, which FORM isn't in.
+/// The verbs of the order table, which FORM isn't in, nor SELL and BUY yet.
 const TABLE: [Verb; 18] = variants!(
     Verb: Name Guard Enter Leave Promote Give Pay Transfer Tax Recruit Quit Move Sail Build Teach Study
     Produce Work
@@ -53,6 +55,8 @@ impl Verb {
             Verb::Give => "GIVE",
             Verb::Pay => "PAY",
             Verb::Transfer => "TRANSFER",
+            Verb::Sell => "SELL",
+            Verb::Buy => "BUY",
             Verb::Tax => "TAX",
             Verb::Recruit => "RECRUIT",
             Verb::Quit => "QUIT",

@@ -29,6 +29,9 @@ const ENTRIES: [(&str, Entry); ENTRY_COUNT] = [
     ("left", Entry::Left),
     ("made", Entry::Made),
     ("used", Entry::Used),
+    ("bought", Entry::Bought),
+    ("sold", Entry::Sold),
+    ("stocked", Entry::Stocked),
 ];
 
 /// What is booked of a thing under an entry; 0 where there is no such thing.

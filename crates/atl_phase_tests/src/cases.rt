@@ -6,7 +6,7 @@ use crate::script::{Case, take_case, take_setting};
 use crate::settings::{Setting, campaign_of};
 use anyhow::{Context, Result, bail};
 use atl_state::{Event, Outcome};
-use atl_tables::{World, let_go, read_old_world};
+use atl_tables::{World, let_go, read_world};
 use std::alloc::{AllocError, Global};
 use std::fs;
 
@@ -134,7 +134,7 @@ impl Player {
 
 fn world_at(rt: &HostRuntime, path: &str) -> Result<World> {
     let text = fs::read_to_string(rt, path)?;
-    match read_old_world(rt.alloc(), text.as_str()) {
+    match read_world(rt.alloc(), text.as_str()) {
         Ok(world) => Ok(world),
         Err(_) => bail!("{path} is no world"),
     }

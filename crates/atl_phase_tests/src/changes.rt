@@ -207,8 +207,28 @@ fn structures(
 
 // ---- regions and factions
 
+/// Tells what a region has more or less in stock.
+fn stocks(
+    alloc: Global,
+    world: &World,
+    of: &str,
+    old: &Region,
+    new: &Region,
+    told: &mut String,
+) -> Result<(), AllocError> {
+    let of = format!(in alloc; "{of} stock")?;
+    let mut thing: u32 = 0;
+    for item in world.items() {
+        let (had, has) = (i64::from(old.stock(thing)), i64::from(new.stock(thing)));
+        number(alloc, of.as_str(), item.name.as_str(), had, has, told)?;
+        thing = thing.wrapping_add(1);
+    }
+    Ok(())
+}
+
 fn region(
     alloc: Global,
+    world: &World,
     place: u32,
     old: &Region,
     new: &Region,
@@ -218,18 +238,20 @@ fn region(
     let (peasants, now) = (i64::from(old.peasants), i64::from(new.peasants));
     number(alloc, of.as_str(), "peasants", peasants, now, told)?;
     let (money, now) = (i64::from(old.money), i64::from(new.money));
-    number(alloc, of.as_str(), "money", money, now, told)
+    number(alloc, of.as_str(), "money", money, now, told)?;
+    stocks(alloc, world, of.as_str(), old, new, told)
 }
 
 fn regions(
     alloc: Global,
+    world: &World,
     before: &Campaign,
     after: &Campaign,
     told: &mut String,
 ) -> Result<(), AllocError> {
     for (place, new) in after.regions() {
         if let Some(old) = before.region(place) {
-            region(alloc, place, old, new, told)?;
+            region(alloc, world, place, old, new, told)?;
         }
     }
     Ok(())
@@ -297,7 +319,7 @@ fn nexts(
     )
 }
 
-/// Tells all that has changed from one campaign of the world to another: names, numbers, goods, days, which
+/// Tells all that has changed from one campaign of the world to another: names, numbers, goods, days, stocks, which
 /// numbers come next, and what was booked.
 pub(crate) fn tell_changes(
     alloc: Global,
@@ -309,7 +331,7 @@ pub(crate) fn tell_changes(
     units(alloc, world, before, after, told)?;
     new_units(alloc, world, before, after, told)?;
     structures(alloc, world, before, after, told)?;
-    regions(alloc, before, after, told)?;
+    regions(alloc, world, before, after, told)?;
     factions(alloc, before, after, told)?;
     nexts(alloc, before, after, told)?;
     books(alloc, world, before, after, told)

@@ -1,6 +1,6 @@
 //! What a line of a file of cases says.
 use crate::runs::Run;
-use crate::settings::{Built, Had, Setting, Stood};
+use crate::settings::{Built, Had, Setting, Stocked, Stood};
 use anyhow::{Context, Result, bail};
 use atl_tables::{World, let_go};
 use std::alloc::{AllocError, Global};
@@ -105,6 +105,17 @@ fn structure(world: &World, text: &str) -> Option<Built> {
     })
 }
 
+/// `REGION ITEM AMOUNT`, of an item of the world.
+fn stocked(world: &World, text: &str) -> Option<Stocked> {
+    let (region, rest) = text.split_once(' ')?;
+    let (name, amount) = rest.split_once(' ')?;
+    Some(Stocked {
+        region: region.parse::<i64>().ok()?,
+        item: i64::from(world.item_named(name.as_bytes(), false)?),
+        amount: amount.parse::<i64>().ok()?,
+    })
+}
+
 /// Adds what a line says to a setting; false where it says nothing of one.
 pub(crate) fn take_setting(
     world: &World,
@@ -116,6 +127,10 @@ pub(crate) fn take_setting(
         setting.units.push(unit(rest).context("no unit")?)?;
     } else if word == "has" {
         setting.has.push(had(world, rest).context("no goods")?)?;
+    } else if word == "stock" {
+        setting
+            .stocks
+            .push(stocked(world, rest).context("no stock")?)?;
     } else if word == "structure" {
         setting
             .structures

@@ -5,11 +5,11 @@ ghost use Rattle.atl_phase_tests.specs.Roomy.{IsRoomy};
 
 use anyhow::{Result, bail};
 use atl_state::parts::{
-    Parts, StoredBooks, StoredFaction, StoredHas, StoredHead, StoredReport, StoredStructure,
-    StoredUnit,
+    Parts, StoredBooks, StoredFaction, StoredHas, StoredHead, StoredMarket, StoredReport,
+    StoredStructure, StoredUnit,
 };
-use atl_state::{Campaign, check, founded};
-use atl_tables::{Numbered, Sequence, Text, World, let_go};
+use atl_state::{Campaign, check_as, founded};
+use atl_tables::{Format, Numbered, Sequence, Text, World, let_go};
 use std::alloc::{AllocError, Global};
 
 /// A unit of faction 1 or 2.
@@ -41,11 +41,20 @@ pub(crate) struct Built {
     pub owner: i64,
 }
 
-/// Units and structures, numbered from 1, what the units have, and which of them have lost their men since. No unit comes next before this
-/// number.
+/// What a region has in stock of an item.
+#[derive(Clone, Copy, Drop)]
+pub(crate) struct Stocked {
+    pub region: i64,
+    pub item: i64,
+    pub amount: i64,
+}
+
+/// Units and structures, numbered from 1, what the units have, what is in stock, and which of the units have lost their men since. No unit
+/// comes next before this number.
 pub(crate) struct Setting {
     pub units: Vec<Stood>,
     pub has: Vec<Had>,
+    pub stocks: Vec<Stocked>,
     pub structures: Vec<Built>,
     pub menless: Vec<u32>,
     pub next_unit: i64,
@@ -53,7 +62,7 @@ pub(crate) struct Setting {
 
 impl Drop for Setting {
     fn drop(self) {
-        let_go!(self: Setting { units, has, structures, menless, next_unit });
+        let_go!(self: Setting { units, has, stocks, structures, menless, next_unit });
     }
 }
 
@@ -63,6 +72,7 @@ impl Setting {
         Setting {
             units: Vec::new(alloc),
             has: Vec::new(alloc),
+            stocks: Vec::new(alloc),
             structures: Vec::new(alloc),
             menless: Vec::new(alloc),
             next_unit: 1,
@@ -84,7 +94,7 @@ const NEXT_FACTION: i64 = 3;
 /// The id of a campaign's own row, and its format.
 const CAMPAIGN_ID: i64 = 1;
 
-const CAMPAIGN_FORMAT: i64 = 1;
+const CAMPAIGN_FORMAT: i64 = 2;
 
 /// In rows of the books the number of joining among the entries, and of money, people and the first item among the things.
 const JOINING: i64 = 2;
@@ -183,6 +193,18 @@ fn has_of(alloc: Global, has: &[Had]) -> Result<Sequence<StoredHas>, AllocError>
     Ok(all)
 }
 
+fn markets_of(alloc: Global, stocks: &[Stocked]) -> Result<Sequence<StoredMarket>, AllocError> {
+    let mut all = Sequence::new(alloc);
+    for stock in stocks {
+        all.push(StoredMarket {
+            region: stock.region,
+            item: stock.item,
+            stock: stock.amount,
+        })?;
+    }
+    Ok(all)
+}
+
 fn structure(alloc: Global, number: i64, built: &Built) -> Result<StoredStructure, AllocError> {
     Ok(StoredStructure {
         number,
@@ -230,6 +252,17 @@ fn all_of(has: &[Had], item: i64) -> i64 {
     sum
 }
 
+/// How much of an item all regions have in stock.
+fn all_in_stock(stocks: &[Stocked], item: i64) -> i64 {
+    let mut sum: i64 = 0;
+    for stock in stocks {
+        if stock.item == item {
+            sum = sum.wrapping_add(stock.amount);
+        }
+    }
+    sum
+}
+
 /// The money and the men of all units.
 fn money_and_men(units: &[Stood]) -> (i64, i64) {
     let mut money: i64 = 0;
@@ -241,7 +274,7 @@ fn money_and_men(units: &[Stood]) -> (i64, i64) {
     (money, men)
 }
 
-/// Books what the units have under joining.
+/// Books what the units have, and what is in stock, under joining.
 fn book_all(
     world: &World,
     setting: &Setting,
@@ -253,7 +286,8 @@ fn book_all(
     let mut item: i64 = 0;
     for _ in world.items() {
         let thing = item.wrapping_add(FIRST_ITEM);
-        book(books, thing, all_of(&setting.has, item))?;
+        let stock = all_in_stock(&setting.stocks, item);
+        book(books, thing, all_of(&setting.has, item).wrapping_add(stock))?;
         item = item.wrapping_add(1);
     }
     Ok(())
@@ -267,6 +301,7 @@ fn rows_of(alloc: Global, world: &World, setting: &Setting) -> Result<Parts, All
     parts.units = units_of(alloc, &setting.units)?;
     parts.has = has_of(alloc, &setting.has)?;
     parts.structures = structures_of(alloc, &setting.structures)?;
+    parts.markets = markets_of(alloc, &setting.stocks)?;
     parts.reports = reports(alloc)?;
     Ok(parts)
 }
@@ -276,7 +311,7 @@ pub(crate) fn good_campaign(alloc: Global, world: &World, setting: &Setting) -> 
     ensures { IfOk result (λ c. IsGood world.now c.value) }
 {
     let rows = rows_of(alloc, world, setting)?;
-    match check(alloc, world, rows) {
+    match check_as(alloc, world, rows, Format::Second) {
         Ok(campaign) => Ok(campaign),
         Err(_) => bail!("the rows are of no good campaign"),
     }

@@ -7,7 +7,7 @@ use Rattle.atl_tables.specs.Texts.{◌▸◌}
 use Rattle.atl_tables.specs.Worlds.{WorldValue}
 use Rattle.atl_tables.specs.declared.world.Item.{Item as ItemPlan}
 use Rattle.atl_state.specs.declared.books.Entry.{Entry}
-use Rattle.atl_state.specs.declared.books.Entry.TheVariants.{Founding, Joining, Income, Wages, Recruiting, Study, Upkeep, Lost, Births, Starved, Left, Made, Used}
+use Rattle.atl_state.specs.declared.books.Entry.TheVariants.{Founding, Joining, Income, Wages, Recruiting, Study, Upkeep, Lost, Births, Starved, Left, Made, Used, Bought, Sold, Stocked}
 use Rattle.atl_state.specs.declared.books.Thing.{Thing}
 use Rattle.atl_state.specs.declared.books.Thing.TheVariants.{Money, People, Item}
 use Rattle.atl_state.specs.Books.{all_entries, amount_in, thing_place}
@@ -28,6 +28,9 @@ entry_name Starved = codes "starved"
 entry_name Left = codes "left"
 entry_name Made = codes "made"
 entry_name Used = codes "used"
+entry_name Bought = codes "bought"
+entry_name Sold = codes "sold"
+entry_name Stocked = codes "stocked"
 
 abbrev pub item_name : Option ItemPlan → List ℕ
 item_name None = []

@@ -4,7 +4,9 @@ use Rattle.std.specs.Fmt.{decimal}
 use Rattle.std.specs.FinMap.{get}
 use Rattle.std.specs.List.{slice_get}
 use Rattle.atl_tables.specs.Texts.{◌▸◌}
+use Rattle.atl_tables.specs.ByNumber.{market_of}
 use Rattle.atl_tables.specs.Worlds.{WorldValue}
+use Rattle.atl_tables.specs.declared.world.Market.{Market}
 use Rattle.atl_tables.specs.declared.world.RegionPlan.{RegionPlan}
 use Rattle.atl_tables.specs.declared.world.Terrain.{Terrain}
 use Rattle.atl_tables.specs.declared.world.Item.{Item}
@@ -17,6 +19,7 @@ use Rattle.atl_report.specs.Events.{own_events, orders_part}
 use Rattle.atl_report.specs.Sight.{view_of}
 use Rattle.atl_report.specs.declared.views.View.{View}
 use Rattle.atl_report.specs.declared.views.RegionView.{RegionView}
+use Rattle.atl_report.specs.declared.views.MarketView.{MarketView}
 use Rattle.atl_report.specs.declared.views.StructureView.{StructureView}
 use Rattle.atl_report.specs.declared.views.UnitView.{UnitView}
 use Rattle.atl_report.specs.declared.views.ItemView.{ItemView}
@@ -129,8 +132,25 @@ exits_text (Some p) = codes "Exits:" ▸ (if has_no_exit p then codes " none" el
 unfoldable pub exits_line : WorldValue → RegionView → List ℕ
 exits_line w r = exits_text (get w.regions r.number)
 
+-- a market by the name that the world gives its item
+abbrev pub market_named : MarketView → Market → Option Item → List ℕ
+market_named e m None = []
+market_named e m (Some item) = codes "Market " ▸ item.name ▸ codes ": " ▸ decimal e.stock ▸ codes " in stock at " ▸ decimal m.price ▸ codes ", " ▸ decimal e.wanted ▸ codes " wanted at " ▸ decimal m.pays ▸ codes ".\n"
+
+-- and with the prices that the world sets in the region
+abbrev pub market_text : WorldValue → MarketView → Option Market → List ℕ
+market_text w e None = []
+market_text w e (Some m) = market_named e m (slice_get w.items e.item)
+
+unfoldable pub market_line : WorldValue → ℕ → MarketView → List ℕ
+market_line w region e = market_text w e (market_of w region e.item)
+
+abbrev pub market_lines : WorldValue → ℕ → List MarketView → List ℕ
+market_lines w region [] = []
+market_lines w region (e ∷ es) = market_line w region e ▸ market_lines w region es
+
 unfoldable pub region_part : WorldValue → RegionView → List ℕ
-region_part w r = region_line w r ▸ exits_line w r ▸ structure_lines w r.structures ▸ unit_lines w r.units
+region_part w r = region_line w r ▸ exits_line w r ▸ market_lines w r.number r.markets ▸ structure_lines w r.structures ▸ unit_lines w r.units
 
 abbrev pub region_parts : WorldValue → List RegionView → List ℕ
 region_parts w [] = []

@@ -1,20 +1,23 @@
 -- What a faction sees of a campaign. See docs/RULES.md, "Sight".
-use Rattle.std.specs.Prelude.{◌==◌, ℕ, List, [], map, filter, if◌then◌else◌, Option, Some, None, option_map}
+use Rattle.std.specs.Prelude.{◌==◌, ◌-◌, ℕ, List, [], map, filter, if◌then◌else◌, Option, Some, None, option_map}
 use Rattle.std.specs.List.{filter_map}
 use Rattle.std.specs.Ordering.{nat_cmp}
 use Rattle.std.specs.FinMap.{FinMap, get, entries}
 use Rattle.atl_tables.specs.Worlds.{WorldValue}
 use Rattle.atl_tables.specs.Sums.{numbers_where}
+use Rattle.atl_tables.specs.declared.world.Market.{Market}
+use Rattle.atl_tables.specs.declared.world.RegionPlan.{RegionPlan}
 use Rattle.atl_state.specs.declared.records.Faction.{Faction}
 use Rattle.atl_state.specs.declared.records.Region.{Region}
 use Rattle.atl_state.specs.declared.records.Structure.{Structure}
 use Rattle.atl_state.specs.declared.records.Unit.{Unit}
 use Rattle.atl_state.specs.Good.{guards}
-use Rattle.atl_state.specs.Held.{Held}
+use Rattle.atl_state.specs.Held.{Held, amount_of}
 use Rattle.atl_state.specs.Levels.{level_of}
 use Rattle.atl_state.specs.Campaign.{CampaignValue, numbers_in}
 use Rattle.atl_report.specs.declared.views.View.{View}
 use Rattle.atl_report.specs.declared.views.RegionView.{RegionView}
+use Rattle.atl_report.specs.declared.views.MarketView.{MarketView}
 use Rattle.atl_report.specs.declared.views.StructureView.{StructureView}
 use Rattle.atl_report.specs.declared.views.UnitView.{UnitView}
 use Rattle.atl_report.specs.declared.views.ItemView.{ItemView}
@@ -79,10 +82,24 @@ structure_view w c watch number s = record { number = number; kind = s.kind; nam
 abbrev pub structure_views : WorldValue → CampaignValue → Watch → List StructureView
 structure_views w c watch = filter_map (λ n. option_map (structure_view w c watch n) (get c.structures n)) (structures_in watch.region c.structures)
 
+-- ---- markets
+
+-- the stock of an item, and what its limit leaves room for
+abbrev pub market_view : Region → ℕ × Market → MarketView
+market_view r (item, m) = record { item = m.item; stock = amount_of r.stocks item; wanted = m.limit - amount_of r.stocks item }
+
+-- all markets that the world gives the region, in the order of their items
+abbrev pub market_views : Region → RegionPlan → List MarketView
+market_views r p = map (market_view r) (entries p.markets)
+
+abbrev pub region_market_views : Region → Option RegionPlan → List MarketView
+region_market_views r None = []
+region_market_views r (Some p) = market_views r p
+
 -- ---- the whole
 
 abbrev pub region_view : WorldValue → CampaignValue → Watch → Region → RegionView
-region_view w c watch r = record { number = watch.region; peasants = r.peasants; money = r.money; structures = structure_views w c watch; units = unit_views w c watch }
+region_view w c watch r = record { number = watch.region; peasants = r.peasants; money = r.money; markets = region_market_views r (get w.regions watch.region); structures = structure_views w c watch; units = unit_views w c watch }
 
 -- the regions that the faction sees, by number
 abbrev pub region_views : WorldValue → CampaignValue → ℕ → List RegionView

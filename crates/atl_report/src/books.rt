@@ -27,6 +27,9 @@ fn entry_name(entry: Entry) -> &'static str
         Entry::Left => "left",
         Entry::Made => "made",
         Entry::Used => "used",
+        Entry::Bought => "bought",
+        Entry::Sold => "sold",
+        Entry::Stocked => "stocked",
     }
 }
 

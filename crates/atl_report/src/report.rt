@@ -1,12 +1,14 @@
 //! The text of a report.
 ghost use Rattle.std.specs.Prelude.{◌≡◌, ◌++◌, IfOk, OnOk, Some, string_bytes};
-ghost use Rattle.atl_report.specs.Report.{header_line, unit_head, guard_text, inside_text, item_text, item_texts, skill_text, skill_texts, goods_text, unit_line, unit_lines, structure_text, structure_line, structure_lines, region_line, exit_text, directions, has_no_exit, exits_text, exits_line, region_part, region_parts, report_of, OthersEventsAreNotTold, OnlyWhatIsSeenIsTold};
+ghost use Rattle.atl_report.specs.Report.{header_line, unit_head, guard_text, inside_text, item_text, item_texts, skill_text, skill_texts, goods_text, unit_line, unit_lines, structure_text, structure_line, structure_lines, region_line, exit_text, directions, has_no_exit, exits_text, exits_line, market_named, market_line, market_lines, region_part, region_parts, report_of, OthersEventsAreNotTold, OnlyWhatIsSeenIsTold};
 
 use crate::events::write_orders;
-use crate::views::{ItemView, RegionView, Side, SkillView, StructureView, UnitView, View};
+use crate::views::{
+    ItemView, MarketView, RegionView, Side, SkillView, StructureView, UnitView, View,
+};
 use atl_orders::FaultyLine;
 use atl_state::Event;
-use atl_tables::{Kind, RegionPlan, World};
+use atl_tables::{Item, Kind, Market, RegionPlan, World};
 use std::alloc::{AllocError, Global};
 use std::fmt::Write;
 
@@ -279,6 +281,58 @@ fn write_exits(out: &mut String, world: &World, region: &RegionView) -> Result<(
     }
 }
 
+/// A market of an item.
+fn write_traded(
+    out: &mut String,
+    seen: MarketView,
+    market: &Market,
+    item: &Item,
+) -> Result<(), AllocError>
+    ensures { OnOk result (string_bytes out.new ≡ string_bytes out.old ++ market_named seen market.now (Some item.now)) }
+{
+    let name = item.name.as_str();
+    let stock = seen.stock;
+    let price = market.price;
+    let wanted = seen.wanted;
+    let pays = market.pays;
+    write!(
+        out,
+        "Market {name}: {stock} in stock at {price}, {wanted} wanted at {pays}.\n"
+    )
+}
+
+#[tactic(auto, unfolding(crate::specs::Report::market_line))]
+fn write_market(
+    out: &mut String,
+    world: &World,
+    region: u32,
+    seen: MarketView,
+) -> Result<(), AllocError>
+    ensures { OnOk result (string_bytes out.new ≡ string_bytes out.old ++ market_line world.now region seen) }
+{
+    let Some(market) = world.market(region, seen.item) else {
+        return Ok(());
+    };
+    match world.item(seen.item) {
+        Some(item) => write_traded(out, seen, market, item),
+        None => Ok(()),
+    }
+}
+
+fn write_markets(
+    out: &mut String,
+    world: &World,
+    region: u32,
+    markets: &[MarketView],
+) -> Result<(), AllocError>
+    ensures { OnOk result (string_bytes out.new ≡ string_bytes out.old ++ market_lines world.now region markets.now) }
+{
+    for seen in markets {
+        write_market(out, world, region, *seen)?;
+    }
+    Ok(())
+}
+
 /// All that is seen of a region and in it.
 #[tactic(auto, unfolding(crate::specs::Report::region_part))]
 fn write_region_part(out: &mut String, world: &World, region: &RegionView) -> Result<(), AllocError>
@@ -286,6 +340,7 @@ fn write_region_part(out: &mut String, world: &World, region: &RegionView) -> Re
 {
     write_region(out, world, region)?;
     write_exits(out, world, region)?;
+    write_markets(out, world, region.number, region.markets.as_slice())?;
     write_structures(out, world, region.structures.as_slice())?;
     write_units(out, world, region.units.as_slice())?;
     Ok(())

@@ -2,15 +2,17 @@
 ghost use Rattle.std.specs.Prelude.{◌≡◌, IfOk, OnOk, Some, filter, map};
 ghost use Rattle.std.specs.FinMap.{get, entries};
 ghost use Rattle.atl_report.specs.Watching.{sees_region};
-ghost use Rattle.atl_report.specs.Sight.{side_of, item_views, skill_views, unit_view, unit_views, shown_owner, structure_view, structure_views, region_view, region_views, view_of, shown_name};
+ghost use Rattle.atl_report.specs.Sight.{side_of, item_views, skill_views, unit_view, unit_views, shown_owner, structure_view, structure_views, market_view, market_views, region_market_views, region_view, region_views, view_of, shown_name};
 ghost use Rattle.atl_report.specs.Sites.{AreSites};
 ghost use Rattle.atl_report.specs.Gathering.{with_region};
 
 use crate::sites::{Sites, sites_in, sites_of};
-use crate::views::{ItemView, RegionView, Side, SkillView, StructureView, UnitView, View};
+use crate::views::{
+    ItemView, MarketView, RegionView, Side, SkillView, StructureView, UnitView, View,
+};
 use crate::watch::{Watch, is_guard, is_seen, is_seen_there, is_watching, watch_over};
 use atl_state::{Campaign, Holding, Region, Structure, Unit, level};
-use atl_tables::{Numbered, Sequence, Text, World};
+use atl_tables::{Market, Numbered, RegionPlan, Sequence, Text, World};
 use std::alloc::{AllocError, Global};
 
 /// A copy of the name that a faction shows.
@@ -162,6 +164,47 @@ fn structure_views(
     Ok(structures)
 }
 
+fn market_view(number: u32, market: &Market, region: &Region) -> MarketView
+    ensures { result ≡ market_view region.now (number, market.now) }
+{
+    let stock = region.stock(number);
+    MarketView {
+        item: market.item,
+        stock,
+        wanted: market.limit.saturating_sub(stock),
+    }
+}
+
+/// The markets of a region of the world, by item.
+fn market_views(
+    alloc: Global,
+    plan: &RegionPlan,
+    region: &Region,
+) -> Result<Sequence<MarketView>, AllocError>
+    ensures { IfOk result (λ markets. markets ≡ market_views region.now plan.now) }
+{
+    let mut markets = Sequence::new(alloc);
+    for (number, market) in plan.markets.iter() {
+        markets.push(market_view(number, market, region))?;
+    }
+    Ok(markets)
+}
+
+/// The markets of a region, by item.
+fn region_market_views(
+    alloc: Global,
+    world: &World,
+    number: u32,
+    region: &Region,
+) -> Result<Sequence<MarketView>, AllocError>
+    ensures { IfOk result (λ markets. markets ≡ region_market_views region.now (get world.now.regions number)) }
+{
+    match world.region(number) {
+        Some(plan) => market_views(alloc, plan, region),
+        None => Ok(Sequence::new(alloc)),
+    }
+}
+
 fn region_view(
     alloc: Global,
     world: &World,
@@ -177,6 +220,7 @@ fn region_view(
         number: watch.region,
         peasants: region.peasants,
         money: region.money,
+        markets: region_market_views(alloc, world, watch.region, region)?,
         structures: structure_views(alloc, world, campaign, sites, watch)?,
         units: unit_views(alloc, world, campaign, watch)?,
     })
@@ -255,7 +299,7 @@ pub fn view_over(
     })
 }
 
-/// What a faction sees: the regions where it has a unit with men, and there all structures, and each unit that is its own,
+/// What a faction sees: the regions where it has a unit with men, and there all markets and structures, and each unit that is its own,
 /// guards, or has a stealth level at most the best observation level of its own units there. Of its own units it sees the
 /// money, the items and the skills too. A structure's owner is 0 where he isn't seen. It goes over the campaign's structures
 /// once, and else over the faction's units and what stands in the regions seen. AllocError without memory. See

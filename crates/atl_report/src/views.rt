@@ -24,6 +24,8 @@ pub struct RegionView {
     pub number: u32,
     pub peasants: u32,
     pub money: u32,
+    /// All markets that are there, in the order of the world's items.
+    pub markets: Sequence<MarketView>,
     /// All structures that stand there, by number.
     pub structures: Sequence<StructureView>,
     /// The units that are seen there, by number.
@@ -32,8 +34,19 @@ pub struct RegionView {
 
 impl Drop for RegionView {
     fn drop(self) {
-        let_go!(self: RegionView { number, peasants, money, structures, units });
+        let_go!(self: RegionView { number, peasants, money, markets, structures, units });
     }
+}
+
+/// A market that is seen.
+#[derive(Drop, Clone, Copy)]
+pub struct MarketView {
+    /// The number of its item in the world.
+    pub item: u16,
+    /// How many pieces there are in stock.
+    pub stock: u32,
+    /// How many more the stock has room for.
+    pub wanted: u32,
 }
 
 /// A structure that is seen.

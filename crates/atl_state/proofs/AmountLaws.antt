@@ -6,7 +6,7 @@ use Rattle.std.proofs.lemmas.List.{get_or_past}
 use Rattle.std.proofs.lemmas.List.Sums.{sum_by-cons}
 use Rattle.std.specs.Ordering.{nat_cmp}
 use Rattle.std.specs.FinMap.{FinMap, entries}
-use Rattle.atl_tables.specs.Worlds.{WorldValue}
+use Rattle.atl_tables.specs.Worlds.{IsWorld, WorldValue}
 use Rattle.atl_tables.specs.Sums.{sum_over}
 use Rattle.atl_state.specs.declared.books.Thing.TheVariants.{Money, People, Item}
 use Rattle.atl_state.specs.declared.records.Region.{Region}
@@ -17,29 +17,30 @@ use Rattle.atl_state.specs.Founding.{things_of}
 use Rattle.atl_state.specs.Totals.{held, kept, total, Balances}
 use Rattle.atl_state.specs.Books.{added_up, booked, IsGrid}
 use Rattle.atl_state.specs.Deciding.{EachOf}
-use Rattle.atl_state.specs.Good.{Every}
+use Rattle.atl_state.specs.Good.{AreOfMarkets, Every}
 use Rattle.atl_state.proofs.EveryLaws.{each-from_every}
 use Rattle.atl_state.proofs.RuleLaws.{free_from}
+use Rattle.atl_state.proofs.MarketLaws.{market_known}
 
 -- ---- items that no world has
 
-none_weighed : {V : Type 0} (f : V → ℕ) (es : List (ℕ × V)) → EachOf (λ _ v. f v ≡ 0) es → sum_by (λ e. f e.1) es ≡ 0
+pub none_weighed : {V : Type 0} (f : V → ℕ) (es : List (ℕ × V)) → EachOf (λ _ v. f v ≡ 0) es → sum_by (λ e. f e.1) es ≡ 0
 none_weighed f [] each = refl
 none_weighed {V} f (e ∷ es) each = let more = sum_by-cons (λ (e : ℕ × V). f e.1) e es in omega (arith, more, each.0, none_weighed f es each.1)
-
-none_kept : (i : ℕ) (es : List (ℕ × Region)) → EachOf (λ _ r. kept (Item i) r ≡ 0) es
-none_kept i [] = tt
-none_kept i (e ∷ es) = (refl, none_kept i es)
 
 unheld : (items : FinMap nat_cmp ℕ) (count i : ℕ) → Every (λ k amount. k < count) items → count ≤ i → amount_of items i ≡ 0
 unheld items count i known l = ap (λ o. unwrap_or o 0) (free_from items i (λ there. let few = known i there.0 there.1 in omega (arith, few)))
 
-module _ (w : WorldValue) (c : CampaignValue) (grid : IsGrid (things_of w) c.books) (known : Every (λ n u. Every (λ i amount. i < length w.items) u.holding.items) c.units) where
+module _ (w : WorldValue) (c : CampaignValue) (world : IsWorld w) (grid : IsGrid (things_of w) c.books) (known : Every (λ n u. Every (λ i amount. i < length w.items) u.holding.items) c.units)
+    (stocks : Every (λ n r. AreOfMarkets w n r.stocks) c.regions) where
+  none_kept : (i : ℕ) → length w.items ≤ i → EachOf (λ _ r. kept (Item i) r ≡ 0) (entries c.regions)
+  none_kept i l = each-from_every (λ _ r. kept (Item i) r ≡ 0) c.regions (λ n r is. unheld r.stocks (length w.items) i (λ k amount at. market_known w world n k (stocks n r is k amount at)) l)
+
   unknown_total : (i : ℕ) → length w.items ≤ i → total c (Item i) ≡ 0
   unfolding total
   unknown_total i l =
       let units = none_weighed (λ (u : Unit). held (Item i) u.holding) (entries c.units) (each-from_every (λ _ u. held (Item i) u.holding ≡ 0) c.units (λ n u is. unheld u.holding.items (length w.items) i (known n u is) l)) in
-      let regions = none_weighed (λ (r : Region). kept (Item i) r) (entries c.regions) (none_kept i (entries c.regions)) in
+      let regions = none_weighed (λ (r : Region). kept (Item i) r) (entries c.regions) (none_kept i l) in
       ap (λ n. n + sum_over (λ (r : Region). kept (Item i) r) c.regions) units ∙ ap (λ n. 0 + n) regions
 
   unknown_booked : (i : ℕ) → length w.items ≤ i → booked c.books (Item i) ≡ pos 0

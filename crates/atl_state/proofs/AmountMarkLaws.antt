@@ -8,7 +8,7 @@ use Rattle.std.specs.FinMap.{nat_cmp-IsAntisymmetric}
 use Rattle.std.specs.FinSet as set
 use Rattle.atl_tables.specs.Marked.{Marked}
 use Rattle.atl_tables.proofs.SetLaws.{len-below}
-use Rattle.atl_state.specs.Books.{entry_place, thing_place}
+use Rattle.atl_state.specs.Books.{thing_place}
 use Rattle.atl_state.specs.Kept.{MarksAmounts}
 use Rattle.atl_state.specs.Limits.{entry_count}
 use Rattle.atl_state.specs.Marks.{AreOfThings, amount_number, amount_marked}

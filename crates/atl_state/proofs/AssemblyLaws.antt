@@ -10,7 +10,7 @@ use Rattle.std.proofs.lemmas.Bool.{cases_eq, and_parts, false≢true}
 use Rattle.std.proofs.lemmas.Bool.Decides.{nat_tests}
 use Rattle.atl_state.specs.declared.parts.StoredHas.{StoredHas}
 use Rattle.atl_tables.specs.Groups.{group_of}
-use Rattle.atl_state.specs.FromRows.{as_u32, is_of, put_rows, things_had}
+use Rattle.atl_state.specs.FromRows.{as_u32, is_of, put_rows, by_number, things_had}
 use Rattle.atl_state.specs.Held.{AreAmounts}
 use Rattle.atl_state.specs.Limits.{holding_limit, most_u32}
 use Rattle.atl_state.specs.RowRules.{is_from, has_in_range}
@@ -30,52 +30,57 @@ other_key n k h = elim (nat_cmp n k) as (λ r. nat_cmp n k ≡ r → is_eq r ≡
 pub get_other : {V : Type 0} (m : FinMap nat_cmp V) (k n : ℕ) (v : V) → n ≢ k → get (insert m k v) n ≡ get m n
 get_other m k n v h = get-insert nat_cmp_total m k v n ∙ ap (λ b. cond b (Some v) (get m n)) (other_key n k h)
 
--- ---- what units have
+-- ---- what units have, and regions in stock
 
-abbrev thing_of : StoredHas → ℕ
-thing_of r = as_u32 r.thing
-
-abbrev amount_of : StoredHas → ℕ
-amount_of r = as_u32 r.amount
-
--- what is left to put
-abbrev pub left : ℕ → ℕ → List StoredHas → FinMap nat_cmp (FinMap nat_cmp ℕ) → FinMap nat_cmp ℕ
-left n sort rows groups = put_rows thing_of amount_of (filter (is_of n sort) rows) (group_of groups n)
-
-pub left_none : (n sort : ℕ) (rows : List StoredHas) → left n sort rows empty ≡ things_had n sort rows
-left_none n sort rows = ap (λ o. put_rows thing_of amount_of (filter (is_of n sort) rows) (unwrap_or o empty)) (get-empty nat_cmp n)
-
-taken_or_not : (n sort : ℕ) (r : StoredHas) (rows : List StoredHas) (b : Bool) (m : FinMap nat_cmp ℕ) → is_of n sort r ≡ b → put_rows thing_of amount_of (filter (is_of n sort) (r ∷ rows)) m ≡ put_rows thing_of amount_of (filter (is_of n sort) rows) (cond b (insert m (thing_of r) (amount_of r)) m)
-taken_or_not n sort r rows true m h = ap (λ b. put_rows thing_of amount_of (cond b (r ∷ filter (is_of n sort) rows) (filter (is_of n sort) rows)) m) h
-taken_or_not n sort r rows false m h = ap (λ b. put_rows thing_of amount_of (cond b (r ∷ filter (is_of n sort) rows) (filter (is_of n sort) rows)) m) h
+module _ {R : Type 0} (thing amount : R → ℕ) (test : R → Bool) where
+  taken_or_not : (r : R) (rows : List R) (b : Bool) (m : FinMap nat_cmp ℕ) → test r ≡ b → put_rows thing amount (filter test (r ∷ rows)) m ≡ put_rows thing amount (filter test rows) (cond b (insert m (thing r) (amount r)) m)
+  taken_or_not r rows true m h = ap (λ b. put_rows thing amount (cond b (r ∷ filter test rows) (filter test rows)) m) h
+  taken_or_not r rows false m h = ap (λ b. put_rows thing amount (cond b (r ∷ filter test rows) (filter test rows)) m) h
 
 never : (b : Bool) → (b && false) ≡ false
 never true = refl
 never false = refl
 
--- a row of another sort
-pub left_other : (n sort : ℕ) (r : StoredHas) (rows : List StoredHas) (groups : FinMap nat_cmp (FinMap nat_cmp ℕ)) → (as_u32 r.sort == sort) ≡ false → left n sort rows groups ≡ left n sort (r ∷ rows) groups
-left_other n sort r rows groups not_it =
-    sym (taken_or_not n sort r rows false (group_of groups n) (ap (λ b. (as_u32 r.unit == n) && b) not_it ∙ never (as_u32 r.unit == n)))
+module _ {R : Type 0} (owner sort_of thing amount : R → ℕ) where
+  -- of one owner, and of one sort
+  abbrev is_good : ℕ → ℕ → R → Bool
+  is_good n sort r = (owner r == n) && (sort_of r == sort)
 
--- a row of this sort, put beside what its unit has
-pub left_more : (n sort : ℕ) (r : StoredHas) (rows : List StoredHas) (groups : FinMap nat_cmp (FinMap nat_cmp ℕ)) → (as_u32 r.sort == sort) ≡ true
-    → left n sort rows (insert groups (as_u32 r.unit) (insert (group_of groups (as_u32 r.unit)) (thing_of r) (amount_of r))) ≡ left n sort (r ∷ rows) groups
-left_more n sort r rows groups it =
-    let unit = as_u32 r.unit in
-    let put = λ (m : FinMap nat_cmp ℕ). put_rows thing_of amount_of (filter (is_of n sort) rows) m in
-    let group = insert (group_of groups unit) (thing_of r) (amount_of r) in
-    elim (cases_eq unit n) [
-      | inl same ↦
-          let mine : (unit == n) ≡ true = grind (arith, nat_tests) in
-          let own : group_of (insert groups unit group) n ≡ insert (group_of groups n) (thing_of r) (amount_of r) =
-          ap (λ k. unwrap_or (get (insert groups unit group) k) empty) (sym same) ∙ ap (λ o. unwrap_or o empty) (get_same groups unit group) ∙ ap (λ k. insert (group_of groups k) (thing_of r) (amount_of r)) same in
-          ap put own ∙ sym (taken_or_not n sort r rows true (group_of groups n) (ap (λ b. b && (as_u32 r.sort == sort)) mine ∙ it))
-      | inr apart ↦
-          let other : (unit == n) ≡ false = grind (arith, nat_tests) in
-          let own : group_of (insert groups unit group) n ≡ group_of groups n = ap (λ o. unwrap_or o empty) (get_other groups unit n group (λ e. apart (sym e))) in
-          ap put own ∙ sym (taken_or_not n sort r rows false (group_of groups n) (ap (λ b. b && (as_u32 r.sort == sort)) other))
-    ]
+  -- what is left to put
+  abbrev pub left : ℕ → ℕ → List R → FinMap nat_cmp (FinMap nat_cmp ℕ) → FinMap nat_cmp ℕ
+  left n sort rows groups = put_rows thing amount (filter (is_good n sort) rows) (group_of groups n)
+
+  pub left_none : (n sort : ℕ) (rows : List R) → left n sort rows empty ≡ by_number thing amount (filter (is_good n sort) rows)
+  left_none n sort rows = ap (λ o. put_rows thing amount (filter (is_good n sort) rows) (unwrap_or o empty)) (get-empty nat_cmp n)
+
+  -- a row of another sort
+  pub left_other : (n sort : ℕ) (r : R) (rows : List R) (groups : FinMap nat_cmp (FinMap nat_cmp ℕ)) → (sort_of r == sort) ≡ false → left n sort rows groups ≡ left n sort (r ∷ rows) groups
+  left_other n sort r rows groups not_it =
+      sym (taken_or_not thing amount (is_good n sort) r rows false (group_of groups n) (ap (λ b. (owner r == n) && b) not_it ∙ never (owner r == n)))
+
+  -- a row of this sort, put beside what its owner has
+  pub left_more : (n sort : ℕ) (r : R) (rows : List R) (groups : FinMap nat_cmp (FinMap nat_cmp ℕ)) → (sort_of r == sort) ≡ true
+      → left n sort rows (insert groups (owner r) (insert (group_of groups (owner r)) (thing r) (amount r))) ≡ left n sort (r ∷ rows) groups
+  left_more n sort r rows groups it =
+      let own = owner r in
+      let put = λ (m : FinMap nat_cmp ℕ). put_rows thing amount (filter (is_good n sort) rows) m in
+      let group = insert (group_of groups own) (thing r) (amount r) in
+      elim (cases_eq own n) [
+        | inl same ↦
+            let mine : (own == n) ≡ true = grind (arith, nat_tests) in
+            let has : group_of (insert groups own group) n ≡ insert (group_of groups n) (thing r) (amount r) =
+            ap (λ k. unwrap_or (get (insert groups own group) k) empty) (sym same) ∙ ap (λ o. unwrap_or o empty) (get_same groups own group) ∙ ap (λ k. insert (group_of groups k) (thing r) (amount r)) same in
+            ap put has ∙ sym (taken_or_not thing amount (is_good n sort) r rows true (group_of groups n) (ap (λ b. b && (sort_of r == sort)) mine ∙ it))
+        | inr apart ↦
+            let other : (own == n) ≡ false = grind (arith, nat_tests) in
+            let has : group_of (insert groups own group) n ≡ group_of groups n = ap (λ o. unwrap_or o empty) (get_other groups own n group (λ e. apart (sym e))) in
+            ap put has ∙ sym (taken_or_not thing amount (is_good n sort) r rows false (group_of groups n) (ap (λ b. b && (sort_of r == sort)) other))
+      ]
+
+-- each is an item
+pub all_items : (b : Bool) → (b && true) ≡ b
+all_items true = refl
+all_items false = refl
 
 -- ---- what is said of rows in their ranges
 
@@ -91,6 +96,12 @@ from_range low high (pos n) h e =
     let same = min_small n most_u32 (omega arith) in
     (ap pos (sym same), rw same least, rw same most)
 from_range low high (negsuc n) h e = absurd (false≢true e)
+
+abbrev thing_of : StoredHas → ℕ
+thing_of r = as_u32 r.thing
+
+abbrev amount_of : StoredHas → ℕ
+amount_of r = as_u32 r.amount
 
 is_skill : (z : ℤ) → as_u32 z ≡ 0 → is_from 1 1 z ≡ false
 is_skill (pos zero) h = refl
@@ -131,7 +142,7 @@ put_good : (n : ℕ) (rows : List StoredHas) (m : FinMap nat_cmp ℕ) → list_a
 put_good n [] m h old = old
 put_good n (r ∷ rows) m h old =
     let parts = and_parts (has_in_range r) (list_all has_in_range rows) h in
-    subst AreAmounts (sym (taken_or_not n 0 r rows (is_of n 0 r) m refl)) (put_good n rows (cond (is_of n 0 r) (insert m (thing_of r) (amount_of r)) m) parts.1 (chosen n r m (is_of n 0 r) refl parts.0 old))
+    subst AreAmounts (sym (taken_or_not thing_of amount_of (is_of n 0) r rows (is_of n 0 r) m refl)) (put_good n rows (cond (is_of n 0 r) (insert m (thing_of r) (amount_of r)) m) parts.1 (chosen n r m (is_of n 0 r) refl parts.0 old))
 
 no_some : (x : ℕ) → None ≡ Some x → ⊥
 no_some x e = cc

@@ -71,7 +71,7 @@ says_itself books =
     let one : e ≡ f = omega arith in
     sym (ap (λ k. amount_at books k t) one ∙ ap (amount_at books f) (same_size t u thing)))
 
-nothing_at : (z : ℤ) → is_zero z ≡ true → z ≡ pos 0
+pub nothing_at : (z : ℤ) → is_zero z ≡ true → z ≡ pos 0
 nothing_at (pos zero) h = refl
 nothing_at (pos (suc n)) h = let none : (suc n == 0) ≡ false = grind (arith, nat_tests) in absurd (false≢true (sym none ∙ h))
 nothing_at (negsuc n) h = absurd (false≢true h)

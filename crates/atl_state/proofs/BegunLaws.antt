@@ -73,6 +73,7 @@ module _ (w : WorldValue) (c : CampaignValue) (s : Structure) (fresh : IsFresh w
   known_kept : AreKnown w raised
   known_kept = record {
     regions = old.known.regions;
+    markets = old.known.markets;
     units = λ k x there.
         let p = old.known.units k x there in
         record { faction = p.faction; region = p.region; structure = λ some. let (y, at, here) = p.structure some in (y, stays x.structure y at, here); items = p.items; skills = p.skills };
@@ -193,6 +194,7 @@ module _ (w : WorldValue) (c : CampaignValue) (k : ℕ) (s : Structure) (done : 
     known_built : AreKnown w built
     known_built = record {
       regions = was.known.regions;
+      markets = was.known.markets;
       units = λ j x there.
           let p = was.known.units j x there in
           record { faction = p.faction; region = p.region; structure = λ some. still (λ y. y.region ≡ x.region) (λ here. here) x.structure (p.structure some); items = p.items; skills = p.skills };

@@ -1,23 +1,37 @@
 -- Rows that keep all rules are those of a good campaign; and the first rule that is broken.
-use Rattle.std.proofs.Common.{◌≡◌, ◌==◌, ℕ, ◌≤◌, ◌<◌, ◌+◌, ◌&&◌, length, Bool, true, false, cond, refl, sym, ap, subst, ◌∙◌, arith, inl, inr}
+use Rattle.std.proofs.Common.{◌≡◌, ◌==◌, ℕ, ◌≤◌, ◌<◌, ◌+◌, ◌&&◌, List, [], ◌∷◌, length, get_or, nat_le, nat_lt, Bool, true, false, cond, refl, sym, ap, subst, ◌∙◌, arith, inl, inr}
+use Rattle.std.specs.Prelude.{ℤ, pos}
 use Rattle.std.specs.Bool.{Decides}
-use Rattle.std.proofs.lemmas.Bool.{and_parts, cases_eq, false≢true}
+use Rattle.std.proofs.lemmas.Bool.{and_parts, cases_Bool, cases_eq, cases_lt, false≢true}
+use Rattle.std.proofs.lemmas.List.{get_or_past}
+use Rattle.std.specs.FinMap.{empty}
+use Rattle.atl_tables.specs.declared.format.Format.{Format}
+use Rattle.atl_tables.specs.declared.format.Format.TheVariants.{First, Second}
 use Rattle.atl_tables.specs.Worlds.{WorldValue, IsWorld}
 use Rattle.atl_state.specs.declared.checking.Rule.{Rule}
 use Rattle.atl_state.specs.declared.checking.Rule.TheVariants.{OneRow, Ranges, Names, Known, Next, Days, Gone, Owners, Water, Guards, Books, Mail}
 use Rattle.atl_state.specs.declared.parts.Parts.{Parts}
-use Rattle.atl_state.specs.Checking.{rule_number, Keeps, KeepsBelow, IsFirstBroken}
-use Rattle.std.specs.List.{list_all}
-use Rattle.atl_state.specs.Books.{IsGrid}
+use Rattle.atl_state.specs.declared.books.Entry.{Entry}
+use Rattle.atl_state.specs.declared.books.Thing.{Thing}
+use Rattle.atl_state.specs.declared.parts.StoredBooks.{StoredBooks}
+use Rattle.atl_state.specs.declared.parts.StoredHead.{StoredHead}
+use Rattle.atl_state.specs.Checking.{rule_number, Keeps, KeepsBelow, IsFirstBroken, Fits}
+use Rattle.std.specs.List.{list_all, AllByRecursion}
+use Rattle.atl_state.specs.Books.{amount_in, entry_place, thing_place, no_amounts, IsGrid}
 use Rattle.atl_state.specs.Founding.{things_of}
-use Rattle.atl_state.specs.FromRows.{head_of, campaign_of}
-use Rattle.atl_state.specs.Good.{Every, IsThere, IsGood}
-use Rattle.atl_state.specs.RowRules.{head_in_range, people_in_range, structure_in_range, books_in_range, books_bound}
+use Rattle.atl_state.specs.FromRows.{as_u32, stocks_of, region_of, put_amounts, head_of, campaign_of}
+use Rattle.atl_state.specs.Good.{AreOfMarkets, Every, IsThere, HasNoStocks, IsGood}
+use Rattle.atl_state.specs.RowRules.{is_one_head, is_entry_in, is_booked, head_in_range, people_in_range, region_in_range, structure_in_range, books_in_range, books_bound, market_in_range}
 use Rattle.atl_state.specs.Totals.{IsCountable}
-use Rattle.atl_state.specs.Rows.{AreRowsOf}
-use Rattle.atl_state.proofs.FromRowLaws.{AreInRange-said, HaveMen-said}
+use Rattle.atl_state.specs.Limits.{first_entry_count}
+use Rattle.atl_state.specs.Rows.{is_zero, books_rows, AreRowsOf}
+use Rattle.atl_state.proofs.BackBooksLaws.{line_at, nothing_at}
+use Rattle.atl_state.proofs.BackLaws.{each_back, read_whole}
+use Rattle.atl_state.proofs.EveryEntryLaws.{entry_small}
+use Rattle.atl_state.proofs.FromRowLaws.{by_number-every, from_le, AreInRange-said, HaveMen-said}
 use Rattle.atl_state.proofs.NamedLaws.{AreNamed-said, AreAmountsWithin-said}
-use Rattle.atl_state.proofs.SaidLaws.{RowsKeep, rows_said}
+use Rattle.atl_state.proofs.OrderLaws.{each_passes}
+use Rattle.atl_state.proofs.SaidLaws.{RowsKeep, ranges, none_in_first, books_said, rows_said}
 
 abbrev rule_at : ℕ → Rule
 rule_at n =
@@ -34,42 +48,83 @@ from_one : (r : Rule) → 1 ≤ rule_number r
 from_one OneRow = omega arith
 from_one _ = omega arith
 
-module _ (w : WorldValue) (p : Parts) where
-  pub below_first : KeepsBelow w p 1
+only_one : (f : Format) (rows : List StoredHead) → is_one_head f rows ≡ true → length rows ≡ 1
+only_one f [] h = absurd (false≢true h)
+only_one f (r ∷ []) h = refl
+only_one f (r ∷ other ∷ rows) h = absurd (false≢true h)
+
+-- an entry of the first format, as it is written
+late_entry : (n : ℕ) → first_entry_count ≤ n → n < 16 → is_entry_in First (as_u32 (pos (n + 1))) ≡ true → ⊥
+late_entry n l small h =
+    let read = read_whole (n + 1) (omega arith) in
+    let most = from_le (as_u32 (pos (n + 1))) first_entry_count (and_parts (nat_le 1 (as_u32 (pos (n + 1)))) (nat_le (as_u32 (pos (n + 1))) first_entry_count) h).1 in
+    absurd (omega (arith, read, most))
+
+-- books whose rows are of the first format have nothing under a later entry
+no_amount : (books : List (List ℤ)) → AllByRecursion (λ (r : StoredBooks). is_entry_in First (as_u32 r.entry) ≡ true) (books_rows books) → (e : Entry) (t : Thing) → first_entry_count ≤ entry_place e → amount_in books e t ≡ pos 0
+no_amount books listed e t l = elim (cases_lt (thing_place t) (length books)) [
+  | inr past ↦ ap (λ (row : List ℤ). get_or row (entry_place e) (pos 0)) (get_or_past books (thing_place t) [] past) ∙ get_or_past [] (entry_place e) (pos 0) (omega arith)
+  | inl inside ↦ elim (cases_Bool (is_zero (amount_in books e t))) [
+    | inl none ↦ nothing_at (amount_in books e t) none
+    | inr some ↦ absurd (late_entry (entry_place e) l (entry_small e) (line_at books (λ r. is_entry_in First (as_u32 r.entry) ≡ true) listed (entry_place e) (thing_place t) (entry_small e) inside some))
+  ]
+]
+
+module _ (f : Format) (w : WorldValue) (p : Parts) where
+  pub below_first : KeepsBelow f w p 1
   below_first r h = absurd (omega (arith, from_one r))
 
   -- one rule more that holds
-  pub below_next : (r : Rule) → KeepsBelow w p (rule_number r) → Keeps w p r → KeepsBelow w p (rule_number r + 1)
+  pub below_next : (r : Rule) → KeepsBelow f w p (rule_number r) → Keeps f w p r → KeepsBelow f w p (rule_number r + 1)
   below_next r before holds s h =
       elim (cases_eq (rule_number s) (rule_number r)) [
-        | inl e ↦ subst (Keeps w p) (sym (same_rule s r e)) holds
+        | inl e ↦ subst (Keeps f w p) (sym (same_rule s r e)) holds
         | inr apart ↦ before s (omega arith)
       ]
 
   -- the first that doesn't
-  pub first_broken : (r : Rule) (b : Bool) → KeepsBelow w p (rule_number r) → Decides b (Keeps w p r) → b ≡ false → IsFirstBroken w p r
+  pub first_broken : (r : Rule) (b : Bool) → KeepsBelow f w p (rule_number r) → Decides b (Keeps f w p r) → b ≡ false → IsFirstBroken f w p r
   first_broken r b before d e = record { before = before; broken = λ holds. false≢true (sym e ∙ d.1 holds) }
 
-  pub rows_keep : IsWorld w → KeepsBelow w p 12 → RowsKeep w p
+  pub rows_keep : IsWorld w → KeepsBelow f w p 12 → RowsKeep f w p
   rows_keep world k = record {
     world = world;
-    one = k OneRow (omega arith);
+    one = (k OneRow (omega arith)).0;
+    format = (k OneRow (omega arith)).1;
     range = k Ranges (omega arith);
     known = (k Known (omega arith)).0;
     held = (k Known (omega arith)).1;
+    stocked = (k Known (omega arith)).2;
     days = k Days (omega arith);
     booked = (k Books (omega arith)).0;
   }
 
-  fewer : KeepsBelow w p 13 → KeepsBelow w p 12
+  fewer : KeepsBelow f w p 13 → KeepsBelow f w p 12
   fewer k r h = k r (omega arith)
 
   -- rows that keep all rules are those of the campaign that they say, each once
-  pub checked-rows : IsWorld w → KeepsBelow w p 13 → AreRowsOf (campaign_of w p) p
-  checked-rows world k = rows_said w p (rows_keep world (fewer k))
+  pub checked-rows : IsWorld w → KeepsBelow f w p 13 → AreRowsOf f (campaign_of w p) p
+  checked-rows world k = rows_said f w p (rows_keep world (fewer k))
+
+  no_stocks : f ≡ First → RowsKeep f w p → HasNoStocks (campaign_of w p)
+  unfolding campaign_of
+  no_stocks is rows =
+      by_number-every (λ r. as_u32 r.number) (region_of p.markets) (λ n r. r.stocks ≡ empty) region_in_range (λ r good. ap (stocks_of (as_u32 r.number)) (none_in_first f w p rows is)) p.regions (ranges f w p rows).regions
+
+  first_entries : f ≡ First → RowsKeep f w p → (e : Entry) (t : Thing) → first_entry_count ≤ entry_place e → amount_in (campaign_of w p).books e t ≡ pos 0
+  unfolding campaign_of
+  first_entries is rows =
+      no_amount (put_amounts p.books (no_amounts (things_of w))) (each_back (λ r. is_entry_in First (as_u32 r.entry) ≡ true) (books_rows (put_amounts p.books (no_amounts (things_of w)))) p.books (books_said f w p rows)
+      (each_passes (is_booked f w) (λ r. is_entry_in First (as_u32 r.entry) ≡ true) (λ r h. subst (λ g. is_entry_in g (as_u32 r.entry) ≡ true) is (and_parts (is_entry_in f (as_u32 r.entry)) (nat_lt (as_u32 r.thing) (things_of w)) h).0) p.books rows.booked))
+
+  -- the format can hold it
+  pub checked-fits : IsWorld w → KeepsBelow f w p 13 → Fits f (campaign_of w p)
+  checked-fits world k =
+      let rows = rows_keep world (fewer k) in
+      elim f as (λ g. f ≡ g → Fits g (campaign_of w p)) [ First ↦ λ is. record { stocks = no_stocks is rows; entries = first_entries is rows } | Second ↦ λ is. tt ] refl
 
   -- and it is good
-  pub checked-good : IsWorld w → KeepsBelow w p 13 → IsGood w (campaign_of w p)
+  pub checked-good : IsWorld w → KeepsBelow f w p 13 → IsGood w (campaign_of w p)
   checked-good world k =
       let rows = rows_keep world (fewer k) in
       let range = k Ranges (omega arith) in
@@ -77,7 +132,7 @@ module _ (w : WorldValue) (p : Parts) where
         sound = record {
           steady = record {
             numbers = AreInRange-said w p range;
-            names = AreNamed-said w p rows (k Names (omega arith));
+            names = AreNamed-said f w p rows (k Names (omega arith));
             known = (k Known (omega arith)).0;
             next = k Next (omega arith);
             days = k Days (omega arith);
@@ -87,7 +142,7 @@ module _ (w : WorldValue) (p : Parts) where
             guarded = k Guards (omega arith);
           };
           men = HaveMen-said w p range;
-          amounts = AreAmountsWithin-said w p rows;
+          amounts = AreAmountsWithin-said f w p rows;
           gone = (k Gone (omega arith)).1;
           balances = (k Books (omega arith)).1;
           mail = (k Mail (omega arith)).0;
@@ -97,23 +152,30 @@ module _ (w : WorldValue) (p : Parts) where
 
   -- ---- what judging the later rules asks
 
-  pub few-said : KeepsBelow w p 11 → IsCountable (campaign_of w p)
+  pub few-said : KeepsBelow f w p 11 → IsCountable (campaign_of w p)
   few-said k = let range = AreInRange-said w p (k Ranges (omega arith)) in omega (arith, range.few_units, range.few_regions)
 
-  pub grid-said : KeepsBelow w p 11 → IsGrid (things_of w) (campaign_of w p).books
+  pub grid-said : KeepsBelow f w p 11 → IsGrid (things_of w) (campaign_of w p).books
   grid-said k = (AreInRange-said w p (k Ranges (omega arith))).books
 
-  pub items-said : KeepsBelow w p 11 → Every (λ n u. Every (λ i amount. i < length w.items) u.holding.items) (campaign_of w p).units
+  pub items-said : KeepsBelow f w p 11 → Every (λ n u. Every (λ i amount. i < length w.items) u.holding.items) (campaign_of w p).units
   items-said k n u is = ((k Known (omega arith)).0.units n u is).items
 
-  pub places-said : KeepsBelow w p 8 → Every (λ n u. IsThere (campaign_of w p).regions u.region) (campaign_of w p).units
+  pub stocks-said : KeepsBelow f w p 11 → Every (λ n r. AreOfMarkets w n r.stocks) (campaign_of w p).regions
+  stocks-said k = (k Known (omega arith)).0.markets
+
+  pub places-said : KeepsBelow f w p 8 → Every (λ n u. IsThere (campaign_of w p).regions u.region) (campaign_of w p).units
   places-said k n u is = ((k Known (omega arith)).0.units n u is).region
 
-  pub people-said : KeepsBelow w p 4 → people_in_range p ≡ true
+  pub one-said : KeepsBelow f w p 4 → length p.campaign ≡ 1
+  one-said k = only_one f p.campaign (k OneRow (omega arith)).0
+
+  pub people-said : KeepsBelow f w p 4 → people_in_range p ≡ true
   people-said k =
       let head = head_in_range (head_of p) in
       let people = people_in_range p in
       let structures = list_all (structure_in_range w) p.structures in
       let books = list_all (books_in_range (books_bound p)) p.books in
-      let last = and_parts ((head && people) && structures) books (k Ranges (omega arith)).numbers in
+      let whole = and_parts (((head && people) && structures) && books) (list_all (market_in_range w) p.markets) (k Ranges (omega arith)).numbers in
+      let last = and_parts ((head && people) && structures) books whole.0 in
       (and_parts head people (and_parts (head && people) structures last.0).0).1

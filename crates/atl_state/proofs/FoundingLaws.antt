@@ -1,9 +1,8 @@
 -- A founded campaign is good, and its books balance.
-use Rattle.std.proofs.Common.{◌≡◌, ℕ, ◌+◌, ◌≤◌, ◌==◌, cond, List, [], ◌∷◌, length, sum_by, sym, ap, ◌∙◌, refl, arith, true, false}
-use Rattle.std.specs.Prelude.{ℤ, pos, ◌+ℤ◌, ◌*◌, replicate, IsTrue}
+use Rattle.std.proofs.Common.{◌≡◌, ℕ, ◌+◌, ◌≤◌, ◌==◌, cond, List, [], length, sym, ap, ◌∙◌, refl, arith, true, false}
+use Rattle.std.specs.Prelude.{ℤ, pos, ◌+ℤ◌, ◌*◌, unwrap_or, IsSome, IsTrue}
 use Rattle.std.proofs.lemmas.Int.{ints}
 use Rattle.std.proofs.lemmas.List.{length-map}
-use Rattle.std.proofs.lemmas.List.Sums.{sum_by-cons}
 use Rattle.std.proofs.lemmas.Bool.Decides.{nat_tests}
 use Rattle.std.specs.Ordering.{nat_cmp}
 use Rattle.std.specs.FinMap.{FinMap, entries, empty, get-empty, len-empty, len-entries}
@@ -25,15 +24,17 @@ use Rattle.atl_state.specs.Books.{amount_in, booked, no_amounts, with_booked, Is
 use Rattle.atl_state.specs.Kept.{AreUnitLists, AreKept}
 use Rattle.atl_tables.specs.Names.{name_ok, pass_ok}
 use Rattle.atl_tables.specs.declared.world.RegionPlan.{RegionPlan}
-use Rattle.atl_tables.specs.ByNumber.{is_land_at, size_of}
+use Rattle.atl_tables.specs.ByNumber.{is_land_at, market_of, size_of}
 use Rattle.atl_orders.specs.Mailing.{IsMailingOf}
 use Rattle.atl_state.specs.Limits.{entry_count, most_days}
 use Rattle.atl_state.specs.Totals.{total, Balances, held, kept}
+use Rattle.atl_state.specs.Stocks.{stock_limit}
 use Rattle.atl_state.specs.Founding.{founded_of, founded_region, things_of}
 use Rattle.atl_state.specs.Held.{IsHolding}
 use Rattle.atl_state.specs.Campaign.{numbers_of}
-use Rattle.atl_state.specs.Good.{Every, IsThere, IsActive, IsRegion, AreInRange, AreAmountsWithin, AreNamed, IsPlaced, IsBuilt, AreKnown, IsNumbered, IsOwned, is_ship, IsAboard, guards, IsSteady, IsGood}
-use Rattle.atl_state.proofs.EveryLaws.{every-empty, every-mapped, there-mapped}
+use Rattle.atl_state.specs.Good.{Every, IsThere, IsActive, IsRegion, AreInRange, AreAmountsWithin, AreNamed, IsPlaced, IsBuilt, AreKnown, AreOfMarkets, IsNumbered, IsOwned, is_ship, IsAboard, guards, IsSteady, IsGood}
+use Rattle.atl_state.proofs.EveryLaws.{each-from_every, every-empty, every-mapped, there-mapped}
+use Rattle.atl_state.proofs.AmountLaws.{none_weighed}
 use Rattle.atl_state.proofs.AmountMarkLaws.{none_marked}
 use Rattle.atl_state.proofs.BookLaws.{booked-with_booked, booked-no_amounts, amount-no_amounts, IsGrid-no_amounts, IsGrid-with_booked, IsWithin-with_booked, share_of}
 
@@ -51,9 +52,11 @@ IsGrid-founding things money people = IsGrid-with_booked things (with_booked (no
 nobody : (t : Thing) → sum_over (λ (u : Unit). held t u.holding) (empty {X = Unit} {R = nat_cmp}) ≡ 0
 nobody t = rw (entries-empty {X = Unit}) refl
 
-no_items : (i : ℕ) (es : List (ℕ × Region)) → sum_by (λ e. kept (Item i) e.1) es ≡ 0
-no_items i [] = refl
-no_items i (e ∷ es) = let more = sum_by-cons (λ (e : ℕ × Region). kept (Item i) e.1) e es in omega (arith, more, no_items i es)
+no_items : (w : WorldValue) (i : ℕ) → sum_over (λ (r : Region). kept (Item i) r) (mapped founded_region w.regions) ≡ 0
+no_items w i =
+    let founded = mapped founded_region w.regions in
+    let nothing : Every (λ n r. kept (Item i) r ≡ 0) founded = every-mapped founded_region (λ n r. kept (Item i) r ≡ 0) w.regions (λ n p is. ap (λ o. unwrap_or o 0) (get-empty nat_cmp i)) in
+    none_weighed (λ (r : Region). kept (Item i) r) (entries founded) (each-from_every (λ n r. kept (Item i) r ≡ 0) founded nothing)
 
 -- what is booked of a thing at founding
 founding_booked : (things money people : ℕ) → 2 ≤ things → (t : Thing) → booked (with_booked (with_booked (no_amounts things) Founding Money (pos money)) Founding People (pos people)) t ≡ share_of t Money (pos money) +ℤ share_of t People (pos people)
@@ -80,14 +83,14 @@ founded-balances w pass Money = held_money _ _ (nobody Money) ∙ sym (founding_
 founded-balances w pass People = held_people _ _ (nobody People) ∙ sym (founding_booked (things_of w) _ _ (omega arith) People)
 founded-balances w pass (Item i) =
     held_items _ _ i (sum_over (λ (r : Region). kept Money r) (mapped founded_region w.regions)) (sum_over (λ (r : Region). kept People r) (mapped founded_region w.regions))
-    (nobody (Item i)) (no_items i (entries (mapped founded_region w.regions))) (grind (arith, nat_tests)) (grind (arith, nat_tests))
+    (nobody (Item i)) (no_items w i) (grind (arith, nat_tests)) (grind (arith, nat_tests))
     ∙ sym (founding_booked (things_of w) _ _ (omega arith) (Item i))
 
 none_within : (things : ℕ) (e : Entry) (t : Thing) → IsWithin 0 (amount_in (no_amounts things) e t)
 none_within things e t = rw (amount-no_amounts things e t) record { most = omega (arith, ints); least = omega (arith, ints) }
 
-in_range : (p : RegionPlan) (terrains items n : ℕ) → IsRegionPlan terrains items n p → IsRegion (founded_region p)
-in_range p terrains items n plan = record { peasants = plan.peasants; money = plan.money }
+in_range : (w : WorldValue) (p : RegionPlan) (terrains items n : ℕ) → IsRegionPlan terrains items n p → IsRegion w n (founded_region p)
+in_range w p terrains items n plan = record { peasants = plan.peasants; money = plan.money; stocks = every-empty (λ i amount. (1 ≤ amount) × (amount ≤ stock_limit w n i)) }
 
 numbered_none : {V : Type 0} → IsNumbered (empty {X = V} {R = nat_cmp}) 1
 numbered_none {V} = record { first = get-empty nat_cmp 0; count = ap (λ n. n + 1) (sym (len-empty nat_cmp V)); free = λ n _. get-empty nat_cmp n }
@@ -113,7 +116,7 @@ module _ (w : WorldValue) (pass : List ℕ) (world : IsWorld w) where
     next_unit_least = omega arith;
     next_unit_most = omega arith;
     factions = every-empty (λ n f. f.number ≡ n);
-    regions = every-mapped founded_region (λ n r. IsRegion r) w.regions (λ n p is. in_range p (length w.terrains) (length w.items) n (world.regions n p is));
+    regions = every-mapped founded_region (λ n r. IsRegion w n r) w.regions (λ n p is. in_range w p (length w.terrains) (length w.items) n (world.regions n p is));
     units = every-empty (λ n u. (1 ≤ n) × IsHolding u.holding);
     structures = every-empty (λ n s. (1 ≤ s.done) × (s.done ≤ size_of w s.kind));
     books = IsGrid-founding (things_of w) money people;
@@ -133,6 +136,7 @@ module _ (w : WorldValue) (pass : List ℕ) (world : IsWorld w) where
   unfolding founded_of
   founded-known = record {
     regions = there-mapped founded_region w.regions;
+    markets = every-mapped founded_region (λ n r. AreOfMarkets w n r.stocks) w.regions (λ n p is. every-empty (λ i amount. IsSome (market_of w n i)));
     units = every-empty (λ n u. IsPlaced w (founded_of w pass) u);
     structures = every-empty (λ n s. IsBuilt w (founded_of w pass) s);
     mail = every-empty (λ n text. IsThere empty n);

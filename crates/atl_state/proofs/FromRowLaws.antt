@@ -1,5 +1,5 @@
 -- What is so of the campaign that rows say.
-use Rattle.std.proofs.Common.{◌≡◌, ℕ, ◌≤◌, ◌<◌, ◌+◌, ◌-◌, ◌&&◌, List, [], ◌∷◌, Bool, true, false, cond, length, get_or, set, nat_le, refl, ap, ◌∙◌, arith, inl, inr}
+use Rattle.std.proofs.Common.{◌≡◌, ◌==◌, ℕ, ◌≤◌, ◌<◌, ◌+◌, ◌-◌, ◌&&◌, List, [], ◌∷◌, Bool, true, false, cond, filter, length, get_or, set, nat_le, refl, ap, subst, ◌∙◌, arith, inl, inr}
 use Rattle.std.specs.Prelude.{ℤ, pos, negsuc, min}
 use Rattle.std.specs.List.{list_all}
 use Rattle.std.specs.Ordering.{nat_cmp}
@@ -20,16 +20,21 @@ use Rattle.atl_state.specs.declared.parts.StoredUnit.{StoredUnit}
 use Rattle.atl_state.specs.declared.parts.StoredHas.{StoredHas}
 use Rattle.atl_state.specs.declared.parts.StoredStructure.{StoredStructure}
 use Rattle.atl_state.specs.declared.parts.StoredBooks.{StoredBooks}
+use Rattle.atl_state.specs.declared.parts.StoredMarket.{StoredMarket}
 use Rattle.atl_state.specs.Books.{no_amounts, IsGrid}
 use Rattle.atl_state.specs.Founding.{things_of}
-use Rattle.atl_state.specs.FromRows.{clamped, as_u32, as_u16, is_entry, put_rows, by_number, faction_of, region_of, structure_of, unit_of, with_amount, with_row, put_amounts, head_of, campaign_of}
+use Rattle.atl_state.specs.FromRows.{clamped, as_u32, as_u16, is_entry, put_rows, by_number, faction_of, stocks_of, region_of, structure_of, unit_of, with_amount, with_row, put_amounts, head_of, campaign_of}
 use Rattle.atl_state.specs.Good.{Every, IsRegion, AreInRange, HaveMen}
 use Rattle.atl_state.specs.Held.{IsHolding}
 use Rattle.atl_state.specs.Limits.{last_month, most_units, last_unit, men_limit, holding_limit, most_structures, entry_count, most_u32}
-use Rattle.atl_state.specs.RowRules.{is_from, head_in_range, faction_in_range, region_in_range, unit_in_range, has_in_range, structure_in_range, books_in_range, books_bound, are_few, people_in_range, numbers_in_range, AreRowsInRange}
-use Rattle.atl_state.proofs.AssemblyLaws.{AreAmounts-had}
+use Rattle.atl_state.specs.RowRules.{is_from, head_in_range, faction_in_range, region_in_range, unit_in_range, has_in_range, structure_in_range, books_in_range, books_bound, market_in_range, are_few, people_in_range, numbers_in_range, AreRowsInRange}
+use Rattle.atl_state.specs.Stocks.{stock_limit}
+use Rattle.atl_state.proofs.AssemblyLaws.{is_same, AreAmounts-had}
+use Rattle.atl_state.proofs.BackLaws.{every_by}
 use Rattle.atl_state.proofs.BookLaws.{IsGrid-no_amounts}
 use Rattle.atl_state.proofs.EveryLaws.{every-empty, every-insert}
+use Rattle.atl_state.proofs.GroupLaws.{kept}
+use Rattle.atl_state.proofs.OrderLaws.{each_passes}
 
 -- ---- maps of rows
 
@@ -109,10 +114,28 @@ put-grid things (r ∷ rows) books g =
 
 -- ---- the ranges
 
-region_good : (r : StoredRegion) → region_in_range r ≡ true → IsRegion (region_of r)
-region_good r h =
+-- a stock that the market in the region of this number has room for
+abbrev InStock : WorldValue → ℕ → StoredMarket → Type 0
+InStock w n m = (1 ≤ as_u32 m.stock) × (as_u32 m.stock ≤ stock_limit w n (as_u32 m.item))
+
+has_room : (w : WorldValue) (n : ℕ) (m : StoredMarket) → market_in_range w m ≡ true → (as_u32 m.region == n) ≡ true → InStock w n m
+has_room w n m range of =
+    subst (λ k. InStock w k m) (is_same (as_u32 m.region) n of) (in_range 1 (stock_limit w (as_u32 m.region) (as_u32 m.item)) most_u32 m.stock (omega arith) range)
+
+-- what a region has in stock
+in_stock : (w : WorldValue) (n : ℕ) (markets : List StoredMarket) → list_all (market_in_range w) markets ≡ true → Every (λ i amount. (1 ≤ amount) × (amount ≤ stock_limit w n i)) (stocks_of n markets)
+in_stock w n markets all =
+    every_by (λ m. as_u32 m.item) (λ m. as_u32 m.stock) (λ i amount. (1 ≤ amount) × (amount ≤ stock_limit w n i)) (filter (λ m. as_u32 m.region == n) markets)
+    (kept (λ m. as_u32 m.region == n) (InStock w n) markets (each_passes (market_in_range w) (λ m. (as_u32 m.region == n) ≡ true → InStock w n m) (has_room w n) markets all))
+
+region_good : (w : WorldValue) (markets : List StoredMarket) (r : StoredRegion) → list_all (market_in_range w) markets ≡ true → region_in_range r ≡ true → IsRegion w (as_u32 r.number) (region_of markets r)
+region_good w markets r all h =
     let parts = and_parts (is_from 0 most_amount r.peasants) (is_from 0 most_amount r.money) h in
-    record { peasants = (in_range 0 most_amount most_u32 r.peasants (omega arith) parts.0).1; money = (in_range 0 most_amount most_u32 r.money (omega arith) parts.1).1 }
+    record {
+      peasants = (in_range 0 most_amount most_u32 r.peasants (omega arith) parts.0).1;
+      money = (in_range 0 most_amount most_u32 r.money (omega arith) parts.1).1;
+      stocks = in_stock w (as_u32 r.number) markets all;
+    }
 
 structure_good : (w : WorldValue) (r : StoredStructure) → structure_in_range w r ≡ true → (1 ≤ (structure_of r).done) × ((structure_of r).done ≤ size_of w (structure_of r).kind)
 structure_good w r h =
@@ -154,6 +177,7 @@ pub record NumberRanges (w : WorldValue) (p : Parts) : Type 0 where
   pub has : list_all has_in_range p.has ≡ true
   pub structures : list_all (structure_in_range w) p.structures ≡ true
   pub books : list_all (books_in_range (books_bound p)) p.books ≡ true
+  pub markets : list_all (market_in_range w) p.markets ≡ true
 
 pub number_ranges : (w : WorldValue) (p : Parts) → numbers_in_range w p ≡ true → NumberRanges w p
 number_ranges w p h =
@@ -161,17 +185,19 @@ number_ranges w p h =
     let people = people_in_range p in
     let structures = list_all (structure_in_range w) p.structures in
     let books = list_all (books_in_range (books_bound p)) p.books in
+    let markets = list_all (market_in_range w) p.markets in
     let factions = list_all faction_in_range p.factions in
     let regions = list_all region_in_range p.regions in
     let units = list_all unit_in_range p.units in
     let has = list_all has_in_range p.has in
-    let last = and_parts ((head && people) && structures) books h in
+    let whole = and_parts (((head && people) && structures) && books) markets h in
+    let last = and_parts ((head && people) && structures) books whole.0 in
     let third = and_parts (head && people) structures last.0 in
     let first = and_parts head people third.0 in
     let fourth = and_parts ((factions && regions) && units) has first.1 in
     let second = and_parts (factions && regions) units fourth.0 in
     let start = and_parts factions regions second.0 in
-    record { head = first.0; factions = start.0; regions = start.1; units = second.1; has = fourth.1; structures = third.1; books = last.1 }
+    record { head = first.0; factions = start.0; regions = start.1; units = second.1; has = fourth.1; structures = third.1; books = last.1; markets = whole.1 }
 
 pub record HeadRanges (h : StoredHead) : Type 0 where
   pub month : is_from 0 last_month h.month ≡ true
@@ -224,13 +250,13 @@ module _ (w : WorldValue) (p : Parts) (h : AreRowsInRange w p) where
       record {
         month = (in_range 0 last_month most_u32 (head_of p).month (omega arith) head.month).1;
         few_factions = omega (arith, by_number-len (λ (r : StoredFaction). as_u32 r.number) faction_of p.factions, few.factions);
-        few_regions = omega (arith, by_number-len (λ (r : StoredRegion). as_u32 r.number) region_of p.regions, few.regions);
+        few_regions = omega (arith, by_number-len (λ (r : StoredRegion). as_u32 r.number) (region_of p.markets) p.regions, few.regions);
         few_units = omega (arith, by_number-len (λ (r : StoredUnit). as_u32 r.number) (unit_of p.has) p.units, few.units);
         few_structures = omega (arith, by_number-len (λ (r : StoredStructure). as_u32 r.number) structure_of p.structures, few.structures);
         next_unit_least = unit.0;
         next_unit_most = unit.1;
         factions = by_number-every (λ r. as_u32 r.number) faction_of (λ n f. f.number ≡ n) faction_in_range (λ r good. refl) p.factions ranges.factions;
-        regions = by_number-every (λ r. as_u32 r.number) region_of (λ n r. IsRegion r) region_in_range (λ r good. region_good r good) p.regions ranges.regions;
+        regions = by_number-every (λ r. as_u32 r.number) (region_of p.markets) (λ n r. IsRegion w n r) region_in_range (λ r good. region_good w p.markets r ranges.markets good) p.regions ranges.regions;
         units = by_number-every (λ r. as_u32 r.number) (unit_of p.has) (λ n u. (1 ≤ n) × IsHolding u.holding) unit_in_range (λ r good. unit_good p.has r ranges.has good) p.units ranges.units;
         structures = by_number-every (λ r. as_u32 r.number) structure_of (λ n s. (1 ≤ s.done) × (s.done ≤ size_of w s.kind)) (structure_in_range w) (λ r good. structure_good w r good) p.structures ranges.structures;
         books = put-grid (things_of w) p.books (no_amounts (things_of w)) (IsGrid-no_amounts (things_of w));

@@ -52,7 +52,7 @@ module _ (w : WorldValue) (c : CampaignValue) (month : ℕ) (mail reports : FinM
 
   module _ (early : month ≤ last_month) (senders : Every (λ n text. IsThere c.factions n) mail) (readers : Every (λ n text. IsThere c.factions n) reports) where
     posted-known : AreKnown w c → AreKnown w posted
-    posted-known old = record { regions = old.regions; units = posted-placed old; structures = posted-built old; mail = senders; reports = readers }
+    posted-known old = record { regions = old.regions; markets = old.markets; units = posted-placed old; structures = posted-built old; mail = senders; reports = readers }
 
     pub posted-steady : IsSteady w c → IsSteady w posted
     posted-steady old = record {

@@ -1,41 +1,47 @@
 -- The rows of a good campaign, in any order, say that campaign and keep all rules.
 use Rattle.std.proofs.Common.{◌≡◌, ℕ, zero, suc, ◌≤◌, ◌<◌, ◌+◌, ◌*◌, List, [], ◌∷◌, Bool, true, false, length, None, refl, sym, ap, subst, ◌∙◌, arith}
-use Rattle.std.specs.Prelude.{ℤ, pos, slice_index_or}
-use Rattle.std.specs.List.{AllByRecursion}
+use Rattle.std.specs.Prelude.{ℤ, pos, is_some, slice_index_or}
+use Rattle.std.specs.List.{AllByRecursion, IsDistinct}
 use Rattle.std.specs.List.Sorted.{IsPermutation}
 use Rattle.std.specs.Ordering.{nat_cmp}
 use Rattle.std.specs.FinMap.{FinMap, get, entries, len}
 use Rattle.std.proofs.lemmas.List.Sorted.{length_permutation}
 use Rattle.atl_tables.specs.Limits.{most_amount, last_region}
 use Rattle.atl_tables.specs.Worlds.{WorldValue, IsWorld}
-use Rattle.atl_tables.specs.ByNumber.{size_of}
+use Rattle.atl_tables.specs.ByNumber.{market_of, size_of}
+use Rattle.atl_tables.specs.declared.format.Format.{Format}
+use Rattle.atl_tables.specs.declared.format.Format.TheVariants.{First, Second}
 use Rattle.atl_orders.specs.Limits.{last_faction}
 use Rattle.atl_state.specs.declared.parts.Parts.{Parts}
 use Rattle.atl_state.specs.declared.parts.StoredHead.{StoredHead}
 use Rattle.atl_state.specs.declared.parts.StoredHas.{StoredHas}
+use Rattle.atl_state.specs.declared.parts.StoredMarket.{StoredMarket}
 use Rattle.atl_state.specs.declared.records.Faction.{Faction}
 use Rattle.atl_state.specs.declared.records.Region.{Region}
 use Rattle.atl_state.specs.declared.records.Structure.{Structure}
 use Rattle.atl_state.specs.declared.records.Unit.{Unit}
 use Rattle.atl_state.specs.Books.{no_amounts}
+use Rattle.atl_state.specs.Checking.{Fits}
 use Rattle.atl_state.specs.Founding.{things_of}
-use Rattle.atl_state.specs.FromRows.{as_u32, as_u16, is_set, faction_of, region_of, structure_of, unit_of, by_number, put_amounts, things_had, no_head, head_of, campaign_of}
+use Rattle.atl_state.specs.FromRows.{as_u32, as_u16, is_set, faction_of, stocks_of, region_of, structure_of, unit_of, by_number, put_amounts, things_had, no_head, head_of, campaign_of}
 use Rattle.atl_state.specs.Good.{Every, IsThere, IsNumbered, IsGood}
 use Rattle.atl_state.specs.Held.{AreAmounts}
 use Rattle.atl_state.specs.Limits.{last_month, last_unit, men_limit, holding_limit, most_structures, most_days, most_u16, most_u32}
-use Rattle.atl_state.specs.RowRules.{one_key, HaveKeys}
-use Rattle.atl_state.specs.Rows.{flag, rows_by, head_row, faction_row, region_row, unit_row, structure_row, mail_row, report_row, has_rows, books_rows, rows_of, AreRowsOf}
+use Rattle.atl_state.specs.RowRules.{one_key, market_key, HaveKeys}
+use Rattle.atl_state.specs.Rows.{flag, rows_by, head_row, faction_row, region_row, unit_row, structure_row, mail_row, report_row, has_rows, books_rows, market_row, market_rows, rows_of, AreRowsOf}
 use Rattle.atl_state.specs.Campaign.{CampaignValue}
 use Rattle.atl_state.proofs.AssemblyLaws.{min_small}
 use Rattle.atl_state.proofs.BackLaws.{each_permuted, read_whole, written_whole, map_back, rows_so, rows_apart, entries_rise, keys_permuted, apart_numbers}
 use Rattle.atl_state.proofs.BackBooksLaws.{books_back}
 use Rattle.atl_state.proofs.BackHasLaws.{AreHad, goods_of, goods_back}
+use Rattle.atl_state.proofs.BackStockRowLaws.{AreStocked, stocks_each, market_keys, stocks_back}
 use Rattle.atl_state.proofs.EveryLaws.{every-from_each}
 use Rattle.atl_state.proofs.HasLaws.{IsWhole, same}
 use Rattle.atl_state.proofs.OrderLaws.{Apart-keys}
 use Rattle.atl_state.proofs.RuleLaws.{each_numbered, every_before}
 use Rattle.atl_state.proofs.StateLaws.{same_state}
-use Rattle.atl_state.proofs.SaidLaws.{one_apart, none_or_below, small_size}
+use Rattle.atl_state.proofs.SaidLaws.{one_apart, none_or_below, small_size, small_limit}
+use Rattle.atl_state.proofs.MarketLaws.{market_known}
 
 -- ---- numbers in a good campaign
 
@@ -63,11 +69,12 @@ faction_back n f few is =
     let gone = flag_back f.gone in
     λ i. record { number = number i; joined_as = f.joined_as; name = f.name; pass = f.pass; gone = gone i }
 
-region_back : (n : ℕ) (r : Region) → r.peasants ≤ most_u32 → r.money ≤ most_u32 → region_of (region_row n r) ≡ r
-region_back n r p m =
+region_back : (markets : List StoredMarket) (n : ℕ) (r : Region) → n ≤ most_u32 → r.peasants ≤ most_u32 → r.money ≤ most_u32 → stocks_of n markets ≡ r.stocks → region_of markets (region_row n r) ≡ r
+region_back markets n r few p m stocks =
     let peasants = read_whole r.peasants p in
     let money = read_whole r.money m in
-    λ i. record { peasants = peasants i; money = money i }
+    let its_stocks = ap (λ k. stocks_of k markets) (read_whole n few) ∙ stocks in
+    λ i. record { peasants = peasants i; money = money i; stocks = its_stocks i }
 
 pub record StructureFits (s : Structure) : Type 0 where
   pub kind : s.kind ≤ most_u16
@@ -129,6 +136,10 @@ single x (r ∷ s ∷ rows) l all = absurd (omega (arith, l))
 
 pub only_row : {R : Type 0} (x : R) (rows : List R) → IsPermutation (x ∷ []) rows → rows ≡ x ∷ []
 only_row x rows h = single x rows (length_permutation (x ∷ []) rows h) (each_permuted (λ r. r ≡ x) (x ∷ []) rows h (refl, tt))
+
+pub none_listed : {R : Type 0} (rows : List R) → IsPermutation [] rows → rows ≡ []
+none_listed [] h = refl
+none_listed (r ∷ rows) h = let count = length_permutation [] (r ∷ rows) h in absurd (omega (arith, count))
 
 -- ---- what is so of a good campaign's numbers
 
@@ -202,8 +213,24 @@ module _ (w : WorldValue) (world : IsWorld w) (c : CampaignValue) (good : IsGood
   pub had : AreHad c.units
   had = record { numbers = small_enough c.units last_unit (omega arith) few_units; goods = goods_few }
 
-  module _ (p : Parts) (rows : AreRowsOf c p) where
-    head_listed : IsPermutation (head_row c ∷ []) p.campaign
+  -- an item of a market
+  item_small : (n i : ℕ) → is_some (market_of w n i) ≡ true → i ≤ most_u32
+  item_small n i named =
+      let few = world.few_items in
+      let below = market_known w world n i named in
+      omega (arith, few, below)
+
+  pub stocked : AreStocked c.regions
+  stocked = record {
+    numbers = λ n r is. let most = region_small n (r, is) in omega (arith, most);
+    stocks = λ n r is i a there.
+        let range = (good.sound.steady.numbers.regions n r is).stocks i a there in
+        let limit = small_limit w world n i in
+        (item_small n i (good.sound.steady.known.markets n r is i a there), range.0, omega (arith, range.1, limit));
+  }
+
+  module _ (f : Format) (fits : Fits f c) (p : Parts) (rows : AreRowsOf f c p) where
+    head_listed : IsPermutation (head_row f c ∷ []) p.campaign
     unfolding rows_of
     head_listed = rows.campaign
 
@@ -239,10 +266,14 @@ module _ (w : WorldValue) (world : IsWorld w) (c : CampaignValue) (good : IsGood
     unfolding rows_of
     books_listed = rows.books
 
-    pub its_head : p.campaign ≡ head_row c ∷ []
-    its_head = only_row (head_row c) p.campaign head_listed
+    pub markets_listed : IsPermutation (market_rows f (entries c.regions)) p.markets
+    unfolding rows_of
+    markets_listed = rows.markets
 
-    pub head_said : head_of p ≡ head_row c
+    pub its_head : p.campaign ≡ head_row f c ∷ []
+    its_head = only_row (head_row f c) p.campaign head_listed
+
+    pub head_said : head_of p ≡ head_row f c
     head_said = ap (λ hs. slice_index_or hs 0 no_head) its_head
 
     pub factions_whole : Every (λ n f. n ≤ most_u32) c.factions
@@ -266,9 +297,34 @@ module _ (w : WorldValue) (world : IsWorld w) (c : CampaignValue) (good : IsGood
     amount_small : (n : ℕ) → n ≤ most_amount → n ≤ most_u32
     amount_small n h = omega (arith, h)
 
-    regions_said : by_number (λ r. as_u32 r.number) region_of p.regions ≡ c.regions
+    -- what is so of all that is in stock is so of each row of a market
+    pub each_market : (P : StoredMarket → Type 0) → Every (λ n r. Every (λ i a. P (market_row n i a)) r.stocks) c.regions → AllByRecursion P p.markets
+    each_market P h = elim f as (λ g. IsPermutation (market_rows g (entries c.regions)) p.markets → AllByRecursion P p.markets) [
+      | First ↦ λ listed. subst (AllByRecursion P) (sym (none_listed p.markets listed)) tt
+      | Second ↦ λ listed. each_permuted P (market_rows Second (entries c.regions)) p.markets listed (stocks_each c.regions P (λ n r there i a is some. h n r there i a is))
+    ] markets_listed
+
+    no_keys : HaveKeys market_key []
+    unfolding IsDistinct
+    no_keys = tt
+
+    pub markets_keyed : HaveKeys market_key p.markets
+    markets_keyed = elim f as (λ g. IsPermutation (market_rows g (entries c.regions)) p.markets → HaveKeys market_key p.markets) [
+      | First ↦ λ listed. subst (HaveKeys market_key) (sym (none_listed p.markets listed)) no_keys
+      | Second ↦ λ listed. market_keys c.regions stocked p.markets listed
+    ] markets_listed
+
+    stocks_said : Every (λ n r. stocks_of n p.markets ≡ r.stocks) c.regions
+    stocks_said n r is = elim f as (λ g. Fits g c → IsPermutation (market_rows g (entries c.regions)) p.markets → stocks_of n p.markets ≡ r.stocks) [
+      | First ↦ λ bare listed. ap (stocks_of n) (none_listed p.markets listed) ∙ sym (bare.stocks n r is)
+      | Second ↦ λ _ listed. stocks_back c.regions stocked p.markets listed n r is
+    ] fits markets_listed
+
+    regions_said : by_number (λ r. as_u32 r.number) (region_of p.markets) p.regions ≡ c.regions
     regions_said =
-        table_back region_row (λ r. r.number) region_of (λ n r. refl) c.regions regions_whole p.regions regions_listed (λ n r is. let range = good.sound.steady.numbers.regions n r is in region_back n r (amount_small r.peasants range.peasants) (amount_small r.money range.money))
+        table_back region_row (λ r. r.number) (region_of p.markets) (λ n r. refl) c.regions regions_whole p.regions regions_listed (λ n r is.
+        let range = good.sound.steady.numbers.regions n r is in
+        region_back p.markets n r (regions_whole n r is) (amount_small r.peasants range.peasants) (amount_small r.money range.money) (stocks_said n r is))
 
     structures_said : by_number (λ r. as_u32 r.number) structure_of p.structures ≡ c.structures
     structures_said = table_back structure_row (λ r. r.number) structure_of (λ n s. refl) c.structures structures_whole p.structures structures_listed (λ n s is. structure_back n s (structure_fits n s is))

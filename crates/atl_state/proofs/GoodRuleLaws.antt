@@ -1,12 +1,13 @@
 -- The rows of a good campaign, in any order, keep all rules.
-use Rattle.std.proofs.Common.{◌≡◌, ◌≢◌, ℕ, zero, suc, ◌≤◌, ◌<◌, ◌+◌, ◌*◌, ◌&&◌, List, [], ◌∷◌, Bool, true, false, length, Some, nat_le, nat_lt, refl, sym, ap, subst, ◌∙◌, arith}
+use Rattle.std.proofs.Common.{◌≡◌, ◌≢◌, ℕ, zero, suc, ◌≤◌, ◌<◌, ◌+◌, ◌*◌, ◌&&◌, List, [], ◌∷◌, Bool, true, false, length, Some, nat_le, nat_lt, refl, sym, ap, subst, ◌∙◌, arith, inl, inr}
 use Rattle.std.specs.Prelude.{ℤ, pos, negsuc, is_some, Result, Ok, Err}
 use Rattle.std.specs.List.{list_all, AllByRecursion, IsDistinct}
+use Rattle.std.specs.List.Sorted.{IsPermutation}
 use Rattle.std.specs.Ordering.{nat_cmp, eq_by_cmp}
 use Rattle.std.specs.Cmp.{eq_by_cmp_equiv}
 use Rattle.std.specs.Cmp.Lexicographic.{slice_cmp, nat_list_cmp_total}
 use Rattle.std.specs.FinMap.{get, entries, len}
-use Rattle.std.proofs.lemmas.Bool.{not_from_false}
+use Rattle.std.proofs.lemmas.Bool.{cases_lt, false≢true, not_from_false}
 use Rattle.std.proofs.lemmas.Bool.Decides.{nat_tests}
 use Rattle.std.proofs.lemmas.Int.{ints}
 use Rattle.std.proofs.lemmas.Map.Keys.{IsDistinct-IsPermutation}
@@ -15,7 +16,9 @@ use Rattle.std.proofs.lemmas.Slice.Eq.{bytes_eq-Decides}
 use Rattle.atl_tables.specs.Limits.{most_amount, most_regions}
 use Rattle.atl_tables.specs.Names.{name_ok, pass_ok}
 use Rattle.atl_tables.specs.Worlds.{WorldValue, IsWorld}
-use Rattle.atl_tables.specs.ByNumber.{size_of}
+use Rattle.atl_tables.specs.ByNumber.{market_of, size_of}
+use Rattle.atl_tables.specs.declared.format.Format.{Format}
+use Rattle.atl_tables.specs.declared.format.Format.TheVariants.{First, Second}
 use Rattle.atl_orders.specs.Limits.{last_faction}
 use Rattle.atl_state.specs.declared.checking.CheckFault.{CheckFault}
 use Rattle.atl_state.specs.declared.checking.CheckFault.TheVariants.{Damaged, Memory}
@@ -26,22 +29,22 @@ use Rattle.atl_state.specs.declared.parts.StoredHead.{StoredHead}
 use Rattle.atl_state.specs.declared.parts.StoredFaction.{StoredFaction}
 use Rattle.atl_state.specs.declared.records.Faction.{Faction}
 use Rattle.atl_state.specs.Books.{entry_place, thing_at, IsWithin}
-use Rattle.atl_state.specs.Checking.{Keeps, Checks, GivesBack}
+use Rattle.atl_state.specs.Checking.{Keeps, IsWithoutMarkets, Fits, Checks, GivesBack}
 use Rattle.atl_state.specs.Deciding.{EachOf, Differ}
 use Rattle.atl_state.specs.Founding.{things_of}
 use Rattle.atl_state.specs.FromRows.{as_u32, faction_of, region_of, structure_of, unit_of, head_of, campaign_of}
 use Rattle.atl_state.specs.Good.{AreAmountsWithin, AreKnown, AreNumbered, AreDays, GoneHaveNone, NoneAreGone, AreOwned, AreAfloat, AreOfOneFaction, guards, IsMail, AreReported, amount_bound, IsGood}
-use Rattle.atl_state.specs.Limits.{entry_count, holding_limit, last_month, last_unit, men_limit, most_in_joining, most_in_month, most_structures, most_units}
-use Rattle.atl_state.specs.RowRules.{is_from, is_one_head, is_within, head_in_range, faction_in_range, region_in_range, unit_in_range, has_in_range, structure_in_range, books_in_range, books_bound, are_few, AreKeyed, AreRowsInRange, faction_named, AreRowsNamed, is_of_unit, is_booked}
-use Rattle.atl_state.specs.Rows.{flag, rows_by, faction_row, region_row, unit_row, structure_row, mail_row, report_row, has_row, has_rows, books_rows, amount_at, is_zero, AreRowsOf}
+use Rattle.atl_state.specs.Limits.{entry_count, first_entry_count, entries_in, holding_limit, last_month, last_unit, men_limit, most_in_joining, most_in_month, most_structures, most_units}
+use Rattle.atl_state.specs.RowRules.{is_from, is_one_head, are_of_format, is_within, head_in_range, faction_in_range, region_in_range, unit_in_range, has_in_range, structure_in_range, books_in_range, books_bound, market_in_range, are_few, AreKeyed, AreRowsInRange, faction_named, AreRowsNamed, is_of_unit, is_of_market, is_entry_in, is_booked}
+use Rattle.atl_state.specs.Rows.{flag, rows_by, head_row, faction_row, region_row, unit_row, structure_row, mail_row, report_row, has_row, has_rows, books_rows, market_rows, amount_at, is_zero, AreRowsOf}
+use Rattle.atl_state.specs.Stocks.{stock_limit}
 use Rattle.atl_state.specs.Campaign.{CampaignValue, MarkedCampaign}
 use Rattle.atl_state.specs.Totals.{Balances}
 use Rattle.atl_state.proofs.BookLaws.{place_at}
 use Rattle.atl_state.proofs.EveryEntryLaws.{entry_at}
 use Rattle.atl_state.proofs.BackLaws.{each_permuted, all_pass, read_whole, rows_pass, count_rows}
-use Rattle.atl_state.proofs.BackBooksLaws.{lines_each, books_keys, all_booked}
+use Rattle.atl_state.proofs.BackBooksLaws.{lines_each, books_keys}
 use Rattle.atl_state.proofs.BackHasLaws.{has_each, has_keys, goods_of}
-use Rattle.atl_state.proofs.BooksRowLaws.{IsBooked}
 use Rattle.atl_state.proofs.DifferLaws.{entries_differ}
 use Rattle.atl_state.proofs.GoodRowLaws as row
 use Rattle.atl_state.proofs.KeyLaws.{IsDistinct-map}
@@ -95,29 +98,40 @@ named_apart (e ∷ es) h = (others_named e.1 es h.0, named_apart es h.1)
 text_symm : (a b : List ℕ) → same_text a b ≡ same_text b a
 text_symm = (eq_by_cmp_equiv nat_list_cmp_total).symm
 
-module _ (w : WorldValue) (world : IsWorld w) (c : CampaignValue) (good : IsGood w c) (p : Parts) (rows : AreRowsOf c p) where
-  back : campaign_of w p ≡ c
-  back = row.state_back w world c good p rows
+head_true : (f : Format) (c : CampaignValue) → is_one_head f (head_row f c ∷ []) ≡ true
+head_true First c = refl
+head_true Second c = refl
 
-  one_row : is_one_head p.campaign ≡ true
-  one_row = ap is_one_head (row.its_head w world c good p rows)
+module _ (f : Format) (w : WorldValue) (world : IsWorld w) (c : CampaignValue) (good : IsGood w c) (fits : Fits f c) (p : Parts) (rows : AreRowsOf f c p) where
+  back : campaign_of w p ≡ c
+  back = row.state_back w world c good f fits p rows
+
+  one_row : is_one_head f p.campaign ≡ true
+  one_row = ap (is_one_head f) (row.its_head w world c good f fits p rows) ∙ head_true f c
+
+  of_format : are_of_format f p.markets ≡ true
+  of_format = elim f as (λ g. IsPermutation (market_rows g (entries c.regions)) p.markets → are_of_format g p.markets ≡ true) [
+    | First ↦ λ listed. ap (are_of_format First) (row.none_listed p.markets listed)
+    | Second ↦ λ listed. refl
+  ] (row.markets_listed w world c good f fits p rows)
 
   -- ---- ranges
 
   keys : AreKeyed p
   keys = record {
-    factions = row.table_keys faction_row (λ r. r.number) faction_of (λ n f. refl) c.factions (row.factions_whole w world c good p rows) p.factions (row.factions_listed w world c good p rows);
-    regions = row.table_keys region_row (λ r. r.number) region_of (λ n r. refl) c.regions (row.regions_whole w world c good p rows) p.regions (row.regions_listed w world c good p rows);
-    units = row.table_keys unit_row (λ r. r.number) (unit_of p.has) (λ n u. refl) c.units (row.had w world c good).numbers p.units (row.units_listed w world c good p rows);
-    has = has_keys c.units (row.had w world c good) p.has (row.has_listed w world c good p rows);
-    structures = row.table_keys structure_row (λ r. r.number) structure_of (λ n s. refl) c.structures (row.structures_whole w world c good p rows) p.structures (row.structures_listed w world c good p rows);
-    mail = row.table_keys mail_row (λ r. r.faction) (λ r. r.text) (λ n text. refl) c.mail (row.mail_whole w world c good p rows) p.mail (row.mail_listed w world c good p rows);
-    reports = row.table_keys report_row (λ r. r.faction) (λ r. r.text) (λ n text. refl) c.reports (row.reports_whole w world c good p rows) p.reports (row.reports_listed w world c good p rows);
-    books = books_keys (things_of w) (row.few_things w world c good p rows) c.books good.sound.steady.numbers.books p.books (row.books_listed w world c good p rows);
+    factions = row.table_keys faction_row (λ r. r.number) faction_of (λ n f. refl) c.factions (row.factions_whole w world c good f fits p rows) p.factions (row.factions_listed w world c good f fits p rows);
+    regions = row.table_keys region_row (λ r. r.number) (region_of p.markets) (λ n r. refl) c.regions (row.regions_whole w world c good f fits p rows) p.regions (row.regions_listed w world c good f fits p rows);
+    units = row.table_keys unit_row (λ r. r.number) (unit_of p.has) (λ n u. refl) c.units (row.had w world c good).numbers p.units (row.units_listed w world c good f fits p rows);
+    has = has_keys c.units (row.had w world c good) p.has (row.has_listed w world c good f fits p rows);
+    structures = row.table_keys structure_row (λ r. r.number) structure_of (λ n s. refl) c.structures (row.structures_whole w world c good f fits p rows) p.structures (row.structures_listed w world c good f fits p rows);
+    mail = row.table_keys mail_row (λ r. r.faction) (λ r. r.text) (λ n text. refl) c.mail (row.mail_whole w world c good f fits p rows) p.mail (row.mail_listed w world c good f fits p rows);
+    reports = row.table_keys report_row (λ r. r.faction) (λ r. r.text) (λ n text. refl) c.reports (row.reports_whole w world c good f fits p rows) p.reports (row.reports_listed w world c good f fits p rows);
+    books = books_keys (things_of w) (row.few_things w world c good f fits p rows) c.books good.sound.steady.numbers.books p.books (row.books_listed w world c good f fits p rows);
+    markets = row.markets_keyed w world c good f fits p rows;
   }
 
   faction_count : length p.factions ≡ len c.factions
-  faction_count = count_rows faction_row c.factions p.factions (row.factions_listed w world c good p rows)
+  faction_count = count_rows faction_row c.factions p.factions (row.factions_listed w world c good f fits p rows)
 
   fewer : (m n most : ℕ) → m ≡ n → n ≤ most → nat_le m most ≡ true
   fewer m n most e h = le_true m most (omega (arith, e, h))
@@ -125,9 +139,9 @@ module _ (w : WorldValue) (world : IsWorld w) (c : CampaignValue) (good : IsGood
   few : are_few p ≡ true
   few =
       let factions = fewer (length p.factions) (len c.factions) last_faction faction_count good.sound.steady.numbers.few_factions in
-      let regions = fewer (length p.regions) (len c.regions) most_regions (count_rows region_row c.regions p.regions (row.regions_listed w world c good p rows)) good.sound.steady.numbers.few_regions in
-      let units = fewer (length p.units) (len c.units) most_units (count_rows unit_row c.units p.units (row.units_listed w world c good p rows)) good.sound.steady.numbers.few_units in
-      let structures = fewer (length p.structures) (len c.structures) most_structures (count_rows structure_row c.structures p.structures (row.structures_listed w world c good p rows)) good.sound.steady.numbers.few_structures in
+      let regions = fewer (length p.regions) (len c.regions) most_regions (count_rows region_row c.regions p.regions (row.regions_listed w world c good f fits p rows)) good.sound.steady.numbers.few_regions in
+      let units = fewer (length p.units) (len c.units) most_units (count_rows unit_row c.units p.units (row.units_listed w world c good f fits p rows)) good.sound.steady.numbers.few_units in
+      let structures = fewer (length p.structures) (len c.structures) most_structures (count_rows structure_row c.structures p.structures (row.structures_listed w world c good f fits p rows)) good.sound.steady.numbers.few_structures in
       and_true _ _ (and_true _ _ (and_true _ _ factions regions) units) structures
 
   at_least_one : (n m : ℕ) → n ≡ m + 1 → 1 ≤ n
@@ -138,32 +152,32 @@ module _ (w : WorldValue) (world : IsWorld w) (c : CampaignValue) (good : IsGood
 
   head_ranges : head_in_range (head_of p) ≡ true
   head_ranges =
-      ap head_in_range (row.head_said w world c good p rows)
+      ap head_in_range (row.head_said w world c good f fits p rows)
       ∙ and_true _ _ (and_true _ _ (and_true _ _ (from_true 0 last_month c.month (none_less c.month) good.sound.steady.numbers.month)
-      (from_true 1 (last_faction + 1) c.next_faction (at_least_one c.next_faction (len c.factions) good.sound.steady.next.factions.count) (row.faction_next w world c good p rows)))
+      (from_true 1 (last_faction + 1) c.next_faction (at_least_one c.next_faction (len c.factions) good.sound.steady.next.factions.count) (row.faction_next w world c good f fits p rows)))
       (from_true 1 (last_unit + 1) c.next_unit good.sound.steady.numbers.next_unit_least good.sound.steady.numbers.next_unit_most))
-      (from_true 1 (most_structures + 1) c.next_structure (at_least_one c.next_structure (len c.structures) good.sound.steady.next.structures.count) (row.structure_next w world c good p rows))
+      (from_true 1 (most_structures + 1) c.next_structure (at_least_one c.next_structure (len c.structures) good.sound.steady.next.structures.count) (row.structure_next w world c good f fits p rows))
 
   faction_ranges : list_all faction_in_range p.factions ≡ true
   faction_ranges =
-      rows_pass faction_row faction_in_range c.factions p.factions (row.factions_listed w world c good p rows) (λ n f is.
+      rows_pass faction_row faction_in_range c.factions p.factions (row.factions_listed w world c good f fits p rows) (λ n f is.
       let range = row.few_factions w world c good n f is in and_true _ _ (from_true 1 last_faction n range.0 range.1) (flag_in_range f.gone))
 
   region_ranges : list_all region_in_range p.regions ≡ true
   region_ranges =
-      rows_pass region_row region_in_range c.regions p.regions (row.regions_listed w world c good p rows) (λ n r is.
+      rows_pass region_row region_in_range c.regions p.regions (row.regions_listed w world c good f fits p rows) (λ n r is.
       let range = good.sound.steady.numbers.regions n r is in and_true _ _ (from_true 0 most_amount r.peasants (none_less r.peasants) range.peasants) (from_true 0 most_amount r.money (none_less r.money) range.money))
 
   unit_ranges : list_all unit_in_range p.units ≡ true
   unit_ranges =
-      rows_pass unit_row unit_in_range c.units p.units (row.units_listed w world c good p rows) (λ n u is.
+      rows_pass unit_row unit_in_range c.units p.units (row.units_listed w world c good f fits p rows) (λ n u is.
       let range = good.sound.steady.numbers.units n u is in
       and_true _ _ (and_true _ _ (and_true _ _ (from_true 1 last_unit n range.0 (row.few_units w world c good n u is)) (from_true 1 men_limit u.holding.men (good.sound.men n u is) range.1.men))
       (from_true 0 holding_limit u.holding.money (none_less u.holding.money) range.1.money)) (flag_in_range u.holding.guard))
 
   has_ranges : list_all has_in_range p.has ≡ true
   has_ranges =
-      all_pass has_in_range (λ r. has_in_range r ≡ true) (λ r e. e) p.has (each_permuted (λ r. has_in_range r ≡ true) (has_rows (entries c.units)) p.has (row.has_listed w world c good p rows)
+      all_pass has_in_range (λ r. has_in_range r ≡ true) (λ r e. e) p.has (each_permuted (λ r. has_in_range r ≡ true) (has_rows (entries c.units)) p.has (row.has_listed w world c good f fits p rows)
       (has_each c.units (λ r. has_in_range r ≡ true) (λ n u there s l i a is some. in_range n s i a l (λ item. (good.sound.steady.numbers.units n u there).1.items i a (subst (λ k. get (goods_of k u) i ≡ Some a) item is)))))
     where
       in_range : (n s i a : ℕ) → s < 2 → (s ≡ 0 → (1 ≤ a) × (a ≤ holding_limit)) → has_in_range (has_row n s i a) ≡ true
@@ -173,7 +187,7 @@ module _ (w : WorldValue) (world : IsWorld w) (c : CampaignValue) (good : IsGood
 
   structure_ranges : list_all (structure_in_range w) p.structures ≡ true
   structure_ranges =
-      rows_pass structure_row (structure_in_range w) c.structures p.structures (row.structures_listed w world c good p rows) (λ n s is.
+      rows_pass structure_row (structure_in_range w) c.structures p.structures (row.structures_listed w world c good f fits p rows) (λ n s is.
       let range = row.few_structures w world c good n s is in
       let done = good.sound.steady.numbers.structures n s is in
       let kind = row.read16 s.kind (row.structure_fits w world c good n s is).kind in
@@ -181,58 +195,95 @@ module _ (w : WorldValue) (world : IsWorld w) (c : CampaignValue) (good : IsGood
 
   bound_said : books_bound p ≡ amount_bound c
   bound_said =
-      ap (λ m. most_in_month * (m + 1) + most_in_joining * length p.factions) (row.month_said w world c good p rows) ∙ ap (λ n. most_in_month * (c.month + 1) + most_in_joining * n) faction_count
+      ap (λ m. most_in_month * (m + 1) + most_in_joining * length p.factions) (row.month_said w world c good f fits p rows) ∙ ap (λ n. most_in_month * (c.month + 1) + most_in_joining * n) faction_count
 
   amounts_in_range : list_all (books_in_range (amount_bound c)) p.books ≡ true
   amounts_in_range =
       all_pass (books_in_range (amount_bound c)) (λ r. books_in_range (amount_bound c) r ≡ true) (λ r e. e) p.books
-      (each_permuted (λ r. books_in_range (amount_bound c) r ≡ true) (books_rows c.books) p.books (row.books_listed w world c good p rows)
+      (each_permuted (λ r. books_in_range (amount_bound c) r ≡ true) (books_rows c.books) p.books (row.books_listed w world c good f fits p rows)
       (lines_each c.books (λ r. books_in_range (amount_bound c) r ≡ true) (λ e t el tl some.
       and_true _ _ (not_from_false (is_zero (amount_at c.books e t)) some) (within_true (amount_bound c) (amount_at c.books e t) (amounts_within c good.sound.amounts e t el)))))
 
   book_ranges : list_all (books_in_range (books_bound p)) p.books ≡ true
   book_ranges = ap (λ bound. list_all (books_in_range bound) p.books) bound_said ∙ amounts_in_range
 
+  market_ranges : list_all (market_in_range w) p.markets ≡ true
+  market_ranges =
+      all_pass (market_in_range w) (λ m. market_in_range w m ≡ true) (λ m e. e) p.markets (row.each_market w world c good f fits p rows (λ m. market_in_range w m ≡ true) (λ n r there i a is.
+      let small = row.stocked w world c good in
+      let range = (good.sound.steady.numbers.regions n r there).stocks i a is in
+      ap (λ k. is_from 1 (stock_limit w k (as_u32 (pos i))) (pos a)) (read_whole n (small.numbers n r there)) ∙ ap (λ k. is_from 1 (stock_limit w n k) (pos a)) (read_whole i (small.stocks n r there i a is).0) ∙ from_true 1 (stock_limit w n i) a range.0 range.1))
+
   in_ranges : AreRowsInRange w p
   in_ranges = record {
     keys = keys;
     few = few;
-    numbers = and_true _ _ (and_true _ _ (and_true _ _ head_ranges (and_true _ _ (and_true _ _ (and_true _ _ faction_ranges region_ranges) unit_ranges) has_ranges)) structure_ranges) book_ranges;
+    numbers = and_true _ _ (and_true _ _ (and_true _ _ (and_true _ _ head_ranges (and_true _ _ (and_true _ _ (and_true _ _ faction_ranges region_ranges) unit_ranges) has_ranges)) structure_ranges) book_ranges) market_ranges;
   }
 
   -- ---- names
 
   named : AreRowsNamed p
   named = record {
-    texts = and_true _ _ (and_true _ _ (and_true _ _ (ap (λ (h : StoredHead). pass_ok h.pass) (row.head_said w world c good p rows) ∙ good.sound.steady.names.pass)
-        (rows_pass faction_row faction_named c.factions p.factions (row.factions_listed w world c good p rows) (λ n f is. let ok = good.sound.steady.names.factions n f is in and_true _ _ (and_true _ _ ok.0 ok.1) ok.2)))
-        (rows_pass unit_row (λ r. name_ok r.name) c.units p.units (row.units_listed w world c good p rows) good.sound.steady.names.units))
-        (rows_pass structure_row (λ r. name_ok r.name) c.structures p.structures (row.structures_listed w world c good p rows) good.sound.steady.names.structures);
+    texts = and_true _ _ (and_true _ _ (and_true _ _ (ap (λ (h : StoredHead). pass_ok h.pass) (row.head_said w world c good f fits p rows) ∙ good.sound.steady.names.pass)
+        (rows_pass faction_row faction_named c.factions p.factions (row.factions_listed w world c good f fits p rows) (λ n f is. let ok = good.sound.steady.names.factions n f is in and_true _ _ (and_true _ _ ok.0 ok.1) ok.2)))
+        (rows_pass unit_row (λ r. name_ok r.name) c.units p.units (row.units_listed w world c good f fits p rows) good.sound.steady.names.units))
+        (rows_pass structure_row (λ r. name_ok r.name) c.structures p.structures (row.structures_listed w world c good f fits p rows) good.sound.steady.names.structures);
     joined = IsDistinct-map (λ (r : StoredFaction). r.joined_as) same_text p.factions (IsDistinct-IsPermutation (λ (a b : StoredFaction). same_text a.joined_as b.joined_as) (λ a b. text_symm a.joined_as b.joined_as)
-        (rows_by faction_row (entries c.factions)) p.factions (row.factions_listed w world c good p rows) (named_apart (entries c.factions) (entries_differ c.factions good.sound.steady.names.joined)));
+        (rows_by faction_row (entries c.factions)) p.factions (row.factions_listed w world c good f fits p rows) (named_apart (entries c.factions) (entries_differ c.factions good.sound.steady.names.joined)));
   }
 
   -- ---- what rows say of other rows
 
   of_units : list_all (is_of_unit c) p.has ≡ true
   of_units =
-      all_pass (is_of_unit c) (λ r. is_of_unit c r ≡ true) (λ r e. e) p.has (each_permuted (λ r. is_of_unit c r ≡ true) (has_rows (entries c.units)) p.has (row.has_listed w world c good p rows)
+      all_pass (is_of_unit c) (λ r. is_of_unit c r ≡ true) (λ r e. e) p.has (each_permuted (λ r. is_of_unit c r ≡ true) (has_rows (entries c.units)) p.has (row.has_listed w world c good f fits p rows)
       (has_each c.units (λ r. is_of_unit c r ≡ true) (λ n u there s l i a is some. ap (λ k. is_some (get c.units k)) (read_whole n ((row.had w world c good).numbers n u there)) ∙ ap is_some there)))
 
-  of_books : list_all (is_booked w) p.books ≡ true
+  of_markets : list_all (is_of_market w) p.markets ≡ true
+  of_markets =
+      all_pass (is_of_market w) (λ m. is_of_market w m ≡ true) (λ m e. e) p.markets (row.each_market w world c good f fits p rows (λ m. is_of_market w m ≡ true) (λ n r there i a is.
+      let small = row.stocked w world c good in
+      ap (λ k. is_some (market_of w k (as_u32 (pos i)))) (read_whole n (small.numbers n r there)) ∙ ap (λ k. is_some (market_of w n k)) (read_whole i (small.stocks n r there i a is).0) ∙ good.sound.steady.known.markets n r there i a is))
+
+  -- the entries whose amounts are not 0 are those of the format
+  entry_few : (e t : ℕ) → e < entry_count → is_zero (amount_at c.books e t) ≡ false → e < entries_in f
+  entry_few e t l some = elim f as (λ g. Fits g c → e < entries_in g) [ First ↦ λ bare. early bare | Second ↦ λ _. l ] fits
+    where
+      none_under : IsWithoutMarkets c → first_entry_count ≤ e → amount_at c.books e t ≡ pos 0
+      none_under bare late =
+          let entry = entry_at e l in
+          subst (λ k. amount_at c.books k t ≡ pos 0) entry.1 (subst (λ k. amount_at c.books (entry_place entry.0) k ≡ pos 0) (place_at t) (bare.entries entry.0 (thing_at t) (omega (arith, late, entry.1))))
+
+      early : IsWithoutMarkets c → e < first_entry_count
+      early bare = elim (cases_lt e first_entry_count) [ inl few ↦ few | inr late ↦ absurd (false≢true (sym some ∙ ap is_zero (none_under bare late))) ]
+
+  entry_true : (e : ℕ) → e < entries_in f → e < entry_count → is_entry_in f (as_u32 (pos (e + 1))) ≡ true
+  entry_true e few small =
+      let least : nat_le 1 (e + 1) ≡ true = le_true 1 (e + 1) (omega arith) in
+      ap (is_entry_in f) (read_whole (e + 1) (omega arith)) ∙ and_true _ _ least (le_true (e + 1) (entries_in f) (omega (arith, few)))
+
+  thing_true : (t : ℕ) → t < length c.books → nat_lt (as_u32 (pos t)) (things_of w) ≡ true
+  thing_true t inside =
+      let size = good.sound.steady.numbers.books.rows in
+      let few = row.few_things w world c good f fits p rows in
+      let read = read_whole t (omega (arith, size, few)) in
+      lt_true (as_u32 (pos t)) (things_of w) (omega (arith, read, size))
+
+  of_books : list_all (is_booked f w) p.books ≡ true
   of_books =
-      all_pass (is_booked w) (IsBooked (things_of w)) (λ r h. and_true _ _ h.named (lt_true (as_u32 r.thing) (things_of w) h.there)) p.books
-      (all_booked (things_of w) (row.few_things w world c good p rows) c.books good.sound.steady.numbers.books p.books (row.books_listed w world c good p rows))
+      all_pass (is_booked f w) (λ r. is_booked f w r ≡ true) (λ r e. e) p.books (each_permuted (λ r. is_booked f w r ≡ true) (books_rows c.books) p.books (row.books_listed w world c good f fits p rows)
+      (lines_each c.books (λ r. is_booked f w r ≡ true) (λ e t el tl some. and_true _ _ (entry_true e (entry_few e t el some) el) (thing_true t tl))))
 
   said : (P : CampaignValue → Type 0) → P c → P (campaign_of w p)
   said P h = subst P (sym back) h
 
   -- every rule is kept
-  pub keeps : (r : Rule) → Keeps w p r
-  keeps OneRow = one_row
+  pub keeps : (r : Rule) → Keeps f w p r
+  keeps OneRow = (one_row, of_format)
   keeps Ranges = in_ranges
   keeps Names = named
-  keeps Known = (said (AreKnown w) good.sound.steady.known, said (λ s. list_all (is_of_unit s) p.has ≡ true) of_units)
+  keeps Known = (said (AreKnown w) good.sound.steady.known, said (λ s. list_all (is_of_unit s) p.has ≡ true) of_units, of_markets)
   keeps Next = said AreNumbered good.sound.steady.next
   keeps Days = said AreDays good.sound.steady.days
   keeps Gone = (said GoneHaveNone good.sound.steady.gone, said NoneAreGone good.sound.gone)
@@ -243,7 +294,7 @@ module _ (w : WorldValue) (world : IsWorld w) (c : CampaignValue) (good : IsGood
   keeps Mail = (said IsMail good.sound.mail, said AreReported good.reported)
 
 -- what checking answers to the rows of a good campaign
-pub gives_back : (w : WorldValue) → IsWorld w → (p : Parts) (r : Result MarkedCampaign CheckFault) → Checks w p r → GivesBack w p r
-gives_back w world p (Ok m) h = λ c good rows. sym (row.state_back w world m.value h.good p h.rows) ∙ row.state_back w world c good p rows
-gives_back w world p (Err (Damaged r)) h = λ c good rows. h.broken (keeps w world c good p rows r)
-gives_back w world p (Err Memory) h = tt
+pub gives_back : (f : Format) (w : WorldValue) → IsWorld w → (p : Parts) (r : Result MarkedCampaign CheckFault) → Checks f w p r → GivesBack f w p r
+gives_back f w world p (Ok m) h = λ c good fits rows. sym (row.state_back w world m.value h.good f h.fits p h.rows) ∙ row.state_back w world c good f fits p rows
+gives_back f w world p (Err (Damaged r)) h = λ c good fits rows. h.broken (keeps f w world c good fits p rows r)
+gives_back f w world p (Err Memory) h = tt

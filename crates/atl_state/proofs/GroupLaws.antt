@@ -8,7 +8,8 @@ use Rattle.std.proofs.lemmas.Bool.Decides.{nat_tests}
 use Rattle.std.proofs.lemmas.List.Sorted.{IsPermutation-refl, IsPermutation-sym, IsPermutation-trans, IsPermutation-append, IsPermutation-append_right, IsPermutation-filter_both}
 use Rattle.atl_state.specs.FromRows.{by_number}
 use Rattle.atl_state.specs.Rows.{rows_by}
-use Rattle.atl_state.proofs.OrderLaws.{Apart, HasNumber, each_so, flat_order}
+use Rattle.atl_state.proofs.KeyLaws.{IsDistinct-map, IsDistinct-of_map}
+use Rattle.atl_state.proofs.OrderLaws.{Apart, Apart-keys, HasNumber, each_so, flat_order}
 
 -- ---- rows that pass a test
 
@@ -120,6 +121,25 @@ module _ {R U : Type 0} (group : R → ℕ) (number : U → ℕ) where
   gathered f units rows same apart all =
       let groups = flat_map (λ u. of_group (number u) rows) units in
       IsPermutation-trans (flat_map f units) groups rows (each_group f (λ u. of_group (number u) rows) same units) (by_group units rows apart all)
+
+-- ---- rows of a group with keys
+
+module _ {R K : Type 0} (key : R → K) (same : K → K → Bool) (itself : (k : K) → same k k ≡ true) (thing : R → ℕ) (mine : R → Bool) (P : R → Type 0) where
+  abbrev pub IsMine : R → Type 0
+  IsMine r = P r × (mine r ≡ true)
+
+  pub all_mine : (rows : List R) → AllByRecursion P rows → AllByRecursion IsMine (filter mine rows)
+  all_mine rows all = kept mine IsMine rows (each_so P (λ r. mine r ≡ true → IsMine r) (λ r one passes. (one, passes)) rows all)
+
+  -- where those of one thing have one key, no thing stands twice
+  module _ (same_key : (r s : R) → IsMine r → IsMine s → thing r ≡ thing s → ◌≡◌ {A = K} (key s) (key r)) where
+    other_thing : (r s : R) → IsMine r → IsMine s → same (key s) (key r) ≡ false → thing r ≢ thing s
+    other_thing r s a b d e = false≢true (sym (ap (same (key s)) (same_key r s a b e) ∙ d) ∙ itself (key s))
+
+    pub things_apart : (rows : List R) → AllByRecursion P rows → IsDistinct same (map key rows) → Apart thing (filter mine rows)
+    things_apart rows all d =
+        let keys = IsDistinct-map key same (filter mine rows) (filter_apart mine (λ r s. same (key r) (key s)) rows (IsDistinct-of_map key same rows d)) in
+        Apart-keys key thing same IsMine (λ r s a b. other_thing s r b a) (filter mine rows) (all_mine rows all) keys
 
 -- ---- the amounts of a group
 

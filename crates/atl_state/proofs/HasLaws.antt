@@ -1,12 +1,12 @@
 -- What units have, as the rows say it and as the campaign lists it.
-use Rattle.std.proofs.Common.{◌≡◌, ◌≢◌, ◌==◌, ℕ, ◌++◌, List, [], ◌∷◌, Bool, true, false, not, map, filter, sym, ap, subst, ◌∙◌, arith, inl, inr, ◌⊎◌}
+use Rattle.std.proofs.Common.{◌≡◌, ◌==◌, ℕ, ◌++◌, List, [], ◌∷◌, Bool, true, false, not, map, filter, sym, ap, subst, ◌∙◌, arith, inl, inr, ◌⊎◌}
 use Rattle.std.specs.Prelude.{pos, ℤ}
 use Rattle.std.specs.List.{flat_map, AllByRecursion, IsDistinct}
 use Rattle.std.specs.Ordering.{eq_by_cmp}
 use Rattle.std.specs.FinMap.{entries}
 use Rattle.std.proofs.lemmas.Cmp.{eq_by_cmp_equiv, int_cmp_total, on_total, then_total}
 use Rattle.std.specs.List.Sorted.{IsPermutation}
-use Rattle.std.proofs.lemmas.Bool.{and_parts, false≢true}
+use Rattle.std.proofs.lemmas.Bool.{and_parts}
 use Rattle.std.proofs.lemmas.List.{append-nil}
 use Rattle.std.proofs.lemmas.List.Sorted.{IsPermutation-refl, IsPermutation-sym, IsPermutation-trans, IsPermutation-append}
 use Rattle.atl_state.specs.declared.parts.StoredHas.{StoredHas}
@@ -16,9 +16,9 @@ use Rattle.atl_state.specs.FromRows.{as_u32, is_of, things_had, unit_of, by_numb
 use Rattle.atl_state.specs.RowRules.{Key, key_cmp, has_key}
 use Rattle.atl_state.specs.Rows.{is_zero, has_row, sort_rows, held_rows, has_rows}
 use Rattle.atl_state.proofs.AssemblyLaws.{is_same}
-use Rattle.atl_state.proofs.GroupLaws.{filter_apart, filter_both, filter_each, gathered, kept, lines_order, of_group}
-use Rattle.atl_state.proofs.KeyLaws.{IsDistinct-map, IsDistinct-of_map}
-use Rattle.atl_state.proofs.OrderLaws.{Apart, Apart-keys, HasNumber, each_so, flat_order}
+use Rattle.atl_state.proofs.GroupLaws as group
+use Rattle.atl_state.proofs.GroupLaws.{filter_both, filter_each, gathered, lines_order, of_group}
+use Rattle.atl_state.proofs.OrderLaws.{Apart, HasNumber, each_so, flat_order}
 
 -- a row of what a unit has is of one of these units, and of sort 0 or 1
 abbrev pub IsOfUnits : List StoredUnit → StoredHas → Type 0
@@ -69,9 +69,6 @@ amount_of h = as_u32 h.amount
 abbrev IsHadBy : ℕ → ℕ → StoredHas → Type 0
 IsHadBy n sort h = IsKeyed h × (is_of n sort h ≡ true)
 
-pub all_had : (P : StoredHas → Type 0) (n sort : ℕ) (has : List StoredHas) → AllByRecursion P has → AllByRecursion (λ h. P h × (is_of n sort h ≡ true)) (filter (is_of n sort) has)
-all_had P n sort has all = kept (is_of n sort) (λ h. P h × (is_of n sort h ≡ true)) has (each_so P (λ h. is_of n sort h ≡ true → P h × (is_of n sort h ≡ true)) (λ h one of. (one, of)) has all)
-
 its_unit : (n sort : ℕ) (h : StoredHas) → IsHadBy n sort h → h.unit ≡ pos n
 its_unit n sort h (exact, of) = exact.unit ∙ ap pos (is_same (as_u32 h.unit) n (and_parts (as_u32 h.unit == n) (as_u32 h.sort == sort) of).0)
 
@@ -94,19 +91,14 @@ same a b = eq_by_cmp key_cmp a b
 pub ties_itself : (k : Key) → same k k ≡ true
 ties_itself k = (eq_by_cmp_equiv (then_total (then_total (on_total (λ (t : Key). t.0) int_cmp_total) (on_total (λ (t : Key). t.1) int_cmp_total)) (on_total (λ (t : Key). t.2) int_cmp_total))).refl k
 
-other_thing : (n sort : ℕ) (g h : StoredHas) → IsHadBy n sort g → IsHadBy n sort h → same (has_key h) (has_key g) ≡ false → thing_of g ≢ thing_of h
-other_thing n sort g h a b d e = false≢true (sym (ap (same (has_key h)) (same_key n sort g h a b e) ∙ d) ∙ ties_itself (has_key h))
-
 -- of one unit and sort, no thing stands twice
 pub things_apart : (n sort : ℕ) (has : List StoredHas) → AllByRecursion IsKeyed has → IsDistinct same (map has_key has) → Apart thing_of (filter (is_of n sort) has)
-things_apart n sort has all d =
-    let keys = IsDistinct-map has_key same (filter (is_of n sort) has) (filter_apart (is_of n sort) (λ g h. same (has_key g) (has_key h)) has (IsDistinct-of_map has_key same has d)) in
-    Apart-keys has_key thing_of same (IsHadBy n sort) (λ r s mine yours. other_thing n sort s r yours mine) (filter (is_of n sort) has) (all_had IsKeyed n sort has all) keys
+things_apart n sort = group.things_apart has_key same ties_itself thing_of (is_of n sort) IsKeyed (same_key n sort)
 
 sort_order : (n sort : ℕ) (has : List StoredHas) → AllByRecursion IsExact has → IsDistinct same (map has_key has) → IsPermutation (sort_rows n sort (entries (things_had n sort has))) (filter (is_of n sort) has)
 sort_order n sort has all d =
     lines_order thing_of amount_of (has_row n sort) (λ h. not (is_zero h.amount)) (filter (is_of n sort) has) (things_apart n sort has (each_so IsExact IsKeyed (λ h one. one.keys) has all) d)
-    (each_so (λ h. IsExact h × (is_of n sort h ≡ true)) (λ h. (has_row n sort (thing_of h) (amount_of h) ≡ h) × (not (is_zero h.amount) ≡ true)) (λ h had. (same_row n sort h (had.0.keys, had.1) had.0.amount, ap not had.0.some)) (filter (is_of n sort) has) (all_had IsExact n sort has all))
+    (each_so (λ h. IsExact h × (is_of n sort h ≡ true)) (λ h. (has_row n sort (thing_of h) (amount_of h) ≡ h) × (not (is_zero h.amount) ≡ true)) (λ h had. (same_row n sort h (had.0.keys, had.1) had.0.amount, ap not had.0.some)) (filter (is_of n sort) has) (group.all_mine has_key same ties_itself thing_of (is_of n sort) IsExact has all))
 
 unit_order : (n : ℕ) (has : List StoredHas) → AllByRecursion (λ h. (as_u32 h.sort ≡ 0) ⊎ (as_u32 h.sort ≡ 1)) has → AllByRecursion IsExact has → IsDistinct same (map has_key has)
     → IsPermutation (sort_rows n 0 (entries (things_had n 0 has)) ++ sort_rows n 1 (entries (things_had n 1 has))) (rows_of_unit n has)

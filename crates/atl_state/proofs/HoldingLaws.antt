@@ -84,6 +84,7 @@ module _ (w : WorldValue) (c : CampaignValue) (n : ℕ) (u : Unit) (h : Held) (i
   pub known_kept : Every (λ i amount. i < length w.items) h.items → Every (λ s days. s < length w.skills) h.days → AreKnown w c → AreKnown w supplied
   known_kept items skills old = record {
     regions = old.regions;
+    markets = old.markets;
     units = every-insert (λ k x. IsPlaced w supplied x) c.units n new_unit
         (let p = old.units n u is in record { faction = p.faction; region = p.region; structure = p.structure; items = items; skills = skills })
         (λ k x there. let p = old.units k x there in record { faction = p.faction; region = p.region; structure = p.structure; items = p.items; skills = p.skills });

@@ -166,6 +166,7 @@ module _ (w : WorldValue) (name pass : List ℕ) (word : ℕ) (c : CampaignValue
       let home = home_there world in
       record {
         regions = old.regions;
+        markets = old.markets;
         units = every-insert (λ n u. IsPlaced w (joined w name pass word c) u) c.units c.next_unit unit record {
           faction = there-new c.factions c.next_faction member;
           region = (old.regions (home_of w word)).1 (home.0, home.1);

@@ -26,6 +26,8 @@ pub mod KeyLaws
 pub mod FromRowLaws
 pub mod BooksRowLaws
 pub mod HasLaws
+pub mod StockRowLaws
+pub mod BackStockRowLaws
 pub mod NamedLaws
 pub mod OrderLaws
 pub mod RosterLaws
@@ -39,6 +41,8 @@ pub mod RuleLaws
 pub mod GuardLaws
 pub mod DifferLaws
 pub mod AmountLaws
+pub mod MarketLaws
+pub mod StockLaws
 pub mod HoldingLaws
 pub mod RemovedLaws
 pub mod LeavingLaws

@@ -10,6 +10,7 @@ use Rattle.std.proofs.lemmas.Bool.{and_parts, cases_eq, false≢true}
 use Rattle.std.proofs.lemmas.Int.{ints}
 use Rattle.atl_tables.specs.Names.{name_ok, pass_ok}
 use Rattle.atl_tables.specs.Worlds.{WorldValue}
+use Rattle.atl_tables.specs.declared.format.Format.{Format}
 use Rattle.atl_state.specs.Limits.{most_in_joining, most_in_month}
 use Rattle.atl_state.specs.declared.parts.Parts.{Parts}
 use Rattle.atl_state.specs.declared.parts.StoredFaction.{StoredFaction}
@@ -100,7 +101,7 @@ no_cells things bound f u =
     let none : amount_at (no_amounts things) f u ≡ pos 0 = nothing_in (λ row. amount_at (row ∷ []) f 0 ≡ pos 0) things u (no_row f) refl in
     subst (IsWithin bound) (sym none) (record { most = omega (arith, ints); least = omega (arith, ints) })
 
-module _ (w : WorldValue) (p : Parts) (k : RowsKeep w p) where
+module _ (f : Format) (w : WorldValue) (p : Parts) (k : RowsKeep f w p) where
   factions : FinMap nat_cmp Faction
   factions = by_number (λ r. as_u32 r.number) faction_of p.factions
 
@@ -114,7 +115,7 @@ module _ (w : WorldValue) (p : Parts) (k : RowsKeep w p) where
       let outer = and_parts ((pass && people) && units) structures h.texts in
       let middle = and_parts (pass && people) units outer.0 in
       let inner = and_parts pass people middle.0 in
-      let found = rows_found (λ r. as_u32 r.number) faction_of p.factions (factions_apart w p k) in
+      let found = rows_found (λ r. as_u32 r.number) faction_of p.factions (factions_apart f w p k) in
       record {
         pass = inner.0;
         factions = by_number-every (λ r. as_u32 r.number) faction_of (λ n f. (name_ok f.joined_as ≡ true) × (name_ok f.name ≡ true) × (pass_ok f.pass ≡ true)) faction_named
@@ -127,12 +128,12 @@ module _ (w : WorldValue) (p : Parts) (k : RowsKeep w p) where
 
   same_bound : amount_bound (campaign_of w p) ≡ books_bound p
   unfolding campaign_of
-  same_bound = ap (λ n. most_in_month * (as_u32 (head_of p).month + 1) + most_in_joining * n) (same_count (λ r. as_u32 r.number) faction_of p.factions (factions_apart w p k))
+  same_bound = ap (λ n. most_in_month * (as_u32 (head_of p).month + 1) + most_in_joining * n) (same_count (λ r. as_u32 r.number) faction_of p.factions (factions_apart f w p k))
 
   cells : AreCells (books_bound p) (put_amounts p.books (no_amounts (things_of w)))
   cells =
-      cells-put (things_of w) (books_bound p) p.books (no_amounts (things_of w)) (IsGrid-no_amounts (things_of w)) (all_booked w p k)
-      (each_passes (books_in_range (books_bound p)) (λ r. IsWithin (books_bound p) r.amount) (λ r h. is_in (books_bound p) r.amount (and_parts (not (is_zero r.amount)) (is_within (books_bound p) r.amount) h).1) p.books (ranges w p k).books)
+      cells-put (things_of w) (books_bound p) p.books (no_amounts (things_of w)) (IsGrid-no_amounts (things_of w)) (all_booked f w p k)
+      (each_passes (books_in_range (books_bound p)) (λ r. IsWithin (books_bound p) r.amount) (λ r h. is_in (books_bound p) r.amount (and_parts (not (is_zero r.amount)) (is_within (books_bound p) r.amount) h).1) p.books (ranges f w p k).books)
       (no_cells (things_of w) (books_bound p))
 
   pub AreAmountsWithin-said : AreAmountsWithin (campaign_of w p)

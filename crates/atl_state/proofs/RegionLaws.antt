@@ -18,7 +18,7 @@ use Rattle.atl_state.specs.declared.records.Region.{Region}
 use Rattle.atl_state.specs.declared.records.Unit.{Unit}
 use Rattle.atl_state.specs.Books.{IsGrid, amount_in, entry_place, row_of, thing_place, with_booked}
 use Rattle.atl_state.specs.Founding.{things_of}
-use Rattle.atl_state.specs.Good.{Every, IsThere, IsRegion, AreInRange, AreKnown, IsSteady}
+use Rattle.atl_state.specs.Good.{Every, IsThere, IsRegion, AreInRange, AreKnown, AreOfMarkets, IsSteady}
 use Rattle.atl_state.specs.Marks.{amount_number}
 use Rattle.atl_state.specs.Campaign.{CampaignValue, region_changed, with_amount}
 use Rattle.atl_state.specs.Totals.{held, kept, total}
@@ -32,7 +32,7 @@ module _ (w : WorldValue) (c : CampaignValue) (regions : FinMap nat_cmp Region) 
   stocked = record c { regions = regions; books = books }
 
   module _ (few : len regions ≡ len c.regions) (there : (n : ℕ) → IsThere c.regions n ↔ IsThere regions n)
-      (within : Every (λ n r. IsRegion r) regions) (grid : IsGrid (things_of w) books) where
+      (within : Every (λ n r. IsRegion w n r) regions) (marketed : Every (λ n r. AreOfMarkets w n r.stocks) regions) (grid : IsGrid (things_of w) books) where
     stocked-numbers : AreInRange w c → AreInRange w stocked
     stocked-numbers old = record {
       month = old.month;
@@ -52,6 +52,7 @@ module _ (w : WorldValue) (c : CampaignValue) (regions : FinMap nat_cmp Region) 
     stocked-known : AreKnown w c → AreKnown w stocked
     stocked-known old = record {
       regions = λ n. (λ h. (old.regions n).0 ((there n).1 h), λ h. (there n).0 ((old.regions n).1 h));
+      markets = marketed;
       units = λ n u is. let p = old.units n u is in record { faction = p.faction; region = (there u.region).0 p.region; structure = p.structure; items = p.items; skills = p.skills };
       structures = λ n s is. let b = old.structures n s is in record { kind = b.kind; region = (there s.region).0 b.region; owner = b.owner };
       mail = old.mail;
@@ -97,22 +98,23 @@ module _ {V : Type 0} where
   changed-known f m n v is = ap (changed_at f m n) is
 
 -- a region with other peasants, or other money
-pub IsRegion-peasants : (r : Region) (peasants : ℕ) → peasants ≤ most_amount → IsRegion r → IsRegion (record r { peasants = peasants })
-IsRegion-peasants r peasants few old = record { peasants = few; money = old.money }
+pub IsRegion-peasants : {w : WorldValue} {n : ℕ} (r : Region) (peasants : ℕ) → peasants ≤ most_amount → IsRegion w n r → IsRegion w n (record r { peasants = peasants })
+IsRegion-peasants r peasants few old = record { peasants = few; money = old.money; stocks = old.stocks }
 
-pub IsRegion-money : (r : Region) (money : ℕ) → money ≤ most_amount → IsRegion r → IsRegion (record r { money = money })
-IsRegion-money r money few old = record { peasants = old.peasants; money = few }
+pub IsRegion-money : {w : WorldValue} {n : ℕ} (r : Region) (money : ℕ) → money ≤ most_amount → IsRegion w n r → IsRegion w n (record r { money = money })
+IsRegion-money r money few old = record { peasants = old.peasants; money = few; stocks = old.stocks }
 
 module _ (f : Region → Region) (c : CampaignValue) (n : ℕ) (r : Region) (is : get c.regions n ≡ Some r) where
   pub region-changed : get (region_changed f c n).regions n ≡ Some (f r)
   region-changed = ap (λ m. get m n) (changed-known f c.regions n r is) ∙ get-insert_same c.regions n (f r)
 
-  pub steady-region : (w : WorldValue) → IsRegion (f r) → IsSteady w c → IsSteady w (region_changed f c n)
-  steady-region w within old =
+  pub steady-region : (w : WorldValue) → IsRegion w n (f r) → AreOfMarkets w n (f r).stocks → IsSteady w c → IsSteady w (region_changed f c n)
+  steady-region w within marketed old =
       subst (λ (m : FinMap nat_cmp Region). IsSteady w (record c { regions = m })) (sym (changed-known f c.regions n r is))
       (stocked-steady w c (insert c.regions n (f r)) c.books (same_len c.regions n r (f r) is)
       (λ k. (there-insert c.regions n k (f r), there_again c.regions n k r (f r) is))
-      (every-insert (λ k q. IsRegion q) c.regions n (f r) within old.numbers.regions) old.numbers.books old)
+      (every-insert (λ k q. IsRegion w k q) c.regions n (f r) within old.numbers.regions)
+      (every-insert (λ k q. AreOfMarkets w k q.stocks) c.regions n (f r) marketed old.known.markets) old.numbers.books old)
 
   regrouped : (u a b p q : ℕ) → a + p ≡ b + q → (u + a) + p ≡ (u + b) + q
   regrouped u a b p q h = omega arith
@@ -129,7 +131,7 @@ module _ (f : Region → Region) (c : CampaignValue) (n : ℕ) (r : Region) (is 
 
 pub steady-amount : (w : WorldValue) (c : CampaignValue) (e : Entry) (t : Thing) (n : ℤ) → IsSteady w c → IsSteady w (with_amount c e t n)
 steady-amount w c e t n old =
-    stocked-steady w c c.regions (with_booked c.books e t n) refl (λ k. (λ h. h, λ h. h)) old.numbers.regions (IsGrid-with_booked (things_of w) c.books e t n old.numbers.books) old
+    stocked-steady w c c.regions (with_booked c.books e t n) refl (λ k. (λ h. h, λ h. h)) old.numbers.regions old.known.markets (IsGrid-with_booked (things_of w) c.books e t n old.numbers.books) old
 
 pub total-amount : (c : CampaignValue) (e : Entry) (u t : Thing) (n : ℤ) → total (with_amount c e u n) t ≡ total c t
 unfolding total

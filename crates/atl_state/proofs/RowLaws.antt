@@ -7,7 +7,7 @@ use Rattle.std.proofs.lemmas.List.Concat.{flat_map-append}
 use Rattle.std.proofs.lemmas.List.FromFn.{map-range_with_len_more, filter_of_map_range_with_len_more}
 use Rattle.std.proofs.lemmas.Bool.Decides.{nat_tests}
 use Rattle.atl_state.specs.declared.parts.StoredBooks.{StoredBooks}
-use Rattle.atl_state.specs.Rows.{has_row, books_row, is_zero, sort_rows, amount_at, entry_rows}
+use Rattle.atl_state.specs.Rows.{has_row, books_row, is_zero, amount_rows, sort_rows, amount_at, entry_rows}
 
 pub is_zero_not : (z : ℤ) → z ≢ pos 0 → is_zero z ≡ false
 is_zero_not (pos zero) h = absurd (h refl)
@@ -17,9 +17,16 @@ is_zero_not (negsuc n) h = refl
 same_size : {m n : ℕ} → pos m ≡ pos n → m ≡ n
 same_size e = cc
 
--- a row more, where the amount isn't 0
+-- rows that show their amounts
+module _ {R : Type 0} (shown : R → ℤ) (row : ℕ → ℕ → R) (shows : (thing amount : ℕ) → shown (row thing amount) ≡ pos amount) where
+  -- a row more, where the amount isn't 0
+  pub amount_rows_one : (thing amount : ℕ) (es : List (ℕ × ℕ)) → amount ≢ 0 → amount_rows shown row ((thing, amount) ∷ es) ≡ row thing amount ∷ amount_rows shown row es
+  amount_rows_one thing amount es h =
+      ap (λ b. cond (not b) (row thing amount ∷ amount_rows shown row es) (amount_rows shown row es)) (ap is_zero (shows thing amount) ∙ is_zero_not (pos amount) (λ e. h (same_size e)))
+
+-- of what a unit has
 pub sort_rows_one : (n sort thing amount : ℕ) (es : List (ℕ × ℕ)) → amount ≢ 0 → sort_rows n sort ((thing, amount) ∷ es) ≡ has_row n sort thing amount ∷ sort_rows n sort es
-sort_rows_one n sort thing amount es h = ap (λ b. cond (not b) (has_row n sort thing amount ∷ sort_rows n sort es) (sort_rows n sort es)) (is_zero_not (pos amount) (λ e. h (same_size e)))
+sort_rows_one n sort = amount_rows_one (λ r. r.amount) (has_row n sort) (λ i a. refl)
 
 pub sort_rows_none : (n sort thing amount : ℕ) (es : List (ℕ × ℕ)) → amount ≡ 0 → sort_rows n sort ((thing, amount) ∷ es) ≡ sort_rows n sort es
 sort_rows_none n sort thing amount es h = ap (λ k. cond (not (is_zero (pos k))) (has_row n sort thing amount ∷ sort_rows n sort es) (sort_rows n sort es)) h

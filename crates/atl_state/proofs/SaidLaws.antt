@@ -1,6 +1,6 @@
 -- Rows that keep the rules are those of the campaign that they say.
-use Rattle.std.proofs.Common.{◌≡◌, ◌≢◌, ◌==◌, ℕ, zero, suc, ◌≤◌, ◌<◌, ◌+◌, ◌&&◌, ◌||◌, ◌⊎◌, List, [], ◌∷◌, Bool, true, false, not, Some, None, Option, nat_le, nat_lt, refl, sym, ap, subst, ◌∙◌, arith, inl, inr}
-use Rattle.std.specs.Prelude.{ℤ, pos, negsuc, min, is_some, filter, slice_index_or}
+use Rattle.std.proofs.Common.{◌≡◌, ◌≢◌, ◌==◌, ℕ, zero, suc, ◌≤◌, ◌<◌, ◌+◌, ◌&&◌, ◌||◌, ◌⊎◌, List, [], ◌∷◌, Bool, true, false, not, Some, None, Option, length, nat_le, nat_lt, refl, sym, ap, subst, ◌∙◌, arith, inl, inr}
+use Rattle.std.specs.Prelude.{ℤ, pos, negsuc, min, is_some, filter, option_and_then, slice_index_or}
 use Rattle.std.specs.List.{list_all, slice_get, AllByRecursion}
 use Rattle.std.specs.List.Sorted.{IsPermutation}
 use Rattle.std.specs.Option.{option_map_or}
@@ -9,10 +9,15 @@ use Rattle.std.specs.FinMap.{FinMap, get, entries}
 use Rattle.std.proofs.lemmas.Bool.{and_parts, false≢true, not-true}
 use Rattle.std.proofs.lemmas.Bool.Decides.{nat_tests}
 use Rattle.std.proofs.lemmas.List.Sorted.{IsPermutation-refl}
+use Rattle.atl_tables.specs.Formats.{format_number}
 use Rattle.atl_tables.specs.Limits.{most_amount, most_size, last_region}
 use Rattle.atl_tables.specs.Worlds.{WorldValue, IsWorld}
+use Rattle.atl_tables.specs.declared.format.Format.{Format}
+use Rattle.atl_tables.specs.declared.format.Format.TheVariants.{First, Second}
 use Rattle.atl_tables.specs.declared.world.Kind.{Kind}
-use Rattle.atl_tables.specs.ByNumber.{size_of}
+use Rattle.atl_tables.specs.declared.world.Market.{Market}
+use Rattle.atl_tables.specs.declared.world.RegionPlan.{RegionPlan}
+use Rattle.atl_tables.specs.ByNumber.{market_of, size_of}
 use Rattle.atl_orders.specs.Limits.{last_faction}
 use Rattle.atl_state.specs.declared.parts.Parts.{Parts}
 use Rattle.atl_state.specs.declared.parts.StoredHead.{StoredHead}
@@ -22,20 +27,25 @@ use Rattle.atl_state.specs.declared.parts.StoredUnit.{StoredUnit}
 use Rattle.atl_state.specs.declared.parts.StoredHas.{StoredHas}
 use Rattle.atl_state.specs.declared.parts.StoredStructure.{StoredStructure}
 use Rattle.atl_state.specs.declared.parts.StoredBooks.{StoredBooks}
+use Rattle.atl_state.specs.declared.parts.StoredMarket.{StoredMarket}
+use Rattle.atl_state.specs.declared.records.Region.{Region}
 use Rattle.atl_state.specs.declared.records.Unit.{Unit}
 use Rattle.atl_state.specs.Books.{no_amounts}
 use Rattle.atl_state.specs.Founding.{things_of}
 use Rattle.atl_state.specs.FromRows.{as_u32, as_u16, is_set, is_of, is_entry, faction_of, region_of, structure_of, unit_of, things_had, by_number, put_amounts, no_head, head_of, campaign_of}
 use Rattle.atl_state.specs.Good.{Every, IsThere, IsPlaced, IsBuilt, AreKnown, AreDays}
-use Rattle.atl_state.specs.Limits.{last_month, last_unit, men_limit, holding_limit, most_structures, entry_count, most_u16, most_u32}
-use Rattle.atl_state.specs.RowRules.{one_key, is_from, is_one_head, head_in_range, faction_in_range, region_in_range, unit_in_range, has_in_range, structure_in_range, books_in_range, books_bound, is_within, faction_key, region_key, unit_key, structure_key, mail_key, report_key, AreRowsInRange, is_of_unit, is_booked}
-use Rattle.atl_state.specs.Rows.{flag, is_zero, rows_by, faction_row, region_row, unit_row, structure_row, mail_row, report_row, has_rows, books_rows, AreRowsOf, rows_of}
+use Rattle.atl_state.specs.Limits.{last_month, last_unit, men_limit, holding_limit, most_structures, entry_count, entries_in, most_u16, most_u32}
+use Rattle.atl_state.specs.RowRules.{one_key, is_from, is_one_head, are_of_format, head_in_range, faction_in_range, region_in_range, unit_in_range, has_in_range, structure_in_range, books_in_range, books_bound, market_in_range, is_within, faction_key, region_key, unit_key, structure_key, mail_key, report_key, AreRowsInRange, is_of_unit, is_of_market, is_entry_in, is_booked}
+use Rattle.atl_state.specs.Rows.{flag, is_zero, rows_by, faction_row, region_row, unit_row, structure_row, mail_row, report_row, has_rows, books_rows, market_rows, AreRowsOf, rows_of}
+use Rattle.atl_state.specs.Stocks.{stock_limit}
 use Rattle.atl_state.proofs.AssemblyLaws.{from_range}
 use Rattle.atl_state.proofs.BooksRowLaws.{IsBooked, books_order}
 use Rattle.atl_state.proofs.FromRowLaws.{in_range, from_le, by_number-every, unit_ranges, number_ranges, head_ranges, NumberRanges}
 use Rattle.atl_state.proofs.GroupLaws.{unkept}
 use Rattle.atl_state.proofs.HasLaws.{IsWhole, IsKeyed, IsExact, IsOfUnits, same, ties_itself, things_apart, has_order}
-use Rattle.atl_state.proofs.OrderLaws.{Apart, Apart-keys, rows_order, rows_there, rows_found, each_row, row_of, each_passes, each_with, each_so}
+use Rattle.atl_state.proofs.MarketLaws.{market_known}
+use Rattle.atl_state.proofs.StockRowLaws as market
+use Rattle.atl_state.proofs.OrderLaws.{Apart, HasNumber, Apart-keys, rows_order, rows_there, rows_found, each_row, row_of, each_passes, each_with, each_so}
 
 -- ---- numbers that are read as they are
 
@@ -71,36 +81,42 @@ none_or_below m zero most every there = omega arith
 none_or_below m (suc n) most every there = there_below m (suc n) most every (there (λ e. absurd (omega arith)))
 
 -- ---- the rules that are needed
-pub record RowsKeep (w : WorldValue) (p : Parts) : Type 0 where
+pub record RowsKeep (f : Format) (w : WorldValue) (p : Parts) : Type 0 where
   pub world : IsWorld w
-  pub one : is_one_head p.campaign ≡ true
+  pub one : is_one_head f p.campaign ≡ true
+  pub format : are_of_format f p.markets ≡ true
   pub range : AreRowsInRange w p
   pub known : AreKnown w (campaign_of w p)
   pub held : list_all (is_of_unit (campaign_of w p)) p.has ≡ true
+  pub stocked : list_all (is_of_market w) p.markets ≡ true
   pub days : AreDays (campaign_of w p)
-  pub booked : list_all (is_booked w) p.books ≡ true
+  pub booked : list_all (is_booked f w) p.books ≡ true
 
 -- ---- the campaign's own row
 
-exactly_one : (z : ℤ) → is_from 1 1 z ≡ true → z ≡ pos 1
-exactly_one z h = let range = from_range 1 1 z (omega arith) h in let n : as_u32 z ≡ 1 = omega (arith, range.1, range.2) in range.0 ∙ ap pos n
+exactly : (k : ℕ) (z : ℤ) → k ≤ most_u32 → is_from k k z ≡ true → z ≡ pos k
+exactly k z few h = let range = from_range k k z few h in let n : as_u32 z ≡ k = omega (arith, range.1, range.2) in range.0 ∙ ap pos n
 
-abbrev head_as_read : StoredHead → StoredHead
-head_as_read h = record { id = pos 1; format = pos 1; month = pos (as_u32 h.month); next_faction = pos (as_u32 h.next_faction); next_unit = pos (as_u32 h.next_unit); next_structure = pos (as_u32 h.next_structure); pass = h.pass }
+small_format : (f : Format) → format_number f ≤ most_u32
+small_format First = omega arith
+small_format Second = omega arith
 
-one_head : (rows : List StoredHead) → is_one_head rows ≡ true → head_in_range (slice_index_or rows 0 no_head) ≡ true → head_as_read (slice_index_or rows 0 no_head) ∷ [] ≡ rows
-one_head [] e r = absurd (false≢true e)
-one_head (h ∷ []) e r =
-    let both = and_parts (is_from 1 1 h.id) (is_from 1 1 h.format) e in
+abbrev head_as_read : Format → StoredHead → StoredHead
+head_as_read f h = record { id = pos 1; format = pos (format_number f); month = pos (as_u32 h.month); next_faction = pos (as_u32 h.next_faction); next_unit = pos (as_u32 h.next_unit); next_structure = pos (as_u32 h.next_structure); pass = h.pass }
+
+one_head : (f : Format) (rows : List StoredHead) → is_one_head f rows ≡ true → head_in_range (slice_index_or rows 0 no_head) ≡ true → head_as_read f (slice_index_or rows 0 no_head) ∷ [] ≡ rows
+one_head f [] e r = absurd (false≢true e)
+one_head f (h ∷ []) e r =
+    let both = and_parts (is_from 1 1 h.id) (is_from (format_number f) (format_number f) h.format) e in
     let parts = head_ranges h r in
-    let id = exactly_one h.id both.0 in
-    let format = exactly_one h.format both.1 in
+    let id = exactly 1 h.id (omega arith) both.0 in
+    let format = exactly (format_number f) h.format (small_format f) both.1 in
     let month = (from_range 0 last_month h.month (omega arith) parts.month).0 in
     let faction = (from_range 1 (last_faction + 1) h.next_faction (omega arith) parts.next_faction).0 in
     let unit = (from_range 1 (last_unit + 1) h.next_unit (omega arith) parts.next_unit).0 in
     let structure = (from_range 1 (most_structures + 1) h.next_structure (omega arith) parts.next_structure).0 in
     λ i. record { id = sym id i; format = sym format i; month = sym month i; next_faction = sym faction i; next_unit = sym unit i; next_structure = sym structure i; pass = h.pass } ∷ []
-one_head (h ∷ other ∷ rows) e r = absurd (false≢true e)
+one_head f (h ∷ other ∷ rows) e r = absurd (false≢true e)
 
 -- ---- lists of facts
 
@@ -134,7 +150,35 @@ size_small (Some x) h = h x refl
 pub small_size : (w : WorldValue) → IsWorld w → (kind : ℕ) → size_of w kind ≤ most_size
 small_size w world kind = size_small (slice_get w.kinds kind) (λ x is. (world.kinds kind x is).size)
 
-module _ (w : WorldValue) (p : Parts) (k : RowsKeep w p) where
+-- ---- markets
+
+-- a market that is there, with the region that has it
+market_there : (regions : FinMap nat_cmp RegionPlan) (i : ℕ) (n : ℕ) (o : Option RegionPlan) → get regions n ≡ o → is_some (option_and_then (λ (q : RegionPlan). get q.markets i) o) ≡ true → (q : RegionPlan) × (m : Market) × (get regions n ≡ Some q) × (get q.markets i ≡ Some m)
+market_there regions i n None is e = absurd (false≢true e)
+market_there regions i n (Some q) is e = let found = some_there (get q.markets i) e in (q, found.0, is, found.1)
+
+limit_small : (o : Option Market) → ((m : Market) → o ≡ Some m → m.limit ≤ most_amount) → option_map_or (λ (m : Market). m.limit) o most_amount ≤ most_amount
+limit_small None h = omega arith
+limit_small (Some m) h = h m refl
+
+-- the limit of every stock
+pub small_limit : (w : WorldValue) → IsWorld w → (n i : ℕ) → stock_limit w n i ≤ most_amount
+small_limit w world n i = limit_small (market_of w n i) (λ m is. of_market (market_there w.regions i n (get w.regions n) refl (ap is_some is)) m is)
+  where
+    some_same : (a b : Market) → Some a ≡ Some b → a ≡ b
+    some_same a b e = cc
+
+    of_market : (found : (q : RegionPlan) × (m : Market) × (get w.regions n ≡ Some q) × (get q.markets i ≡ Some m)) (m : Market) → market_of w n i ≡ Some m → m.limit ≤ most_amount
+    of_market found m is =
+        let there = ap (option_and_then (λ (q : RegionPlan). get q.markets i)) found.2 in
+        let one = some_same found.1 m (sym found.3 ∙ sym there ∙ is) in
+        subst (λ (x : Market). x.limit ≤ most_amount) one ((world.regions n found.0 found.2).markets i found.1 found.3).limit
+
+no_rows : {R : Type 0} (rows : List R) → (length rows == 0) ≡ true → rows ≡ []
+no_rows [] h = refl
+no_rows (r ∷ rows) h = absurd (grind (arith, nat_tests))
+
+module _ (f : Format) (w : WorldValue) (p : Parts) (k : RowsKeep f w p) where
   pub ranges : NumberRanges w p
   ranges = number_ranges w p k.range.numbers
 
@@ -157,29 +201,29 @@ module _ (w : WorldValue) (p : Parts) (k : RowsKeep w p) where
   factions_said = rows_order (λ r. as_u32 r.number) faction_of faction_row p.factions factions_apart (each_passes faction_in_range (λ r. faction_row (as_u32 r.number) (faction_of r) ≡ r) same_faction p.factions ranges.factions)
 
   -- ---- regions
-  few_regions : (n : ℕ) → IsThere (by_number (λ r. as_u32 r.number) region_of p.regions) n → n ≤ last_region
+  few_regions : (n : ℕ) → IsThere (by_number (λ r. as_u32 r.number) (region_of p.markets) p.regions) n → n ≤ last_region
   unfolding campaign_of
   few_regions n there = let known = (k.known.regions n).0 there in (k.world.regions n known.0 known.1).number_most
 
   regions_whole : AllByRecursion (λ r. IsWhole r.number) p.regions
   regions_whole =
-      each_so (λ r. IsThere (by_number (λ r. as_u32 r.number) region_of p.regions) (as_u32 r.number)) (λ r. IsWhole r.number) (λ r there. let few = few_regions (as_u32 r.number) there in whole_below r.number (omega arith)) p.regions
-      (rows_there (λ r. as_u32 r.number) region_of p.regions)
+      each_so (λ r. IsThere (by_number (λ r. as_u32 r.number) (region_of p.markets) p.regions) (as_u32 r.number)) (λ r. IsWhole r.number) (λ r there. let few = few_regions (as_u32 r.number) there in whole_below r.number (omega arith)) p.regions
+      (rows_there (λ r. as_u32 r.number) (region_of p.markets) p.regions)
 
   regions_apart : Apart (λ r. as_u32 r.number) p.regions
   regions_apart = Apart-keys region_key (λ r. as_u32 r.number) same (λ r. IsWhole r.number) (λ r s. one_apart r.number s.number) p.regions regions_whole k.range.keys.regions
 
-  same_region : (r : StoredRegion) → IsWhole r.number → region_in_range r ≡ true → region_row (as_u32 r.number) (region_of r) ≡ r
+  same_region : (r : StoredRegion) → IsWhole r.number → region_in_range r ≡ true → region_row (as_u32 r.number) (region_of p.markets r) ≡ r
   same_region r number h =
       let parts = and_parts (is_from 0 most_amount r.peasants) (is_from 0 most_amount r.money) h in
       let peasants = (from_range 0 most_amount r.peasants (omega arith) parts.0).0 in
       let money = (from_range 0 most_amount r.money (omega arith) parts.1).0 in
       λ i. record { number = sym number i; peasants = sym peasants i; money = sym money i }
 
-  regions_said : IsPermutation (rows_by region_row (entries (by_number (λ r. as_u32 r.number) region_of p.regions))) p.regions
+  regions_said : IsPermutation (rows_by region_row (entries (by_number (λ r. as_u32 r.number) (region_of p.markets) p.regions))) p.regions
   regions_said =
-      rows_order (λ r. as_u32 r.number) region_of region_row p.regions regions_apart
-      (each_with (λ r. IsWhole r.number) (λ r. region_in_range r ≡ true) (λ r. region_row (as_u32 r.number) (region_of r) ≡ r) same_region p.regions regions_whole (each_passes region_in_range (λ r. region_in_range r ≡ true) (λ r h. h) p.regions ranges.regions))
+      rows_order (λ r. as_u32 r.number) (region_of p.markets) region_row p.regions regions_apart
+      (each_with (λ r. IsWhole r.number) (λ r. region_in_range r ≡ true) (λ r. region_row (as_u32 r.number) (region_of p.markets r) ≡ r) same_region p.regions regions_whole (each_passes region_in_range (λ r. region_in_range r ≡ true) (λ r h. h) p.regions ranges.regions))
 
   -- ---- units and structures: their numbers
   unit_number : (r : StoredUnit) → unit_in_range r ≡ true → (IsWhole r.number) × (as_u32 r.number ≤ last_unit)
@@ -391,39 +435,91 @@ module _ (w : WorldValue) (p : Parts) (k : RowsKeep w p) where
   has_said : IsPermutation (has_rows (entries units)) p.has
   has_said = has_order p.has p.units units_apart (each_so Placed (IsOfUnits p.units) of_units p.has all_placed) all_exact k.range.keys.has
 
+  -- ---- what regions have in stock
+  abbrev regions : FinMap nat_cmp Region
+  regions = by_number (λ r. as_u32 r.number) (region_of p.markets) p.regions
+
+  exact_market : (m : StoredMarket) → is_of_market w m ≡ true → market_in_range w m ≡ true → market.IsExact m
+  exact_market m named range =
+      let found = market_there w.regions (as_u32 m.item) (as_u32 m.region) (get w.regions (as_u32 m.region)) refl named in
+      let plan = k.world.regions (as_u32 m.region) found.0 found.2 in
+      let region_few = plan.number_most in
+      let item_few = market_known w k.world (as_u32 m.region) (as_u32 m.item) named in
+      let few = k.world.few_items in
+      let limit_few = small_limit w k.world (as_u32 m.region) (as_u32 m.item) in
+      let stock = from_range 1 (stock_limit w (as_u32 m.region) (as_u32 m.item)) m.stock (omega (arith, limit_few)) range in
+      record { keys = record { region = whole_below m.region (omega arith); item = whole_below m.item (omega arith) }; stock = stock.0; some = not_zero m.stock stock.0 stock.1 }
+
+  exact_markets : AllByRecursion market.IsExact p.markets
+  exact_markets =
+      each_with (λ m. is_of_market w m ≡ true) (λ m. market_in_range w m ≡ true) market.IsExact exact_market p.markets (each_passes (is_of_market w) (λ m. is_of_market w m ≡ true) (λ m e. e) p.markets k.stocked)
+      (each_passes (market_in_range w) (λ m. market_in_range w m ≡ true) (λ m e. e) p.markets ranges.markets)
+
+  of_regions : AllByRecursion (λ m. HasNumber (λ r. as_u32 r.number) p.regions (as_u32 m.region)) p.markets
+  unfolding campaign_of
+  of_regions =
+      each_passes (is_of_market w) (λ m. HasNumber (λ r. as_u32 r.number) p.regions (as_u32 m.region)) (λ m e.
+      let found = market_there w.regions (as_u32 m.item) (as_u32 m.region) (get w.regions (as_u32 m.region)) refl e in
+      row_of (λ r. as_u32 r.number) (region_of p.markets) p.regions (as_u32 m.region) ((k.known.regions (as_u32 m.region)).1 (found.0, found.2))) p.markets k.stocked
+
+  -- the first format has no rows of markets
+  pub none_in_first : f ≡ First → p.markets ≡ []
+  none_in_first is = no_rows p.markets (ap (λ g. are_of_format g p.markets) (sym is) ∙ k.format)
+
+  markets_said : IsPermutation (market_rows f (entries regions)) p.markets
+  markets_said = elim f as (λ g. f ≡ g → IsPermutation (market_rows g (entries regions)) p.markets) [
+    | First ↦ λ is. subst (λ rows. IsPermutation [] rows) (sym (none_in_first is)) (IsPermutation-refl [])
+    | Second ↦ λ is. market.market_order p.markets p.regions regions_apart of_regions exact_markets k.range.keys.markets
+  ] refl
+
   -- ---- the books
 
   below_of : (m n : ℕ) → nat_lt m n ≡ true → m < n
   below_of m n h = grind (arith, nat_tests)
 
-  booked_row : (r : StoredBooks) → is_booked w r ≡ true → books_in_range (books_bound p) r ≡ true → IsBooked (things_of w) r
+  few_entries : (g : Format) → entries_in g ≤ entry_count
+  few_entries First = omega arith
+  few_entries Second = omega arith
+
+  -- an entry of the format is one of all
+  an_entry : (n : ℕ) → is_entry_in f n ≡ true → (n ≤ entry_count) × (is_entry n ≡ true)
+  an_entry n h =
+      let parts = and_parts (nat_le 1 n) (nat_le n (entries_in f)) h in
+      let few = from_le n (entries_in f) parts.1 in
+      let most = few_entries f in
+      let all : n ≤ entry_count = omega (arith, few, most) in
+      let passes : nat_le n entry_count ≡ true = grind (arith, nat_tests) in
+      (all, ap (λ b. b && nat_le n entry_count) parts.0 ∙ passes)
+
+  booked_row : (r : StoredBooks) → is_booked f w r ≡ true → books_in_range (books_bound p) r ≡ true → IsBooked (things_of w) r
   booked_row r h range =
-      let parts = and_parts (is_entry (as_u32 r.entry)) (nat_lt (as_u32 r.thing) (things_of w)) h in
-      let entry_few = from_le (as_u32 r.entry) entry_count (and_parts (nat_le 1 (as_u32 r.entry)) (nat_le (as_u32 r.entry) entry_count) parts.0).1 in
+      let parts = and_parts (is_entry_in f (as_u32 r.entry)) (nat_lt (as_u32 r.thing) (things_of w)) h in
+      let entry = an_entry (as_u32 r.entry) parts.0 in
+      let entry_few = entry.0 in
       let there = below_of (as_u32 r.thing) (things_of w) parts.1 in
       let few = k.world.few_items in
       record {
         entry = whole_below r.entry (omega arith);
         thing = whole_below r.thing (omega arith);
-        named = parts.0;
+        named = entry.1;
         there = there;
         some = not-true (is_zero r.amount) (and_parts (not (is_zero r.amount)) (is_within (books_bound p) r.amount) range).0;
       }
 
   pub all_booked : AllByRecursion (IsBooked (things_of w)) p.books
   all_booked =
-      each_with (λ r. is_booked w r ≡ true) (λ r. books_in_range (books_bound p) r ≡ true) (IsBooked (things_of w)) booked_row p.books (each_passes (is_booked w) (λ r. is_booked w r ≡ true) (λ r h. h) p.books k.booked)
+      each_with (λ r. is_booked f w r ≡ true) (λ r. books_in_range (books_bound p) r ≡ true) (IsBooked (things_of w)) booked_row p.books (each_passes (is_booked f w) (λ r. is_booked f w r ≡ true) (λ r h. h) p.books k.booked)
       (each_passes (books_in_range (books_bound p)) (λ r. books_in_range (books_bound p) r ≡ true) (λ r h. h) p.books ranges.books)
 
-  books_said : IsPermutation (books_rows (put_amounts p.books (no_amounts (things_of w)))) p.books
+  pub books_said : IsPermutation (books_rows (put_amounts p.books (no_amounts (things_of w)))) p.books
   books_said =
       books_order (things_of w) p.books all_booked k.range.keys.books
 
   -- the rows are those of the campaign, each once
-  pub rows_said : AreRowsOf (campaign_of w p) p
+  pub rows_said : AreRowsOf f (campaign_of w p) p
   unfolding campaign_of rows_of
   rows_said = record {
-    campaign = subst (λ rows. IsPermutation (head_as_read (head_of p) ∷ []) rows) (one_head p.campaign k.one ranges.head) (IsPermutation-refl (head_as_read (head_of p) ∷ []));
+    campaign = subst (λ rows. IsPermutation (head_as_read f (head_of p) ∷ []) rows) (one_head f p.campaign k.one ranges.head) (IsPermutation-refl (head_as_read f (head_of p) ∷ []));
     factions = factions_said;
     regions = regions_said;
     units = units_said;
@@ -432,4 +528,5 @@ module _ (w : WorldValue) (p : Parts) (k : RowsKeep w p) where
     mail = mail_said;
     reports = reports_said;
     books = books_said;
+    markets = markets_said;
   }

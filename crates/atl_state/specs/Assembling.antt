@@ -13,7 +13,7 @@ unmarked m = record { values = m; marks = set.empty }
 abbrev pub tables_of : Parts → Tables
 tables_of p = record {
   factions = unmarked (by_number (λ r. as_u32 r.number) faction_of p.factions);
-  regions = unmarked (by_number (λ r. as_u32 r.number) region_of p.regions);
+  regions = unmarked (by_number (λ r. as_u32 r.number) (region_of p.markets) p.regions);
   structures = unmarked (by_number (λ r. as_u32 r.number) structure_of p.structures);
   mail = unmarked (by_number (λ r. as_u32 r.faction) (λ r. r.text) p.mail);
   reports = unmarked (by_number (λ r. as_u32 r.faction) (λ r. r.text) p.reports);

@@ -15,6 +15,7 @@ use Rattle.atl_state.specs.contracts.records.Unit as unit
 use Rattle.atl_state.specs.declared.books.Entry.{Entry}
 use Rattle.atl_state.specs.declared.books.Thing.{Thing}
 use Rattle.atl_state.specs.Books.{with_booked}
+use Rattle.atl_state.specs.Held.{with_amount_of}
 use Rattle.atl_state.specs.Marks.{Marks, marks_code}
 
 -- The month last closed, the moderator's pass text, the numbers that come next; factions, regions, units and structures by their numbers; mail and reports by the factions' numbers; and the books.
@@ -106,6 +107,10 @@ with_peasants c n peasants = region_changed (λ r. record r { peasants = peasant
 
 abbrev pub with_region_money : CampaignValue → ℕ → ℕ → CampaignValue
 with_region_money c n money = region_changed (λ r. record r { money = money }) c n
+
+-- another stock of an item in a region
+abbrev pub with_stock : CampaignValue → (region item : ℕ) → ℕ → CampaignValue
+with_stock c n item amount = region_changed (λ r. record r { stocks = with_amount_of r.stocks item amount }) c n
 
 -- a unit with another name
 abbrev pub with_unit_name : CampaignValue → ℕ → List ℕ → CampaignValue

@@ -1,16 +1,22 @@
 -- The rules that the rows of a campaign's tables keep, by their numbers.
-use Rattle.std.specs.Prelude.{◌≡◌, ℕ, ◌<◌, IsTrue, Result, Ok, Err, ⊤}
+use Rattle.std.specs.Prelude.{◌≡◌, ◌≤◌, ℕ, ◌<◌, pos, IsTrue, Result, Ok, Err, ⊤}
 use Rattle.std.specs.List.{list_all}
 use Rattle.atl_tables.specs.Worlds.{WorldValue}
+use Rattle.atl_tables.specs.declared.format.Format.{Format}
+use Rattle.atl_tables.specs.declared.format.Format.TheVariants.{First, Second}
+use Rattle.atl_state.specs.declared.books.Entry.{Entry}
+use Rattle.atl_state.specs.declared.books.Thing.{Thing}
 use Rattle.atl_state.specs.declared.checking.CheckFault.{CheckFault}
 use Rattle.atl_state.specs.declared.checking.CheckFault.TheVariants.{Damaged, Memory}
 use Rattle.atl_state.specs.declared.checking.Rule.{Rule}
 use Rattle.atl_state.specs.declared.checking.Rule.TheVariants.{OneRow, Ranges, Names, Known, Next, Days, Gone, Owners, Water, Guards, Books, Mail}
 use Rattle.atl_state.specs.declared.parts.Parts.{Parts}
+use Rattle.atl_state.specs.Books.{amount_in, entry_place}
 use Rattle.atl_state.specs.FromRows.{campaign_of}
-use Rattle.atl_state.specs.Good.{AreKnown, AreNumbered, AreDays, GoneHaveNone, NoneAreGone, AreOwned, AreAfloat, AreOfOneFaction, guards, IsMail, AreReported, IsGood}
+use Rattle.atl_state.specs.Good.{AreKnown, AreNumbered, AreDays, GoneHaveNone, NoneAreGone, AreOwned, AreAfloat, AreOfOneFaction, guards, IsMail, AreReported, HasNoStocks, IsGood}
+use Rattle.atl_state.specs.Limits.{first_entry_count}
 use Rattle.atl_state.specs.Marks.{no_marks}
-use Rattle.atl_state.specs.RowRules.{is_one_head, AreRowsInRange, AreRowsNamed, is_of_unit, is_booked}
+use Rattle.atl_state.specs.RowRules.{is_one_head, are_of_format, AreRowsInRange, AreRowsNamed, is_of_unit, is_of_market, is_booked}
 use Rattle.atl_state.specs.Rows.{AreRowsOf}
 use Rattle.atl_state.specs.Campaign.{CampaignValue, MarkedCampaign}
 use Rattle.atl_state.specs.Totals.{Balances}
@@ -29,49 +35,60 @@ rule_number Guards = 10
 rule_number Books = 11
 rule_number Mail = 12
 
--- what a rule says of the rows, and of the campaign that they say
-abbrev pub Keeps : WorldValue → Parts → Rule → Type 0
-Keeps w p OneRow = IsTrue (is_one_head p.campaign)
-Keeps w p Ranges = AreRowsInRange w p
-Keeps w p Names = AreRowsNamed p
-Keeps w p Known = AreKnown w (campaign_of w p) × IsTrue (list_all (is_of_unit (campaign_of w p)) p.has)
-Keeps w p Next = AreNumbered (campaign_of w p)
-Keeps w p Days = AreDays (campaign_of w p)
-Keeps w p Gone = GoneHaveNone (campaign_of w p) × NoneAreGone (campaign_of w p)
-Keeps w p Owners = AreOwned (campaign_of w p)
-Keeps w p Water = AreAfloat w (campaign_of w p)
-Keeps w p Guards = AreOfOneFaction guards (campaign_of w p)
-Keeps w p Books = IsTrue (list_all (is_booked w) p.books) × Balances (campaign_of w p)
-Keeps w p Mail = IsMail (campaign_of w p) × AreReported (campaign_of w p)
+-- what a rule says of the rows of a format, and of the campaign that they say
+abbrev pub Keeps : Format → WorldValue → Parts → Rule → Type 0
+Keeps f w p OneRow = IsTrue (is_one_head f p.campaign) × IsTrue (are_of_format f p.markets)
+Keeps f w p Ranges = AreRowsInRange w p
+Keeps f w p Names = AreRowsNamed p
+Keeps f w p Known = AreKnown w (campaign_of w p) × IsTrue (list_all (is_of_unit (campaign_of w p)) p.has) × IsTrue (list_all (is_of_market w) p.markets)
+Keeps f w p Next = AreNumbered (campaign_of w p)
+Keeps f w p Days = AreDays (campaign_of w p)
+Keeps f w p Gone = GoneHaveNone (campaign_of w p) × NoneAreGone (campaign_of w p)
+Keeps f w p Owners = AreOwned (campaign_of w p)
+Keeps f w p Water = AreAfloat w (campaign_of w p)
+Keeps f w p Guards = AreOfOneFaction guards (campaign_of w p)
+Keeps f w p Books = IsTrue (list_all (is_booked f w) p.books) × Balances (campaign_of w p)
+Keeps f w p Mail = IsMail (campaign_of w p) × AreReported (campaign_of w p)
 
-abbrev pub KeepsBelow : WorldValue → Parts → ℕ → Type 0
-KeepsBelow w p n = (r : Rule) → rule_number r < n → Keeps w p r
+abbrev pub KeepsBelow : Format → WorldValue → Parts → ℕ → Type 0
+KeepsBelow f w p n = (r : Rule) → rule_number r < n → Keeps f w p r
 
 -- the rules before it hold, and it doesn't
-pub record IsFirstBroken (w : WorldValue) (p : Parts) (r : Rule) : Type 0 where
-  pub before : KeepsBelow w p (rule_number r)
-  pub broken : ¬ Keeps w p r
+pub record IsFirstBroken (f : Format) (w : WorldValue) (p : Parts) (r : Rule) : Type 0 where
+  pub before : KeepsBelow f w p (rule_number r)
+  pub broken : ¬ Keeps f w p r
+
+-- a campaign that has nothing in stock, and no amounts under the entries of markets
+pub record IsWithoutMarkets (c : CampaignValue) : Type 0 where
+  pub stocks : HasNoStocks c
+  pub entries : (e : Entry) (t : Thing) → first_entry_count ≤ entry_place e → amount_in c.books e t ≡ pos 0
+
+-- what the tables of a format can hold
+abbrev pub Fits : Format → CampaignValue → Type 0
+Fits First c = IsWithoutMarkets c
+Fits Second c = ⊤
 
 -- a good campaign with these rows, each once, and nothing marked
-pub record IsChecked (w : WorldValue) (p : Parts) (c : MarkedCampaign) : Type 0 where
-  pub rows : AreRowsOf c.value p
+pub record IsChecked (f : Format) (w : WorldValue) (p : Parts) (c : MarkedCampaign) : Type 0 where
+  pub rows : AreRowsOf f c.value p
+  pub fits : Fits f c.value
   pub good : IsGood w c.value
   pub marks : c.marks ≡ no_marks
 
 -- what checking rows may answer
-abbrev pub Checks : WorldValue → Parts → Result MarkedCampaign CheckFault → Type 0
-Checks w p (Ok c) = IsChecked w p c
-Checks w p (Err (Damaged r)) = IsFirstBroken w p r
-Checks w p (Err Memory) = ⊤
+abbrev pub Checks : Format → WorldValue → Parts → Result MarkedCampaign CheckFault → Type 0
+Checks f w p (Ok c) = IsChecked f w p c
+Checks f w p (Err (Damaged r)) = IsFirstBroken f w p r
+Checks f w p (Err Memory) = ⊤
 
--- of the rows of a good campaign it answers that campaign, or Memory
-abbrev pub GivesBack : WorldValue → Parts → Result MarkedCampaign CheckFault → Type 0
-GivesBack w p (Ok c) = (d : CampaignValue) → IsGood w d → AreRowsOf d p → c.value ≡ d
-GivesBack w p (Err (Damaged r)) = (d : CampaignValue) → IsGood w d → ¬ (AreRowsOf d p)
-GivesBack w p (Err Memory) = ⊤
+-- of the rows of a good campaign that the format can hold it answers that campaign, or Memory
+abbrev pub GivesBack : Format → WorldValue → Parts → Result MarkedCampaign CheckFault → Type 0
+GivesBack f w p (Ok c) = (d : CampaignValue) → IsGood w d → Fits f d → AreRowsOf f d p → c.value ≡ d
+GivesBack f w p (Err (Damaged r)) = (d : CampaignValue) → IsGood w d → Fits f d → ¬ (AreRowsOf f d p)
+GivesBack f w p (Err Memory) = ⊤
 
 -- For proofs alone: the rules below a number hold, or one of them is the first that is broken.
-abbrev pub Passes : WorldValue → Parts → ℕ → Result (Prim.Unit {0}) CheckFault → Type 0
-Passes w p n (Ok u) = KeepsBelow w p n
-Passes w p n (Err (Damaged r)) = IsFirstBroken w p r
-Passes w p n (Err Memory) = ⊤
+abbrev pub Passes : Format → WorldValue → Parts → ℕ → Result (Prim.Unit {0}) CheckFault → Type 0
+Passes f w p n (Ok u) = KeepsBelow f w p n
+Passes f w p n (Err (Damaged r)) = IsFirstBroken f w p r
+Passes f w p n (Err Memory) = ⊤

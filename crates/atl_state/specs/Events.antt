@@ -4,7 +4,7 @@ use Rattle.atl_orders.specs.Verbs.{keyword}
 use Rattle.atl_state.specs.declared.event.EventVerb.{EventVerb}
 use Rattle.atl_state.specs.declared.event.EventVerb.TheVariants.{Order, Upkeep}
 use Rattle.atl_state.specs.declared.event.EventFault.{EventFault}
-use Rattle.atl_state.specs.declared.event.EventFault.TheVariants.{NotYours, NotHere, NotEnough, NoRoom, Guarded, NotOwner, NotInside, UnitLimit, AtSea, NoMen, WrongNumber, NotGuarding, NoSkill, NoMaterial, Complete, StructureLimit, NoWay, TooHeavy, NotComplete, NoCrew, NotLearning, CannotTeach, NoFee}
+use Rattle.atl_state.specs.declared.event.EventFault.TheVariants.{NotYours, NotHere, NotEnough, NoRoom, Guarded, NotOwner, NotInside, UnitLimit, AtSea, NoMen, WrongNumber, NotGuarding, NoSkill, NoMaterial, Complete, StructureLimit, NoWay, TooHeavy, NotComplete, NoCrew, NotLearning, CannotTeach, NoFee, NoMarket}
 
 abbrev pub event_keyword : EventVerb → List ℕ
 event_keyword (Order verb) = keyword verb
@@ -35,6 +35,7 @@ event_fault NoCrew = (20, codes "NoCrew")
 event_fault NotLearning = (21, codes "NotLearning")
 event_fault CannotTeach = (22, codes "CannotTeach")
 event_fault NoFee = (23, codes "NoFee")
+event_fault NoMarket = (24, codes "NoMarket")
 
 abbrev pub event_fault_number : EventFault → ℕ
 event_fault_number fault = (event_fault fault).0
@@ -45,4 +46,4 @@ event_fault_name fault = (event_fault fault).1
 -- by their numbers
 abbrev pub event_faults : List EventFault
 event_faults =
-    NotYours ∷ NotHere ∷ NotEnough ∷ NoRoom ∷ Guarded ∷ NotOwner ∷ NotInside ∷ UnitLimit ∷ AtSea ∷ NoMen ∷ WrongNumber ∷ NotGuarding ∷ NoSkill ∷ NoMaterial ∷ Complete ∷ StructureLimit ∷ NoWay ∷ TooHeavy ∷ NotComplete ∷ NoCrew ∷ NotLearning ∷ CannotTeach ∷ NoFee ∷ []
+    NotYours ∷ NotHere ∷ NotEnough ∷ NoRoom ∷ Guarded ∷ NotOwner ∷ NotInside ∷ UnitLimit ∷ AtSea ∷ NoMen ∷ WrongNumber ∷ NotGuarding ∷ NoSkill ∷ NoMaterial ∷ Complete ∷ StructureLimit ∷ NoWay ∷ TooHeavy ∷ NotComplete ∷ NoCrew ∷ NotLearning ∷ CannotTeach ∷ NoFee ∷ NoMarket ∷ []

@@ -1,5 +1,6 @@
 -- The campaign that is founded.
 use Rattle.std.specs.Prelude.{◌+◌, List, length, ℕ, pos}
+use Rattle.std.specs.FinMap.{empty}
 use Rattle.atl_tables.specs.Worlds.{WorldValue}
 use Rattle.atl_tables.specs.Sums.{sum_over, mapped}
 use Rattle.atl_tables.specs.declared.world.RegionPlan.{RegionPlan}
@@ -10,9 +11,9 @@ use Rattle.atl_state.specs.Blank.{nothing}
 use Rattle.atl_state.specs.Books.{with_booked, no_amounts}
 use Rattle.atl_state.specs.Campaign.{CampaignValue}
 
--- a region as it is founded
+-- a region as it is founded, with nothing in stock
 abbrev pub founded_region : RegionPlan → Region
-founded_region plan = record { peasants = plan.peasants; money = plan.money }
+founded_region plan = record { peasants = plan.peasants; money = plan.money; stocks = empty }
 
 -- how many things a world books: money, people, and each item
 abbrev pub things_of : WorldValue → ℕ

@@ -12,6 +12,7 @@ use Rattle.atl_state.specs.declared.parts.StoredUnit.{StoredUnit}
 use Rattle.atl_state.specs.declared.parts.StoredHas.{StoredHas}
 use Rattle.atl_state.specs.declared.parts.StoredStructure.{StoredStructure}
 use Rattle.atl_state.specs.declared.parts.StoredBooks.{StoredBooks}
+use Rattle.atl_state.specs.declared.parts.StoredMarket.{StoredMarket}
 use Rattle.atl_state.specs.declared.records.Faction.{Faction}
 use Rattle.atl_state.specs.declared.records.Region.{Region}
 use Rattle.atl_state.specs.declared.records.Structure.{Structure}
@@ -42,9 +43,6 @@ is_set z = not (is_zero z)
 
 abbrev pub faction_of : StoredFaction → Faction
 faction_of r = record { number = as_u32 r.number; joined_as = r.joined_as; name = r.name; pass = r.pass; gone = is_set r.gone }
-
-abbrev pub region_of : StoredRegion → Region
-region_of r = record { peasants = as_u32 r.peasants; money = as_u32 r.money }
 
 abbrev pub structure_of : StoredStructure → Structure
 structure_of r = record { kind = as_u16 r.kind; name = r.name; region = as_u32 r.region; done = as_u32 r.done; owner = as_u32 r.owner }
@@ -77,6 +75,17 @@ unit_with r items days = record {
 
 abbrev pub unit_of : List StoredHas → StoredUnit → Unit
 unit_of has r = unit_with r (things_had (as_u32 r.number) 0 has) (things_had (as_u32 r.number) 1 has)
+
+-- what is in stock in a region
+abbrev pub stocks_of : ℕ → List StoredMarket → FinMap nat_cmp ℕ
+stocks_of n markets = by_number (λ r. as_u32 r.item) (λ r. as_u32 r.stock) (filter (λ r. as_u32 r.region == n) markets)
+
+-- a region with these stocks
+abbrev pub region_with : StoredRegion → FinMap nat_cmp ℕ → Region
+region_with r stocks = record { peasants = as_u32 r.peasants; money = as_u32 r.money; stocks = stocks }
+
+abbrev pub region_of : List StoredMarket → StoredRegion → Region
+region_of markets r = region_with r (stocks_of (as_u32 r.number) markets)
 
 -- entries are counted from 1
 abbrev pub is_entry : ℕ → Bool
@@ -111,7 +120,7 @@ campaign_of w p = record {
   next_unit = as_u32 (head_of p).next_unit;
   next_structure = as_u32 (head_of p).next_structure;
   factions = by_number (λ r. as_u32 r.number) faction_of p.factions;
-  regions = by_number (λ r. as_u32 r.number) region_of p.regions;
+  regions = by_number (λ r. as_u32 r.number) (region_of p.markets) p.regions;
   units = by_number (λ r. as_u32 r.number) (unit_of p.has) p.units;
   structures = by_number (λ r. as_u32 r.number) structure_of p.structures;
   mail = by_number (λ r. as_u32 r.faction) (λ r. r.text) p.mail;

@@ -1,9 +1,9 @@
 -- What is true of every campaign that commands reach, and of one within a month. Each record is one of the rules.
-use Rattle.std.specs.Prelude.{◌≡◌, ◌≢◌, ◌≤◌, ◌<◌, ◌+◌, ◌*◌, ◌&&◌, ◌↔◌, ℕ, Bool, [], IsTrue, true, false, nat_lt, length, Some, None}
+use Rattle.std.specs.Prelude.{◌≡◌, ◌≢◌, ◌≤◌, ◌<◌, ◌+◌, ◌*◌, ◌&&◌, ◌↔◌, ℕ, Bool, [], IsTrue, true, false, nat_lt, length, Some, None, IsSome}
 use Rattle.std.specs.Ordering.{nat_cmp}
-use Rattle.std.specs.FinMap.{FinMap, get, len}
+use Rattle.std.specs.FinMap.{FinMap, empty, get, len}
 use Rattle.atl_tables.specs.ByNumber as of_world
-use Rattle.atl_tables.specs.ByNumber.{is_land_at, size_of}
+use Rattle.atl_tables.specs.ByNumber.{is_land_at, market_of, size_of}
 use Rattle.atl_tables.specs.Limits.{most_amount, most_regions}
 use Rattle.atl_tables.specs.Names.{name_ok, pass_ok}
 use Rattle.atl_tables.specs.Worlds.{WorldValue}
@@ -20,6 +20,7 @@ use Rattle.atl_state.specs.Books.{amount_in, IsGrid, IsWithin}
 use Rattle.atl_state.specs.Founding.{things_of}
 use Rattle.atl_state.specs.Held.{IsHolding}
 use Rattle.atl_state.specs.Campaign.{CampaignValue, numbers_of}
+use Rattle.atl_state.specs.Stocks.{stock_limit}
 use Rattle.atl_state.specs.Totals.{Balances}
 
 -- each value is so, under its number
@@ -40,9 +41,14 @@ IsActive c n = (f : Faction) × (get c.factions n ≡ Some f) × (f.gone ≡ fal
 abbrev pub amount_bound : CampaignValue → ℕ
 amount_bound c = most_in_month * (c.month + 1) + most_in_joining * len c.factions
 
-pub record IsRegion (r : Region) : Type 0 where
+-- an item that is listed is in stock, up to the limit of the market in the region of this number
+abbrev pub AreStocks : WorldValue → ℕ → FinMap nat_cmp ℕ → Type 0
+AreStocks w n stocks = Every (λ i amount. (1 ≤ amount) × (amount ≤ stock_limit w n i)) stocks
+
+pub record IsRegion (w : WorldValue) (n : ℕ) (r : Region) : Type 0 where
   pub peasants : r.peasants ≤ most_amount
   pub money : r.money ≤ most_amount
+  pub stocks : AreStocks w n r.stocks
 
 -- men from 0
 pub record AreInRange (w : WorldValue) (c : CampaignValue) : Type 0 where
@@ -54,7 +60,7 @@ pub record AreInRange (w : WorldValue) (c : CampaignValue) : Type 0 where
   pub next_unit_least : 1 ≤ c.next_unit
   pub next_unit_most : c.next_unit ≤ last_unit + 1
   pub factions : Every (λ n f. f.number ≡ n) c.factions
-  pub regions : Every (λ n r. IsRegion r) c.regions
+  pub regions : Every (λ n r. IsRegion w n r) c.regions
   pub units : Every (λ n u. (1 ≤ n) × IsHolding u.holding) c.units
   pub structures : Every (λ n s. (1 ≤ s.done) × (s.done ≤ size_of w s.kind)) c.structures
   pub books : IsGrid (things_of w) c.books
@@ -89,9 +95,14 @@ pub record IsBuilt (w : WorldValue) (c : CampaignValue) (s : Structure) : Type 0
   pub region : IsThere c.regions s.region
   pub owner : s.owner ≢ 0 → IsThere c.units s.owner
 
--- and the regions are the world's
+-- each of these stocks is of a market that the world has in the region of this number
+abbrev pub AreOfMarkets : WorldValue → ℕ → FinMap nat_cmp ℕ → Type 0
+AreOfMarkets w n stocks = Every (λ i amount. IsSome (market_of w n i)) stocks
+
+-- and the regions are the world's, with stocks of their markets
 pub record AreKnown (w : WorldValue) (c : CampaignValue) : Type 0 where
   pub regions : (n : ℕ) → IsThere c.regions n ↔ IsThere w.regions n
+  pub markets : Every (λ n r. AreOfMarkets w n r.stocks) c.regions
   pub units : Every (λ n u. IsPlaced w c u) c.units
   pub structures : Every (λ n s. IsBuilt w c s) c.structures
   pub mail : Every (λ n text. IsThere c.factions n) c.mail
@@ -160,6 +171,12 @@ IsMail c = Every (λ n text. IsMailingOf n text × IsActive c n) c.mail
 
 abbrev pub AreReported : CampaignValue → Type 0
 AreReported c = Every (λ n f. IsThere c.reports n) c.factions
+
+-- ---- of stocks
+
+-- no region has anything in stock
+abbrev pub HasNoStocks : CampaignValue → Type 0
+HasNoStocks c = Every (λ n r. r.stocks ≡ empty) c.regions
 
 -- ---- the campaigns
 

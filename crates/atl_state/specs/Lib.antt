@@ -28,3 +28,4 @@ pub mod UnitRoom
 pub mod Index
 pub mod Slots
 pub mod SlotLending
+pub mod Stocks

@@ -1,6 +1,8 @@
 -- The limits of a campaign.
 use Rattle.std.specs.Prelude.{◌+◌, ℕ}
 use Rattle.atl_tables.specs.Limits.{most_amount, most_items}
+use Rattle.atl_tables.specs.declared.format.Format.{Format}
+use Rattle.atl_tables.specs.declared.format.Format.TheVariants.{First, Second}
 
 -- the month last closed is at most this one
 abbrev pub last_month : ℕ
@@ -24,7 +26,15 @@ holding_limit = most_amount
 
 -- so many entries of the books
 abbrev pub entry_count : ℕ
-entry_count = 13
+entry_count = 16
+
+-- in the first format so many: all but those of markets
+abbrev pub first_entry_count : ℕ
+first_entry_count = 13
+
+abbrev pub entries_in : Format → ℕ
+entries_in First = first_entry_count
+entries_in Second = entry_count
 
 -- so many things in the books: money, people and the items
 abbrev pub most_things : ℕ

@@ -1,15 +1,18 @@
 -- The rules that are said of rows, before a campaign is made of them: one row of the campaign's own, numbers in their ranges, names.
-use Rattle.std.specs.Prelude.{◌+◌, ◌*◌, ℕ, ℤ, pos, negsuc, Bool, false, not, ◌&&◌, ◌||◌, nat_le, nat_lt, nat_abs, is_some, IsTrue, List, [], ◌∷◌, length, map}
+use Rattle.std.specs.Prelude.{◌+◌, ◌*◌, ◌==◌, ℕ, ℤ, pos, negsuc, Bool, false, true, not, ◌&&◌, ◌||◌, nat_le, nat_lt, nat_abs, is_some, IsTrue, List, [], ◌∷◌, length, map}
 use Rattle.std.specs.List.{list_all, IsDistinct}
 use Rattle.std.specs.declared.cmp.Ordering.{Ordering}
 use Rattle.std.specs.Ordering.{int_cmp, eq_by_cmp, ordering_then, nat_cmp}
 use Rattle.std.specs.Cmp.Lexicographic.{slice_cmp}
+use Rattle.atl_tables.specs.Formats.{format_number}
 use Rattle.atl_tables.specs.Limits.{most_amount, most_regions}
 use Rattle.atl_tables.specs.Names.{name_ok, pass_ok}
 use Rattle.atl_tables.specs.Worlds.{WorldValue}
-use Rattle.atl_tables.specs.ByNumber.{size_of}
+use Rattle.atl_tables.specs.ByNumber.{market_of, size_of}
+use Rattle.atl_tables.specs.declared.format.Format.{Format}
+use Rattle.atl_tables.specs.declared.format.Format.TheVariants.{First, Second}
 use Rattle.atl_orders.specs.Limits.{last_faction}
-use Rattle.atl_state.specs.Limits.{holding_limit, last_month, last_unit, men_limit, most_in_joining, most_in_month, most_structures, most_units}
+use Rattle.atl_state.specs.Limits.{entries_in, holding_limit, last_month, last_unit, men_limit, most_in_joining, most_in_month, most_structures, most_units}
 use Rattle.atl_state.specs.declared.parts.Parts.{Parts}
 use Rattle.atl_state.specs.declared.parts.StoredHead.{StoredHead}
 use Rattle.atl_state.specs.declared.parts.StoredFaction.{StoredFaction}
@@ -20,11 +23,13 @@ use Rattle.atl_state.specs.declared.parts.StoredStructure.{StoredStructure}
 use Rattle.atl_state.specs.declared.parts.StoredMail.{StoredMail}
 use Rattle.atl_state.specs.declared.parts.StoredReport.{StoredReport}
 use Rattle.atl_state.specs.declared.parts.StoredBooks.{StoredBooks}
-use Rattle.atl_state.specs.FromRows.{as_u32, as_u16, is_entry, head_of}
+use Rattle.atl_state.specs.declared.parts.StoredMarket.{StoredMarket}
+use Rattle.atl_state.specs.FromRows.{as_u32, as_u16, head_of}
 use Rattle.atl_state.specs.Founding.{things_of}
 use Rattle.atl_state.specs.Campaign.{CampaignValue}
 use Rattle.std.specs.FinMap.{get}
 use Rattle.atl_state.specs.Rows.{is_zero}
+use Rattle.atl_state.specs.Stocks.{stock_limit}
 
 -- a number from low to high
 abbrev pub is_from : ℕ → ℕ → ℤ → Bool
@@ -33,11 +38,16 @@ is_from low high (negsuc n) = false
 
 -- ---- the campaign's own row
 
--- there is one, and its id and its format are 1
-abbrev pub is_one_head : List StoredHead → Bool
-is_one_head [] = false
-is_one_head (h ∷ []) = is_from 1 1 h.id && is_from 1 1 h.format
-is_one_head (h ∷ other ∷ rows) = false
+-- there is one, its id is 1, and its format is this one
+abbrev pub is_one_head : Format → List StoredHead → Bool
+is_one_head f [] = false
+is_one_head f (h ∷ []) = is_from 1 1 h.id && is_from (format_number f) (format_number f) h.format
+is_one_head f (h ∷ other ∷ rows) = false
+
+-- the first format has no rows of markets
+abbrev pub are_of_format : Format → List StoredMarket → Bool
+are_of_format First rows = length rows == 0
+are_of_format Second rows = true
 
 -- ---- numbers in their ranges
 
@@ -70,6 +80,10 @@ books_bound p = most_in_month * (as_u32 (head_of p).month + 1) + most_in_joining
 
 abbrev pub books_in_range : ℕ → StoredBooks → Bool
 books_in_range bound r = not (is_zero r.amount) && is_within bound r.amount
+
+-- in the region of its row the market of the item has room for so much
+abbrev pub market_in_range : WorldValue → StoredMarket → Bool
+market_in_range w r = is_from 1 (stock_limit w (as_u32 r.region) (as_u32 r.item)) r.stock
 
 -- ---- keys
 
@@ -107,6 +121,9 @@ report_key r = one_key r.faction
 abbrev pub books_key : StoredBooks → Key
 books_key r = (r.entry, r.thing, pos 0)
 
+abbrev pub market_key : StoredMarket → Key
+market_key r = (r.region, r.item, pos 0)
+
 -- no two rows have one key
 abbrev pub HaveKeys : {R : Type 0} → (R → Key) → List R → Type 0
 HaveKeys key rows = IsDistinct (eq_by_cmp key_cmp) (map key rows)
@@ -120,6 +137,7 @@ pub record AreKeyed (p : Parts) : Type 0 where
   pub mail : HaveKeys mail_key p.mail
   pub reports : HaveKeys report_key p.reports
   pub books : HaveKeys books_key p.books
+  pub markets : HaveKeys market_key p.markets
 
 -- ---- all of them
 
@@ -131,7 +149,7 @@ abbrev pub people_in_range : Parts → Bool
 people_in_range p = ((list_all faction_in_range p.factions && list_all region_in_range p.regions) && list_all unit_in_range p.units) && list_all has_in_range p.has
 
 abbrev pub numbers_in_range : WorldValue → Parts → Bool
-numbers_in_range w p = ((head_in_range (head_of p) && people_in_range p) && list_all (structure_in_range w) p.structures) && list_all (books_in_range (books_bound p)) p.books
+numbers_in_range w p = (((head_in_range (head_of p) && people_in_range p) && list_all (structure_in_range w) p.structures) && list_all (books_in_range (books_bound p)) p.books) && list_all (market_in_range w) p.markets
 
 pub record AreRowsInRange (w : WorldValue) (p : Parts) : Type 0 where
   pub keys : AreKeyed p
@@ -161,6 +179,14 @@ pub record AreRowsNamed (p : Parts) : Type 0 where
 abbrev pub is_of_unit : CampaignValue → StoredHas → Bool
 is_of_unit c r = is_some (get c.units (as_u32 r.unit))
 
+-- of a market of the world
+abbrev pub is_of_market : WorldValue → StoredMarket → Bool
+is_of_market w r = is_some (market_of w (as_u32 r.region) (as_u32 r.item))
+
+-- of an entry that the books of this format have; entries are counted from 1
+abbrev pub is_entry_in : Format → ℕ → Bool
+is_entry_in f n = nat_le 1 n && nat_le n (entries_in f)
+
 -- of an entry and a thing that are there
-abbrev pub is_booked : WorldValue → StoredBooks → Bool
-is_booked w r = is_entry (as_u32 r.entry) && nat_lt (as_u32 r.thing) (things_of w)
+abbrev pub is_booked : Format → WorldValue → StoredBooks → Bool
+is_booked f w r = is_entry_in f (as_u32 r.entry) && nat_lt (as_u32 r.thing) (things_of w)

@@ -1,8 +1,11 @@
--- The rows of a campaign: of each table those that stand for it, in the order of their keys.
+-- The rows of a campaign in a format: of each table those that stand for it, in the order of their keys.
 use Rattle.std.specs.Prelude.{◌+◌, ◌++◌, ℕ, ℤ, pos, negsuc, Bool, true, false, not, ◌==◌, List, [], ◌∷◌, length, map, filter, slice_index_or}
 use Rattle.std.specs.List.{range_with_len, flat_map}
 use Rattle.std.specs.List.Sorted.{IsPermutation}
 use Rattle.std.specs.FinMap.{entries}
+use Rattle.atl_tables.specs.Formats.{format_number}
+use Rattle.atl_tables.specs.declared.format.Format.{Format}
+use Rattle.atl_tables.specs.declared.format.Format.TheVariants.{First, Second}
 use Rattle.atl_state.specs.Limits.{entry_count}
 use Rattle.atl_state.specs.declared.parts.Parts.{Parts}
 use Rattle.atl_state.specs.declared.parts.StoredHead.{StoredHead}
@@ -14,6 +17,7 @@ use Rattle.atl_state.specs.declared.parts.StoredStructure.{StoredStructure}
 use Rattle.atl_state.specs.declared.parts.StoredMail.{StoredMail}
 use Rattle.atl_state.specs.declared.parts.StoredReport.{StoredReport}
 use Rattle.atl_state.specs.declared.parts.StoredBooks.{StoredBooks}
+use Rattle.atl_state.specs.declared.parts.StoredMarket.{StoredMarket}
 use Rattle.atl_state.specs.declared.records.Faction.{Faction}
 use Rattle.atl_state.specs.declared.records.Region.{Region}
 use Rattle.atl_state.specs.declared.records.Structure.{Structure}
@@ -28,9 +32,9 @@ flag false = pos 0
 
 -- ---- one row
 
--- the campaign's own row: its id is 1, and its format 1
-abbrev pub head_row : CampaignValue → StoredHead
-head_row c = record { id = pos 1; format = pos 1; month = pos c.month; next_faction = pos c.next_faction; next_unit = pos c.next_unit; next_structure = pos c.next_structure; pass = c.pass }
+-- the campaign's own row: its id is 1
+abbrev pub head_row : Format → CampaignValue → StoredHead
+head_row f c = record { id = pos 1; format = pos (format_number f); month = pos c.month; next_faction = pos c.next_faction; next_unit = pos c.next_unit; next_structure = pos c.next_structure; pass = c.pass }
 
 abbrev pub faction_row : ℕ → Faction → StoredFaction
 faction_row n f = record { number = pos n; joined_as = f.joined_as; name = f.name; pass = f.pass; gone = flag f.gone }
@@ -58,6 +62,10 @@ has_row n sort thing amount = record { unit = pos n; sort = pos sort; thing = po
 abbrev pub books_row : ℕ → ℕ → ℤ → StoredBooks
 books_row entry thing amount = record { entry = pos (entry + 1); thing = pos thing; amount = amount }
 
+-- of a region and an item
+abbrev pub market_row : ℕ → ℕ → ℕ → StoredMarket
+market_row region item stock = record { region = pos region; item = pos item; stock = pos stock }
+
 -- ---- the rows of a table
 
 -- a row for each entry of a map
@@ -68,9 +76,13 @@ abbrev pub is_zero : ℤ → Bool
 is_zero (pos n) = n == 0
 is_zero (negsuc n) = false
 
+-- a row for each amount, where it is not 0
+abbrev pub amount_rows : {R : Type 0} → (R → ℤ) → (ℕ → ℕ → R) → List (ℕ × ℕ) → List R
+amount_rows amount row es = filter (λ r. not (is_zero (amount r))) (rows_by row es)
+
 -- what a unit has of a sort, where it is not 0
 abbrev pub sort_rows : ℕ → ℕ → List (ℕ × ℕ) → List StoredHas
-sort_rows n sort es = filter (λ r. not (is_zero r.amount)) (rows_by (has_row n sort) es)
+sort_rows n sort es = amount_rows (λ r. r.amount) (has_row n sort) es
 
 -- what a unit has: items, then days of study
 abbrev pub held_rows : ℕ → Held → List StoredHas
@@ -90,12 +102,21 @@ entry_rows books things entry = filter (λ r. not (is_zero r.amount)) (map (λ t
 abbrev pub books_rows : List (List ℤ) → List StoredBooks
 books_rows books = flat_map (entry_rows books (length books)) (range_with_len 0 entry_count)
 
+-- the stocks of a region, where they are not 0
+abbrev pub stock_rows : ℕ → List (ℕ × ℕ) → List StoredMarket
+stock_rows n es = amount_rows (λ r. r.stock) (market_row n) es
+
+-- the first format has no rows of markets
+abbrev pub market_rows : Format → List (ℕ × Region) → List StoredMarket
+market_rows First es = []
+market_rows Second es = flat_map (λ e. stock_rows e.0 (entries e.1.stocks)) es
+
 -- ---- all of them
 
 -- the rows of a campaign, each once
-unfoldable pub rows_of : CampaignValue → Parts
-rows_of c = record {
-  campaign = head_row c ∷ [];
+unfoldable pub rows_of : Format → CampaignValue → Parts
+rows_of f c = record {
+  campaign = head_row f c ∷ [];
   factions = rows_by faction_row (entries c.factions);
   regions = rows_by region_row (entries c.regions);
   units = rows_by unit_row (entries c.units);
@@ -104,6 +125,7 @@ rows_of c = record {
   mail = rows_by mail_row (entries c.mail);
   reports = rows_by report_row (entries c.reports);
   books = books_rows c.books;
+  markets = market_rows f (entries c.regions);
 }
 
 -- the same rows, table by table, in any order
@@ -117,7 +139,8 @@ pub record AreSameRows (some others : Parts) : Type 0 where
   pub mail : IsPermutation some.mail others.mail
   pub reports : IsPermutation some.reports others.reports
   pub books : IsPermutation some.books others.books
+  pub markets : IsPermutation some.markets others.markets
 
 -- the rows of a campaign, each once, in any order
-abbrev pub AreRowsOf : CampaignValue → Parts → Type 0
-AreRowsOf c parts = AreSameRows (rows_of c) parts
+abbrev pub AreRowsOf : Format → CampaignValue → Parts → Type 0
+AreRowsOf f c parts = AreSameRows (rows_of f c) parts

@@ -19,7 +19,7 @@ held (Item i) h = amount_of h.items i
 abbrev pub kept : Thing → Region → ℕ
 kept Money r = r.money
 kept People r = r.peasants
-kept (Item i) r = 0
+kept (Item i) r = amount_of r.stocks i
 
 -- the sum over all units and regions
 unfoldable pub total : CampaignValue → Thing → ℕ

@@ -42,6 +42,12 @@ pub enum Entry {
     Made = 12,
     /// The items that are used for building and producing.
     Used = 13,
+    /// The money that goes for what is bought of markets.
+    Bought = 14,
+    /// The money that comes in for what is sold to markets.
+    Sold = 15,
+    /// The items that come into the stocks of markets.
+    Stocked = 16,
 }
 
 /// Of what amounts are booked.
@@ -57,9 +63,9 @@ pub enum Thing {
 
 impl Entry {
     /// All entries, in the order of their numbers.
-    pub const ALL: [Entry; 13] = variants!(
+    pub const ALL: [Entry; 16] = variants!(
         Entry: Founding Joining Income Wages Recruiting Study Upkeep Lost Births Starved Left
-        Made Used
+        Made Used Bought Sold Stocked
     );
 
     /// The entry's number, from 1.

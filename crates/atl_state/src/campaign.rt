@@ -4,6 +4,7 @@ ghost use Rattle.std.specs.Option.{option_copied};
 ghost use Rattle.std.specs.FinMap as map;
 ghost use Rattle.atl_state.specs.Campaign.{active, numbers_in, numbers_of, numbers_inside, with_mail, with_report};
 ghost use Rattle.atl_state.specs.Books.{amount_in, thing_place};
+ghost use Rattle.atl_state.specs.Stocks.{stock_of};
 ghost use Rattle.atl_state.specs.Totals.{total, IsCountable};
 ghost use Rattle.atl_state.specs.Marking.{mark_mail, mark_report};
 ghost use Rattle.atl_state.specs.Marks.{AreOfThings};
@@ -196,6 +197,16 @@ impl Campaign {
         ensures { result ≡ map.len self.now.value.regions }
     {
         self.regions.len()
+    }
+
+    /// How many pieces of an item a region has in stock; 0 where the region isn't there.
+    pub fn stock(&self, region: u32, item: u32) -> u32
+        ensures { result ≡ stock_of self.now.value region item }
+    {
+        match self.region(region) {
+            Some(found) => found.stock(item),
+            None => 0,
+        }
     }
 
     /// The unit of this number; None where none has it yet, or it was removed.

@@ -1,22 +1,27 @@
 //! The rules of the tables, by which the rows of a campaign are judged.
-ghost use Rattle.std.specs.Prelude.{◌≡◌, true};
+ghost use Rattle.std.specs.Prelude.{◌≡◌, IsTrue};
 ghost use Rattle.std.specs.Bool.{Decides};
 ghost use Rattle.std.specs.List.{list_all};
 ghost use Rattle.atl_tables.specs.Worlds.{IsWorld};
+ghost use Rattle.atl_tables.specs.declared.format.Format.TheVariants.{First};
 ghost use Rattle.atl_state.specs.declared.checking.Rule.TheVariants as rule;
 ghost use Rattle.atl_state.specs.Checking.{rule_number, Keeps, KeepsBelow, Passes, Checks, GivesBack};
 ghost use Rattle.atl_state.specs.FromRows.{campaign_of};
-ghost use Rattle.atl_state.specs.RowRules.{is_of_unit, is_booked};
+ghost use Rattle.atl_state.specs.Good.{AreKnown, IsMail, AreReported};
+ghost use Rattle.atl_state.specs.Limits.{entries_in};
+ghost use Rattle.atl_state.specs.RowRules.{is_one_head, are_of_format, is_of_unit, is_of_market, is_booked};
 
 use crate::campaign::{Campaign, assembled};
-use crate::limits::{ENTRY_COUNT, FIRST_ITEM};
+use crate::limits::{ENTRY_COUNT, FIRST_ENTRY_COUNT, FIRST_ITEM};
 use crate::parts::{Parts, StoredBooks};
-use crate::row_rules::{as_u32, is_one_head, rows_in_range, rows_named};
+use crate::row_rules::{
+    are_of_format, are_of_markets, as_u32, is_one_head, rows_in_range, rows_named,
+};
 use crate::rules::{
     are_afloat, are_balanced, are_days, are_gone, are_guarded, are_known, are_mailings,
     are_numbered, are_owned, are_reported,
 };
-use atl_tables::World;
+use atl_tables::{Format, World};
 use std::alloc::Global;
 use std::error::Error;
 use std::fmt;
@@ -25,13 +30,14 @@ use std::fmt;
 /// docs/FORMATS.md, "Rules of the tables".
 #[derive(Drop, Clone, Copy, Debug, PartialEq, Eq)]
 pub enum Rule {
-    /// There is one row of the campaign's own, whose id and format are 1.
+    /// There is one row of the campaign's own, whose id is 1 and whose format is the one that is asked for; in the first
+    /// format there are no rows of markets.
     OneRow = 1,
     /// Keys differ, each number is in its range, and there are not too many rows.
     Ranges = 2,
     /// Names and pass texts keep their rules, and joined names differ.
     Names = 3,
-    /// The regions are the world's, and all that a row names is there.
+    /// The regions are the world's, and all that a row names is there, markets too.
     Known = 4,
     /// The numbers that come next are those after the last.
     Next = 5,
@@ -81,11 +87,18 @@ impl fmt::Display for CheckFault {
 
 impl Error for CheckFault {}
 
-/// The rules that are judged before a campaign is made of the rows.
-fn check_rows(alloc: Global, world: &World, parts: &Parts) -> Result<(), CheckFault>
-    ensures { Passes world.now parts.now 4 result }
+fn keeps_one_row(format: Format, parts: &Parts) -> bool
+    ensures { Decides result (IsTrue (is_one_head format parts.now.campaign) × IsTrue (are_of_format format parts.now.markets)) }
 {
-    if !is_one_head(parts.campaign.as_slice()) {
+    is_one_head(format, parts.campaign.as_slice())
+        && are_of_format(format, parts.markets.as_slice())
+}
+
+/// The rules that are judged before a campaign is made of the rows.
+fn check_rows(alloc: Global, world: &World, parts: &Parts, format: Format) -> Result<(), CheckFault>
+    ensures { Passes format world.now parts.now 4 result }
+{
+    if !keeps_one_row(format, parts) {
         return Err(CheckFault::Damaged(Rule::OneRow));
     }
     match rows_in_range(alloc, world, parts) {
@@ -111,51 +124,73 @@ fn are_of_units(parts: &Parts, campaign: &Campaign) -> bool
         .all(|row| campaign.unit(as_u32(row.unit)).is_some())
 }
 
-fn is_booked(world: &World, row: &StoredBooks) -> bool
-    ensures { result ≡ is_booked world.now row.now }
+/// How many entries the books of a format have.
+fn entries_in(format: Format) -> usize
+    ensures { result ≡ entries_in format }
+{
+    match format {
+        Format::First => FIRST_ENTRY_COUNT,
+        Format::Second => ENTRY_COUNT,
+    }
+}
+
+fn is_booked(format: Format, world: &World, row: &StoredBooks) -> bool
+    ensures { result ≡ is_booked format world.now row.now }
 {
     let entry = as_u32(row.entry) as usize;
     let things = FIRST_ITEM + world.items().len();
-    1 <= entry && entry <= ENTRY_COUNT && (as_u32(row.thing) as usize) < things
+    1 <= entry && entry <= entries_in(format) && (as_u32(row.thing) as usize) < things
 }
 
-fn are_booked(world: &World, parts: &Parts) -> bool
-    ensures { result ≡ list_all (is_booked world.now) parts.now.books }
+fn are_booked(format: Format, world: &World, parts: &Parts) -> bool
+    ensures { result ≡ list_all (is_booked format world.now) parts.now.books }
 {
     parts
         .books
         .as_slice()
         .iter()
-        .all(|row| is_booked(world, row))
+        .all(|row| is_booked(format, world, row))
+}
+
+/// Whether the rows that say how much there is of a thing name units and markets that are there.
+fn are_goods_known(world: &World, parts: &Parts, campaign: &Campaign) -> bool
+    ensures { Decides result (IsTrue (list_all (is_of_unit campaign.now.value) parts.now.has) × IsTrue (list_all (is_of_market world.now) parts.now.markets)) }
+{
+    are_of_units(parts, campaign) && are_of_markets(world, parts.markets.as_slice())
 }
 
 fn keeps_known(world: &World, parts: &Parts, campaign: &Campaign) -> bool
     requires { campaign.now.value ≡ campaign_of world.now parts.now }
-    ensures { Decides result (Keeps world.now parts.now rule.Known) }
+    ensures { Decides result (AreKnown world.now (campaign_of world.now parts.now) × IsTrue (list_all (is_of_unit (campaign_of world.now parts.now)) parts.now.has) × IsTrue (list_all (is_of_market world.now) parts.now.markets)) }
 {
-    are_known(world, campaign) && are_of_units(parts, campaign)
+    are_known(world, campaign) && are_goods_known(world, parts, campaign)
 }
 
-fn keeps_books(world: &World, parts: &Parts, campaign: &Campaign) -> bool
+fn keeps_books(format: Format, world: &World, parts: &Parts, campaign: &Campaign) -> bool
     requires what { campaign.now.value ≡ campaign_of world.now parts.now }
-    requires before { KeepsBelow world.now parts.now 11 }
-    ensures { Decides result (Keeps world.now parts.now rule.Books) }
+    requires before { KeepsBelow format world.now parts.now 11 }
+    ensures { Decides result (Keeps format world.now parts.now rule.Books) }
 {
-    are_booked(world, parts) && are_balanced(world, campaign)
+    are_booked(format, world, parts) && are_balanced(world, campaign)
 }
 
 fn keeps_mail(world: &World, parts: &Parts, campaign: &Campaign) -> bool
     requires { campaign.now.value ≡ campaign_of world.now parts.now }
-    ensures { Decides result (Keeps world.now parts.now rule.Mail) }
+    ensures { Decides result (IsMail (campaign_of world.now parts.now) × AreReported (campaign_of world.now parts.now)) }
 {
     are_mailings(campaign) && are_reported(campaign)
 }
 
 /// What is there, and whose numbers and days are right.
-fn check_places(world: &World, parts: &Parts, campaign: &Campaign) -> Result<(), CheckFault>
+fn check_places(
+    world: &World,
+    parts: &Parts,
+    format: Format,
+    campaign: &Campaign,
+) -> Result<(), CheckFault>
     requires what { campaign.now.value ≡ campaign_of world.now parts.now }
-    requires before { KeepsBelow world.now parts.now 4 }
-    ensures { Passes world.now parts.now 8 result }
+    requires before { KeepsBelow format world.now parts.now 4 }
+    ensures { Passes format world.now parts.now 8 result }
 {
     if !keeps_known(world, parts, campaign) {
         return Err(CheckFault::Damaged(Rule::Known));
@@ -173,10 +208,15 @@ fn check_places(world: &World, parts: &Parts, campaign: &Campaign) -> Result<(),
 }
 
 /// Who owns and guards, what floats, what is booked and what is sent.
-fn check_holders(world: &World, parts: &Parts, campaign: &Campaign) -> Result<(), CheckFault>
+fn check_holders(
+    world: &World,
+    parts: &Parts,
+    format: Format,
+    campaign: &Campaign,
+) -> Result<(), CheckFault>
     requires what { campaign.now.value ≡ campaign_of world.now parts.now }
-    requires before { KeepsBelow world.now parts.now 8 }
-    ensures { Passes world.now parts.now 13 result }
+    requires before { KeepsBelow format world.now parts.now 8 }
+    ensures { Passes format world.now parts.now 13 result }
 {
     if !are_owned(campaign) {
         return Err(CheckFault::Damaged(Rule::Owners));
@@ -187,7 +227,7 @@ fn check_holders(world: &World, parts: &Parts, campaign: &Campaign) -> Result<()
     if !are_guarded(campaign) {
         return Err(CheckFault::Damaged(Rule::Guards));
     }
-    if !keeps_books(world, parts, campaign) {
+    if !keeps_books(format, world, parts, campaign) {
         return Err(CheckFault::Damaged(Rule::Books));
     }
     if !keeps_mail(world, parts, campaign) {
@@ -197,25 +237,44 @@ fn check_holders(world: &World, parts: &Parts, campaign: &Campaign) -> Result<()
 }
 
 /// The rules one after another.
-fn judged(alloc: Global, world: &World, parts: Parts) -> Result<Campaign, CheckFault>
-    ensures { Checks world.now parts result }
+fn judged(
+    alloc: Global,
+    world: &World,
+    parts: Parts,
+    format: Format,
+) -> Result<Campaign, CheckFault>
+    ensures { Checks format world.now parts result }
 {
-    check_rows(alloc, world, &parts)?;
+    check_rows(alloc, world, &parts, format)?;
     let campaign = match assembled(alloc, world, &parts) {
         Ok(campaign) => campaign,
         Err(_) => return Err(CheckFault::Memory),
     };
-    check_places(world, &parts, &campaign)?;
-    check_holders(world, &parts, &campaign)?;
+    check_places(world, &parts, format, &campaign)?;
+    check_holders(world, &parts, format, &campaign)?;
     Ok(campaign)
 }
 
 /// The campaign of these rows, each of which counts once, in any order, with nothing marked; it is good. Damaged tells the
-/// first rule that the rows break: the rows of a good campaign break none. See docs/FORMATS.md, "Rules of the tables".
-pub fn check(alloc: Global, world: &World, parts: Parts) -> Result<Campaign, CheckFault>
-    ensures rules { Checks world.now parts result }
-    ensures whole { IsWorld world.now → GivesBack world.now parts result }
+/// first rule that the rows break: the rows of a good campaign break none, in the first format where it has no stocks and no
+/// amounts under the entries of markets. See docs/FORMATS.md, "Rules of the tables".
+pub fn check_as(
+    alloc: Global,
+    world: &World,
+    parts: Parts,
+    format: Format,
+) -> Result<Campaign, CheckFault>
+    ensures rules { Checks format world.now parts result }
+    ensures whole { IsWorld world.now → GivesBack format world.now parts result }
 {
-    let answer = judged(alloc, world, parts);
+    let answer = judged(alloc, world, parts, format);
     answer
+}
+
+/// The campaign of these rows of the first format, as by `check_as`.
+pub fn check(alloc: Global, world: &World, parts: Parts) -> Result<Campaign, CheckFault>
+    ensures rules { Checks First world.now parts result }
+    ensures whole { IsWorld world.now → GivesBack First world.now parts result }
+{
+    check_as(alloc, world, parts, Format::First)
 }

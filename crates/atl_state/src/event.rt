@@ -78,20 +78,22 @@ pub enum EventFault {
     CannotTeach = 22,
     /// The unit can't pay the fee.
     NoFee = 23,
+    /// The region has no market for the item.
+    NoMarket = 24,
 }
 
 /// All of them, by their numbers.
-const FAULTS: [EventFault; 23] = variants!(
+const FAULTS: [EventFault; 24] = variants!(
     EventFault: NotYours NotHere NotEnough NoRoom Guarded NotOwner NotInside UnitLimit AtSea
     NoMen WrongNumber NotGuarding NoSkill NoMaterial Complete StructureLimit NoWay TooHeavy
-    NotComplete NoCrew NotLearning CannotTeach NoFee
+    NotComplete NoCrew NotLearning CannotTeach NoFee NoMarket
 );
 
 impl EventFault {
     ghost use Rattle.std.specs.Prelude.{find, ◌==◌};
     ghost use Rattle.atl_state.specs.Events.{event_fault_number, event_fault_name, event_faults};
 
-    /// The fault's number, from 1 to 23.
+    /// The fault's number, from 1 to 24.
     pub fn number(self) -> u8
         ensures { result ≡ event_fault_number self }
     {
@@ -106,6 +108,7 @@ impl EventFault {
             self, EventFault: NotYours NotHere NotEnough NoRoom Guarded NotOwner NotInside
             UnitLimit AtSea NoMen WrongNumber NotGuarding NoSkill NoMaterial Complete
             StructureLimit NoWay TooHeavy NotComplete NoCrew NotLearning CannotTeach NoFee
+            NoMarket
         )
     }
 

@@ -41,9 +41,23 @@ impl Model for Holding {
     ghost invariant = { λ a. IsHolding (record { name = a.name; men = a.men; money = a.money; guard = a.guard; items = a.items; days = a.days }) };
 }
 
+/// The amount under a number, 0 where there is none.
+pub(crate) fn amount_under(amounts: &Numbered<u32>, number: u32) -> u32
+    ensures { result ≡ amount_of amounts.now number }
+{
+    match amounts.get(number) {
+        Some(amount) => *amount,
+        None => 0,
+    }
+}
+
 /// Puts an amount under a number, or takes away what stood there, where it is 0, which takes no memory. Without memory
 /// nothing changes.
-fn put_amount(amounts: &mut Numbered<u32>, number: u32, amount: u32) -> Result<(), AllocError>
+pub(crate) fn put_amount(
+    amounts: &mut Numbered<u32>,
+    number: u32,
+    amount: u32,
+) -> Result<(), AllocError>
     ensures ok { OnOk result (amounts.new ≡ with_amount_of amounts.old number amount) }
     ensures err { OnErr result (amounts.new ≡ amounts.old) }
     ensures none { amount ≡ 0 → IsOk result }
@@ -114,10 +128,7 @@ impl Holding {
     pub fn amount(&self, item: u32) -> u32
         ensures { result ≡ amount_of self.now.items item }
     {
-        match self.items.get(item) {
-            Some(amount) => *amount,
-            None => 0,
-        }
+        amount_under(&self.items, item)
     }
 
     /// How many pieces are held of each item, where they are not 0, with the items' numbers in rising order.
@@ -138,10 +149,7 @@ impl Holding {
     pub fn days_of(&self, skill: u32) -> u32
         ensures { result ≡ amount_of self.now.days skill }
     {
-        match self.days.get(skill) {
-            Some(days) => *days,
-            None => 0,
-        }
+        amount_under(&self.days, skill)
     }
 
     /// Sets the name. It takes no memory.

@@ -24,7 +24,7 @@ mod units;
 pub use arena::SlotEntries;
 pub use books::{Books, Entry, Thing};
 pub use campaign::{Campaign, founded};
-pub use checking::{CheckFault, Rule, check};
+pub use checking::{CheckFault, Rule, check, check_as};
 pub use event::{Event, EventFault, EventVerb, Outcome};
 pub use holding::Holding;
 pub use levels::{carry, goods, level, level_in, level_in_any, load};

@@ -15,6 +15,9 @@ pub const MOST_STRUCTURES: u32 = 10_000;
 /// How many entries the books have.
 pub const ENTRY_COUNT: usize = Entry::ALL.len();
 
+/// How many of them the books have in the first format: all but those of markets.
+pub(crate) const FIRST_ENTRY_COUNT: usize = 13;
+
 /// The number of the first item among the things of the books: money has 0, and people have 1.
 pub const FIRST_ITEM: usize = 2;
 

@@ -25,11 +25,13 @@ pub struct Parts {
     pub reports: Sequence<StoredReport>,
     /// A row for each amount of the books that is not 0.
     pub books: Sequence<StoredBooks>,
+    /// A row for each market whose stock is not 0; none in the first format.
+    pub markets: Sequence<StoredMarket>,
 }
 
 impl Drop for Parts {
     fn drop(self) {
-        let_go!(self: Parts { campaign, factions, regions, units, has, structures, mail, reports, books });
+        let_go!(self: Parts { campaign, factions, regions, units, has, structures, mail, reports, books, markets });
     }
 }
 
@@ -38,7 +40,7 @@ impl Drop for Parts {
 pub struct StoredHead {
     /// Always 1.
     pub id: i64,
-    /// The format of the tables, 1.
+    /// The number of the tables' format.
     pub format: i64,
     /// The month last closed, from 0 to LAST_MONTH.
     pub month: i64,
@@ -193,4 +195,15 @@ pub struct StoredBooks {
     pub thing: i64,
     /// What came in less what went, not 0: money, men and peasants, or pieces of the item.
     pub amount: i64,
+}
+
+/// The stock of a market as it stands in its table.
+#[derive(Debug, Drop)]
+pub struct StoredMarket {
+    /// The number of the region.
+    pub region: i64,
+    /// The place of the item in the world's list of them.
+    pub item: i64,
+    /// How many pieces are in stock, from 1 to the market's limit.
+    pub stock: i64,
 }

@@ -1,6 +1,6 @@
 //! What a campaign consists of.
-use crate::holding::Holding;
-use atl_tables::{Text, let_go};
+use crate::holding::{Holding, amount_under};
+use atl_tables::{Numbered, Text, let_go};
 use std::error::Error;
 use std::fmt;
 
@@ -43,12 +43,31 @@ impl Drop for Unit {
 }
 
 /// What a region holds besides its units.
-#[derive(Drop)]
 pub struct Region {
     /// The people that are of no faction, from 0 to atl_tables' MOST_AMOUNT.
     pub peasants: u32,
     /// The money that no unit has, from 0 to atl_tables' MOST_AMOUNT.
     pub money: u32,
+    /// The stocks of its markets: how many pieces of each item, where they are not 0, up to the limit of the item's market.
+    pub stocks: Numbered<u32>,
+}
+
+impl Drop for Region {
+    fn drop(self) {
+        let_go!(self: Region { peasants, money, stocks });
+    }
+}
+
+impl Region {
+    ghost use Rattle.std.specs.Prelude.{◌≡◌};
+    ghost use Rattle.atl_state.specs.Held.{amount_of};
+
+    /// How many pieces of an item there are in stock, 0 where there is no market for it.
+    pub fn stock(&self, item: u32) -> u32
+        ensures { result ≡ amount_of self.now.stocks item }
+    {
+        amount_under(&self.stocks, item)
+    }
 }
 
 /// A building or a ship. See docs/RULES.md, "Owners".

@@ -1,12 +1,14 @@
 //! The rules that rows keep before a campaign is made of them.
 mod head;
 mod keys;
+mod markets;
 mod names;
 mod numbers;
 mod ranges;
 
-pub(crate) use head::{head_of, is_one_head};
+pub(crate) use head::{are_of_format, head_of, is_one_head};
 pub use keys::are_distinct;
+pub(crate) use markets::are_of_markets;
 pub(crate) use names::rows_named;
 pub(crate) use numbers::{as_u16, as_u32, is_set};
 pub(crate) use ranges::rows_in_range;

@@ -1,19 +1,20 @@
-//! The rows of a campaign.
+//! The rows of a campaign in a format.
 ghost use Rattle.std.specs.Prelude.{◌≡◌, ◌≤◌, ◌<◌, ◌++◌, ◌∷◌, [], IfOk, OnOk, length};
 ghost use Rattle.std.specs.FinMap as map;
+ghost use Rattle.atl_tables.specs.declared.format.Format.TheVariants.{First, Second};
 ghost use Rattle.atl_state.specs.Limits.{entry_count, possible_things};
-ghost use Rattle.atl_state.specs.Rows.{flag, rows_by, head_row, faction_row, region_row, unit_row, structure_row, mail_row, report_row, has_row, books_row, sort_rows, held_rows, has_rows, amount_at, entry_rows, books_rows, rows_of};
+ghost use Rattle.atl_state.specs.Rows.{flag, rows_by, head_row, faction_row, region_row, unit_row, structure_row, mail_row, report_row, has_row, books_row, market_row, sort_rows, held_rows, has_rows, stock_rows, market_rows, amount_at, entry_rows, books_rows, rows_of};
 
 use crate::books::Books;
 use crate::campaign::Campaign;
 use crate::holding::Holding;
 use crate::limits::ENTRY_COUNT;
 use crate::parts::{
-    Parts, StoredBooks, StoredFaction, StoredHas, StoredHead, StoredMail, StoredRegion,
-    StoredReport, StoredStructure, StoredUnit,
+    Parts, StoredBooks, StoredFaction, StoredHas, StoredHead, StoredMail, StoredMarket,
+    StoredRegion, StoredReport, StoredStructure, StoredUnit,
 };
 use crate::records::{Faction, Structure, Unit};
-use atl_tables::{Entries, Sequence, Text};
+use atl_tables::{Entries, Format, Sequence, Text};
 use std::alloc::{AllocError, Global};
 
 /// The sort of a row that is of an item.
@@ -22,10 +23,8 @@ pub(crate) const ITEM_SORT: u32 = 0;
 /// The sort of a row that is of a skill.
 pub(crate) const SKILL_SORT: u32 = 1;
 
-/// The id of a campaign's own row, and its format.
+/// The id of a campaign's own row.
 const CAMPAIGN_ID: i64 = 1;
-
-const CAMPAIGN_FORMAT: i64 = 1;
 
 fn bytes_of(alloc: Global, text: &Text) -> Result<Sequence<u8>, AllocError>
     ensures { IfOk result (λ bytes. bytes ≡ text.now) }
@@ -39,13 +38,13 @@ fn flag(set: bool) -> i64
     if set { 1 } else { 0 }
 }
 
-fn head_row(alloc: Global, campaign: &Campaign) -> Result<StoredHead, AllocError>
-    ensures { IfOk result (λ row. row ≡ head_row campaign.now.value) }
+fn head_row(alloc: Global, format: Format, campaign: &Campaign) -> Result<StoredHead, AllocError>
+    ensures { IfOk result (λ row. row ≡ head_row format campaign.now.value) }
 {
     let pass = bytes_of(alloc, campaign.pass())?;
     Ok(StoredHead {
         id: CAMPAIGN_ID,
-        format: CAMPAIGN_FORMAT,
+        format: i64::from(format.number()),
         month: i64::from(campaign.month()),
         next_faction: i64::from(campaign.next_faction()),
         next_unit: i64::from(campaign.next_unit()),
@@ -103,11 +102,15 @@ fn structure_row(
     })
 }
 
-fn head_rows(alloc: Global, campaign: &Campaign) -> Result<Sequence<StoredHead>, AllocError>
-    ensures { IfOk result (λ rows. rows ≡ head_row campaign.now.value ∷ []) }
+fn head_rows(
+    alloc: Global,
+    format: Format,
+    campaign: &Campaign,
+) -> Result<Sequence<StoredHead>, AllocError>
+    ensures { IfOk result (λ rows. rows ≡ head_row format campaign.now.value ∷ []) }
 {
     let mut rows = Sequence::new(alloc);
-    rows.push(head_row(alloc, campaign)?)?;
+    rows.push(head_row(alloc, format, campaign)?)?;
     Ok(rows)
 }
 
@@ -232,6 +235,56 @@ fn has_rows(alloc: Global, campaign: &Campaign) -> Result<Sequence<StoredHas>, A
     Ok(rows)
 }
 
+fn market_row(region: u32, item: u32, stock: u32) -> StoredMarket
+    ensures { result ≡ market_row region item stock }
+{
+    StoredMarket {
+        region: i64::from(region),
+        item: i64::from(item),
+        stock: i64::from(stock),
+    }
+}
+
+/// Adds the stocks of a region.
+fn add_stocks(
+    rows: &mut Sequence<StoredMarket>,
+    region: u32,
+    stocks: Entries<'_, u32>,
+) -> Result<(), AllocError>
+    ensures { OnOk result (rows.new ≡ rows.old ++ stock_rows region stocks.entry) }
+{
+    for (item, stock) in stocks {
+        if *stock != 0 {
+            rows.push(market_row(region, item, *stock))?;
+        }
+    }
+    Ok(())
+}
+
+/// The stocks of all regions.
+fn stocks_rows(alloc: Global, campaign: &Campaign) -> Result<Sequence<StoredMarket>, AllocError>
+    ensures { IfOk result (λ rows. rows ≡ market_rows Second (map.entries campaign.now.value.regions)) }
+{
+    let mut rows = Sequence::new(alloc);
+    for (number, region) in campaign.regions() {
+        add_stocks(&mut rows, number, region.stocks.iter())?;
+    }
+    Ok(rows)
+}
+
+fn market_rows(
+    alloc: Global,
+    format: Format,
+    campaign: &Campaign,
+) -> Result<Sequence<StoredMarket>, AllocError>
+    ensures { IfOk result (λ rows. rows ≡ market_rows format (map.entries campaign.now.value.regions)) }
+{
+    match format {
+        Format::First => Ok(Sequence::new(alloc)),
+        Format::Second => stocks_rows(alloc, campaign),
+    }
+}
+
 fn books_row(entry: usize, thing: usize, amount: i64) -> StoredBooks
     requires entry { entry < entry_count }
     requires thing { thing < possible_things }
@@ -273,13 +326,20 @@ fn books_rows(alloc: Global, books: &Books) -> Result<Sequence<StoredBooks>, All
 }
 
 impl Campaign {
-    /// The rows that stand for the campaign, in the order of their keys. See docs/FORMATS.md, "Tables".
-    #[tactic(auto, unfolding(crate::specs::Rows::rows_of))]
+    /// The rows that stand for the campaign in the first format, which has none of stocks. See docs/FORMATS.md, "Tables".
     pub fn parts(&self) -> Result<Parts, AllocError>
-        ensures { IfOk result (λ parts. parts ≡ rows_of self.now.value) }
+        ensures { IfOk result (λ parts. parts ≡ rows_of First self.now.value) }
+    {
+        self.parts_as(Format::First)
+    }
+
+    /// The rows that stand for the campaign in a format, in the order of their keys. See docs/FORMATS.md, "Tables".
+    #[tactic(auto, unfolding(crate::specs::Rows::rows_of))]
+    pub fn parts_as(&self, format: Format) -> Result<Parts, AllocError>
+        ensures { IfOk result (λ parts. parts ≡ rows_of format self.now.value) }
     {
         let alloc = self.alloc();
-        let campaign = head_rows(alloc, self)?;
+        let campaign = head_rows(alloc, format, self)?;
         let factions = faction_rows(alloc, self)?;
         let regions = region_rows(alloc, self)?;
         let units = unit_rows(alloc, self)?;
@@ -288,6 +348,7 @@ impl Campaign {
         let mail = mail_rows(alloc, self)?;
         let reports = report_rows(alloc, self)?;
         let books = books_rows(alloc, self.books())?;
+        let markets = market_rows(alloc, format, self)?;
         Ok(Parts {
             campaign,
             factions,
@@ -298,6 +359,7 @@ impl Campaign {
             mail,
             reports,
             books,
+            markets,
         })
     }
 }

@@ -27,7 +27,7 @@ fn kept(thing: Thing, region: &Region) -> u32
     match thing {
         Thing::Money => region.money,
         Thing::People => region.peasants,
-        Thing::Item(_) => 0,
+        Thing::Item(item) => region.stock(u32::from(item)),
     }
 }
 

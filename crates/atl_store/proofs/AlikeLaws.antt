@@ -2,7 +2,7 @@
 use Rattle.std.proofs.Common.{◌≡◌, ◌≢◌, ◌+◌, ◌<◌, ◌∙◌, ℕ, ℤ, zero, suc, pos, negsuc, Bool, true, false, List, [], get_or, length, Some, inl, inr, refl, sym, ap, arith}
 use Rattle.std.specs.Prelude.{◌⊎◌, slice_index_or}
 use Rattle.std.specs.Ordering.{nat_cmp}
-use Rattle.std.specs.FinMap.{FinMap, get}
+use Rattle.std.specs.FinMap.{FinMap, empty, get}
 use Rattle.std.proofs.lemmas.List.{ext_get_or}
 use Rattle.sqlite.specs.Order.{Row}
 use Rattle.sqlite_trees.specs.Tree.{Trees}
@@ -20,9 +20,11 @@ use Rattle.atl_state.specs.declared.records.Unit.{Unit}
 use Rattle.atl_state.proofs.BackLaws.{agree}
 use Rattle.atl_state.proofs.BookLaws.{place_at}
 use Rattle.atl_state.proofs.EveryEntryLaws.{entry_at}
+use Rattle.atl_state.proofs.MarketLaws.{no_stocks}
 use Rattle.atl_store.specs.Alike.{HoldsOne}
 use Rattle.atl_store.specs.Rows.{RowsOf, HasRowsOf, BooksRowsOf, Holds, campaign_line, faction_line, region_line, unit_line, structure_line, things_of}
 use Rattle.atl_store.specs.Sets.{Is}
+use Rattle.atl_store.specs.Tables.{Own, Factions, Regions, Units, Goods, Structures, Mail, Reports, Books}
 use Rattle.atl_store.specs.Shown.{flag, mail_row, report_row, has_row, books_row}
 use Rattle.atl_store.specs.Written.{sort_number}
 use Rattle.atl_store.specs.declared.rows.has.Sort.{Sort}
@@ -65,11 +67,13 @@ factions_tell m k a b n p f g is there same =
     let gone : f.gone ≡ g.gone = same_flag f.gone g.gone (cc) in
     (at, λ i. record { number = number i; joined_as = joined i; name = name i; pass = pass i; gone = gone i })
 
-regions_tell : (m k : FinMap nat_cmp Region) → Tells region_line m k
-regions_tell m k n p r s is there same =
+-- regions with nothing in stock
+regions_tell : (m k : FinMap nat_cmp Region) → Every (λ n r. r.stocks ≡ empty) m → Every (λ n r. r.stocks ≡ empty) k → Tells region_line m k
+regions_tell m k a b n p r s is there same =
     let peasants : r.peasants ≡ s.peasants = cc in
     let money : r.money ≡ s.money = cc in
-    (cc, λ i. record { peasants = peasants i; money = money i })
+    let stocks : r.stocks ≡ s.stocks = a n r is ∙ sym (b p s there) in
+    (cc, λ i. record { peasants = peasants i; money = money i; stocks = stocks i })
 
 structures_tell : (m k : FinMap nat_cmp Structure) → Tells structure_line m k
 structures_tell m k n p s t is there same =
@@ -191,14 +195,16 @@ module _ (things : ℕ) (rows : List Row) (m k : List (List ℤ)) (g : IsGrid th
 
 module _ (db : Trees) (one other : List ℕ) (c d : CampaignValue) (h : Holds db one c) (j : Holds db other d) where
   one_row : campaign_line one c ≡ campaign_line other d
-  one_row = (j.campaign (campaign_line one c)).0 ((h.campaign (campaign_line one c)).1 refl)
+  one_row = (j.rows Own (campaign_line one c)).0 ((h.rows Own (campaign_line one c)).1 refl)
 
   -- two texts whose rows one database holds are one text
   pub one_text : one ≡ other
   one_text = let own = one_row in cc
 
 pub holds_one : HoldsOne
-holds_one w db one other c d good sound h j =
+holds_one w bare db one other c d good sound h j =
+    let none = no_stocks w c bare good.sound.steady.known in
+    let nothing = no_stocks w d bare sound.sound.steady.known in
     let own : campaign_line one c ≡ campaign_line other d = one_row db one other c d h j in
     let text : one ≡ other = one_text db one other c d h j in
     let month : c.month ≡ d.month = cc in
@@ -208,15 +214,15 @@ holds_one w db one other c d good sound h j =
     let next_structure : c.next_structure ≡ d.next_structure = cc in
     let numbers = good.sound.steady.numbers in
     let others = sound.sound.steady.numbers in
-    let factions = same_values faction_line _ c.factions d.factions (factions_tell _ _ numbers.factions others.factions) (factions_tell _ _ others.factions numbers.factions) h.factions j.factions in
-    let regions = same_values region_line _ c.regions d.regions (regions_tell _ _) (regions_tell _ _) h.regions j.regions in
-    let structures = same_values structure_line _ c.structures d.structures (structures_tell _ _) (structures_tell _ _) h.structures j.structures in
-    let mail = same_values mail_row _ c.mail d.mail (mails_tell _ _) (mails_tell _ _) h.mail j.mail in
-    let reports = same_values report_row _ c.reports d.reports (reports_tell _ _) (reports_tell _ _) h.reports j.reports in
+    let factions = same_values faction_line _ c.factions d.factions (factions_tell _ _ numbers.factions others.factions) (factions_tell _ _ others.factions numbers.factions) (h.rows Factions) (j.rows Factions) in
+    let regions = same_values region_line _ c.regions d.regions (regions_tell _ _ none nothing) (regions_tell _ _ nothing none) (h.rows Regions) (j.rows Regions) in
+    let structures = same_values structure_line _ c.structures d.structures (structures_tell _ _) (structures_tell _ _) (h.rows Structures) (j.rows Structures) in
+    let mail = same_values mail_row _ c.mail d.mail (mails_tell _ _) (mails_tell _ _) (h.rows Mail) (j.rows Mail) in
+    let reports = same_values report_row _ c.reports d.reports (reports_tell _ _) (reports_tell _ _) (h.rows Reports) (j.rows Reports) in
     let some = have_some w c good in
     let more = have_some w d sound in
-    let units = agree c.units d.units (units_there _ _ c.units d.units h.units j.units h.has j.has some more) (units_there _ _ d.units c.units j.units h.units j.has h.has more some) in
-    let books = same_books (founding.things_of w) _ c.books d.books numbers.books others.books h.books j.books in (
+    let units = agree c.units d.units (units_there _ _ c.units d.units (h.rows Units) (j.rows Units) (h.rows Goods) (j.rows Goods) some more) (units_there _ _ d.units c.units (j.rows Units) (h.rows Units) (j.rows Goods) (h.rows Goods) more some) in
+    let books = same_books (founding.things_of w) _ c.books d.books numbers.books others.books (h.rows Books) (j.rows Books) in (
       text,
       same_state c d month pass next_faction next_unit next_structure factions regions units structures mail reports books,
     )

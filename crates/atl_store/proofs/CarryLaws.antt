@@ -1,4 +1,4 @@
--- A write of one of the nine tables under the schema that is there.
+-- A write of one of the tables of a campaign under the schema that is there.
 use Rattle.std.proofs.Common.{◌≡◌, ◌≢◌, ℕ, false, List, [], ◌∷◌, ◌++◌, Option, refl, sym, ◌∙◌, subst, inl, inr}
 use Rattle.std.specs.List.{AllByRecursion, flat_map, filter_map, list_any}
 use Rattle.sqlite_value.specs.Order.{Row}
@@ -15,7 +15,7 @@ use Rattle.sqlite_rules.specs.Action.{works, Work, work_for}
 use Rattle.sqlite.specs.Effect.{Database}
 use Rattle.atl_store.specs.Sets.{Set}
 use Rattle.atl_store.proofs.Made.{Makes}
-use Rattle.atl_store.specs.Tables.{all_tables, nine_and, nine_trees, IsSoundly}
+use Rattle.atl_store.specs.Tables.{all_tables, all_and, all_trees, IsSoundly}
 use Rattle.atl_store.specs.Inside.{HasTables, Carries, Alters, Done}
 use Rattle.atl_store.proofs.ListLaws.{has_map}
 
@@ -25,8 +25,8 @@ none_refer : (tables : List Table) (f : Table → Reference → Option Work) →
 none_refer [] f free = refl
 none_refer (t ∷ tables) f free = rw (free.0) (none_refer tables f free.1)
 
-pub unlinked : (tables : List Table) (indexes : List Index) (tree : ℕ) → AllByRecursion (λ t. t.references ≡ []) tables → (olds news : List Row) → works (nine_and tables indexes) Enforced 0 tree olds news ≡ []
-unlinked tables indexes tree free olds news = none_refer tables (work_for (nine_and tables indexes) Enforced 0 tree olds news) free
+pub unlinked : (tables : List Table) (indexes : List Index) (tree : ℕ) → AllByRecursion (λ t. t.references ≡ []) tables → (olds news : List Row) → works (all_and tables indexes) Enforced 0 tree olds news ≡ []
+unlinked tables indexes tree free olds news = none_refer tables (work_for (all_and tables indexes) Enforced 0 tree olds news) free
 
 -- ---- indexes that make nothing unique find nothing
 
@@ -34,40 +34,40 @@ pub none_share : (t : Table) (target : Option (List ℕ)) (new r : Row) (indexes
 none_share t target new r [] plain = refl
 none_share t target new r (i ∷ indexes) plain = rw (plain i (inl refl)) (none_share t target new r indexes (λ j there. plain j (inr there)))
 
--- ---- one of the nine is one of all
+-- ---- one of the tables is one of all that are there
 
-pub nine_among : (tables : List Table) (t : Table) → Has all_tables t → Has (all_tables ++ tables) t
-nine_among tables t there = has_left all_tables tables t there
+pub among_all : (tables : List Table) (t : Table) → Has all_tables t → Has (all_tables ++ tables) t
+among_all tables t there = has_left all_tables tables t there
 
 -- the trees are sound under the schema as it is known
-pub sound_under : (db : Database) (has : HasTables db) → IsSoundly (nine_and has.nine.tables has.nine.indexes) db.trees
-sound_under db has = subst (λ s. IsSoundly s db.trees) has.nine.is has.sound
+pub sound_under : (db : Database) (has : HasTables db) → IsSoundly (all_and has.begins.tables has.begins.indexes) db.trees
+sound_under db has = subst (λ s. IsSoundly s db.trees) has.begins.is has.sound
 
 module _ (t : Table) (old new : Database) (has : HasTables old) (ours : Has all_tables t) where
   abbrev schema : Schema
-  schema = nine_and has.nine.tables has.nine.indexes
+  schema = all_and has.begins.tables has.begins.indexes
 
   abbrev OthersStay : Type 0
   OthersStay = (u : Table) → Has schema.tables u → u.tree ≢ t.tree → new.trees u.tree ≡ old.trees u.tree
 
   pub stays_there : new.schema ≡ schema → IsSoundly schema new.trees → HasTables new
   stays_there is sound = record {
-    nine = record { tables = has.nine.tables; indexes = has.nine.indexes; is = is; free = has.nine.free; plain = has.nine.plain };
+    begins = record { tables = has.begins.tables; indexes = has.begins.indexes; is = is; free = has.begins.free; plain = has.begins.plain };
     sound = subst (λ s. IsSoundly s new.trees) (sym is) sound;
   }
 
   -- the other tables are carried along
   pub carried : new.schema ≡ schema → OthersStay → Carries old new
   carried is others =
-      let same : new.schema ≡ old.schema = is ∙ sym has.nine.is in
+      let same : new.schema ≡ old.schema = is ∙ sym has.begins.is in
       record {
         tables = λ u there. subst (λ (s : Schema). Has s.tables u) (sym same) there;
         indexes = λ i there. subst (λ (s : Schema). Has s.indexes i) (sym same) there;
-        others = λ u there free. others u (subst (λ (s : Schema). Has s.tables u) has.nine.is there) (λ same. free (subst (Has nine_trees) (sym same) (has_map (λ (x : Table). x.tree) all_tables t ours)));
+        others = λ u there free. others u (subst (λ (s : Schema). Has s.tables u) has.begins.is there) (λ same. free (subst (Has all_trees) (sym same) (has_map (λ (x : Table). x.tree) all_tables t ours)));
       }
 
   pub altered : (S : Set) → Makes schema t old new S → Alters t S old new
-  altered S makes = record { rows = makes.rows; others = λ u listed apart. makes.others u (nine_among has.nine.tables u listed) apart }
+  altered S makes = record { rows = makes.rows; others = λ u listed apart. makes.others u (among_all has.begins.tables u listed) apart }
 
   pub done_with : (Does : Database → Database → Type 0) (S : Set) → (Alters t S old new → Does old new) → Makes schema t old new S → Done Does old new
   done_with Does S is makes = record { does = is (altered S makes); tables = stays_there makes.schema_is makes.sound; carries = carried makes.schema_is makes.others }

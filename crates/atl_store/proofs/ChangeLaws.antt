@@ -1,5 +1,5 @@
 -- Tables that hold what is not marked of a campaign hold it all, once what is marked is written.
-use Rattle.std.proofs.Common.{◌≡◌, ◌+◌, ◌<◌, ◌&&◌, ℕ, suc, ℤ, Bool, true, false, List, Option, Some, None, nat_le, refl, sym, ap, subst, ◌∙◌, arith}
+use Rattle.std.proofs.Common.{◌≡◌, ◌+◌, ◌<◌, ◌&&◌, ℕ, suc, ℤ, Bool, true, false, List, Option, Some, None, nat_le, refl, sym, ap, subst, ◌∙◌, true≢false, arith}
 use Rattle.std.proofs.lemmas.Bool.Decides.{nat_tests}
 use Rattle.std.specs.Prelude.{◌↔◌, option_map}
 use Rattle.std.specs.Ordering.{nat_cmp}
@@ -21,10 +21,10 @@ use Rattle.atl_state.specs.declared.records.Unit.{Unit}
 use Rattle.atl_store.specs.declared.rows.has.Sort.{Sort}
 use Rattle.atl_store.specs.declared.rows.has.Sort.TheVariants.{Item, Skill}
 use Rattle.atl_store.specs.Sets.{Is, rows_in}
-use Rattle.atl_store.specs.Tables.{campaign_table}
+use Rattle.atl_store.specs.Tables.{Part, Own, Factions, Regions, Units, Goods, Structures, Mail, Reports, Books, table_of}
 use Rattle.atl_store.specs.Shown.{Head, head_row, mail_row, report_row, books_row}
-use Rattle.atl_store.specs.Rows.{RowsOf, HasRowsOf, BooksRowsOf, head_of, faction_line, region_line, unit_line, structure_line, things_of, Holds}
-use Rattle.atl_store.specs.Changing.{begins_marked, amount_marked, Chosen, rewritten, head_after, WritesChanges, HoldsUnmarked}
+use Rattle.atl_store.specs.Rows.{RowsOf, HasRowsOf, BooksRowsOf, rows_for, head_of, campaign_line, faction_line, region_line, unit_line, structure_line, things_of, Holds}
+use Rattle.atl_store.specs.Changing.{begins_marked, amount_marked, is_marked, Chosen, rewritten, head_after, HasUnmarked, WritesChanges, HoldsUnmarked}
 
 -- ---- a table whose unmarked rows are the campaign's
 
@@ -131,39 +131,30 @@ head_held false before after same = ap head_in (sym (same refl))
 -- whatever stands under marked keys
 pub unmarked_held : (c : MarkedCampaign) (old new : Database) → WritesChanges c old new → (text : List ℕ) → HoldsUnmarked old.trees text c → Holds new.trees text c.value
 unmarked_held c old new changes text rest =
-    let m = c.marks in
     let did = changes rest.before text rest.campaign in
     record {
-      campaign = subst (λ (h : Head). Is (rows_in campaign_table new.trees) (λ r. r ≡ head_row h text)) rest.head did.campaign;
-      factions = all_held (begins_marked m.factions) _ _ _ rest.factions did.factions;
-      regions = all_held (begins_marked m.regions) _ _ _ rest.regions did.regions;
-      units = all_held (begins_marked m.units) _ _ _ rest.units did.units;
-      has = all_held (begins_marked m.goods) _ _ _ rest.has did.has;
-      structures = all_held (begins_marked m.structures) _ _ _ rest.structures did.structures;
-      mail = all_held (begins_marked m.mail) _ _ _ rest.mail did.mail;
-      reports = all_held (begins_marked m.reports) _ _ _ rest.reports did.reports;
-      books = all_held (amount_marked m.books) _ _ _ rest.books did.books;
+      rows = λ part. all_held (is_marked c.marks part) (rows_for (campaign_line text c.value) c.value part) _ _ (rest.rest part)
+          (subst (λ (h : Head). Is (rows_in (table_of part) new.trees) (rewritten (is_marked c.marks part) (rows_for (head_row h text) c.value part) (Has (rows_in (table_of part) old.trees)))) rest.head (did.rows part));
     }
 
 -- tables that hold a campaign from which only this differs
 pub covers_unmarked : (c : MarkedCampaign) (db : Trees) (text : List ℕ) (before : CampaignValue) → Covers c.marks before c.value → Holds db text before → HoldsUnmarked db text c
-covers_unmarked c db text before covers held =
-    let m = c.marks in
-    let after = c.value in
-    record {
-      before = head_of before;
-      campaign = held.campaign;
-      head = head_held m.row before after covers.row;
-      factions = rest_same faction_line m.factions (λ n v. refl) before.factions after.factions _ covers.factions held.factions;
-      regions = rest_same region_line m.regions (λ n v. refl) before.regions after.regions _ covers.regions held.regions;
-      units = rest_numbered unit_line m.units (λ n v. refl) before.units after.units _
-          (λ n v not_marked there. bare_same n (get before.units n) (get after.units n) v (covers.units n not_marked) there) (λ n v not_marked there. bare_same n (get after.units n) (get before.units n) v (sym (covers.units n not_marked)) there) held.units;
-      has = rest_of (begins_marked m.goods) (HasRowsOf before.units) (HasRowsOf after.units) _ (λ r is. goods_follow before.units after.units m.goods r covers.goods is) (λ r is. goods_follow after.units before.units m.goods r (λ n not_marked. sym (covers.goods n not_marked)) is) held.has;
-      structures = rest_same structure_line m.structures (λ n v. refl) before.structures after.structures _ covers.structures held.structures;
-      mail = rest_same mail_row m.mail (λ n v. refl) before.mail after.mail _ covers.mail held.mail;
-      reports = rest_same report_row m.reports (λ n v. refl) before.reports after.reports _ covers.reports held.reports;
-      books = rest_of (amount_marked m.books) (BooksRowsOf before.books) (BooksRowsOf after.books) _ (λ r is. amounts_follow before.books after.books m.books r covers.books is) (λ r is. amounts_follow after.books before.books m.books r (λ e t not_marked. sym (covers.books e t not_marked)) is) held.books;
-    }
+covers_unmarked c db text before covers held = record { before = head_of before; campaign = held.rows Own; head = head_held c.marks.row before c.value covers.row; rest = rest }
+  where
+    rest : (part : Part) → HasUnmarked (table_of part) (is_marked c.marks part) (rows_for (campaign_line text c.value) c.value part) db
+    rest Own = λ r is. absurd (true≢false is)
+    rest Factions = rest_same faction_line c.marks.factions (λ n v. refl) before.factions c.value.factions _ covers.factions (held.rows Factions)
+    rest Regions = rest_same region_line c.marks.regions (λ n v. refl) before.regions c.value.regions _ covers.regions (held.rows Regions)
+    rest Units =
+        rest_numbered unit_line c.marks.units (λ n v. refl) before.units c.value.units _
+        (λ n v not_marked there. bare_same n (get before.units n) (get c.value.units n) v (covers.units n not_marked) there) (λ n v not_marked there. bare_same n (get c.value.units n) (get before.units n) v (sym (covers.units n not_marked)) there) (held.rows Units)
+    rest Goods =
+        rest_of (begins_marked c.marks.goods) (HasRowsOf before.units) (HasRowsOf c.value.units) _ (λ r is. goods_follow before.units c.value.units c.marks.goods r covers.goods is) (λ r is. goods_follow c.value.units before.units c.marks.goods r (λ n not_marked. sym (covers.goods n not_marked)) is) (held.rows Goods)
+    rest Structures = rest_same structure_line c.marks.structures (λ n v. refl) before.structures c.value.structures _ covers.structures (held.rows Structures)
+    rest Mail = rest_same mail_row c.marks.mail (λ n v. refl) before.mail c.value.mail _ covers.mail (held.rows Mail)
+    rest Reports = rest_same report_row c.marks.reports (λ n v. refl) before.reports c.value.reports _ covers.reports (held.rows Reports)
+    rest Books =
+        rest_of (amount_marked c.marks.books) (BooksRowsOf before.books) (BooksRowsOf c.value.books) _ (λ r is. amounts_follow before.books c.value.books c.marks.books r covers.books is) (λ r is. amounts_follow c.value.books before.books c.marks.books r (λ e t not_marked. sym (covers.books e t not_marked)) is) (held.rows Books)
 
 pub changes_held : (c : MarkedCampaign) (old new : Database) → WritesChanges c old new → (text : List ℕ) (before : CampaignValue) → Covers c.marks before c.value → Holds old.trees text before → Holds new.trees text c.value
 changes_held c old new changes text before covers held = unmarked_held c old new changes text (covers_unmarked c old.trees text before covers held)

@@ -13,7 +13,7 @@ use Rattle.atl_store.specs.Gathering.{IsSettled, FailsToConfirm}
 use Rattle.atl_store.specs.Faults.{is_memory, store_fault}
 use Rattle.atl_store.specs.Loading.{Stays}
 use Rattle.atl_store.specs.Statements.{selection}
-use Rattle.atl_store.specs.Tables.{HasNine, campaign_table}
+use Rattle.atl_store.specs.Tables.{HasAll, campaign_table}
 use Rattle.atl_store.specs.declared.fault.StoreFault.{StoreFault}
 use Rattle.atl_store.specs.declared.fault.StoreFault.TheVariants as store
 
@@ -46,10 +46,10 @@ module _ (sql : List ℕ) (old new : State) (plain : IsPlain (understood old.now
   refused_stays settled clean e (inr h) = unchanged_stays (fails_stay h.0 _ e h.0.returning (subst IsPlain h.1.is plain).0 h.2)
 
 -- the campaign's own row can't be asked for once more
-module _ {S : Type 0} (g : Ghosts S) (old during : Held S) (nine : HasNine old.schema) (e : Error) (failed : FailsToQuery (selection campaign_table 1) [] (state g old) (state g during) e) where
+module _ {S : Type 0} (g : Ghosts S) (old during : Held S) (begins : HasAll old.schema) (e : Error) (failed : FailsToQuery (selection campaign_table 1) [] (state g old) (state g during) e) where
   told_by : (memory : Bool) → is_memory e ≡ memory → FailsToConfirm g old (cond memory store.Memory store.Store)
-  told_by true is = (nine, (during, e, failed, is))
-  told_by false is = inr (nine, (during, e, failed, is))
+  told_by true is = (begins, (during, e, failed, is))
+  told_by false is = inr (begins, (during, e, failed, is))
 
   pub unconfirmed : {A : Type 0} (r : Result A StoreFault) → IsErrAnd r (λ told. told ≡ store_fault e) → IfErr r (FailsToConfirm g old)
   unconfirmed (Ok a) told = tt

@@ -1,4 +1,4 @@
--- The nine texts that make the tables, and what each does.
+-- The texts that make the tables, and what each does.
 use Rattle.std.proofs.Common.{◌≡◌, ◌++◌, ◌∷◌, ℕ, false, List, [], Result, Ok, refl, sym, subst, inl, inr}
 use Rattle.std.specs.Borrow.{MutBor}
 use Rattle.sqlite_rules.specs.Lists.{Has}
@@ -36,7 +36,7 @@ record IsCreate (before after : Schema) (table : Table) (text : List ℕ) : Type
   last : after.tables ≡ before.tables ++ table ∷ []
   uncounted : lacks_sequence after ≡ false
 
--- the text is one of the nine, and makes the one more table
+-- the text is one of them, and makes the one more table
 abbrev pub Makes : Schema → Schema → List ℕ → Type 1
 Makes before after text = Has creations text × ((old new : State) → Runs text [] old new → Extends before after old new)
 

@@ -1,6 +1,6 @@
 -- The entries of a numbered map, and the rows that stand for them.
-use Rattle.std.specs.Prelude.{⊤}
 use Rattle.std.proofs.Common.{◌≡◌, ◌≢◌, ◌⊎◌, ℕ, true, false, cond, List, [], ◌∷◌, ◌++◌, take, Some, None, Less, Equal, Greater, refl, sym, ap, ◌∙◌, subst, inl, inr, true≢false}
+use Rattle.std.specs.List.{flat_map}
 use Rattle.std.specs.Ordering.{nat_cmp, is_eq, is_lt}
 use Rattle.std.specs.Cmp.{nat_cmp_total}
 use Rattle.std.specs.FinMap.{FinMap, get, get-entries, entries, entries_sorted, find, is_sorted, nat_cmp-IsAntisymmetric}
@@ -10,10 +10,11 @@ use Rattle.std.proofs.lemmas.Cmp.{tied_itself}
 use Rattle.atl_tables.proofs.TrackLaws.{is_true}
 use Rattle.sqlite.specs.Order.{Row}
 use Rattle.sqlite_rules.specs.Lists.{Has}
-use Rattle.sqlite_rules.proofs.ListLemmas.{has_either}
+use Rattle.sqlite_rules.proofs.ListLemmas.{has_either, has_left, has_right}
 use Rattle.atl_store.specs.Sets.{Set, Is, put, puts}
 use Rattle.atl_store.specs.Shown.{int}
 use Rattle.atl_store.specs.Rows.{RowsOf, lines_of}
+use Rattle.atl_store.specs.Lines.{DifferInKey}
 use Rattle.atl_store.proofs.ListLaws.{has_map, map_has}
 
 -- ---- an entry is in the list exactly where the map has it
@@ -71,14 +72,23 @@ module _ {V : Type 0} where
   pub in_order : (m : FinMap nat_cmp V) → is_sorted nat_cmp (entries m) ≡ true
   in_order m = is_true _ (entries_sorted m)
 
+-- ---- lists made of lists
+
+pub flat_has : {X Y : Type 0} (f : X → List Y) (xs : List X) (r : Y) → Has (flat_map f xs) r → (x : X) × Has xs x × Has (f x) r
+flat_has f [] r there = absurd there
+flat_has f (x ∷ xs) r there = elim (has_either (f x) (flat_map f xs) r there) [
+  | inl here ↦ (x, inl refl, here)
+  | inr more ↦ let found = flat_has f xs r more in (found.0, inr found.1, found.2)
+]
+
+pub has_flat : {X Y : Type 0} (f : X → List Y) (xs : List X) (x : X) (r : Y) → Has xs x → Has (f x) r → Has (flat_map f xs) r
+has_flat f [] x r there here = absurd there
+has_flat f (y ∷ xs) x r (inl same) here = has_left (f y) (flat_map f xs) r (subst (λ z. Has (f z) r) same here)
+has_flat f (y ∷ xs) x r (inr later) here = has_right (f y) (flat_map f xs) r (has_flat f xs x r later here)
+
 -- ---- rows with different keys, put into an empty table
 
--- no two of the rows have one key
-abbrev pub AreApart : ℕ → List Row → Type 0
-AreApart key [] = ⊤
-AreApart key (x ∷ xs) = ((y : Row) → Has xs y → take key x ≢ take key y) × AreApart key xs
-
-pub puts_has : (key : ℕ) (news : List Row) (S : Set) → AreApart key news → ((s : Row) → S s → (x : Row) → Has news x → take key s ≢ take key x) → (r : Row) → (puts key news S r → Has news r ⊎ S r) × (Has news r ⊎ S r → puts key news S r)
+pub puts_has : (key : ℕ) (news : List Row) (S : Set) → DifferInKey key news → ((s : Row) → S s → (x : Row) → Has news x → take key s ≢ take key x) → (r : Row) → (puts key news S r → Has news r ⊎ S r) × (Has news r ⊎ S r → puts key news S r)
 puts_has key [] S apart free r = (λ h. inr h, λ h. elim h [ inl none ↦ absurd none | inr was ↦ was ])
 puts_has key (x ∷ xs) S apart free r =
     let later = puts_has key xs (put key x S) apart.1 (λ s is y there e. elim is [
@@ -90,7 +100,7 @@ puts_has key (x ∷ xs) S apart free r =
     )
 
 -- a table with no row has these rows once they are put
-pub filled : (key : ℕ) (rows news old : List Row) → old ≡ [] → AreApart key news → Is rows (puts key news (Has old)) → Is rows (Has news)
+pub filled : (key : ℕ) (rows news old : List Row) → old ≡ [] → DifferInKey key news → Is rows (puts key news (Has old)) → Is rows (Has news)
 filled key rows news old none apart made r =
     let empty : (s : Row) → Has old s → ⊥ = λ s there. subst (λ l. Has l s) none there in
     let all = puts_has key news (Has old) apart (λ s there x _ _. empty s there) r in (
@@ -98,7 +108,7 @@ filled key rows news old none apart made r =
       λ there. (made r).1 (all.1 (inl there)),
     )
 
-pub apart_append : (key : ℕ) (xs ys : List Row) → AreApart key xs → AreApart key ys → ((x y : Row) → Has xs x → Has ys y → take key x ≢ take key y) → AreApart key (xs ++ ys)
+pub apart_append : (key : ℕ) (xs ys : List Row) → DifferInKey key xs → DifferInKey key ys → ((x y : Row) → Has xs x → Has ys y → take key x ≢ take key y) → DifferInKey key (xs ++ ys)
 apart_append key [] ys one two cross = two
 apart_append key (x ∷ xs) ys one two cross = (
   λ y there. elim (has_either xs ys y there) [ inl early ↦ one.0 y early | inr late ↦ cross x y (inl refl) late ],
@@ -116,7 +126,7 @@ lines_rows {V} line m es same r there =
     (x.0.0, x.0.1, entry_got m x.0.0 x.0.1 (subst (λ (l : List (ℕ × V)). Has l x.0) same x.1), x.2)
 
 module _ {V : Type 0} (line : ℕ → V → Row) (numbered : (n : ℕ) (v : V) → take 1 (line n v) ≡ int n ∷ []) where
-  lines_apart : (es : List (ℕ × V)) → is_sorted nat_cmp es ≡ true → AreApart 1 (lines_of line es)
+  lines_apart : (es : List (ℕ × V)) → is_sorted nat_cmp es ≡ true → DifferInKey 1 (lines_of line es)
   lines_apart [] sorted = tt
   lines_apart (e ∷ es) sorted = (
     λ y there same.

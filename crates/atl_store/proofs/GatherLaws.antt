@@ -17,7 +17,7 @@ use Rattle.atl_store.specs.Reading.{ReadsRows, GivesTable, Rests, Selects, Refus
 use Rattle.atl_store.specs.Sets.{rows_in}
 use Rattle.atl_store.specs.StoredRows.{faction_stored, region_stored, unit_stored, structure_stored, mail_stored, report_stored, has_stored, books_stored}
 use Rattle.atl_store.specs.Stored.{Form, AreTyped}
-use Rattle.atl_store.specs.Tables.{faction_table, region_table, unit_table, has_table, structure_table, mail_table, report_table, books_table, HasNine}
+use Rattle.atl_store.specs.Tables.{faction_table, region_table, unit_table, has_table, structure_table, mail_table, report_table, books_table, HasAll}
 use Rattle.atl_store.specs.declared.fault.ReadFault.{ReadFault}
 use Rattle.atl_store.specs.declared.fault.ReadFault.TheVariants as read
 use Rattle.atl_store.specs.declared.fault.StoreFault.{StoreFault}
@@ -184,8 +184,8 @@ module _ {S : Type 0} (g : Ghosts S) where
     }
 
     pub rows_behind : {A : Type 0} (in_table : Trees → List Row) (shown : A → Row) (rows : List A) → AreRows g mid in_table shown rows → AreRows g old in_table shown rows
-    rows_behind in_table shown rows are nine =
-        subst (λ (d : Database). IsPermutation (in_table d.trees) (map shown rows)) same (are (subst HasNine (sym (ap (λ (d : Database). d.schema) same)) nine))
+    rows_behind in_table shown rows are begins =
+        subst (λ (d : Database). IsPermutation (in_table d.trees) (map shown rows)) same (are (subst HasAll (sym (ap (λ (d : Database). d.schema) same)) begins))
 
     pub two_behind : {A B Z : Type 0} (first : Trees → List Row) (a : A → Row) (second : Trees → List Row) (b : B → Row) (read : Vec A Z × Vec B Z) → AreTwo g mid first a second b read → AreTwo g old first a second b read
     two_behind first a second b read are = (rows_behind first a read.0.items are.0, rows_behind second b read.1.items are.1)

@@ -1,6 +1,5 @@
 -- The rows of all that units have.
 use Rattle.std.proofs.Common.{◌≡◌, ◌≢◌, ◌==◌, ℕ, Bool, true, false, if◌then◌else◌, List, [], ◌∷◌, take, Some, refl, sym, ap, ◌∙◌, subst, inl, inr, true≢false, arith}
-use Rattle.std.specs.List.{flat_map}
 use Rattle.std.specs.Ordering.{nat_cmp}
 use Rattle.std.specs.FinMap.{FinMap, entries, get, is_sorted}
 use Rattle.std.proofs.lemmas.Bool.{cases_Bool, and_parts}
@@ -12,26 +11,11 @@ use Rattle.atl_state.specs.Held.{Held}
 use Rattle.atl_state.specs.declared.records.Unit.{Unit}
 use Rattle.atl_store.specs.declared.rows.has.Sort.{Sort}
 use Rattle.atl_store.specs.declared.rows.has.Sort.TheVariants.{Item, Skill}
-use Rattle.atl_store.specs.Sets.{Is, puts}
-use Rattle.atl_store.specs.Shown.{has_key, has_row}
+use Rattle.atl_store.specs.Shown.{int, has_key, has_row}
 use Rattle.atl_store.specs.Written.{sort_number}
 use Rattle.atl_store.specs.Rows.{things_of, HasRowsOf}
-use Rattle.atl_store.specs.Lines.{thing_lines, sort_lines, goods_lines, all_goods_lines}
-use Rattle.atl_store.proofs.EntryLaws.{AreApart, apart_append, filled, below_has, less_apart, got_entry, entry_got, in_order}
-
--- ---- lists made of lists
-
-pub flat_has : {X Y : Type 0} (f : X → List Y) (xs : List X) (r : Y) → Has (flat_map f xs) r → (x : X) × Has xs x × Has (f x) r
-flat_has f [] r there = absurd there
-flat_has f (x ∷ xs) r there = elim (has_either (f x) (flat_map f xs) r there) [
-  | inl here ↦ (x, inl refl, here)
-  | inr more ↦ let found = flat_has f xs r more in (found.0, inr found.1, found.2)
-]
-
-pub has_flat : {X Y : Type 0} (f : X → List Y) (xs : List X) (x : X) (r : Y) → Has xs x → Has (f x) r → Has (flat_map f xs) r
-has_flat f [] x r there here = absurd there
-has_flat f (y ∷ xs) x r (inl same) here = has_left (f y) (flat_map f xs) r (subst (λ z. Has (f z) r) same here)
-has_flat f (y ∷ xs) x r (inr later) here = has_right (f y) (flat_map f xs) r (has_flat f xs x r later here)
+use Rattle.atl_store.specs.Lines.{DifferInKey, AreGroups, thing_lines, sort_lines, goods_lines, unit_lines}
+use Rattle.atl_store.proofs.EntryLaws.{apart_append, below_has, less_apart, got_entry, entry_got, in_order, flat_has, has_flat}
 
 -- ---- one amount
 
@@ -44,7 +28,7 @@ pub has_optional : (b : Bool) (row : Row) → b ≡ false → Has (if b then [] 
 has_optional true row is = absurd (true≢false is)
 has_optional false row is = inl refl
 
-pub optional_apart : (key : ℕ) (b : Bool) (row : Row) → AreApart key (if b then [] else row ∷ [])
+pub optional_apart : (key : ℕ) (b : Bool) (row : Row) → DifferInKey key (if b then [] else row ∷ [])
 optional_apart key true row = tt
 optional_apart key false row = (λ y none. absurd none, tt)
 
@@ -69,7 +53,7 @@ has_sort : (unit : ℕ) (sort : Sort) (es : List (ℕ × ℕ)) (thing amount : �
 has_sort unit sort es thing amount there some =
     has_flat (λ (e : ℕ × ℕ). thing_lines unit sort e.0 e.1) es (thing, amount) _ there (has_optional (amount == 0) (has_row unit (sort_number sort) thing amount) (is_not_zero amount some))
 
-sort_apart : (unit : ℕ) (sort : Sort) (es : List (ℕ × ℕ)) → is_sorted nat_cmp es ≡ true → AreApart 3 (sort_lines unit sort es)
+sort_apart : (unit : ℕ) (sort : Sort) (es : List (ℕ × ℕ)) → is_sorted nat_cmp es ≡ true → DifferInKey 3 (sort_lines unit sort es)
 sort_apart unit sort [] sorted = tt
 sort_apart unit sort (e ∷ es) sorted =
     apart_append 3 (thing_lines unit sort e.0 e.1) (sort_lines unit sort es) (optional_apart 3 (e.1 == 0) (has_row unit (sort_number sort) e.0 e.1)) (sort_apart unit sort es (and_parts _ _ sorted).1)
@@ -91,7 +75,7 @@ pub has_goods : (unit : ℕ) (held : Held) (sort : Sort) (thing amount : ℕ) �
 has_goods unit held Item thing amount there some = has_left (sort_lines unit Item (entries held.items)) (sort_lines unit Skill (entries held.days)) _ (has_sort unit Item (entries held.items) thing amount there some)
 has_goods unit held Skill thing amount there some = has_right (sort_lines unit Item (entries held.items)) (sort_lines unit Skill (entries held.days)) _ (has_sort unit Skill (entries held.days) thing amount there some)
 
-pub goods_apart : (unit : ℕ) (held : Held) → AreApart 3 (goods_lines unit held)
+pub goods_apart : (unit : ℕ) (held : Held) → DifferInKey 3 (goods_lines unit held)
 goods_apart unit held =
     apart_append 3 (sort_lines unit Item (entries held.items)) (sort_lines unit Skill (entries held.days)) (sort_apart unit Item (entries held.items) (in_order held.items)) (sort_apart unit Skill (entries held.days) (in_order held.days))
     (λ x y early late same.
@@ -100,33 +84,26 @@ goods_apart unit held =
     let keys = three_same unit 0 one.0.0 unit 1 two.0.0 (ap (take 3) (sym one.3) ∙ same ∙ ap (take 3) two.3) in
     absurd (omega (arith, keys.1)))
 
+goods_begin : (n : ℕ) (held : Held) (r : Row) → Has (goods_lines n held) r → take 1 r ≡ int n ∷ []
+goods_begin n held r there = ap (take 1) (goods_has n held r there).4
+
 -- ---- all that all units have
 
-all_apart : (es : List (ℕ × Unit)) → is_sorted nat_cmp es ≡ true → AreApart 3 (all_goods_lines es)
-all_apart [] sorted = tt
-all_apart (e ∷ es) sorted =
-    apart_append 3 (goods_lines e.0 e.1.holding) (all_goods_lines es) (goods_apart e.0 e.1.holding) (all_apart es (and_parts _ _ sorted).1)
-    (λ x y early late same.
-    let one = goods_has e.0 e.1.holding x early in
-    let found = flat_has (λ (u : ℕ × Unit). goods_lines u.0 u.1.holding) es y late in
-    let two = goods_has found.0.0 found.0.1.holding y found.2 in
-    let keys = three_same e.0 (sort_number one.0) one.1.0 found.0.0 (sort_number two.0) two.1.0 (ap (take 3) (sym one.4) ∙ same ∙ ap (take 3) two.4) in
-    less_apart e.0 found.0.0 (below_has e.0 es found.0 (and_parts _ _ sorted).0 found.1) keys.0)
-
-pub goods_rows : (units : FinMap nat_cmp Unit) (n : ℕ) (u : Unit) → get units n ≡ Some u → (r : Row) → Has (goods_lines n u.holding) r → HasRowsOf units r
+goods_rows : (units : FinMap nat_cmp Unit) (n : ℕ) (u : Unit) → get units n ≡ Some u → (r : Row) → Has (goods_lines n u.holding) r → HasRowsOf units r
 goods_rows units n u got r there =
     let row = goods_has n u.holding r there in
     (n, u, got, row.0, row.1.0, row.1.1, entry_got (things_of row.0 u.holding) row.1.0 row.1.1 row.2, row.3, row.4)
 
-pub all_goods_rows : (units : FinMap nat_cmp Unit) (es : List (ℕ × Unit)) → es ≡ entries units → (r : Row) → Has (all_goods_lines es) r → HasRowsOf units r
-all_goods_rows units es same r there =
-    let found = flat_has (λ (u : ℕ × Unit). goods_lines u.0 u.1.holding) es r there in
-    goods_rows units found.0.0 found.0.1 (entry_got units found.0.0 found.0.1 (subst (λ (l : List (ℕ × Unit)). Has l found.0) same found.1)) r found.2
-
-pub goods_filled : (rows old : List Row) (units : FinMap nat_cmp Unit) → old ≡ [] → Is rows (puts 3 (all_goods_lines (entries units)) (Has old)) → Is rows (HasRowsOf units)
-goods_filled rows old units none made r =
-    let is = filled 3 rows (all_goods_lines (entries units)) old none (all_apart (entries units) (in_order units)) made r in (
-      λ there. all_goods_rows units (entries units) refl r (is.0 there),
-      λ of. is.1 (has_flat (λ (u : ℕ × Unit). goods_lines u.0 u.1.holding) (entries units) (of.0, of.1) r (got_entry units of.0 of.1 of.2)
-          (subst (Has (goods_lines of.0 of.1.holding)) (sym of.8) (has_goods of.0 of.1.holding of.3 of.4 of.5 (got_entry (things_of of.3 of.1.holding) of.4 of.5 of.6) of.7))),
-    )
+-- they belong to the units
+pub goods_grouped : (units : FinMap nat_cmp Unit) → AreGroups unit_lines 3 units (HasRowsOf units)
+goods_grouped units = record {
+  numbered = λ n u. goods_begin n u.holding;
+  apart = λ n u. goods_apart n u.holding;
+  wanted = goods_rows units;
+  lined = λ r of. (
+    of.0,
+    of.1,
+    of.2,
+    subst (Has (goods_lines of.0 of.1.holding)) (sym of.8) (has_goods of.0 of.1.holding of.3 of.4 of.5 (got_entry (things_of of.3 of.1.holding) of.4 of.5 of.6) of.7),
+  );
+}

@@ -1,5 +1,5 @@
 -- What the statements on the table has mean, and what they do.
-use Rattle.std.proofs.Common.{◌≡◌, ℕ, pos, true, List, [], ◌∷◌, refl, sym, inl, inr, true≢false}
+use Rattle.std.proofs.Common.{◌≡◌, ℕ, pos, true, List, [], ◌∷◌, refl, sym, true≢false}
 use Rattle.std.proofs.lemmas.Bool.{and_parts, not-true}
 use Rattle.sqlite_tied.specs.Compute.{everything}
 use Rattle.sqlite.specs.declared.types.Value.TheVariants.{Null}
@@ -13,12 +13,13 @@ use Rattle.sqlite_sql.specs.declared.ops.CompareOp.TheVariants.{Eq}
 use Rattle.sqlite_value.specs.Keys.{first_key}
 use Rattle.sqlite_schema.specs.declared.schema.Constraint.TheVariants.{Datatype, NotNull}
 use Rattle.sqlite_schema.specs.Rules.{passes}
-use Rattle.atl_store.specs.Tables.{has_table, has_unique}
+use Rattle.atl_store.specs.Tables.{Goods, has_table, has_unique}
 use Rattle.atl_store.specs.Shown.{int, has_row}
 use Rattle.atl_store.specs.Inside.{Puts, Drops}
 use Rattle.atl_store.specs.Statements.{deletion, upsert}
 use Rattle.atl_store.proofs.KeyLaws.{int_by, cons_is}
 use Rattle.atl_store.proofs.KeyedRowLaws.{AreInts, HasKey, IsPutUnder, IsTakeOut, MakesValues, puts_keyed, drops_keyed}
+use Rattle.atl_store.proofs.PartLaws.{listed}
 use Rattle.atl_store.proofs.StatementLaws.{AlwaysPlain, DoneBy}
 use Rattle.atl_store.proofs.Terms.{cast_null, cast_int}
 
@@ -42,7 +43,7 @@ ints_from schema (r ∷ a ∷ b ∷ c ∷ rest) typed present =
 has_key : HasKey has_table 4 has_unique
 unfolding first_key
 has_key = record {
-  ours = inr (inr (inr (inr (inl refl))));
+  ours = listed Goods;
   place = λ more. refl;
   plain = λ db. refl;
   ints = ints_from;

@@ -1,5 +1,5 @@
 -- A joining is written, and a mail: what the tables hold then.
-use Rattle.std.proofs.Common.{◌≡◌, ◌≢◌, ◌⊎◌, ◌+◌, ◌<◌, ℕ, ℤ, pos, List, [], length, map, get_or, set, Some, None, refl, sym, ap, ◌∙◌, subst, inl, inr, take, arith}
+use Rattle.std.proofs.Common.{◌≡◌, ◌≢◌, ◌⊎◌, ◌+◌, ◌<◌, ℕ, ℤ, pos, List, [], ◌∷◌, length, map, get_or, set, Some, None, false, refl, sym, ap, ◌∙◌, subst, inl, inr, take, arith}
 use Rattle.std.specs.Prelude.{◌+ℤ◌}
 use Rattle.std.specs.Ordering.{nat_cmp}
 use Rattle.std.specs.FinMap.{FinMap, get, insert, empty}
@@ -25,14 +25,14 @@ use Rattle.atl_state.proofs.BookLaws.{IsGrid-with_booked}
 use Rattle.atl_store.specs.declared.rows.has.Sort.{Sort}
 use Rattle.atl_store.specs.declared.rows.has.Sort.TheVariants.{Item, Skill}
 use Rattle.atl_store.specs.Sets.{Is, Set, put, visible, rows_in}
-use Rattle.atl_store.specs.Tables.{campaign_table, faction_table, region_table, unit_table, has_table, structure_table, mail_table, report_table, books_table, all_tables}
+use Rattle.atl_store.specs.Tables.{Part, Own, Factions, Units, Goods, Mail, Reports, Books, table_of, campaign_table, faction_table, unit_table, has_table, mail_table, report_table, books_table, all_tables}
 use Rattle.atl_store.specs.Shown.{Head, head_row, mail_row, report_row}
-use Rattle.atl_store.specs.Rows.{head_of, campaign_line, faction_line, region_line, unit_line, structure_line, RowsOf, HasRowsOf, BooksRowsOf, things_of, Holds}
+use Rattle.atl_store.specs.Rows.{head_of, campaign_line, faction_line, unit_line, RowsOf, HasRowsOf, rows_for, things_of, Holds}
 use Rattle.atl_store.specs.PutsHead.{PutsHead}
 use Rattle.atl_store.specs.Inside.{Inside, HasTables, Both, Puts}
 use Rattle.atl_store.specs.Keeps.{IsJoining}
-use Rattle.atl_store.specs.Arriving.{IsFound, settled, Settles, HasPut, WritesJoin, WritesMail}
-use Rattle.atl_store.proofs.FillLaws.{stays_is}
+use Rattle.atl_store.specs.Arriving.{IsFound, Enters, settled, Settles, HasPut, WritesJoin, WritesMail}
+use Rattle.atl_store.proofs.PartLaws.{listed, same_part, is_among, not_among, stays_is}
 use Rattle.atl_store.proofs.ArriveLaws.{get_inserted, put_rows, no_goods, settled_rows}
 use Rattle.atl_store.proofs.WholeLaws.{inside_then, inside_weaker}
 
@@ -127,8 +127,8 @@ put_head rows news text before after was made r = (
 abbrev Enrolls : ℕ → Faction → ℕ → Unit → CampaignValue → List ℕ → Database → Database → Type 0
 Enrolls n f m u after world = Both (PutsHead (head_of after) world) (Both (Puts faction_table 1 (faction_line n f)) (Puts unit_table 1 (unit_line m u)))
 
-abbrev Reports : ℕ → List ℕ → CampaignValue → Database → Database → Type 0
-Reports n report after = Both (Puts report_table 1 (report_row n report)) (Both (Settles after Joining Money) (Settles after Joining People))
+abbrev Welcomes : ℕ → List ℕ → CampaignValue → Database → Database → Type 0
+Welcomes n report after = Both (Puts report_table 1 (report_row n report)) (Both (Settles after Joining Money) (Settles after Joining People))
 
 -- what came of the rows of a table that the steps before and after left alone
 rows_moved : (t : Table) (F : List Row → Set) (a b c d : Database) → b.trees t.tree ≡ a.trees t.tree → d.trees t.tree ≡ c.trees t.tree → Is (rows_in t c.trees) (F (rows_in t b.trees)) → Is (rows_in t d.trees) (F (rows_in t a.trees))
@@ -141,7 +141,7 @@ settled_on c e t rows news S was is r = (
 )
 
 module _ (n : ℕ) (f : Faction) (m : ℕ) (u : Unit) (report : List ℕ) (after : CampaignValue) (found : IsFound after n f m u report) where
-  joins : (world : List ℕ) (a b d : Database) → Enrolls n f m u after world a b → Reports n report after b d → WritesJoin n after a d
+  joins : (world : List ℕ) (a b d : Database) → Enrolls n f m u after world a b → Welcomes n report after b d → WritesJoin n after a d
   joins world a b d enrolls reports before text was =
       let x = enrolls.0 in
       let y = enrolls.2.0 in
@@ -153,59 +153,60 @@ module _ (n : ℕ) (f : Faction) (m : ℕ) (u : Unit) (report : List ℕ) (after
       let welcome = reports.1 in
       let money = reports.2.1 in
       let people = reports.2.2 in
-      let report_listed : Has all_tables report_table = inr (inr (inr (inr (inr (inr (inr (inl refl))))))) in
-      let books_listed : Has all_tables books_table = inr (inr (inr (inr (inr (inr (inr (inr (inl refl)))))))) in
       let to_books : (t : Table) → Has all_tables t → t.tree ≢ 0 → t.tree ≢ 1 → t.tree ≢ 4 → b.trees t.tree ≡ a.trees t.tree = λ t listed h0 h1 h4. unit.others t listed h4 ∙ member.others t listed h1 ∙ head.others t listed h0 in
       let from_books : (t : Table) → Has all_tables t → t.tree ≢ 9 → t.tree ≢ 10 → d.trees t.tree ≡ b.trees t.tree = λ t listed h9 h10. people.others t listed h10 ∙ money.others t listed h10 ∙ welcome.others t listed h9 in
       let alone : (t : Table) → Has all_tables t → t.tree ≢ 0 → t.tree ≢ 1 → t.tree ≢ 4 → t.tree ≢ 9 → t.tree ≢ 10 → d.trees t.tree ≡ a.trees t.tree = λ t listed h0 h1 h4 h9 h10. from_books t listed h9 h10 ∙ to_books t listed h0 h1 h4 in
       record {
         campaign = stays_is campaign_table (λ r. r ≡ campaign_line text after) x d
-            (from_books campaign_table (inl refl) (λ e. absurd (omega (arith, e))) (λ e. absurd (omega (arith, e))) ∙ unit.others campaign_table (inl refl) (λ e. absurd (omega (arith, e))) ∙ member.others campaign_table (inl refl) (λ e. absurd (omega (arith, e))))
+            (from_books campaign_table (listed Own) (λ e. absurd (omega (arith, e))) (λ e. absurd (omega (arith, e))) ∙ unit.others campaign_table (listed Own) (λ e. absurd (omega (arith, e))) ∙ member.others campaign_table (listed Own) (λ e. absurd (omega (arith, e))))
             (put_head (rows_in campaign_table a.trees) (rows_in campaign_table x.trees) text before (head_of after) was head.rows);
         member = λ g is. subst (λ (row : Faction). HasPut faction_table (faction_line n row) a d) (same_Some f g (sym found.faction_is ∙ is))
-            (rows_moved faction_table (λ rows. put 1 (faction_line n f) (Has rows)) a x y d (head.others faction_table (inr (inl refl)) (λ e. absurd (omega (arith, e))))
-            (from_books faction_table (inr (inl refl)) (λ e. absurd (omega (arith, e))) (λ e. absurd (omega (arith, e))) ∙ unit.others faction_table (inr (inl refl)) (λ e. absurd (omega (arith, e)))) member.rows);
+            (rows_moved faction_table (λ rows. put 1 (faction_line n f) (Has rows)) a x y d (head.others faction_table (listed Factions) (λ e. absurd (omega (arith, e))))
+            (from_books faction_table (listed Factions) (λ e. absurd (omega (arith, e))) (λ e. absurd (omega (arith, e))) ∙ unit.others faction_table (listed Factions) (λ e. absurd (omega (arith, e)))) member.rows);
         unit = λ place v at is.
             let here : m ≡ place = omega (arith, at, found.place_is) in
             let row : unit_line m u ≡ unit_line place v = ap (λ k. unit_line k u) here ∙ ap (unit_line place) (same_Some u v (sym found.unit_is ∙ ap (get after.units) here ∙ is)) in
             subst (λ (l : Row). HasPut unit_table l a d) row
             (rows_moved unit_table (λ rows. put 1 (unit_line m u) (Has rows)) a y b d
-            (member.others unit_table (inr (inr (inr (inl refl)))) (λ e. absurd (omega (arith, e))) ∙ head.others unit_table (inr (inr (inr (inl refl)))) (λ e. absurd (omega (arith, e))))
-            (from_books unit_table (inr (inr (inr (inl refl)))) (λ e. absurd (omega (arith, e))) (λ e. absurd (omega (arith, e)))) unit.rows);
+            (member.others unit_table (listed Units) (λ e. absurd (omega (arith, e))) ∙ head.others unit_table (listed Units) (λ e. absurd (omega (arith, e))))
+            (from_books unit_table (listed Units) (λ e. absurd (omega (arith, e))) (λ e. absurd (omega (arith, e)))) unit.rows);
         report = λ told is. subst (λ (l : List ℕ). HasPut report_table (report_row n l) a d) (same_Some report told (sym found.report_is ∙ is))
-            (rows_moved report_table (λ rows. put 1 (report_row n report) (Has rows)) a b z d (to_books report_table report_listed (λ e. absurd (omega (arith, e))) (λ e. absurd (omega (arith, e))) (λ e. absurd (omega (arith, e))))
-            (people.others report_table report_listed (λ e. absurd (omega (arith, e))) ∙ money.others report_table report_listed (λ e. absurd (omega (arith, e)))) welcome.rows);
+            (rows_moved report_table (λ rows. put 1 (report_row n report) (Has rows)) a b z d (to_books report_table (listed Reports) (λ e. absurd (omega (arith, e))) (λ e. absurd (omega (arith, e))) (λ e. absurd (omega (arith, e))))
+            (people.others report_table (listed Reports) (λ e. absurd (omega (arith, e))) ∙ money.others report_table (listed Reports) (λ e. absurd (omega (arith, e)))) welcome.rows);
         books = settled_on after Joining People (rows_in books_table w.trees) (rows_in books_table d.trees) (settled after Joining Money (Has (rows_in books_table a.trees)))
             (rows_moved books_table (λ rows. settled after Joining Money (Has rows)) a z w w
-            (welcome.others books_table books_listed (λ e. absurd (omega (arith, e))) ∙ to_books books_table books_listed (λ e. absurd (omega (arith, e))) (λ e. absurd (omega (arith, e))) (λ e. absurd (omega (arith, e)))) refl money.rows)
+            (welcome.others books_table (listed Books) (λ e. absurd (omega (arith, e))) ∙ to_books books_table (listed Books) (λ e. absurd (omega (arith, e))) (λ e. absurd (omega (arith, e))) (λ e. absurd (omega (arith, e)))) refl money.rows)
             people.rows;
-        others = λ t listed. elim listed [
-          | inl is ↦ subst (λ (t : Table). d.trees t.tree ≡ a.trees t.tree) (sym is) (alone region_table (inr (inr (inl refl))) (λ e. absurd (omega (arith, e))) (λ e. absurd (omega (arith, e))) (λ e. absurd (omega (arith, e))) (λ e. absurd (omega (arith, e))) (λ e. absurd (omega (arith, e))))
-          | inr (inl is) ↦ subst (λ (t : Table). d.trees t.tree ≡ a.trees t.tree) (sym is) (alone has_table (inr (inr (inr (inr (inl refl))))) (λ e. absurd (omega (arith, e))) (λ e. absurd (omega (arith, e))) (λ e. absurd (omega (arith, e))) (λ e. absurd (omega (arith, e))) (λ e. absurd (omega (arith, e))))
-          | inr (inr (inl is)) ↦ subst (λ (t : Table). d.trees t.tree ≡ a.trees t.tree) (sym is) (alone structure_table (inr (inr (inr (inr (inr (inl refl)))))) (λ e. absurd (omega (arith, e))) (λ e. absurd (omega (arith, e))) (λ e. absurd (omega (arith, e))) (λ e. absurd (omega (arith, e))) (λ e. absurd (omega (arith, e))))
-          | inr (inr (inr (inl is))) ↦ subst (λ (t : Table). d.trees t.tree ≡ a.trees t.tree) (sym is) (alone mail_table (inr (inr (inr (inr (inr (inr (inl refl))))))) (λ e. absurd (omega (arith, e))) (λ e. absurd (omega (arith, e))) (λ e. absurd (omega (arith, e))) (λ e. absurd (omega (arith, e))) (λ e. absurd (omega (arith, e))))
-          | inr (inr (inr (inr none))) ↦ absurd none
-        ];
+        others = λ part free.
+            alone (table_of part) (listed part) (λ e. free (inl (same_part part Own e))) (λ e. free (inr (inl (same_part part Factions e)))) (λ e. free (inr (inr (inl (same_part part Units e)))))
+            (λ e. free (inr (inr (inr (inl (same_part part Reports e)))))) (λ e. free (inr (inr (inr (inr (inl (same_part part Books e)))))));
       }
 
   -- tables that held the campaign before the joining hold the one after it
   pub join_held : (a d : Database) → WritesJoin n after a d → (text : List ℕ) (before : CampaignValue) → IsJoining before n after → Holds a.trees text before → Holds d.trees text after
-  join_held a d did text before joining holds =
-      let arrival = arrives n f m u report before after found joining in
-      let enters = did (head_of before) text holds.campaign in
-      let money = settled_rows after Joining Money before.books arrival.half (Has (rows_in books_table a.trees)) arrival.money arrival.first holds.books in
-      let people = settled_rows after Joining People arrival.half after.books (settled after Joining Money (Has (rows_in books_table a.trees))) refl arrival.second money in
-      record {
-        campaign = enters.campaign;
-        factions = subst (λ (x : FinMap nat_cmp Faction). Is (rows_in faction_table d.trees) (RowsOf faction_line x)) (sym arrival.factions) (put_rows faction_line (λ k v. refl) (rows_in faction_table a.trees) (rows_in faction_table d.trees) before.factions n f holds.factions (enters.member f found.faction_is));
-        regions = subst (λ x. Is (rows_in region_table d.trees) (RowsOf region_line x)) (sym arrival.regions) (stays_is region_table (RowsOf region_line before.regions) a d (enters.others region_table (inl refl)) holds.regions);
-        units = subst (λ (x : FinMap nat_cmp Unit). Is (rows_in unit_table d.trees) (RowsOf unit_line x)) (sym arrival.units) (put_rows unit_line (λ k v. refl) (rows_in unit_table a.trees) (rows_in unit_table d.trees) before.units m u holds.units (enters.unit m u found.place_is found.unit_is));
-        has = subst (λ x. Is (rows_in has_table d.trees) (HasRowsOf x)) (sym arrival.units) (no_goods (rows_in has_table d.trees) before.units m u arrival.fresh arrival.bare (stays_is has_table (HasRowsOf before.units) a d (enters.others has_table (inr (inl refl))) holds.has));
-        structures = subst (λ x. Is (rows_in structure_table d.trees) (RowsOf structure_line x)) (sym arrival.structures) (stays_is structure_table (RowsOf structure_line before.structures) a d (enters.others structure_table (inr (inr (inl refl)))) holds.structures);
-        mail = subst (λ x. Is (rows_in mail_table d.trees) (RowsOf mail_row x)) (sym arrival.mail) (stays_is mail_table (RowsOf mail_row before.mail) a d (enters.others mail_table (inr (inr (inr (inl refl))))) holds.mail);
-        reports = subst (λ (x : FinMap nat_cmp (List ℕ)). Is (rows_in report_table d.trees) (RowsOf report_row x)) (sym arrival.reports) (put_rows report_row (λ k v. refl) (rows_in report_table a.trees) (rows_in report_table d.trees) before.reports n report holds.reports (enters.report report found.report_is));
-        books = λ r. (λ there. (people r).0 ((enters.books r).0 there), λ of. (enters.books r).1 ((people r).1 of));
-      }
+  unfolding joined
+  join_held a d did text before joining holds = record { rows = rows }
+    where
+      arrival : IsArrival n f m u report before after
+      arrival = arrives n f m u report before after found joining
+
+      enters : Enters n after text a d
+      enters = did (head_of before) text (holds.rows Own)
+
+      stays : (part : Part) → is_among (Own ∷ Factions ∷ Units ∷ Reports ∷ Books ∷ []) part ≡ false → Is (rows_in (table_of part) d.trees) (rows_for (campaign_line text before) before part)
+      stays part free = stays_is (table_of part) (rows_for (campaign_line text before) before part) a d (enters.others part (not_among _ part free)) (holds.rows part)
+
+      rows : (part : Part) → Is (rows_in (table_of part) d.trees) (rows_for (campaign_line text after) after part)
+      rows Own = enters.campaign
+      rows Factions = subst (λ (x : FinMap nat_cmp Faction). Is (rows_in faction_table d.trees) (RowsOf faction_line x)) (sym arrival.factions) (put_rows faction_line (λ k v. refl) (rows_in faction_table a.trees) (rows_in faction_table d.trees) before.factions n f (holds.rows Factions) (enters.member f found.faction_is))
+      rows Units = subst (λ (x : FinMap nat_cmp Unit). Is (rows_in unit_table d.trees) (RowsOf unit_line x)) (sym arrival.units) (put_rows unit_line (λ k v. refl) (rows_in unit_table a.trees) (rows_in unit_table d.trees) before.units m u (holds.rows Units) (enters.unit m u found.place_is found.unit_is))
+      rows Goods = subst (λ x. Is (rows_in has_table d.trees) (HasRowsOf x)) (sym arrival.units) (no_goods (rows_in has_table d.trees) before.units m u arrival.fresh arrival.bare (stays Goods refl))
+      rows Reports = subst (λ (x : FinMap nat_cmp (List ℕ)). Is (rows_in report_table d.trees) (RowsOf report_row x)) (sym arrival.reports) (put_rows report_row (λ k v. refl) (rows_in report_table a.trees) (rows_in report_table d.trees) before.reports n report (holds.rows Reports) (enters.report report found.report_is))
+      rows Books = λ r.
+          let money = settled_rows after Joining Money before.books arrival.half (Has (rows_in books_table a.trees)) arrival.money arrival.first (holds.rows Books) in
+          let people = settled_rows after Joining People arrival.half after.books (settled after Joining Money (Has (rows_in books_table a.trees))) refl arrival.second money r in
+          (λ there. people.0 ((enters.books r).0 there), λ of. (enters.books r).1 (people.1 of))
+      rows part = subst (λ (c : CampaignValue). Is (rows_in (table_of part) d.trees) (rows_for (campaign_line text c) c part)) (sym joining.7) (stays part refl)
 
 pub enrolling_done : (n : ℕ) (f : Faction) (m : ℕ) (u : Unit) (after : CampaignValue) (world : List ℕ) (start one two three : State) → Inside HasTables (PutsHead (head_of after) world) start one → Inside HasTables (Puts faction_table 1 (faction_line n f)) one two
     → Inside HasTables (Puts unit_table 1 (unit_line m u)) two three → Inside HasTables (Both (PutsHead (head_of after) world) (Both (Puts faction_table 1 (faction_line n f)) (Puts unit_table 1 (unit_line m u)))) start three
@@ -225,21 +226,15 @@ pub joining_done : (n : ℕ) (f : Faction) (m : ℕ) (u : Unit) (report : List �
     → Inside HasTables (Both (PutsHead (head_of after) world) (Both (Puts faction_table 1 (faction_line n f)) (Puts unit_table 1 (unit_line m u)))) start one
     → Inside HasTables (Both (Puts report_table 1 (report_row n report)) (Both (Settles after Joining Money) (Settles after Joining People))) one two → Inside HasTables (WritesJoin n after) start two
 joining_done n f m u report after world start one two found first second =
-    inside_weaker HasTables (Both (Enrolls n f m u after world) (Reports n report after)) (WritesJoin n after) start two (λ has did. joins n f m u report after found world start.now did.0 two.now did.1 did.2)
-    (inside_then HasTables (Enrolls n f m u after world) (Reports n report after) start one two first second)
+    inside_weaker HasTables (Both (Enrolls n f m u after world) (Welcomes n report after)) (WritesJoin n after) start two (λ has did. joins n f m u report after found world start.now did.0 two.now did.1 did.2)
+    (inside_then HasTables (Enrolls n f m u after world) (Welcomes n report after) start one two first second)
 
 -- ---- a mail
 
 -- tables that held a campaign hold it with this mail
 pub mail_held : (faction : ℕ) (mail : List ℕ) (a b : Database) → WritesMail faction mail a b → (text : List ℕ) (before : CampaignValue) → Holds a.trees text before → Holds b.trees text (with_mail before faction mail)
-mail_held faction mail a b did text before holds = record {
-  campaign = stays_is campaign_table (λ r. r ≡ campaign_line text before) a b (did.others campaign_table (inl refl) (λ e. absurd (omega (arith, e)))) holds.campaign;
-  factions = stays_is faction_table (RowsOf faction_line before.factions) a b (did.others faction_table (inr (inl refl)) (λ e. absurd (omega (arith, e)))) holds.factions;
-  regions = stays_is region_table (RowsOf region_line before.regions) a b (did.others region_table (inr (inr (inl refl))) (λ e. absurd (omega (arith, e)))) holds.regions;
-  units = stays_is unit_table (RowsOf unit_line before.units) a b (did.others unit_table (inr (inr (inr (inl refl)))) (λ e. absurd (omega (arith, e)))) holds.units;
-  has = stays_is has_table (HasRowsOf before.units) a b (did.others has_table (inr (inr (inr (inr (inl refl))))) (λ e. absurd (omega (arith, e)))) holds.has;
-  structures = stays_is structure_table (RowsOf structure_line before.structures) a b (did.others structure_table (inr (inr (inr (inr (inr (inl refl)))))) (λ e. absurd (omega (arith, e)))) holds.structures;
-  mail = put_rows mail_row (λ k v. refl) (rows_in mail_table a.trees) (rows_in mail_table b.trees) before.mail faction mail holds.mail did.rows;
-  reports = stays_is report_table (RowsOf report_row before.reports) a b (did.others report_table (inr (inr (inr (inr (inr (inr (inr (inl refl)))))))) (λ e. absurd (omega (arith, e)))) holds.reports;
-  books = stays_is books_table (BooksRowsOf before.books) a b (did.others books_table (inr (inr (inr (inr (inr (inr (inr (inr (inl refl))))))))) (λ e. absurd (omega (arith, e)))) holds.books;
-}
+mail_held faction mail a b did text before holds = record { rows = rows }
+  where
+    rows : (part : Part) → Is (rows_in (table_of part) b.trees) (rows_for (campaign_line text before) (with_mail before faction mail) part)
+    rows Mail = put_rows mail_row (λ k v. refl) (rows_in mail_table a.trees) (rows_in mail_table b.trees) before.mail faction mail (holds.rows Mail) did.rows
+    rows part = stays_is (table_of part) (rows_for (campaign_line text before) before part) a b (did.others (table_of part) (listed part) (λ e. absurd (omega (arith, e)))) (holds.rows part)

@@ -1,4 +1,4 @@
--- The rowids of the nine tables, where the rows that were read of them are those of a campaign.
+-- The rowids of the tables of a campaign, where the rows that were read of them are those of a campaign.
 use Rattle.std.proofs.Common.{◌≡◌, ◌≢◌, ◌++◌, ℕ, ℤ, pos, true, false, List, [], ◌∷◌, take, map, refl, sym, ap, ◌∙◌, subst, inl, inr, arith}
 use Rattle.std.specs.List.{AllByRecursion, IsDistinct}
 use Rattle.std.specs.List.Sorted.{IsPermutation}
@@ -17,7 +17,8 @@ use Rattle.sqlite_value.proofs.OrderLemmas.{value_cmp-Int}
 use Rattle.sqlite_trees.specs.Tree.{Trees, rowid}
 use Rattle.sqlite_trees.specs.View.{is_int}
 use Rattle.sqlite_rules.specs.Lists.{Has}
-use Rattle.sqlite_rules.proofs.ListLemmas.{all_from, all_has}
+use Rattle.sqlite_rules.proofs.ListLemmas.{all_from}
+use Rattle.atl_tables.specs.declared.format.Format.TheVariants.{First}
 use Rattle.atl_state.specs.Rows.{rows_by, rows_of, AreRowsOf}
 use Rattle.atl_state.specs.Rows as made
 use Rattle.atl_state.specs.Campaign.{CampaignValue}
@@ -36,7 +37,7 @@ use Rattle.atl_store.specs.Loading.{HaveRows, own_stored, has_values, books_valu
 use Rattle.atl_store.specs.Reading.{placed_rows_in}
 use Rattle.atl_store.specs.Sets.{IsKeyed, visible, rows_in}
 use Rattle.atl_store.specs.StoredRows.{faction_stored, region_stored, unit_stored, structure_stored, mail_stored, report_stored, has_stored, books_stored}
-use Rattle.atl_store.specs.Tables.{campaign_table, faction_table, region_table, unit_table, has_table, structure_table, mail_table, report_table, books_table, all_tables}
+use Rattle.atl_store.specs.Tables.{Part, Own, Factions, Regions, Units, Goods, Structures, Mail, Reports, Books, table_of, all_parts, campaign_table, faction_table, region_table, unit_table, has_table, structure_table, mail_table, report_table, books_table, all_tables}
 use Rattle.atl_store.proofs.EntryLaws.{below_has, less_apart, in_order}
 use Rattle.atl_store.proofs.ListLaws.{map_has}
 use Rattle.atl_store.proofs.LoadLaws.{keyed_by, keyed_shown}
@@ -136,16 +137,19 @@ has_apart db placed same keyed = keyed_apart has_stored (λ s. s.rowid) 4 (λ s.
 pub books_apart : (db : Trees) (placed : List (Placed StoredBooks)) → IsPermutation (placed_rows_in books_table db) (map books_stored placed) → IsKeyed (db books_table.tree) → IsDistinct int_eq (map (λ s. s.rowid) placed)
 books_apart db placed same keyed = keyed_apart books_stored (λ s. s.rowid) 3 (λ s. refl) (λ r. visible books_table r ++ rowid r ∷ []) (db books_table.tree) placed (λ r. refl) same keyed
 
--- ---- all nine
+-- ---- all
 
-pub rows_keyed : (db : Trees) (text : List ℕ) (p : Parts) (c : CampaignValue) → HaveRows db text p → AreRowsOf c p → IsKeyed (db has_table.tree) → IsKeyed (db books_table.tree) → (table : Table) → Has all_tables table → IsKeyed (db table.tree)
+pub rows_keyed : (db : Trees) (text : List ℕ) (p : Parts) (c : CampaignValue) → HaveRows db text p → AreRowsOf First c p → IsKeyed (db has_table.tree) → IsKeyed (db books_table.tree) → (table : Table) → Has all_tables table → IsKeyed (db table.tree)
 unfolding rows_of
-rows_keyed db text p c have are has books table there =
-    let campaign = keyed_numbers (own_stored text) (λ (s : StoredHead). s.id) 0 (λ s. refl) (visible campaign_table) (db 0) p.campaign (λ r. refl) have.campaign (one_apart (λ (s : StoredHead). s.id) (made.head_row c) p.campaign are.campaign) in
-    let factions = keyed_numbers faction_stored (λ (s : StoredFaction). s.number) 0 (λ s. refl) (visible faction_table) (db 1) p.factions (λ r. refl) have.factions (read_apart (λ (s : StoredFaction). s.number) made.faction_row (λ n v. refl) p.factions c.factions are.factions) in
-    let regions = keyed_numbers region_stored (λ (s : StoredRegion). s.number) 0 (λ s. refl) (visible region_table) (db 3) p.regions (λ r. refl) have.regions (read_apart (λ (s : StoredRegion). s.number) made.region_row (λ n v. refl) p.regions c.regions are.regions) in
-    let units = keyed_numbers unit_stored (λ (s : StoredUnit). s.number) 0 (λ s. refl) (visible unit_table) (db 4) p.units (λ r. refl) have.units (read_apart (λ (s : StoredUnit). s.number) made.unit_row (λ n v. refl) p.units c.units are.units) in
-    let structures = keyed_numbers structure_stored (λ (s : StoredStructure). s.number) 0 (λ s. refl) (visible structure_table) (db 7) p.structures (λ r. refl) have.structures (read_apart (λ (s : StoredStructure). s.number) made.structure_row (λ n v. refl) p.structures c.structures are.structures) in
-    let mail = keyed_numbers mail_stored (λ (s : StoredMail). s.faction) 0 (λ s. refl) (visible mail_table) (db 8) p.mail (λ r. refl) have.mail (read_apart (λ (s : StoredMail). s.faction) made.mail_row (λ n v. refl) p.mail c.mail are.mail) in
-    let reports = keyed_numbers report_stored (λ (s : StoredReport). s.faction) 0 (λ s. refl) (visible report_table) (db 9) p.reports (λ r. refl) have.reports (read_apart (λ (s : StoredReport). s.faction) made.report_row (λ n v. refl) p.reports c.reports are.reports) in
-    all_has (λ (t : Table). IsKeyed (db t.tree)) all_tables table (campaign, (factions, (regions, (units, (has, (structures, (mail, (reports, (books, tt))))))))) there
+rows_keyed db text p c have are has books table there = let part = map_has table_of all_parts table there in subst (λ (t : Table). IsKeyed (db t.tree)) (sym part.2) (keyed part.0)
+  where
+    keyed : (part : Part) → IsKeyed (db (table_of part).tree)
+    keyed Own = keyed_numbers (own_stored text) (λ (s : StoredHead). s.id) 0 (λ s. refl) (visible campaign_table) (db campaign_table.tree) p.campaign (λ r. refl) have.campaign (one_apart (λ (s : StoredHead). s.id) (made.head_row First c) p.campaign are.campaign)
+    keyed Factions = keyed_numbers faction_stored (λ (s : StoredFaction). s.number) 0 (λ s. refl) (visible faction_table) (db faction_table.tree) p.factions (λ r. refl) have.factions (read_apart (λ (s : StoredFaction). s.number) made.faction_row (λ n v. refl) p.factions c.factions are.factions)
+    keyed Regions = keyed_numbers region_stored (λ (s : StoredRegion). s.number) 0 (λ s. refl) (visible region_table) (db region_table.tree) p.regions (λ r. refl) have.regions (read_apart (λ (s : StoredRegion). s.number) made.region_row (λ n v. refl) p.regions c.regions are.regions)
+    keyed Units = keyed_numbers unit_stored (λ (s : StoredUnit). s.number) 0 (λ s. refl) (visible unit_table) (db unit_table.tree) p.units (λ r. refl) have.units (read_apart (λ (s : StoredUnit). s.number) made.unit_row (λ n v. refl) p.units c.units are.units)
+    keyed Goods = has
+    keyed Structures = keyed_numbers structure_stored (λ (s : StoredStructure). s.number) 0 (λ s. refl) (visible structure_table) (db structure_table.tree) p.structures (λ r. refl) have.structures (read_apart (λ (s : StoredStructure). s.number) made.structure_row (λ n v. refl) p.structures c.structures are.structures)
+    keyed Mail = keyed_numbers mail_stored (λ (s : StoredMail). s.faction) 0 (λ s. refl) (visible mail_table) (db mail_table.tree) p.mail (λ r. refl) have.mail (read_apart (λ (s : StoredMail). s.faction) made.mail_row (λ n v. refl) p.mail c.mail are.mail)
+    keyed Reports = keyed_numbers report_stored (λ (s : StoredReport). s.faction) 0 (λ s. refl) (visible report_table) (db report_table.tree) p.reports (λ r. refl) have.reports (read_apart (λ (s : StoredReport). s.faction) made.report_row (λ n v. refl) p.reports c.reports are.reports)
+    keyed Books = books

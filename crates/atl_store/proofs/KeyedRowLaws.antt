@@ -33,8 +33,8 @@ use Rattle.sqlite_rules.proofs.ListLemmas.{all_has, some_from}
 use Rattle.sqlite_rules.proofs.RuleLemmas.{keeps_at}
 use Rattle.atl_store.specs.Inside.{Inside, HasTables, Puts, Drops}
 use Rattle.atl_store.specs.Sets.{table, visible}
-use Rattle.atl_store.specs.Tables.{all_tables, all_indexes, nine_and, IsSoundly}
-use Rattle.atl_store.proofs.CarryLaws.{nine_among, unlinked, none_share, sound_under, done_with}
+use Rattle.atl_store.specs.Tables.{all_tables, all_indexes, all_and, IsSoundly}
+use Rattle.atl_store.proofs.CarryLaws.{among_all, unlinked, none_share, sound_under, done_with}
 use Rattle.atl_store.proofs.EditLaws.{delete_query, found_by}
 use Rattle.atl_store.proofs.KeyLaws.{cons_is, unwrapped}
 use Rattle.atl_store.proofs.MakeLaws.{did, upserts_make, loses_make}
@@ -83,12 +83,12 @@ pub record HasKey (t : Table) (at : ℕ) (places : List ℕ) : Type 0 where
 
 -- a DELETE from the tree at this place of what this filter finds,
 abbrev pub IsTakeOut : ℕ → ℕ → List ℕ → List Term → Type 0
-IsTakeOut tree at sql filter = (more : List Table) (indexes : List Index) → command_of (understood (nine_and more indexes) sql) ≡ Delete at (record { lets = []; body = delete_query tree filter })
+IsTakeOut tree at sql filter = (more : List Table) (indexes : List Index) → command_of (understood (all_and more indexes) sql) ≡ Delete at (record { lets = []; body = delete_query tree filter })
 
 -- or an INSERT of these terms, so many, with an update of what has the key, which comes behind so many parameters
 abbrev pub IsPutUnder : ℕ → ℕ → List ℕ → List ℕ → ℕ → List Term → ℕ → List Term → Type 0
 IsPutUnder tree at places sql width terms hole project = (more : List Table) (indexes : List Index)
-    → command_of (understood (nine_and more indexes) sql) ≡ InsertOr at Abort (Values terms width) (clause_on places (record { lets = []; body = update_query tree hole project }) ∷ [])
+    → command_of (understood (all_and more indexes) sql) ≡ InsertOr at Abort (Values terms width) (clause_on places (record { lets = []; body = update_query tree hole project }) ∷ [])
 
 -- these values are what the terms make of them, whether they are put or changed, and under whatever rowid
 pub record MakesValues (t : Table) (places : List ℕ) (width : ℕ) (terms : List Term) (hole : ℕ) (project : List Term) (values : Row) : Type 0 where
@@ -107,18 +107,18 @@ module _ (tree : ℕ) (name : List ℕ) (columns : List Column) (places : List �
   t = table tree name columns None places (places ∷ []) []
 
   module _ (key : HasKey t at places) where
-    module _ (more : List Table) (indexes : List Index) (db : Trees) (sound : IsSoundly (nine_and more indexes) db) where
+    module _ (more : List Table) (indexes : List Index) (db : Trees) (sound : IsSoundly (all_and more indexes) db) where
       abbrev schema : Schema
-      schema = nine_and more indexes
+      schema = all_and more indexes
 
       key_ints : (x : Row) → Has (db tree) x → AreInts places x
-      key_ints x there = key.ints schema x (keeps_at Datatype schema db t x (sound.listed.obeys.rules Datatype) (nine_among more t key.ours) there) (keeps_at NotNull schema db t x (sound.listed.obeys.rules NotNull) (nine_among more t key.ours) there)
+      key_ints x there = key.ints schema x (keeps_at Datatype schema db t x (sound.listed.obeys.rules Datatype) (among_all more t key.ours) there) (keeps_at NotNull schema db t x (sound.listed.obeys.rules NotNull) (among_all more t key.ours) there)
 
       -- two rows with one key have one rowid
       alone : (x r : Row) → Has (db tree) x → Has (db tree) r → take (length places) (visible t x) ≡ take (length places) (visible t r)
           → is_eq (value_cmp (rowid x) (rowid r)) ≡ true
       alone x r one two same =
-          let free = key.unique indexes (db tree) r (keeps_at Unique schema db t r (sound.listed.obeys.rules Unique) (nine_among more t key.ours) two) in
+          let free = key.unique indexes (db tree) r (keeps_at Unique schema db t r (sound.listed.obeys.rules Unique) (among_all more t key.ours) two) in
           let keyed = sound.keyed t key.ours in
           let agrees = agree_same places x r (key_ints r two) (sym (key.first x) ∙ same ∙ key.first r) in
           differ_not (rowid x) (rowid r) (all_has _ (db tree) x keyed.ints one) (all_has _ (db tree) r keyed.ints two) (elim (cases_Bool (differ (rowid x) (rowid r))) [
@@ -135,24 +135,24 @@ module _ (tree : ℕ) (name : List ℕ) (columns : List Column) (places : List �
     puts sql width hole terms project means asks values writes old new count inside ran = (
       ran.1.mode ∙ sym inside,
       λ has.
-          let tables = has.nine.tables in
-          let indexes = has.nine.indexes in
-          let schema = nine_and tables indexes in
+          let tables = has.begins.tables in
+          let indexes = has.begins.indexes in
+          let schema = all_and tables indexes in
           let sound = sound_under old.now has in
-          let none = unlinked tables indexes tree has.nine.free in
+          let none = unlinked tables indexes tree has.begins.free in
           let db = old.now.trees in
-          let w = runs_as sql values old new schema has.nine.is _ (means tables indexes) (asks tables indexes) count ran.0 in
+          let w = runs_as sql values old new schema has.begins.is _ (means tables indexes) (asks tables indexes) count ran.0 in
           let keyed = sound.keyed t key.ours in
           let up = upserting schema tree name columns None places (places ∷ []) [] at (key.place tables) none old.step_limit values places hole project key.plain (statement_of sql (understood schema sql)) terms width (Null ∷ values)
-          db _ keyed (λ r there. writes.aimed (rowid r) _) writes.source (did schema old new _ _ values count has.nine.is w) in
+          db _ keyed (λ r there. writes.aimed (rowid r) _) writes.source (did schema old new _ _ values count has.begins.is w) in
           let number = at_least Chosen (next_rowid (db tree)) in
           let new_row : Row = Int number ∷ values in
           let made : with_rowid Chosen (db tree) (cast_row t (Null ∷ values)) ≡ new_row = ap (with_rowid Chosen (db tree)) writes.casted in
           let shown : visible t (cast_row t new_row) ≡ values = ap (visible t) (writes.again number) ∙ writes.shown number in
           let its_key : take (length places) values ≡ at_places places new_row = ap (take (length places)) (sym (writes.shown number)) ∙ key.first new_row in
           let found : (x : Row) → conflicts (Some places) (all_indexes ++ indexes) t new_row x ≡ agree_at places x new_row =
-          λ x. key.hits indexes new_row x ∙ unwrapped _ _ (none_share t (Some places) new_row x indexes (λ i there. has.nine.plain i there t key.ours)) in
-          let makes = upserts_make schema (nine_among tables) t (length places) none old.step_limit values places hole project key.plain new_row values old.now new.now
+          λ x. key.hits indexes new_row x ∙ unwrapped _ _ (none_share t (Some places) new_row x indexes (λ i there. has.begins.plain i there t key.ours)) in
+          let makes = upserts_make schema (among_all tables) t (length places) none old.step_limit values places hole project key.plain new_row values old.now new.now
           (subst (λ n. Upserted schema t none old.step_limit values places hole project key.plain n db new.now.trees) made up.0)
           shown
           (λ r there same. writes.changed _ r (sym (key.first r) ∙ same))
@@ -180,18 +180,18 @@ module _ (tree : ℕ) (name : List ℕ) (columns : List Column) (places : List �
     drops sql filter means asks front its_ints first k ints whole finds old new count inside ran = (
       ran.1.mode ∙ sym inside,
       λ has.
-          let tables = has.nine.tables in
-          let indexes = has.nine.indexes in
-          let schema = nine_and tables indexes in
+          let tables = has.begins.tables in
+          let indexes = has.begins.indexes in
+          let schema = all_and tables indexes in
           let sound = sound_under old.now has in
-          let none = unlinked tables indexes tree has.nine.free in
+          let none = unlinked tables indexes tree has.begins.free in
           let db = old.now.trees in
           let test : Row → Bool = λ r. list_all (holds (k ∷ r ∷ [])) filter in
-          let w = runs_as sql k old new schema has.nine.is _ (means tables indexes) (asks tables indexes) count ran.0 in
+          let w = runs_as sql k old new schema has.begins.is _ (means tables indexes) (asks tables indexes) count ran.0 in
           let keyed = sound.keyed t key.ours in
           let out = removes schema tree name columns None places (places ∷ []) [] at (key.place tables) none old.step_limit k (statement_of sql (understood schema sql)) (record { lets = []; body = delete_query tree filter }) test db _ keyed
-          (λ rows answers. found_by tree filter db (overlay db []) k rows (key.plain db) (answers.answer Null)) (did schema old new _ _ k count has.nine.is w) in
-          let makes = loses_make schema (nine_among tables) t (length front) test k old.now new.now out.0
+          (λ rows answers. found_by tree filter db (overlay db []) k rows (key.plain db) (answers.answer Null)) (did schema old new _ _ k count has.begins.is w) in
+          let makes = loses_make schema (among_all tables) t (length front) test k old.now new.now out.0
           (λ x there. (
             λ hit. first x ∙ same_at front x (Null ∷ k) (its_ints x (key_ints tables indexes db sound x there)) ints (sym (finds x) ∙ hit) ∙ whole,
             λ same. finds x ∙ agree_same front x (Null ∷ k) ints (sym (first x) ∙ same ∙ sym whole),

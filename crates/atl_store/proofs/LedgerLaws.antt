@@ -19,9 +19,9 @@ use Rattle.atl_state.proofs.EveryEntryLaws.{entry_there}
 use Rattle.atl_store.specs.Sets.{Is, puts}
 use Rattle.atl_store.specs.Shown.{books_key, books_row}
 use Rattle.atl_store.specs.Rows.{BooksRowsOf}
-use Rattle.atl_store.specs.Lines.{amount_lines, entries_lines, things_lines}
-use Rattle.atl_store.proofs.EntryLaws.{AreApart, apart_append, filled}
-use Rattle.atl_store.proofs.GoodsLaws.{flat_has, has_flat, optional_has, has_optional, optional_apart}
+use Rattle.atl_store.specs.Lines.{DifferInKey, amount_lines, entries_lines, things_lines}
+use Rattle.atl_store.proofs.EntryLaws.{apart_append, filled, flat_has, has_flat}
+use Rattle.atl_store.proofs.GoodsLaws.{optional_has, has_optional, optional_apart}
 
 -- ---- entries by their places
 
@@ -93,7 +93,7 @@ module _ (c : CampaignValue) where
   has_entries : (t : Thing) (es : List Entry) (e : Entry) → Has es e → amount_in c.books e t ≢ pos 0 → Has (entries_lines c t es) (row_at e t)
   has_entries t es e there some = has_flat (λ e. amount_lines c e t) es e (row_at e t) there (has_optional (int_eq (amount_in c.books e t) (pos 0)) (row_at e t) (is_differing (amount_in c.books e t) some))
 
-  entries_apart : (t : Thing) (es : List Entry) → are_rising es ≡ true → AreApart 2 (entries_lines c t es)
+  entries_apart : (t : Thing) (es : List Entry) → are_rising es ≡ true → DifferInKey 2 (entries_lines c t es)
   entries_apart t [] rising = tt
   entries_apart t (e ∷ es) rising =
       apart_append 2 (amount_lines c e t) (entries_lines c t es) (optional_apart 2 (int_eq (amount_in c.books e t) (pos 0)) (row_at e t)) (entries_apart t es (and_parts _ _ rising).1)
@@ -106,7 +106,7 @@ module _ (c : CampaignValue) where
 
   -- ---- all things
 
-  things_apart : (from count : ℕ) → AreApart 2 (things_lines c (range_with_len from count))
+  things_apart : (from count : ℕ) → DifferInKey 2 (things_lines c (range_with_len from count))
   things_apart from zero = tt
   things_apart from (suc count) =
       apart_append 2 (entries_lines c (thing_at from) all_entries) (things_lines c (range_with_len (from + 1) count)) (entries_apart (thing_at from) all_entries refl) (things_apart (from + 1) count)

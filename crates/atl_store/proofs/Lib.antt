@@ -1,5 +1,6 @@
 pub mod Made
 pub mod ListLaws
+pub mod PartLaws
 pub mod EditLaws
 pub mod StatementLaws
 pub mod UpsertLaws
@@ -7,7 +8,7 @@ pub mod MakeLaws
 pub mod CarryLaws
 pub mod ChangeLaws
 pub mod RewriteLaws
-pub mod GoodsRewriteLaws
+pub mod GroupRowLaws
 pub mod BooksRewriteLaws
 pub mod RewriteAllLaws
 pub mod KeepLaws

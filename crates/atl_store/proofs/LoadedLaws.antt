@@ -7,10 +7,11 @@ use Rattle.sqlite_trees.specs.declared.store.Store.{Ghosts}
 use Rattle.sqlite.specs.Effect.{Database}
 use Rattle.sqlite.specs.Held.{Held, state}
 use Rattle.sqlite.specs.State.{HasCleanDisk}
+use Rattle.atl_tables.specs.declared.format.Format.TheVariants.{First}
 use Rattle.atl_tables.specs.Worlds.{WorldValue}
 use Rattle.atl_tables.specs.World.{old_world_of}
 use Rattle.atl_state.specs.Checking.{Checks, IsFirstBroken}
-use Rattle.atl_state.specs.RowRules.{is_one_head}
+use Rattle.atl_state.specs.RowRules.{is_one_head, are_of_format}
 use Rattle.atl_state.specs.Campaign.{MarkedCampaign}
 use Rattle.atl_state.specs.declared.checking.CheckFault.{CheckFault}
 use Rattle.atl_state.specs.declared.checking.CheckFault.TheVariants as check
@@ -25,7 +26,7 @@ use Rattle.atl_store.specs.Keeps.{Keeps, Stores}
 use Rattle.atl_store.specs.Loading.{HaveRows, KeepsOneRow, BreaksRule, IsDamaged, RefusesToLoad, Loads, LeavesAlone, Leaves, AreMade, AreToldTyped, WantsMemory, FailedMeanwhile, RefusesAgain, other_selects}
 use Rattle.atl_store.specs.Statements.{selection}
 use Rattle.atl_store.specs.Rows.{Holds}
-use Rattle.atl_store.specs.Tables.{HasNine, campaign_table}
+use Rattle.atl_store.specs.Tables.{HasAll, campaign_table}
 use Rattle.atl_store.specs.declared.fault.StoreFault.{StoreFault}
 use Rattle.atl_store.specs.declared.fault.StoreFault.TheVariants.{Store, Damaged, NotACampaign, Memory}
 use Rattle.atl_store.specs.declared.rows.campaign.StoredCampaign.{StoredCampaign}
@@ -35,7 +36,7 @@ use Rattle.atl_store.proofs.PartsLaws.{rows_hold}
 use Rattle.atl_store.proofs.WorldTextLaws.{world_text_is}
 
 -- a row whose id and format are 1 keeps the first rule
-one_head : (h : StoredHead) (rows : List StoredHead) → h.id ≡ pos 1 → h.format ≡ pos 1 → rows ≡ h ∷ [] → IsTrue (is_one_head rows)
+one_head : (h : StoredHead) (rows : List StoredHead) → h.id ≡ pos 1 → h.format ≡ pos 1 → rows ≡ h ∷ [] → IsTrue (is_one_head First rows)
 one_head h rows id format is = rw (is, id, format) refl
 
 module _ {S : Type 0} (g : Ghosts S) where
@@ -50,27 +51,27 @@ module _ {S : Type 0} (g : Ghosts S) where
   }
 
   -- all rows, as they were read
-  made_rows : {Z : Type 0} (old : Held S) (own : StoredCampaign) (w : WorldValue) (read : OthersRead Z) (p : Parts) → OwnRead g old own w → AreOthers g old read → IsMadeOf own.head read p → HasNine old.schema → HaveRows (state g old).now.trees (string_bytes own.world) p
-  made_rows old own w read p row others made nine = subst (HaveRows (state g old).now.trees (string_bytes own.world)) (sym made.is) (record {
-    campaign = row.table nine;
-    factions = others.0.0.0.0 nine;
-    regions = others.0.0.0.1 nine;
-    units = others.0.1.0 nine;
-    has = has_unplaced (state g old).now.trees read.0.1.1.items (others.0.1.1 nine);
-    structures = others.1.0.0 nine;
-    mail = others.1.0.1 nine;
-    reports = others.0.0.1 nine;
-    books = books_unplaced (state g old).now.trees read.1.1.items (others.1.1 nine);
+  made_rows : {Z : Type 0} (old : Held S) (own : StoredCampaign) (w : WorldValue) (read : OthersRead Z) (p : Parts) → OwnRead g old own w → AreOthers g old read → IsMadeOf own.head read p → HasAll old.schema → HaveRows (state g old).now.trees (string_bytes own.world) p
+  made_rows old own w read p row others made begins = subst (HaveRows (state g old).now.trees (string_bytes own.world)) (sym made.is) (record {
+    campaign = row.table begins;
+    factions = others.0.0.0.0 begins;
+    regions = others.0.0.0.1 begins;
+    units = others.0.1.0 begins;
+    has = has_unplaced (state g old).now.trees read.0.1.1.items (others.0.1.1 begins);
+    structures = others.1.0.0 begins;
+    mail = others.1.0.1 begins;
+    reports = others.0.0.1 begins;
+    books = books_unplaced (state g old).now.trees read.1.1.items (others.1.1 begins);
   })
 
-  made_places : {Z : Type 0} (old : Held S) (head : StoredHead) (read : OthersRead Z) (p : Parts) → AreOthers g old read → IsMadeOf head read p → HasNine old.schema → HavePlaces (state g old).now.trees p
-  made_places old head read p others made nine = record {
+  made_places : {Z : Type 0} (old : Held S) (head : StoredHead) (read : OthersRead Z) (p : Parts) → AreOthers g old read → IsMadeOf head read p → HasAll old.schema → HavePlaces (state g old).now.trees p
+  made_places old head read p others made begins = record {
     has_placed = read.0.1.1.items;
-    has = others.0.1.1 nine;
+    has = others.0.1.1 begins;
     has_rows = ap (λ (p : Parts). p.has) made.is;
     has_apart = made.has_apart;
     books_placed = read.1.1.items;
-    books = others.1.1 nine;
+    books = others.1.1 begins;
     books_rows = ap (λ (p : Parts). p.books) made.is;
     books_apart = made.books_apart;
   }
@@ -79,6 +80,7 @@ module _ {S : Type 0} (g : Ghosts S) where
   gathered_with old own w read p row found made = record {
     one = own_kept old own w row;
     head = one_head own.head p.campaign row.row.id row.row.format (ap (λ (p : Parts). p.campaign) made.is);
+    markets = ap (λ (p : Parts). are_of_format First p.markets) made.is;
     text = string_bytes own.world;
     world = row.row.world;
     typed = found.0;
@@ -89,36 +91,36 @@ module _ {S : Type 0} (g : Ghosts S) where
   -- ---- what the check of the rows refuses
 
   -- the tables are made as those of a campaign
-  are_made : (old : Held S) (w : WorldValue) (p : Parts) → Gathered g old w p → HasNine old.schema → AreMade g old
-  are_made old w p all nine =
-      let places = all.places nine in
+  are_made : (old : Held S) (w : WorldValue) (p : Parts) → Gathered g old w p → HasAll old.schema → AreMade g old
+  are_made old w p all begins =
+      let places = all.places begins in
       let db = (state g old).now.trees in
-      record { nine = nine; has_keyed = has_keyed db places.has_placed places.has places.has_apart; books_keyed = books_keyed db places.books_placed places.books places.books_apart }
+      record { begins = begins; has_keyed = has_keyed db places.has_placed places.has places.has_apart; books_keyed = books_keyed db places.books_placed places.books places.books_apart }
 
-  breaks : (old : Held S) (w : WorldValue) (p : Parts) → Gathered g old w p → HasNine old.schema → (rule : Rule) → IsFirstBroken w p rule → BreaksRule g old rule
-  breaks old w p all nine rule first = record { made = are_made old w p all nine; world = w; text = all.text; is_world = all.world; parts = p; rows = all.rows nine; first = first }
+  breaks : (old : Held S) (w : WorldValue) (p : Parts) → Gathered g old w p → HasAll old.schema → (rule : Rule) → IsFirstBroken First w p rule → BreaksRule g old rule
+  breaks old w p all begins rule first = record { made = are_made old w p all begins; world = w; text = all.text; is_world = all.world; parts = p; rows = all.rows begins; first = first }
 
-  damaged : (old : Held S) (w : WorldValue) (p : Parts) → Gathered g old w p → HasNine old.schema → (rule : Rule) → IsFirstBroken w p rule → IsDamaged g old rule
-  damaged old w p all nine OneRow first = absurd (first.broken all.head)
-  damaged old w p all nine Ranges first = inr (breaks old w p all nine Ranges first)
-  damaged old w p all nine Names first = breaks old w p all nine Names first
-  damaged old w p all nine Known first = breaks old w p all nine Known first
-  damaged old w p all nine Next first = breaks old w p all nine Next first
-  damaged old w p all nine Days first = breaks old w p all nine Days first
-  damaged old w p all nine Gone first = breaks old w p all nine Gone first
-  damaged old w p all nine Owners first = breaks old w p all nine Owners first
-  damaged old w p all nine Water first = breaks old w p all nine Water first
-  damaged old w p all nine Guards first = breaks old w p all nine Guards first
-  damaged old w p all nine Books first = breaks old w p all nine Books first
-  damaged old w p all nine Mail first = breaks old w p all nine Mail first
+  damaged : (old : Held S) (w : WorldValue) (p : Parts) → Gathered g old w p → HasAll old.schema → (rule : Rule) → IsFirstBroken First w p rule → IsDamaged g old rule
+  damaged old w p all begins OneRow first = absurd (first.broken (all.head, all.markets))
+  damaged old w p all begins Ranges first = inr (breaks old w p all begins Ranges first)
+  damaged old w p all begins Names first = breaks old w p all begins Names first
+  damaged old w p all begins Known first = breaks old w p all begins Known first
+  damaged old w p all begins Next first = breaks old w p all begins Next first
+  damaged old w p all begins Days first = breaks old w p all begins Days first
+  damaged old w p all begins Gone first = breaks old w p all begins Gone first
+  damaged old w p all begins Owners first = breaks old w p all begins Owners first
+  damaged old w p all begins Water first = breaks old w p all begins Water first
+  damaged old w p all begins Guards first = breaks old w p all begins Guards first
+  damaged old w p all begins Books first = breaks old w p all begins Books first
+  damaged old w p all begins Mail first = breaks old w p all begins Mail first
 
   -- behind the first rule a growth may be refused anywhere
   wants_memory : (old : Held S) → old.in_transaction ≡ false → KeepsOneRow g old → WantsMemory g old
   wants_memory old idle kept = (idle, inr (kept.rows, kept.selects))
 
-  pub judged_damaged : (old : Held S) → old.in_transaction ≡ false → (w : WorldValue) (p : Parts) → Gathered g old w p → HasNine old.schema → (fault : CheckFault) → Checks w p (Err fault) → RefusesToLoad g old (judged_fault fault)
-  judged_damaged old idle w p all nine (check.Damaged rule) first = damaged old w p all nine rule first
-  judged_damaged old idle w p all nine check.Memory none = wants_memory old idle all.one
+  pub judged_damaged : (old : Held S) → old.in_transaction ≡ false → (w : WorldValue) (p : Parts) → Gathered g old w p → HasAll old.schema → (fault : CheckFault) → Checks First w p (Err fault) → RefusesToLoad g old (judged_fault fault)
+  judged_damaged old idle w p all begins (check.Damaged rule) first = damaged old w p all begins rule first
+  judged_damaged old idle w p all begins check.Memory none = wants_memory old idle all.one
 
   -- ---- what else is refused behind the first rule
 
@@ -136,7 +138,7 @@ module _ {S : Type 0} (g : Ghosts S) where
   made_apart : {Z : Type 0} (old : Held S) (read : OthersRead Z) → AreOthers g old read → AreMade g old → AreApart read.0.1.1.items × AreApart read.1.1.items
   made_apart old read others made =
       let db = (state g old).now.trees in
-      (has_apart db read.0.1.1.items (others.0.1.1 made.nine) made.has_keyed, books_apart db read.1.1.items (others.1.1 made.nine) made.books_keyed)
+      (has_apart db read.0.1.1.items (others.0.1.1 made.begins) made.has_keyed, books_apart db read.1.1.items (others.1.1 made.begins) made.books_keyed)
 
   -- the rows are not put together
   pub unmade_refuses : {Z : Type 0} (old : Held S) → old.in_transaction ≡ false → KeepsOneRow g old → (read : OthersRead Z) → Found g old other_selects (AreOthers g old) (Some read)
@@ -159,9 +161,9 @@ module _ {S : Type 0} (g : Ghosts S) where
     }
 
     -- the schema is another one, or the connection is shut
-    other_schema : ¬ HasNine mid.schema → (¬ AreMade g old) ⊎ (FailedMeanwhile g old ⊎ RefusesAgain g old false)
+    other_schema : ¬ HasAll mid.schema → (¬ AreMade g old) ⊎ (FailedMeanwhile g old ⊎ RefusesAgain g old false)
     other_schema other = elim (cases_Bool (state g mid).is_open) [
-      | inl up ↦ inl (λ made. other (subst (λ (d : Database). HasNine d.schema) (sym ((first.stays clean).same up).0) made.nine))
+      | inl up ↦ inl (λ made. other (subst (λ (d : Database). HasAll d.schema) (sym ((first.stays clean).same up).0) made.begins))
       | inr shut ↦ inr (inl (shut_failed shut))
     ]
 
@@ -189,7 +191,7 @@ module _ {S : Type 0} (g : Ghosts S) where
       let up = (two.stays clean).was_open confirmed.is_open in
       let same = ((one.stays clean_mid).same up).0 in
       record {
-        nine = subst (λ (d : Database). HasNine d.schema) same confirmed.nine;
+        begins = subst (λ (d : Database). HasAll d.schema) same confirmed.begins;
         is_open = confirmed.is_open;
         sound = subst (λ (d : Database). IsSound d.schema d.trees) same confirmed.sound;
       }
@@ -207,18 +209,18 @@ module _ {S : Type 0} (g : Ghosts S) where
   module _ (old new : Held S) (w : WorldValue) (c : MarkedCampaign) (loaded : IsLoaded g old new w c) (leaves : Leaves g old new) (settled : IsSettled (state g old))
       (store : (db : Trees) → IsTrue (state g new).is_open → (state g new).may_leave db → db ≡ (state g new).committed.trees) where
     old_holds : (clean : HasCleanDisk (state g new)) → Holds (state g old).now.trees (loaded.gathered clean).text c.value
-    old_holds clean = rows_hold (state g old).now.trees (loaded.gathered clean).text loaded.parts c.value ((loaded.gathered clean).rows (loaded.confirmed clean).nine) loaded.checked.rows
+    old_holds clean = rows_hold (state g old).now.trees (loaded.gathered clean).text loaded.parts c.value ((loaded.gathered clean).rows (loaded.confirmed clean).begins) loaded.checked.rows
 
     old_tables : HasCleanDisk (state g new) → HasTables (state g old).now
     old_tables clean =
         let all = loaded.gathered clean in
-        let nine = (loaded.confirmed clean).nine in
-        let places = all.places nine in
+        let begins = (loaded.confirmed clean).begins in
+        let places = all.places begins in
         let db = (state g old).now.trees in
         record {
-          nine = nine;
+          begins = begins;
           sound = record {
-            keyed = rows_keyed db all.text loaded.parts c.value (all.rows nine) loaded.checked.rows (has_keyed db places.has_placed places.has places.has_apart) (books_keyed db places.books_placed places.books places.books_apart);
+            keyed = rows_keyed db all.text loaded.parts c.value (all.rows begins) loaded.checked.rows (has_keyed db places.has_placed places.has places.has_apart) (books_keyed db places.books_placed places.books places.books_apart);
             listed = (loaded.confirmed clean).sound;
           };
         }
@@ -238,7 +240,7 @@ module _ {S : Type 0} (g : Ghosts S) where
           settled = committed;
           tables = tables;
           rows = rows;
-          crash = λ db may. subst (λ t. Stores t (loaded.gathered clean).text c.value) (sym (store db up may ∙ ap (λ (d : Database). d.trees) committed)) (record { schema = (state g new).now.schema; nine = tables.nine; sound = tables.sound; rows = rows });
+          crash = λ db may. subst (λ t. Stores t (loaded.gathered clean).text c.value) (sym (store db up may ∙ ap (λ (d : Database). d.trees) committed)) (record { schema = (state g new).now.schema; begins = tables.begins; sound = tables.sound; rows = rows });
         }
 
     pub loads : Loads g old new w c

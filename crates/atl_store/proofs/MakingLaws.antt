@@ -1,4 +1,4 @@
--- One table after another is made, up to all nine.
+-- One table after another is made, up to all.
 use Rattle.std.proofs.Common.{◌≡◌, ◌++◌, ◌∷◌, [], IsTrue, true, map, sym, ap, ◌∙◌, subst, inl, inr}
 use Rattle.sqlite.specs.Schema.{Schema}
 use Rattle.sqlite.specs.Table.{Table}
@@ -7,7 +7,7 @@ use Rattle.sqlite_rules.specs.Lists.{Has}
 use Rattle.sqlite_rules.proofs.ListLemmas.{has_either}
 use Rattle.atl_store.specs.Sets.{IsKeyed, visible}
 use Rattle.atl_store.proofs.Made.{Creates}
-use Rattle.atl_store.specs.Tables.{first_tables}
+use Rattle.atl_store.specs.Tables.{no_tables, first_tables, table_count, index_count}
 use Rattle.atl_store.specs.Inside.{Inside, IsBlank}
 use Rattle.atl_store.specs.Making.{Extends, AreEmpty}
 
@@ -30,32 +30,34 @@ extends before after table old new inside mode more makes = (
       ),
 )
 
+pub extends_then : (one two three : Schema) (a b c : State) → Extends one two a b → Extends two three b c → Extends one three a c
+extends_then one two three a b c first second = (second.0 ∙ first.0, λ bare. second.1 (first.1 bare).0)
+
 pub extends_three : (one two three four : Schema) (a b c d : State) → Extends one two a b → Extends two three b c → Extends three four c d → Extends one four a d
-extends_three one two three four a b c d first second third = (third.0 ∙ second.0 ∙ first.0, λ bare. third.1 (second.1 (first.1 bare).0).0)
+extends_three one two three four a b c d first second third = extends_then one two four a b d first (extends_then two three four b c d second third)
 
 no_rows : IsKeyed []
 no_rows = record { apart = tt; ints = tt }
 
 -- from a database without tables
-pub makes_tables : (a b c d : State) → Extends (first_tables 0 0) (first_tables 3 1) a b → Extends (first_tables 3 1) (first_tables 6 2) b c → Extends (first_tables 6 2) (first_tables 9 3) c d → Inside IsBlank AreEmpty a d
-makes_tables a b c d one two three =
-    let all = extends_three (first_tables 0 0) (first_tables 3 1) (first_tables 6 2) (first_tables 9 3) a b c d one two three in (
-      all.0,
-      λ blank.
-          let made = all.1 (record { schema_is = blank; empty = λ t listed. absurd listed }) in
-          record {
-            does = λ t listed. ap (map (visible t)) (made.0.empty t listed);
-            tables = record {
-              nine = record { tables = []; indexes = []; is = made.0.schema_is; free = tt; plain = λ i none. absurd none };
-              sound = record {
-                keyed = λ t listed. subst IsKeyed (sym (made.0.empty t listed)) no_rows;
-                listed = made.1;
-              };
-            };
-            carries = record {
-              tables = λ t there. absurd (subst (λ (s : Schema). Has s.tables t) blank there);
-              indexes = λ i there. absurd (subst (λ (s : Schema). Has s.indexes i) blank there);
-              others = λ t there free. absurd (subst (λ (s : Schema). Has s.tables t) blank there);
-            };
-          },
-    )
+pub makes_all : (a b : State) → Extends no_tables (first_tables table_count index_count) a b → Inside IsBlank AreEmpty a b
+makes_all a b all = (
+  all.0,
+  λ blank.
+      let made = all.1 (record { schema_is = blank; empty = λ t listed. absurd listed }) in
+      record {
+        does = λ t listed. ap (map (visible t)) (made.0.empty t listed);
+        tables = record {
+          begins = record { tables = []; indexes = []; is = made.0.schema_is; free = tt; plain = λ i none. absurd none };
+          sound = record {
+            keyed = λ t listed. subst IsKeyed (sym (made.0.empty t listed)) no_rows;
+            listed = made.1;
+          };
+        };
+        carries = record {
+          tables = λ t there. absurd (subst (λ (s : Schema). Has s.tables t) blank there);
+          indexes = λ i there. absurd (subst (λ (s : Schema). Has s.indexes i) blank there);
+          others = λ t there free. absurd (subst (λ (s : Schema). Has s.tables t) blank there);
+        };
+      },
+)

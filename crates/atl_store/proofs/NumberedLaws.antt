@@ -29,12 +29,12 @@ use Rattle.sqlite_sql.specs.declared.ops.BinaryOp.TheVariants.{Compare}
 use Rattle.sqlite_sql.specs.declared.ops.CompareOp.TheVariants.{Eq}
 use Rattle.sqlite.specs.Collation.TheVariants.{Binary}
 use Rattle.atl_store.specs.Sets.{table, visible}
-use Rattle.atl_store.specs.Tables.{all_tables, all_indexes, nine_and}
+use Rattle.atl_store.specs.Tables.{all_tables, all_indexes, all_and}
 use Rattle.atl_store.specs.Shown.{int}
 use Rattle.atl_store.specs.Inside.{Inside, HasTables, Puts, Drops}
 use Rattle.atl_store.proofs.UpsertLaws.{Upserted, update_query, clause_on}
 use Rattle.atl_store.proofs.StatementLaws.{AlwaysPlain, DoneBy, upserting, removes, done_by}
-use Rattle.atl_store.proofs.CarryLaws.{nine_among, unlinked, none_share, sound_under, done_with}
+use Rattle.atl_store.proofs.CarryLaws.{among_all, unlinked, none_share, sound_under, done_with}
 use Rattle.atl_store.proofs.MakeLaws.{did, upserts_make, loses_make}
 use Rattle.atl_store.proofs.EditLaws.{delete_query, found_by}
 use Rattle.atl_store.proofs.Terms.{head_is, by_number, one_number, at_number}
@@ -50,17 +50,17 @@ given_row width = col 0 0 ∷ lit Null ∷ map (col 0) (range_with_len 1 width)
 abbrev changed_row : ℕ → List Term
 changed_row width = col 1 0 ∷ lit Null ∷ map (col 0) (range_with_len 1 width)
 
--- A table at this place, whose rows have so many values behind their number, and what the texts of its two statements mean, whatever came behind the nine tables:
+-- A table at this place, whose rows have so many values behind their number, and what the texts of its two statements mean, whatever came behind the tables of a campaign:
 -- an INSERT of the given row with an update of the one that has its number, and a DELETE of the one that has the number.
 pub record IsNumbered (t : Table) (at width : ℕ) (put drop : List ℕ) : Type 0 where
   pub ours : Has all_tables t
   pub place : (more : List Table) → slice_get (all_tables ++ more) at ≡ Some t
   pub plain : (db : Trees) → overlay db [] t.tree ≡ db t.tree
   pub puts : (more : List Table) (indexes : List Index)
-      → command_of (understood (nine_and more indexes) put) ≡ InsertOr at Abort (Values (given_row width) (width + 2)) (clause_on (0 ∷ []) (record { lets = []; body = update_query t.tree (width + 1) (changed_row width) }) ∷ [])
+      → command_of (understood (all_and more indexes) put) ≡ InsertOr at Abort (Values (given_row width) (width + 2)) (clause_on (0 ∷ []) (record { lets = []; body = update_query t.tree (width + 1) (changed_row width) }) ∷ [])
   pub puts_plain : AlwaysPlain put
   pub drops : (more : List Table) (indexes : List Index)
-      → command_of (understood (nine_and more indexes) drop) ≡ Delete at (record { lets = []; body = delete_query t.tree has_number })
+      → command_of (understood (all_and more indexes) drop) ≡ Delete at (record { lets = []; body = delete_query t.tree has_number })
   pub drops_plain : AlwaysPlain drop
 
 -- the row of this number and these values is what the terms make of them, whether it is put or changed
@@ -72,7 +72,7 @@ pub record MakesRow (t : Table) (width number : ℕ) (values : Row) : Type 0 whe
   pub aimed : (x : Value) (more : Row) → column ((int number ∷ values) ++ x ∷ more) (width + 1) ≡ x
   pub spared : (x : Row) → list_any (shares (Some (0 ∷ [])) t (int number ∷ Null ∷ values) x) all_indexes ≡ false
 
--- one of the nine tables, whose first column is the row's number
+-- one of the tables of a campaign, whose first column is the row's number
 module _ (tree : ℕ) (name : List ℕ) (number_column : Column) (columns : List Column) (uniques : List (List ℕ)) (at width : ℕ) (put drop : List ℕ) where
   abbrev t : Table
   t = table tree name (number_column ∷ columns) (Some 0) (0 ∷ []) uniques []
@@ -85,16 +85,16 @@ module _ (tree : ℕ) (name : List ℕ) (number_column : Column) (columns : List
     drops number old new count inside ran = (
       ran.1.mode ∙ sym inside,
       λ has.
-          let schema = nine_and has.nine.tables has.nine.indexes in
+          let schema = all_and has.begins.tables has.begins.indexes in
           let sound = sound_under old.now has in
-          let none = unlinked has.nine.tables has.nine.indexes tree has.nine.free in
+          let none = unlinked has.begins.tables has.begins.indexes tree has.begins.free in
           let k = int number ∷ [] in
           let db = old.now.trees in
-          let w = runs_as drop k old new schema has.nine.is _ (is.drops has.nine.tables has.nine.indexes) (is.drops_plain has.nine.tables has.nine.indexes) count ran.0 in
+          let w = runs_as drop k old new schema has.begins.is _ (is.drops has.begins.tables has.begins.indexes) (is.drops_plain has.begins.tables has.begins.indexes) count ran.0 in
           let keyed = sound.keyed t is.ours in
-          let out = removes schema tree name (number_column ∷ columns) (Some 0) (0 ∷ []) uniques [] at (is.place has.nine.tables) none old.step_limit k (statement_of drop (understood schema drop)) (record { lets = []; body = delete_query tree has_number }) (λ r. list_all (holds (k ∷ r ∷ [])) has_number) db _ keyed
-          (λ rows answers. found_by tree has_number db (overlay db []) k rows (is.plain db) (answers.answer Null)) (did schema old new _ _ k count has.nine.is w) in
-          let makes = loses_make schema (nine_among has.nine.tables) t 1 (λ r. list_all (holds (k ∷ r ∷ [])) has_number) k old.now new.now out.0 (λ x there. at_number (rowid x) number (all_has _ (db tree) x keyed.ints there)) sound w.sound out.1 in
+          let out = removes schema tree name (number_column ∷ columns) (Some 0) (0 ∷ []) uniques [] at (is.place has.begins.tables) none old.step_limit k (statement_of drop (understood schema drop)) (record { lets = []; body = delete_query tree has_number }) (λ r. list_all (holds (k ∷ r ∷ [])) has_number) db _ keyed
+          (λ rows answers. found_by tree has_number db (overlay db []) k rows (is.plain db) (answers.answer Null)) (did schema old new _ _ k count has.begins.is w) in
+          let makes = loses_make schema (among_all has.begins.tables) t 1 (λ r. list_all (holds (k ∷ r ∷ [])) has_number) k old.now new.now out.0 (λ x there. at_number (rowid x) number (all_has _ (db tree) x keyed.ints there)) sound w.sound out.1 in
           done_with t old.now new.now has is.ours _ _ (λ did. did) makes,
     )
 
@@ -109,22 +109,22 @@ module _ (tree : ℕ) (name : List ℕ) (number_column : Column) (columns : List
     puts number values writes old new count inside ran = (
       ran.1.mode ∙ sym inside,
       λ has.
-          let schema = nine_and has.nine.tables has.nine.indexes in
+          let schema = all_and has.begins.tables has.begins.indexes in
           let sound = sound_under old.now has in
-          let none = unlinked has.nine.tables has.nine.indexes tree has.nine.free in
+          let none = unlinked has.begins.tables has.begins.indexes tree has.begins.free in
           let v = int number ∷ values in
           let src = int number ∷ Null ∷ values in
           let project = changed_row width in
-          let w = runs_as put v old new schema has.nine.is _ (is.puts has.nine.tables has.nine.indexes) (is.puts_plain has.nine.tables has.nine.indexes) count ran.0 in
+          let w = runs_as put v old new schema has.begins.is _ (is.puts has.begins.tables has.begins.indexes) (is.puts_plain has.begins.tables has.begins.indexes) count ran.0 in
           let keyed = sound.keyed t is.ours in
-          let up = upserting schema tree name (number_column ∷ columns) (Some 0) (0 ∷ []) uniques [] at (is.place has.nine.tables) none old.step_limit v (0 ∷ []) (width + 1) project is.plain (statement_of put (understood schema put)) (given_row width) (width + 2) src
-          old.now.trees _ keyed (λ r there. writes.aimed (rowid r) _) writes.source (did schema old new _ _ v count has.nine.is w) in
+          let up = upserting schema tree name (number_column ∷ columns) (Some 0) (0 ∷ []) uniques [] at (is.place has.begins.tables) none old.step_limit v (0 ∷ []) (width + 1) project is.plain (statement_of put (understood schema put)) (given_row width) (width + 2) src
+          old.now.trees _ keyed (λ r there. writes.aimed (rowid r) _) writes.source (did schema old new _ _ v count has.begins.is w) in
           let made : with_rowid Chosen (old.now.trees tree) (cast_row t src) ≡ src = ap (with_rowid Chosen (old.now.trees tree)) writes.casted in
           let shown : visible t (cast_row t src) ≡ v = ap (visible t) writes.casted ∙ writes.shown in
-          let others : (x : Row) → list_any (shares (Some (0 ∷ [])) t src x) (all_indexes ++ has.nine.indexes) ≡ false = λ x. (
-          list_any-append (shares (Some (0 ∷ [])) t src x) all_indexes has.nine.indexes ∙ rw (writes.spared x) (none_share t (Some (0 ∷ [])) src x has.nine.indexes (λ i there. has.nine.plain i there t is.ours))
+          let others : (x : Row) → list_any (shares (Some (0 ∷ [])) t src x) (all_indexes ++ has.begins.indexes) ≡ false = λ x. (
+          list_any-append (shares (Some (0 ∷ [])) t src x) all_indexes has.begins.indexes ∙ rw (writes.spared x) (none_share t (Some (0 ∷ [])) src x has.begins.indexes (λ i there. has.begins.plain i there t is.ours))
           ) in
-          let makes = upserts_make schema (nine_among has.nine.tables) t 1 none old.step_limit v (0 ∷ []) (width + 1) project is.plain src v old.now new.now
+          let makes = upserts_make schema (among_all has.begins.tables) t 1 none old.step_limit v (0 ∷ []) (width + 1) project is.plain src v old.now new.now
           (subst (λ k. Upserted schema t none old.step_limit v (0 ∷ []) (width + 1) project is.plain k old.now.trees new.now.trees) made up.0)
           shown
           (λ r there same. ap (λ (k : Row). visible t (cast_row t k)) (writes.changed _ r ∙ ap (λ n. n ∷ Null ∷ values) (head_is _ _ _ _ same)) ∙ shown)

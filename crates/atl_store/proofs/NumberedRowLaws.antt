@@ -1,14 +1,15 @@
 -- What the statements on the six tables under a number mean, and what they do.
-use Rattle.std.proofs.Common.{ℕ, pos, Bool, if◌then◌else◌, List, [], ◌∷◌, refl, inl, inr}
+use Rattle.std.proofs.Common.{ℕ, pos, Bool, if◌then◌else◌, List, [], ◌∷◌, refl}
 use Rattle.sqlite_tied.specs.Compute.{everything}
 use Rattle.sqlite.specs.declared.types.Value.TheVariants.{Text, Blob}
 use Rattle.sqlite.specs.Listing.{understood}
 use Rattle.sqlite.specs.Order.{Row}
-use Rattle.atl_store.specs.Tables.{faction_table, region_table, unit_table, structure_table, mail_table, report_table}
+use Rattle.atl_store.specs.Tables.{Factions, Regions, Units, Structures, Mail, Reports, faction_table, region_table, unit_table, structure_table, mail_table, report_table}
 use Rattle.atl_store.specs.Shown.{int, flag, faction_row, region_row, unit_row, structure_row, mail_row, report_row}
 use Rattle.atl_store.specs.Inside.{Puts, Drops}
 use Rattle.atl_store.specs.Statements.{deletion, upsert}
 use Rattle.atl_store.proofs.NumberedLaws.{IsNumbered, MakesRow, puts_numbered, drops_numbered}
+use Rattle.atl_store.proofs.PartLaws.{listed}
 use Rattle.atl_store.proofs.StatementLaws.{DoneBy}
 use Rattle.atl_store.proofs.Terms.{cast_null, cast_int}
 
@@ -17,7 +18,7 @@ use Rattle.atl_store.proofs.Terms.{cast_null, cast_int}
 faction_statements : IsNumbered faction_table 1 4 (upsert faction_table 1) (deletion faction_table 1)
 unfolding understood everything
 faction_statements = record {
-  ours = inr (inl refl);
+  ours = listed Factions;
   place = λ more. refl;
   plain = λ db. refl;
   puts = λ more indexes. refl;
@@ -51,7 +52,7 @@ drops_faction = drops_numbered faction_table.tree _ _ _ _ 1 4 (upsert faction_ta
 region_statements : IsNumbered region_table 2 2 (upsert region_table 1) (deletion region_table 1)
 unfolding understood everything
 region_statements = record {
-  ours = inr (inr (inl refl));
+  ours = listed Regions;
   place = λ more. refl;
   plain = λ db. refl;
   puts = λ more indexes. refl;
@@ -85,7 +86,7 @@ drops_region = drops_numbered region_table.tree _ _ _ _ 2 2 (upsert region_table
 unit_statements : IsNumbered unit_table 3 7 (upsert unit_table 1) (deletion unit_table 1)
 unfolding understood everything
 unit_statements = record {
-  ours = inr (inr (inr (inl refl)));
+  ours = listed Units;
   place = λ more. refl;
   plain = λ db. refl;
   puts = λ more indexes. refl;
@@ -120,7 +121,7 @@ drops_unit = drops_numbered unit_table.tree _ _ _ _ 3 7 (upsert unit_table 1) (d
 structure_statements : IsNumbered structure_table 5 5 (upsert structure_table 1) (deletion structure_table 1)
 unfolding understood everything
 structure_statements = record {
-  ours = inr (inr (inr (inr (inr (inl refl)))));
+  ours = listed Structures;
   place = λ more. refl;
   plain = λ db. refl;
   puts = λ more indexes. refl;
@@ -155,7 +156,7 @@ drops_structure = drops_numbered structure_table.tree _ _ _ _ 5 5 (upsert struct
 mail_statements : IsNumbered mail_table 6 1 (upsert mail_table 1) (deletion mail_table 1)
 unfolding understood everything
 mail_statements = record {
-  ours = inr (inr (inr (inr (inr (inr (inl refl))))));
+  ours = listed Mail;
   place = λ more. refl;
   plain = λ db. refl;
   puts = λ more indexes. refl;
@@ -188,7 +189,7 @@ drops_mail = drops_numbered mail_table.tree _ _ _ _ 6 1 (upsert mail_table 1) (d
 report_statements : IsNumbered report_table 7 1 (upsert report_table 1) (deletion report_table 1)
 unfolding understood everything
 report_statements = record {
-  ours = inr (inr (inr (inr (inr (inr (inr (inl refl)))))));
+  ours = listed Reports;
   place = λ more. refl;
   plain = λ db. refl;
   puts = λ more indexes. refl;

@@ -126,7 +126,7 @@ module _ {S : Type 0} (g : Ghosts S) (old : Held S) where
   pub own_is : (rows : List Row) (r : Result (StoredCampaign × WorldValue) StoreFault) → JudgesRows rows r → Selects g (selection campaign_table 1) old rows
       → IfOk r (λ both. OwnRead g old both.0 both.1)
   own_is rows (Err fault) judged told = tt
-  own_is rows (Ok both) judged told = record { rows = rows; selects = told; row = judged; table = λ nine. subst (IsPermutation (rows_in campaign_table (state g old).now.trees)) judged.is (reads_campaign _ _ rows told.1 nine) }
+  own_is rows (Ok both) judged told = record { rows = rows; selects = told; row = judged; table = λ begins. subst (IsPermutation (rows_in campaign_table (state g old).now.trees)) judged.is (reads_campaign _ _ rows told.1 begins) }
 
   -- they could not be asked for
   pub unasked_own : old.in_transaction ≡ false → (fault : ReadFault) → RefusesToSelect g (selection campaign_table 1) old fault → RefusesToLoad g old (own_fault fault)

@@ -10,6 +10,7 @@ use Rattle.sqlite.specs.Order.{Row}
 use Rattle.sqlite_trees.specs.Tree.{Trees}
 use Rattle.sqlite_rules.specs.Lists.{Has}
 use Rattle.sqlite_rules.proofs.ListLemmas.{has_either, has_left, has_right, has_filtered, has_kept}
+use Rattle.atl_tables.specs.declared.format.Format.TheVariants.{First}
 use Rattle.atl_state.specs.Books.{all_entries, entry_place, thing_at, thing_place}
 use Rattle.atl_state.specs.Held.{Held}
 use Rattle.atl_state.specs.Limits.{entry_count}
@@ -28,15 +29,15 @@ use Rattle.atl_state.proofs.BookLaws.{place_at}
 use Rattle.atl_store.specs.declared.rows.has.Sort.{Sort}
 use Rattle.atl_store.specs.declared.rows.has.Sort.TheVariants.{Item, Skill}
 use Rattle.atl_store.specs.Loading.{HaveRows, own_stored, has_values, books_values}
-use Rattle.atl_store.specs.Rows.{RowsOf, HasRowsOf, BooksRowsOf, Holds, campaign_line, faction_line, region_line, unit_line, structure_line, things_of}
+use Rattle.atl_store.specs.Rows.{RowsOf, HasRowsOf, BooksRowsOf, rows_for, Holds, campaign_line, faction_line, region_line, unit_line, structure_line, things_of}
 use Rattle.atl_store.specs.Sets.{Is, rows_in}
 use Rattle.atl_store.specs.Shown.{flag, mail_row, report_row}
 use Rattle.atl_store.specs.StoredRows.{faction_stored, region_stored, unit_stored, structure_stored, mail_stored, report_stored}
-use Rattle.atl_store.specs.Tables.{campaign_table, faction_table, region_table, unit_table, has_table, structure_table, mail_table, report_table, books_table}
+use Rattle.atl_store.specs.Tables.{Part, Own, Factions, Regions, Units, Goods, Structures, Mail, Reports, Books, table_of, campaign_table, faction_table, region_table, unit_table, has_table, structure_table, mail_table, report_table, books_table}
 use Rattle.atl_store.specs.Written.{sort_number}
 use Rattle.atl_store.proofs.EditLaws.{has_permuted}
-use Rattle.atl_store.proofs.EntryLaws.{got_entry, entry_got}
-use Rattle.atl_store.proofs.GoodsLaws.{flat_has, has_flat, is_not_zero}
+use Rattle.atl_store.proofs.EntryLaws.{got_entry, entry_got, flat_has, has_flat}
+use Rattle.atl_store.proofs.GoodsLaws.{is_not_zero}
 use Rattle.atl_store.proofs.LedgerLaws.{every_entry, has_range, within}
 use Rattle.atl_store.proofs.ListLaws.{has_map, map_has}
 
@@ -77,11 +78,11 @@ unit_same n u =
 
 -- ---- the campaign's own row
 
-own_held : (text : List ℕ) (c : CampaignValue) (rows : List Row) (read : List StoredHead) → IsPermutation rows (map (own_stored text) read) → IsPermutation (made.head_row c ∷ []) read → Is rows (λ r. r ≡ campaign_line text c)
+own_held : (text : List ℕ) (c : CampaignValue) (rows : List Row) (read : List StoredHead) → IsPermutation rows (map (own_stored text) read) → IsPermutation (made.head_row First c ∷ []) read → Is rows (λ r. r ≡ campaign_line text c)
 own_held text c rows read in_table of_them r =
-    let is = are_made (own_stored text) rows read (made.head_row c ∷ []) in_table of_them r in (
+    let is = are_made (own_stored text) rows read (made.head_row First c ∷ []) in_table of_them r in (
       λ there. let a = is.0 there in elim a.1 [ inl same ↦ a.2 ∙ ap (own_stored text) same | inr none ↦ absurd none ],
-      λ same. is.1 (made.head_row c, inl refl, same),
+      λ same. is.1 (made.head_row First c, inl refl, same),
     )
 
 -- ---- what units have
@@ -180,16 +181,17 @@ module _ (books : List (List ℤ)) where
 -- ---- all tables
 
 -- tables that have the rows of a campaign hold it
-pub rows_hold : (db : Trees) (text : List ℕ) (p : Parts) (c : CampaignValue) → HaveRows db text p → AreRowsOf c p → Holds db text c
+pub rows_hold : (db : Trees) (text : List ℕ) (p : Parts) (c : CampaignValue) → HaveRows db text p → AreRowsOf First c p → Holds db text c
 unfolding rows_of
-rows_hold db text p c have are = record {
-  campaign = own_held text c (rows_in campaign_table db) p.campaign have.campaign are.campaign;
-  factions = by_number faction_stored made.faction_row faction_line faction_same (rows_in faction_table db) p.factions c.factions have.factions are.factions;
-  regions = by_number region_stored made.region_row region_line (λ n r. refl) (rows_in region_table db) p.regions c.regions have.regions are.regions;
-  units = by_number unit_stored made.unit_row unit_line unit_same (rows_in unit_table db) p.units c.units have.units are.units;
-  has = goods_held (rows_in has_table db) p.has c.units have.has are.has;
-  structures = by_number structure_stored made.structure_row structure_line (λ n s. refl) (rows_in structure_table db) p.structures c.structures have.structures are.structures;
-  mail = by_number mail_stored made.mail_row mail_row (λ n text. refl) (rows_in mail_table db) p.mail c.mail have.mail are.mail;
-  reports = by_number report_stored made.report_row report_row (λ n text. refl) (rows_in report_table db) p.reports c.reports have.reports are.reports;
-  books = books_held c.books (rows_in books_table db) p.books have.books are.books;
-}
+rows_hold db text p c have are = record { rows = rows }
+  where
+    rows : (part : Part) → Is (rows_in (table_of part) db) (rows_for (campaign_line text c) c part)
+    rows Own = own_held text c (rows_in campaign_table db) p.campaign have.campaign are.campaign
+    rows Factions = by_number faction_stored made.faction_row faction_line faction_same (rows_in faction_table db) p.factions c.factions have.factions are.factions
+    rows Regions = by_number region_stored made.region_row region_line (λ n r. refl) (rows_in region_table db) p.regions c.regions have.regions are.regions
+    rows Units = by_number unit_stored made.unit_row unit_line unit_same (rows_in unit_table db) p.units c.units have.units are.units
+    rows Goods = goods_held (rows_in has_table db) p.has c.units have.has are.has
+    rows Structures = by_number structure_stored made.structure_row structure_line (λ n s. refl) (rows_in structure_table db) p.structures c.structures have.structures are.structures
+    rows Mail = by_number mail_stored made.mail_row mail_row (λ n text. refl) (rows_in mail_table db) p.mail c.mail have.mail are.mail
+    rows Reports = by_number report_stored made.report_row report_row (λ n text. refl) (rows_in report_table db) p.reports c.reports have.reports are.reports
+    rows Books = books_held c.books (rows_in books_table db) p.books have.books are.books

@@ -8,7 +8,7 @@ use Rattle.sqlite_trees.specs.declared.store.Store.{Ghosts}
 use Rattle.atl_state.specs.Campaign.{CampaignValue}
 use Rattle.atl_store.specs.Keeps.{Keeps, Stops, Stores, HoldsCampaign}
 use Rattle.atl_store.specs.Reopening.{Reopens}
-use Rattle.atl_store.specs.Tables.{HasNine}
+use Rattle.atl_store.specs.Tables.{HasAll}
 use Rattle.atl_store.proofs.ListedLaws.{one_schema}
 
 module _ {S : Type 0} (g : Ghosts S) where
@@ -16,12 +16,12 @@ module _ {S : Type 0} (g : Ghosts S) where
   pub keeps_stored : (new : Held S) → Opens (state g new) → IsLive (state g new) → ((db : Trees) → (state g new).may_leave db → db ≡ (state g new).committed.trees) → (text : List ℕ) (c : CampaignValue) → Stores (state g new).now.trees text c → Keeps (state g new) text c
   keeps_stored new opens live settled text c stores =
       let listed = (live opens.is_open).0 in
-      let schema : (state g new).now.schema ≡ stores.schema = one_schema (state g new).now.trees stores.schema (state g new).now.schema stores.sound.listed listed (ap (λ s. s.views) stores.nine.is) in
+      let schema : (state g new).now.schema ≡ stores.schema = one_schema (state g new).now.trees stores.schema (state g new).now.schema stores.sound.listed listed (ap (λ s. s.views) stores.begins.is) in
       record {
         idle = opens.autocommit;
         is_open = opens.is_open;
         settled = sym opens.clean;
-        tables = record { nine = subst HasNine (sym schema) stores.nine; sound = record { keyed = stores.sound.keyed; listed = listed } };
+        tables = record { begins = subst HasAll (sym schema) stores.begins; sound = record { keyed = stores.sound.keyed; listed = listed } };
         rows = stores.rows;
         crash = λ db may. subst (λ t. Stores t text c) (sym (settled db may ∙ ap (λ (d : Database). d.trees) (sym opens.clean))) stores;
       }

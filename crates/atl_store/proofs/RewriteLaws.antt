@@ -1,5 +1,5 @@
 -- Rows of a table that are rewritten where a test holds, one step after another.
-use Rattle.std.proofs.Common.{◌≡◌, ◌≢◌, ◌⊎◌, ◌↔◌, ◌||◌, ℕ, suc, pos, negsuc, Bool, true, false, List, [], ◌∷◌, take, Some, None, Less, Equal, Greater, refl, sym, ap, ◌∙◌, subst, inl, inr, true≢false}
+use Rattle.std.proofs.Common.{◌≡◌, ◌≢◌, ◌⊎◌, ◌↔◌, ◌||◌, ℕ, pos, negsuc, Bool, true, false, List, [], ◌∷◌, take, Some, None, Less, Equal, Greater, refl, sym, ap, ◌∙◌, subst, inl, inr, true≢false}
 use Rattle.std.specs.Ordering.{nat_cmp, is_eq, eq_by_cmp}
 use Rattle.std.specs.Cmp.{nat_cmp_total}
 use Rattle.std.specs.FinMap.{FinMap, get, nat_cmp-IsAntisymmetric}
@@ -17,12 +17,12 @@ use Rattle.atl_store.specs.Sets.{Set, rows_in}
 use Rattle.atl_store.specs.Tables.{all_tables}
 use Rattle.atl_store.specs.Shown.{int}
 use Rattle.atl_store.specs.Rows.{RowsOf}
-use Rattle.atl_store.specs.Inside.{Inside, HasTables, Both, Puts, Drops, PutsRows}
+use Rattle.atl_store.specs.Inside.{Inside, HasTables, Puts, Drops}
 use Rattle.atl_store.specs.Changing.{begins, begins_marked, Chosen}
 use Rattle.atl_store.specs.Rewriting.{Rewrites, RewritesNumber, is_number, is_among}
 use Rattle.atl_store.proofs.CarryLaws.{carries_then, carries_none}
-use Rattle.atl_store.proofs.EntryLaws.{AreApart, puts_has, same_number}
-use Rattle.atl_store.proofs.WholeLaws.{inside_then, inside_weaker}
+use Rattle.atl_store.proofs.EntryLaws.{same_number}
+use Rattle.atl_store.proofs.WholeLaws.{inside_weaker}
 
 -- ---- one step after another
 
@@ -192,7 +192,7 @@ module _ (p : Row → Bool) (Key New Wanted : Set) (found : (r : Row) → p r �
       → ((t : Table) → Has all_tables t → t.tree ≢ table.tree → new.trees t.tree ≡ old.trees t.tree) → Rewrites table p Wanted old new
   rewrites_key table old new rows others = record { rows = λ r. let so = in_place (Has (rows_in table old.trees) r) r in (λ h. so.0 ((rows r).0 h), λ h. (rows r).1 (so.1 h)); others = others }
 
-kept_only : {P : Type 0} → ⊥ ⊎ P → P
+pub kept_only : {P : Type 0} → ⊥ ⊎ P → P
 kept_only (inl never) = absurd never
 kept_only (inr kept) = kept
 
@@ -225,49 +225,3 @@ module _ {V : Type 0} (table : Table) (line : ℕ → V → Row) (numbered : (n 
   pub drop_done : get values n ≡ None → (old new : State) → Inside HasTables (Drops table 1 (int n ∷ [])) old new
       → Inside HasTables (RewritesNumber table line values n) old new
   drop_done none old new did = inside_weaker HasTables (Drops table 1 (int n ∷ [])) (RewritesNumber table line values n) old new (λ has drops. drop_rewrites old.now new.now none drops) did
-
--- ---- rows that belong to a number, taken out and put anew
-
--- rows that are the same in more columns begin with the same one
-first_of : (more : ℕ) (a b : Row) → take (suc more) a ≡ take (suc more) b → take 1 a ≡ take 1 b
-first_of more a b same = sym (first a) ∙ ap (take 1) same ∙ first b
-  where
-    first : (r : Row) → take 1 (take (suc more) r) ≡ take 1 r
-    first [] = refl
-    first (v ∷ row) = refl
-
-module _ {V : Type 0} (table : Table) (more : ℕ) (lines : ℕ → V → List Row) (Wanted : Set) (values : FinMap nat_cmp V) (n : ℕ)
-    (numbered : (v : V) (r : Row) → Has (lines n v) r → take 1 r ≡ int n ∷ []) (apart : (v : V) → AreApart (suc more) (lines n v))
-    (wanted : (v : V) → get values n ≡ Some v → (r : Row) → Has (lines n v) r → Wanted r) (lined : (r : Row) → begins (is_number n) r ≡ true → Wanted r → (v : V) × (get values n ≡ Some v) × Has (lines n v) r) where
-  abbrev RewritesLines : Database → Database → Type 0
-  RewritesLines = Rewrites table (begins (is_number n)) Wanted
-
-  lines_rewrite : (old mid new : Database) → Drops table 1 (int n ∷ []) old mid → (v : V) → get values n ≡ Some v
-      → PutsRows table (suc more) (lines n v) mid new → RewritesLines old new
-  lines_rewrite old mid new dropped v there did = rewrites_key (begins (is_number n)) (λ r. take 1 r ≡ int n ∷ []) (Has (lines n v)) Wanted (begins_key n) (key_begins n)
-      (λ r here. (numbered v r here, wanted v there r here))
-      (λ r is of. let line = lined r is of in subst (λ u. Has (lines n u) r) (same_Some line.0 v (sym line.1 ∙ there)) line.2)
-      table old new rows (λ t listed other. did.others t listed other ∙ dropped.others t listed other)
-    where
-      rows : (r : Row) → Has (rows_in table new.trees) r ↔ (Has (lines n v) r ⊎ (Has (rows_in table old.trees) r × (take 1 r ≢ int n ∷ [])))
-      rows r =
-          let all = puts_has (suc more) (lines n v) (Has (rows_in table mid.trees)) (apart v) (λ s was x here same. ((dropped.rows s).0 was).1 (first_of more s x same ∙ numbered v x here)) r in (
-            λ h. elim (all.0 ((did.rows r).0 h)) [ inl here ↦ inl here | inr was ↦ inr ((dropped.rows r).0 was) ],
-            λ h. (did.rows r).1 (all.1 (elim h [ inl here ↦ inl here | inr kept ↦ inr ((dropped.rows r).1 kept) ])),
-          )
-
-  bare_rewrite : (old new : Database) → Drops table 1 (int n ∷ []) old new → get values n ≡ None → RewritesLines old new
-  bare_rewrite old new dropped none = rewrites_key (begins (is_number n)) (λ r. take 1 r ≡ int n ∷ []) (λ r. ⊥) Wanted (begins_key n) (key_begins n) (λ r never. absurd never)
-      (λ r is of. let line = lined r is of in none-some line.0 (sym none ∙ line.1))
-      table old new (λ r. let so = dropped.rows r in (λ h. inr (so.0 h), λ h. so.1 (kept_only h))) dropped.others
-
-  pub lines_done : (v : V) → get values n ≡ Some v → (old mid new : State) → Inside HasTables (Drops table 1 (int n ∷ [])) old mid
-      → Inside HasTables (PutsRows table (suc more) (lines n v)) mid new → Inside HasTables RewritesLines old new
-  lines_done v there old mid new one two =
-      let drops = Drops table 1 (int n ∷ []) in
-      let puts = PutsRows table (suc more) (lines n v) in
-      inside_weaker HasTables (Both drops puts) RewritesLines old new (λ has did. lines_rewrite old.now did.0 new.now did.1 v there did.2) (inside_then HasTables drops puts old mid new one two)
-
-  pub bare_done : get values n ≡ None → (old new : State) → Inside HasTables (Drops table 1 (int n ∷ [])) old new
-      → Inside HasTables RewritesLines old new
-  bare_done none old new did = inside_weaker HasTables (Drops table 1 (int n ∷ [])) RewritesLines old new (λ has drops. bare_rewrite old.now new.now drops none) did

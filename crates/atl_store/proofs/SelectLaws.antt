@@ -1,4 +1,4 @@
--- What the SELECTs mean where the schema begins with the nine tables: each shows all rows of its table, each once.
+-- What the SELECTs mean where the schema begins with the tables of a campaign: each shows all rows of its table, each once.
 use Rattle.std.proofs.Common.{◌≡◌, ◌++◌, ℕ, false, List, [], ◌∷◌, codes, length, map, refl, sym, subst}
 use Rattle.std.specs.List.{range_with_len}
 use Rattle.std.specs.List.Sorted.{IsPermutation}
@@ -20,7 +20,7 @@ use Rattle.sqlite_schema.specs.Names.{place_of}
 use Rattle.sqlite_sql.specs.Term.{eval_all}
 use Rattle.sqlite_trees.specs.Tree.{Trees}
 use Rattle.atl_store.specs.Sets.{rows_in}
-use Rattle.atl_store.specs.Tables.{campaign_table, faction_table, region_table, unit_table, has_table, structure_table, mail_table, report_table, books_table, nine_and, HasNine}
+use Rattle.atl_store.specs.Tables.{campaign_table, faction_table, region_table, unit_table, has_table, structure_table, mail_table, report_table, books_table, all_and, HasAll}
 use Rattle.atl_store.specs.Reading.{placed_rows_in}
 use Rattle.atl_store.specs.Statements.{column_names, placed_selection, selection}
 use Rattle.atl_store.specs.Stored.{first_columns}
@@ -38,12 +38,12 @@ kept_at = col 1 0
 
 -- ---- a SELECT of all rows
 
--- It means, whatever came behind the nine tables: these columns under these names of all rows, in the order of the key, which is so many columns.
+-- It means, whatever came behind the tables of a campaign: these columns under these names of all rows, in the order of the key, which is so many columns.
 record IsAll (sql : List ℕ) (t : Table) (key : ℕ) (names : List (List ℕ)) (columns : List Term) : Type 0 where
   command : (more : List Table) (indexes : List Index)
-      → command_of (understood (nine_and more indexes) sql) ≡ Select (record { lets = []; body = all_query t.tree columns (map (λ column. (column, ascending Binary)) (first t key)) }) names
-  plain : (more : List Table) (indexes : List Index) → IsPlain (understood (nine_and more indexes) sql)
-  unlisted : (more : List Table) (indexes : List Index) → reads_listing (nine_and more indexes) sql ≡ false
+      → command_of (understood (all_and more indexes) sql) ≡ Select (record { lets = []; body = all_query t.tree columns (map (λ column. (column, ascending Binary)) (first t key)) }) names
+  plain : (more : List Table) (indexes : List Index) → IsPlain (understood (all_and more indexes) sql)
+  unlisted : (more : List Table) (indexes : List Index) → reads_listing (all_and more indexes) sql ≡ false
 
 -- all columns, and behind them the place that the database keeps the row at
 abbrev IsWhole : List ℕ → Table → ℕ → Type 0
@@ -54,9 +54,9 @@ IsPlaced sql t key = IsAll sql t key (column_names t ++ codes "rowid" ∷ []) (f
 
 -- shown is the row that those columns make, and they are so many
 reads_all : (sql : List ℕ) (t : Table) (key : ℕ) (names : List (List ℕ)) (columns : List Term) → IsAll sql t key names columns → ((db : Trees) → overlay db [] t.tree ≡ db t.tree) → (count : ℕ) → ((r : Row) → first_columns count (eval_all columns ([] ∷ r ∷ [])) ≡ eval_all columns ([] ∷ r ∷ []))
-    → (old new : State) (rows : List Row) → Shown sql [] old new rows → HasNine old.now.schema → IsPermutation (map (λ r. eval_all columns ([] ∷ r ∷ [])) (old.now.trees t.tree)) (map (first_columns count) rows)
+    → (old new : State) (rows : List Row) → Shown sql [] old new rows → HasAll old.now.schema → IsPermutation (map (λ r. eval_all columns ([] ∷ r ∷ [])) (old.now.trees t.tree)) (map (first_columns count) rows)
 reads_all sql t key names columns all same count whole old new rows h has =
-    let got = reads_as sql [] old new (nine_and has.tables has.indexes) has.is _ (all.command has.tables has.indexes) (all.plain has.tables has.indexes) (all.unlisted has.tables has.indexes) rows h in
+    let got = reads_as sql [] old new (all_and has.tables has.indexes) has.is _ (all.command has.tables has.indexes) (all.plain has.tables has.indexes) (all.unlisted has.tables has.indexes) rows h in
     whole_shown (λ r. eval_all columns ([] ∷ r ∷ [])) (first_columns count) whole (old.now.trees t.tree) rows (all_shown t.tree columns _ old.now.trees (overlay old.now.trees []) [] rows (same old.now.trees) (got.answer Null))
 
 -- ---- of each table
@@ -66,64 +66,64 @@ unfolding understood everything
 campaign_all = record { command = λ more indexes. refl; plain = λ more indexes. (refl, refl); unlisted = λ more indexes. refl }
 
 -- it is a query, which can commit nothing
-pub campaign_plain : (schema : Schema) → HasNine schema → IsPlain (understood schema (selection campaign_table 1))
+pub campaign_plain : (schema : Schema) → HasAll schema → IsPlain (understood schema (selection campaign_table 1))
 campaign_plain schema has = subst (λ s. IsPlain (understood s (selection campaign_table 1))) (sym has.is) (campaign_all.plain has.tables has.indexes)
 
-pub reads_campaign : (old new : State) (rows : List Row) → Shown (selection campaign_table 1) [] old new rows → HasNine old.now.schema → IsPermutation (rows_in campaign_table old.now.trees) (map (first_columns 8) rows)
+pub reads_campaign : (old new : State) (rows : List Row) → Shown (selection campaign_table 1) [] old new rows → HasAll old.now.schema → IsPermutation (rows_in campaign_table old.now.trees) (map (first_columns 8) rows)
 reads_campaign = reads_all (selection campaign_table 1) campaign_table 1 _ _ campaign_all (λ db. refl) 8 (λ r. refl)
 
 faction_all : IsWhole (selection faction_table 1) faction_table 1
 unfolding understood everything
 faction_all = record { command = λ more indexes. refl; plain = λ more indexes. (refl, refl); unlisted = λ more indexes. refl }
 
-pub reads_faction : (old new : State) (rows : List Row) → Shown (selection faction_table 1) [] old new rows → HasNine old.now.schema → IsPermutation (rows_in faction_table old.now.trees) (map (first_columns 5) rows)
+pub reads_faction : (old new : State) (rows : List Row) → Shown (selection faction_table 1) [] old new rows → HasAll old.now.schema → IsPermutation (rows_in faction_table old.now.trees) (map (first_columns 5) rows)
 reads_faction = reads_all (selection faction_table 1) faction_table 1 _ _ faction_all (λ db. refl) 5 (λ r. refl)
 
 region_all : IsWhole (selection region_table 1) region_table 1
 unfolding understood everything
 region_all = record { command = λ more indexes. refl; plain = λ more indexes. (refl, refl); unlisted = λ more indexes. refl }
 
-pub reads_region : (old new : State) (rows : List Row) → Shown (selection region_table 1) [] old new rows → HasNine old.now.schema → IsPermutation (rows_in region_table old.now.trees) (map (first_columns 3) rows)
+pub reads_region : (old new : State) (rows : List Row) → Shown (selection region_table 1) [] old new rows → HasAll old.now.schema → IsPermutation (rows_in region_table old.now.trees) (map (first_columns 3) rows)
 reads_region = reads_all (selection region_table 1) region_table 1 _ _ region_all (λ db. refl) 3 (λ r. refl)
 
 unit_all : IsWhole (selection unit_table 1) unit_table 1
 unfolding understood everything
 unit_all = record { command = λ more indexes. refl; plain = λ more indexes. (refl, refl); unlisted = λ more indexes. refl }
 
-pub reads_unit : (old new : State) (rows : List Row) → Shown (selection unit_table 1) [] old new rows → HasNine old.now.schema → IsPermutation (rows_in unit_table old.now.trees) (map (first_columns 8) rows)
+pub reads_unit : (old new : State) (rows : List Row) → Shown (selection unit_table 1) [] old new rows → HasAll old.now.schema → IsPermutation (rows_in unit_table old.now.trees) (map (first_columns 8) rows)
 reads_unit = reads_all (selection unit_table 1) unit_table 1 _ _ unit_all (λ db. refl) 8 (λ r. refl)
 
 has_all : IsPlaced (placed_selection has_table 3) has_table 3
 unfolding understood everything
 has_all = record { command = λ more indexes. refl; plain = λ more indexes. (refl, refl); unlisted = λ more indexes. refl }
 
-pub reads_has : (old new : State) (rows : List Row) → Shown (placed_selection has_table 3) [] old new rows → HasNine old.now.schema → IsPermutation (placed_rows_in has_table old.now.trees) (map (first_columns 5) rows)
+pub reads_has : (old new : State) (rows : List Row) → Shown (placed_selection has_table 3) [] old new rows → HasAll old.now.schema → IsPermutation (placed_rows_in has_table old.now.trees) (map (first_columns 5) rows)
 reads_has = reads_all (placed_selection has_table 3) has_table 3 _ _ has_all (λ db. refl) 5 (λ r. refl)
 
 structure_all : IsWhole (selection structure_table 1) structure_table 1
 unfolding understood everything
 structure_all = record { command = λ more indexes. refl; plain = λ more indexes. (refl, refl); unlisted = λ more indexes. refl }
 
-pub reads_structure : (old new : State) (rows : List Row) → Shown (selection structure_table 1) [] old new rows → HasNine old.now.schema → IsPermutation (rows_in structure_table old.now.trees) (map (first_columns 6) rows)
+pub reads_structure : (old new : State) (rows : List Row) → Shown (selection structure_table 1) [] old new rows → HasAll old.now.schema → IsPermutation (rows_in structure_table old.now.trees) (map (first_columns 6) rows)
 reads_structure = reads_all (selection structure_table 1) structure_table 1 _ _ structure_all (λ db. refl) 6 (λ r. refl)
 
 mail_all : IsWhole (selection mail_table 1) mail_table 1
 unfolding understood everything
 mail_all = record { command = λ more indexes. refl; plain = λ more indexes. (refl, refl); unlisted = λ more indexes. refl }
 
-pub reads_mail : (old new : State) (rows : List Row) → Shown (selection mail_table 1) [] old new rows → HasNine old.now.schema → IsPermutation (rows_in mail_table old.now.trees) (map (first_columns 2) rows)
+pub reads_mail : (old new : State) (rows : List Row) → Shown (selection mail_table 1) [] old new rows → HasAll old.now.schema → IsPermutation (rows_in mail_table old.now.trees) (map (first_columns 2) rows)
 reads_mail = reads_all (selection mail_table 1) mail_table 1 _ _ mail_all (λ db. refl) 2 (λ r. refl)
 
 report_all : IsWhole (selection report_table 1) report_table 1
 unfolding understood everything
 report_all = record { command = λ more indexes. refl; plain = λ more indexes. (refl, refl); unlisted = λ more indexes. refl }
 
-pub reads_report : (old new : State) (rows : List Row) → Shown (selection report_table 1) [] old new rows → HasNine old.now.schema → IsPermutation (rows_in report_table old.now.trees) (map (first_columns 2) rows)
+pub reads_report : (old new : State) (rows : List Row) → Shown (selection report_table 1) [] old new rows → HasAll old.now.schema → IsPermutation (rows_in report_table old.now.trees) (map (first_columns 2) rows)
 reads_report = reads_all (selection report_table 1) report_table 1 _ _ report_all (λ db. refl) 2 (λ r. refl)
 
 books_all : IsPlaced (placed_selection books_table 2) books_table 2
 unfolding understood everything
 books_all = record { command = λ more indexes. refl; plain = λ more indexes. (refl, refl); unlisted = λ more indexes. refl }
 
-pub reads_books : (old new : State) (rows : List Row) → Shown (placed_selection books_table 2) [] old new rows → HasNine old.now.schema → IsPermutation (placed_rows_in books_table old.now.trees) (map (first_columns 4) rows)
+pub reads_books : (old new : State) (rows : List Row) → Shown (placed_selection books_table 2) [] old new rows → HasAll old.now.schema → IsPermutation (placed_rows_in books_table old.now.trees) (map (first_columns 4) rows)
 reads_books = reads_all (placed_selection books_table 2) books_table 2 _ _ books_all (λ db. refl) 4 (λ r. refl)

@@ -22,7 +22,7 @@ use Rattle.sqlite.specs.State.{State, ExecutesInside}
 use Rattle.sqlite.proofs.Callers.{IsPlain}
 use Rattle.sqlite_schema.specs.declared.schema.Index.{Index}
 use Rattle.atl_store.specs.Inside.{Inside, HasTables}
-use Rattle.atl_store.specs.Tables.{nine_and}
+use Rattle.atl_store.specs.Tables.{all_and}
 use Rattle.sqlite.specs.Effect.{Database, Answers, value_rows}
 use Rattle.sqlite.specs.Rows.{Written, Task, Then, Gives, TriesEach, Counts, InsertsOr, count_of, nothing, mended, shown}
 use Rattle.sqlite.specs.Does.{Tally, Does, AtPlace, OnRows, Concludes}
@@ -124,9 +124,9 @@ module _ (schema : Schema) (tree : ℕ) (name : List ℕ) (columns : List Column
 
 -- ---- statements by their text
 
--- whatever came behind the nine tables, the statement of this text commits nothing by itself
+-- whatever came behind the tables of a campaign, the statement of this text commits nothing by itself
 abbrev pub AlwaysPlain : List ℕ → Type 0
-AlwaysPlain sql = (more : List Table) (indexes : List Index) → IsPlain (understood (nine_and more indexes) sql)
+AlwaysPlain sql = (more : List Table) (indexes : List Index) → IsPlain (understood (all_and more indexes) sql)
 
 -- inside a transaction this is done by the statement of this text with these parameters
 abbrev pub DoneBy : List ℕ → Row → (Database → Database → Type 0) → Type 1

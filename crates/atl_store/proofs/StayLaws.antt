@@ -21,7 +21,7 @@ use Rattle.atl_store.proofs.CarryLaws.{carries_none}
 
 -- a database that holds the campaign is what a file may hold
 stored : (db : Database) (text : List ℕ) (c : CampaignValue) → HasTables db → Holds db.trees text c → Stores db.trees text c
-stored db text c has rows = record { schema = db.schema; nine = has.nine; sound = has.sound; rows = rows }
+stored db text c has rows = record { schema = db.schema; begins = has.begins; sound = has.sound; rows = rows }
 
 module _ (old new : State) (text : List ℕ) (settled : (db : Trees) → IsTrue new.is_open → new.may_leave db → db ≡ new.committed.trees) where
   -- committed, with these rows in the tables

@@ -15,7 +15,7 @@ use Rattle.atl_store.specs.Writes.{Writes, Transacts}
 use Rattle.atl_store.proofs.KeepLaws.{on_ok, if_err}
 use Rattle.atl_store.proofs.CauseLaws.{gives, gives_after, gives_until, gives_begun, errs_as}
 use Rattle.atl_store.proofs.CarryLaws.{carries_then}
-use Rattle.atl_store.proofs.WriteLaws.{not_ok, HandsOn}
+use Rattle.atl_store.proofs.WriteLaws.{not_ok, HandsOn, weaker, two_steps}
 
 pub inside_then : (Before : Database → Type 0) (First Second : Database → Database → Type 0) (a b c : State) → Inside Before First a b → Inside HasTables Second b c → Inside Before (Both First Second) a c
 inside_then Before First Second a b c one two = (
@@ -28,6 +28,16 @@ inside_then Before First Second a b c one two = (
 
 pub inside_weaker : (Before : Database → Type 0) (Does Less : Database → Database → Type 0) (a b : State) → (Before a.now → Does a.now b.now → Less a.now b.now) → Inside Before Does a b → Inside Before Less a b
 inside_weaker Before Does Less a b weaker h = (h.0, λ has. let did = h.1 has in record { does = weaker has did.does; tables = did.tables; carries = did.carries })
+
+-- what is done to the tables, said otherwise, and one after the other
+module _ {S : Type 0} (g : Ghosts S) {own : Statements} {A : Type 0} {r : Result A Error} where
+  pub done_as : {First Does : Database → Database → Type 0} {a b : MutBor (Held S)} → ((old new : Database) → First old new → Does old new) → Writes g own (Inside HasTables First) r a b → Writes g own (Inside HasTables Does) r a b
+  done_as {First = First} {Does = Does} said one = weaker g (λ old new did. inside_weaker HasTables First Does old new (λ has. said old.now new.now) did) one
+
+  pub then_done : {First Second Does : Database → Database → Type 0} {X : Type 0} {x : X} {a b d : MutBor (Held S)}
+      → ((old mid new : Database) → First old mid → Second mid new → Does old new) → Writes g own (Inside HasTables First) (Ok x) a b → Writes g own (Inside HasTables Second) r b d → Writes g own (Inside HasTables Does) r a d
+  then_done {First = First} {Second = Second} {Does = Does} both one two =
+      two_steps g (λ old mid new first second. inside_weaker HasTables (Both First Second) Does old new (λ has did. both old.now did.0 new.now did.1 did.2) (inside_then HasTables First Second old mid new first second)) one two
 
 module _ {S : Type 0} (g : Ghosts S) (old begun mid end : Held S) (begins : begun ≡ record old { in_transaction = true }) (Before : Database → Type 0) (Does : Database → Database → Type 0) where
   pub crash_after : Survives (state g begun) (state g mid) (λ _. ⊥) → (HasCleanDisk (state g mid) → Inside Before Does (state g begun) (state g mid)) → Survives (state g mid) (state g end) (λ db. db ≡ (state g mid).now.trees)

@@ -15,7 +15,7 @@ use Rattle.atl_state.specs.declared.records.Faction.{Faction}
 use Rattle.atl_state.specs.declared.records.Unit.{Unit}
 use Rattle.atl_store.specs.Sets.{Set, Is, put, rows_in}
 use Rattle.atl_store.specs.Inside.{Alters, Puts}
-use Rattle.atl_store.specs.Tables.{campaign_table, faction_table, region_table, unit_table, has_table, structure_table, mail_table, report_table, books_table}
+use Rattle.atl_store.specs.Tables.{Part, Own, Factions, Units, Reports, Books, table_of, campaign_table, faction_table, unit_table, mail_table, report_table, books_table}
 use Rattle.atl_store.specs.Shown.{Head, head_row, mail_row, report_row, books_key}
 use Rattle.atl_store.specs.Lines.{amount_lines}
 use Rattle.atl_store.specs.Rows.{campaign_line, faction_line, unit_line}
@@ -55,7 +55,7 @@ pub record Enters (faction : ℕ) (after : CampaignValue) (text : List ℕ) (old
   pub unit : (place : ℕ) (u : Unit) → after.next_unit ≡ place + 1 → get after.units place ≡ Some u → HasPut unit_table (unit_line place u) old new
   pub report : (report : List ℕ) → get after.reports faction ≡ Some report → HasPut report_table (report_row faction report) old new
   pub books : Is (rows_in books_table new.trees) (settled after Joining People (settled after Joining Money (Has (rows_in books_table old.trees))))
-  pub others : (t : Table) → Has (region_table ∷ has_table ∷ structure_table ∷ mail_table ∷ []) t → new.trees t.tree ≡ old.trees t.tree
+  pub others : (part : Part) → ¬ Has (Own ∷ Factions ∷ Units ∷ Reports ∷ Books ∷ []) part → new.trees (table_of part).tree ≡ old.trees (table_of part).tree
 
 -- a joining is written, whatever the campaign's own row said
 abbrev pub WritesJoin : ℕ → CampaignValue → Database → Database → Type 0

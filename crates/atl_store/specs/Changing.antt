@@ -10,10 +10,11 @@ use Rattle.sqlite.specs.Table.{Table}
 use Rattle.sqlite_rules.specs.Lists.{Has}
 use Rattle.atl_state.specs.Limits.{entry_count}
 use Rattle.atl_state.specs.Campaign.{CampaignValue, MarkedCampaign}
+use Rattle.atl_state.specs.Marks.{Marks}
 use Rattle.atl_store.specs.Sets.{Set, Is, rows_in}
-use Rattle.atl_store.specs.Tables.{campaign_table, faction_table, region_table, unit_table, has_table, structure_table, mail_table, report_table, books_table}
-use Rattle.atl_store.specs.Shown.{Head, head_row, mail_row, report_row}
-use Rattle.atl_store.specs.Rows.{head_of, faction_line, region_line, unit_line, structure_line, RowsOf, HasRowsOf, BooksRowsOf}
+use Rattle.atl_store.specs.Tables.{Part, Own, Factions, Regions, Units, Goods, Structures, Mail, Reports, Books, campaign_table, table_of}
+use Rattle.atl_store.specs.Shown.{Head, head_row}
+use Rattle.atl_store.specs.Rows.{head_of, campaign_line, rows_for}
 
 -- whether a row begins with a number of which this is so
 abbrev pub begins : (ℕ → Bool) → Row → Bool
@@ -52,17 +53,25 @@ abbrev pub head_after : Bool → CampaignValue → Head → Head
 head_after true c before = head_of c
 head_after false c before = before
 
+-- the campaign's own row as it is written over one that said this, with this world text
+abbrev pub own_after : MarkedCampaign → Head → List ℕ → Row
+own_after c before text = head_row (head_after c.marks.row c.value before) text
+
+-- whether a row of a part's table has a marked key; the campaign's own row is looked at as a whole
+abbrev pub is_marked : Marks → Part → Row → Bool
+is_marked marks Own = λ r. true
+is_marked marks Factions = begins_marked marks.factions
+is_marked marks Regions = begins_marked marks.regions
+is_marked marks Units = begins_marked marks.units
+is_marked marks Goods = begins_marked marks.goods
+is_marked marks Structures = begins_marked marks.structures
+is_marked marks Mail = begins_marked marks.mail
+is_marked marks Reports = begins_marked marks.reports
+is_marked marks Books = amount_marked marks.books
+
 -- Tables whose own row of a campaign said this, with this world text, have what is marked written.
 pub record WritesMarked (c : MarkedCampaign) (before : Head) (text : List ℕ) (old new : Database) : Type 0 where
-  pub campaign : Is (rows_in campaign_table new.trees) (λ r. r ≡ head_row (head_after c.marks.row c.value before) text)
-  pub factions : AreRewritten faction_table (begins_marked c.marks.factions) (RowsOf faction_line c.value.factions) old new
-  pub regions : AreRewritten region_table (begins_marked c.marks.regions) (RowsOf region_line c.value.regions) old new
-  pub units : AreRewritten unit_table (begins_marked c.marks.units) (RowsOf unit_line c.value.units) old new
-  pub has : AreRewritten has_table (begins_marked c.marks.goods) (HasRowsOf c.value.units) old new
-  pub structures : AreRewritten structure_table (begins_marked c.marks.structures) (RowsOf structure_line c.value.structures) old new
-  pub mail : AreRewritten mail_table (begins_marked c.marks.mail) (RowsOf mail_row c.value.mail) old new
-  pub reports : AreRewritten report_table (begins_marked c.marks.reports) (RowsOf report_row c.value.reports) old new
-  pub books : AreRewritten books_table (amount_marked c.marks.books) (BooksRowsOf c.value.books) old new
+  pub rows : (part : Part) → AreRewritten (table_of part) (is_marked c.marks part) (rows_for (own_after c before text) c.value part) old new
 
 -- whatever the campaign's own row said
 abbrev pub WritesChanges : MarkedCampaign → Database → Database → Type 0
@@ -79,11 +88,4 @@ pub record HoldsUnmarked (trees : Trees) (text : List ℕ) (c : MarkedCampaign) 
   pub before : Head
   pub campaign : Is (rows_in campaign_table trees) (λ r. r ≡ head_row before text)
   pub head : head_after c.marks.row c.value before ≡ head_of c.value
-  pub factions : HasUnmarked faction_table (begins_marked c.marks.factions) (RowsOf faction_line c.value.factions) trees
-  pub regions : HasUnmarked region_table (begins_marked c.marks.regions) (RowsOf region_line c.value.regions) trees
-  pub units : HasUnmarked unit_table (begins_marked c.marks.units) (RowsOf unit_line c.value.units) trees
-  pub has : HasUnmarked has_table (begins_marked c.marks.goods) (HasRowsOf c.value.units) trees
-  pub structures : HasUnmarked structure_table (begins_marked c.marks.structures) (RowsOf structure_line c.value.structures) trees
-  pub mail : HasUnmarked mail_table (begins_marked c.marks.mail) (RowsOf mail_row c.value.mail) trees
-  pub reports : HasUnmarked report_table (begins_marked c.marks.reports) (RowsOf report_row c.value.reports) trees
-  pub books : HasUnmarked books_table (amount_marked c.marks.books) (BooksRowsOf c.value.books) trees
+  pub rest : (part : Part) → HasUnmarked (table_of part) (is_marked c.marks part) (rows_for (campaign_line text c.value) c.value part) trees

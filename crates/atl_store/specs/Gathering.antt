@@ -12,9 +12,10 @@ use Rattle.sqlite_catalog.specs.Listing.{IsSound}
 use Rattle.sqlite_trees.specs.Tree.{Trees}
 use Rattle.sqlite_trees.specs.declared.store.Store.{Ghosts}
 use Rattle.atl_tables.specs.Worlds.{WorldValue}
+use Rattle.atl_tables.specs.declared.format.Format.TheVariants.{First}
 use Rattle.atl_tables.specs.World.{old_world_of}
 use Rattle.atl_state.specs.Checking.{IsChecked}
-use Rattle.atl_state.specs.RowRules.{is_one_head}
+use Rattle.atl_state.specs.RowRules.{is_one_head, are_of_format}
 use Rattle.atl_state.specs.Campaign.{MarkedCampaign}
 use Rattle.atl_state.specs.declared.checking.Rule.TheVariants.{OneRow}
 use Rattle.atl_state.specs.declared.parts.Parts.{Parts}
@@ -34,7 +35,7 @@ use Rattle.atl_store.specs.Statements.{placed_selection, selection}
 use Rattle.atl_store.specs.Sets.{rows_in}
 use Rattle.atl_store.specs.StoredRows.{campaign_stored, faction_stored, region_stored, unit_stored, structure_stored, mail_stored, report_stored, has_stored, books_stored, faction_forms, region_forms, unit_forms, structure_forms, mail_forms, report_forms, has_forms, books_forms}
 use Rattle.atl_store.specs.Stored.{Form}
-use Rattle.atl_store.specs.Tables.{campaign_table, faction_table, region_table, unit_table, has_table, structure_table, mail_table, report_table, books_table, HasNine}
+use Rattle.atl_store.specs.Tables.{campaign_table, faction_table, region_table, unit_table, has_table, structure_table, mail_table, report_table, books_table, HasAll}
 use Rattle.atl_store.specs.declared.fault.ReadFault.{ReadFault}
 use Rattle.atl_store.specs.declared.fault.ReadFault.TheVariants as read
 use Rattle.atl_store.specs.declared.fault.StoreFault.{StoreFault}
@@ -124,7 +125,7 @@ module _ {S : Type 0} (g : Ghosts S) (old : Held S) where
     pub rows : List Row
     pub selects : Selects g (selection campaign_table 1) old rows
     pub row : AreOwnRow rows own.head (string_bytes own.world) w
-    pub table : HasNine old.schema → IsPermutation (rows_in campaign_table (state g old).now.trees) (campaign_stored own ∷ [])
+    pub table : HasAll old.schema → IsPermutation (rows_in campaign_table (state g old).now.trees) (campaign_stored own ∷ [])
 
   -- ---- the other tables
 
@@ -151,7 +152,7 @@ module _ {S : Type 0} (g : Ghosts S) (old : Held S) where
 
   -- these are all rows of a table
   abbrev pub AreRows : {A : Type 0} → (Trees → List Row) → (A → Row) → List A → Type 0
-  AreRows in_table shown rows = HasNine old.schema → IsPermutation (in_table (state g old).now.trees) (map shown rows)
+  AreRows in_table shown rows = HasAll old.schema → IsPermutation (in_table (state g old).now.trees) (map shown rows)
 
   -- these are all rows of two tables, or of three
   abbrev pub AreTwo : {A B Z : Type 0} → (Trees → List Row) → (A → Row) → (Trees → List Row) → (B → Row) → Vec A Z × Vec B Z → Type 0
@@ -181,10 +182,10 @@ module _ {S : Type 0} (g : Ghosts S) (old : Held S) where
 
   -- Store where the schema is another one, else what is told of that SELECT
   abbrev pub FailsToConfirm : StoreFault → Type 0
-  FailsToConfirm Store = (¬ HasNine old.schema) ⊎ (HasNine old.schema × IsRefusedAgain false)
+  FailsToConfirm Store = (¬ HasAll old.schema) ⊎ (HasAll old.schema × IsRefusedAgain false)
   FailsToConfirm (Damaged rule) = ⊥
   FailsToConfirm NotACampaign = ⊥
-  FailsToConfirm Memory = HasNine old.schema × IsRefusedAgain true
+  FailsToConfirm Memory = HasAll old.schema × IsRefusedAgain true
 
 -- no two rows are kept at one place
 abbrev pub AreApart : {A : Type 0} → List (Placed A) → Type 0
@@ -202,6 +203,7 @@ parts_with head read = record {
   mail = read.1.0.1.items;
   reports = read.0.0.1.items;
   books = map (λ s. s.row) read.1.1.items;
+  markets = [];
 }
 
 -- the rows are these, and no two of has, or of books, are kept at one place
@@ -226,16 +228,17 @@ pub record HavePlaces (db : Trees) (p : Parts) : Type 0 where
 -- all rows were read: those of the world's text and these
 pub record Gathered {S : Type 0} (g : Ghosts S) (old : Held S) (w : WorldValue) (p : Parts) : Type 0 where
   pub one : KeepsOneRow g old
-  pub head : IsTrue (is_one_head p.campaign)
+  pub head : IsTrue (is_one_head First p.campaign)
+  pub markets : IsTrue (are_of_format First p.markets)
   pub text : List ℕ
   pub world : old_world_of text ≡ Ok w
   pub typed : AreToldTyped g old other_selects
-  pub rows : HasNine old.schema → HaveRows (state g old).now.trees text p
-  pub places : HasNine old.schema → HavePlaces (state g old).now.trees p
+  pub rows : HasAll old.schema → HaveRows (state g old).now.trees text p
+  pub places : HasAll old.schema → HavePlaces (state g old).now.trees p
 
 -- the schema is that of a campaign, and the connection is open
 pub record IsConfirmed (old new : State) : Type 0 where
-  pub nine : HasNine old.now.schema
+  pub begins : HasAll old.now.schema
   pub is_open : IsTrue new.is_open
   pub sound : IsSound old.now.schema old.now.trees
 
@@ -244,4 +247,4 @@ pub record IsLoaded {S : Type 0} (g : Ghosts S) (old new : Held S) (w : WorldVal
   pub parts : Parts
   pub gathered : HasCleanDisk (state g new) → Gathered g old w parts
   pub confirmed : HasCleanDisk (state g new) → IsConfirmed (state g old) (state g new)
-  pub checked : IsChecked w parts c
+  pub checked : IsChecked First w parts c

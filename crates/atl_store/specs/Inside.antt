@@ -8,24 +8,24 @@ use Rattle.sqlite.specs.Effect.{Database}
 use Rattle.sqlite.specs.State.{State}
 use Rattle.sqlite_trees.specs.Tree.{Trees}
 use Rattle.atl_store.specs.Sets.{Set, Is, rows_in, put, puts, drop_key}
-use Rattle.atl_store.specs.Tables.{no_tables, all_tables, nine_trees, HasNine, IsSoundly}
+use Rattle.atl_store.specs.Tables.{Part, table_of, no_tables, all_tables, all_trees, HasAll, IsSoundly}
 
--- the database begins with the nine tables
+-- the database begins with the tables of a campaign
 pub record HasTables (db : Database) : Type 0 where
-  pub nine : HasNine db.schema
+  pub begins : HasAll db.schema
   pub sound : IsSoundly db.schema db.trees
 
 -- the database has no table
 abbrev pub IsBlank : Database → Type 0
 IsBlank db = db.schema ≡ no_tables
 
--- no table and no index goes, and what other tables hold beside the nine stays as it was
+-- no table and no index goes, and what tables hold beside those of a campaign stays as it was
 pub record Carries (old new : Database) : Type 0 where
   pub tables : (t : Table) → Has old.schema.tables t → Has new.schema.tables t
   pub indexes : (i : Index) → Has old.schema.indexes i → Has new.schema.indexes i
-  pub others : (t : Table) → Has old.schema.tables t → ¬ Has nine_trees t.tree → new.trees t.tree ≡ old.trees t.tree
+  pub others : (t : Table) → Has old.schema.tables t → ¬ Has all_trees t.tree → new.trees t.tree ≡ old.trees t.tree
 
--- this is done, and the nine tables are there afterwards
+-- this is done, and the tables of a campaign are there afterwards
 pub record Done (Does : Database → Database → Type 0) (old new : Database) : Type 0 where
   pub does : Does old new
   pub tables : HasTables new
@@ -39,10 +39,15 @@ Inside Before Does old new = (new.in_transaction ≡ old.in_transaction) × (Bef
 abbrev pub Both : (Database → Database → Type 0) → (Database → Database → Type 0) → Database → Database → Type 0
 Both First Second old new = (mid : Database) × First old mid × Second mid new
 
--- the rows of this table are these, and each other of the nine is as it was
+-- the rows of this table are these, and each other table of a campaign is as it was
 pub record Alters (table : Table) (S : Set) (old new : Database) : Type 0 where
   pub rows : Is (rows_in table new.trees) S
   pub others : (t : Table) → Has all_tables t → t.tree ≢ table.tree → new.trees t.tree ≡ old.trees t.tree
+
+-- This becomes of the rows of these parts, and each other table of a campaign is as it was.
+pub record Changes (Becomes : Part → List Row → List Row → Type 0) (parts : List Part) (old new : Database) : Type 0 where
+  pub done : (part : Part) → Has parts part → Becomes part (rows_in (table_of part) old.trees) (rows_in (table_of part) new.trees)
+  pub others : (part : Part) → ¬ Has parts part → new.trees (table_of part).tree ≡ old.trees (table_of part).tree
 
 -- the row is put in the place of the one that has its key, which is so many columns
 abbrev pub Puts : Table → ℕ → Row → Database → Database → Type 0

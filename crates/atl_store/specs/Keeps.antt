@@ -10,7 +10,7 @@ use Rattle.atl_tables.specs.Worlds.{WorldValue}
 use Rattle.atl_state.specs.Campaign.{CampaignValue, with_report}
 use Rattle.atl_state.specs.Joining.{joined}
 use Rattle.atl_state.specs.Good.{IsGood}
-use Rattle.atl_store.specs.Tables.{HasNine, IsSoundly}
+use Rattle.atl_store.specs.Tables.{HasAll, IsSoundly}
 use Rattle.atl_store.specs.Inside.{HasTables, Carries, IsBlank}
 use Rattle.atl_store.specs.Making.{has_campaign}
 use Rattle.atl_store.specs.Rows.{Holds}
@@ -20,10 +20,10 @@ use Rattle.atl_store.specs.OwnStatements.{OfFounding}
 use Rattle.atl_store.specs.declared.fault.CreateFault.{CreateFault}
 use Rattle.atl_store.specs.declared.fault.CreateFault.TheVariants.{NotEmpty, Store, Memory}
 
--- What a file holds: the nine tables, as its catalog lists them, and in them exactly the rows of the text and the campaign.
+-- What a file holds: the tables of a campaign, as its catalog lists them, and in them exactly the rows of the text and the campaign.
 pub record Stores (db : Trees) (text : List ℕ) (c : CampaignValue) : Type 0 where
   pub schema : Schema
-  pub nine : HasNine schema
+  pub begins : HasAll schema
   pub sound : IsSoundly schema db
   pub rows : Holds db text c
 
@@ -53,7 +53,7 @@ pub record IsLater (old new : State) : Type 0 where
   pub counts : old.faults ≤ new.faults
   pub shield : old.IsShielded → new.IsShielded
 
--- What other tables hold beside the nine is as it was, while the connection is open.
+-- What tables hold beside those of a campaign is as it was, while the connection is open.
 abbrev pub SparesOthers : State → State → Type 0
 SparesOthers old new = IsTrue new.is_open → HasTables old.now → old.committed ≡ old.now → Carries old.now new.now
 

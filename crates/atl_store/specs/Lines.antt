@@ -1,9 +1,10 @@
 -- The rows of goods and of books as lists, in the order in which they are put into empty tables.
-use Rattle.std.specs.Prelude.{◌==◌, ◌+◌, ◌++◌, ℕ, pos, List, [], ◌∷◌, if◌then◌else◌}
+use Rattle.std.specs.Prelude.{◌≡◌, ◌≢◌, ◌==◌, ◌+◌, ◌++◌, ℕ, pos, List, [], ◌∷◌, Some, ⊤, take, if◌then◌else◌}
 use Rattle.std.specs.List.{flat_map}
-use Rattle.std.specs.Ordering.{int_eq}
-use Rattle.std.specs.FinMap.{entries}
+use Rattle.std.specs.Ordering.{int_eq, nat_cmp}
+use Rattle.std.specs.FinMap.{FinMap, entries, get}
 use Rattle.sqlite.specs.Order.{Row}
+use Rattle.sqlite_rules.specs.Lists.{Has}
 use Rattle.atl_state.specs.Campaign.{CampaignValue}
 use Rattle.atl_state.specs.Held.{Held}
 use Rattle.atl_state.specs.Books.{all_entries, amount_in, entry_place, thing_at, thing_place}
@@ -12,8 +13,27 @@ use Rattle.atl_state.specs.declared.books.Thing.{Thing}
 use Rattle.atl_state.specs.declared.records.Unit.{Unit}
 use Rattle.atl_store.specs.declared.rows.has.Sort.{Sort}
 use Rattle.atl_store.specs.declared.rows.has.Sort.TheVariants.{Item, Skill}
-use Rattle.atl_store.specs.Shown.{has_row, books_row}
+use Rattle.atl_store.specs.Sets.{Set}
+use Rattle.atl_store.specs.Shown.{int, has_row, books_row}
 use Rattle.atl_store.specs.Written.{sort_number}
+
+-- ---- rows that belong to what has a number
+
+-- no two of the rows have one key, which is so many columns
+abbrev pub DifferInKey : ℕ → List Row → Type 0
+DifferInKey key [] = ⊤
+DifferInKey key (x ∷ xs) = ((y : Row) → Has xs y → take key x ≢ take key y) × DifferInKey key xs
+
+-- the rows of all entries, in their order
+abbrev pub groups_of : {V : Type 0} → (ℕ → V → List Row) → List (ℕ × V) → List Row
+groups_of lines entries = flat_map (λ e. lines e.0 e.1) entries
+
+-- Each value's rows begin with its number and differ in their key, and the rows of all values of the map are those that are wanted.
+pub record AreGroups {V : Type 0} (lines : ℕ → V → List Row) (key : ℕ) (values : FinMap nat_cmp V) (Wanted : Set) : Type 0 where
+  pub numbered : (n : ℕ) (v : V) (r : Row) → Has (lines n v) r → take 1 r ≡ int n ∷ []
+  pub apart : (n : ℕ) (v : V) → DifferInKey key (lines n v)
+  pub wanted : (n : ℕ) (v : V) → get values n ≡ Some v → (r : Row) → Has (lines n v) r → Wanted r
+  pub lined : (r : Row) → Wanted r → (n : ℕ) × (v : V) × (get values n ≡ Some v) × Has (lines n v) r
 
 -- ---- what units have
 
@@ -27,8 +47,11 @@ sort_lines unit sort things = flat_map (λ e. thing_lines unit sort e.0 e.1) thi
 abbrev pub goods_lines : ℕ → Held → List Row
 goods_lines unit held = sort_lines unit Item (entries held.items) ++ sort_lines unit Skill (entries held.days)
 
+abbrev pub unit_lines : ℕ → Unit → List Row
+unit_lines n unit = goods_lines n unit.holding
+
 abbrev pub all_goods_lines : List (ℕ × Unit) → List Row
-all_goods_lines units = flat_map (λ e. goods_lines e.0 e.1.holding) units
+all_goods_lines units = groups_of unit_lines units
 
 -- ---- the books
 

@@ -10,6 +10,7 @@ use Rattle.sqlite_rules.specs.Lists.{Has}
 use Rattle.sqlite_trees.specs.Tree.{Trees}
 use Rattle.sqlite_trees.specs.declared.store.Store.{Ghosts}
 use Rattle.atl_tables.specs.Worlds.{WorldValue}
+use Rattle.atl_tables.specs.declared.format.Format.TheVariants.{First}
 use Rattle.atl_tables.specs.World.{old_world_of}
 use Rattle.atl_state.specs.Checking.{IsFirstBroken}
 use Rattle.atl_state.specs.Good.{IsGood}
@@ -28,7 +29,7 @@ use Rattle.atl_store.specs.Statements.{placed_selection, selection}
 use Rattle.atl_store.specs.Sets.{rows_in, IsKeyed}
 use Rattle.atl_store.specs.Stored.{Form, first_columns, AreTyped}
 use Rattle.atl_store.specs.StoredRows.{head_stored, faction_stored, region_stored, unit_stored, structure_stored, mail_stored, report_stored, campaign_forms, faction_forms, region_forms, unit_forms, has_forms, structure_forms, mail_forms, report_forms, books_forms}
-use Rattle.atl_store.specs.Tables.{campaign_table, faction_table, region_table, unit_table, has_table, structure_table, mail_table, report_table, books_table, HasNine}
+use Rattle.atl_store.specs.Tables.{campaign_table, faction_table, region_table, unit_table, has_table, structure_table, mail_table, report_table, books_table, HasAll}
 use Rattle.atl_store.specs.WorldText.{world_text}
 use Rattle.atl_store.specs.declared.fault.ReadFault.{ReadFault}
 use Rattle.atl_store.specs.declared.fault.ReadFault.TheVariants as read
@@ -122,9 +123,9 @@ module _ {S : Type 0} (g : Ghosts S) (old : Held S) where
 
   -- ---- the tables, and their rows
 
-  -- They are the nine tables, and no two rows of has, or of books, are kept at one place.
+  -- They are the tables of a campaign, and no two rows of has, or of books, are kept at one place.
   pub record AreMade : Type 0 where
-    pub nine : HasNine old.schema
+    pub begins : HasAll old.schema
     pub has_keyed : IsKeyed ((state g old).now.trees has_table.tree)
     pub books_keyed : IsKeyed ((state g old).now.trees books_table.tree)
 
@@ -136,7 +137,7 @@ module _ {S : Type 0} (g : Ghosts S) (old : Held S) where
     pub is_world : old_world_of text ≡ Ok world
     pub parts : Parts
     pub rows : HaveRows (state g old).now.trees text parts
-    pub first : IsFirstBroken world parts rule
+    pub first : IsFirstBroken First world parts rule
 
   -- The campaign's own rows keep the first rule.
   pub record KeepsOneRow : Type 0 where

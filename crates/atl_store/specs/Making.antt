@@ -19,7 +19,7 @@ pub record AreBare (schema : Schema) (db : Database) : Type 0 where
 abbrev pub Extends : Schema → Schema → State → State → Type 0
 Extends before after old new = (new.in_transaction ≡ old.in_transaction) × (AreBare before old.now → AreBare after new.now × IsDatabase new.now)
 
--- none of the nine tables has a row
+-- none of the tables of a campaign has a row
 abbrev pub AreEmpty : Database → Database → Type 0
 AreEmpty old new = (t : Table) → Has all_tables t → rows_in t new.trees ≡ []
 

@@ -10,14 +10,12 @@ use Rattle.sqlite.specs.Table.{Table}
 use Rattle.sqlite_rules.specs.Lists.{Has}
 use Rattle.atl_state.specs.Limits.{entry_count}
 use Rattle.atl_state.specs.Campaign.{MarkedCampaign}
-use Rattle.atl_state.specs.declared.records.Unit.{Unit}
 use Rattle.atl_store.specs.Sets.{Set, Is, rows_in}
-use Rattle.atl_store.specs.Inside.{Alters}
-use Rattle.atl_store.specs.Tables.{campaign_table, faction_table, region_table, unit_table, has_table, structure_table, mail_table, report_table, books_table}
-use Rattle.atl_store.specs.Shown.{Head, head_row, mail_row, report_row}
-use Rattle.atl_store.specs.Rows.{faction_line, region_line, unit_line, structure_line, RowsOf, HasRowsOf, BooksRowsOf}
-use Rattle.atl_store.specs.Filling.{SparesAllBut, player_trees, place_trees, people_trees}
-use Rattle.atl_store.specs.Changing.{begins, accounts, begins_marked, amount_marked, rewritten, AreRewritten, head_after}
+use Rattle.atl_store.specs.Inside.{Alters, Changes}
+use Rattle.atl_store.specs.Tables.{Part, campaign_table, books_table}
+use Rattle.atl_store.specs.Shown.{Head, head_row}
+use Rattle.atl_store.specs.Rows.{RowsOf, BooksRowsOf, rows_for}
+use Rattle.atl_store.specs.Changing.{begins, accounts, begins_marked, amount_marked, is_marked, rewritten, own_after}
 
 -- the table's rows with a chosen key are those that are wanted, its others are as they were, and so is every other table
 abbrev pub Rewrites : Table → (Row → Bool) → Set → Database → Database → Type 0
@@ -43,13 +41,13 @@ RewritesNumber table line values n old new = Rewrites table (begins (is_number n
 abbrev pub RewritesMarked : {V : Type 0} → Table → (ℕ → V → Row) → FinMap nat_cmp V → FinSet nat_cmp → Database → Database → Type 0
 RewritesMarked table line values marks old new = Rewrites table (begins_marked marks) (RowsOf line values) old new
 
--- the rows of what a unit has
-abbrev pub RewritesGoods : FinMap nat_cmp Unit → ℕ → Database → Database → Type 0
-RewritesGoods units n old new = Rewrites has_table (begins (is_number n)) (HasRowsOf units) old new
+-- the rows that belong to a number
+abbrev pub RewritesGroup : Table → Set → ℕ → Database → Database → Type 0
+RewritesGroup table Wanted n old new = Rewrites table (begins (is_number n)) Wanted old new
 
--- the rows of what all marked units have
-abbrev pub RewritesAllGoods : FinMap nat_cmp Unit → FinSet nat_cmp → Database → Database → Type 0
-RewritesAllGoods units marks old new = Rewrites has_table (begins_marked marks) (HasRowsOf units) old new
+-- the rows that belong to all that is marked
+abbrev pub RewritesGroups : Table → Set → FinSet nat_cmp → Database → Database → Type 0
+RewritesGroups table Wanted marks old new = Rewrites table (begins_marked marks) Wanted old new
 
 -- the marked amounts of these entries and things
 abbrev pub RewritesAmounts : MarkedCampaign → (ℕ → Bool) → (ℕ → Bool) → Database → Database → Type 0
@@ -60,25 +58,18 @@ RewritesBooks c old new = Rewrites books_table (amount_marked c.marks.books) (Bo
 
 -- the campaign's own row, which keeps its world text
 abbrev pub RewritesHead : MarkedCampaign → Database → Database → Type 0
-RewritesHead c old new = (before : Head) (text : List ℕ) → Is (rows_in campaign_table old.trees) (λ r. r ≡ head_row before text) → Alters campaign_table (λ r. r ≡ head_row (head_after c.marks.row c.value before) text) old new
+RewritesHead c old new = (before : Head) (text : List ℕ) → Is (rows_in campaign_table old.trees) (λ r. r ≡ head_row before text) → Alters campaign_table (λ r. r ≡ own_after c before text) old new
 
--- ---- three tables and three
+-- ---- one table after another
 
-abbrev pub RewritesPlayers : MarkedCampaign → Database → Database → Type 0
-RewritesPlayers c old new = (before : Head) (text : List ℕ) → Is (rows_in campaign_table old.trees) (λ r. r ≡ head_row before text)
-    → Is (rows_in campaign_table new.trees) (λ r. r ≡ head_row (head_after c.marks.row c.value before) text)
-    × AreRewritten faction_table (begins_marked c.marks.factions) (RowsOf faction_line c.value.factions) old new
-    × AreRewritten report_table (begins_marked c.marks.reports) (RowsOf report_row c.value.reports) old new
-    × SparesAllBut player_trees old new
+-- the marked rows are the campaign's, whose own row is this one
+abbrev pub Becomes : MarkedCampaign → Row → Part → List Row → List Row → Type 0
+Becomes c own part before after = Is after (rewritten (is_marked c.marks part) (rows_for own c.value part) (Has before))
 
-abbrev pub RewritesPlaces : MarkedCampaign → Database → Database → Type 0
-RewritesPlaces c old new = AreRewritten region_table (begins_marked c.marks.regions) (RowsOf region_line c.value.regions) old new
-    × AreRewritten structure_table (begins_marked c.marks.structures) (RowsOf structure_line c.value.structures) old new
-    × AreRewritten books_table (amount_marked c.marks.books) (BooksRowsOf c.value.books) old new
-    × SparesAllBut place_trees old new
+-- the tables of these parts are rewritten, whatever the campaign's own row says, which is none of them
+abbrev pub RewritesParts : MarkedCampaign → List Part → Database → Database → Type 0
+RewritesParts c parts old new = (own : Row) → Changes (Becomes c own) parts old new
 
-abbrev pub RewritesPeople : MarkedCampaign → Database → Database → Type 0
-RewritesPeople c old new = AreRewritten unit_table (begins_marked c.marks.units) (RowsOf unit_line c.value.units) old new
-    × AreRewritten has_table (begins_marked c.marks.goods) (HasRowsOf c.value.units) old new
-    × AreRewritten mail_table (begins_marked c.marks.mail) (RowsOf mail_row c.value.mail) old new
-    × SparesAllBut people_trees old new
+-- and of these, among which it is
+abbrev pub RewritesWithOwn : MarkedCampaign → List Part → Database → Database → Type 0
+RewritesWithOwn c parts old new = (before : Head) (text : List ℕ) → Is (rows_in campaign_table old.trees) (λ r. r ≡ head_row before text) → Changes (Becomes c (own_after c before text)) parts old new

@@ -15,8 +15,8 @@ use Rattle.atl_state.specs.declared.records.Structure.{Structure}
 use Rattle.atl_state.specs.declared.records.Unit.{Unit}
 use Rattle.atl_store.specs.declared.rows.has.Sort.{Sort}
 use Rattle.atl_store.specs.declared.rows.has.Sort.TheVariants.{Item, Skill}
-use Rattle.atl_store.specs.Sets.{Is, rows_in}
-use Rattle.atl_store.specs.Tables.{campaign_table, faction_table, region_table, unit_table, has_table, structure_table, mail_table, report_table, books_table}
+use Rattle.atl_store.specs.Sets.{Set, Is, rows_in}
+use Rattle.atl_store.specs.Tables.{Part, Own, Factions, Regions, Units, Goods, Structures, Mail, Reports, Books, table_of}
 use Rattle.atl_store.specs.Shown.{Head, head_row, faction_row, region_row, unit_row, has_row, structure_row, mail_row, report_row, books_row}
 use Rattle.atl_store.specs.Written.{sort_number}
 
@@ -60,14 +60,18 @@ HasRowsOf units r =
 abbrev pub BooksRowsOf : List (List ℤ) → Row → Type 0
 BooksRowsOf books r = (e : Entry) × (t : Thing) × (amount_in books e t ≢ pos 0) × (r ≡ books_row (entry_place e + 1) (thing_place t) (amount_in books e t))
 
+-- the rows that stand for each part of a campaign, whose own row is this one
+abbrev pub rows_for : Row → CampaignValue → Part → Set
+rows_for own c Own = λ r. r ≡ own
+rows_for own c Factions = RowsOf faction_line c.factions
+rows_for own c Regions = RowsOf region_line c.regions
+rows_for own c Units = RowsOf unit_line c.units
+rows_for own c Goods = HasRowsOf c.units
+rows_for own c Structures = RowsOf structure_line c.structures
+rows_for own c Mail = RowsOf mail_row c.mail
+rows_for own c Reports = RowsOf report_row c.reports
+rows_for own c Books = BooksRowsOf c.books
+
 -- the tables have exactly the rows of the world text and the campaign
 pub record Holds (trees : Trees) (text : List ℕ) (c : CampaignValue) : Type 0 where
-  pub campaign : Is (rows_in campaign_table trees) (λ r. r ≡ campaign_line text c)
-  pub factions : Is (rows_in faction_table trees) (RowsOf faction_line c.factions)
-  pub regions : Is (rows_in region_table trees) (RowsOf region_line c.regions)
-  pub units : Is (rows_in unit_table trees) (RowsOf unit_line c.units)
-  pub has : Is (rows_in has_table trees) (HasRowsOf c.units)
-  pub structures : Is (rows_in structure_table trees) (RowsOf structure_line c.structures)
-  pub mail : Is (rows_in mail_table trees) (RowsOf mail_row c.mail)
-  pub reports : Is (rows_in report_table trees) (RowsOf report_row c.reports)
-  pub books : Is (rows_in books_table trees) (BooksRowsOf c.books)
+  pub rows : (part : Part) → Is (rows_in (table_of part) trees) (rows_for (campaign_line text c) c part)

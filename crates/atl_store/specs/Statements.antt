@@ -49,7 +49,7 @@ placed_selection t key = selection_of (column_names t ++ codes "rowid" ∷ []) t
 abbrev pub campaign_upsert : List ℕ
 campaign_upsert = codes "INSERT INTO campaign (id, format, month, next_faction, next_unit, next_structure, pass, world) VALUES (1, 1, ?1, ?2, ?3, ?4, ?5, ?6) ON CONFLICT (id) DO UPDATE SET month = ?1, next_faction = ?2, next_unit = ?3, next_structure = ?4, pass = ?5"
 
--- the nine texts that make the tables
+-- the texts that make the tables
 abbrev pub creations : List (List ℕ)
 creations =
     codes "CREATE TABLE campaign (id INTEGER NOT NULL PRIMARY KEY CHECK (id = 1), format INTEGER NOT NULL, month INTEGER NOT NULL, next_faction INTEGER NOT NULL, next_unit INTEGER NOT NULL, next_structure INTEGER NOT NULL, pass TEXT NOT NULL, world TEXT NOT NULL) STRICT" ∷

@@ -1,5 +1,5 @@
--- The nine tables: their columns, keys and checks, and the schema that they make together.
-use Rattle.std.specs.Prelude.{◌≡◌, false, [], ◌∷◌, ◌++◌, Some, None, codes, pos, take, map, List, ℕ}
+-- The tables of a campaign: their columns, keys and checks, and the schema that they make together.
+use Rattle.std.specs.Prelude.{◌≡◌, false, [], ◌∷◌, ◌++◌, Some, None, codes, pos, take, map, length, List, ℕ}
 use Rattle.std.specs.List.{AllByRecursion}
 use Rattle.sqlite.specs.declared.types.Value.TheVariants.{Int}
 use Rattle.sqlite.specs.Table.{Table}
@@ -75,9 +75,45 @@ report_table = table 9 (codes "report") (number (codes "faction") ∷ text (code
 abbrev pub books_table : Table
 books_table = table 10 (codes "books") (number (codes "entry") ∷ number (codes "thing") ∷ number (codes "amount") ∷ []) None books_unique (books_unique ∷ []) []
 
--- in the order in which they are made
+-- the parts of a campaign, each of which has a table
+pub data Part : Type 0 where
+  Own : Part
+  Factions : Part
+  Regions : Part
+  Units : Part
+  Goods : Part
+  Structures : Part
+  Mail : Part
+  Reports : Part
+  Books : Part
+
+abbrev pub table_of : Part → Table
+table_of Own = campaign_table
+table_of Factions = faction_table
+table_of Regions = region_table
+table_of Units = unit_table
+table_of Goods = has_table
+table_of Structures = structure_table
+table_of Mail = mail_table
+table_of Reports = report_table
+table_of Books = books_table
+
+-- in the order in which their tables are made
+abbrev pub all_parts : List Part
+all_parts = Own ∷ Factions ∷ Regions ∷ Units ∷ Goods ∷ Structures ∷ Mail ∷ Reports ∷ Books ∷ []
+
+-- those whose rows are written together
+abbrev pub player_parts : List Part
+player_parts = Own ∷ Factions ∷ Reports ∷ []
+
+abbrev pub place_parts : List Part
+place_parts = Regions ∷ Structures ∷ Books ∷ []
+
+abbrev pub people_parts : List Part
+people_parts = Units ∷ Goods ∷ Mail ∷ []
+
 abbrev pub all_tables : List Table
-all_tables = campaign_table ∷ faction_table ∷ region_table ∷ unit_table ∷ has_table ∷ structure_table ∷ mail_table ∷ report_table ∷ books_table ∷ []
+all_tables = map table_of all_parts
 
 -- the keys that are not the row's number have an index of their own
 abbrev pub all_indexes : List Index
@@ -120,19 +156,25 @@ pub record Begins (count keys : ℕ) (schema : Schema) : Type 0 where
 
 -- ---- the schema of a campaign
 
--- the nine tables with their indexes, and what came behind them
-abbrev pub nine_and : List Table → List Index → Schema
-nine_and = first_and 9 3
+abbrev pub table_count : ℕ
+table_count = length all_tables
 
--- the schema begins with the nine tables
-abbrev pub HasNine : Schema → Type 0
-HasNine = Begins 9 3
+abbrev pub index_count : ℕ
+index_count = length all_indexes
 
--- the trees of the nine tables
-abbrev pub nine_trees : List ℕ
-nine_trees = map (λ t. t.tree) all_tables
+-- all the tables with their indexes, and what came behind them
+abbrev pub all_and : List Table → List Index → Schema
+all_and = first_and table_count index_count
 
--- The trees list the schema and obey it, and the rowids of each of the nine tables are integers that differ.
+-- the schema begins with all the tables
+abbrev pub HasAll : Schema → Type 0
+HasAll = Begins table_count index_count
+
+-- the trees of the tables
+abbrev pub all_trees : List ℕ
+all_trees = map (λ t. t.tree) all_tables
+
+-- The trees list the schema and obey it, and the rowids of each of the tables are integers that differ.
 pub record IsSoundly (schema : Schema) (db : Trees) : Type 0 where
   pub keyed : (table : Table) → Has all_tables table → IsKeyed (db table.tree)
   pub listed : IsSound schema db

@@ -10,13 +10,14 @@ ghost use Rattle.atl_store.specs.Causes.{IsTold};
 ghost use Rattle.atl_store.specs.Changing.{WritesChanges, HoldsUnmarked};
 ghost use Rattle.atl_store.specs.Faults.{write_fault};
 ghost use Rattle.atl_store.specs.OwnStatements.{OfChange};
-ghost use Rattle.atl_store.specs.Rewriting.{RewritesPlayers, RewritesPlaces, RewritesPeople};
+ghost use Rattle.atl_store.specs.Rewriting.{RewritesParts, RewritesWithOwn};
+ghost use Rattle.atl_store.specs.Tables.{player_parts, place_parts, people_parts};
 ghost use Rattle.atl_store.specs.Writes.{Writes, Transacts};
 ghost use Rattle.atl_store.specs.Inside.{Inside, HasTables, LeavesOff};
 ghost use Rattle.atl_store.specs.Keeps.{Keeps, Stops, IsLater, MayFound, SparesOthers};
 
 use crate::fault::WriteFault;
-use crate::goods::rewrite_marked_goods;
+use crate::grouped::rewrite_marked_groups;
 use crate::head::rewrite_head;
 use crate::kept::rewrite_marked;
 use crate::ledger::rewrite_books;
@@ -26,7 +27,7 @@ use sqlite::{Alter, Connection, Error, Transaction};
 
 /// The campaign's own row, factions and reports.
 fn rewrite_players<S: Alter>(tx: &mut Transaction<'_, S>, campaign: &Campaign) -> Result<(), Error>
-    ensures { Writes S.Store (OfChange campaign.now.value) (Inside HasTables (RewritesPlayers campaign.now)) result tx.old.conn tx.new.conn }
+    ensures { Writes S.Store (OfChange campaign.now.value) (Inside HasTables (RewritesWithOwn campaign.now player_parts)) result tx.old.conn tx.new.conn }
 {
     rewrite_head(tx, campaign)?;
     rewrite_marked::<Faction, S>(tx, campaign)?;
@@ -36,7 +37,7 @@ fn rewrite_players<S: Alter>(tx: &mut Transaction<'_, S>, campaign: &Campaign) -
 /// Regions, structures and books.
 fn rewrite_places<S: Alter>(tx: &mut Transaction<'_, S>, campaign: &Campaign) -> Result<(), Error>
     requires { length campaign.now.value.books ≤ most_things }
-    ensures { Writes S.Store (OfChange campaign.now.value) (Inside HasTables (RewritesPlaces campaign.now)) result tx.old.conn tx.new.conn }
+    ensures { Writes S.Store (OfChange campaign.now.value) (Inside HasTables (RewritesParts campaign.now place_parts)) result tx.old.conn tx.new.conn }
 {
     rewrite_marked::<Region, S>(tx, campaign)?;
     rewrite_marked::<Structure, S>(tx, campaign)?;
@@ -45,10 +46,10 @@ fn rewrite_places<S: Alter>(tx: &mut Transaction<'_, S>, campaign: &Campaign) ->
 
 /// Units, what they have, and mail.
 fn rewrite_people<S: Alter>(tx: &mut Transaction<'_, S>, campaign: &Campaign) -> Result<(), Error>
-    ensures { Writes S.Store (OfChange campaign.now.value) (Inside HasTables (RewritesPeople campaign.now)) result tx.old.conn tx.new.conn }
+    ensures { Writes S.Store (OfChange campaign.now.value) (Inside HasTables (RewritesParts campaign.now people_parts)) result tx.old.conn tx.new.conn }
 {
     rewrite_marked::<Unit, S>(tx, campaign)?;
-    rewrite_marked_goods(tx, campaign)?;
+    rewrite_marked_groups::<Unit, S>(tx, campaign)?;
     rewrite_marked::<Sequence<u8>, S>(tx, campaign)
 }
 

@@ -2,14 +2,14 @@
 ghost use Rattle.std.specs.Prelude.{◌≡◌, ◌≤◌, false, IsTrue, OnOk, OnErr, IfErr, length};
 ghost use Rattle.std.specs.Bool.{Decides};
 ghost use Rattle.sqlite.specs.Held.{state};
-ghost use Rattle.atl_store.specs.Tables.{no_tables};
+ghost use Rattle.atl_store.specs.Tables.{no_tables, player_parts, place_parts, people_parts};
 ghost use Rattle.atl_state.specs.Limits.{most_things};
 ghost use Rattle.atl_state.specs.Marks.{no_marks};
 ghost use Rattle.atl_store.specs.OwnStatements.{OfRow, OfFounding};
 ghost use Rattle.atl_store.specs.Writes.{Writes, Transacts};
 ghost use Rattle.atl_store.specs.Inside.{Inside, HasTables, IsBlank};
 ghost use Rattle.atl_store.specs.Making.{has_campaign};
-ghost use Rattle.atl_store.specs.Filling.{FillsPlayers, FillsPlaces, FillsPeople, WritesFounding};
+ghost use Rattle.atl_store.specs.Filling.{FillsParts, FillsWithOwn, WritesFounding};
 ghost use Rattle.atl_store.specs.Keeps.{Creates, IsReady, RefusesToCreate, IsLater};
 
 use crate::fault::CreateFault;
@@ -29,7 +29,7 @@ fn put_players<S: Alter>(
     text: &str,
     campaign: &Campaign,
 ) -> Result<(), Error>
-    ensures { Writes S.Store (OfFounding text.now campaign.now.value) (Inside HasTables (FillsPlayers text.now campaign.now.value)) result tx.old.conn tx.new.conn }
+    ensures { Writes S.Store (OfFounding text.now campaign.now.value) (Inside HasTables (FillsWithOwn text.now campaign.now.value player_parts)) result tx.old.conn tx.new.conn }
 {
     put_head(tx, campaign, text)?;
     put_each(tx, campaign.factions())?;
@@ -39,7 +39,7 @@ fn put_players<S: Alter>(
 /// Puts the regions, the structures and the books.
 fn put_places<S: Alter>(tx: &mut Transaction<'_, S>, campaign: &Campaign) -> Result<(), Error>
     requires { length campaign.now.value.books ≤ most_things }
-    ensures { Writes S.Store (OfRow campaign.now.value) (Inside HasTables (FillsPlaces campaign.now.value)) result tx.old.conn tx.new.conn }
+    ensures { Writes S.Store (OfRow campaign.now.value) (Inside HasTables (FillsParts campaign.now.value place_parts)) result tx.old.conn tx.new.conn }
 {
     put_each(tx, campaign.regions())?;
     put_each(tx, campaign.structures())?;
@@ -48,7 +48,7 @@ fn put_places<S: Alter>(tx: &mut Transaction<'_, S>, campaign: &Campaign) -> Res
 
 /// Puts the units, what they have, and the mail.
 fn put_people<S: Alter>(tx: &mut Transaction<'_, S>, campaign: &Campaign) -> Result<(), Error>
-    ensures { Writes S.Store (OfRow campaign.now.value) (Inside HasTables (FillsPeople campaign.now.value)) result tx.old.conn tx.new.conn }
+    ensures { Writes S.Store (OfRow campaign.now.value) (Inside HasTables (FillsParts campaign.now.value people_parts)) result tx.old.conn tx.new.conn }
 {
     put_units(tx, campaign.units())?;
     put_all_goods(tx, campaign.units())?;
@@ -110,7 +110,7 @@ fn is_ready<S: Alter>(conn: &Connection<S>) -> bool
     is_blank(conn.schema()) && conn.is_autocommit()
 }
 
-/// Makes the nine tables and writes the whole campaign with its world text, in one transaction. With Ok the connection
+/// Makes the tables and writes the whole campaign with its world text, in one transaction. With Ok the connection
 /// holds the campaign, of which nothing is marked any more, and no table `campaign` was there. NotEmpty: a table
 /// `campaign` is there, and nothing is changed. Store: the connection is in a transaction or the database has other
 /// tables, and nothing is changed; or the database gives an error that is not want of memory. Memory: it says that it

@@ -1,14 +1,14 @@
 //! What units have, written row by row.
 ghost use Rattle.atl_store.specs.Tables.{has_table};
-ghost use Rattle.atl_store.specs.Lines.{thing_lines, sort_lines, goods_lines, all_goods_lines};
-ghost use Rattle.atl_store.specs.OwnStatements.{OfChange};
-ghost use Rattle.atl_store.specs.Writes.{Writes, WritesRows};
-ghost use Rattle.atl_store.specs.Inside.{Inside, HasTables};
-ghost use Rattle.atl_store.specs.Rewriting.{RewritesGoods, RewritesAllGoods};
+ghost use Rattle.atl_store.specs.Rows.{HasRowsOf};
+ghost use Rattle.atl_store.specs.Lines.{thing_lines, sort_lines, goods_lines, unit_lines, all_goods_lines};
+ghost use Rattle.atl_store.specs.OwnStatements.{puts_has, drops_goods};
+ghost use Rattle.atl_store.specs.Writes.{WritesRows};
 
+use crate::grouped::Grouped;
 use crate::rows::has::{HasRow, Sort, drop_goods, put_has};
 use atl_state::{Campaign, Holding, SlotEntries, Unit};
-use atl_tables::Entries;
+use atl_tables::{Entries, MarkedNumbers};
 use sqlite::{Alter, Error, Transaction};
 
 /// Puts the row of an amount that is not 0.
@@ -73,30 +73,36 @@ pub(crate) fn put_all_goods<S: Alter>(
     Ok(())
 }
 
-/// Deletes the rows of all that a unit had, and puts those of what it has.
-fn rewrite_goods<S: Alter>(
-    tx: &mut Transaction<'_, S>,
-    campaign: &Campaign,
-    number: u32,
-) -> Result<(), Error>
-    ensures { Writes S.Store (OfChange campaign.now.value) (Inside HasTables (RewritesGoods campaign.now.value.units number)) result tx.old.conn tx.new.conn }
-{
-    drop_goods(tx, number)?;
-    match campaign.unit(number) {
-        Some(unit) => put_goods(tx, number, &unit.holding),
-        None => Ok(()),
-    }
-}
+impl Grouped for Unit {
+    ghost table = { has_table };
 
-/// Deletes and puts the rows of what all units have whose goods are marked.
-pub(crate) fn rewrite_marked_goods<S: Alter>(
-    tx: &mut Transaction<'_, S>,
-    campaign: &Campaign,
-) -> Result<(), Error>
-    ensures { Writes S.Store (OfChange campaign.now.value) (Inside HasTables (RewritesAllGoods campaign.now.value.units campaign.now.marks.goods)) result tx.old.conn tx.new.conn }
-{
-    for number in campaign.marked_goods() {
-        rewrite_goods(tx, campaign, number)?;
+    ghost more = { 2 };
+
+    ghost lines = { unit_lines };
+
+    ghost values = { λ c. c.units };
+
+    ghost wanted = { λ c. HasRowsOf c.units };
+
+    ghost marks = { λ m. m.goods };
+
+    ghost of_row = { λ c r is. puts_has is };
+
+    ghost of_number = { λ c n. drops_goods };
+
+    fn under(campaign: &Campaign, number: u32) -> Option<&Unit> {
+        campaign.unit(number)
     }
-    Ok(())
+
+    fn marked_groups(campaign: &Campaign) -> MarkedNumbers<'_> {
+        campaign.marked_goods()
+    }
+
+    fn put_rows<S: Alter>(&self, tx: &mut Transaction<'_, S>, number: u32) -> Result<(), Error> {
+        put_goods(tx, number, &self.holding)
+    }
+
+    fn drop_rows<S: Alter>(tx: &mut Transaction<'_, S>, number: u32) -> Result<(), Error> {
+        drop_goods(tx, number)
+    }
 }

@@ -7,6 +7,7 @@ mod changing;
 pub mod fault;
 mod founding;
 mod goods;
+mod grouped;
 mod head;
 mod joining;
 mod kept;

@@ -2,7 +2,7 @@
 ghost use Rattle.std.specs.Prelude.{◌≡◌, ◌≤◌, [], length};
 ghost use Rattle.std.specs.Bool.{Decides};
 ghost use Rattle.std.specs.List.{AllByRecursion};
-ghost use Rattle.atl_store.specs.Tables.{all_tables, all_indexes, AreTables, Begins, HasNine};
+ghost use Rattle.atl_store.specs.Tables.{all_tables, all_indexes, AreTables, Begins, HasAll};
 
 mod checks;
 mod columns;
@@ -57,11 +57,11 @@ fn begins(schema: &Schema, tables: usize, keys: usize) -> bool
     schema.views.is_empty()
 }
 
-/// Whether the schema begins with the nine tables of a campaign, made as `create` makes them: after `create` it does. Other
-/// tables without a foreign key and indexes that make nothing of the nine unique may have come behind them; with a view or
+/// Whether the schema begins with the tables of a campaign, made as `create` makes them: after `create` it does. Other
+/// tables without a foreign key and indexes that make nothing of these unique may have come behind them; with a view or
 /// a trigger it does not. See docs/FORMATS.md, "Tables".
-pub fn has_nine(schema: &Schema) -> bool
-    ensures { Decides result (HasNine schema.now) }
+pub fn has_all_tables(schema: &Schema) -> bool
+    ensures { Decides result (HasAll schema.now) }
 {
-    begins(schema, 9, 3)
+    begins(schema, places::TABLES, places::INDEXES)
 }

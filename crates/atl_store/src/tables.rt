@@ -1,4 +1,4 @@
-//! The nine tables are made.
+//! The tables are made.
 ghost use Rattle.atl_store.specs.Tables.{first_tables};
 ghost use Rattle.atl_store.specs.OwnStatements.{Creations};
 ghost use Rattle.atl_store.specs.Writes.{Writes};
@@ -62,7 +62,7 @@ fn create_last_three<S: Alter>(tx: &mut Transaction<'_, S>) -> Result<(), Error>
     run(tx, BOOKS, &[])
 }
 
-/// Makes the nine tables, each with no row, where there is none.
+/// Makes the tables, each with no row, where there is none.
 pub(crate) fn create_tables<S: Alter>(tx: &mut Transaction<'_, S>) -> Result<(), Error>
     ensures { Writes S.Store Creations (Inside IsBlank AreEmpty) result tx.old.conn tx.new.conn }
 {

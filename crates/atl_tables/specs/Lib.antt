@@ -22,6 +22,7 @@ pub mod RegionTable
 pub mod Neighbours
 pub mod World
 pub mod FaultTexts
+pub mod Formats
 pub mod Lookup
 pub mod ByNumber
 pub mod Sums

@@ -86,6 +86,24 @@ fee = 10
 "#
 );
 
+/// The same with a market of its one item.
+pub const MART: &str = vale!(
+    1000,
+    100,
+    1000,
+    r#"[[region.market]]
+item = "wood"
+price = 7
+pays = 5
+limit = 30
+restock = 20
+[[item]]
+name = "wood"
+weight = 5
+carry = 0
+"#
+);
+
 /// An island of three regions with land, and the sea.
 pub const ISLE: &str = r#"[rules]
 maintenance = 10

@@ -68,6 +68,9 @@ people total 1000
 const EVERY_ENTRY: Scene = Scene {
     regions: &[(1, 1000, 489)],
     books: &[
+        (16, 0, -1),
+        (15, 0, 14),
+        (14, 0, -13),
         (13, 0, -12),
         (12, 0, 11),
         (11, 0, -10),
@@ -99,6 +102,9 @@ money starved 9
 money left -10
 money made 11
 money used -12
+money bought -13
+money sold 14
+money stocked -1
 money total 489
 people founding 1000
 people total 1000

@@ -3,13 +3,23 @@ ghost use Rattle.std.specs.Prelude.{IfOk};
 ghost use Rattle.atl_state.specs.Good.{IsGood};
 
 use atl_state::parts::{
-    Parts, StoredBooks, StoredFaction, StoredHas, StoredHead, StoredRegion, StoredReport,
-    StoredStructure, StoredUnit,
+    Parts, StoredBooks, StoredFaction, StoredHas, StoredHead, StoredMarket, StoredRegion,
+    StoredReport, StoredStructure, StoredUnit,
 };
-use atl_state::{Campaign, check, founded};
-use atl_tables::{Sequence, Text, World};
+use atl_state::{Campaign, check_as, founded};
+use atl_tables::{Format, Sequence, Text, World};
 use std::alloc::Global;
 use std::test::Fail;
+
+/// The number of the second format.
+const SECOND_FORMAT: i64 = 2;
+
+/// In rows of the books the numbers of joining and of restocking among the entries, and of the first item among the things.
+const JOINING: i64 = 2;
+
+const STOCKED: i64 = 16;
+
+const FIRST_ITEM: i64 = 2;
 
 /// The sort of an item and of a skill in `has`.
 const ITEM: i64 = 0;
@@ -75,7 +85,10 @@ pub(crate) struct Scene {
     pub built: &'static [Built],
     /// The regions with peasants and money; none where they are as they were founded.
     pub regions: &'static [(i64, i64, i64)],
-    /// What is booked: by entry and thing an amount. Where nothing is, all that units have is booked under joining.
+    /// The stocks: by region and item an amount.
+    pub stocks: &'static [(i64, i64, i64)],
+    /// What is booked: by entry and thing an amount. Where nothing is, all that units have is booked under joining, and all that is in stock
+    /// under restocking.
     pub books: &'static [(i64, i64, i64)],
 }
 
@@ -83,6 +96,7 @@ pub(crate) const NOBODY: Scene = Scene {
     people: &[],
     built: &[],
     regions: &[],
+    stocks: &[],
     books: &[],
 };
 
@@ -90,7 +104,7 @@ fn heads(alloc: Global, scene: &Scene) -> Result<Sequence<StoredHead>, Fail> {
     let mut all = Sequence::new(alloc);
     all.push(StoredHead {
         id: 1,
-        format: 1,
+        format: SECOND_FORMAT,
         month: 0,
         next_faction: 3,
         next_unit: (scene.people.len() as i64).wrapping_add(1),
@@ -208,6 +222,18 @@ fn regions(alloc: Global, rows: &[(i64, i64, i64)]) -> Result<Sequence<StoredReg
     Ok(all)
 }
 
+fn markets(alloc: Global, rows: &[(i64, i64, i64)]) -> Result<Sequence<StoredMarket>, Fail> {
+    let mut all = Sequence::new(alloc);
+    for (region, item, stock) in rows {
+        all.push(StoredMarket {
+            region: *region,
+            item: *item,
+            stock: *stock,
+        })?;
+    }
+    Ok(all)
+}
+
 fn books(alloc: Global, rows: &[(i64, i64, i64)]) -> Result<Sequence<StoredBooks>, Fail> {
     let mut all = Sequence::new(alloc);
     for (entry, thing, amount) in rows {
@@ -238,7 +264,7 @@ fn brought(people: &[Person], thing: i64) -> i64 {
         let amount = match thing {
             0 => person.money,
             1 => person.men,
-            _ => held(person, thing.wrapping_sub(2)),
+            _ => held(person, thing.wrapping_sub(FIRST_ITEM)),
         };
         sum = sum.wrapping_add(amount);
     }
@@ -251,7 +277,7 @@ fn book_joining(people: &[Person], all: &mut Sequence<StoredBooks>) -> Result<()
         let amount = brought(people, thing);
         if amount != 0 {
             all.push(StoredBooks {
-                entry: 2,
+                entry: JOINING,
                 thing,
                 amount,
             })?;
@@ -260,9 +286,22 @@ fn book_joining(people: &[Person], all: &mut Sequence<StoredBooks>) -> Result<()
     Ok(())
 }
 
+/// Books what is in stock under restocking. No two stocks are of one item.
+fn book_stocks(stocks: &[(i64, i64, i64)], all: &mut Sequence<StoredBooks>) -> Result<(), Fail> {
+    for (_, item, stock) in stocks {
+        all.push(StoredBooks {
+            entry: STOCKED,
+            thing: item.wrapping_add(FIRST_ITEM),
+            amount: *stock,
+        })?;
+    }
+    Ok(())
+}
+
 fn rows_of(alloc: Global, world: &World, scene: &Scene) -> Result<Parts, Fail> {
     let mut parts = founded(alloc, world, b"gm")?.parts()?;
     book_joining(scene.people, &mut parts.books)?;
+    book_stocks(scene.stocks, &mut parts.books)?;
     if !scene.regions.is_empty() {
         parts.regions = regions(alloc, scene.regions)?;
     }
@@ -274,6 +313,7 @@ fn rows_of(alloc: Global, world: &World, scene: &Scene) -> Result<Parts, Fail> {
     parts.units = units(alloc, scene.people)?;
     parts.has = has(alloc, scene.people)?;
     parts.structures = structures(alloc, scene.built)?;
+    parts.markets = markets(alloc, scene.stocks)?;
     parts.reports = reports(alloc)?;
     Ok(parts)
 }
@@ -282,7 +322,7 @@ pub(crate) fn campaign_of(alloc: Global, world: &World, scene: &Scene) -> Result
     ensures { IfOk result (λ c. IsGood world.now c.value) }
 {
     let rows = rows_of(alloc, world, scene)?;
-    match check(alloc, world, rows) {
+    match check_as(alloc, world, rows, Format::Second) {
         Ok(campaign) => Ok(campaign),
         Err(_) => Err(Fail::new("rows of a good campaign")),
     }

@@ -3,11 +3,15 @@ ghost use Rattle.std.specs.Prelude.{◌≡◌, IfOk, true};
 ghost use Rattle.std.specs.List.{list_all};
 ghost use Rattle.atl_tables.specs.Names.{name_ok};
 ghost use Rattle.atl_state.specs.Assembling.{unmarked, tables_of};
-ghost use Rattle.atl_state.specs.FromRows.{as_u32, faction_of, region_of, structure_of, by_number};
+ghost use Rattle.atl_tables.specs.Groups.{group_of};
+ghost use Rattle.atl_state.specs.FromRows.{as_u32, faction_of, region_of, region_with, structure_of, by_number};
 ghost use Rattle.atl_state.specs.RowRules.{faction_named};
 
+use super::goods::stocks_of;
 use super::records::{faction_of, region_of, structure_of};
-use crate::parts::{Parts, StoredFaction, StoredMail, StoredRegion, StoredReport, StoredStructure};
+use crate::parts::{
+    Parts, StoredFaction, StoredMail, StoredMarket, StoredRegion, StoredReport, StoredStructure,
+};
 use crate::records::{Faction, Region, Structure};
 use crate::row_rules::as_u32;
 use atl_tables::{Numbered, Sequence, Text, Tracked};
@@ -29,18 +33,31 @@ pub(crate) fn factions_of(
     Ok(factions)
 }
 
-/// The regions of rows.
-pub(crate) fn regions_of(
+fn regions_with(
     alloc: Global,
     rows: &[StoredRegion],
+    stocks: &Numbered<Numbered<u32>>,
 ) -> Result<Numbered<Region>, AllocError>
-    ensures { IfOk result (λ regions. regions ≡ by_number (λ r. as_u32 r.number) region_of rows.now) }
+    ensures { IfOk result (λ regions. regions ≡ by_number (λ r. as_u32 r.number) (λ r. region_with r (group_of stocks.now (as_u32 r.number))) rows.now) }
 {
     let mut regions = Numbered::new(alloc);
     for row in rows {
-        regions.insert(as_u32(row.number), region_of(row))?;
+        let region = region_of(alloc, row, stocks)?;
+        regions.insert(as_u32(row.number), region)?;
     }
     Ok(regions)
+}
+
+/// The regions of rows, with what they have in stock.
+pub(crate) fn regions_of(
+    alloc: Global,
+    rows: &[StoredRegion],
+    markets: &[StoredMarket],
+) -> Result<Numbered<Region>, AllocError>
+    ensures { IfOk result (λ regions. regions ≡ by_number (λ r. as_u32 r.number) (region_of markets.now) rows.now) }
+{
+    let stocks = stocks_of(alloc, markets)?;
+    regions_with(alloc, rows, &stocks)
 }
 
 /// The structures of rows with good names.
@@ -103,10 +120,14 @@ fn tracked_factions(alloc: Global, rows: &[StoredFaction]) -> Result<Tracked<Fac
     Tracked::of(alloc, factions)
 }
 
-fn tracked_regions(alloc: Global, rows: &[StoredRegion]) -> Result<Tracked<Region>, AllocError>
-    ensures { IfOk result (λ t. t ≡ unmarked (by_number (λ r. as_u32 r.number) region_of rows.now)) }
+fn tracked_regions(
+    alloc: Global,
+    rows: &[StoredRegion],
+    markets: &[StoredMarket],
+) -> Result<Tracked<Region>, AllocError>
+    ensures { IfOk result (λ t. t ≡ unmarked (by_number (λ r. as_u32 r.number) (region_of markets.now) rows.now)) }
 {
-    let regions = regions_of(alloc, rows)?;
+    let regions = regions_of(alloc, rows, markets)?;
     Tracked::of(alloc, regions)
 }
 
@@ -142,7 +163,7 @@ pub(crate) fn tables_of(alloc: Global, parts: &Parts) -> Result<Tables, AllocErr
     ensures { IfOk result (λ tables. tables ≡ tables_of parts.now) }
 {
     let factions = tracked_factions(alloc, parts.factions.as_slice())?;
-    let regions = tracked_regions(alloc, parts.regions.as_slice())?;
+    let regions = tracked_regions(alloc, parts.regions.as_slice(), parts.markets.as_slice())?;
     let structures = tracked_structures(alloc, parts.structures.as_slice())?;
     let mail = tracked_mail(alloc, parts.mail.as_slice())?;
     let reports = tracked_reports(alloc, parts.reports.as_slice())?;

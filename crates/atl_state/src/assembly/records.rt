@@ -1,13 +1,15 @@
 //! The factions, regions and structures of single rows.
 ghost use Rattle.std.specs.Prelude.{◌≡◌, IfOk, true};
 ghost use Rattle.atl_tables.specs.Names.{name_ok, pass_ok};
-ghost use Rattle.atl_state.specs.FromRows.{faction_of, region_of, structure_of};
+ghost use Rattle.atl_tables.specs.Groups.{group_of};
+ghost use Rattle.atl_state.specs.FromRows.{as_u32, faction_of, region_with, structure_of};
 ghost use Rattle.atl_state.specs.RowRules.{faction_named};
 
+use super::goods::things_of;
 use crate::parts::{StoredFaction, StoredRegion, StoredStructure};
 use crate::records::{Faction, Region, Structure};
 use crate::row_rules::{as_u16, as_u32, is_set};
-use atl_tables::{Sequence, Text};
+use atl_tables::{Numbered, Sequence, Text};
 use std::alloc::{AllocError, Global};
 
 pub(super) fn name_of(alloc: Global, bytes: &Sequence<u8>) -> Result<Text, AllocError>
@@ -41,13 +43,19 @@ pub(super) fn faction_of(alloc: Global, row: &StoredFaction) -> Result<Faction, 
     })
 }
 
-pub(super) fn region_of(row: &StoredRegion) -> Region
-    ensures { result ≡ region_of row.now }
+pub(super) fn region_of(
+    alloc: Global,
+    row: &StoredRegion,
+    stocks: &Numbered<Numbered<u32>>,
+) -> Result<Region, AllocError>
+    ensures { IfOk result (λ region. region ≡ region_with row.now (group_of stocks.now (as_u32 row.now.number))) }
 {
-    Region {
+    let stocks = things_of(alloc, stocks, as_u32(row.number))?;
+    Ok(Region {
         peasants: as_u32(row.peasants),
         money: as_u32(row.money),
-    }
+        stocks,
+    })
 }
 
 pub(super) fn structure_of(alloc: Global, row: &StoredStructure) -> Result<Structure, AllocError>

@@ -9,7 +9,7 @@ ghost use Rattle.atl_state.specs.FromRows.{as_u32, by_number, unit_with, unit_of
 ghost use Rattle.atl_state.specs.Held.{AreAmounts};
 ghost use Rattle.atl_state.specs.RowRules.{unit_in_range, has_in_range};
 
-use super::goods::{groups_of, things_of};
+use super::goods::{things_had, things_of};
 use super::records::name_of;
 use crate::arena::Arena;
 use crate::holding::Holding;
@@ -77,8 +77,8 @@ pub(crate) fn units_of(
     requires amounts { list_all has_in_range has.now ≡ true }
     ensures { IfOk result (λ units. units ≡ by_number (λ r. as_u32 r.number) (unit_of has.now) rows.now) }
 {
-    let items = groups_of(alloc, ITEM_SORT, has)?;
-    let days = groups_of(alloc, SKILL_SORT, has)?;
+    let items = things_had(alloc, ITEM_SORT, has)?;
+    let days = things_had(alloc, SKILL_SORT, has)?;
     units_with(alloc, rows, &items, &days)
 }
 

@@ -1,9 +1,9 @@
 //! How a campaign is made of rows.
-ghost use Rattle.std.specs.Prelude.{◌≡◌, IfOk, true};
+ghost use Rattle.std.specs.Prelude.{◌≡◌, IfOk, length, true};
 ghost use Rattle.atl_tables.specs.Worlds.{IsWorld};
 ghost use Rattle.atl_state.specs.FromRows.{campaign_of};
 ghost use Rattle.atl_state.specs.Marks.{no_marks};
-ghost use Rattle.atl_state.specs.RowRules.{is_one_head, are_named, people_in_range};
+ghost use Rattle.atl_state.specs.RowRules.{are_named, people_in_range};
 
 use super::Campaign;
 use crate::assembly::{Tables, books_of, lists_of, pass_of, roster_of, tables_of};
@@ -16,7 +16,7 @@ use std::alloc::{AllocError, Global};
 /// The campaign that rows say, with nothing marked.
 #[tactic(auto, unfolding(crate::specs::FromRows::campaign_of))]
 pub(crate) fn assembled(alloc: Global, world: &World, parts: &Parts) -> Result<Campaign, AllocError>
-    requires one { is_one_head parts.now.campaign ≡ true }
+    requires one { length parts.now.campaign ≡ 1 }
     requires named { are_named parts.now ≡ true }
     requires people { people_in_range parts.now ≡ true }
     ensures what { IfOk result (λ c. c.value ≡ campaign_of world.now parts.now) }

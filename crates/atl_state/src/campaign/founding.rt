@@ -33,6 +33,7 @@ fn regions_made(alloc: Global, plans: &Numbered<RegionPlan>) -> Result<Tracked<R
         let region = Region {
             peasants: plan.peasants,
             money: plan.money,
+            stocks: Numbered::new(alloc),
         };
         regions.insert(number, region)?;
     }

@@ -1,16 +1,18 @@
-//! Calls that set one entry of a campaign. None of them takes memory. Where nothing stands under the number, nothing
-//! changes.
-ghost use Rattle.std.specs.Prelude.{◌≡◌, ◌≤◌, ◌<◌, ◌+ℤ◌, length};
+//! Calls that set one entry of a campaign. Where nothing stands under the number, nothing changes. Only `set_stock` takes
+//! memory.
+ghost use Rattle.std.specs.Prelude.{◌≡◌, ◌≤◌, ◌<◌, ◌+ℤ◌, IsOk, OnErr, OnOk, length};
 ghost use Rattle.std.specs.Int.{w64};
 ghost use Rattle.std.specs.Int.RustNames.{FitsSigned};
 ghost use Rattle.atl_state.specs.Books.{amount_in, thing_place};
 ghost use Rattle.atl_state.specs.Limits.{holding_limit, men_limit};
 ghost use Rattle.atl_state.specs.Marking.{mark_row, mark_faction, mark_region, mark_structure, mark_unit_row, mark_amount, mark_all_mail};
-ghost use Rattle.atl_state.specs.Campaign.{with_month, with_faction_name, with_gone, with_peasants, with_region_money, with_unit_name, with_men, with_money, with_guard, with_done, with_structure_name, with_structure_region, with_owner, with_amount, without_mail};
+ghost use Rattle.atl_state.specs.Campaign.{with_month, with_faction_name, with_gone, with_peasants, with_region_money, with_stock, with_unit_name, with_men, with_money, with_guard, with_done, with_structure_name, with_structure_region, with_owner, with_amount, without_mail};
 
 use super::Campaign;
 use crate::books::{Entry, Thing, amount_number};
+use crate::holding::put_amount;
 use atl_tables::Text;
+use std::alloc::AllocError;
 
 impl Campaign {
     /// Sets the month last closed, from 0 to LAST_MONTH, and marks the campaign's row.
@@ -59,6 +61,21 @@ impl Campaign {
     {
         if let Some(found) = self.regions.get_mut(region) {
             found.money = money;
+        }
+    }
+
+    /// Sets how many pieces of an item a region has in stock, in a good campaign up to the limit of its market there, and marks
+    /// the region. Where they are 0 the item is listed no more, which takes no memory. AllocError without memory, and then
+    /// the campaign is as it was, but for that mark.
+    pub fn set_stock(&mut self, region: u32, item: u32, amount: u32) -> Result<(), AllocError>
+        ensures ok { OnOk result (self.new.value ≡ with_stock self.old.value region item amount) }
+        ensures err { OnErr result (self.new.value ≡ self.old.value) }
+        ensures none { amount ≡ 0 → IsOk result }
+        ensures marks { self.new.marks ≡ mark_region self.old region }
+    {
+        match self.regions.get_mut(region) {
+            Some(found) => put_amount(&mut found.stocks, item, amount),
+            None => Ok(()),
         }
     }
 

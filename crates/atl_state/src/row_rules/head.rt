@@ -1,25 +1,37 @@
-//! The campaign's own row.
-ghost use Rattle.std.specs.Prelude.{◌≡◌, true};
+//! The campaign's own row, and the format that it names.
+ghost use Rattle.std.specs.Prelude.{◌≡◌, length};
 ghost use Rattle.atl_state.specs.FromRows.{head_of};
-ghost use Rattle.atl_state.specs.RowRules.{is_one_head};
+ghost use Rattle.atl_state.specs.RowRules.{is_one_head, are_of_format};
 
 use super::numbers::is_from;
-use crate::parts::{Parts, StoredHead};
+use crate::parts::{Parts, StoredHead, StoredMarket};
+use atl_tables::Format;
 
-/// Whether there is one row of the campaign's own, whose id and format are 1.
-pub(crate) fn is_one_head(rows: &[StoredHead]) -> bool
-    ensures { result ≡ is_one_head rows.now }
+/// Whether there is one row of the campaign's own, whose id is 1 and whose format is this one.
+pub(crate) fn is_one_head(format: Format, rows: &[StoredHead]) -> bool
+    ensures { result ≡ is_one_head format rows.now }
 {
     if rows.len() != 1 {
         return false;
     }
     let head = &rows[0];
-    is_from(1, 1, head.id) && is_from(1, 1, head.format)
+    let number = u32::from(format.number());
+    is_from(1, 1, head.id) && is_from(number, number, head.format)
+}
+
+/// Whether these rows of markets may be there: in the first format there are none.
+pub(crate) fn are_of_format(format: Format, rows: &[StoredMarket]) -> bool
+    ensures { result ≡ are_of_format format rows.now }
+{
+    match format {
+        Format::First => rows.len() == 0,
+        Format::Second => true,
+    }
 }
 
 /// The campaign's own row.
 pub(crate) fn head_of(parts: &Parts) -> &StoredHead
-    requires { is_one_head parts.now.campaign ≡ true }
+    requires { length parts.now.campaign ≡ 1 }
     ensures { result.now ≡ head_of parts.now }
 {
     &parts.campaign.as_slice()[0]

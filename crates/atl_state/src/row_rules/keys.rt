@@ -3,11 +3,11 @@ ghost use Rattle.std.specs.Prelude.{◌≡◌, IfOk, map};
 ghost use Rattle.std.specs.Bool.{Decides};
 ghost use Rattle.std.specs.List.{IsDistinct};
 ghost use Rattle.std.specs.Ordering.{eq_by_cmp};
-ghost use Rattle.atl_state.specs.RowRules.{Key, faction_key, region_key, unit_key, has_key, structure_key, mail_key, report_key, books_key, HaveKeys, AreKeyed};
+ghost use Rattle.atl_state.specs.RowRules.{Key, faction_key, region_key, unit_key, has_key, structure_key, mail_key, report_key, books_key, market_key, HaveKeys, AreKeyed};
 
 use crate::parts::{
-    Parts, StoredBooks, StoredFaction, StoredHas, StoredMail, StoredRegion, StoredReport,
-    StoredStructure, StoredUnit,
+    Parts, StoredBooks, StoredFaction, StoredHas, StoredMail, StoredMarket, StoredRegion,
+    StoredReport, StoredStructure, StoredUnit,
 };
 use std::alloc::{AllocError, Global};
 use std::collections::BTreeSet;
@@ -84,6 +84,14 @@ impl Keyed for StoredBooks {
     }
 }
 
+impl Keyed for StoredMarket {
+    ghost key_of = { market_key };
+
+    fn key(&self) -> (i64, i64, i64) {
+        (self.region, self.item, 0)
+    }
+}
+
 fn keys_of<R: Keyed>(alloc: Global, rows: &[R]) -> Result<Vec<(i64, i64, i64)>, AllocError>
     ensures { IfOk result (λ keys. keys.items ≡ map R.key_of rows.now) }
 {
@@ -127,6 +135,7 @@ pub(super) fn are_keyed(alloc: Global, parts: &Parts) -> Result<bool, AllocError
     let mail = have_keys(alloc, parts.mail.as_slice())?;
     let reports = have_keys(alloc, parts.reports.as_slice())?;
     let books = have_keys(alloc, parts.books.as_slice())?;
+    let markets = have_keys(alloc, parts.markets.as_slice())?;
     let people = factions && regions && units && has;
-    Ok(people && structures && mail && reports && books)
+    Ok(people && structures && mail && reports && books && markets)
 }

@@ -1,9 +1,9 @@
 //! Whether names and pass texts keep their rules.
-ghost use Rattle.std.specs.Prelude.{◌≡◌, IfOk, true, map};
+ghost use Rattle.std.specs.Prelude.{◌≡◌, IfOk, length, map};
 ghost use Rattle.std.specs.Bool.{Decides};
 ghost use Rattle.std.specs.List.{list_all};
 ghost use Rattle.atl_tables.specs.Names.{name_ok};
-ghost use Rattle.atl_state.specs.RowRules.{faction_named, is_one_head, are_named, HaveJoined, AreRowsNamed};
+ghost use Rattle.atl_state.specs.RowRules.{faction_named, are_named, HaveJoined, AreRowsNamed};
 
 use super::head::head_of;
 use super::keys::are_distinct;
@@ -38,7 +38,7 @@ fn structures_named(rows: &[StoredStructure]) -> bool
 }
 
 fn are_named(parts: &Parts) -> bool
-    requires { is_one_head parts.now.campaign ≡ true }
+    requires { length parts.now.campaign ≡ 1 }
     ensures { result ≡ are_named parts.now }
 {
     pass_ok(head_of(parts).pass.as_slice())
@@ -67,7 +67,7 @@ fn have_joined(alloc: Global, rows: &[StoredFaction]) -> Result<bool, AllocError
 
 /// Whether names, joined names and pass texts keep their rules, and no two factions joined under one name.
 pub(crate) fn rows_named(alloc: Global, parts: &Parts) -> Result<bool, AllocError>
-    requires { is_one_head parts.now.campaign ≡ true }
+    requires { length parts.now.campaign ≡ 1 }
     ensures { IfOk result (λ yes. Decides yes (AreRowsNamed parts.now)) }
 {
     let joined = have_joined(alloc, parts.factions.as_slice())?;

@@ -1,19 +1,20 @@
 //! Whether rows have keys that differ, numbers in their ranges, and are not too many.
-ghost use Rattle.std.specs.Prelude.{◌≡◌, IfOk, true};
+ghost use Rattle.std.specs.Prelude.{◌≡◌, IfOk, length};
 ghost use Rattle.std.specs.Bool.{Decides};
 ghost use Rattle.std.specs.List.{list_all};
-ghost use Rattle.atl_state.specs.RowRules.{head_in_range, faction_in_range, region_in_range, unit_in_range, has_in_range, structure_in_range, books_bound, books_in_range, is_one_head, are_few, people_in_range, numbers_in_range, AreRowsInRange};
+ghost use Rattle.atl_state.specs.RowRules.{head_in_range, faction_in_range, region_in_range, unit_in_range, has_in_range, structure_in_range, books_bound, books_in_range, market_in_range, are_few, people_in_range, numbers_in_range, AreRowsInRange};
 
 use super::head::head_of;
 use super::keys::are_keyed;
+use super::markets::market_of;
 use super::numbers::{as_u16, as_u32, is_from, is_set, is_within};
 use crate::limits::{
     HOLDING_LIMIT, LAST_MONTH, LAST_UNIT, MEN_LIMIT, MOST_IN_JOINING, MOST_IN_MONTH,
     MOST_STRUCTURES, MOST_UNITS,
 };
 use crate::parts::{
-    Parts, StoredBooks, StoredFaction, StoredHas, StoredHead, StoredRegion, StoredStructure,
-    StoredUnit,
+    Parts, StoredBooks, StoredFaction, StoredHas, StoredHead, StoredMarket, StoredRegion,
+    StoredStructure, StoredUnit,
 };
 use atl_orders::LAST_FACTION;
 use atl_tables::World;
@@ -69,6 +70,17 @@ fn books_in_range(bound: u128, row: &StoredBooks) -> bool
     is_set(row.amount) && is_within(bound, row.amount)
 }
 
+/// Whether the market has room for the stock.
+fn market_in_range(world: &World, row: &StoredMarket) -> bool
+    ensures { result ≡ market_in_range world.now row.now }
+{
+    let limit = match market_of(world, row) {
+        Some(market) => market.limit,
+        None => MOST_AMOUNT,
+    };
+    is_from(1, limit, row.stock)
+}
+
 fn factions_in_range(rows: &[StoredFaction]) -> bool
     ensures { result ≡ list_all faction_in_range rows.now }
 {
@@ -105,6 +117,12 @@ fn all_books_in_range(bound: u128, rows: &[StoredBooks]) -> bool
     rows.iter().all(|row| books_in_range(bound, row))
 }
 
+fn markets_in_range(world: &World, rows: &[StoredMarket]) -> bool
+    ensures { result ≡ list_all (market_in_range world.now) rows.now }
+{
+    rows.iter().all(|row| market_in_range(world, row))
+}
+
 fn are_few(parts: &Parts) -> bool
     ensures { result ≡ are_few parts.now }
 {
@@ -125,7 +143,7 @@ fn people_in_range(parts: &Parts) -> bool
 
 /// The size that no amount of the books is above.
 fn books_bound(parts: &Parts) -> u128
-    requires { is_one_head parts.now.campaign ≡ true }
+    requires { length parts.now.campaign ≡ 1 }
     ensures { result ≡ books_bound parts.now }
 {
     let months = u128::from(as_u32(head_of(parts).month)) + 1;
@@ -133,18 +151,19 @@ fn books_bound(parts: &Parts) -> u128
 }
 
 fn numbers_in_range(world: &World, parts: &Parts) -> bool
-    requires { is_one_head parts.now.campaign ≡ true }
+    requires { length parts.now.campaign ≡ 1 }
     ensures { result ≡ numbers_in_range world.now parts.now }
 {
     head_in_range(head_of(parts))
         && people_in_range(parts)
         && structures_in_range(world, parts.structures.as_slice())
         && all_books_in_range(books_bound(parts), parts.books.as_slice())
+        && markets_in_range(world, parts.markets.as_slice())
 }
 
 /// Whether no two rows of a table have one key, each number is in its range and there are not too many rows.
 pub(crate) fn rows_in_range(alloc: Global, world: &World, parts: &Parts) -> Result<bool, AllocError>
-    requires { is_one_head parts.now.campaign ≡ true }
+    requires { length parts.now.campaign ≡ 1 }
     ensures { IfOk result (λ yes. Decides yes (AreRowsInRange world.now parts.now)) }
 {
     let keyed = are_keyed(alloc, parts)?;

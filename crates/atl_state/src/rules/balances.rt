@@ -1,9 +1,10 @@
 //! Whether the books say what units and regions hold.
 ghost use Rattle.std.specs.Prelude.{◌≡◌, ◌<◌, ℕ, length, pos};
 ghost use Rattle.std.specs.Bool.{Decides};
+ghost use Rattle.atl_tables.specs.Worlds.{IsWorld};
 ghost use Rattle.atl_state.specs.Books.{booked, thing_place, IsGrid};
 ghost use Rattle.atl_state.specs.Founding.{things_of};
-ghost use Rattle.atl_state.specs.Good.{Every};
+ghost use Rattle.atl_state.specs.Good.{AreOfMarkets, Every};
 ghost use Rattle.atl_state.specs.Totals.{total, Balances, IsCountable};
 ghost use Rattle.atl_state.specs.declared.books.Thing.TheVariants.{Money, People, Item};
 
@@ -24,7 +25,8 @@ fn is_balanced(campaign: &Campaign, thing: Thing) -> bool
 fn are_items_balanced(world: &World, campaign: &Campaign) -> bool
     requires few { IsCountable campaign.now.value }
     requires grid { IsGrid (things_of world.now) campaign.now.value.books }
-    ensures { Decides result ((i : ℕ) → i < length world.now.items → pos (total campaign.now.value (Item i)) ≡ booked campaign.now.value.books (Item i)) }
+    ensures decision { Decides result ((i : ℕ) → i < length world.now.items → pos (total campaign.now.value (Item i)) ≡ booked campaign.now.value.books (Item i)) }
+    ensures world { IsWorld world.now }
 {
     for item in 0..world.items().len() as u16 {
         if !is_balanced(campaign, Thing::Item(item)) {
@@ -44,11 +46,12 @@ fn are_people_balanced(campaign: &Campaign) -> bool
 }
 
 /// Whether for each thing the total of all units and regions is the sum of its entries, where all items held are the
-/// world's. It takes no memory.
+/// world's, and all stocks those of its markets. It takes no memory.
 pub(crate) fn are_balanced(world: &World, campaign: &Campaign) -> bool
     requires few { IsCountable campaign.now.value }
     requires grid { IsGrid (things_of world.now) campaign.now.value.books }
     requires items { Every (λ n u. Every (λ i amount. i < length world.now.items) u.holding.items) campaign.now.value.units }
+    requires stocks { Every (λ n r. AreOfMarkets world.now n r.stocks) campaign.now.value.regions }
     ensures { Decides result (Balances campaign.now.value) }
 {
     are_people_balanced(campaign) && are_items_balanced(world, campaign)

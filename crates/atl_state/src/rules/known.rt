@@ -1,14 +1,15 @@
 //! What is named by its number: all of it is there.
-ghost use Rattle.std.specs.Prelude.{◌≡◌, ◌≢◌, ◌<◌, ◌↔◌, ℕ, Some, length};
+ghost use Rattle.std.specs.Prelude.{◌≡◌, ◌≢◌, ◌<◌, ◌↔◌, ℕ, IsSome, Some, length};
 ghost use Rattle.std.specs.Bool.{Decides};
 ghost use Rattle.std.specs.FinMap as map;
+ghost use Rattle.atl_tables.specs.ByNumber.{market_of};
 ghost use Rattle.atl_state.specs.declared.records.Structure as builds;
 ghost use Rattle.atl_state.specs.Deciding.{EachOf};
-ghost use Rattle.atl_state.specs.Good.{Every, IsThere, IsPlaced, IsBuilt, AreKnown};
+ghost use Rattle.atl_state.specs.Good.{Every, IsThere, IsPlaced, IsBuilt, AreKnown, AreOfMarkets};
 
 use crate::campaign::Campaign;
 use crate::holding::Holding;
-use crate::records::{Structure, Unit};
+use crate::records::{Region, Structure, Unit};
 use atl_tables::{Entries, World};
 
 fn is_faction(campaign: &Campaign, number: u32) -> bool
@@ -59,6 +60,43 @@ fn are_regions_known(world: &World, campaign: &Campaign) -> bool
     ensures { Decides result ((n : ℕ) → IsThere campaign.now.value.regions n ↔ IsThere world.now.regions n) }
 {
     are_of_world(world, campaign) && are_all_there(world, campaign)
+}
+
+/// Whether the world has a market for an item in a region.
+fn has_market(world: &World, region: u32, item: u32) -> bool
+    ensures { Decides result (IsSome (market_of world.now region item)) }
+{
+    match world.region(region) {
+        Some(plan) => plan.markets.get(item).is_some(),
+        None => false,
+    }
+}
+
+/// Whether a region has stocks of its markets alone.
+fn is_of_markets(world: &World, number: u32, region: &Region) -> bool
+    ensures { Decides result (AreOfMarkets world.now number region.now.stocks) }
+{
+    region
+        .stocks
+        .iter()
+        .all(|(item, _)| has_market(world, number, item))
+}
+
+/// Whether all stocks are of markets of their regions.
+fn are_of_markets(world: &World, campaign: &Campaign) -> bool
+    ensures { Decides result (Every (λ n r. AreOfMarkets world.now n r.stocks) campaign.now.value.regions) }
+{
+    campaign
+        .regions()
+        .all(|(number, region)| is_of_markets(world, number, region))
+}
+
+/// Whether the regions are exactly the world's, and all stocks are of their markets.
+fn are_stocks_known(world: &World, campaign: &Campaign) -> bool
+    ensures { Decides result (((n : ℕ) → IsThere campaign.now.value.regions n ↔ IsThere world.now.regions n)
+        × Every (λ n r. AreOfMarkets world.now n r.stocks) campaign.now.value.regions) }
+{
+    are_regions_known(world, campaign) && are_of_markets(world, campaign)
 }
 
 /// Whether all numbers are below a count.
@@ -168,13 +206,13 @@ fn are_reports_known(campaign: &Campaign) -> bool
         .all(|(number, _)| is_faction(campaign, number))
 }
 
-/// Whether the regions, and all that units and structures name, are there.
+/// Whether the regions, and all that they, units and structures name, are there.
 fn are_things_known(world: &World, campaign: &Campaign) -> bool
-    ensures { Decides result (((n : ℕ) → IsThere campaign.now.value.regions n ↔ IsThere world.now.regions n)
+    ensures { Decides result ((((n : ℕ) → IsThere campaign.now.value.regions n ↔ IsThere world.now.regions n)
+        × Every (λ n r. AreOfMarkets world.now n r.stocks) campaign.now.value.regions)
         × (Every (λ n u. IsPlaced world.now campaign.now.value u) campaign.now.value.units × Every (λ n s. IsBuilt world.now campaign.now.value s) campaign.now.value.structures)) }
 {
-    are_regions_known(world, campaign)
-        && (are_placed(world, campaign) && are_built(world, campaign))
+    are_stocks_known(world, campaign) && (are_placed(world, campaign) && are_built(world, campaign))
 }
 
 /// Whether the factions of mail and reports are there.
@@ -184,8 +222,8 @@ fn are_posts_known(campaign: &Campaign) -> bool
     are_mail_known(campaign) && are_reports_known(campaign)
 }
 
-/// Whether the regions are exactly the world's, all that is named by its number is there, and each unit's structure is in
-/// the unit's region. It takes no memory.
+/// Whether the regions are exactly the world's, with stocks of their markets, all that is named by its number is there, and
+/// each unit's structure is in the unit's region. It takes no memory.
 pub(crate) fn are_known(world: &World, campaign: &Campaign) -> bool
     ensures { Decides result (AreKnown world.now campaign.now.value) }
 {

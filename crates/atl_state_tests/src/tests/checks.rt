@@ -238,6 +238,7 @@ fn parts(alloc: Global, rows: &Rows) -> Result<Parts, Fail> {
         mail: Sequence::new(alloc),
         reports: reports(alloc, rows)?,
         books: books(alloc, rows)?,
+        markets: Sequence::new(alloc),
     })
 }
 

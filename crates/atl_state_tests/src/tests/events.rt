@@ -4,7 +4,7 @@ use atl_state::EventFault;
 use std::process::Abort;
 
 /// Numbers, and the names of their faults.
-const FAULTS: [(u8, &str); 23] = [
+const FAULTS: [(u8, &str); 24] = [
     (1, "NotYours"),
     (2, "NotHere"),
     (3, "NotEnough"),
@@ -28,6 +28,7 @@ const FAULTS: [(u8, &str); 23] = [
     (21, "NotLearning"),
     (22, "CannotTeach"),
     (23, "NoFee"),
+    (24, "NoMarket"),
 ];
 
 fn is_named(rt: &impl Abort, row: usize, number: u8, name: &str) {
@@ -46,6 +47,6 @@ fn event_faults(rt: HostRuntime) {
         is_named(&rt, row, *number, name);
     }
     is_so(&rt, EventFault::of_number(0).is_none());
-    is_so(&rt, EventFault::of_number(24).is_none());
+    is_so(&rt, EventFault::of_number(25).is_none());
     is_so(&rt, EventFault::of_number(255).is_none());
 }

@@ -147,6 +147,7 @@ fn shows_places(rt: &impl Abort, parts: &Parts) -> Result<(), Fail> {
     shows_mail(rt, parts.mail.as_slice())?;
     shows_reports(rt, parts.reports.as_slice())?;
     shows_books(rt, parts.books.as_slice());
+    is_count(rt, parts.markets.as_slice().len(), 0);
     Ok(())
 }
 

@@ -6,7 +6,7 @@ ghost use Rattle.atl_store.specs.Gathering.{IsSettled, FailsToConfirm, IsConfirm
 ghost use Rattle.atl_store.specs.Loading.{Leaves};
 
 use crate::fault::StoreFault;
-use crate::schema::has_nine;
+use crate::schema::has_all_tables;
 use sqlite::{Alter, Connection};
 
 /// Tests the schema, and that the connection is open: a disk that failed as a reading was rolled back has shut it, and nothing
@@ -18,7 +18,7 @@ pub(crate) fn confirm<S: Alter>(conn: &mut Connection<S>) -> Result<(), StoreFau
     ensures fails { HasCleanDisk (state S.Store conn.new) → IfErr result (FailsToConfirm S.Store conn.old) }
     ensures leaves { Leaves S.Store conn.old conn.new }
 {
-    if !has_nine(conn.schema()) {
+    if !has_all_tables(conn.schema()) {
         return Err(StoreFault::Store);
     }
     conn.query_all(

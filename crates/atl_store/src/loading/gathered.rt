@@ -87,5 +87,6 @@ pub(crate) fn parts_with(
         mail: Sequence::from_vec(mail),
         reports: Sequence::from_vec(reports),
         books,
+        markets: Sequence::new(alloc),
     })
 }

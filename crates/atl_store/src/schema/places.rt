@@ -19,8 +19,14 @@ pub(crate) const REPORT: u32 = 9;
 
 pub(crate) const BOOKS: u32 = 10;
 
+/// How many tables a campaign has.
+pub(crate) const TABLES: usize = 9;
+
+/// How many indexes the keys of its tables have.
+pub(crate) const INDEXES: usize = 3;
+
 /// In the order in which the tables are made.
-pub(crate) const TREES: [u32; 9] = [
+pub(crate) const TREES: [u32; TABLES] = [
     CAMPAIGN, FACTION, REGION, UNIT, HAS, STRUCTURE, MAIL, REPORT, BOOKS,
 ];
 

@@ -1,4 +1,4 @@
-//! A table and an index of a person's own, behind the nine.
+//! A table and an index of a person's own, behind those of a campaign.
 ghost use Rattle.std.specs.Prelude.{◌≡◌, false, OnOk};
 
 use super::compare::{is_bytes, is_count, is_number, is_text};

@@ -1,6 +1,6 @@
 //! Whether a schema is that of a campaign, and what a person may add to it.
 use super::making::created;
-use atl_store::schema::has_nine;
+use atl_store::schema::has_all_tables;
 use sqlite::{Alter, Connection};
 use std::alloc::Global;
 use std::process::Abort;
@@ -10,7 +10,7 @@ fn is_truth(rt: &impl Abort, told: bool, wanted: bool) {
     assert_eq!(rt; told, wanted);
 }
 
-/// What is added or taken away, and whether the nine tables still come first.
+/// What is added or taken away, and whether the tables of a campaign still come first.
 const CHANGES: [(&str, bool); 8] = [
     ("DELETE FROM mail", true),
     ("CREATE TABLE notes (words TEXT)", true),
@@ -30,7 +30,7 @@ const CHANGES: [(&str, bool); 8] = [
 
 fn changed<S: Alter>(conn: &mut Connection<S>, sql: &str) -> Result<bool, Fail> {
     conn.execute_batch(sql)?;
-    Ok(has_nine(conn.schema()))
+    Ok(has_all_tables(conn.schema()))
 }
 
 fn is_told(rt: &impl Abort, alloc: Global, sql: &str, wanted: bool) -> Result<(), Fail> {

@@ -6,8 +6,8 @@ use Rattle.atl_tables.specs.Limits.{most_amount, most_regions}
 use Rattle.atl_state.proofs.CoverLaws.{marks-refl, marks-trans}
 use Rattle.atl_instant.specs.Meaning.{moved_times, most_moved}
 use Rattle.atl_instant.proofs.MeaningLaws.{room_less}
-use Rattle.atl_month.specs.Season.{grows_by, season_at}
-use Rattle.atl_month.proofs.SeasonLaws.{grows_little, room_goes_on, room_now, season_at_leaves_well, season_goes_on}
+use Rattle.atl_month.specs.Season.{season_moves, season_at}
+use Rattle.atl_month.proofs.SeasonLaws.{season_little, room_goes_on, room_now, season_at_leaves_well, season_goes_on}
 use Rattle.atl_month.proofs.season.turn_regions.Goals as goal
 
 pub loop-number-init : goal.loop-number-init
@@ -18,7 +18,7 @@ loop-number-init c =
       tt,
       ap (λ l. fold (season_at c.args.world.now) c.args.campaign.now.value (zip (map (λ e. e.0) l) c.args.words.now)) listed,
       c.requires.steady,
-      room_less (moved_times (length c.into_iter-number-iterator.result) (grows_by most_amount)) (grows_by most_moved) c.args.campaign.now.value (grows_little (length c.into_iter-number-iterator.result) few) c.requires.room,
+      room_less (moved_times (length c.into_iter-number-iterator.result) (season_moves most_amount)) (season_moves most_moved) c.args.campaign.now.value (season_little (length c.into_iter-number-iterator.result) few) c.requires.room,
       marks-refl c.args.campaign.now,
     )
 
@@ -37,13 +37,13 @@ loop-number-preserved c =
     let place = c.loop-number.place in
     let (there, at) = c.in-Some-get.ensures.lookup.3 in
     let given : drop place words ≡ word ∷ drop (place + 1) words = drop_more words place 0 there ∙ ap (λ x. x ∷ drop (place + 1) words) (sym (at 0)) in
-    let is : after ≡ season_at w before (n, word) = c.turn_region.ensures.what in (
+    let is : after ≡ season_at w before (n, word) = c.in_ok-turn_region.ensures.what in (
       tt,
       tt,
       season_goes_on w before after _ regions c.next.new.self (drop place words) (drop (place + 1) words) n word c.in-Some.field-0-1.now listed given is whole,
       rw is (season_at_leaves_well w world before (n, word) steady).leaves_it,
       room_goes_on w world before after regions c.next.new.self n word c.in-Some.field-0-1.now listed is steady room,
-      marks-trans c.args.campaign.now c.loop-number.campaign c.turn_region.new.campaign marks c.turn_region.ensures.marks,
+      marks-trans c.args.campaign.now c.loop-number.campaign c.turn_region.new.campaign marks c.in_ok-turn_region.ensures.marks,
     )
 
 pub turn_region-requires-clause-room : goal.turn_region-requires-clause-room

@@ -4,7 +4,7 @@ use Rattle.atl_tables.specs.Limits.{most_amount}
 use Rattle.atl_state.specs.Covers.{MarksChanges}
 use Rattle.atl_state.specs.Good.{IsSteady}
 use Rattle.atl_instant.specs.Meaning.{HaveRoom, moved_times}
-use Rattle.atl_month.specs.Season.{grows_by, season, season_at}
+use Rattle.atl_month.specs.Season.{season_moves, season, season_at}
 use Rattle.atl_month.proofs.season.turn_regions.Given as goal
 
 abbrev pub invariant-loop-number : goal.invariant-loop-number
@@ -13,5 +13,5 @@ invariant-loop-number l =
     (goal.iterator-loop-number).is_finite l.number-iterator ×
     (fold (season_at l.world) l.campaign.value (zip (map (λ e. e.0) l.number-iterator) (drop l.place l.words)) ≡ season l.world l.initial.campaign.value l.words) ×
     IsSteady l.world l.campaign.value ×
-    HaveRoom (moved_times (length l.number-iterator) (grows_by most_amount)) l.campaign.value ×
+    HaveRoom (moved_times (length l.number-iterator) (season_moves most_amount)) l.campaign.value ×
     MarksChanges l.initial.campaign l.campaign

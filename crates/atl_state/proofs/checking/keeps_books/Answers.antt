@@ -1,18 +1,22 @@
 use Rattle.std.proofs.Common.{◌<◌, length, sym, subst}
 use Rattle.atl_state.specs.Books.{IsGrid}
 use Rattle.atl_state.specs.Founding.{things_of}
-use Rattle.atl_state.specs.Good.{Every}
+use Rattle.atl_state.specs.Good.{AreOfMarkets, Every}
 use Rattle.atl_state.specs.Campaign.{CampaignValue}
 use Rattle.atl_state.specs.Totals.{IsCountable}
-use Rattle.atl_state.proofs.CheckLaws.{few-said, grid-said, items-said}
+use Rattle.atl_state.proofs.CheckLaws.{few-said, grid-said, items-said, stocks-said}
 use Rattle.atl_state.proofs.checking.keeps_books.Goals as goal
 
 pub are_balanced-requires-clause-few : goal.are_balanced-requires-clause-few
-are_balanced-requires-clause-few c = subst IsCountable (sym c.requires.what) (few-said c.args.world.now c.args.parts.now c.requires.before)
+are_balanced-requires-clause-few c = subst IsCountable (sym c.requires.what) (few-said c.args.format c.args.world.now c.args.parts.now c.requires.before)
 
 pub are_balanced-requires-clause-grid : goal.are_balanced-requires-clause-grid
-are_balanced-requires-clause-grid c = subst (λ (s : CampaignValue). IsGrid (things_of c.args.world.now) s.books) (sym c.requires.what) (grid-said c.args.world.now c.args.parts.now c.requires.before)
+are_balanced-requires-clause-grid c = subst (λ (s : CampaignValue). IsGrid (things_of c.args.world.now) s.books) (sym c.requires.what) (grid-said c.args.format c.args.world.now c.args.parts.now c.requires.before)
 
 pub are_balanced-requires-clause-items : goal.are_balanced-requires-clause-items
 are_balanced-requires-clause-items c =
-    subst (λ (s : CampaignValue). Every (λ n u. Every (λ i amount. i < length c.args.world.now.items) u.holding.items) s.units) (sym c.requires.what) (items-said c.args.world.now c.args.parts.now c.requires.before)
+    subst (λ (s : CampaignValue). Every (λ n u. Every (λ i amount. i < length c.args.world.now.items) u.holding.items) s.units) (sym c.requires.what) (items-said c.args.format c.args.world.now c.args.parts.now c.requires.before)
+
+pub are_balanced-requires-clause-stocks : goal.are_balanced-requires-clause-stocks
+are_balanced-requires-clause-stocks c =
+    subst (λ (s : CampaignValue). Every (λ n r. AreOfMarkets c.args.world.now n r.stocks) s.regions) (sym c.requires.what) (stocks-said c.args.format c.args.world.now c.args.parts.now c.requires.before)

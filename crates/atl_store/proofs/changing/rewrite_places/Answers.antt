@@ -1,9 +1,17 @@
-use Rattle.atl_store.proofs.RewriteAllLaws.{places_done}
-use Rattle.atl_store.proofs.WriteLaws.{three_steps, stops, stops_second}
+use Rattle.std.proofs.Common.{[], ◌∷◌, refl}
+use Rattle.atl_store.specs.Tables.{Regions, Structures, Books}
+use Rattle.atl_store.proofs.RewriteAllLaws.{part_rewritten, then_rewritten}
+use Rattle.atl_store.proofs.WholeLaws.{done_as, then_done}
+use Rattle.atl_store.proofs.WriteLaws.{stops, stops_second}
 use Rattle.atl_store.proofs.changing.rewrite_places.Goals as goal
 
 pub returns : goal.returns
-returns g c = three_steps g.S.Store (places_done c.args.campaign.now) c.in_ok-rewrite_marked.ensures c.in_ok-rewrite_marked-2.ensures c.rewrite_books.ensures
+returns g c =
+    let campaign = c.args.campaign.now in
+    then_done g.S.Store (then_rewritten campaign (Regions ∷ Structures ∷ []) (Books ∷ []) refl)
+    (then_done g.S.Store (then_rewritten campaign (Regions ∷ []) (Structures ∷ []) refl) (done_as g.S.Store (part_rewritten campaign Regions (λ own before after is. is)) c.in_ok-rewrite_marked.ensures)
+    (done_as g.S.Store (part_rewritten campaign Structures (λ own before after is. is)) c.in_ok-rewrite_marked-2.ensures))
+    (done_as g.S.Store (part_rewritten campaign Books (λ own before after is. is)) c.rewrite_books.ensures)
 
 pub returns-in_err-rewrite_marked : goal.returns-in_err-rewrite_marked
 returns-in_err-rewrite_marked g c = stops g.S.Store c.in_err-rewrite_marked.ensures c.from_residual.ensures

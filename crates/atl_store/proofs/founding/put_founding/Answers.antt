@@ -1,12 +1,19 @@
+use Rattle.std.proofs.Common.{◌++◌, refl}
+use Rattle.atl_store.specs.Tables.{player_parts, place_parts, people_parts}
 use Rattle.atl_store.specs.OwnStatements.{founds_tables, founds_row}
-use Rattle.atl_store.proofs.FillLaws.{founding_done}
-use Rattle.atl_store.proofs.WriteLaws.{among, four_steps, stops, stops_second, stops_third}
+use Rattle.atl_store.proofs.FillLaws.{own_then_filled, founding_done}
+use Rattle.atl_store.proofs.WholeLaws.{then_done}
+use Rattle.atl_store.proofs.WriteLaws.{among, two_steps, stops, stops_second, stops_third}
 use Rattle.atl_store.proofs.founding.put_founding.Goals as goal
 
 pub returns : goal.returns
 returns g c =
-    four_steps g.S.Store (founding_done c.args.campaign.now.value c.args.text.now) (among g.S.Store (λ _ _. founds_tables) c.in_ok-create_tables.ensures) c.in_ok-put_players.ensures
-    (among g.S.Store (λ _ _. founds_row) c.in_ok-put_places.ensures) (among g.S.Store (λ _ _. founds_row) c.put_people.ensures)
+    let campaign = c.args.campaign.now.value in
+    let text = c.args.text.now in
+    two_steps g.S.Store (founding_done campaign text ((player_parts ++ place_parts) ++ people_parts) refl) (among g.S.Store (λ _ _. founds_tables) c.in_ok-create_tables.ensures)
+    (then_done g.S.Store (own_then_filled campaign text (player_parts ++ place_parts) people_parts refl)
+    (then_done g.S.Store (own_then_filled campaign text player_parts place_parts refl) c.in_ok-put_players.ensures (among g.S.Store (λ _ _. founds_row) c.in_ok-put_places.ensures))
+    (among g.S.Store (λ _ _. founds_row) c.put_people.ensures))
 
 pub returns-in_err-create_tables : goal.returns-in_err-create_tables
 returns-in_err-create_tables g c = stops g.S.Store (among g.S.Store (λ _ _. founds_tables) c.in_err-create_tables.ensures) c.from_residual.ensures

@@ -22,7 +22,7 @@ returns-in_err-campaign-clause-err g c clean =
     let new = c.confirm.new.conn in
     let gathered : HasCleanDisk (state g.S.Store mid) = omega (arith, c.confirm.ensures.leaves.survives.clean, clean) in
     told_as g.S.Store (RefusesToLoad g.S.Store old) _ c.from_residual-in_err-campaign.result c.from_residual-in_err-campaign.ensures.1
-    (judged_damaged g.S.Store old c.requires.idle c.in_ok-world.world c.in_ok-world.parts (c.in_ok-world.ensures.ok gathered) (confirmed_behind g.S.Store old mid new c.gather.ensures.leaves c.confirm.ensures.leaves gathered clean (c.in_ok-confirm.ensures.ok clean)).nine
+    (judged_damaged g.S.Store old c.requires.idle c.in_ok-world.world c.in_ok-world.parts (c.in_ok-world.ensures.ok gathered) (confirmed_behind g.S.Store old mid new c.gather.ensures.leaves c.confirm.ensures.leaves gathered clean (c.in_ok-confirm.ensures.ok clean)).begins
     c.in_err-campaign.field-0.0 c.in_err-campaign.ensures.rules)
 
 pub returns-clause-ok : goal.returns-clause-ok

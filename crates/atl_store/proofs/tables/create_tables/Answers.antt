@@ -1,9 +1,12 @@
-use Rattle.atl_store.proofs.MakingLaws.{makes_tables}
-use Rattle.atl_store.proofs.WriteLaws.{three_steps, stops, stops_second}
+use Rattle.atl_store.specs.Tables.{first_tables}
+use Rattle.atl_store.proofs.MakingLaws.{extends_three, makes_all}
+use Rattle.atl_store.proofs.WriteLaws.{weaker, three_steps, stops, stops_second}
 use Rattle.atl_store.proofs.tables.create_tables.Goals as goal
 
 pub returns : goal.returns
-returns g c = three_steps g.S.Store makes_tables c.in_ok-create_first_three.ensures c.in_ok-create_next_three.ensures c.create_last_three.ensures
+returns g c =
+    weaker g.S.Store makes_all
+    (three_steps g.S.Store (extends_three (first_tables 0 0) (first_tables 3 1) (first_tables 6 2) (first_tables 9 3)) c.in_ok-create_first_three.ensures c.in_ok-create_next_three.ensures c.create_last_three.ensures)
 
 pub returns-in_err-create_first_three : goal.returns-in_err-create_first_three
 returns-in_err-create_first_three g c = stops g.S.Store c.in_err-create_first_three.ensures c.from_residual.ensures

@@ -18,7 +18,7 @@ pub loop-number-preserved : goal.loop-number-preserved
 loop-number-preserved c =
     let so_far = rw c.in-Some.ensures.steps at c.loop-number.invariant in
     let region = founded_region c.in-Some.plan.now in
-    rw (c.in_ok-insert.ensures.ok, insert_last c.loop-number.regions (mapped founded_region c.args.plans.now) c.in-Some.number region (map (λ e. (e.0, founded_region e.1)) c.next.new.self) so_far)
+    rw (c.in_ok-insert.ensures.ok, c.new.ensures, insert_last c.loop-number.regions (mapped founded_region c.args.plans.now) c.in-Some.number region (map (λ e. (e.0, founded_region e.1)) c.next.new.self) so_far)
     (append_assoc (entries c.loop-number.regions) ((c.in-Some.number, region) ∷ []) (map (λ e. (e.0, founded_region e.1)) c.next.new.self) ∙ so_far)
 
 pub returns : goal.returns

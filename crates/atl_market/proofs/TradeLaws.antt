@@ -1,0 +1,531 @@
+-- Trading leaves a campaign well.
+use Rattle.std.proofs.Common.{◌≡◌, ◌≢◌, ◌==◌, ◌&&◌, ℕ, ◌+◌, ◌-◌, ◌*◌, ◌/◌, ◌≤◌, ◌<◌, Bool, true, false, cond, Option, Some, None, List, [], ◌∷◌, length, refl, sym, ap, subst, ◌∙◌, arith}
+use Rattle.std.specs.Prelude.{ℤ, IsSome, fold, pos, neg_ℤ, ◌+ℤ◌, min, option_and_then, unwrap_or}
+use Rattle.std.specs.Option.{option_map_or}
+use Rattle.std.specs.Ordering.{nat_cmp, eq_by_cmp}
+use Rattle.std.specs.Cmp.{unsigned_ties}
+use Rattle.std.specs.FinMap.{FinMap, entries, get, insert}
+use Rattle.std.proofs.lemmas.Int.{ints}
+use Rattle.std.proofs.lemmas.Bool.{and_parts, eqb-true}
+use Rattle.std.proofs.lemmas.Bool.Decides.{nat_tests}
+use Rattle.std.proofs.lemmas.Option.{same_Some}
+use Rattle.std.proofs.Math.Nat.{mul-div-le, mul-le-mul_right, mul_comm}
+use Rattle.atl_tables.proofs.GeneralLaws.{is_unequal}
+use Rattle.atl_tables.specs.ByNumber.{market_of}
+use Rattle.atl_tables.specs.Limits.{most_amount}
+use Rattle.atl_tables.specs.Worlds.{IsMarket, IsWorld, WorldValue}
+use Rattle.atl_tables.specs.declared.world.Market.{Market}
+use Rattle.atl_tables.specs.declared.world.RegionPlan.{RegionPlan}
+use Rattle.atl_state.specs.declared.books.Entry.{Entry}
+use Rattle.atl_state.specs.declared.books.Thing.{Thing}
+use Rattle.atl_state.specs.declared.books.Thing.TheVariants.{Money, People, Item}
+use Rattle.atl_state.specs.declared.records.Region.{Region}
+use Rattle.atl_state.specs.declared.records.Unit.{Unit}
+use Rattle.atl_state.specs.Books.{IsGrid, IsWithin, amount_in}
+use Rattle.atl_state.specs.Covers.{MarksChanges}
+use Rattle.atl_state.specs.Founding.{things_of}
+use Rattle.atl_state.specs.Good.{Every, IsEarly}
+use Rattle.atl_state.specs.Held.{Held, IsHolding, amount_of, with_amount_of}
+use Rattle.atl_state.specs.Lending.{lent, with_held}
+use Rattle.atl_state.specs.Limits.{holding_limit, most_units}
+use Rattle.atl_state.specs.Marking.{mark_amount, mark_region}
+use Rattle.atl_state.specs.Stocks.{stock_limit, stock_of}
+use Rattle.atl_state.specs.Campaign.{MarkedCampaign, CampaignValue, region_changed, with_amount, with_stock}
+use Rattle.atl_state.specs.Totals.{held, kept, total}
+use Rattle.atl_state.proofs.BackLaws.{entries_rise}
+use Rattle.atl_state.proofs.BookLaws.{booked-with_booked, share_of}
+use Rattle.atl_state.proofs.CoverLaws.{marks-amount, marks-region, marks-trans}
+use Rattle.atl_state.proofs.EveryLaws.{each-from_every, get-insert_other, none_some}
+use Rattle.atl_state.proofs.HavingLaws.{MayHave, early-having, may_have}
+use Rattle.atl_state.proofs.HeldLaws.{alike, amount_within, every_amount, set_amount}
+use Rattle.atl_state.proofs.HoldingLaws.{marks-lent, total-held}
+use Rattle.atl_state.proofs.ListLaws.{other_number, same_number}
+use Rattle.atl_state.proofs.RegionLaws.{steady-amount, total-amount, total-region}
+use Rattle.atl_state.proofs.StockLaws.{restocked, steady-stock}
+use Rattle.atl_instant.specs.Meaning.{HasRoom, HaveRoom, LeavesWell, Moving, moved_times, moves_only, most_moved}
+use Rattle.atl_instant.specs.declared.written.Written.{Written}
+use Rattle.atl_instant.proofs.BookingLaws.{booked-near, within-neg, within-pos}
+use Rattle.atl_instant.proofs.MarkLaws.{marks_by}
+use Rattle.atl_instant.proofs.MeaningLaws.{room_less, well_unchanged, well_within}
+use Rattle.atl_market.specs.AtOnce.{stands_in}
+use Rattle.atl_market.specs.ItemPots.{is_for, share_for, wants_for}
+use Rattle.atl_market.specs.PotPhase.{CanInTurn, given_by, shared_out, wants_by}
+use Rattle.atl_market.specs.Trade.{deal_of, dealt, limit_of, market_for, pot_by, trade_entry, trade_moves, trade_pot, trade_pots, trade_wanted, traded, traded_at, traded_by, with_deal}
+use Rattle.atl_market.specs.Trading.{CanDeal, CanSettle, CanTrade, HasPot}
+use Rattle.atl_market.specs.Unordered.{OthersAreNoWorse}
+use Rattle.atl_market.specs.declared.trade.Deal.{Deal}
+use Rattle.atl_market.specs.declared.trade.Trade.{Trade}
+use Rattle.atl_market.specs.declared.trade.Trade.TheVariants.{Sell, Buy}
+use Rattle.atl_market.proofs.DrawLaws.{AreReady, Drains, DrawnPots, HaveEnough, all_pairs, drawn, first_draws, nothing_drains, ready_behind, region_drains, shares_are_enough, untouched}
+use Rattle.atl_market.proofs.ItemPotLaws.{items_give, shares_at}
+use Rattle.atl_market.proofs.OrderedLaws.{others_no_worse}
+use Rattle.atl_market.proofs.ProduceLaws.{only_room}
+use Rattle.atl_market.proofs.TurnLaws.{few_holdings, first_room, later_room, turns_leave_well}
+use Rattle.atl_market.proofs.WantLaws.{GivesToWants, few_given, given_is_wanted}
+
+-- ---- a deal that keeps the goods and the money together
+
+pub record Fits (w : WorldValue) (u : Unit) (i before : ℕ) (d : Deal) : Type 0 where
+  pub money : d.money ≤ holding_limit
+  pub amount : d.amount ≤ holding_limit
+  pub stock : d.stock ≤ stock_limit w u.region i
+  pub goods : d.amount + d.stock ≡ amount_of u.holding.items i + before
+  pub paid : pos d.money ≡ pos u.holding.money +ℤ d.booked
+  pub small : IsWithin holding_limit d.booked
+
+abbrev pub supplied : CampaignValue → ℕ → Unit → ℕ → Deal → CampaignValue
+supplied c n u i d = record c { units = insert c.units n (record u { holding = with_deal u.holding i d }) }
+
+abbrev pub dealt_to : CampaignValue → ℕ → Unit → ℕ → Entry → Deal → CampaignValue
+dealt_to c n u i entry d = with_amount (region_changed (λ r. restocked r i d.stock) (supplied c n u i d) u.region) entry Money d.booked
+
+module _ (w : WorldValue) (c : CampaignValue) (n : ℕ) (u : Unit) (q : Region) (i : ℕ) (entry : Entry) (d : Deal) (is : get c.units n ≡ Some u) (around : get c.regions u.region ≡ Some q) where
+  abbrev after : CampaignValue
+  after = dealt_to c n u i entry d
+
+  abbrev more : Held
+  more = with_deal u.holding i d
+
+  abbrev paid : CampaignValue
+  paid = supplied c n u i d
+
+  abbrev left : CampaignValue
+  left = region_changed (λ r. restocked r i d.stock) paid u.region
+
+  pub deal_is : dealt c n u i entry d ≡ after
+  deal_is = ap (λ o. with_amount (with_stock (with_held c n more o) u.region i d.stock) entry Money d.booked) is
+
+  module _ (fits : Fits w u i (amount_of q.stocks i) d) (known : i < length w.items) (market : IsSome (market_of w u.region i)) (early : IsEarly w c) where
+    may : MayHave w more
+    may =
+        let old = may_have w c n u is early.steady in
+        record {
+          limits = record { men = old.limits.men; money = fits.money; items = every_amount (λ j a. (1 ≤ a) × (a ≤ holding_limit)) u.holding.items i d.amount (λ some. (some, fits.amount)) old.limits.items };
+          name = old.name;
+          items = every_amount (λ j a. j < length w.items) u.holding.items i d.amount (λ some. known) old.items;
+          skills = old.skills;
+          days = old.days;
+        }
+
+    still_early : IsEarly w after
+    still_early =
+        let before = early-having w c n u more is may (λ g. g) early in
+        record {
+          steady = steady-amount w left entry Money d.booked (steady-stock paid u.region i d.stock q around w market fits.stock before.steady);
+          flags = before.flags;
+        }
+
+    total_of : (t : Thing) → total after t ≡ total left t → total left t + kept t q ≡ total paid t + kept t (restocked q i d.stock)
+        → total paid t + held t u.holding ≡ total c t + held t more → pos (total after t) ≡ pos (total c t) +ℤ share_of t Money d.booked
+    total_of Money s a b = omega (arith, ints, s, a, b, fits.paid)
+    total_of People s a b = omega (arith, ints, s, a, b)
+    total_of (Item j) s a b =
+        let other : (2 + j == 0) ≡ false = grind (arith, nat_tests) in
+        ap pos (by_test (eq_by_cmp nat_cmp j i) refl (total after (Item j)) (total left (Item j)) (total paid (Item j)) (total c (Item j)) s
+        (a ∙ ap (λ k. total paid (Item j) + k) (set_amount q.stocks i d.stock j)) (b ∙ ap (λ k. total c (Item j) + k) (set_amount u.holding.items i d.amount j)))
+        ∙ sym (ap (λ b. pos (total c (Item j)) +ℤ cond b d.booked (pos 0)) other ∙ zero_more (total c (Item j)))
+      where
+        zero_more : (x : ℕ) → pos x +ℤ pos 0 ≡ pos x
+        zero_more x = omega (arith, ints)
+
+        moved : (v x y z st am st2 am2 : ℕ) → v ≡ x → x + st ≡ y + st2 → y + am ≡ z + am2 → am2 + st2 ≡ am + st → v ≡ z
+        moved v x y z st am st2 am2 s a b g = omega (arith, s, a, b, g)
+
+        unmoved : (v x y z st am : ℕ) → v ≡ x → x + st ≡ y + st → y + am ≡ z + am → v ≡ z
+        unmoved v x y z st am s a b = omega (arith, s, a, b)
+
+        by_test : (k : Bool) → eq_by_cmp nat_cmp j i ≡ k → (v x y z : ℕ) → v ≡ x → x + amount_of q.stocks j ≡ y + cond k d.stock (amount_of q.stocks j)
+            → y + amount_of u.holding.items j ≡ z + cond k d.amount (amount_of u.holding.items j) → v ≡ z
+        by_test true is_i v x y z s a b =
+            let j_is : j ≡ i = alike i j is_i in
+            moved v x y z (amount_of q.stocks j) (amount_of u.holding.items j) d.stock d.amount s a b
+            (fits.goods ∙ ap (λ k. amount_of u.holding.items k + amount_of q.stocks k) (sym j_is))
+        by_test false is_other v x y z s a b = unmoved v x y z (amount_of q.stocks j) (amount_of u.holding.items j) s a b
+
+    pub deal_well : LeavesWell IsEarly (moves_only holding_limit entry Money) w c after
+    deal_well =
+        let grid = early.steady.numbers.books in
+        record {
+          leaves_it = still_early;
+          same_month = record { month = refl; reports = refl; count = refl; factions = λ k there. there };
+          balances = λ old t.
+              total_of t (total-amount left entry Money t d.booked) (total-region (λ r. restocked r i d.stock) paid u.region q around t) (total-held w c n u more is t)
+              ∙ ap (λ z. z +ℤ share_of t Money d.booked) (old t) ∙ sym (booked-with_booked (things_of w) c.books entry Money d.booked grid (omega arith) t);
+          near = booked-near (things_of w) c.books entry Money d.booked holding_limit grid (omega arith) fits.small;
+        }
+
+-- ---- the market that a unit trades with
+
+pub record IsMarketFor (w : WorldValue) (u : Unit) (item : Option ℕ) (m : Market) : Type 0 where
+  pub told : item ≡ Some m.item
+  pub there : market_of w u.region m.item ≡ Some m
+  pub bounds : IsMarket (length w.items) m.item m
+
+pub market_is : (w : WorldValue) → IsWorld w → (u : Unit) (item : Option ℕ) (m : Market) → market_for w u item ≡ Some m → IsMarketFor w u item m
+market_is w world u None m is = none_some m is
+market_is w world u (Some i) m is = by_plan (get w.regions u.region) refl is
+  where
+    by_plan : (o : Option RegionPlan) → get w.regions u.region ≡ o → option_and_then (λ (p : RegionPlan). get p.markets i) o ≡ Some m → IsMarketFor w u (Some i) m
+    by_plan None at found = none_some m found
+    by_plan (Some p) at found =
+        let of = (world.regions u.region p at).markets i m found in
+        let same : i ≡ m.item = sym of.number_is in
+        record { told = ap Some same; there = ap (market_of w u.region) (sym same) ∙ is; bounds = subst (λ k. IsMarket (length w.items) k m) same of }
+
+-- ---- what a trade leaves fits
+
+module _ (w : WorldValue) (u : Unit) (m : Market) (stock share : ℕ) (there : market_of w u.region m.item ≡ Some m) (holds : IsHolding u.holding) (low : stock ≤ m.limit) where
+  limit_is : stock_limit w u.region m.item ≡ m.limit
+  limit_is = ap (λ o. option_map_or (λ (x : Market). x.limit) o most_amount) there
+
+  less : (a k limit : ℕ) → a ≤ limit → a - k ≤ limit
+  less a k limit most = omega (arith, most)
+
+  gone : (a s k : ℕ) → k ≤ a → a - k + (s + k) ≡ a + s
+  gone a s k enough = omega (arith, enough)
+
+  come : (a s k : ℕ) → k ≤ s → a + k + (s - k) ≡ a + s
+  come a s k enough = omega (arith, enough)
+
+  put_to : (a k : ℕ) → pos (a + k) ≡ pos a +ℤ pos k
+  put_to a k = omega (arith, ints)
+
+  taken_off : (a k : ℕ) → k ≤ a → pos (a - k) ≡ pos a +ℤ neg_ℤ (pos k)
+  taken_off a k enough = omega (arith, ints, enough)
+
+  part : (a k limit : ℕ) → a + k ≤ limit → k ≤ limit
+  part a k limit fits = omega (arith, fits)
+
+  up_to : (a k limit : ℕ) → k ≤ a → a ≤ limit → k ≤ limit
+  up_to a k limit few most = omega (arith, few, most)
+
+  pub deal_fits : (trade : Trade) → CanDeal trade u.holding share (Some m) → HasPot trade stock share (Some m) → Fits w u m.item stock (deal_of trade u.holding stock share m)
+  deal_fits Sell (enough, room) pot = record {
+    money = room;
+    amount = less (amount_of u.holding.items m.item) share holding_limit (amount_within u.holding m.item holds);
+    stock = subst (λ k. stock + share ≤ k) (sym limit_is) pot;
+    goods = gone (amount_of u.holding.items m.item) stock share enough;
+    paid = put_to u.holding.money (share * m.pays);
+    small = within-pos (share * m.pays) holding_limit (part u.holding.money (share * m.pays) holding_limit room);
+  }
+  deal_fits Buy (payable, room) pot = record {
+    money = less u.holding.money (share * m.price) holding_limit holds.money;
+    amount = room;
+    stock = subst (λ k. stock - share ≤ k) (sym limit_is) (less stock share m.limit low);
+    goods = come (amount_of u.holding.items m.item) stock share pot;
+    paid = taken_off u.holding.money (share * m.price) payable;
+    small = within-neg (share * m.price) holding_limit (up_to u.holding.money (share * m.price) holding_limit payable holds.money);
+  }
+
+-- ---- one step
+
+stock_is : (c : CampaignValue) (r : ℕ) (q : Region) (i : ℕ) → get c.regions r ≡ Some q → stock_of c r i ≡ amount_of q.stocks i
+stock_is c r q i around = ap (λ o. option_map_or (λ (x : Region). amount_of x.stocks i) o 0) around
+
+-- a region has no more of an item than its market takes
+stock_low : (w : WorldValue) (c : CampaignValue) (r : ℕ) (q : Region) (i : ℕ) → IsEarly w c → get c.regions r ≡ Some q → amount_of q.stocks i ≤ stock_limit w r i
+stock_low w c r q i early around = by_amount (get q.stocks i) refl
+  where
+    by_amount : (o : Option ℕ) → get q.stocks i ≡ o → unwrap_or o 0 ≤ stock_limit w r i
+    by_amount None is = omega arith
+    by_amount (Some a) is = ((early.steady.numbers.regions r q around).stocks i a is).1
+
+-- who draws from the pot of a region and an item: the units that stand there and are told to trade it
+abbrev pub told_there : FinMap nat_cmp Unit → FinMap nat_cmp ℕ → ℕ × ℕ → ℕ → Bool
+told_there units items k n = stands_in k.0 (get units n) && is_for k.1 (get items n)
+
+abbrev pub item_pots : Trade → WorldValue → FinMap nat_cmp Unit → FinMap nat_cmp ℕ → DrawnPots (ℕ × ℕ)
+item_pots trade w units items = record { place = λ k. k.0; draws = told_there units items; left = λ k q. pot_by trade (limit_of w k.1 k.0) (amount_of q.stocks k.1) }
+
+-- a pot has less by what is traded
+pot_less : (trade : Trade) (h : Held) (limit stock share : ℕ) (m : Market) → limit ≡ m.limit → HasPot trade stock share (Some m)
+    → pot_by trade limit (deal_of trade h stock share m).stock + share ≡ pot_by trade limit stock
+pot_less Sell h limit stock share m same pot = omega (arith, same, pot)
+pot_less Buy h limit stock share m same pot = omega (arith, pot)
+
+module _ (trade : Trade) (items : FinMap nat_cmp ℕ) (w : WorldValue) (c : CampaignValue) (e : ℕ × ℕ) where
+  traded_is : (u : Unit) → get c.units e.0 ≡ Some u → (o : Option Market) → market_for w u (get items e.0) ≡ o → traded trade items w c e ≡ traded_at trade c e u o
+  unfolding traded
+  traded_is u is o at = ap (traded_by trade items w c e) is ∙ ap (traded_at trade c e u) at
+
+  module _ (can : CanTrade trade items w c e) (m : Market) (at : market_for w can.at.unit (get items e.0) ≡ Some m) where
+    abbrev deal : Deal
+    deal = deal_of trade can.at.unit.holding (amount_of can.at.region.stocks m.item) e.1 m
+
+    market : IsMarketFor w can.at.unit (get items e.0) m
+    market = market_is w can.world can.at.unit (get items e.0) m at
+
+    made_is : traded trade items w c e ≡ dealt_to c e.0 can.at.unit m.item (trade_entry trade) deal
+    made_is =
+        traded_is can.at.unit can.at.there (Some m) at
+        ∙ ap (λ stock. dealt c e.0 can.at.unit m.item (trade_entry trade) (deal_of trade can.at.unit.holding stock e.1 m)) (stock_is c can.at.unit.region can.at.region m.item can.at.around)
+        ∙ deal_is w c e.0 can.at.unit can.at.region m.item (trade_entry trade) deal can.at.there can.at.around
+
+    fits : Fits w can.at.unit m.item (amount_of can.at.region.stocks m.item) deal
+    fits =
+        let u = can.at.unit in
+        let limit : stock_limit w u.region m.item ≡ m.limit = ap (λ o. option_map_or (λ (x : Market). x.limit) o most_amount) market.there in
+        let low = subst (λ k. amount_of can.at.region.stocks m.item ≤ k) limit (stock_low w c u.region can.at.region m.item can.early can.at.around) in
+        deal_fits w u m (amount_of can.at.region.stocks m.item) e.1 market.there (can.early.steady.numbers.units e.0 u can.at.there).1 low trade (subst (CanDeal trade u.holding e.1) at can.deal) (can.pot m at)
+
+    made_well : LeavesWell IsEarly (trade_moves trade holding_limit) w c (traded trade items w c e)
+    made_well =
+        subst (λ d. LeavesWell IsEarly (trade_moves trade holding_limit) w c d) (sym made_is)
+        (deal_well w c e.0 can.at.unit can.at.region m.item (trade_entry trade) deal can.at.there can.at.around fits market.bounds.item (subst IsSome (sym market.there) refl) can.early)
+
+    made_drains : (units : FinMap nat_cmp Unit) → get units e.0 ≡ Some can.at.unit → Drains (item_pots trade w units items) c e (traded trade items w c e)
+    made_drains units there =
+        region_drains (item_pots trade w units items) c e (traded trade items w c e) can.at.unit.region can.at.region can.at.around (λ r. restocked r m.item deal.stock) (ap (λ (d : CampaignValue). d.regions) made_is)
+        (λ k same. here k same (eq_by_cmp nat_cmp k.1 m.item) refl)
+        (λ k apart. ap (λ b. b && is_for k.1 (get items e.0)) (ap (stands_in k.0) there ∙ other_number can.at.unit.region k.0 (λ is. apart (sym is))))
+      where
+        no_less : (a : ℕ) → a + 0 ≡ a
+        no_less a = omega arith
+
+        told_is : (k : ℕ × ℕ) → k.0 ≡ can.at.unit.region → told_there units items k e.0 ≡ (m.item == k.1)
+        told_is k same =
+            ap (λ b. b && is_for k.1 (get items e.0)) (ap (stands_in k.0) there ∙ ap (λ r. can.at.unit.region == r) same ∙ same_number can.at.unit.region)
+            ∙ ap (is_for k.1) market.told
+
+        here : (k : ℕ × ℕ) → k.0 ≡ can.at.unit.region → (b : Bool) → eq_by_cmp nat_cmp k.1 m.item ≡ b
+            → pot_by trade (limit_of w k.1 k.0) (amount_of (with_amount_of can.at.region.stocks m.item deal.stock) k.1) + cond (told_there units items k e.0) e.1 0 ≡ pot_by trade (limit_of w k.1 k.0) (amount_of can.at.region.stocks k.1)
+        here k same true is =
+            let item : k.1 ≡ m.item = alike m.item k.1 is in
+            let limit : limit_of w k.1 k.0 ≡ m.limit = ap (λ j. limit_of w j k.0) item ∙ ap (λ r. limit_of w m.item r) same ∙ ap (λ o. option_map_or (λ (x : Market). x.limit) o 0) market.there in
+            let drawing : told_there units items k e.0 ≡ true = told_is k same ∙ ap (λ j. m.item == j) item ∙ same_number m.item in
+            ap (λ b. pot_by trade (limit_of w k.1 k.0) (amount_of (with_amount_of can.at.region.stocks m.item deal.stock) k.1) + cond b e.1 0) drawing
+            ∙ ap (λ a. pot_by trade (limit_of w k.1 k.0) a + e.1) (set_amount can.at.region.stocks m.item deal.stock k.1 ∙ ap (λ b. cond b deal.stock (amount_of can.at.region.stocks k.1)) is)
+            ∙ pot_less trade can.at.unit.holding (limit_of w k.1 k.0) (amount_of can.at.region.stocks m.item) e.1 m limit (can.pot m at)
+            ∙ ap (λ j. pot_by trade (limit_of w k.1 k.0) (amount_of can.at.region.stocks j)) (sym item)
+        here k same false is =
+            let apart : m.item ≢ k.1 = λ one. is_unequal k.1 m.item (unsigned_ties k.1 m.item ∙ is) (sym one) in
+            ap (λ b. pot_by trade (limit_of w k.1 k.0) (amount_of (with_amount_of can.at.region.stocks m.item deal.stock) k.1) + cond b e.1 0) (told_is k same ∙ other_number m.item k.1 apart)
+            ∙ no_less (pot_by trade (limit_of w k.1 k.0) (amount_of (with_amount_of can.at.region.stocks m.item deal.stock) k.1))
+            ∙ ap (pot_by trade (limit_of w k.1 k.0)) (set_amount can.at.region.stocks m.item deal.stock k.1 ∙ ap (λ b. cond b deal.stock (amount_of can.at.region.stocks k.1)) is)
+
+  pub traded_well : CanTrade trade items w c e → LeavesWell IsEarly (trade_moves trade holding_limit) w c (traded trade items w c e)
+  traded_well can = by_market (market_for w can.at.unit (get items e.0)) refl
+    where
+      by_market : (o : Option Market) → market_for w can.at.unit (get items e.0) ≡ o → LeavesWell IsEarly (trade_moves trade holding_limit) w c (traded trade items w c e)
+      by_market None at =
+          subst (λ d. LeavesWell IsEarly (trade_moves trade holding_limit) w c d) (sym (traded_is can.at.unit can.at.there None at))
+          (well_unchanged (trade_moves trade holding_limit) w c can.early)
+      by_market (Some m) at = made_well can m at
+
+  traded_drains : (can : CanTrade trade items w c e) (units : FinMap nat_cmp Unit) → get units e.0 ≡ Some can.at.unit → Drains (item_pots trade w units items) c e (traded trade items w c e)
+  traded_drains can units there = by_market (market_for w can.at.unit (get items e.0)) refl
+    where
+      by_market : (o : Option Market) → market_for w can.at.unit (get items e.0) ≡ o → Drains (item_pots trade w units items) c e (traded trade items w c e)
+      by_market None at =
+          nothing_drains (item_pots trade w units items) c e (traded trade items w c e) (ap (λ (d : CampaignValue). d.regions) (traded_is can.at.unit can.at.there None at)) (subst (CanDeal trade can.at.unit.holding e.1) at can.deal)
+      by_market (Some m) at = made_drains can m at units there
+
+  pub traded_others : (k : ℕ) → k ≢ e.0 → get (traded trade items w c e).units k ≡ get c.units k
+  unfolding traded
+  traded_others k apart = by_unit (get c.units e.0) refl
+    where
+      by_market : (u : Unit) → get c.units e.0 ≡ Some u → (o : Option Market) → get (traded_at trade c e u o).units k ≡ get c.units k
+      by_market u is None = refl
+      by_market u is (Some m) =
+          let h = with_deal u.holding m.item (deal_of trade u.holding (stock_of c u.region m.item) e.1 m) in
+          ap (λ o. get (with_held c e.0 h o).units k) is ∙ get-insert_other c.units e.0 k (record u { holding = h }) apart
+
+      by_unit : (o : Option Unit) → get c.units e.0 ≡ o → get (traded_by trade items w c e o).units k ≡ get c.units k
+      by_unit None is = refl
+      by_unit (Some u) is = by_market u is (market_for w u (get items e.0))
+
+-- ---- who gets something
+
+pub trades_give : (trade : Trade) (items counts : FinMap nat_cmp ℕ) (w : WorldValue) (c : CampaignValue) → GivesToWants (trade_pots trade items counts) w c
+trades_give trade items counts w c wants n share is = items_give (get items) (trade_pot trade w c) wants c n share (sym (shares_at (get items) (trade_pot trade w c) wants c n) ∙ is)
+
+pub trade_keeps_others : (trade : Trade) (items counts : FinMap nat_cmp ℕ) (w : WorldValue) (c : CampaignValue) (os : List Written) → OthersAreNoWorse os c (shared_out (trade_pots trade items counts) w c os)
+trade_keeps_others trade items counts w c os = others_no_worse (trade_pots trade items counts) w (traded_others trade items w) c (trades_give trade items counts w c) os
+
+-- what a unit wants it can trade
+module _ (h : Held) (m : Market) (told share : ℕ) (holds : IsHolding h) where
+  few_of : (told a b : ℕ) → share ≤ min told (min a b) → (share ≤ a) × (share ≤ b)
+  few_of told a b low = (omega (arith, low), omega (arith, low))
+
+  times : (money price : ℕ) → share ≤ money / price → share * price ≤ money
+  times money price few = omega (arith, mul-le-mul_right price few, mul-div-le money price, mul_comm (money / price) price)
+
+  room_for : (a k limit : ℕ) → a ≤ limit → k ≤ limit - a → a + k ≤ limit
+  room_for a k limit fits few = omega (arith, fits, few)
+
+  pub wanted_fits : (trade : Trade) → share ≤ trade_wanted trade h told (Some m) → CanDeal trade h share (Some m)
+  wanted_fits Sell low =
+      let (few, payable) = few_of told (amount_of h.items m.item) ((holding_limit - h.money) / m.pays) low in
+      (few, room_for h.money (share * m.pays) holding_limit holds.money (times (holding_limit - h.money) m.pays payable))
+  wanted_fits Buy low =
+      let (payable, few) = few_of told (h.money / m.price) (holding_limit - amount_of h.items m.item) low in
+      (times h.money m.price payable, room_for (amount_of h.items m.item) share holding_limit (amount_within h m.item holds) few)
+
+-- ---- all steps can be taken
+
+module _ (trade : Trade) (items : FinMap nat_cmp ℕ) (w : WorldValue) (world : IsWorld w) (c : CampaignValue) where
+  abbrev step_moves : Moving
+  step_moves = trade_moves trade holding_limit
+
+  abbrev pots : DrawnPots (ℕ × ℕ)
+  pots = item_pots trade w c.units items
+
+  -- a unit is there, and can trade so many
+  abbrev CanHave : ℕ × ℕ → Type 0
+  CanHave e = (u : Unit) × (get c.units e.0 ≡ Some u) × CanDeal trade u.holding e.1 (market_for w u (get items e.0))
+
+  abbrev AreToTrade : CampaignValue → List (ℕ × ℕ) → Type 0
+  AreToTrade = AreReady pots CanHave w c
+
+  -- there is room in the books for what they pay
+  abbrev CanBook : CampaignValue → List (ℕ × ℕ) → Type 0
+  CanBook d es = HaveRoom (moved_times (length es) step_moves) d
+
+  has_pot : (limit stock share : ℕ) (m : Market) → limit ≡ m.limit → stock ≤ m.limit → share ≤ pot_by trade limit stock → HasPot trade stock share (Some m)
+  has_pot limit stock share m same low few = by_trade trade few
+    where
+      by_trade : (t : Trade) → share ≤ pot_by t limit stock → HasPot t stock share (Some m)
+      by_trade Sell few = omega (arith, same, low, few)
+      by_trade Buy few = few
+
+  first_can : (d : CampaignValue) (e : ℕ × ℕ) (es : List (ℕ × ℕ)) → AreToTrade d (e ∷ es) → CanBook d (e ∷ es) → CanTrade trade items w d e
+  first_can d e es ready room =
+      let (u, there, deal) = ready.fits.0 in
+      let now : get d.units e.0 ≡ Some u = ready.same.0 ∙ there in
+      let (q, around) = (ready.early.steady.known.units e.0 u now).region in
+      record {
+        at = record { unit = u; there = now; region = q; around = around };
+        deal = deal;
+        pot = λ m at.
+            let market = market_is w world u (get items e.0) m at in
+            let k : ℕ × ℕ = (u.region, m.item) in
+            let drawing : told_there c.units items k e.0 ≡ true =
+            ap (λ b. b && is_for m.item (get items e.0)) (ap (stands_in u.region) there ∙ same_number u.region) ∙ ap (is_for m.item) market.told ∙ same_number m.item in
+            let few = first_draws pots d e es ready.enough k q around drawing in
+            let limit : stock_limit w u.region m.item ≡ m.limit = ap (λ o. option_map_or (λ (x : Market). x.limit) o most_amount) market.there in
+            has_pot (limit_of w m.item u.region) (amount_of q.stocks m.item) e.1 m (ap (λ o. option_map_or (λ (x : Market). x.limit) o 0) market.there)
+            (subst (λ l. amount_of q.stocks m.item ≤ l) limit (stock_low w d u.region q m.item ready.early around)) few;
+        world = world;
+        early = ready.early;
+        room = first_room step_moves d e es room;
+      }
+
+  all_can : (d : CampaignValue) (es : List (ℕ × ℕ)) → AreToTrade d es → CanBook d es → CanInTurn (CanTrade trade items w) (traded trade items w) d es
+  all_can d [] ready room = tt
+  all_can d (e ∷ es) ready room =
+      let can = first_can d e es ready room in
+      let well = traded_well trade items w d e can in
+      let next = traded trade items w d e in (
+        can,
+        all_can next es (ready_behind pots w c d e es next ready well.leaves_it (traded_others trade items w d e) (traded_drains trade items w d e can c.units (sym ready.same.0 ∙ can.at.there)))
+            (later_room step_moves w d next e es well room),
+      )
+
+  module _ (early : IsEarly w c) (counts : FinMap nat_cmp ℕ) (os : List Written) (room : HaveRoom (trade_moves trade most_moved) c) where
+    abbrev given : FinMap nat_cmp ℕ
+    given = given_by (trade_pots trade items counts) w c os
+
+    abbrev shares : List (ℕ × ℕ)
+    shares = entries given
+
+    each_fits : Every (λ n share. CanHave (n, share)) given
+    each_fits n share is =
+        let (u, o, there, own, low) = given_is_wanted (trade_pots trade items counts) w c (trades_give trade items counts w c) os n share is in
+        (u, there, subst (λ k. CanDeal trade u.holding share (market_for w u (get items k))) own (by_market (amount_of counts o.unit) u there (market_for w u (get items o.unit)) low))
+      where
+        by_market : (told : ℕ) (u : Unit) → get c.units n ≡ Some u → (m : Option Market) → share ≤ trade_wanted trade u.holding told m → CanDeal trade u.holding share m
+        by_market told u there None low = omega (arith, low)
+        by_market told u there (Some m) low = wanted_fits u.holding m told share (early.steady.numbers.units n u there).1 trade low
+
+    all_enough : HaveEnough pots c shares
+    all_enough k q around =
+        let wants = wants_by (trade_pots trade items counts) w c os in
+        subst (λ stock. drawn (told_there c.units items k) shares ≤ pot_by trade (limit_of w k.1 k.0) stock) (stock_is c k.0 q k.1 around)
+        (shares_are_enough (trade_pot trade w c k.1) (wants_for (get items) wants k.1) c k.0 (told_there c.units items k) given (λ n share is drawing.
+        let parts = and_parts _ _ drawing in
+        let told = for_item k.1 (get items n) parts.1 in
+        (sym (ap (share_for (get items) (trade_pot trade w c) wants c n) told) ∙ sym (shares_at (get items) (trade_pot trade w c) wants c n) ∙ is, parts.0)) (q, around))
+      where
+        for_item : (i : ℕ) (o : Option ℕ) → is_for i o ≡ true → o ≡ Some i
+        for_item i None never = cc
+        for_item i (Some j) same = ap Some (eqb-true j i same)
+
+    few : length shares ≤ most_units
+    few = omega (arith, few_given (trade_pots trade items counts) w c (trades_give trade items counts w c) os, early.steady.numbers.few_units)
+
+    little : (e : Entry) (t : Thing) → moved_times (length shares) step_moves e t ≤ trade_moves trade most_moved e t
+    little e t = few_holdings (length shares) few (trade_entry trade) Money e t
+
+    pub can_share_out : CanInTurn (CanTrade trade items w) (traded trade items w) c shares
+    can_share_out = all_can c shares (record {
+      early = early;
+      rise = entries_rise given;
+      same = untouched c shares;
+      fits = all_pairs CanHave shares (each-from_every (λ n share. CanHave (n, share)) given each_fits);
+      enough = all_enough;
+    }) (room_less (moved_times (length shares) step_moves) (trade_moves trade most_moved) c little room)
+
+    pub all_trades_leave_well : LeavesWell IsEarly (trade_moves trade most_moved) w c (shared_out (trade_pots trade items counts) w c os)
+    unfolding shared_out
+    all_trades_leave_well =
+        well_within (moved_times (length shares) step_moves) (trade_moves trade most_moved) w c (fold (traded trade items w) c shares) little
+        (turns_leave_well step_moves w (CanTrade trade items w) (traded trade items w) (traded_well trade items w) c shares early can_share_out)
+
+-- ---- what the code does
+
+-- the deal of a trade can be settled
+pub can_settle : (trade : Trade) (items : FinMap nat_cmp ℕ) (w : WorldValue) (c : CampaignValue) (n share : ℕ) → CanTrade trade items w c (n, share)
+    → (u : Unit) (m : Market) (stock : ℕ) (entry : Entry) (d : Deal) → get c.units n ≡ Some u → market_for w u (get items n) ≡ Some m → stock ≡ stock_of c u.region m.item
+    → entry ≡ trade_entry trade → d ≡ deal_of trade u.holding stock share m → CanSettle c n entry d
+can_settle trade items w c n share can u m stock entry d there at stock_at entry_at d_at =
+    let e : ℕ × ℕ = (n, share) in
+    let same : can.at.unit ≡ u = same_Some _ _ (sym can.at.there ∙ there) in
+    let mine : market_for w can.at.unit (get items n) ≡ Some m = ap (λ v. market_for w v (get items n)) same ∙ at in
+    let stocked : amount_of can.at.region.stocks m.item ≡ stock = sym (stock_is c can.at.unit.region can.at.region m.item can.at.around) ∙ ap (λ (v : Unit). stock_of c v.region m.item) same ∙ sym stock_at in
+    let is : deal trade items w c e can m mine ≡ d =
+    ap (λ (v : Unit). deal_of trade v.holding (amount_of can.at.region.stocks m.item) share m) same ∙ ap (λ k. deal_of trade u.holding k share m) stocked ∙ sym d_at in
+    let fit = fits trade items w c e can m mine in
+    record {
+      unit = u;
+      there = there;
+      money = subst (λ (x : Deal). x.money ≤ holding_limit) is fit.money;
+      amount = subst (λ (x : Deal). x.amount ≤ holding_limit) is fit.amount;
+      things = things_of w;
+      some = omega arith;
+      grid = can.early.steady.numbers.books;
+      small = subst (λ (x : Deal). IsWithin holding_limit x.booked) is fit.small;
+      room = subst (λ f. HasRoom holding_limit (amount_in c.books f Money)) (sym entry_at) (only_room (trade_entry trade) Money (amount_in c.books (trade_entry trade) Money) (can.room (trade_entry trade) Money));
+    }
+
+-- no stock is above the largest amount
+pub stock_most : (w : WorldValue) (c : CampaignValue) (r i : ℕ) → IsWorld w → IsEarly w c → stock_of c r i ≤ most_amount
+stock_most w c r i world early = by_region (get c.regions r) refl
+  where
+    by_market : (q : Region) → amount_of q.stocks i ≤ stock_limit w r i → (o : Option RegionPlan) → get w.regions r ≡ o → stock_limit w r i ≤ most_amount
+    by_market q low None at = subst (λ p. option_map_or (λ (x : Market). x.limit) (option_and_then (λ (p : RegionPlan). get p.markets i) p) most_amount ≤ most_amount) (sym at) (omega arith)
+    by_market q low (Some p) at = subst (λ p. option_map_or (λ (x : Market). x.limit) (option_and_then (λ (p : RegionPlan). get p.markets i) p) most_amount ≤ most_amount) (sym at) (limited (get p.markets i) refl)
+      where
+        limited : (o : Option Market) → get p.markets i ≡ o → option_map_or (λ (x : Market). x.limit) o most_amount ≤ most_amount
+        limited None is = omega arith
+        limited (Some m) is = ((world.regions r p at).markets i m is).limit
+
+    by_region : (o : Option Region) → get c.regions r ≡ o → option_map_or (λ (x : Region). amount_of x.stocks i) o 0 ≤ most_amount
+    by_region None is = omega arith
+    by_region (Some q) is =
+        let low = stock_low w c r q i early is in
+        let limit = by_market q low (get w.regions r) refl in
+        omega (arith, low, limit)
+
+module _ (c d e : MarkedCampaign) (n : ℕ) (u : Unit) (h : Held) (region item stock : ℕ) where
+  pub settled_books : get c.value.units n ≡ Some u → d ≡ lent c n h → e.value ≡ with_stock d.value region item stock → e.value.books ≡ c.value.books
+  settled_books there set put = ap (λ (s : CampaignValue). s.books) put ∙ ap (λ (m : MarkedCampaign). m.value.books) set ∙ ap (λ o. (with_held c.value n h o).books) there
+
+-- what is marked
+pub settled_marks : (c d e f : MarkedCampaign) (n : ℕ) (u : Unit) (h : Held) (region item stock things : ℕ) (entry : Entry) (z : ℤ) → get c.value.units n ≡ Some u → d ≡ lent c n h
+    → e.value ≡ with_stock d.value region item stock → e.marks ≡ mark_region d region → f.value ≡ with_amount e.value entry Money z → f.marks ≡ mark_amount e entry Money
+    → IsGrid things c.value.books → 2 ≤ things → MarksChanges c f
+settled_marks c d e f n u h region item stock things entry z there set put put_marks booked booked_marks grid two =
+    let e_grid : IsGrid things e.value.books = rw (settled_books c d e n u h region item stock there set put) grid in
+    marks-trans c e f
+    (marks-trans c d e (subst (MarksChanges c) (sym set) (marks-lent c n h)) (marks_by d e _ put put_marks (marks-region (λ r. restocked r item stock) d region)))
+    (marks_by e f _ booked booked_marks (marks-amount things e entry Money z e_grid (omega arith)))

@@ -1,0 +1,159 @@
+-- SELL and BUY: units trade items with the markets of their regions. See docs/RULES.md, "Pots".
+use Rattle.std.specs.Prelude.{◌+◌, ◌-◌, ◌*◌, ◌/◌, ◌==◌, ℕ, Bool, true, false, min, pos, neg_ℤ, nat_lt, Option, Some, None, option_and_then, [], ◌∷◌}
+use Rattle.std.specs.Option.{option_map_or}
+use Rattle.std.specs.Ordering.{nat_cmp}
+use Rattle.std.specs.FinMap.{FinMap, get}
+use Rattle.atl_tables.specs.ByNumber.{market_of}
+use Rattle.atl_tables.specs.Worlds.{WorldValue}
+use Rattle.atl_tables.specs.declared.world.Market.{Market}
+use Rattle.atl_orders.specs.declared.verb.Verb.{Verb}
+use Rattle.atl_orders.specs.declared.verb.Verb.TheVariants as verbs
+use Rattle.atl_state.specs.declared.books.Entry.{Entry}
+use Rattle.atl_state.specs.declared.books.Entry.TheVariants.{Bought, Sold}
+use Rattle.atl_state.specs.declared.books.Thing.TheVariants.{Money}
+use Rattle.atl_state.specs.declared.event.EventFault.{EventFault}
+use Rattle.atl_state.specs.declared.event.EventFault.TheVariants.{NoMarket, NotEnough}
+use Rattle.atl_state.specs.declared.records.Unit.{Unit}
+use Rattle.atl_state.specs.Held.{Held, amount_of, with_amount_of}
+use Rattle.atl_state.specs.Lending.{with_holding}
+use Rattle.atl_state.specs.Limits.{holding_limit}
+use Rattle.atl_state.specs.Stocks.{stock_of}
+use Rattle.atl_state.specs.Campaign.{CampaignValue, with_amount, with_stock}
+use Rattle.atl_instant.specs.Meaning.{Keeping, Meaning, Moving, moves_only}
+use Rattle.atl_instant.specs.Month.{MonthValue}
+use Rattle.atl_instant.specs.Outcomes.{first_fault}
+use Rattle.atl_instant.specs.PhaseOrders.{orders_by_unit, written_by_unit}
+use Rattle.atl_instant.specs.Terms.{PhaseTerms, books_money}
+use Rattle.atl_market.specs.declared.trade.Deal.{Deal}
+use Rattle.atl_market.specs.declared.trade.Trade.{Trade}
+use Rattle.atl_market.specs.declared.trade.Trade.TheVariants.{Sell, Buy}
+use Rattle.atl_market.specs.Asking.{asked_of, count_in, item_in}
+use Rattle.atl_market.specs.ItemPots.{item_shares}
+use Rattle.atl_market.specs.PotPhase.{PotMeaning, pots_meaning}
+use Rattle.atl_market.specs.Unordered.{spares_unordered}
+
+abbrev pub is_trade : Trade → Verb → Bool
+is_trade Sell verbs.Sell = true
+is_trade Buy verbs.Buy = true
+is_trade trade verb = false
+
+-- the market of a unit's region for the item that the unit is told to trade
+abbrev pub market_for : WorldValue → Unit → (item : Option ℕ) → Option Market
+market_for w u item = option_and_then (market_of w u.region) item
+
+-- ---- who trades
+
+-- none of the item to sell, or too little money to buy one
+abbrev pub has_too_little : Trade → Held → Market → Bool
+has_too_little Sell h m = amount_of h.items m.item == 0
+has_too_little Buy h m = nat_lt h.money m.price
+
+-- why a unit doesn't trade
+abbrev pub trade_fault : Trade → Held → Option Market → Option EventFault
+trade_fault trade h None = Some NoMarket
+trade_fault trade h (Some m) = first_fault ((has_too_little trade h m, NotEnough) ∷ [])
+
+-- SELL: as many as it has, and as it has room for the money of. BUY: as many as it can pay for, and as it has room for.
+abbrev pub most_traded : Trade → Held → Market → ℕ
+most_traded Sell h m = min (amount_of h.items m.item) ((holding_limit - h.money) / m.pays)
+most_traded Buy h m = min (h.money / m.price) (holding_limit - amount_of h.items m.item)
+
+-- how many of them a unit wants to trade that is told to trade so many
+abbrev pub trade_wanted : Trade → Held → (told : ℕ) → Option Market → ℕ
+trade_wanted trade h told None = 0
+trade_wanted trade h told (Some m) = min told (most_traded trade h m)
+
+-- ---- the pots
+
+-- SELL: as many as the stock is below the market's limit. BUY: the stock.
+abbrev pub pot_by : Trade → (limit stock : ℕ) → ℕ
+pot_by Sell limit stock = limit - stock
+pot_by Buy limit stock = stock
+
+-- how many of an item a region's market takes at most; where there is none, 0
+abbrev pub limit_of : WorldValue → (item region : ℕ) → ℕ
+limit_of w item region = option_map_or (λ m. m.limit) (market_of w region item) 0
+
+-- the pot of an item and a region
+abbrev pub trade_pot : Trade → WorldValue → CampaignValue → (item region : ℕ) → ℕ
+trade_pot trade w c item region = pot_by trade (limit_of w item region) (stock_of c region item)
+
+-- ---- what changes
+
+-- what a trade of so many leaves of a unit's money, of how much it has of the item, and of the stock, and what is booked
+abbrev pub deal_of : Trade → Held → (stock share : ℕ) → Market → Deal
+deal_of Sell h stock share m = record {
+  money = h.money + share * m.pays;
+  amount = amount_of h.items m.item - share;
+  stock = stock + share;
+  booked = pos (share * m.pays);
+}
+deal_of Buy h stock share m = record {
+  money = h.money - share * m.price;
+  amount = amount_of h.items m.item + share;
+  stock = stock - share;
+  booked = neg_ℤ (pos (share * m.price));
+}
+
+-- the entry under which it is booked, of money
+abbrev pub trade_entry : Trade → Entry
+trade_entry Sell = Sold
+trade_entry Buy = Bought
+
+abbrev pub with_deal : Held → (item : ℕ) → Deal → Held
+with_deal h item d = record h { money = d.money; items = with_amount_of h.items item d.amount }
+
+-- a unit, the stock of its region, and the books as a deal leaves them
+abbrev pub dealt : CampaignValue → ℕ → Unit → (item : ℕ) → Entry → Deal → CampaignValue
+dealt c n u item entry d = with_amount (with_stock (with_holding c n (with_deal u.holding item d)) u.region item d.stock) entry Money d.booked
+
+abbrev pub traded_at : Trade → CampaignValue → ℕ × ℕ → Unit → Option Market → CampaignValue
+traded_at trade c e u None = c
+traded_at trade c e u (Some m) = dealt c e.0 u m.item (trade_entry trade) (deal_of trade u.holding (stock_of c u.region m.item) e.1 m)
+
+abbrev pub traded_by : Trade → FinMap nat_cmp ℕ → WorldValue → CampaignValue → ℕ × ℕ → Option Unit → CampaignValue
+traded_by trade items w c e None = c
+traded_by trade items w c e (Some u) = traded_at trade c e u (market_for w u (get items e.0))
+
+-- a unit, by its number, trades so many of its item
+unfoldable pub traded : Trade → FinMap nat_cmp ℕ → WorldValue → CampaignValue → ℕ × ℕ → CampaignValue
+traded trade items w c e = traded_by trade items w c e (get c.units e.0)
+
+-- ---- the phases
+
+-- By the item that each unit is told to trade, and by how many. A unit is told how many it traded.
+abbrev pub trade_pots : Trade → (items counts : FinMap nat_cmp ℕ) → PotMeaning
+trade_pots trade items counts = record {
+  fault = λ w u o. trade_fault trade u.holding (market_for w u (get items o.unit));
+  want = λ w u o. trade_wanted trade u.holding (amount_of counts o.unit) (market_for w u (get items o.unit));
+  given = λ w c wants. item_shares (get items) (trade_pot trade w c) wants c;
+  told = λ w u share. share;
+  paid = traded trade items;
+}
+
+abbrev pub trade_asked : Trade → CampaignValue → MonthValue → PotMeaning
+trade_asked trade c m =
+    let orders = orders_by_unit (is_trade trade) m in
+    trade_pots trade (asked_of item_in c orders) (asked_of count_in c orders)
+
+abbrev pub trade_meaning : Trade → Meaning
+trade_meaning trade = pots_meaning (trade_asked trade) (λ c m. written_by_unit (is_trade trade) m)
+
+abbrev pub trade_moves : Trade → ℕ → Moving
+trade_moves trade most = moves_only most (trade_entry trade) Money
+
+-- trading takes nothing from a unit whose own faction wrote no order of it
+abbrev pub trade_keeps : Trade → Keeping
+trade_keeps trade = spares_unordered (is_trade trade)
+
+abbrev pub is_sell : Verb → Bool
+is_sell = is_trade Sell
+
+abbrev pub is_buy : Verb → Bool
+is_buy = is_trade Buy
+
+abbrev pub sell_terms : PhaseTerms
+sell_terms = books_money Sold (trade_meaning Sell) (trade_keeps Sell)
+
+abbrev pub buy_terms : PhaseTerms
+buy_terms = books_money Bought (trade_meaning Buy) (trade_keeps Buy)

@@ -1,0 +1,60 @@
+-- For proofs alone: when a unit can trade.
+use Rattle.std.specs.Prelude.{⊤, ◌≡◌, ◌≤◌, ◌+◌, ◌*◌, ℕ, Option, Some, None}
+use Rattle.std.specs.Ordering.{nat_cmp}
+use Rattle.std.specs.FinMap.{FinMap, get}
+use Rattle.atl_tables.specs.Limits.{most_amount}
+use Rattle.atl_tables.specs.Worlds.{IsWorld, WorldValue}
+use Rattle.atl_tables.specs.declared.world.Market.{Market}
+use Rattle.atl_state.specs.declared.books.Entry.{Entry}
+use Rattle.atl_state.specs.declared.books.Thing.TheVariants.{Money}
+use Rattle.atl_state.specs.declared.records.Unit.{Unit}
+use Rattle.atl_state.specs.Books.{IsGrid, IsWithin, amount_in}
+use Rattle.atl_state.specs.Good.{IsEarly}
+use Rattle.atl_state.specs.Held.{Held, amount_of}
+use Rattle.atl_state.specs.Limits.{holding_limit}
+use Rattle.atl_state.specs.Campaign.{CampaignValue}
+use Rattle.atl_instant.specs.Meaning.{HaveRoom, HasRoom}
+use Rattle.atl_market.specs.declared.trade.Deal.{Deal}
+use Rattle.atl_market.specs.declared.trade.Trade.{Trade}
+use Rattle.atl_market.specs.declared.trade.Trade.TheVariants.{Sell, Buy}
+use Rattle.atl_market.specs.Payable.{IsSomewhere}
+use Rattle.atl_market.specs.Trade.{market_for, trade_moves}
+
+-- a unit has so many of the item to sell and room for their money, or can pay for them and has room for them
+abbrev pub CanDeal : Trade → Held → (share : ℕ) → Option Market → Type 0
+CanDeal trade h share None = share ≡ 0
+CanDeal Sell h share (Some m) = (share ≤ amount_of h.items m.item) × (h.money + share * m.pays ≤ holding_limit)
+CanDeal Buy h share (Some m) = (share * m.price ≤ h.money) × (amount_of h.items m.item + share ≤ holding_limit)
+
+-- the market takes them, or has them
+abbrev pub HasPot : Trade → (stock share : ℕ) → Option Market → Type 0
+HasPot trade stock share None = ⊤
+HasPot Sell stock share (Some m) = stock + share ≤ m.limit
+HasPot Buy stock share (Some m) = share ≤ stock
+
+-- a market's prices and its limit
+pub record IsPriced (m : Market) : Type 0 where
+  pub price : 1 ≤ m.price
+  pub pays : 1 ≤ m.pays
+  pub limit : m.limit ≤ most_amount
+
+-- a unit, by its number, can trade so many of its item
+pub record CanTrade (trade : Trade) (items : FinMap nat_cmp ℕ) (w : WorldValue) (c : CampaignValue) (e : ℕ × ℕ) : Type 0 where
+  pub at : IsSomewhere c e.0
+  pub deal : CanDeal trade at.unit.holding e.1 (market_for w at.unit (get items e.0))
+  pub pot : (m : Market) → market_for w at.unit (get items e.0) ≡ Some m → HasPot trade (amount_of at.region.stocks m.item) e.1 (Some m)
+  pub world : IsWorld w
+  pub early : IsEarly w c
+  pub room : HaveRoom (trade_moves trade holding_limit) c
+
+-- a deal is within the limits of a unit, and can be booked
+pub record CanSettle (c : CampaignValue) (n : ℕ) (entry : Entry) (d : Deal) : Type 0 where
+  pub unit : Unit
+  pub there : get c.units n ≡ Some unit
+  pub money : d.money ≤ holding_limit
+  pub amount : d.amount ≤ holding_limit
+  pub things : ℕ
+  pub some : 2 ≤ things
+  pub grid : IsGrid things c.books
+  pub small : IsWithin holding_limit d.booked
+  pub room : HasRoom holding_limit (amount_in c.books entry Money)

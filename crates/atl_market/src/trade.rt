@@ -1,0 +1,423 @@
+//! SELL and BUY: units trade items with the markets of their regions.
+ghost use Rattle.std.specs.Prelude.{◌≡◌, ◌≤◌, ◌+◌, ◌*◌, IfOk, IfSome, OnOk, Some};
+ghost use Rattle.std.specs.FinMap as finmap;
+ghost use Rattle.std.specs.Option.{option_copied};
+ghost use Rattle.atl_tables.specs.Limits.{most_amount};
+ghost use Rattle.atl_state.specs.Covers.{MarksChanges};
+ghost use Rattle.atl_state.specs.Good.{IsEarly};
+ghost use Rattle.atl_state.specs.Held.{with_amount_of};
+ghost use Rattle.atl_state.specs.Limits.{holding_limit};
+ghost use Rattle.atl_state.specs.declared.records.Unit.{Unit};
+ghost use Rattle.atl_instant.specs.Holdings.{ChangesHolding};
+ghost use Rattle.atl_instant.specs.Meaning.{HaveRoom, LeavesWell, most_moved};
+ghost use Rattle.atl_instant.specs.PhaseOrders.{orders_by_unit, written_by_unit};
+ghost use Rattle.atl_market.specs.Asking.{asked_of, count_in, item_in};
+ghost use Rattle.atl_market.specs.Trade.{deal_of, dealt, has_too_little, is_buy, is_sell, is_trade, limit_of, market_for, most_traded, trade_entry, trade_fault, trade_keeps, trade_meaning, trade_moves, trade_pot, trade_pots, traded};
+ghost use Rattle.atl_market.specs.Trading.{CanDeal, CanSettle, CanTrade, HasPot, IsPriced};
+ghost use Rattle.atl_market.specs.declared.trade.Trade.TheVariants as trades;
+
+use crate::asking::{counts_found, items_found};
+use crate::item_pots::{ItemPots, item_shares};
+use crate::pot_phase::{PotPhase, share_out, tell_all};
+use crate::produce::world_is_sound;
+use atl_instant::{Arrangement, Month, Phase, PhaseVerbs, Written};
+use atl_orders::Verb;
+use atl_state::{Campaign, Entry, EventFault, HOLDING_LIMIT, Holding, Thing, Unit};
+use atl_tables::{Market, Numbered, World};
+use std::alloc::{AllocError, Global};
+
+/// Selling: units sell items to the markets of their regions.
+#[derive(Drop, Clone, Copy)]
+pub struct SellPhase;
+
+/// Buying: units buy items of the markets of their regions.
+#[derive(Drop, Clone, Copy)]
+pub struct BuyPhase;
+
+/// What a unit does with the market of its region.
+#[derive(Drop, Clone, Copy, Debug)]
+pub(crate) enum Trade {
+    Sell,
+    Buy,
+}
+
+/// What a trade leaves.
+#[derive(Drop, Clone, Copy, Debug)]
+pub(crate) struct Deal {
+    /// The unit's money.
+    pub money: u32,
+    /// How much the unit has of the item.
+    pub amount: u32,
+    /// How much of it the region has in stock.
+    pub stock: u32,
+    /// What is booked of money.
+    pub booked: i64,
+}
+
+impl Trade {
+    /// The entry of the books under which the money of a trade is booked.
+    fn entry(self) -> Entry
+        ensures { result ≡ trade_entry self }
+    {
+        match self {
+            Trade::Sell => Entry::Sold,
+            Trade::Buy => Entry::Bought,
+        }
+    }
+}
+
+/// The market of a unit's region for the item that the unit is told to trade.
+fn market_for<'a>(world: &'a World, unit: &Unit, item: Option<u16>) -> Option<&'a Market>
+    ensures value { option_copied result ≡ market_for world.now unit.now item }
+    ensures bounds { IfSome result (λ market. IsPriced market.now) }
+{
+    world.market(unit.region, item?)
+}
+
+/// Whether a unit has none of an item to sell, or too little money to buy one.
+fn has_too_little(trade: Trade, holding: &Holding, market: &Market) -> bool
+    ensures { result ≡ has_too_little trade holding.now market.now }
+{
+    match trade {
+        Trade::Sell => holding.amount(u32::from(market.item)) == 0,
+        Trade::Buy => holding.money() < market.price,
+    }
+}
+
+/// Why a unit doesn't trade.
+fn trade_fault(trade: Trade, holding: &Holding, market: Option<&Market>) -> Option<EventFault>
+    ensures { result ≡ trade_fault trade holding.now (option_copied market.entry) }
+{
+    let Some(market) = market else {
+        return Some(EventFault::NoMarket);
+    };
+    if has_too_little(trade, holding, market) {
+        Some(EventFault::NotEnough)
+    } else {
+        None
+    }
+}
+
+/// How many of an item a unit can trade, at most 999,999,999.
+fn most_traded(trade: Trade, holding: &Holding, market: &Market) -> u32
+    requires { IsPriced market.now }
+    ensures value { result ≡ most_traded trade holding.now market.now }
+    ensures bound { result ≤ most_amount }
+{
+    let held = holding.amount(u32::from(market.item));
+    let money = holding.money();
+    match trade {
+        Trade::Sell => held.min(HOLDING_LIMIT.saturating_sub(money) / market.pays),
+        Trade::Buy => (money / market.price).min(HOLDING_LIMIT.saturating_sub(held)),
+    }
+}
+
+/// What a trade of so many leaves of what a unit holds and of the stock.
+fn deal_of(trade: Trade, holding: &Holding, stock: u32, share: u32, market: &Market) -> Deal
+    requires holder { CanDeal trade holding.now share (Some market.now) }
+    requires pot { HasPot trade stock share (Some market.now) }
+    requires priced { IsPriced market.now }
+    ensures { result ≡ deal_of trade holding.now stock share market.now }
+{
+    let money = holding.money();
+    let amount = holding.amount(u32::from(market.item));
+    match trade {
+        Trade::Sell => {
+            let paid = share * market.pays;
+            Deal {
+                money: money + paid,
+                amount: amount - share,
+                stock: stock + share,
+                booked: i64::from(paid),
+            }
+        }
+        Trade::Buy => {
+            let paid = share * market.price;
+            Deal {
+                money: money - paid,
+                amount: amount + share,
+                stock: stock - share,
+                booked: -i64::from(paid),
+            }
+        }
+    }
+}
+
+/// Sets the money of a unit that is there, and how much of an item it has.
+fn set_goods(
+    campaign: &mut Campaign,
+    number: u32,
+    item: u32,
+    money: u32,
+    amount: u32,
+) -> Result<(), AllocError>
+    requires money { money ≤ holding_limit }
+    requires amount { amount ≤ holding_limit }
+    ensures { OnOk result (ChangesHolding campaign.old campaign.new number (λ h. record h { money = money; items = with_amount_of h.items item amount })) }
+{
+    match campaign.unit_mut(number) {
+        Some(holding) => {
+            holding.set_money(money);
+            holding.set_amount(item, amount)
+        }
+        None => Ok(()),
+    }
+}
+
+/// A unit of a region, the region's stock and the books become what a deal leaves of them. AllocError without memory; the
+/// campaign may then be changed in part.
+fn settle(
+    campaign: &mut Campaign,
+    number: u32,
+    region: u32,
+    item: u32,
+    entry: Entry,
+    deal: Deal,
+) -> Result<(), AllocError>
+    requires { CanSettle campaign.old.value number entry deal }
+    ensures what { OnOk result ((u : Unit) → finmap.get campaign.old.value.units number ≡ Some u → u.region ≡ region → campaign.new.value ≡ dealt campaign.old.value number u item entry deal) }
+    ensures marks { OnOk result (MarksChanges campaign.old campaign.new) }
+{
+    set_goods(campaign, number, item, deal.money, deal.amount)?;
+    campaign.set_stock(region, item, deal.stock)?;
+    campaign.book(entry, Thing::Money, deal.booked);
+    Ok(())
+}
+
+/// How many of an item a region's market takes at most; where there is none, 0.
+fn limit_of(world: &World, item: u32, region: u32) -> u32
+    ensures value { result ≡ limit_of world.now item region }
+    ensures bound { result ≤ most_amount }
+{
+    let Some(plan) = world.region(region) else {
+        return 0;
+    };
+    match plan.markets.get(item) {
+        Some(market) => market.limit,
+        None => 0,
+    }
+}
+
+/// The stocks of the markets, or what is missing of them, for the units that are told to trade.
+#[derive(Drop)]
+struct Tradable<'a> {
+    trade: Trade,
+    world: &'a World,
+    campaign: &'a Campaign,
+    items: &'a Numbered<u16>,
+}
+
+impl<'a> ItemPots for Tradable<'a> {
+    ghost item_of = { λ pots. finmap.get pots.items.now };
+
+    ghost pot_of = { λ pots. trade_pot pots.trade pots.world.now pots.campaign.now.value };
+
+    ghost ready = { λ pots. IsEarly pots.world.now pots.campaign.now.value };
+
+    fn item(&self, unit: u32) -> Option<u16> {
+        self.items.get(unit).copied()
+    }
+
+    fn pot(&self, item: u32, region: u32) -> u64 {
+        let stock = self.campaign.stock(region, item);
+        world_is_sound(self.world);
+        match self.trade {
+            Trade::Sell => { u64::from(limit_of(self.world, item, region).saturating_sub(stock)) }
+            Trade::Buy => u64::from(stock),
+        }
+    }
+}
+
+/// Trading by the item that each unit is told to trade, and by how many.
+#[derive(Drop, Clone, Copy)]
+struct MailedTrading<'a> {
+    trade: Trade,
+    items: &'a Numbered<u16>,
+    counts: &'a Numbered<u32>,
+}
+
+impl<'a> PotPhase for MailedTrading<'a> {
+    ghost meaning = { λ p. trade_pots p.trade p.items.now p.counts.now };
+
+    ghost needs = { λ _. IsEarly };
+
+    ghost can_pay = { λ p. CanTrade p.trade p.items.now };
+
+    fn fault(&self, world: &World, unit: &Unit, order: Written) -> Option<EventFault> {
+        let market = market_for(world, unit, self.items.get(order.unit).copied());
+        trade_fault(self.trade, &unit.holding, market)
+    }
+
+    fn want(&self, world: &World, unit: &Unit, order: Written) -> u32 {
+        let told = self.counts.get(order.unit).copied().unwrap_or(0);
+        match market_for(world, unit, self.items.get(order.unit).copied()) {
+            Some(market) => told.min(most_traded(self.trade, &unit.holding, market)),
+            None => 0,
+        }
+    }
+
+    fn given(
+        &self,
+        alloc: Global,
+        world: &World,
+        campaign: &Campaign,
+        wants: &Numbered<u32>,
+    ) -> Result<Numbered<u32>, AllocError> {
+        let pots = Tradable {
+            trade: self.trade,
+            world,
+            campaign,
+            items: self.items,
+        };
+        let given = item_shares(alloc, campaign, &pots, wants)?;
+        Ok(given)
+    }
+
+    fn told(&self, _world: &World, _unit: &Unit, share: u32) -> u64 {
+        u64::from(share)
+    }
+
+    #[tactic(auto, unfolding(crate::specs::Trade::traded))]
+    fn pay(
+        &self,
+        world: &World,
+        campaign: &mut Campaign,
+        number: u32,
+        share: u32,
+    ) -> Result<(), AllocError> {
+        let Some(unit) = campaign.unit(number) else {
+            return Ok(());
+        };
+        let Some(market) = market_for(world, unit, self.items.get(number).copied()) else {
+            return Ok(());
+        };
+        let region = unit.region;
+        let item = u32::from(market.item);
+        let stock = campaign.stock(region, item);
+        let deal = deal_of(self.trade, &unit.holding, stock, share, market);
+        settle(campaign, number, region, item, self.trade.entry(), deal)
+    }
+}
+
+/// By unit, the item that its own faction tells it to trade by these orders of a month.
+fn items_asked(
+    alloc: Global,
+    trade: Trade,
+    campaign: &Campaign,
+    month: &Month,
+    orders: &[Written],
+) -> Result<Numbered<u16>, AllocError>
+    requires { orders.now ≡ written_by_unit (is_trade trade) month.now }
+    ensures { IfOk result (λ asked. asked ≡ asked_of item_in campaign.now.value (orders_by_unit (is_trade trade) month.now)) }
+{
+    let asked = items_found(alloc, campaign, month, orders)?;
+    Ok(asked)
+}
+
+/// By unit, how many its own faction tells it to trade by these orders of a month.
+fn counts_asked(
+    alloc: Global,
+    trade: Trade,
+    campaign: &Campaign,
+    month: &Month,
+    orders: &[Written],
+) -> Result<Numbered<u32>, AllocError>
+    requires { orders.now ≡ written_by_unit (is_trade trade) month.now }
+    ensures { IfOk result (λ asked. asked ≡ asked_of count_in campaign.now.value (orders_by_unit (is_trade trade) month.now)) }
+{
+    let asked = counts_found(alloc, campaign, month, orders)?;
+    Ok(asked)
+}
+
+/// All units trade at once by the orders of a month for it.
+fn trade_all(
+    alloc: Global,
+    trade: Trade,
+    world: &World,
+    mut campaign: Campaign,
+    mut month: Month,
+    orders: &[Written],
+) -> Result<(Campaign, Month), AllocError>
+    requires orders { orders.now ≡ written_by_unit (is_trade trade) month }
+    requires early { IsEarly world.now campaign.value }
+    requires room { HaveRoom (trade_moves trade most_moved) campaign.value }
+    ensures meaning { IfOk result (λ r. (r.0.value, r.1) ≡ trade_meaning trade world.now campaign.value month) }
+    ensures leaves { IfOk result (λ r. LeavesWell IsEarly (trade_moves trade most_moved) world.now campaign.value r.0.value) }
+    ensures keeps { IfOk result (λ r. trade_keeps trade world.now month campaign.value r.0.value) }
+    ensures readings { IfOk result (λ r. r.1.readings ≡ month.readings) }
+    ensures marks { IfOk result (λ r. MarksChanges campaign r.0) }
+{
+    let items = items_asked(alloc, trade, &campaign, &month, orders)?;
+    let counts = counts_asked(alloc, trade, &campaign, &month, orders)?;
+    world_is_sound(world);
+    let trading = MailedTrading {
+        trade,
+        items: &items,
+        counts: &counts,
+    };
+    let events = share_out(alloc, &trading, world, &mut campaign, orders)?;
+    tell_all(&mut month, &events)?;
+    Ok((campaign, month))
+}
+
+impl PhaseVerbs for SellPhase {
+    ghost is_of = { is_sell };
+
+    fn has(&self, verb: Verb) -> bool {
+        matches!(verb, Verb::Sell)
+    }
+}
+
+impl Phase for SellPhase {
+    ghost meaning = { trade_meaning trades.Sell };
+
+    ghost needs = { IsEarly };
+
+    ghost leaves = { IsEarly };
+
+    ghost moving = { trade_moves trades.Sell most_moved };
+
+    ghost keeps = { trade_keeps trades.Sell };
+
+    fn run(
+        &self,
+        alloc: Global,
+        world: &World,
+        campaign: Campaign,
+        month: Month,
+    ) -> Result<(Campaign, Month), AllocError> {
+        let orders = month.orders(alloc, self, Arrangement::ByUnit)?;
+        trade_all(alloc, Trade::Sell, world, campaign, month, &orders)
+    }
+}
+
+impl PhaseVerbs for BuyPhase {
+    ghost is_of = { is_buy };
+
+    fn has(&self, verb: Verb) -> bool {
+        matches!(verb, Verb::Buy)
+    }
+}
+
+impl Phase for BuyPhase {
+    ghost meaning = { trade_meaning trades.Buy };
+
+    ghost needs = { IsEarly };
+
+    ghost leaves = { IsEarly };
+
+    ghost moving = { trade_moves trades.Buy most_moved };
+
+    ghost keeps = { trade_keeps trades.Buy };
+
+    fn run(
+        &self,
+        alloc: Global,
+        world: &World,
+        campaign: Campaign,
+        month: Month,
+    ) -> Result<(Campaign, Month), AllocError> {
+        let orders = month.orders(alloc, self, Arrangement::ByUnit)?;
+        trade_all(alloc, Trade::Buy, world, campaign, month, &orders)
+    }
+}

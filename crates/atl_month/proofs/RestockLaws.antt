@@ -1,0 +1,275 @@
+-- What the restocking of a region's markets leaves.
+use Rattle.std.proofs.Common.{◌≡◌, ◌≢◌, ◌==◌, ◌&&◌, ⊥, ℕ, ◌+◌, ◌-◌, ◌*◌, ◌≤◌, ◌<◌, min, Bool, true, false, cond, Option, Some, None, List, [], ◌∷◌, refl, sym, ap, subst, ◌∙◌, arith}
+use Rattle.std.specs.Prelude.{ℤ, pos, ◌+ℤ◌, fold, is_some, option_and_then, unwrap_or, if◌then◌else◌}
+use Rattle.std.specs.declared.cmp.Ordering.TheVariants.{Less}
+use Rattle.std.specs.Ordering.{nat_cmp, is_lt}
+use Rattle.std.specs.Cmp.{ranked}
+use Rattle.std.specs.FinMap.{FinMap, empty, entries, get, is_sorted}
+use Rattle.std.specs.FinMap.Entries.{below_all}
+use Rattle.std.specs.Option.{option_map_or}
+use Rattle.std.proofs.lemmas.Bool.{and_parts}
+use Rattle.std.proofs.lemmas.Bool.Decides.{nat_tests}
+use Rattle.std.proofs.lemmas.Int.{ints}
+use Rattle.atl_tables.specs.Worlds.{WorldValue, IsMarket, IsWorld}
+use Rattle.atl_tables.specs.Limits.{most_amount}
+use Rattle.atl_tables.specs.declared.world.Market.{Market}
+use Rattle.atl_tables.specs.declared.world.RegionPlan.{RegionPlan}
+use Rattle.atl_tables.specs.ByNumber.{market_of}
+use Rattle.atl_state.specs.declared.books.Entry.{Entry}
+use Rattle.atl_state.specs.declared.books.Entry.TheVariants.{Stocked}
+use Rattle.atl_state.specs.declared.books.Thing.{Thing}
+use Rattle.atl_state.specs.declared.books.Thing.TheVariants.{Money, People, Item}
+use Rattle.atl_state.specs.declared.records.Region.{Region}
+use Rattle.atl_state.specs.Limits.{entry_count}
+use Rattle.atl_state.specs.Books.{IsGrid, amount_in, booked, entry_place, thing_at, thing_place, with_booked}
+use Rattle.atl_state.specs.Campaign.{MarkedCampaign, CampaignValue, with_amount, with_stock}
+use Rattle.atl_state.specs.Covers.{MarksChanges}
+use Rattle.atl_state.specs.Deciding.{EachOf}
+use Rattle.atl_state.specs.Founding.{things_of}
+use Rattle.atl_state.specs.Good.{IsSteady, IsThere}
+use Rattle.atl_state.specs.Held.{amount_of, with_amount_of}
+use Rattle.atl_state.specs.Marking.{mark_amount, mark_region}
+use Rattle.atl_state.specs.Marks.{amount_number}
+use Rattle.atl_state.specs.Stocks.{stock_limit, stock_of}
+use Rattle.atl_state.specs.Totals.{Balances, kept, total}
+use Rattle.atl_state.proofs.BookLaws.{at_place, booked-with_booked, share_of}
+use Rattle.atl_state.proofs.CoverLaws.{marks-amount, marks-region, marks-trans}
+use Rattle.atl_state.proofs.EveryEntryLaws.{entry_small}
+use Rattle.atl_state.proofs.EveryLaws.{each_of, each-from_every, sorted}
+use Rattle.atl_state.proofs.RegionLaws.{steady-amount, total-amount}
+use Rattle.atl_state.proofs.StockLaws.{steady-stock, total-stock, total-stock_other}
+use Rattle.atl_instant.specs.Meaning.{HaveRoom, IsNear, LeavesWell, Moving, both_move, moves_only}
+use Rattle.atl_instant.proofs.BookingLaws.{booked-near, within-pos}
+use Rattle.atl_instant.proofs.MarkLaws.{marks_by}
+use Rattle.atl_instant.proofs.MeaningLaws.{both_leave_well, room_behind, room_less, same_month, well_unchanged, well_within}
+use Rattle.atl_month.specs.Restock.{is_item, market_restocked, markets_of, restock, restocked, stocks_by, with_more_stock}
+
+-- ---- how far new goods move the books
+
+-- so much of the item of each market
+abbrev pub stocking : List (ℕ × Market) → Moving
+stocking [] e t = 0
+stocking (x ∷ xs) e t = moves_only most_amount Stocked (Item x.0) e t + stocking xs e t
+
+-- the goods of an item move its own amount alone
+one_stocked : (k : ℕ) (e : Entry) (t : Thing) → moves_only most_amount Stocked (Item k) e t ≤ (if (entry_place e == entry_place Stocked) && (thing_place t == 2 + k) then most_amount else 0)
+one_stocked k e t = by_number (amount_number e t == amount_number Stocked (Item k)) refl
+  where
+    at_place : (a b : Bool) → a ≡ true → b ≡ true → most_amount ≤ (if a && b then most_amount else 0)
+    at_place true true f g = omega arith
+    at_place true false f g = cc
+    at_place false b f g = cc
+
+    by_number : (b : Bool) → (amount_number e t == amount_number Stocked (Item k)) ≡ b → (if b then most_amount else 0) ≤ (if (entry_place e == entry_place Stocked) && (thing_place t == 2 + k) then most_amount else 0)
+    by_number true is =
+        let same : entry_count * thing_place t + entry_place e ≡ entry_count * (2 + k) + entry_place Stocked = grind (arith, nat_tests) in
+        let small = entry_small e in
+        let small_stocked = entry_small Stocked in
+        let thing : thing_place t ≡ 2 + k = omega arith in
+        let entry : entry_place e ≡ entry_place Stocked = omega arith in
+        at_place (entry_place e == entry_place Stocked) (thing_place t == 2 + k) (let f : (entry_place e == entry_place Stocked) ≡ true = grind (arith, nat_tests) in f) (let g : (thing_place t == 2 + k) ≡ true = grind (arith, nat_tests) in g)
+    by_number false is = omega arith
+
+-- nothing of it, where the item is another
+no_part : (a b : Bool) (n : ℕ) → b ≡ false → n ≤ (if a && b then most_amount else 0) → n ≡ 0
+no_part true true n f l = cc
+no_part true false n f l = omega (arith, l)
+no_part false b n f l = omega (arith, l)
+
+other_item : (k : ℕ) (e : Entry) (t : Thing) → (thing_place t == 2 + k) ≡ false → moves_only most_amount Stocked (Item k) e t ≡ 0
+other_item k e t apart = no_part (entry_place e == entry_place Stocked) (thing_place t == 2 + k) (moves_only most_amount Stocked (Item k) e t) apart (one_stocked k e t)
+
+sum_of_none : (n y : ℕ) → n ≡ 0 → y ≡ 0 → n + y ≡ 0
+sum_of_none n y e f = omega (arith, e, f)
+
+-- a thing is the item of none of these markets, whose items are above it
+none_above : (k : ℕ) (xs : List (ℕ × Market)) (e : Entry) (t : Thing) → thing_place t ≡ 2 + k → below_all nat_cmp k xs ≡ true → stocking xs e t ≡ 0
+none_above k [] e t at above = refl
+none_above k (x ∷ xs) e t at above =
+    let both = and_parts (is_lt (nat_cmp k x.0)) (below_all nat_cmp k xs) above in
+    let first : k < x.0 = is_below k x.0 both.0 in
+    sum_of_none (moves_only most_amount Stocked (Item x.0) e t) (stocking xs e t) (other_item x.0 e t (grind (arith, nat_tests))) (none_above k xs e t at both.1)
+  where
+    is_below : (a b : ℕ) → is_lt (nat_cmp a b) ≡ true → a < b
+    is_below a b h = grind (arith, nat_tests)
+
+-- of the markets of a region, each has an item of its own
+little : (xs : List (ℕ × Market)) → is_sorted nat_cmp xs ≡ true → (e : Entry) (t : Thing) → stocking xs e t ≤ (if entry_place e == entry_place Stocked then most_amount else 0)
+little [] rising e t = omega arith
+little (x ∷ xs) rising e t = by_thing (thing_place t == 2 + x.0) refl
+  where
+    bound : ℕ
+    bound = if entry_place e == entry_place Stocked then most_amount else 0
+
+    head : (a b : Bool) (n : ℕ) → n ≤ (if a && b then most_amount else 0) → n ≤ (if a then most_amount else 0)
+    head true true n l = l
+    head true false n l = omega (arith, l)
+    head false b n l = l
+
+    alone : (n y z : ℕ) → n ≤ z → y ≡ 0 → n + y ≤ z
+    alone n y z l e = omega (arith, l, e)
+
+    behind : (n y z : ℕ) → n ≡ 0 → y ≤ z → n + y ≤ z
+    behind n y z e l = omega (arith, l, e)
+
+    by_thing : (b : Bool) → (thing_place t == 2 + x.0) ≡ b → moves_only most_amount Stocked (Item x.0) e t + stocking xs e t ≤ (if entry_place e == entry_place Stocked then most_amount else 0)
+    by_thing true is =
+        alone (moves_only most_amount Stocked (Item x.0) e t) (stocking xs e t) bound (head (entry_place e == entry_place Stocked) (thing_place t == 2 + x.0) (moves_only most_amount Stocked (Item x.0) e t) (one_stocked x.0 e t))
+        (none_above x.0 xs e t (let at : thing_place t ≡ 2 + x.0 = grind (arith, nat_tests) in at) (and_parts _ _ rising).0)
+    by_thing false is =
+        behind (moves_only most_amount Stocked (Item x.0) e t) (stocking xs e t) bound (other_item x.0 e t is)
+        (little xs (and_parts _ _ rising).1 e t)
+
+-- and neither money nor people come into stock
+not_stocked : (xs : List (ℕ × Market)) (e : Entry) (t : Thing) → thing_place t ≤ 1 → stocking xs e t ≡ 0
+not_stocked [] e t low = refl
+not_stocked (x ∷ xs) e t low =
+    sum_of_none (moves_only most_amount Stocked (Item x.0) e t) (stocking xs e t) (other_item x.0 e t (grind (arith, nat_tests))) (not_stocked xs e t low)
+
+pub stocks_little : (xs : List (ℕ × Market)) → is_sorted nat_cmp xs ≡ true → (e : Entry) (t : Thing) → stocking xs e t ≤ stocks_by most_amount e t
+stocks_little xs rising e Money = omega (arith, not_stocked xs e Money (omega arith))
+stocks_little xs rising e People = omega (arith, not_stocked xs e People (omega arith))
+stocks_little xs rising e (Item i) = item (entry_place e == entry_place Stocked) (stocking xs e (Item i)) (little xs rising e (Item i))
+  where
+    item : (a : Bool) (n : ℕ) → n ≤ (if a then most_amount else 0) → n ≤ (if a && true then most_amount else 0)
+    item true n l = l
+    item false n l = l
+
+-- ---- a market that gets new goods
+
+-- what it lacks
+fits : (a b d : ℕ) → d ≤ b → d + min a (b - d) ≤ b
+fits a b d l = omega (arith, least a (b - d))
+  where
+    least : (x y : ℕ) → min x y ≤ y
+    least x y = omega arith
+
+module _ (w : WorldValue) (c : CampaignValue) (n i : ℕ) (m : Market) (r : Region) (here : get c.regions n ≡ Some r) (market : market_of w n i ≡ Some m) (known : IsMarket (length w.items) i m) (steady : IsSteady w c) where
+  abbrev stock : ℕ
+  stock = amount_of r.stocks i
+
+  abbrev more : ℕ
+  more = restock m stock
+
+  stock_is : stock_of c n i ≡ stock
+  stock_is = ap (λ o. option_map_or (λ (q : Region). amount_of q.stocks i) o 0) here
+
+  limit_is : stock_limit w n i ≡ m.limit
+  limit_is = ap (λ o. option_map_or (λ (k : Market). k.limit) o most_amount) market
+
+  pub stock_small : stock ≤ m.limit
+  stock_small = by_option (get r.stocks i) refl
+    where
+      by_option : (o : Option ℕ) → get r.stocks i ≡ o → unwrap_or o 0 ≤ m.limit
+      by_option None is = omega arith
+      by_option (Some amount) is = omega (arith, ((steady.numbers.regions n r here).stocks i amount is).1, limit_is)
+
+  pub stock_fits : stock + more ≤ m.limit
+  stock_fits = fits m.restock m.limit stock stock_small
+
+  inside : thing_place (Item i) < things_of w
+  inside = omega (arith, known.item, known.number_is)
+
+  abbrev filled : CampaignValue
+  filled = with_stock c n i (stock + more)
+
+  filled_steady : IsSteady w filled
+  filled_steady = steady-stock c n i (stock + more) r here w (ap is_some market) (omega (arith, stock_fits, limit_is)) steady
+
+  filled_total : (t : Thing) → total filled t ≡ total c t + cond (thing_place t == 2 + i) more 0
+  filled_total t = by_place (thing_place t == 2 + i) refl
+    where
+      added : (a b : ℕ) → a + stock ≡ b + (stock + more) → a ≡ b + more
+      added a b e = omega (arith, e)
+
+      by_place : (b : Bool) → (thing_place t == 2 + i) ≡ b → total filled t ≡ total c t + cond b more 0
+      by_place true is =
+          let place : thing_place t ≡ thing_place (Item i) = grind (arith, nat_tests) in
+          let same : t ≡ Item i = sym (at_place t) ∙ ap thing_at place ∙ at_place (Item i) in
+          subst (λ (u : Thing). total filled u ≡ total c u + more) (sym same) (added (total filled (Item i)) (total c (Item i)) (total-stock c n i (stock + more) r here))
+      by_place false is =
+          let apart : t ≢ Item i = λ same. absurd (other (ap thing_place same) is) in
+          total-stock_other c n i (stock + more) r here t apart ∙ plain (total c t)
+        where
+          other : thing_place t ≡ 2 + i → (thing_place t == 2 + i) ≡ false → ⊥
+          other e f = grind (arith, nat_tests)
+
+          plain : (k : ℕ) → k ≡ k + 0
+          plain k = omega arith
+
+  balanced : Balances c → Balances (with_amount filled Stocked (Item i) (pos more))
+  balanced old t =
+      ap pos (total-amount filled Stocked (Item i) t (pos more)) ∙ ap pos (filled_total t) ∙ added (thing_place t == 2 + i) (total c t) (booked c.books t) (old t)
+      ∙ sym (booked-with_booked (things_of w) c.books Stocked (Item i) (pos more) steady.numbers.books inside t)
+    where
+      added : (b : Bool) (x : ℕ) (z : ℤ) → pos x ≡ z → pos (x + cond b more 0) ≡ z +ℤ cond b (pos more) (pos 0)
+      added true x z e = omega (arith, ints, e)
+      added false x z e = omega (arith, ints, e)
+
+  pub market_leaves_well : LeavesWell IsSteady (moves_only most_amount Stocked (Item i)) w c (market_restocked n c (i, m))
+  unfolding market_restocked
+  market_leaves_well =
+      subst (λ s. LeavesWell IsSteady (moves_only most_amount Stocked (Item i)) w c (with_more_stock c n i s (restock m s))) (sym stock_is)
+      (record {
+        leaves_it = steady-amount w filled Stocked (Item i) (pos more) filled_steady;
+        same_month = same_month c;
+        balances = balanced;
+        near = booked-near (things_of w) c.books Stocked (Item i) (pos more) most_amount steady.numbers.books inside (within-pos more most_amount (omega (arith, stock_fits, known.limit)));
+      })
+
+-- ---- all markets of a region
+
+-- a market of the region, which stands under its item
+abbrev pub IsOf : WorldValue → (n i : ℕ) → Market → Type 0
+IsOf w n i m = (market_of w n i ≡ Some m) × IsMarket (length w.items) i m
+
+module _ (w : WorldValue) (n : ℕ) (there : IsThere w.regions n) where
+  pub one_leaves_well : (c : CampaignValue) (x : ℕ × Market) → IsOf w n x.0 x.1 → IsSteady w c → LeavesWell IsSteady (moves_only most_amount Stocked (Item x.0)) w c (market_restocked n c x)
+  one_leaves_well c x of steady = let (r, here) = (steady.known.regions n).1 there in market_leaves_well w c n x.0 x.1 r here of.0 of.1 steady
+
+  all_leave_well : (xs : List (ℕ × Market)) → EachOf (IsOf w n) xs → (c : CampaignValue) → IsSteady w c → LeavesWell IsSteady (stocking xs) w c (restocked n c xs)
+  all_leave_well [] each c steady = well_unchanged (stocking []) w c steady
+  all_leave_well (x ∷ xs) each c steady =
+      let one = one_leaves_well c x each.0 steady in
+      both_leave_well (moves_only most_amount Stocked (Item x.0)) (stocking xs) w c (market_restocked n c x) (restocked n c (x ∷ xs)) one
+      (all_leave_well xs each.1 (market_restocked n c x) one.leaves_it)
+
+module _ (w : WorldValue) (world : IsWorld w) (n : ℕ) where
+  -- the markets of a region are the world's
+  pub markets_are : (p : RegionPlan) → get w.regions n ≡ Some p → EachOf (IsOf w n) (entries p.markets)
+  markets_are p is = each-from_every (IsOf w n) p.markets (λ i m at. (ap (λ o. option_and_then (λ (q : RegionPlan). get q.markets i) o) is ∙ at, (world.regions n p is).markets i m at))
+
+  pub restocked_leaves_well : (c : CampaignValue) → IsSteady w c → LeavesWell IsSteady (stocks_by most_amount) w c (restocked n c (entries (markets_of w n)))
+  restocked_leaves_well c steady = by_plan (get w.regions n) refl
+    where
+      by_plan : (o : Option RegionPlan) → get w.regions n ≡ o → LeavesWell IsSteady (stocks_by most_amount) w c (restocked n c (entries (option_map_or (λ (p : RegionPlan). p.markets) o empty)))
+      by_plan None is = well_unchanged (stocks_by most_amount) w c steady
+      by_plan (Some p) is =
+          well_within (stocking (entries p.markets)) (stocks_by most_amount) w c (restocked n c (entries p.markets)) (stocks_little (entries p.markets) (sorted p.markets))
+          (all_leave_well w n (p, is) (entries p.markets) (markets_are p is) c steady)
+
+-- new goods change no unit
+one_keeps : (n : ℕ) (c : CampaignValue) (x : ℕ × Market) → (market_restocked n c x).units ≡ c.units
+unfolding market_restocked
+one_keeps n c x = refl
+
+pub restocked_keeps : (n : ℕ) (c : CampaignValue) (xs : List (ℕ × Market)) → (restocked n c xs).units ≡ c.units
+restocked_keeps n c [] = refl
+restocked_keeps n c (x ∷ xs) = restocked_keeps n (market_restocked n c x) xs ∙ one_keeps n c x
+
+-- ---- the code
+
+-- behind the first market there is room for the others
+pub room_for_market : (x : ℕ × Market) (xs : List (ℕ × Market)) (c : CampaignValue) → HaveRoom (stocking (x ∷ xs)) c → HaveRoom (moves_only most_amount Stocked (Item x.0)) c
+room_for_market x xs c room = room_less (moves_only most_amount Stocked (Item x.0)) (stocking (x ∷ xs)) c (λ e t. omega arith) room
+
+pub room_behind_market : (w : WorldValue) (n : ℕ) → IsThere w.regions n → (x : ℕ × Market) (xs : List (ℕ × Market)) (c : CampaignValue) → IsOf w n x.0 x.1 → IsSteady w c → HaveRoom (stocking (x ∷ xs)) c → HaveRoom (stocking xs) (market_restocked n c x)
+room_behind_market w n there x xs c of steady room = room_behind (moves_only most_amount Stocked (Item x.0)) (stocking xs) w c (market_restocked n c x) (one_leaves_well w n there c x of steady) room
+
+pub market_marks : (things stock more n i : ℕ) (c d e : MarkedCampaign) → d.value ≡ with_stock c.value n i (stock + more) → d.marks ≡ mark_region c n
+    → e.value ≡ with_amount d.value Stocked (Item i) (pos more) → e.marks ≡ mark_amount d Stocked (Item i)
+    → IsGrid things c.value.books → 2 + i < things → MarksChanges c e
+market_marks things stock more n i c d e d_is d_marks e_is e_marks grid inside =
+    let books : d.value.books ≡ c.value.books = ap (λ (s : CampaignValue). s.books) d_is in
+    marks-trans c d e (marks_by c d _ d_is d_marks (marks-region (λ r. record r { stocks = with_amount_of r.stocks i (stock + more) }) c n))
+    (marks_by d e _ e_is e_marks (marks-amount things d Stocked (Item i) (pos more) (rw books grid) inside))

@@ -1,0 +1,21 @@
+use Rattle.std.proofs.Common.{◌≡◌}
+use Rattle.std.specs.Prelude.{fold}
+use Rattle.std.specs.FinMap.{entries}
+use Rattle.atl_state.specs.Covers.{MarksChanges}
+use Rattle.atl_state.specs.Deciding.{EachOf}
+use Rattle.atl_state.specs.Good.{IsSteady}
+use Rattle.atl_instant.specs.Meaning.{HaveRoom}
+use Rattle.atl_month.specs.Restock.{market_restocked, markets_of, restocked}
+use Rattle.atl_month.proofs.RestockLaws.{IsOf, stocking}
+use Rattle.atl_month.proofs.restock.restock_region.Given as goal
+
+abbrev pub invariant-loop-item : goal.invariant-loop-item
+invariant-loop-item l = record {
+  can_next : (goal.iterator-loop-item).can_next l.item-iterator;
+  is_finite : (goal.iterator-loop-item).is_finite l.item-iterator;
+  rest : fold (market_restocked l.region) l.campaign.value l.item-iterator ≡ restocked l.region l.initial.campaign.value (entries (markets_of l.world l.region));
+  each : EachOf (IsOf l.world l.region) l.item-iterator;
+  steady : IsSteady l.world l.campaign.value;
+  room : HaveRoom (stocking l.item-iterator) l.campaign.value;
+  marks : MarksChanges l.initial.campaign l.campaign;
+}

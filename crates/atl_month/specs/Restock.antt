@@ -1,0 +1,43 @@
+-- Restocking: markets get new goods. See docs/RULES.md, "Season".
+use Rattle.std.specs.Prelude.{ℕ, pos, ◌+◌, ◌-◌, ◌==◌, ◌&&◌, min, Bool, true, false, List, fold, if◌then◌else◌}
+use Rattle.std.specs.Ordering.{nat_cmp}
+use Rattle.std.specs.FinMap.{FinMap, empty, get}
+use Rattle.std.specs.Option.{option_map_or}
+use Rattle.atl_tables.specs.Worlds.{WorldValue}
+use Rattle.atl_tables.specs.declared.world.Market.{Market}
+use Rattle.atl_state.specs.declared.books.Entry.TheVariants.{Stocked}
+use Rattle.atl_state.specs.declared.books.Thing.{Thing}
+use Rattle.atl_state.specs.declared.books.Thing.TheVariants.{Item, Money, People}
+use Rattle.atl_state.specs.Books.{entry_place}
+use Rattle.atl_state.specs.Campaign.{CampaignValue, with_amount, with_stock}
+use Rattle.atl_state.specs.Stocks.{stock_of}
+use Rattle.atl_instant.specs.Meaning.{Moving}
+
+-- the markets of a region, by their items
+abbrev pub markets_of : WorldValue → (region : ℕ) → FinMap nat_cmp Market
+markets_of w region = option_map_or (λ p. p.markets) (get w.regions region) empty
+
+-- A market gets its restock; at most up to its limit.
+abbrev pub restock : Market → (stock : ℕ) → ℕ
+restock m stock = min m.restock (m.limit - stock)
+
+-- a stock of a region with so much more, which is booked
+abbrev pub with_more_stock : CampaignValue → (region item stock more : ℕ) → CampaignValue
+with_more_stock c region item stock more = with_amount (with_stock c region item (stock + more)) Stocked (Item item) (pos more)
+
+-- a market of a region, by its item, gets new goods
+unfoldable pub market_restocked : (region : ℕ) → CampaignValue → ℕ × Market → CampaignValue
+market_restocked region c (item, m) = let stock = stock_of c region item in with_more_stock c region item stock (restock m stock)
+
+-- each of some markets, in the order of their items
+abbrev pub restocked : (region : ℕ) → CampaignValue → List (ℕ × Market) → CampaignValue
+restocked region c markets = fold (market_restocked region) c markets
+
+abbrev pub is_item : Thing → Bool
+is_item Money = false
+is_item People = false
+is_item (Item i) = true
+
+-- of each item so much at most comes into stock
+abbrev pub stocks_by : ℕ → Moving
+stocks_by most e t = if (entry_place e == entry_place Stocked) && is_item t then most else 0

@@ -1,0 +1,68 @@
+//! New goods of the markets.
+ghost use Rattle.std.specs.Prelude.{◌≡◌, ◌<◌, Some, OnOk, length};
+ghost use Rattle.std.specs.FinMap.{entries};
+ghost use Rattle.atl_tables.specs.ByNumber.{market_of};
+ghost use Rattle.atl_tables.specs.Limits.{most_amount};
+ghost use Rattle.atl_tables.specs.Worlds.{IsMarket, IsWorld};
+ghost use Rattle.atl_state.specs.Covers.{MarksChanges};
+ghost use Rattle.atl_state.specs.Good.{IsSteady, IsThere};
+ghost use Rattle.atl_state.specs.declared.books.Entry.TheVariants.{Stocked};
+ghost use Rattle.atl_state.specs.declared.books.Thing.TheVariants.{Item};
+ghost use Rattle.atl_instant.specs.Meaning.{HaveRoom, moves_only};
+ghost use Rattle.atl_month.specs.Restock.{market_restocked, markets_of, restock, restocked, stocks_by};
+
+use atl_state::{Campaign, Entry, Thing};
+use atl_tables::{Market, World};
+use std::alloc::AllocError;
+
+/// How much comes into so large a stock: the market's restock, at most up to its limit.
+fn restock(market: &Market, stock: u32) -> u32
+    ensures { result ≡ restock market.now stock }
+{
+    market.restock.min(market.limit.saturating_sub(stock))
+}
+
+/// A market gets new goods, which are booked.
+#[tactic(auto, unfolding(crate::specs::Restock::market_restocked))]
+fn restock_market(
+    world: &World,
+    campaign: &mut Campaign,
+    region: u32,
+    item: u32,
+    market: &Market,
+) -> Result<(), AllocError>
+    requires steady { IsSteady world.now campaign.old.value }
+    requires there { market_of world.now region item ≡ Some market.now }
+    requires known { IsMarket (length world.now.items) item market.now }
+    requires room { HaveRoom (moves_only most_amount Stocked (Item item)) campaign.old.value }
+    ensures what { OnOk result (campaign.new.value ≡ market_restocked region campaign.old.value (item, market.now)) }
+    ensures marks { OnOk result (MarksChanges campaign.old campaign.new) }
+{
+    let stock = campaign.stock(region, item);
+    let more = restock(market, stock);
+    campaign.set_stock(region, item, stock + more)?;
+    campaign.book(Entry::Stocked, Thing::Item(market.item), i64::from(more));
+    Ok(())
+}
+
+/// The markets of a region get new goods. AllocError without memory; the campaign may then be changed in part.
+pub(crate) fn restock_region(
+    world: &World,
+    campaign: &mut Campaign,
+    region: u32,
+) -> Result<(), AllocError>
+    requires steady { IsSteady world.now campaign.old.value }
+    requires room { HaveRoom (stocks_by most_amount) campaign.old.value }
+    ensures what { OnOk result (campaign.new.value ≡ restocked region campaign.old.value (entries (markets_of world.now region))) }
+    ensures marks { OnOk result (MarksChanges campaign.old campaign.new) }
+    ensures world { IsWorld world.now }
+{
+    let plan = match world.region(region) {
+        Some(plan) => plan,
+        None => return Ok(()),
+    };
+    for (item, market) in plan.markets.iter() {
+        restock_market(world, campaign, region, item, market)?;
+    }
+    Ok(())
+}

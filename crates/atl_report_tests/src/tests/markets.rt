@@ -1,0 +1,135 @@
+//! Reports of regions with markets. The world is the island with two markets in the wood, of which the file has the cart's first.
+use super::compare::is_text;
+use super::scenes::{Built, LODGE, MAN, NOBODY, Person, Scene, campaign_of};
+use atl_report::{report_text, view};
+use atl_tables::{World, read_world};
+use atl_test_worlds::ISLE;
+use std::alloc::Global;
+use std::process::Abort;
+use std::test::Fail;
+
+/// The markets of the wood, which is the last region of the island.
+const MARKETS: &str = r#"[[region.market]]
+item = "cart"
+price = 500
+pays = 400
+limit = 12
+restock = 1
+[[region.market]]
+item = "wood"
+price = 7
+pays = 5
+limit = 30
+restock = 20
+"#;
+
+/// A man in the wood.
+const MERCHANT: Person = Person { region: 4, ..MAN };
+
+/// What there is, and the report of the first faction.
+#[derive(Clone, Copy)]
+struct Case {
+    scene: Scene,
+    wanted: &'static str,
+}
+
+const CASES: [Case; 4] = [
+    // Nothing is in stock.
+    Case {
+        scene: Scene {
+            people: &[MERCHANT],
+            ..NOBODY
+        },
+        wanted: "Atlantis report, month 0, faction 1 \"Avalon\".
+Orders:
+None.
+Region 4 \"Wood\", forest: 100 peasants, 50 money.
+Exits: south 3.
+Market wood: 0 in stock at 7, 30 wanted at 5.
+Market cart: 0 in stock at 500, 12 wanted at 400.
+* Unit 1 \"Unit 1\": 1 men, 0 money.
+",
+    },
+    // Some, and all that there is room for.
+    Case {
+        scene: Scene {
+            people: &[MERCHANT],
+            stocks: &[(4, 1, 12), (4, 0, 25)],
+            ..NOBODY
+        },
+        wanted: "Atlantis report, month 0, faction 1 \"Avalon\".
+Orders:
+None.
+Region 4 \"Wood\", forest: 100 peasants, 50 money.
+Exits: south 3.
+Market wood: 25 in stock at 7, 5 wanted at 5.
+Market cart: 12 in stock at 500, 0 wanted at 400.
+* Unit 1 \"Unit 1\": 1 men, 0 money.
+",
+    },
+    // They stand before the structures.
+    Case {
+        scene: Scene {
+            people: &[Person {
+                structure: 1,
+                ..MERCHANT
+            }],
+            built: &[Built {
+                kind: LODGE,
+                name: "Fair",
+                region: 4,
+                done: 20,
+                owner: 1,
+            }],
+            stocks: &[(4, 0, 1)],
+            ..NOBODY
+        },
+        wanted: "Atlantis report, month 0, faction 1 \"Avalon\".
+Orders:
+None.
+Region 4 \"Wood\", forest: 100 peasants, 50 money.
+Exits: south 3.
+Market wood: 1 in stock at 7, 29 wanted at 5.
+Market cart: 0 in stock at 500, 12 wanted at 400.
+Structure 1 \"Fair\", lodge, 20 of 20, owner 1.
+* Unit 1 \"Unit 1\": 1 men, 0 money, in 1.
+",
+    },
+    // Those of a region that isn't seen aren't told, and a region without any has no such line.
+    Case {
+        scene: Scene {
+            people: &[MAN],
+            stocks: &[(4, 0, 30)],
+            ..NOBODY
+        },
+        wanted: "Atlantis report, month 0, faction 1 \"Avalon\".
+Orders:
+None.
+Region 1 \"Shore\", plain: 1000 peasants, 500 money.
+Exits: east 2.
+* Unit 1 \"Unit 1\": 1 men, 0 money.
+",
+    },
+];
+
+fn tells(rt: &impl Abort, alloc: Global, world: &World, case: &Case) -> Result<(), Fail> {
+    let campaign = campaign_of(alloc, world, &case.scene)?;
+    let seen = view(alloc, world, &campaign, 1)?;
+    let text = report_text(alloc, world, &seen, &[], &[])?;
+    is_text(rt, text.as_str(), case.wanted);
+    Ok(())
+}
+
+fn tells_all(rt: &impl Abort, alloc: Global, world: &World) -> Result<(), Fail> {
+    for case in CASES.iter() {
+        tells(rt, alloc, world, case)?;
+    }
+    Ok(())
+}
+
+#[test]
+fn markets(rt: HostRuntime) -> Result<(), Fail> {
+    let text = format!(in rt.alloc(); "{ISLE}{MARKETS}")?;
+    let world = read_world(rt.alloc(), text.as_str())?;
+    tells_all(&rt, rt.alloc(), &world)
+}

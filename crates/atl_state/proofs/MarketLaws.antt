@@ -1,0 +1,42 @@
+-- Of which items the markets of a world are, and that without markets there are no stocks.
+use Rattle.std.proofs.Common.{◌≡◌, ℕ, ◌<◌, Option, Some, None, is_some, IsSome, length, true, refl, sym, ap, ◌∙◌, arith}
+use Rattle.std.specs.Prelude.{option_and_then, option_map}
+use Rattle.std.proofs.lemmas.Bool.{false≢true}
+use Rattle.std.specs.Ordering.{nat_cmp}
+use Rattle.std.specs.Cmp.{nat_cmp_total}
+use Rattle.std.specs.FinMap.{FinMap, empty, get, get-empty, nat_cmp-IsAntisymmetric, same_map}
+use Rattle.atl_tables.specs.ByNumber.{market_of}
+use Rattle.atl_tables.specs.Worlds.{IsWorld, WorldValue, without_market, without_markets}
+use Rattle.atl_tables.specs.declared.world.Market.{Market}
+use Rattle.atl_tables.specs.declared.world.RegionPlan.{RegionPlan}
+use Rattle.atl_tables.proofs.MadeLaws.{get-mapped}
+use Rattle.atl_state.specs.Campaign.{CampaignValue}
+use Rattle.atl_state.specs.Good.{AreKnown, HasNoStocks}
+use Rattle.atl_state.proofs.RuleLaws.{free_from}
+
+-- a market is of an item of the world
+pub market_known : (w : WorldValue) → IsWorld w → (n i : ℕ) → IsSome (market_of w n i) → i < length w.items
+market_known w world n i some = by_plan (get w.regions n) refl some
+  where
+    by_market : (p : RegionPlan) (o : Option Market) → get w.regions n ≡ Some p → get p.markets i ≡ o → is_some o ≡ true → i < length w.items
+    by_market p None there is e = absurd (false≢true e)
+    by_market p (Some m) there is e = let market = (world.regions n p there).markets i m is in omega (arith, market.number_is, market.item)
+
+    by_plan : (o : Option RegionPlan) → get w.regions n ≡ o → is_some (option_and_then (λ p. get p.markets i) o) ≡ true → i < length w.items
+    by_plan None there e = absurd (false≢true e)
+    by_plan (Some p) there e = by_market p (get p.markets i) there refl e
+
+no_market : (w : WorldValue) → without_markets w ≡ w → (n i : ℕ) → market_of w n i ≡ None
+no_market w bare n i =
+    ap (λ (x : WorldValue). market_of x n i) (sym bare) ∙ ap (option_and_then (λ (p : RegionPlan). get p.markets i)) (get-mapped without_market w.regions n) ∙ by_plan (get w.regions n)
+  where
+    by_plan : (o : Option RegionPlan) → option_and_then (λ (p : RegionPlan). get p.markets i) (option_map without_market o) ≡ None
+    by_plan None = refl
+    by_plan (Some p) = get-empty nat_cmp i
+
+nothing_there : {V : Type 0} (m : FinMap nat_cmp V) → ((n : ℕ) (v : V) → ¬ (get m n ≡ Some v)) → m ≡ empty
+nothing_there m none = same_map nat_cmp_total nat_cmp-IsAntisymmetric m empty (λ n. free_from m n (λ there. none n there.0 there.1) ∙ sym (get-empty nat_cmp n))
+
+-- in a world without markets there are no stocks
+pub no_stocks : (w : WorldValue) (c : CampaignValue) → without_markets w ≡ w → AreKnown w c → HasNoStocks c
+no_stocks w c bare known n r is = nothing_there r.stocks (λ i amount there. false≢true (sym (ap is_some (no_market w bare n i)) ∙ known.markets n r is i amount there))

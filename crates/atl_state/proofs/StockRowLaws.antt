@@ -1,0 +1,76 @@
+-- The stocks of regions, as the rows say them and as the campaign lists them.
+use Rattle.std.proofs.Common.{◌≡◌, ◌==◌, ℕ, List, Bool, true, false, not, map, filter, sym, ap, ◌∙◌}
+use Rattle.std.specs.Prelude.{pos}
+use Rattle.std.specs.List.{flat_map, AllByRecursion, IsDistinct}
+use Rattle.std.specs.List.Sorted.{IsPermutation}
+use Rattle.std.specs.FinMap.{entries}
+use Rattle.std.proofs.lemmas.List.Sorted.{IsPermutation-sym, IsPermutation-trans}
+use Rattle.atl_tables.specs.declared.format.Format.TheVariants.{Second}
+use Rattle.atl_state.specs.declared.parts.StoredMarket.{StoredMarket}
+use Rattle.atl_state.specs.declared.parts.StoredRegion.{StoredRegion}
+use Rattle.atl_state.specs.declared.records.Region.{Region}
+use Rattle.atl_state.specs.FromRows.{as_u32, stocks_of, region_of, by_number}
+use Rattle.atl_state.specs.RowRules.{Key, market_key}
+use Rattle.atl_state.specs.Rows.{is_zero, market_row, stock_rows, market_rows}
+use Rattle.atl_state.proofs.AssemblyLaws.{is_same}
+use Rattle.atl_state.proofs.GroupLaws as group
+use Rattle.atl_state.proofs.GroupLaws.{gathered, lines_order}
+use Rattle.atl_state.proofs.HasLaws.{IsWhole, same, ties_itself}
+use Rattle.atl_state.proofs.OrderLaws.{Apart, HasNumber, each_so, flat_order}
+
+-- a key that is read as it is
+pub record IsKeyed (m : StoredMarket) : Type 0 where
+  pub region : IsWhole m.region
+  pub item : IsWhole m.item
+
+-- and a stock that is read as it is and isn't 0
+pub record IsExact (m : StoredMarket) : Type 0 where
+  pub keys : IsKeyed m
+  pub stock : IsWhole m.stock
+  pub some : is_zero m.stock ≡ false
+
+abbrev item_of : StoredMarket → ℕ
+item_of m = as_u32 m.item
+
+abbrev stock_of : StoredMarket → ℕ
+stock_of m = as_u32 m.stock
+
+abbrev pub is_in : ℕ → StoredMarket → Bool
+is_in n m = as_u32 m.region == n
+
+abbrev IsStockIn : ℕ → StoredMarket → Type 0
+IsStockIn n m = IsKeyed m × (is_in n m ≡ true)
+
+its_region : (n : ℕ) (m : StoredMarket) → IsStockIn n m → m.region ≡ pos n
+its_region n m (keys, of) = keys.region ∙ ap pos (is_same (as_u32 m.region) n of)
+
+same_row : (n : ℕ) (m : StoredMarket) → IsStockIn n m → IsWhole m.stock → market_row n (item_of m) (stock_of m) ≡ m
+same_row n m here stock = λ i. record { region = sym (its_region n m here) i; item = sym here.0.item i; stock = sym stock i }
+
+same_key : (n : ℕ) (m k : StoredMarket) → IsStockIn n m → IsStockIn n k → item_of m ≡ item_of k → ◌≡◌ {A = Key} (market_key k) (market_key m)
+same_key n m k a b e =
+    let region = its_region n k b ∙ sym (its_region n m a) in
+    let item = b.0.item ∙ sym (ap pos e) ∙ sym a.0.item in
+    λ i. (region i, item i, pos 0)
+
+-- in one region no item stands twice
+pub items_apart : (n : ℕ) (markets : List StoredMarket) → AllByRecursion IsKeyed markets → IsDistinct same (map market_key markets) → Apart item_of (filter (is_in n) markets)
+items_apart n = group.things_apart market_key same ties_itself item_of (is_in n) IsKeyed (same_key n)
+
+stock_order : (n : ℕ) (markets : List StoredMarket) → AllByRecursion IsExact markets → IsDistinct same (map market_key markets) → IsPermutation (stock_rows n (entries (stocks_of n markets))) (filter (is_in n) markets)
+stock_order n markets all d =
+    lines_order item_of stock_of (market_row n) (λ m. not (is_zero m.stock)) (filter (is_in n) markets) (items_apart n markets (each_so IsExact IsKeyed (λ m one. one.keys) markets all) d)
+    (each_so (λ m. IsExact m × (is_in n m ≡ true)) (λ m. (market_row n (item_of m) (stock_of m) ≡ m) × (not (is_zero m.stock) ≡ true)) (λ m here. (same_row n m (here.0.keys, here.1) here.0.stock, ap not here.0.some)) (filter (is_in n) markets) (group.all_mine market_key same ties_itself item_of (is_in n) IsExact markets all))
+
+abbrev region_lines : ℕ × Region → List StoredMarket
+region_lines e = stock_rows e.0 (entries e.1.stocks)
+
+-- what the campaign lists is what the rows say
+pub market_order : (markets : List StoredMarket) (regions : List StoredRegion) → Apart (λ r. as_u32 r.number) regions → AllByRecursion (λ m. HasNumber (λ r. as_u32 r.number) regions (as_u32 m.region)) markets → AllByRecursion IsExact markets → IsDistinct same (map market_key markets)
+    → IsPermutation (market_rows Second (entries (by_number (λ r. as_u32 r.number) (region_of markets) regions))) markets
+market_order markets regions apart of all d =
+    let lines = λ (r : StoredRegion). region_lines (as_u32 r.number, region_of markets r) in
+    let said = flat_map lines regions in
+    let listed = market_rows Second (entries (by_number (λ r. as_u32 r.number) (region_of markets) regions)) in
+    IsPermutation-trans listed said markets (IsPermutation-sym said listed (flat_order (λ r. as_u32 r.number) (region_of markets) region_lines regions apart))
+    (gathered (λ m. as_u32 m.region) (λ r. as_u32 r.number) lines regions markets (λ r. stock_order (as_u32 r.number) markets all d) apart of)

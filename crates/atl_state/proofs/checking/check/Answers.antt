@@ -1,5 +1,0 @@
-use Rattle.atl_state.proofs.GoodRuleLaws.{gives_back}
-use Rattle.atl_state.proofs.checking.check.Goals as goal
-
-pub returns-clause-whole : goal.returns-clause-whole
-returns-clause-whole c = λ world. gives_back c.args.world.now world c.args.parts c.judged-answer.result c.judged-answer.ensures

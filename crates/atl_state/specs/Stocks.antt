@@ -1,0 +1,17 @@
+-- The stocks of the regions' markets.
+use Rattle.std.specs.Prelude.{ℕ}
+use Rattle.std.specs.FinMap.{get}
+use Rattle.std.specs.Option.{option_map_or}
+use Rattle.atl_tables.specs.ByNumber.{market_of}
+use Rattle.atl_tables.specs.Limits.{most_amount}
+use Rattle.atl_tables.specs.Worlds.{WorldValue}
+use Rattle.atl_state.specs.Held.{amount_of}
+use Rattle.atl_state.specs.Campaign.{CampaignValue}
+
+-- how much of an item a region has in stock
+abbrev pub stock_of : CampaignValue → (region item : ℕ) → ℕ
+stock_of c region item = option_map_or (λ r. amount_of r.stocks item) (get c.regions region) 0
+
+-- the largest stock of an item in a region, which is that of any amount where there is no market
+abbrev pub stock_limit : WorldValue → (region item : ℕ) → ℕ
+stock_limit w region item = option_map_or (λ m. m.limit) (market_of w region item) most_amount

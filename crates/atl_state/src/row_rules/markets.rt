@@ -1,0 +1,32 @@
+//! The markets that rows name.
+ghost use Rattle.std.specs.Prelude.{◌≡◌};
+ghost use Rattle.std.specs.List.{list_all};
+ghost use Rattle.std.specs.Option.{option_copied};
+ghost use Rattle.atl_tables.specs.ByNumber.{market_of};
+ghost use Rattle.atl_state.specs.FromRows.{as_u32};
+ghost use Rattle.atl_state.specs.RowRules.{is_of_market};
+
+use super::numbers::as_u32;
+use crate::parts::StoredMarket;
+use atl_tables::{Market, World};
+
+/// The market whose stock a row is, where there is one.
+pub(super) fn market_of<'w>(world: &'w World, row: &StoredMarket) -> Option<&'w Market>
+    ensures { option_copied result ≡ market_of world.now (as_u32 row.now.region) (as_u32 row.now.item) }
+{
+    let plan = world.region(as_u32(row.region))?;
+    plan.markets.get(as_u32(row.item))
+}
+
+fn is_of_market(world: &World, row: &StoredMarket) -> bool
+    ensures { result ≡ is_of_market world.now row.now }
+{
+    market_of(world, row).is_some()
+}
+
+/// Whether each row is of a market of the world.
+pub(crate) fn are_of_markets(world: &World, rows: &[StoredMarket]) -> bool
+    ensures { result ≡ list_all (is_of_market world.now) rows.now }
+{
+    rows.iter().all(|row| is_of_market(world, row))
+}
