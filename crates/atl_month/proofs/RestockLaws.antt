@@ -1,10 +1,8 @@
 -- What the restocking of a region's markets leaves.
-use Rattle.std.proofs.Common.{◌≡◌, ◌≢◌, ◌==◌, ◌&&◌, ⊥, ℕ, ◌+◌, ◌-◌, ◌*◌, ◌≤◌, ◌<◌, min, Bool, true, false, cond, Option, Some, None, List, [], ◌∷◌, refl, sym, ap, subst, ◌∙◌, arith}
-use Rattle.std.specs.Prelude.{ℤ, pos, ◌+ℤ◌, fold, is_some, option_and_then, unwrap_or, if◌then◌else◌}
-use Rattle.std.specs.declared.cmp.Ordering.TheVariants.{Less}
+use Rattle.std.proofs.Common.{◌≡◌, ◌≢◌, ◌==◌, ◌&&◌, ℕ, ◌+◌, ◌-◌, ◌*◌, ◌≤◌, ◌<◌, min, Bool, true, false, cond, Option, Some, None, List, [], ◌∷◌, length, refl, sym, ap, subst, ◌∙◌, arith}
+use Rattle.std.specs.Prelude.{ℤ, pos, ◌+ℤ◌, is_some, option_and_then, unwrap_or, if◌then◌else◌}
 use Rattle.std.specs.Ordering.{nat_cmp, is_lt}
-use Rattle.std.specs.Cmp.{ranked}
-use Rattle.std.specs.FinMap.{FinMap, empty, entries, get, is_sorted}
+use Rattle.std.specs.FinMap.{empty, entries, get, is_sorted}
 use Rattle.std.specs.FinMap.Entries.{below_all}
 use Rattle.std.specs.Option.{option_map_or}
 use Rattle.std.proofs.lemmas.Bool.{and_parts}
@@ -15,13 +13,14 @@ use Rattle.atl_tables.specs.Limits.{most_amount}
 use Rattle.atl_tables.specs.declared.world.Market.{Market}
 use Rattle.atl_tables.specs.declared.world.RegionPlan.{RegionPlan}
 use Rattle.atl_tables.specs.ByNumber.{market_of}
+use Rattle.atl_tables.proofs.Maps.{entries-empty}
 use Rattle.atl_state.specs.declared.books.Entry.{Entry}
 use Rattle.atl_state.specs.declared.books.Entry.TheVariants.{Stocked}
 use Rattle.atl_state.specs.declared.books.Thing.{Thing}
 use Rattle.atl_state.specs.declared.books.Thing.TheVariants.{Money, People, Item}
 use Rattle.atl_state.specs.declared.records.Region.{Region}
 use Rattle.atl_state.specs.Limits.{entry_count}
-use Rattle.atl_state.specs.Books.{IsGrid, amount_in, booked, entry_place, thing_at, thing_place, with_booked}
+use Rattle.atl_state.specs.Books.{IsGrid, amount_in, booked, entry_place, thing_at, thing_place}
 use Rattle.atl_state.specs.Campaign.{MarkedCampaign, CampaignValue, with_amount, with_stock}
 use Rattle.atl_state.specs.Covers.{MarksChanges}
 use Rattle.atl_state.specs.Deciding.{EachOf}
@@ -31,18 +30,18 @@ use Rattle.atl_state.specs.Held.{amount_of, with_amount_of}
 use Rattle.atl_state.specs.Marking.{mark_amount, mark_region}
 use Rattle.atl_state.specs.Marks.{amount_number}
 use Rattle.atl_state.specs.Stocks.{stock_limit, stock_of}
-use Rattle.atl_state.specs.Totals.{Balances, kept, total}
-use Rattle.atl_state.proofs.BookLaws.{at_place, booked-with_booked, share_of}
+use Rattle.atl_state.specs.Totals.{Balances, total}
+use Rattle.atl_state.proofs.BookLaws.{at_place, booked-with_booked}
 use Rattle.atl_state.proofs.CoverLaws.{marks-amount, marks-region, marks-trans}
 use Rattle.atl_state.proofs.EveryEntryLaws.{entry_small}
-use Rattle.atl_state.proofs.EveryLaws.{each_of, each-from_every, sorted}
+use Rattle.atl_state.proofs.EveryLaws.{each-from_every, sorted}
 use Rattle.atl_state.proofs.RegionLaws.{steady-amount, total-amount}
 use Rattle.atl_state.proofs.StockLaws.{steady-stock, total-stock, total-stock_other}
-use Rattle.atl_instant.specs.Meaning.{HaveRoom, IsNear, LeavesWell, Moving, both_move, moves_only}
+use Rattle.atl_instant.specs.Meaning.{HasRoom, HaveRoom, LeavesWell, Moving, moves_only}
 use Rattle.atl_instant.proofs.BookingLaws.{booked-near, within-pos}
 use Rattle.atl_instant.proofs.MarkLaws.{marks_by}
-use Rattle.atl_instant.proofs.MeaningLaws.{both_leave_well, room_behind, room_less, same_month, well_unchanged, well_within}
-use Rattle.atl_month.specs.Restock.{is_item, market_restocked, markets_of, restock, restocked, stocks_by, with_more_stock}
+use Rattle.atl_instant.proofs.MeaningLaws.{both_leave_well, room_behind, room_less, well_unchanged, well_within}
+use Rattle.atl_month.specs.Restock.{market_restocked, markets_of, restock, restocked, stocks_by, with_more_stock}
 
 -- ---- how far new goods move the books
 
@@ -96,8 +95,11 @@ none_above k (x ∷ xs) e t at above =
 -- of the markets of a region, each has an item of its own
 little : (xs : List (ℕ × Market)) → is_sorted nat_cmp xs ≡ true → (e : Entry) (t : Thing) → stocking xs e t ≤ (if entry_place e == entry_place Stocked then most_amount else 0)
 little [] rising e t = omega arith
-little (x ∷ xs) rising e t = by_thing (thing_place t == 2 + x.0) refl
+little (x ∷ xs) rising e t = with_rest (little xs (and_parts _ _ rising).1 e t)
   where
+    first : ℕ
+    first = moves_only most_amount Stocked (Item x.0) e t
+
     bound : ℕ
     bound = if entry_place e == entry_place Stocked then most_amount else 0
 
@@ -112,13 +114,14 @@ little (x ∷ xs) rising e t = by_thing (thing_place t == 2 + x.0) refl
     behind : (n y z : ℕ) → n ≡ 0 → y ≤ z → n + y ≤ z
     behind n y z e l = omega (arith, l, e)
 
-    by_thing : (b : Bool) → (thing_place t == 2 + x.0) ≡ b → moves_only most_amount Stocked (Item x.0) e t + stocking xs e t ≤ (if entry_place e == entry_place Stocked then most_amount else 0)
-    by_thing true is =
-        alone (moves_only most_amount Stocked (Item x.0) e t) (stocking xs e t) bound (head (entry_place e == entry_place Stocked) (thing_place t == 2 + x.0) (moves_only most_amount Stocked (Item x.0) e t) (one_stocked x.0 e t))
+    by_thing : (b : Bool) → (thing_place t == 2 + x.0) ≡ b → stocking xs e t ≤ bound → first + stocking xs e t ≤ bound
+    by_thing true is rest =
+        alone first (stocking xs e t) bound (head (entry_place e == entry_place Stocked) (thing_place t == 2 + x.0) first (one_stocked x.0 e t))
         (none_above x.0 xs e t (let at : thing_place t ≡ 2 + x.0 = grind (arith, nat_tests) in at) (and_parts _ _ rising).0)
-    by_thing false is =
-        behind (moves_only most_amount Stocked (Item x.0) e t) (stocking xs e t) bound (other_item x.0 e t is)
-        (little xs (and_parts _ _ rising).1 e t)
+    by_thing false is rest = behind first (stocking xs e t) bound (other_item x.0 e t is) rest
+
+    with_rest : stocking xs e t ≤ bound → first + stocking xs e t ≤ bound
+    with_rest rest = by_thing (thing_place t == 2 + x.0) refl rest
 
 -- and neither money nor people come into stock
 not_stocked : (xs : List (ℕ × Market)) (e : Entry) (t : Thing) → thing_place t ≤ 1 → stocking xs e t ≡ 0
@@ -212,7 +215,7 @@ module _ (w : WorldValue) (c : CampaignValue) (n i : ℕ) (m : Market) (r : Regi
       subst (λ s. LeavesWell IsSteady (moves_only most_amount Stocked (Item i)) w c (with_more_stock c n i s (restock m s))) (sym stock_is)
       (record {
         leaves_it = steady-amount w filled Stocked (Item i) (pos more) filled_steady;
-        same_month = same_month c;
+        same_month = record { month = refl; reports = refl; count = refl; factions = λ k there. there };
         balances = balanced;
         near = booked-near (things_of w) c.books Stocked (Item i) (pos more) most_amount steady.numbers.books inside (within-pos more most_amount (omega (arith, stock_fits, known.limit)));
       })
@@ -234,7 +237,18 @@ module _ (w : WorldValue) (n : ℕ) (there : IsThere w.regions n) where
       both_leave_well (moves_only most_amount Stocked (Item x.0)) (stocking xs) w c (market_restocked n c x) (restocked n c (x ∷ xs)) one
       (all_leave_well xs each.1 (market_restocked n c x) one.leaves_it)
 
+-- no markets
+pub none_there : entries (empty {X = Market} {R = nat_cmp}) ≡ []
+none_there = entries-empty
+
 module _ (w : WorldValue) (world : IsWorld w) (n : ℕ) where
+  -- those of a region, if it is one of the world
+  pub markets_there : (p : RegionPlan) → get w.regions n ≡ Some p → markets_of w n ≡ p.markets
+  markets_there p is = ap (λ o. option_map_or (λ (q : RegionPlan). q.markets) o empty) is
+
+  pub none_of : (c : CampaignValue) → get w.regions n ≡ None → restocked n c (entries (markets_of w n)) ≡ c
+  none_of c is = ap (λ o. restocked n c (entries (option_map_or (λ (q : RegionPlan). q.markets) o empty))) is ∙ ap (restocked n c) none_there
+
   -- the markets of a region are the world's
   pub markets_are : (p : RegionPlan) → get w.regions n ≡ Some p → EachOf (IsOf w n) (entries p.markets)
   markets_are p is = each-from_every (IsOf w n) p.markets (λ i m at. (ap (λ o. option_and_then (λ (q : RegionPlan). get q.markets i) o) is ∙ at, (world.regions n p is).markets i m at))
@@ -243,7 +257,7 @@ module _ (w : WorldValue) (world : IsWorld w) (n : ℕ) where
   restocked_leaves_well c steady = by_plan (get w.regions n) refl
     where
       by_plan : (o : Option RegionPlan) → get w.regions n ≡ o → LeavesWell IsSteady (stocks_by most_amount) w c (restocked n c (entries (option_map_or (λ (p : RegionPlan). p.markets) o empty)))
-      by_plan None is = well_unchanged (stocks_by most_amount) w c steady
+      by_plan None is = subst (λ es. LeavesWell IsSteady (stocks_by most_amount) w c (restocked n c es)) (sym none_there) (well_unchanged (stocks_by most_amount) w c steady)
       by_plan (Some p) is =
           well_within (stocking (entries p.markets)) (stocks_by most_amount) w c (restocked n c (entries p.markets)) (stocks_little (entries p.markets) (sorted p.markets))
           (all_leave_well w n (p, is) (entries p.markets) (markets_are p is) c steady)
@@ -258,6 +272,19 @@ restocked_keeps n c [] = refl
 restocked_keeps n c (x ∷ xs) = restocked_keeps n (market_restocked n c x) xs ∙ one_keeps n c x
 
 -- ---- the code
+
+-- what comes into a stock is no more than its market's limit
+pub restock_small : (m : Market) (stock : ℕ) → m.limit ≤ most_amount → restock m stock ≤ most_amount
+restock_small m stock l = omega (arith, l, least m.restock (m.limit - stock))
+  where
+    least : (x y : ℕ) → min x y ≤ y
+    least x y = omega arith
+
+-- there is room for the goods of an item
+pub room_alone : (c : CampaignValue) (i : ℕ) → HaveRoom (moves_only most_amount Stocked (Item i)) c → HasRoom most_amount (amount_in c.books Stocked (Item i))
+room_alone c i room =
+    let same : (amount_number Stocked (Item i) == amount_number Stocked (Item i)) ≡ true = grind (arith, nat_tests) in
+    subst (λ b. HasRoom (if b then most_amount else 0) (amount_in c.books Stocked (Item i))) same (room Stocked (Item i))
 
 -- behind the first market there is room for the others
 pub room_for_market : (x : ℕ × Market) (xs : List (ℕ × Market)) (c : CampaignValue) → HaveRoom (stocking (x ∷ xs)) c → HaveRoom (moves_only most_amount Stocked (Item x.0)) c

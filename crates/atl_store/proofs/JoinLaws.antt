@@ -194,7 +194,7 @@ module _ (n : ℕ) (f : Faction) (m : ℕ) (u : Unit) (report : List ℕ) (after
       enters = did (head_of before) text (holds.rows Own)
 
       stays : (part : Part) → is_among (Own ∷ Factions ∷ Units ∷ Reports ∷ Books ∷ []) part ≡ false → Is (rows_in (table_of part) d.trees) (rows_for (campaign_line text before) before part)
-      stays part free = stays_is (table_of part) (rows_for (campaign_line text before) before part) a d (enters.others part (not_among _ part free)) (holds.rows part)
+      stays part free = stays_is (table_of part) (rows_for (campaign_line text before) before part) a d (enters.others part (not_among (Own ∷ Factions ∷ Units ∷ Reports ∷ Books ∷ []) part free)) (holds.rows part)
 
       rows : (part : Part) → Is (rows_in (table_of part) d.trees) (rows_for (campaign_line text after) after part)
       rows Own = enters.campaign

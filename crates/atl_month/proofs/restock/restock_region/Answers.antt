@@ -1,2 +1,64 @@
-use Rattle.atl_month.proofs.RestockLaws.{markets_are}
+use Rattle.std.proofs.Common.{◌≡◌, ◌∙◌, ℕ, Some, sym, ap, subst}
+use Rattle.std.specs.Prelude.{List, fold}
+use Rattle.std.specs.FinMap.{entries, get}
+use Rattle.atl_tables.specs.Limits.{most_amount}
+use Rattle.atl_tables.specs.declared.world.Market.{Market}
+use Rattle.atl_state.specs.Deciding.{EachOf}
+use Rattle.atl_state.specs.Good.{IsThere}
+use Rattle.atl_state.proofs.CoverLaws.{marks-refl, marks-trans}
+use Rattle.atl_state.proofs.EveryLaws.{sorted}
+use Rattle.atl_instant.specs.Meaning.{HaveRoom}
+use Rattle.atl_instant.proofs.MeaningLaws.{room_less}
+use Rattle.atl_month.specs.Restock.{market_restocked, restocked, stocks_by}
+use Rattle.atl_month.proofs.RestockLaws.{IsOf, markets_are, markets_there, none_of, one_leaves_well, room_behind_market, room_for_market, stocking, stocks_little}
 use Rattle.atl_month.proofs.restock.restock_region.Goals as goal
+
+pub returns-in-None-clause-what : goal.returns-in-None-clause-what
+returns-in-None-clause-what c = sym (none_of c.args.world.now c.region.ensures.world c.args.region c.args.campaign.now.value (sym c.in-None.ensures.value))
+
+pub loop-item-init : goal.loop-item-init
+loop-item-init c =
+    let w = c.args.world.now in
+    let n = c.args.region in
+    let before = c.args.campaign.now in
+    let plan = c.in-Some.plan.now in
+    let there : get w.regions n ≡ Some plan = sym c.in-Some.ensures.value in
+    let listed : c.into_iter-item-iterator.result ≡ entries plan.markets = c.into_iter-item-iterator.ensures.into_iter_gives ∙ c.iter-item-items.ensures in
+    record {
+      can_next = tt;
+      is_finite = tt;
+      rest = ap (restocked n before.value) (listed ∙ ap (λ m. entries m) (sym (markets_there w c.region.ensures.world n plan there)));
+      each = subst (EachOf (IsOf w n)) (sym listed) (markets_are w c.region.ensures.world n plan there);
+      steady = c.requires.steady;
+      room =
+          subst (λ (es : List (ℕ × Market)). HaveRoom (stocking es) before.value) (sym listed)
+          (room_less (stocking (entries plan.markets)) (stocks_by most_amount) before.value (stocks_little (entries plan.markets) (sorted plan.markets)) c.requires.room);
+      marks = marks-refl before;
+    }
+
+pub restock_market-requires-clause-room : goal.restock_market-requires-clause-room
+restock_market-requires-clause-room c =
+    room_for_market (c.in-Some-2.item, c.in-Some-2.market.now) c.next.new.self c.loop-item.campaign.value
+    (subst (λ (es : List (ℕ × Market)). HaveRoom (stocking es) c.loop-item.campaign.value) c.in-Some-2.ensures.steps c.loop-item.invariant.room)
+
+pub loop-item-preserved : goal.loop-item-preserved
+loop-item-preserved c =
+    let w = c.args.world.now in
+    let n = c.args.region in
+    let x : ℕ × Market = (c.in-Some-2.item, c.in-Some-2.market.now) in
+    let rest = c.next.new.self in
+    let before = c.loop-item.campaign.value in
+    let old = c.loop-item.invariant in
+    let there : IsThere w.regions n = (c.in-Some.plan.now, sym c.in-Some.ensures.value) in
+    let each = subst (EachOf (IsOf w n)) c.in-Some-2.ensures.steps old.each in
+    let room = subst (λ (es : List (ℕ × Market)). HaveRoom (stocking es) before) c.in-Some-2.ensures.steps old.room in
+    let is : c.restock_market.new.campaign.value ≡ market_restocked n before x = c.in_ok-restock_market.ensures.what in
+    record {
+      can_next = tt;
+      is_finite = tt;
+      rest = ap (λ s. fold (market_restocked n) s rest) is ∙ sym (ap (fold (market_restocked n) before) c.in-Some-2.ensures.steps) ∙ old.rest;
+      each = each.1;
+      steady = rw is (one_leaves_well w n there before x each.0 old.steady).leaves_it;
+      room = rw is (room_behind_market w n there x rest before each.0 old.steady room);
+      marks = marks-trans c.args.campaign.now c.loop-item.campaign c.restock_market.new.campaign old.marks c.in_ok-restock_market.ensures.marks;
+    }

@@ -37,13 +37,13 @@ loop-number-preserved c =
     let place = c.loop-number.place in
     let (there, at) = c.in-Some-get.ensures.lookup.3 in
     let given : drop place words ≡ word ∷ drop (place + 1) words = drop_more words place 0 there ∙ ap (λ x. x ∷ drop (place + 1) words) (sym (at 0)) in
-    let is : after ≡ season_at w before (n, word) = c.in_ok-turn_region.ensures.what in (
+    let is : after ≡ season_at w before (n, word) = c.in_ok-turn_region-in-Some-get.ensures.what in (
       tt,
       tt,
       season_goes_on w before after _ regions c.next.new.self (drop place words) (drop (place + 1) words) n word c.in-Some.field-0-1.now listed given is whole,
       rw is (season_at_leaves_well w world before (n, word) steady).leaves_it,
       room_goes_on w world before after regions c.next.new.self n word c.in-Some.field-0-1.now listed is steady room,
-      marks-trans c.args.campaign.now c.loop-number.campaign c.turn_region.new.campaign marks c.in_ok-turn_region.ensures.marks,
+      marks-trans c.args.campaign.now c.loop-number.campaign c.turn_region.new.campaign marks c.in_ok-turn_region-in-Some-get.ensures.marks,
     )
 
 pub turn_region-requires-clause-room : goal.turn_region-requires-clause-room
