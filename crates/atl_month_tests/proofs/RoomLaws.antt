@@ -22,10 +22,10 @@ room_of : (phase : PhaseTerms) → MovesItsOwn phase → (w : WorldValue) (c : C
 room_of phase own w c good = room_when_sound w c phase.moving (λ e t. little (may_move phase.moved e t) (phase.moving e t) (own e t)) good.sound
 
 pub room_for_tax : (w : WorldValue) (c : CampaignValue) → IsGood w c → HaveRoom tax_terms.moving c
-room_for_tax = room_of tax_terms early_are.1.1.1.1.1.0.moves
+room_for_tax = room_of tax_terms early_are.1.1.1.1.1.1.1.0.moves
 
 pub room_for_recruiting : (w : WorldValue) (c : CampaignValue) → IsGood w c → HaveRoom recruit_terms.moving c
-room_for_recruiting = room_of recruit_terms early_are.1.1.1.1.1.1.0.moves
+room_for_recruiting = room_of recruit_terms early_are.1.1.1.1.1.1.1.1.0.moves
 
 pub room_for_producing : (w : WorldValue) (c : CampaignValue) → IsGood w c → HaveRoom produce_terms.moving c
 room_for_producing = room_of produce_terms later_are.1.1.1.1.1.1.0.moves
