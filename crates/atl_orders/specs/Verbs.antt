@@ -27,10 +27,10 @@ keyword Study = codes "STUDY"
 keyword Produce = codes "PRODUCE"
 keyword Work = codes "WORK"
 
--- the verbs of the order table, which FORM isn't in, nor SELL and BUY yet
+-- the verbs of the order table, which FORM isn't in
 abbrev pub table : List Verb
 table =
-    Name ∷ Guard ∷ Enter ∷ Leave ∷ Promote ∷ Give ∷ Pay ∷ Transfer ∷ Tax ∷ Recruit ∷ Quit ∷ Move ∷ Sail ∷ Build ∷ Teach ∷ Study ∷ Produce ∷ Work ∷ []
+    Name ∷ Guard ∷ Enter ∷ Leave ∷ Promote ∷ Give ∷ Pay ∷ Transfer ∷ Sell ∷ Buy ∷ Tax ∷ Recruit ∷ Quit ∷ Move ∷ Sail ∷ Build ∷ Teach ∷ Study ∷ Produce ∷ Work ∷ []
 
 -- the verb that a word is; BOARD is read as ENTER
 abbrev pub verb_of : WordText → Option Verb

@@ -6,7 +6,7 @@ ghost use Rattle.atl_orders.specs.Views.{word_text};
 use crate::words::{Word, is_same};
 use atl_tables::variants;
 
-/// What an order does. SELL and BUY aren't in the order table yet: no line is read as one of them.
+/// What an order does.
 #[derive(Drop, Clone, Copy, Debug, PartialEq, Eq)]
 pub enum Verb {
     Form,
@@ -32,10 +32,10 @@ pub enum Verb {
     Work,
 }
 
-/// The verbs of the order table, which FORM isn't in, nor SELL and BUY yet.
-const TABLE: [Verb; 18] = variants!(
-    Verb: Name Guard Enter Leave Promote Give Pay Transfer Tax Recruit Quit Move Sail Build Teach Study
-    Produce Work
+/// The verbs of the order table, which FORM isn't in.
+const TABLE: [Verb; 20] = variants!(
+    Verb: Name Guard Enter Leave Promote Give Pay Transfer Sell Buy Tax Recruit Quit Move Sail Build Teach
+    Study Produce Work
 );
 
 impl Verb {

@@ -3,7 +3,7 @@ ghost use Rattle.std.specs.Prelude.{◌≡◌, IsTrue};
 ghost use Rattle.std.specs.Bool.{Decides};
 ghost use Rattle.std.specs.List.{list_all};
 ghost use Rattle.atl_tables.specs.Worlds.{IsWorld};
-ghost use Rattle.atl_tables.specs.declared.format.Format.TheVariants.{First};
+ghost use Rattle.atl_tables.specs.declared.format.Format.TheVariants.{Second};
 ghost use Rattle.atl_state.specs.declared.checking.Rule.TheVariants as rule;
 ghost use Rattle.atl_state.specs.Checking.{rule_number, Keeps, KeepsBelow, Passes, Checks, GivesBack};
 ghost use Rattle.atl_state.specs.FromRows.{campaign_of};
@@ -271,10 +271,10 @@ pub fn check_as(
     answer
 }
 
-/// The campaign of these rows of the first format, as by `check_as`.
+/// The campaign of these rows of the second format, as by `check_as`.
 pub fn check(alloc: Global, world: &World, parts: Parts) -> Result<Campaign, CheckFault>
-    ensures rules { Checks First world.now parts result }
-    ensures whole { IsWorld world.now → GivesBack First world.now parts result }
+    ensures rules { Checks Second world.now parts result }
+    ensures whole { IsWorld world.now → GivesBack Second world.now parts result }
 {
-    check_as(alloc, world, parts, Format::First)
+    check_as(alloc, world, parts, Format::Second)
 }

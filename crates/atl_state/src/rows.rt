@@ -326,11 +326,11 @@ fn books_rows(alloc: Global, books: &Books) -> Result<Sequence<StoredBooks>, All
 }
 
 impl Campaign {
-    /// The rows that stand for the campaign in the first format, which has none of stocks. See docs/FORMATS.md, "Tables".
+    /// The rows that stand for the campaign in the second format. See docs/FORMATS.md, "Tables".
     pub fn parts(&self) -> Result<Parts, AllocError>
-        ensures { IfOk result (λ parts. parts ≡ rows_of First self.now.value) }
+        ensures { IfOk result (λ parts. parts ≡ rows_of Second self.now.value) }
     {
-        self.parts_as(Format::First)
+        self.parts_as(Format::Second)
     }
 
     /// The rows that stand for the campaign in a format, in the order of their keys. See docs/FORMATS.md, "Tables".
