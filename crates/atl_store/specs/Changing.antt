@@ -12,7 +12,7 @@ use Rattle.atl_state.specs.Limits.{entry_count}
 use Rattle.atl_state.specs.Campaign.{CampaignValue, MarkedCampaign}
 use Rattle.atl_state.specs.Marks.{Marks}
 use Rattle.atl_store.specs.Sets.{Set, Is, rows_in}
-use Rattle.atl_store.specs.Tables.{Part, Own, Factions, Regions, Units, Goods, Structures, Mail, Reports, Books, campaign_table, table_of}
+use Rattle.atl_store.specs.Tables.{Part, Own, Factions, Regions, Units, Goods, Structures, Mail, Reports, Books, Markets, campaign_table, table_of}
 use Rattle.atl_store.specs.Shown.{Head, head_row}
 use Rattle.atl_store.specs.Rows.{head_of, campaign_line, rows_for}
 
@@ -68,6 +68,7 @@ is_marked marks Structures = begins_marked marks.structures
 is_marked marks Mail = begins_marked marks.mail
 is_marked marks Reports = begins_marked marks.reports
 is_marked marks Books = amount_marked marks.books
+is_marked marks Markets = begins_marked marks.regions
 
 -- Tables whose own row of a campaign said this, with this world text, have what is marked written.
 pub record WritesMarked (c : MarkedCampaign) (before : Head) (text : List ℕ) (old new : Database) : Type 0 where

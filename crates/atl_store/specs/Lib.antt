@@ -26,3 +26,4 @@ pub mod Rewriting
 pub mod WorldText
 pub mod Alike
 pub mod OneWorld
+pub mod Upgrading

@@ -1,4 +1,4 @@
--- The rows of goods and of books as lists, in the order in which they are put into empty tables.
+-- The rows of goods, of stocks and of books as lists, in the order in which they are put into empty tables.
 use Rattle.std.specs.Prelude.{◌≡◌, ◌≢◌, ◌==◌, ◌+◌, ◌++◌, ℕ, pos, List, [], ◌∷◌, Some, ⊤, take, if◌then◌else◌}
 use Rattle.std.specs.List.{flat_map}
 use Rattle.std.specs.Ordering.{int_eq, nat_cmp}
@@ -10,11 +10,12 @@ use Rattle.atl_state.specs.Held.{Held}
 use Rattle.atl_state.specs.Books.{all_entries, amount_in, entry_place, thing_at, thing_place}
 use Rattle.atl_state.specs.declared.books.Entry.{Entry}
 use Rattle.atl_state.specs.declared.books.Thing.{Thing}
+use Rattle.atl_state.specs.declared.records.Region.{Region}
 use Rattle.atl_state.specs.declared.records.Unit.{Unit}
 use Rattle.atl_store.specs.declared.rows.has.Sort.{Sort}
 use Rattle.atl_store.specs.declared.rows.has.Sort.TheVariants.{Item, Skill}
 use Rattle.atl_store.specs.Sets.{Set}
-use Rattle.atl_store.specs.Shown.{int, has_row, books_row}
+use Rattle.atl_store.specs.Shown.{int, has_row, books_row, market_row}
 use Rattle.atl_store.specs.Written.{sort_number}
 
 -- ---- rows that belong to what has a number
@@ -52,6 +53,21 @@ unit_lines n unit = goods_lines n unit.holding
 
 abbrev pub all_goods_lines : List (ℕ × Unit) → List Row
 all_goods_lines units = groups_of unit_lines units
+
+-- ---- the stocks of markets
+
+-- a row where the stock is not 0
+abbrev pub stock_lines : ℕ → ℕ → ℕ → List Row
+stock_lines region item stock = if stock == 0 then [] else market_row region item stock ∷ []
+
+abbrev pub stocks_lines : ℕ → List (ℕ × ℕ) → List Row
+stocks_lines region stocks = flat_map (λ e. stock_lines region e.0 e.1) stocks
+
+abbrev pub region_lines : ℕ → Region → List Row
+region_lines n region = stocks_lines n (entries region.stocks)
+
+abbrev pub all_stocks_lines : List (ℕ × Region) → List Row
+all_stocks_lines regions = groups_of region_lines regions
 
 -- ---- the books
 

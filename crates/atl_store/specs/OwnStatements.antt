@@ -13,9 +13,9 @@ use Rattle.atl_state.specs.declared.records.Faction.{Faction}
 use Rattle.atl_state.specs.declared.records.Unit.{Unit}
 use Rattle.atl_store.specs.Sets.{Set}
 use Rattle.atl_store.specs.Shown.{int, head_values, mail_row, report_row, books_key, books_row}
-use Rattle.atl_store.specs.Rows.{head_of, faction_line, region_line, unit_line, structure_line, RowsOf, HasRowsOf, BooksRowsOf}
-use Rattle.atl_store.specs.Statements.{campaign_upsert, creations, deletion, upsert}
-use Rattle.atl_store.specs.Tables.{books_table, faction_table, has_table, mail_table, region_table, report_table, structure_table, unit_table}
+use Rattle.atl_store.specs.Rows.{head_of, faction_line, region_line, unit_line, structure_line, RowsOf, HasRowsOf, BooksRowsOf, MarketRowsOf}
+use Rattle.atl_store.specs.Statements.{campaign_upsert, upgrading_upsert, creation, creations, deletion, upsert}
+use Rattle.atl_store.specs.Tables.{books_table, faction_table, has_table, mail_table, market_table, region_table, report_table, structure_table, unit_table}
 
 abbrev pub Statements : Type 1
 Statements = List ℕ → Row → Type 0
@@ -47,6 +47,7 @@ pub data OfRow (c : CampaignValue) : List ℕ → Row → Type 0 where
   puts_mail : {row : Row} → RowsOf mail_row c.mail row → OfRow c (upsert mail_table 1) row
   puts_report : {row : Row} → RowsOf report_row c.reports row → OfRow c (upsert report_table 1) row
   puts_books : {row : Row} → BooksRowsOf c.books row → OfRow c (upsert books_table 2) row
+  puts_market : {row : Row} → MarketRowsOf c.regions row → OfRow c (upsert market_table 2) row
 
 -- ---- of each writing
 
@@ -64,10 +65,16 @@ pub data OfChange (c : CampaignValue) : List ℕ → Row → Type 0 where
   drops_region : {n : ℕ} → get c.regions n ≡ None → OfChange c (deletion region_table 1) (int n ∷ [])
   drops_unit : {n : ℕ} → get c.units n ≡ None → OfChange c (deletion unit_table 1) (int n ∷ [])
   drops_goods : {n : ℕ} → OfChange c (deletion has_table 1) (int n ∷ [])
+  drops_stocks : {n : ℕ} → OfChange c (deletion market_table 1) (int n ∷ [])
   drops_structure : {n : ℕ} → get c.structures n ≡ None → OfChange c (deletion structure_table 1) (int n ∷ [])
   drops_mail : {n : ℕ} → get c.mail n ≡ None → OfChange c (deletion mail_table 1) (int n ∷ [])
   drops_report : {n : ℕ} → get c.reports n ≡ None → OfChange c (deletion report_table 1) (int n ∷ [])
   drops_books : (entry : Entry) (thing : Thing) → amount_in c.books entry thing ≡ pos 0 → OfChange c (deletion books_table 2) (books_key (entry_place entry + 1) (thing_place thing))
+
+-- an upgrade makes the table of markets, and puts the campaign's own row anew with another world text
+pub data OfUpgrade (text : List ℕ) (c : CampaignValue) : List ℕ → Row → Type 0 where
+  upgrades_tables : OfUpgrade text c (creation 9) []
+  upgrades_head : OfUpgrade text c upgrading_upsert (head_values (head_of c) text)
 
 -- a joining puts the campaign's own row, the faction, the unit that came last, the faction's report, and what joining booked
 pub data OfJoining (faction : ℕ) (c : CampaignValue) : List ℕ → Row → Type 0 where

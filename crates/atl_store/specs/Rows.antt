@@ -16,8 +16,10 @@ use Rattle.atl_state.specs.declared.records.Unit.{Unit}
 use Rattle.atl_store.specs.declared.rows.has.Sort.{Sort}
 use Rattle.atl_store.specs.declared.rows.has.Sort.TheVariants.{Item, Skill}
 use Rattle.atl_store.specs.Sets.{Set, Is, rows_in}
-use Rattle.atl_store.specs.Tables.{Part, Own, Factions, Regions, Units, Goods, Structures, Mail, Reports, Books, table_of}
-use Rattle.atl_store.specs.Shown.{Head, head_row, faction_row, region_row, unit_row, has_row, structure_row, mail_row, report_row, books_row}
+use Rattle.atl_store.specs.Tables.{Part, Own, Factions, Regions, Units, Goods, Structures, Mail, Reports, Books, Markets, table_of, parts_in}
+use Rattle.atl_tables.specs.declared.format.Format.{Format}
+use Rattle.sqlite_rules.specs.Lists.{Has}
+use Rattle.atl_store.specs.Shown.{Head, head_row, head_row_in, faction_row, region_row, unit_row, has_row, structure_row, mail_row, report_row, books_row, market_row}
 use Rattle.atl_store.specs.Written.{sort_number}
 
 abbrev pub head_of : CampaignValue → Head
@@ -60,6 +62,11 @@ HasRowsOf units r =
 abbrev pub BooksRowsOf : List (List ℤ) → Row → Type 0
 BooksRowsOf books r = (e : Entry) × (t : Thing) × (amount_in books e t ≢ pos 0) × (r ≡ books_row (entry_place e + 1) (thing_place t) (amount_in books e t))
 
+-- one row for each item of a region whose stock is not 0
+abbrev pub MarketRowsOf : FinMap nat_cmp Region → Row → Type 0
+MarketRowsOf regions r =
+    (n : ℕ) × (region : Region) × (get regions n ≡ Some region) × (item : ℕ) × (stock : ℕ) × (get region.stocks item ≡ Some stock) × (stock ≢ 0) × (r ≡ market_row n item stock)
+
 -- the rows that stand for each part of a campaign, whose own row is this one
 abbrev pub rows_for : Row → CampaignValue → Part → Set
 rows_for own c Own = λ r. r ≡ own
@@ -71,7 +78,12 @@ rows_for own c Structures = RowsOf structure_line c.structures
 rows_for own c Mail = RowsOf mail_row c.mail
 rows_for own c Reports = RowsOf report_row c.reports
 rows_for own c Books = BooksRowsOf c.books
+rows_for own c Markets = MarketRowsOf c.regions
 
 -- the tables have exactly the rows of the world text and the campaign
 pub record Holds (trees : Trees) (text : List ℕ) (c : CampaignValue) : Type 0 where
   pub rows : (part : Part) → Is (rows_in (table_of part) trees) (rows_for (campaign_line text c) c part)
+
+-- the tables of a format have exactly these rows
+pub record HoldsIn (f : Format) (trees : Trees) (text : List ℕ) (c : CampaignValue) : Type 0 where
+  pub rows : (part : Part) → Has (parts_in f) part → Is (rows_in (table_of part) trees) (rows_for (head_row_in f (head_of c) text) c part)

@@ -3,6 +3,9 @@ use Rattle.std.specs.Prelude.{ℕ, ℤ, pos, Bool, if◌then◌else◌, List, []
 use Rattle.sqlite.specs.declared.types.Value.{Value}
 use Rattle.sqlite.specs.declared.types.Value.TheVariants.{Int, Text, Blob}
 use Rattle.sqlite.specs.Order.{Row}
+use Rattle.atl_tables.specs.Formats.{format_number}
+use Rattle.atl_tables.specs.declared.format.Format.{Format}
+use Rattle.atl_tables.specs.declared.format.Format.TheVariants.{Second}
 
 abbrev pub int : ℕ → Value
 int n = Int (pos n)
@@ -19,9 +22,13 @@ pub record Head : Type 0 where
   pub next_structure : ℕ
   pub pass : List ℕ
 
--- its id is 1, and so is the format
+-- its id is 1; the format is given
+abbrev pub head_row_in : Format → Head → List ℕ → Row
+head_row_in f head world = int 1 ∷ int (format_number f) ∷ int head.month ∷ int head.next_faction ∷ int head.next_unit ∷ int head.next_structure ∷ Text head.pass ∷ Text world ∷ []
+
+-- as it is written
 abbrev pub head_row : Head → List ℕ → Row
-head_row head world = int 1 ∷ int 1 ∷ int head.month ∷ int head.next_faction ∷ int head.next_unit ∷ int head.next_structure ∷ Text head.pass ∷ Text world ∷ []
+head_row = head_row_in Second
 
 -- what is handed in to put it, in this order
 abbrev pub head_values : Head → List ℕ → Row
@@ -62,3 +69,7 @@ books_key entry thing = int entry ∷ int thing ∷ []
 
 abbrev pub books_row : ℕ → ℕ → ℤ → Row
 books_row entry thing amount = int entry ∷ int thing ∷ Int amount ∷ []
+
+-- region, item, stock
+abbrev pub market_row : ℕ → ℕ → ℕ → Row
+market_row region item stock = int region ∷ int item ∷ int stock ∷ []

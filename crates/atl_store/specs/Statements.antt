@@ -47,7 +47,11 @@ placed_selection t key = selection_of (column_names t ++ codes "rowid" ∷ []) t
 
 -- the campaign's own row is put with its world text, or changed but for that
 abbrev pub campaign_upsert : List ℕ
-campaign_upsert = codes "INSERT INTO campaign (id, format, month, next_faction, next_unit, next_structure, pass, world) VALUES (1, 1, ?1, ?2, ?3, ?4, ?5, ?6) ON CONFLICT (id) DO UPDATE SET month = ?1, next_faction = ?2, next_unit = ?3, next_structure = ?4, pass = ?5"
+campaign_upsert = codes "INSERT INTO campaign (id, format, month, next_faction, next_unit, next_structure, pass, world) VALUES (1, 2, ?1, ?2, ?3, ?4, ?5, ?6) ON CONFLICT (id) DO UPDATE SET month = ?1, next_faction = ?2, next_unit = ?3, next_structure = ?4, pass = ?5"
+
+-- the same, but it is the format and the world text that are changed
+abbrev pub upgrading_upsert : List ℕ
+upgrading_upsert = codes "INSERT INTO campaign (id, format, month, next_faction, next_unit, next_structure, pass, world) VALUES (1, 2, ?1, ?2, ?3, ?4, ?5, ?6) ON CONFLICT (id) DO UPDATE SET format = 2, world = ?6"
 
 -- the texts that make the tables
 abbrev pub creations : List (List ℕ)
@@ -61,6 +65,7 @@ creations =
     codes "CREATE TABLE mail (faction INTEGER NOT NULL PRIMARY KEY, text BLOB NOT NULL) STRICT" ∷
     codes "CREATE TABLE report (faction INTEGER NOT NULL PRIMARY KEY, text TEXT NOT NULL) STRICT" ∷
     codes "CREATE TABLE books (entry INTEGER NOT NULL, thing INTEGER NOT NULL, amount INTEGER NOT NULL, PRIMARY KEY (entry, thing)) STRICT" ∷
+    codes "CREATE TABLE market (region INTEGER NOT NULL, item INTEGER NOT NULL, stock INTEGER NOT NULL, PRIMARY KEY (region, item)) STRICT" ∷
     []
 
 abbrev pub creation : ℕ → List ℕ

@@ -11,6 +11,7 @@ use Rattle.atl_state.specs.declared.parts.StoredMail.{StoredMail}
 use Rattle.atl_state.specs.declared.parts.StoredReport.{StoredReport}
 use Rattle.atl_state.specs.declared.parts.StoredHas.{StoredHas}
 use Rattle.atl_state.specs.declared.parts.StoredBooks.{StoredBooks}
+use Rattle.atl_state.specs.declared.parts.StoredMarket.{StoredMarket}
 use Rattle.atl_store.specs.declared.rows.campaign.StoredCampaign.{StoredCampaign}
 use Rattle.atl_store.specs.declared.rows.stored.Placed.{Placed}
 use Rattle.atl_store.specs.Stored.{Form, Number, Words, Letters, Bytes}
@@ -76,3 +77,9 @@ books_stored s = Int s.row.entry ∷ Int s.row.thing ∷ Int s.row.amount ∷ In
 
 abbrev pub books_forms : List Form
 books_forms = Number ∷ Number ∷ Number ∷ Number ∷ []
+
+abbrev pub market_stored : Placed StoredMarket → Row
+market_stored s = Int s.row.region ∷ Int s.row.item ∷ Int s.row.stock ∷ Int s.rowid ∷ []
+
+abbrev pub market_forms : List Form
+market_forms = Number ∷ Number ∷ Number ∷ Number ∷ []

@@ -16,6 +16,8 @@ use Rattle.sqlite_schema.specs.Rules.{guards}
 use Rattle.sqlite_rules.specs.Lists.{Has}
 use Rattle.sqlite_catalog.specs.Listing.{IsSound}
 use Rattle.sqlite_trees.specs.Tree.{Trees}
+use Rattle.atl_tables.specs.declared.format.Format.{Format}
+use Rattle.atl_tables.specs.declared.format.Format.TheVariants.{First, Second}
 use Rattle.atl_store.specs.Sets.{field, table, IsKeyed}
 
 abbrev pub number : List ℕ → Column
@@ -37,6 +39,10 @@ has_unique = 1 ∷ 2 ∷ 3 ∷ []
 -- entry and thing
 abbrev pub books_unique : List ℕ
 books_unique = 1 ∷ 2 ∷ []
+
+-- region and item
+abbrev pub market_unique : List ℕ
+market_unique = 1 ∷ 2 ∷ []
 
 -- ---- the tables, each with the tree that it stands at
 
@@ -75,6 +81,9 @@ report_table = table 9 (codes "report") (number (codes "faction") ∷ text (code
 abbrev pub books_table : Table
 books_table = table 10 (codes "books") (number (codes "entry") ∷ number (codes "thing") ∷ number (codes "amount") ∷ []) None books_unique (books_unique ∷ []) []
 
+abbrev pub market_table : Table
+market_table = table 12 (codes "market") (number (codes "region") ∷ number (codes "item") ∷ number (codes "stock") ∷ []) None market_unique (market_unique ∷ []) []
+
 -- the parts of a campaign, each of which has a table
 pub data Part : Type 0 where
   Own : Part
@@ -86,6 +95,7 @@ pub data Part : Type 0 where
   Mail : Part
   Reports : Part
   Books : Part
+  Markets : Part
 
 abbrev pub table_of : Part → Table
 table_of Own = campaign_table
@@ -97,17 +107,18 @@ table_of Structures = structure_table
 table_of Mail = mail_table
 table_of Reports = report_table
 table_of Books = books_table
+table_of Markets = market_table
 
 -- in the order in which their tables are made
 abbrev pub all_parts : List Part
-all_parts = Own ∷ Factions ∷ Regions ∷ Units ∷ Goods ∷ Structures ∷ Mail ∷ Reports ∷ Books ∷ []
+all_parts = Own ∷ Factions ∷ Regions ∷ Units ∷ Goods ∷ Structures ∷ Mail ∷ Reports ∷ Books ∷ Markets ∷ []
 
 -- those whose rows are written together
 abbrev pub player_parts : List Part
 player_parts = Own ∷ Factions ∷ Reports ∷ []
 
 abbrev pub place_parts : List Part
-place_parts = Regions ∷ Structures ∷ Books ∷ []
+place_parts = Regions ∷ Structures ∷ Books ∷ Markets ∷ []
 
 abbrev pub people_parts : List Part
 people_parts = Units ∷ Goods ∷ Mail ∷ []
@@ -117,7 +128,7 @@ all_tables = map table_of all_parts
 
 -- the keys that are not the row's number have an index of their own
 abbrev pub all_indexes : List Index
-all_indexes = automatic faction_table 0 faction_unique 2 ∷ automatic has_table 0 has_unique 6 ∷ automatic books_table 0 books_unique 11 ∷ []
+all_indexes = automatic faction_table 0 faction_unique 2 ∷ automatic has_table 0 has_unique 6 ∷ automatic books_table 0 books_unique 11 ∷ automatic market_table 0 market_unique 13 ∷ []
 
 -- the schema once so many of the tables are made, which have so many indexes
 abbrev pub first_tables : ℕ → ℕ → Schema
@@ -161,6 +172,24 @@ table_count = length all_tables
 
 abbrev pub index_count : ℕ
 index_count = length all_indexes
+
+-- the first format has no table of markets
+abbrev pub parts_in : Format → List Part
+parts_in First = take 9 all_parts
+parts_in Second = all_parts
+
+-- so many tables and indexes of their keys a format has
+abbrev pub tables_in : Format → ℕ
+tables_in First = 9
+tables_in Second = table_count
+
+abbrev pub indexes_in : Format → ℕ
+indexes_in First = 3
+indexes_in Second = index_count
+
+-- the schema begins with the tables of a format
+abbrev pub HasTablesOf : Format → Schema → Type 0
+HasTablesOf f = Begins (tables_in f) (indexes_in f)
 
 -- all the tables with their indexes, and what came behind them
 abbrev pub all_and : List Table → List Index → Schema

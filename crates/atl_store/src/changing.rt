@@ -34,14 +34,15 @@ fn rewrite_players<S: Alter>(tx: &mut Transaction<'_, S>, campaign: &Campaign) -
     rewrite_marked::<Text, S>(tx, campaign)
 }
 
-/// Regions, structures and books.
+/// Regions, their stocks, structures and books.
 fn rewrite_places<S: Alter>(tx: &mut Transaction<'_, S>, campaign: &Campaign) -> Result<(), Error>
     requires { length campaign.now.value.books ≤ most_things }
     ensures { Writes S.Store (OfChange campaign.now.value) (Inside HasTables (RewritesParts campaign.now place_parts)) result tx.old.conn tx.new.conn }
 {
     rewrite_marked::<Region, S>(tx, campaign)?;
     rewrite_marked::<Structure, S>(tx, campaign)?;
-    rewrite_books(tx, campaign)
+    rewrite_books(tx, campaign)?;
+    rewrite_marked_groups::<Region, S>(tx, campaign)
 }
 
 /// Units, what they have, and mail.

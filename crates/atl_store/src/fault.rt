@@ -52,6 +52,43 @@ pub enum StoreFault {
     Damaged(Rule),
     /// There is no table `campaign`, or it lacks a column.
     NotACampaign,
+    /// The campaign has one row of its own, whose format is the first: the file is to be upgraded.
+    OldFormat,
+    /// There is no memory for it.
+    Memory,
+}
+
+/// Why no campaign of a format is loaded. Nothing is changed.
+#[derive(Drop, Clone, Copy, Debug, PartialEq, Eq)]
+pub enum LoadFault {
+    /// The database refuses for another cause than memory, is in a transaction, or has tables that are not made as those of the
+    /// format.
+    Store,
+    /// The rows of the tables break this rule, and none before it.
+    Damaged(Rule),
+    /// There is no table `campaign`, or it lacks a column.
+    NotACampaign,
+    /// The campaign has one row of its own, whose format is the other one.
+    OtherFormat,
+    /// There is no memory for it.
+    Memory,
+}
+
+/// Why no file is upgraded. While the connection is open the tables are as they were; a crash leaves them so, or upgraded.
+#[derive(Drop, Debug)]
+pub enum UpgradeFault {
+    /// The database refuses for another cause than memory, is in a transaction, or has other tables than those of the first format.
+    Store,
+    /// The rows of the tables break this rule of the first format, and none before it.
+    Damaged(Rule),
+    /// There is no table `campaign`, or it lacks a column.
+    NotACampaign,
+    /// The campaign has one row of its own, whose format is the second.
+    NotOld,
+    /// The new world text has this fault, which is not Memory.
+    World(WorldFault),
+    /// The new world differs from the old one in more than its markets.
+    Differs,
     /// There is no memory for it.
     Memory,
 }

@@ -17,6 +17,7 @@ use crate::goods::put_all_goods;
 use crate::head::put_head;
 use crate::kept::put_each;
 use crate::ledger::put_all_books;
+use crate::markets::put_all_stocks;
 use crate::rows::unit::put_units;
 use crate::tables::create_tables;
 use atl_state::Campaign;
@@ -36,14 +37,15 @@ fn put_players<S: Alter>(
     put_each(tx, campaign.reports())
 }
 
-/// Puts the regions, the structures and the books.
+/// Puts the regions, their stocks, the structures and the books.
 fn put_places<S: Alter>(tx: &mut Transaction<'_, S>, campaign: &Campaign) -> Result<(), Error>
     requires { length campaign.now.value.books ≤ most_things }
     ensures { Writes S.Store (OfRow campaign.now.value) (Inside HasTables (FillsParts campaign.now.value place_parts)) result tx.old.conn tx.new.conn }
 {
     put_each(tx, campaign.regions())?;
     put_each(tx, campaign.structures())?;
-    put_all_books(tx, campaign)
+    put_all_books(tx, campaign)?;
+    put_all_stocks(tx, campaign.regions())
 }
 
 /// Puts the units, what they have, and the mail.

@@ -14,6 +14,7 @@ mod kept;
 mod ledger;
 mod loading;
 mod mailing;
+mod markets;
 mod reopening;
 pub mod rows;
 pub mod schema;

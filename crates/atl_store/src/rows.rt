@@ -6,6 +6,7 @@ mod columns;
 pub mod faction;
 pub mod has;
 pub mod mail;
+pub mod market;
 pub mod region;
 pub mod report;
 pub(crate) mod stored;

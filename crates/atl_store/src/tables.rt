@@ -1,7 +1,9 @@
 //! The tables are made.
+ghost use Rattle.std.specs.Prelude.{[]};
 ghost use Rattle.atl_store.specs.Tables.{first_tables};
-ghost use Rattle.atl_store.specs.OwnStatements.{Creations};
-ghost use Rattle.atl_store.specs.Writes.{Writes};
+ghost use Rattle.atl_store.specs.OwnStatements.{Only, Creations};
+ghost use Rattle.atl_store.specs.Statements.{creation};
+ghost use Rattle.atl_store.specs.Writes.{Writes, Runs};
 ghost use Rattle.atl_store.specs.Inside.{Inside, IsBlank};
 ghost use Rattle.atl_store.specs.Making.{Extends, AreEmpty};
 
@@ -35,6 +37,9 @@ const REPORT: &str =
 const BOOKS: &str =
     "CREATE TABLE books (entry INTEGER NOT NULL, thing INTEGER NOT NULL, amount INTEGER NOT NULL, PRIMARY KEY (entry, thing)) STRICT";
 
+const MARKET: &str =
+    "CREATE TABLE market (region INTEGER NOT NULL, item INTEGER NOT NULL, stock INTEGER NOT NULL, PRIMARY KEY (region, item)) STRICT";
+
 /// The tables of the campaign, its factions and its regions.
 fn create_first_three<S: Alter>(tx: &mut Transaction<'_, S>) -> Result<(), Error>
     ensures { Writes S.Store Creations (Extends (first_tables 0 0) (first_tables 3 1)) result tx.old.conn tx.new.conn }
@@ -62,11 +67,19 @@ fn create_last_three<S: Alter>(tx: &mut Transaction<'_, S>) -> Result<(), Error>
     run(tx, BOOKS, &[])
 }
 
+/// The table of the stocks of markets, which the first format hasn't.
+pub(crate) fn create_market<S: Alter>(tx: &mut Transaction<'_, S>) -> Result<(), Error>
+    ensures { Writes S.Store (Only (creation 9) []) (Runs (creation 9) []) result tx.old.conn tx.new.conn }
+{
+    run(tx, MARKET, &[])
+}
+
 /// Makes the tables, each with no row, where there is none.
 pub(crate) fn create_tables<S: Alter>(tx: &mut Transaction<'_, S>) -> Result<(), Error>
     ensures { Writes S.Store Creations (Inside IsBlank AreEmpty) result tx.old.conn tx.new.conn }
 {
     create_first_three(tx)?;
     create_next_three(tx)?;
-    create_last_three(tx)
+    create_last_three(tx)?;
+    create_market(tx)
 }

@@ -22,7 +22,7 @@ use atl_state::parts::StoredHead;
 use sqlite::{Alter, Connection, Error, Row, Transaction, params};
 use std::alloc::Global;
 
-/// What the campaign's own row says beside its format, which is 1, and the world text.
+/// What the campaign's own row says beside its format, which is 2, and the world text.
 #[derive(Clone, Copy, Debug)]
 pub struct CampaignRow<'a> {
     /// The month last closed, 0 before the first.
@@ -47,7 +47,7 @@ pub(crate) fn put_campaign<S: Alter>(
 {
     run(
         tx,
-        "INSERT INTO campaign (id, format, month, next_faction, next_unit, next_structure, pass, world) VALUES (1, 1, ?1, ?2, ?3, ?4, ?5, ?6) ON CONFLICT (id) DO UPDATE SET month = ?1, next_faction = ?2, next_unit = ?3, next_structure = ?4, pass = ?5",
+        "INSERT INTO campaign (id, format, month, next_faction, next_unit, next_structure, pass, world) VALUES (1, 2, ?1, ?2, ?3, ?4, ?5, ?6) ON CONFLICT (id) DO UPDATE SET month = ?1, next_faction = ?2, next_unit = ?3, next_structure = ?4, pass = ?5",
         params![
             row.month,
             row.next_faction,

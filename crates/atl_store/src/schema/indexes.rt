@@ -4,7 +4,7 @@ ghost use Rattle.std.specs.Bool.{Decides};
 ghost use Rattle.std.specs.List.{AllByRecursion, list_any};
 ghost use Rattle.sqlite_catalog.specs.Listing.{automatic};
 ghost use Rattle.sqlite_value.specs.Keys.{plain};
-ghost use Rattle.atl_store.specs.Tables.{faction_table, has_table, books_table, all_tables, all_indexes, IsHarmless, AreIndexes};
+ghost use Rattle.atl_store.specs.Tables.{faction_table, has_table, books_table, market_table, all_tables, all_indexes, IsHarmless, AreIndexes};
 
 use crate::schema::keys::is_plain;
 use crate::schema::places;
@@ -58,6 +58,18 @@ fn is_books_index(found: &Index) -> bool
     )
 }
 
+fn is_market_index(found: &Index) -> bool
+    ensures { Decides result (found.now ≡ automatic market_table 0 (1 ∷ 2 ∷ []) 13) }
+{
+    is_index(
+        found,
+        b"sqlite_autoindex_market_1",
+        places::MARKET_INDEX,
+        places::MARKET,
+        &places::MARKET_UNIQUE,
+    )
+}
+
 /// Whether this is the index with this place among those of the keys that are not the row's number.
 fn is_key_index(found: &Index, place: usize) -> bool
     ensures { Decides result (slice_get all_indexes place ≡ Some found.now) }
@@ -66,6 +78,7 @@ fn is_key_index(found: &Index, place: usize) -> bool
         0 => is_faction_index(found),
         1 => is_has_index(found),
         2 => is_books_index(found),
+        3 => is_market_index(found),
         _ => false,
     }
 }

@@ -19,15 +19,17 @@ pub(crate) const REPORT: u32 = 9;
 
 pub(crate) const BOOKS: u32 = 10;
 
+pub(crate) const MARKET: u32 = 12;
+
 /// How many tables a campaign has.
-pub(crate) const TABLES: usize = 9;
+pub(crate) const TABLES: usize = 10;
 
 /// How many indexes the keys of its tables have.
-pub(crate) const INDEXES: usize = 3;
+pub(crate) const INDEXES: usize = 4;
 
 /// In the order in which the tables are made.
 pub(crate) const TREES: [u32; TABLES] = [
-    CAMPAIGN, FACTION, REGION, UNIT, HAS, STRUCTURE, MAIL, REPORT, BOOKS,
+    CAMPAIGN, FACTION, REGION, UNIT, HAS, STRUCTURE, MAIL, REPORT, BOOKS, MARKET,
 ];
 
 /// The trees of the indexes.
@@ -36,6 +38,8 @@ pub(crate) const FACTION_INDEX: u32 = 2;
 pub(crate) const HAS_INDEX: u32 = 6;
 
 pub(crate) const BOOKS_INDEX: u32 = 11;
+
+pub(crate) const MARKET_INDEX: u32 = 13;
 
 /// The column that is the row's number, where the rows of a table have one.
 pub(crate) const NUMBER_COLUMN: usize = 0;
@@ -51,3 +55,6 @@ pub(crate) const HAS_UNIQUE: [usize; 3] = [1, 2, 3];
 
 /// The places of `entry` and `thing`.
 pub(crate) const BOOKS_UNIQUE: [usize; 2] = [1, 2];
+
+/// The places of `region` and `item`.
+pub(crate) const MARKET_UNIQUE: [usize; 2] = [1, 2];

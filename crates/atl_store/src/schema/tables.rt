@@ -1,7 +1,7 @@
 //! The tables of a campaign, one by one.
 ghost use Rattle.std.specs.Prelude.{◌≡◌, ◌≤◌, length, slice_get, take};
 ghost use Rattle.std.specs.Bool.{Decides};
-ghost use Rattle.atl_store.specs.Tables.{campaign_table, faction_table, region_table, unit_table, has_table, structure_table, mail_table, report_table, books_table, all_tables};
+ghost use Rattle.atl_store.specs.Tables.{campaign_table, faction_table, region_table, unit_table, has_table, structure_table, mail_table, report_table, books_table, market_table, all_tables};
 
 use crate::schema::checks::is_own_row;
 use crate::schema::keys::{has_no_unique, is_numbered, is_unique};
@@ -160,6 +160,22 @@ fn is_books(found: &Table) -> bool
     )
 }
 
+fn is_market(found: &Table) -> bool
+    ensures { Decides result (found.now ≡ market_table) }
+{
+    is_keyed(
+        found,
+        places::MARKET,
+        b"market",
+        &[
+            (b"region", Kind::Integer),
+            (b"item", Kind::Integer),
+            (b"stock", Kind::Integer),
+        ],
+        &places::MARKET_UNIQUE,
+    )
+}
+
 /// Whether this is the table with this place among those of a campaign, in the order in which they are made.
 fn is_table(found: &Table, place: usize) -> bool
     ensures { Decides result (slice_get all_tables place ≡ Some found.now) }
@@ -174,6 +190,7 @@ fn is_table(found: &Table, place: usize) -> bool
         6 => is_mail(found),
         7 => is_report(found),
         8 => is_books(found),
+        9 => is_market(found),
         _ => false,
     }
 }

@@ -1,0 +1,88 @@
+//! The stocks of markets, written row by row.
+ghost use Rattle.atl_store.specs.Tables.{market_table};
+ghost use Rattle.atl_store.specs.Rows.{MarketRowsOf};
+ghost use Rattle.atl_store.specs.Lines.{stock_lines, stocks_lines, region_lines, all_stocks_lines};
+ghost use Rattle.atl_store.specs.OwnStatements.{puts_market, drops_stocks};
+ghost use Rattle.atl_store.specs.Writes.{WritesRows};
+
+use crate::grouped::Grouped;
+use crate::rows::market::{drop_stocks, put_stock};
+use atl_state::{Campaign, Region};
+use atl_tables::{Entries, MarkedNumbers};
+use sqlite::{Alter, Error, Transaction};
+
+/// Puts the row of a stock that is not 0.
+fn put_some<S: Alter>(
+    tx: &mut Transaction<'_, S>,
+    region: u32,
+    item: u32,
+    stock: u32,
+) -> Result<(), Error>
+    ensures { WritesRows S.Store market_table 2 (stock_lines region item stock) result tx.old.conn tx.new.conn }
+{
+    if stock == 0 {
+        return Ok(());
+    }
+    put_stock(tx, region, item, stock)
+}
+
+/// Puts the rows of a region's stocks.
+fn put_stocks<S: Alter>(
+    tx: &mut Transaction<'_, S>,
+    region: u32,
+    stocks: Entries<'_, u32>,
+) -> Result<(), Error>
+    ensures { WritesRows S.Store market_table 2 (stocks_lines region stocks.entry) result tx.old.conn tx.new.conn }
+{
+    for (item, stock) in stocks {
+        put_some(tx, region, item, *stock)?;
+    }
+    Ok(())
+}
+
+/// Puts the rows of the stocks of all regions.
+pub(crate) fn put_all_stocks<S: Alter>(
+    tx: &mut Transaction<'_, S>,
+    regions: Entries<'_, Region>,
+) -> Result<(), Error>
+    ensures { WritesRows S.Store market_table 2 (all_stocks_lines regions.entry) result tx.old.conn tx.new.conn }
+{
+    for (number, region) in regions {
+        put_stocks(tx, number, region.stocks.iter())?;
+    }
+    Ok(())
+}
+
+impl Grouped for Region {
+    ghost table = { market_table };
+
+    ghost more = { 1 };
+
+    ghost lines = { region_lines };
+
+    ghost values = { λ c. c.regions };
+
+    ghost wanted = { λ c. MarketRowsOf c.regions };
+
+    ghost marks = { λ m. m.regions };
+
+    ghost of_row = { λ c r is. puts_market is };
+
+    ghost of_number = { λ c n. drops_stocks };
+
+    fn under(campaign: &Campaign, number: u32) -> Option<&Region> {
+        campaign.region(number)
+    }
+
+    fn marked_groups(campaign: &Campaign) -> MarkedNumbers<'_> {
+        campaign.marked_regions()
+    }
+
+    fn put_rows<S: Alter>(&self, tx: &mut Transaction<'_, S>, number: u32) -> Result<(), Error> {
+        put_stocks(tx, number, self.stocks.iter())
+    }
+
+    fn drop_rows<S: Alter>(tx: &mut Transaction<'_, S>, number: u32) -> Result<(), Error> {
+        drop_stocks(tx, number)
+    }
+}

@@ -1,0 +1,73 @@
+//! The table of the stocks of markets.
+ghost use Rattle.std.specs.Prelude.{◌≡◌, false, [], ◌∷◌};
+ghost use Rattle.atl_store.specs.Tables.{market_table};
+ghost use Rattle.atl_store.specs.Shown.{int, market_row};
+ghost use Rattle.atl_store.specs.Statements.{placed_selection};
+ghost use Rattle.atl_store.specs.Writes.{WritesRow, TakesOut};
+ghost use Rattle.atl_store.specs.StoredRows.{market_stored, market_forms};
+ghost use Rattle.atl_store.specs.Reading.{placed_rows_in};
+
+use crate::fault::ReadFault;
+use crate::rows::columns::two_integers;
+use crate::rows::stored::{Listed, Placed, Stored, read_all};
+use crate::statement::run;
+use atl_state::parts::StoredMarket;
+use sqlite::{Alter, Connection, Error, Row, Transaction, params};
+use std::alloc::Global;
+
+/// Inserts the row of a stock, or changes the one that has its region and item.
+pub(crate) fn put_stock<S: Alter>(
+    tx: &mut Transaction<'_, S>,
+    region: u32,
+    item: u32,
+    stock: u32,
+) -> Result<(), Error>
+    ensures { WritesRow S.Store market_table 2 (market_row region item stock) result tx.old.conn tx.new.conn }
+{
+    run(
+        tx,
+        "INSERT INTO market (region, item, stock) VALUES (?1, ?2, ?3) ON CONFLICT (region, item) DO UPDATE SET stock = ?3",
+        params![region, item, stock],
+    )
+}
+
+/// Deletes all rows of this region.
+pub(crate) fn drop_stocks<S: Alter>(tx: &mut Transaction<'_, S>, region: u32) -> Result<(), Error>
+    ensures { TakesOut S.Store market_table 1 (int region ∷ []) result tx.old.conn tx.new.conn }
+{
+    run(tx, "DELETE FROM market WHERE region = ?1", params![region])
+}
+
+impl Stored for Placed<StoredMarket> {
+    ghost forms = { market_forms };
+
+    ghost shown = { market_stored };
+
+    fn from_row(_alloc: Global, row: &Row) -> Result<Placed<StoredMarket>, Error> {
+        let (region, item) = two_integers(row, 0)?;
+        let (stock, rowid) = two_integers(row, 2)?;
+        let row = StoredMarket {
+            region,
+            item,
+            stock,
+        };
+        Ok(Placed { row, rowid })
+    }
+}
+
+impl Listed for Placed<StoredMarket> {
+    ghost select = { placed_selection market_table 2 };
+
+    ghost in_table = { placed_rows_in market_table };
+
+    fn read<S: Alter>(
+        alloc: Global,
+        conn: &mut Connection<S>,
+    ) -> Result<Vec<Placed<StoredMarket>>, ReadFault> {
+        read_all(
+            alloc,
+            conn,
+            "SELECT region, item, stock, rowid FROM market ORDER BY region, item",
+        )
+    }
+}
