@@ -28,6 +28,9 @@ pub mod KeyLaws
 pub mod KeyedRowLaws
 pub mod HasRowLaws
 pub mod BooksRowLaws
+pub mod OwnRowLaws
+pub mod UpgradeHeadLaws
+pub mod UpgradeLaws
 pub mod HeadRowLaws
 pub mod ShownLaws
 pub mod CheckTerms

@@ -30,23 +30,6 @@ use Rattle.atl_store.specs.Rows.{Holds, HoldsIn}
 use Rattle.atl_store.specs.Sets.{IsKeyed}
 use Rattle.atl_store.specs.Tables.{first_tables, tables_in, indexes_in, parts_in, table_of}
 
--- ---- the transaction
-
--- just the tables of the first format
-abbrev pub IsJustOld : Schema → Type 0
-IsJustOld schema = schema ≡ first_tables (tables_in First) (indexes_in First)
-
-pub record IsOld (db : Database) : Type 0 where
-  pub just : IsJustOld db.schema
-  pub keyed : (table : Table) → Has (map table_of (parts_in First)) table → IsKeyed (db.trees table.tree)
-  pub listed : IsSound db.schema db.trees
-
--- where the tables held the campaign in the first format, with whatever text, and it has nothing in stock, they hold it with this text
-abbrev pub WritesUpgrade : List ℕ → CampaignValue → Database → Database → Type 0
-WritesUpgrade text c old new = (before : List ℕ) → HoldsIn First old.trees before c → HasNoStocks c → Holds new.trees text c
-
--- ---- the whole
-
 -- the tables hold this good campaign in the first format, and a text of this world
 pub record HoldsOld (s : State) (w : WorldValue) (c : CampaignValue) : Type 0 where
   pub text : List ℕ
