@@ -1,10 +1,8 @@
 -- The steps of an upgrade, and both together.
-use Rattle.std.proofs.Common.{◌≡◌, ◌≢◌, ◌++◌, ℕ, List, [], ◌∷◌, IsTrue, map, take, refl, sym, ap, ◌∙◌, subst, inl, inr}
+use Rattle.std.proofs.Common.{◌≡◌, ◌≢◌, ◌++◌, ℕ, List, [], ◌∷◌, IsTrue, drop, map, take, refl, sym, ap, ◌∙◌, subst, inl, inr}
 use Rattle.std.specs.Ordering.{nat_cmp}
 use Rattle.std.specs.FinMap.{FinMap, get, empty, get-empty}
-use Rattle.sqlite_tied.specs.Compute.{everything}
 use Rattle.sqlite.specs.Effect.{Database}
-use Rattle.sqlite.specs.Listing.{understood}
 use Rattle.sqlite.specs.Order.{Row}
 use Rattle.sqlite.specs.Schema.{Schema}
 use Rattle.sqlite.specs.State.{State}
@@ -23,7 +21,7 @@ use Rattle.atl_store.specs.Statements.{creation}
 use Rattle.atl_store.specs.Tables.{Part, Own, Factions, Regions, Units, Goods, Structures, Mail, Reports, Books, Markets, campaign_table, market_table, all_tables, all_indexes, all_trees, first_tables, parts_in, table_of}
 use Rattle.atl_store.specs.UpgradeSteps.{AddsMarkets, IsOld, UpgradesHead, WritesUpgrade}
 use Rattle.atl_store.specs.Writes.{Runs}
-use Rattle.atl_store.proofs.CreateLaws.{creates}
+use Rattle.atl_store.proofs.CreateTexts.{makes_table, market_create}
 use Rattle.atl_store.proofs.ListLaws.{has_map}
 use Rattle.atl_store.proofs.Made.{Creates}
 use Rattle.atl_store.proofs.PartLaws.{listed, same_part}
@@ -36,10 +34,6 @@ abbrev new_schema : Schema
 new_schema = first_tables 10 4
 
 -- ---- the table of markets
-
-creates_market : (old new : State) → Runs (creation 9) [] old new → old.now.schema ≡ old_schema → Creates old_schema new_schema market_table.tree old.now new.now
-unfolding understood everything
-creates_market old new (inside, count, ran) is = creates old_schema (record market_table { tree = 0 }) (creation 9) old new count refl refl refl (refl, refl) refl is ran.0
 
 no_rows : IsKeyed []
 no_rows = record { apart = tt; ints = tt }
@@ -62,7 +56,7 @@ module _ (old new : Database) (is : IsOld old) (made : Creates old_schema new_sc
   carries_all : Carries old new
   carries_all = record {
     tables = λ t there. subst (λ (s : Schema). Has s.tables t) (sym made.schema_is) (has_left old_schema.tables (market_table ∷ []) t (subst (λ (s : Schema). Has s.tables t) is.just there));
-    indexes = λ i there. subst (λ (s : Schema). Has s.indexes i) (sym made.schema_is) (has_left old_schema.indexes _ i (subst (λ (s : Schema). Has s.indexes i) is.just there));
+    indexes = λ i there. subst (λ (s : Schema). Has s.indexes i) (sym made.schema_is) (has_left old_schema.indexes (drop 3 all_indexes) i (subst (λ (s : Schema). Has s.indexes i) is.just there));
     others = λ t there free.
         let was = subst (λ (s : Schema). Has s.tables t) is.just there in
         absurd (free (has_map (λ (u : Table). u.tree) all_tables t (has_left old_schema.tables (market_table ∷ []) t was)));
@@ -72,7 +66,7 @@ pub adds_markets : (old new : State) → Runs (creation 9) [] old new → Inside
 adds_markets old new ran = (
   ran.2.1.mode ∙ sym ran.0,
   λ is.
-      let made = creates_market old new ran is.just in
+      let made = makes_table old_schema new_schema market_table (creation 9) market_create old new ran.1 is.just ran.2.0 in
       record {
         does = record { empty = made.empty; others = λ t there. made.others t there };
         tables = has_all old.now new.now is made;
@@ -123,9 +117,7 @@ module _ (text : List ℕ) (c : CampaignValue) (old mid new : Database) (first :
       rows Mail = kept Mail (λ e. absurd cc) (inr (inr (inr (inr (inr (inr (inl refl)))))))
       rows Reports = kept Reports (λ e. absurd cc) (inr (inr (inr (inr (inr (inr (inr (inl refl))))))))
       rows Books = kept Books (λ e. absurd cc) (inr (inr (inr (inr (inr (inr (inr (inr (inl refl)))))))))
-      rows Markets r =
-          let none : rows_in market_table new.trees ≡ [] = rest Markets (λ e. absurd cc) ∙ ap (map (visible market_table)) first.empty in
-          (λ there. absurd (subst (λ l. Has l r) none there), λ of. absurd (no_stocks c bare r of))
+      rows Markets = λ r. (λ there. absurd (subst (λ l. Has l r) (rest Markets (λ e. absurd cc) ∙ ap (map (visible market_table)) first.empty) there), λ of. absurd (no_stocks c bare r of))
 
 -- the head is upgraded behind the new table
 pub upgrade_done : (text : List ℕ) (c : CampaignValue) (start mid end : State) → Inside IsOld AddsMarkets start mid → Inside HasTables (UpgradesHead (head_of c) text) mid end → Inside IsOld (WritesUpgrade text c) start end
