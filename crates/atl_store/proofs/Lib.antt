@@ -31,6 +31,7 @@ pub mod BooksRowLaws
 pub mod OwnRowLaws
 pub mod UpgradeHeadLaws
 pub mod UpgradeLaws
+pub mod MarketRowLaws
 pub mod HeadRowLaws
 pub mod ShownLaws
 pub mod CheckTerms
@@ -42,6 +43,7 @@ pub mod PutsLaws
 mod PuttingLaws
 pub mod EntryLaws
 pub mod GoodsLaws
+pub mod MarketLaws
 pub mod LedgerLaws
 pub mod WholeLaws
 pub mod StayLaws
