@@ -1,5 +1,6 @@
 //! The table of the books: signed amounts by entry and thing.
 ghost use Rattle.std.specs.Prelude.{◌≡◌, false};
+ghost use Rattle.atl_tables.specs.declared.format.Format.TheVariants.{First};
 ghost use Rattle.atl_store.specs.Tables.{books_table};
 ghost use Rattle.atl_store.specs.Shown.{books_key};
 ghost use Rattle.atl_store.specs.Written.{books_shown};
@@ -71,6 +72,8 @@ impl Stored for Placed<StoredBooks> {
 }
 
 impl Listed for Placed<StoredBooks> {
+    ghost since = { First };
+
     ghost select = { placed_selection books_table 2 };
 
     ghost in_table = { placed_rows_in books_table };

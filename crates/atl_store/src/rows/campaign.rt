@@ -1,5 +1,6 @@
 //! The table of the campaign's own row.
 ghost use Rattle.std.specs.Prelude.{◌≡◌, false, not, IsTrue, IfOk, IfErr};
+ghost use Rattle.atl_tables.specs.declared.format.Format.TheVariants.{First};
 ghost use Rattle.atl_store.specs.Faults.{is_memory};
 ghost use Rattle.atl_store.specs.Stored.{first_columns, IsTyped};
 ghost use Rattle.atl_store.specs.Tables.{campaign_table};
@@ -152,6 +153,8 @@ pub(crate) fn select_campaign<S: Alter>(conn: &mut Connection<S>) -> Result<Vec<
 }
 
 impl Listed for StoredCampaign {
+    ghost since = { First };
+
     ghost select = { selection campaign_table 1 };
 
     ghost in_table = { rows_in campaign_table };
