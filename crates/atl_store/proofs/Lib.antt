@@ -31,11 +31,13 @@ pub mod BooksRowLaws
 pub mod OwnRowLaws
 pub mod UpgradeHeadLaws
 pub mod UpgradeLaws
+pub mod BareWorldLaws
 pub mod MarketRowLaws
 pub mod HeadRowLaws
 pub mod ShownLaws
 pub mod CheckTerms
 pub mod SchemaLaws
+pub mod JustOldLaws
 pub mod SelectLaws
 pub mod SelectingLaws
 pub mod RowsLaws
@@ -47,6 +49,7 @@ pub mod MarketLaws
 pub mod LedgerLaws
 pub mod WholeLaws
 pub mod StayLaws
+pub mod UpgradedLaws
 pub mod FillLaws
 pub mod ArriveLaws
 pub mod JoinLaws

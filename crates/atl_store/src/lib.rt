@@ -30,3 +30,4 @@ pub use joining::write_join;
 pub use loading::load;
 pub use mailing::write_mail;
 pub use reopening::reopened;
+pub use upgrading::upgrade;
