@@ -54,4 +54,4 @@ module _ (f : Format) {S : Type 0} (g : Ghosts S) (old during : Held S) (begins 
 
   pub unconfirmed : {A : Type 0} (r : Result A LoadFault) → IsErrAnd r (λ told. told ≡ load_fault e) → IfErr r (FailsToConfirm g old f)
   unconfirmed (Ok a) told = tt
-  unconfirmed (Err f) told = subst (FailsToConfirm g old f) (sym told) (told_by (is_memory e) refl)
+  unconfirmed (Err fault) told = subst (FailsToConfirm g old f) (sym told) (told_by (is_memory e) refl)

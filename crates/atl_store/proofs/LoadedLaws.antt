@@ -34,7 +34,7 @@ use Rattle.atl_store.specs.Loading.{HaveRows, HaveMarkets, KeepsOneRow, BreaksRu
 use Rattle.atl_store.specs.Rows.{Holds, HoldsIn}
 use Rattle.atl_store.specs.Statements.{selection}
 use Rattle.atl_store.specs.Sets.{IsKeyed}
-use Rattle.atl_store.specs.Tables.{HasTablesOf, campaign_table, has_table, books_table, market_table}
+use Rattle.atl_store.specs.Tables.{IsSoundly, HasTablesOf, campaign_table, has_table, books_table, market_table}
 use Rattle.atl_store.specs.WorldText.{world_text}
 use Rattle.atl_store.specs.declared.fault.LoadFault.{LoadFault}
 use Rattle.atl_store.specs.declared.fault.LoadFault.TheVariants.{Store, Damaged, NotACampaign, OtherFormat, Memory}
@@ -85,6 +85,7 @@ module _ {S : Type 0} (g : Ghosts S) (old : Held S) where
   all_keyed : (f : Format) {Z : Type 0} (read : OthersRead Z) → AreOthers g old f read → AreAllApart read → HasTablesOf f old.schema → (table : Table) → Has (placed_tables f) table → IsKeyed ((state g old).now.trees table.tree)
   all_keyed f read others apart begins = tables f others.1 begins
     where
+      first : HasTablesOf First old.schema
       first = has_first f old.schema begins
 
       keyed : Table → Type 0
@@ -97,8 +98,8 @@ module _ {S : Type 0} (g : Ghosts S) (old : Held S) where
       books = placed_keyed books_placed (state g old).now.trees read.0.1.1.items (others.0.1.1 first) apart.1
 
       tables : (f : Format) → AreMarkets g old f read.1.items → HasTablesOf f old.schema → (table : Table) → Has (placed_tables f) table → keyed table
-      tables First none begins table there = all_has keyed (placed_tables First) table (has, books, tt) there
-      tables Second are begins table there = all_has keyed (placed_tables Second) table (has, books, placed_keyed market_placed (state g old).now.trees read.1.items (are begins) apart.2, tt) there
+      tables First none begins table there = all_has keyed (placed_tables First) table (has, (books, tt)) there
+      tables Second are begins table there = all_has keyed (placed_tables Second) table (has, (books, (placed_keyed market_placed (state g old).now.trees read.1.items (are begins) apart.2, tt))) there
 
   no_rows_apart : {A : Type 0} (placed : List (Placed A)) → placed ≡ [] → IsDistinct (eq_by_cmp int_cmp) (map (λ s. s.rowid) placed)
   unfolding IsDistinct
@@ -111,7 +112,10 @@ module _ {S : Type 0} (g : Ghosts S) (old : Held S) where
     markets f others.1 made,
   )
     where
+      db : Trees
       db = (state g old).now.trees
+
+      first : HasTablesOf First old.schema
       first = has_first f old.schema made.begins
 
       markets : (f : Format) → AreMarkets g old f read.1.items → AreMade f g old → IsDistinct (eq_by_cmp int_cmp) (map (λ s. s.rowid) read.1.items)
@@ -294,7 +298,7 @@ module _ {S : Type 0} (g : Ghosts S) (old new : Held S) where
   -- a connection that holds a campaign in the second format keeps it, where a crash leaves what was committed
   keeps_second : (text : List ℕ) (c : CampaignValue) → ((db : Trees) → IsTrue (state g new).is_open → (state g new).may_leave db → db ≡ (state g new).committed.trees) → StandsIn Second (state g new) text c → Keeps (state g new) text c
   keeps_second text c store stands =
-      let sound = record { keyed = stands.keyed; listed = stands.listed } in
+      let sound : IsSoundly (state g new).now.schema (state g new).now.trees = record { keyed = stands.keyed; listed = stands.listed } in
       let rows = holds_all (state g new).now.trees text c stands.rows in
       record {
         idle = stands.idle;

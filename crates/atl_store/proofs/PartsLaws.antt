@@ -221,7 +221,7 @@ module _ (books : List (List ℤ)) where
 
 -- the first format has no table of markets
 pub no_markets : Has (parts_in First) Markets → ⊥
-no_markets there = all_has IsNoMarkets (parts_in First) Markets (tt, tt, tt, tt, tt, tt, tt, tt, tt, tt) there
+no_markets there = all_has IsNoMarkets (parts_in First) Markets (tt, (tt, (tt, (tt, (tt, (tt, (tt, (tt, (tt, tt))))))))) there
   where
     IsNoMarkets : Part → Type 0
     IsNoMarkets Markets = ⊥

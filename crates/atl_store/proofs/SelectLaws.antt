@@ -36,7 +36,7 @@ use Rattle.atl_store.proofs.ShownLaws.{whole_shown}
 -- ---- the formats
 
 market_harmless : IsHarmless 9 (automatic market_table 0 market_unique 13)
-market_harmless t there = all_has (λ t. guards (automatic market_table 0 market_unique 13) t ≡ false) (take 9 all_tables) t (refl, refl, refl, refl, refl, refl, refl, refl, refl, tt) there
+market_harmless t there = all_has (λ t. guards (automatic market_table 0 market_unique 13) t ≡ false) (take 9 all_tables) t (refl, (refl, (refl, (refl, (refl, (refl, (refl, (refl, (refl, tt))))))))) there
 
 -- a schema with the tables of a format has those of the first
 pub has_first : (f : Format) (schema : Schema) → HasTablesOf f schema → HasTablesOf First schema
