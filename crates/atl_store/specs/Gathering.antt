@@ -37,7 +37,7 @@ use Rattle.atl_store.specs.Loading.{HaveRows, AreOwnRow, IsOther, HasOtherType, 
 use Rattle.atl_store.specs.Reading.{Selects, placed_rows_in}
 use Rattle.atl_store.specs.Statements.{placed_selection, selection}
 use Rattle.atl_store.specs.Sets.{IsKeyed, rows_in}
-use Rattle.atl_store.specs.StoredRows.{campaign_stored, faction_stored, region_stored, unit_stored, structure_stored, mail_stored, report_stored, has_stored, books_stored, market_stored, faction_forms, region_forms, unit_forms, structure_forms, mail_forms, report_forms, has_forms, books_forms, market_forms}
+use Rattle.atl_store.specs.StoredRows.{campaign_stored, faction_stored, region_stored, unit_stored, structure_stored, mail_stored, report_stored, has_stored, books_stored, market_stored, faction_forms, region_forms, unit_forms, structure_forms, mail_forms, report_forms, has_forms, books_forms}
 use Rattle.atl_store.specs.Stored.{Form}
 use Rattle.atl_store.specs.Tables.{campaign_table, faction_table, region_table, unit_table, has_table, structure_table, mail_table, report_table, books_table, market_table, HasTablesOf}
 use Rattle.atl_store.specs.declared.fault.ReadFault.{ReadFault}
@@ -123,10 +123,6 @@ people_selects = (selection unit_table 1, unit_forms) ∷ (placed_selection has_
 
 abbrev pub work_selects : List (List ℕ × List Form)
 work_selects = (selection structure_table 1, structure_forms) ∷ (selection mail_table 1, mail_forms) ∷ (placed_selection books_table 2, books_forms) ∷ []
-
-abbrev pub market_selects : Format → List (List ℕ × List Form)
-market_selects First = []
-market_selects Second = (placed_selection market_table 2, market_forms) ∷ []
 
 -- what was read of the eight tables that both formats have
 abbrev pub EightRead : Type 0 → Type 0

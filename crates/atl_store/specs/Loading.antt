@@ -97,11 +97,19 @@ IsOther f rows = (row : Row) × (rows ≡ row ∷ []) × (column row 1 ≡ int (
 
 -- ---- the other tables
 
--- the SELECTs of the other tables, each with what its columns are read as
-abbrev pub other_selects : Format → List (List ℕ × List Form)
-other_selects First =
+-- the SELECTs of the eight other tables that both formats have, each with what its columns are read as
+abbrev pub eight_selects : List (List ℕ × List Form)
+eight_selects =
     (selection faction_table 1, faction_forms) ∷ (selection region_table 1, region_forms) ∷ (selection report_table 1, report_forms) ∷ (selection unit_table 1, unit_forms) ∷ (placed_selection has_table 3, has_forms) ∷ (selection structure_table 1, structure_forms) ∷ (selection mail_table 1, mail_forms) ∷ (placed_selection books_table 2, books_forms) ∷ []
-other_selects Second = other_selects First ++ (placed_selection market_table 2, market_forms) ∷ []
+
+-- that of the table of markets
+abbrev pub market_selects : Format → List (List ℕ × List Form)
+market_selects First = []
+market_selects Second = (placed_selection market_table 2, market_forms) ∷ []
+
+-- those of all other tables
+abbrev pub other_selects : Format → List (List ℕ × List Form)
+other_selects f = eight_selects ++ market_selects f
 
 -- those whose key is not the row's number
 abbrev pub placed_tables : Format → List Table

@@ -3,8 +3,7 @@
 ghost use Rattle.std.specs.Prelude.{◌≡◌, false, [], ◌∷◌};
 ghost use Rattle.sqlite.specs.Held.{state};
 ghost use Rattle.atl_store.specs.Gathering.{IsSettled, kept_of, AreRows, AreTwo, AreThree, AreEight, AreOthers, ReadsSome};
-ghost use Rattle.atl_store.specs.Loading.{other_selects};
-ghost use Rattle.atl_tables.specs.declared.format.Format.TheVariants.{First};
+ghost use Rattle.atl_store.specs.Loading.{eight_selects, other_selects};
 
 use crate::fault::{LoadFault, ReadFault};
 use crate::rows::{Listed, Placed};
@@ -93,7 +92,7 @@ fn read_eight<S: Alter>(
 ) -> Result<Option<Eight>, LoadFault>
     requires idle { conn.old.in_transaction ≡ false }
     requires settled { IsSettled (state S.Store conn.old) }
-    ensures { ReadsSome S.Store conn.old (other_selects First) (AreEight S.Store conn.old) result conn.new }
+    ensures { ReadsSome S.Store conn.old eight_selects (AreEight S.Store conn.old) result conn.new }
 {
     let places = read_three::<StoredFaction, StoredRegion, StoredReport, S>(alloc, conn)?;
     let people = read_two::<StoredUnit, Placed<StoredHas>, S>(alloc, conn)?;
