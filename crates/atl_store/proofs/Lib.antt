@@ -37,7 +37,6 @@ pub mod HeadRowLaws
 pub mod ShownLaws
 pub mod CheckTerms
 pub mod SchemaLaws
-pub mod JustOldLaws
 pub mod SelectLaws
 pub mod SelectingLaws
 pub mod RowsLaws

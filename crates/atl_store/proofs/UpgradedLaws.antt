@@ -37,7 +37,7 @@ use Rattle.atl_store.proofs.BareWorldLaws.{good_either}
 use Rattle.atl_store.proofs.StayLaws.{commits_keeps, leaves_spares, may_found}
 
 -- the fault that was handed on
-told_as : {A F : Type 0} (P : F → Type 0) (r : Result A F) (fault : F) → IsErrAnd r (λ f. f ≡ fault) → P fault → IfErr r P
+pub told_as : {A F : Type 0} (P : F → Type 0) (r : Result A F) (fault : F) → IsErrAnd r (λ f. f ≡ fault) → P fault → IfErr r P
 told_as P (Ok a) fault told p = tt
 told_as P (Err f) fault told p = subst P (sym told) p
 
@@ -154,7 +154,7 @@ module _ {S : Type 0} (g : Ghosts S) (text : List ℕ) (old mid new : Held S) (w
     same = λ up.
         let one = first.same (was_open up) in
         let two = second.same up in
-        (two.0 ∙ one.0, two.1.0 ∙ one.1.0, two.1.1 ∙ one.1.1);
+        (two.0 ∙ one.0, two.1 ∙ one.1, two.2 ∙ one.2);
     closes = λ was. elim (first.closes was) [
       | inl still ↦ elim (second.closes still) [ inl up ↦ inl up | inr more ↦ inr (omega (arith, early, more)) ]
       | inr more ↦ inr (omega (arith, late, more))
