@@ -38,7 +38,7 @@ ours : Has all_tables campaign_table
 ours = listed Own
 
 abbrev terms : List Term
-terms = lit (Int (pos 1)) ∷ lit Null ∷ lit (Int (pos 1)) ∷ col 0 0 ∷ col 0 1 ∷ col 0 2 ∷ col 0 3 ∷ col 0 4 ∷ col 0 5 ∷ []
+terms = lit (Int (pos 1)) ∷ lit Null ∷ lit (Int (pos 2)) ∷ col 0 0 ∷ col 0 1 ∷ col 0 2 ∷ col 0 3 ∷ col 0 4 ∷ col 0 5 ∷ []
 
 abbrev project : List Term
 project = col 1 0 ∷ lit Null ∷ col 1 2 ∷ col 0 0 ∷ col 0 1 ∷ col 0 2 ∷ col 0 3 ∷ col 0 4 ∷ col 1 8 ∷ []
@@ -52,7 +52,7 @@ unfolding understood everything
 put_plain more indexes = (refl, refl)
 
 -- of the one row that is there
-format_is : (r : Row) (head : Head) (text : List ℕ) → visible campaign_table r ≡ head_row head text → column r 2 ≡ int 1
+format_is : (r : Row) (head : Head) (text : List ℕ) → visible campaign_table r ≡ head_row head text → column r 2 ≡ int 2
 format_is r head text e = ap (λ row. column row 1) e
 
 world_is : (r : Row) (head : Head) (text : List ℕ) → visible campaign_table r ≡ head_row head text → column r 8 ≡ Text text
@@ -65,12 +65,12 @@ puts_head old new head world count has ran =
     let sound = sound_under old.now has in
     let none = unlinked has.begins.tables has.begins.indexes campaign_table.tree has.begins.free in
     let v = head_values head world in
-    let src = int 1 ∷ Null ∷ int 1 ∷ v in
+    let src = int 1 ∷ Null ∷ int 2 ∷ v in
     let w = runs_as campaign_upsert v old new schema has.begins.is _ (put_is has.begins.tables has.begins.indexes) (put_plain has.begins.tables has.begins.indexes) count ran.0 in
     let keyed = sound.keyed campaign_table ours in
     let up = upserting schema campaign_table.tree _ _ _ _ _ _ 0 refl none old.step_limit v (0 ∷ []) 6 project (λ db. refl) (statement_of campaign_upsert (understood schema campaign_upsert)) terms 9 src
     old.now.trees _ keyed (λ r there. refl) refl (did schema old new _ _ v count has.begins.is w) in
-    let casted : cast_row campaign_table src ≡ src = rw (cast_int (pos 1), cast_int (pos head.month), cast_int (pos head.next_faction), cast_int (pos head.next_unit), cast_int (pos head.next_structure), cast_null) refl in
+    let casted : cast_row campaign_table src ≡ src = rw (cast_int (pos 1), cast_int (pos 2), cast_int (pos head.month), cast_int (pos head.next_faction), cast_int (pos head.next_unit), cast_int (pos head.next_structure), cast_null) refl in
     let made : with_rowid Chosen (old.now.trees campaign_table.tree) (cast_row campaign_table src) ≡ src = ap (with_rowid Chosen (old.now.trees campaign_table.tree)) casted in
     let are_ints : (x : Row) → Has (old.now.trees campaign_table.tree) x → is_int (rowid x) ≡ true = λ x there. all_has _ (old.now.trees campaign_table.tree) x keyed.ints there in
     let upserted = subst (λ k. Upserted schema campaign_table none old.step_limit v (0 ∷ []) 6 project (λ db. refl) k old.now.trees new.now.trees) made up.0 in
@@ -88,7 +88,7 @@ puts_head old new head world count has ran =
     x.0 x.1 (ap (take 1) (sym x.2))
     (λ r there same.
     let shows = (is (visible campaign_table r)).0 (has_map (visible campaign_table) (old.now.trees campaign_table.tree) r there) in
-    rw (world_is r before text shows, format_is r before text shows, head_is _ _ _ _ same, cast_int (pos 1), cast_int (pos head.month), cast_int (pos head.next_faction), cast_int (pos head.next_unit), cast_int (pos head.next_structure)) refl)
+    rw (world_is r before text shows, format_is r before text shows, head_is _ _ _ _ same, cast_int (pos 1), cast_int (pos 2), cast_int (pos head.month), cast_int (pos head.next_faction), cast_int (pos head.next_unit), cast_int (pos head.next_structure)) refl)
     tests
     (λ x r one two same. one_number _ _ same)
     ours sound w.sound up.1) in

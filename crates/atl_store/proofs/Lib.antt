@@ -28,6 +28,7 @@ pub mod KeyLaws
 pub mod KeyedRowLaws
 pub mod HasRowLaws
 pub mod BooksRowLaws
+pub mod MarketRowLaws
 pub mod HeadRowLaws
 pub mod ShownLaws
 pub mod CheckTerms
@@ -39,6 +40,7 @@ pub mod PutsLaws
 mod PuttingLaws
 pub mod EntryLaws
 pub mod GoodsLaws
+pub mod MarketLaws
 pub mod LedgerLaws
 pub mod WholeLaws
 pub mod StayLaws

@@ -20,7 +20,7 @@ use std::alloc::Global;
 /// What is booked of a thing under an entry, which is not 0.
 #[derive(Clone, Copy, Debug)]
 pub struct BooksRow {
-    /// The number of the entry, from 1 to 13.
+    /// The number of the entry, from 1 to 16.
     pub entry: u32,
     /// 0 for money, 1 for people, and 2 more than its number for an item.
     pub thing: u32,
