@@ -27,6 +27,7 @@ pub mod NumberedRowLaws
 pub mod KeyLaws
 pub mod KeyedRowLaws
 pub mod HasRowLaws
+pub mod PairRowLaws
 pub mod BooksRowLaws
 pub mod OwnRowLaws
 pub mod UpgradeHeadLaws
