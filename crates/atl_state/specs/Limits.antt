@@ -10,7 +10,7 @@ last_month = 9999
 
 -- so many units at one time
 abbrev pub most_units : ℕ
-most_units = 10000
+most_units = 100000
 
 -- units are numbered from 1 up to this one
 abbrev pub last_unit : ℕ

@@ -4,7 +4,7 @@ use crate::books::Entry;
 use atl_tables::limits::MOST_AMOUNT;
 
 /// So many units stand at one time at most.
-pub const MOST_UNITS: usize = 10_000;
+pub const MOST_UNITS: usize = 100_000;
 
 /// The largest number that a unit can have; the smallest is 1.
 pub const LAST_UNIT: u32 = 999_999_999;

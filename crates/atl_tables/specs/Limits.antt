@@ -15,7 +15,7 @@ abbrev pub most_kinds : ℕ
 most_kinds = 100
 
 abbrev pub most_regions : ℕ
-most_regions = 2500
+most_regions = 10000
 
 -- of one region
 abbrev pub most_markets : ℕ
@@ -31,7 +31,7 @@ number_count = 2 ^ 32
 
 -- the highest number of a region
 abbrev pub last_region : ℕ
-last_region = 9999
+last_region = 99999
 
 -- the largest amount of money, of one item or of peasants
 abbrev pub most_amount : ℕ

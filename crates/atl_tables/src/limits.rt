@@ -13,13 +13,13 @@ pub const MOST_SKILLS: usize = 100;
 pub const MOST_KINDS: usize = 100;
 
 /// The most regions of a world.
-pub const MOST_REGIONS: usize = 2_500;
+pub const MOST_REGIONS: usize = 10_000;
 
 /// The most markets of a region.
 pub const MOST_MARKETS: usize = 200;
 
 /// The highest number of a region; the lowest is 1.
-pub const LAST_REGION: u32 = 9_999;
+pub const LAST_REGION: u32 = 99_999;
 
 /// The largest amount of money, of one item or of peasants.
 pub const MOST_AMOUNT: u32 = 999_999_999;
