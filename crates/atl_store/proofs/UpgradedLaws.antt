@@ -93,14 +93,14 @@ module _ {S : Type 0} (g : Ghosts S) (text : List ℕ) (old new : Held S) where
   fails_to_load load.Memory refused = inl refused
 
   pub fails_to_read : (fault : WorldFault) → Reads (λ (w : WorldValue). w) (Err fault) (world_of text) → HasOld g text old new → FailsCheck g text old new (new_world_fault fault)
-  fails_to_read world.NotToml reads was = (was, reads)
-  fails_to_read (world.Missing path) reads was = (was, reads)
-  fails_to_read (world.WrongType path) reads was = (was, reads)
-  fails_to_read (world.OutOfRange path) reads was = (was, reads)
-  fails_to_read (world.TwoNames path) reads was = (was, reads)
-  fails_to_read (world.UnknownName path) reads was = (was, reads)
-  fails_to_read (world.BadNeighbour path) reads was = (was, reads)
-  fails_to_read world.NoLand reads was = (was, reads)
+  fails_to_read world.NotToml reads was = (was, reads, λ e. absurd cc)
+  fails_to_read (world.Missing path) reads was = (was, reads, λ e. absurd cc)
+  fails_to_read (world.WrongType path) reads was = (was, reads, λ e. absurd cc)
+  fails_to_read (world.OutOfRange path) reads was = (was, reads, λ e. absurd cc)
+  fails_to_read (world.TwoNames path) reads was = (was, reads, λ e. absurd cc)
+  fails_to_read (world.UnknownName path) reads was = (was, reads, λ e. absurd cc)
+  fails_to_read (world.BadNeighbour path) reads was = (was, reads, λ e. absurd cc)
+  fails_to_read world.NoLand reads was = (was, reads, λ e. absurd cc)
   fails_to_read world.Memory reads was = inr was
 
   -- nothing is changed

@@ -7,6 +7,7 @@ use Rattle.sqlite.specs.State.{State, HasCleanDisk}
 use Rattle.sqlite.specs.declared.error.Error.{Error}
 use Rattle.atl_tables.specs.World.{world_of, old_world_of}
 use Rattle.atl_tables.specs.Worlds.{WorldValue, without_markets}
+use Rattle.atl_tables.specs.declared.fault.WorldFault.TheVariants as world
 use Rattle.atl_tables.specs.declared.format.Format.TheVariants.{First}
 use Rattle.atl_state.specs.Campaign.{CampaignValue, MarkedCampaign}
 use Rattle.atl_state.specs.Good.{HasNoStocks, IsGood}
@@ -85,7 +86,7 @@ module _ {S : Type 0} (g : Ghosts S) (text : List ℕ) (old new : Held S) where
   FailsCheck NotACampaign = RefusesToLoadIn First g old load.NotACampaign
   FailsCheck NotOld = RefusesToLoadIn First g old load.OtherFormat
   FailsCheck (Damaged rule) = RefusesToLoadIn First g old (load.Damaged rule)
-  FailsCheck (World fault) = HasOld × (world_of text ≡ Err fault)
+  FailsCheck (World fault) = HasOld × (world_of text ≡ Err fault) × (fault ≢ world.Memory)
   FailsCheck Differs = HasOtherWorld
   FailsCheck Store = RefusesToLoadIn First g old load.Store ⊎ HasMore
   FailsCheck Memory = RefusesToLoadIn First g old load.Memory ⊎ HasOld
