@@ -21,6 +21,7 @@ use Rattle.atl_store.specs.Keeps.{IsLater, Spares}
 use Rattle.atl_store.specs.Loading.{LeavesAlone, LoadsIn, RefusesToLoadIn}
 use Rattle.atl_store.specs.OwnStatements.{OfUpgrade}
 use Rattle.atl_store.specs.Rows.{Holds, HoldsIn}
+use Rattle.atl_store.specs.Tables.{HasTablesOf}
 use Rattle.atl_store.specs.UpgradeSteps.{IsJustOld, IsOld, WritesUpgrade}
 use Rattle.atl_store.specs.Upgrading.{BreaksOff, FailsCheck, FailsToWrite, HasMore, HasOld, HasOtherWorld, HoldsOld, IsReady, Matches, MayUpgrade, RefusesToUpgrade, Upgrades}
 use Rattle.atl_store.specs.WorldText.{world_text}
@@ -72,12 +73,16 @@ module _ {S : Type 0} (g : Ghosts S) (text : List ℕ) (old mid : Held S) (alone
   }
 
   pub has_more : (w : WorldValue) (c : MarkedCampaign) → IsReady g text old mid w c → ¬ IsJustOld mid.schema → HasMore g text old mid
-  has_more w c ready more = record {
-    world = w;
-    campaign = c.value;
-    matches = matched w c ready;
-    more = λ just. more (ap (λ (d : Database). d.schema) ((alone.spares clean).same (ready.loads.stands clean).is_open).0 ∙ just);
-  }
+  has_more w c ready more =
+      let stands = ready.loads.stands clean in
+      let same = (alone.spares clean).same stands.is_open in
+      record {
+        world = w;
+        campaign = c.value;
+        matches = matched w c ready;
+        begins = subst (λ (d : Database). HasTablesOf First d.schema) same.0 stands.begins;
+        more = λ just. more (ap (λ (d : Database). d.schema) same.0 ∙ just);
+      }
 
 pub later_both : (old mid new : State) (Early Late : Trees → Type 0) → Survives old mid Early → Survives mid new Late → IsLater old new
 later_both old mid new Early Late one two = record { clean = λ clean. omega (arith, one.clean, two.clean, clean); counts = omega (arith, one.counts, two.counts); shield = λ shielded. two.shield (one.shield shielded) }

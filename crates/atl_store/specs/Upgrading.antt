@@ -21,6 +21,7 @@ use Rattle.atl_store.specs.Keeps.{HoldsCampaign, Stores, Spares}
 use Rattle.atl_store.specs.Loading.{LeavesAlone, LoadsIn, RefusesToLoadIn}
 use Rattle.atl_store.specs.OwnStatements.{OfUpgrade}
 use Rattle.atl_store.specs.Rows.{HoldsIn}
+use Rattle.atl_store.specs.Tables.{HasTablesOf}
 use Rattle.atl_store.specs.UpgradeSteps.{IsJustOld}
 
 -- the tables hold this good campaign in the first format, and a text of this world
@@ -66,6 +67,7 @@ module _ {S : Type 0} (g : Ghosts S) (text : List ℕ) (old new : Held S) where
     pub world : WorldValue
     pub campaign : CampaignValue
     pub matches : Matches (state g old) text world campaign
+    pub begins : HasTablesOf First old.schema
     pub more : ¬ IsJustOld old.schema
 
   -- the tables hold a campaign in the first format
