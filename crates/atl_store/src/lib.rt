@@ -20,6 +20,7 @@ pub mod rows;
 pub mod schema;
 mod statement;
 pub mod tables;
+mod upgrading;
 
 pub use alike::one_database_holds_one_campaign;
 pub use changing::write_changes;
@@ -29,3 +30,4 @@ pub use joining::write_join;
 pub use loading::load;
 pub use mailing::write_mail;
 pub use reopening::reopened;
+pub use upgrading::upgrade;

@@ -2,6 +2,7 @@
 ghost use Rattle.std.specs.Prelude.{◌≡◌, ◌≤◌, [], length};
 ghost use Rattle.std.specs.Bool.{Decides};
 ghost use Rattle.std.specs.List.{AllByRecursion};
+ghost use Rattle.atl_store.specs.UpgradeSteps.{IsJustOld};
 ghost use Rattle.atl_store.specs.Tables.{all_tables, all_indexes, AreTables, Begins, HasAll, HasTablesOf};
 
 mod checks;
@@ -66,6 +67,15 @@ pub(crate) fn has_tables_of(schema: &Schema, format: Format) -> bool
         Format::First => begins(schema, places::FIRST_TABLES, places::FIRST_INDEXES),
         Format::Second => has_all_tables(schema),
     }
+}
+
+/// Whether there are just the tables of the first format, and their indexes.
+pub(crate) fn is_just_old(schema: &Schema) -> bool
+    ensures { Decides result (IsJustOld schema.now) }
+{
+    schema.tables.len() == places::FIRST_TABLES
+        && schema.indexes.len() == places::FIRST_INDEXES
+        && has_tables_of(schema, Format::First)
 }
 
 /// Whether the schema begins with the tables of a campaign, made as `create` makes them: after `create` it does. Other

@@ -1,5 +1,5 @@
 use Rattle.atl_store.specs.Tables.{first_tables}
-use Rattle.atl_store.proofs.CreateTexts.{makes_market, creating, made_by}
+use Rattle.atl_store.proofs.CreateTexts.{makes_market, made_by}
 use Rattle.atl_store.proofs.MakingLaws.{extends_four, makes_all}
 use Rattle.atl_store.proofs.WriteLaws.{weaker, four_steps, stops, stops_second, stops_third}
 use Rattle.atl_store.proofs.tables.create_tables.Goals as goal
