@@ -27,10 +27,10 @@ use Rattle.atl_state.specs.declared.checking.Rule.TheVariants.{OneRow, Ranges, N
 use Rattle.atl_state.specs.declared.parts.Parts.{Parts}
 use Rattle.atl_state.specs.declared.parts.StoredHead.{StoredHead}
 use Rattle.atl_state.specs.declared.parts.StoredMarket.{StoredMarket}
-use Rattle.atl_store.specs.Faults.{judged_fault, second_fault}
+use Rattle.atl_store.specs.Faults.{judged_fault}
 use Rattle.atl_store.specs.Gathering.{IsSettled, Lacks, Found, FailsToRead, FailsToConfirm, AreAllApart, OwnRead, OthersRead, AreMarkets, AreOthers, IsMadeOf, Gathered, IsConfirmed, IsLoaded}
 use Rattle.atl_store.specs.Keeps.{Keeps, Stores}
-use Rattle.atl_store.specs.Loading.{HaveRows, HaveMarkets, KeepsOneRow, BreaksRule, IsDamaged, RefusesToLoadIn, RefusesToLoad, StandsIn, LoadsIn, Loads, LeavesAlone, Leaves, AreMade, AreToldTyped, WantsMemory, FailedMeanwhile, RefusesAgain, placed_tables, other_selects}
+use Rattle.atl_store.specs.Loading.{HaveRows, HaveMarkets, KeepsOneRow, BreaksRule, IsDamaged, RefusesToLoadIn, StandsIn, LoadsIn, Loads, LeavesAlone, Leaves, AreMade, AreToldTyped, WantsMemory, FailedMeanwhile, RefusesAgain, placed_tables, other_selects}
 use Rattle.atl_store.specs.Rows.{HoldsIn}
 use Rattle.atl_store.specs.Statements.{selection}
 use Rattle.atl_store.specs.Sets.{IsKeyed}

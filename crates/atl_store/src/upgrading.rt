@@ -77,7 +77,7 @@ fn prepared<S: Alter>(
 /// too; or there are more tables or indexes than those of the first format; or the database gives an error that is not
 /// want of memory. Memory: there is none. After a fault the tables are as they were while the connection is open, and a
 /// crash leaves what it left before or, where the transaction was begun, the upgraded campaign. See docs/FORMATS.md,
-/// "Tables".
+/// "Upgrading a file".
 pub fn upgrade<S: Alter>(
     alloc: Global,
     conn: &mut Connection<S>,
