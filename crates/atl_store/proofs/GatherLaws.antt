@@ -16,7 +16,7 @@ use Rattle.atl_tables.specs.declared.format.Format.TheVariants.{First, Second}
 use Rattle.atl_state.specs.declared.parts.StoredMarket.{StoredMarket}
 use Rattle.atl_store.specs.declared.rows.stored.Placed.{Placed}
 use Rattle.atl_store.specs.Gathering.{IsSettled, kept_of, Found, AnswersOne, FailsToRead, AreRows, AreTwo, AreThree, EightRead, AreEight, AreMarkets, OthersRead, AreOthers, ReadsSome}
-use Rattle.atl_store.specs.Loading.{Stays, Leaves, Tells, AreTold, AreToldTyped, HasOtherType, RefusesOne, eight_selects}
+use Rattle.atl_store.specs.Loading.{Stays, Leaves, Tells, AreTold, AreToldTyped, HasOtherType, RefusesOne}
 use Rattle.atl_store.specs.Reading.{ReadsRows, GivesTable, Rests, Selects, RefusesToSelect, placed_rows_in}
 use Rattle.atl_store.specs.Sets.{rows_in}
 use Rattle.atl_store.specs.StoredRows.{faction_stored, region_stored, unit_stored, structure_stored, mail_stored, report_stored, has_stored, books_stored, market_stored}
@@ -318,18 +318,3 @@ module _ {S : Type 0} (g : Ghosts S) where
       where
         clean_mid : HasCleanDisk (state g new) → HasCleanDisk (state g mid)
         clean_mid clean = omega (arith, second.leaves.survives.clean, clean)
-
-  -- the first format has no more tables
-  module _ {Z : Type 0} (old new : Held S) (none : Vec (Placed StoredMarket) Z) (empty : none.items ≡ []) where
-    found_no_more : (o : Option (EightRead Z)) → Found g old eight_selects (AreEight g old) o → Found g old eight_selects (AreOthers g old First) (option_zip o (Some none))
-    found_no_more (Some read) found = (found.0, (found.1, empty))
-    found_no_more None found = found
-
-    pub reads_no_more : (one : Result (Option (EightRead Z)) LoadFault) → ReadsSome g old eight_selects (AreEight g old) one new → (eight : Option (EightRead Z)) → one ≡ Ok eight
-        → (o : Option (OthersRead Z)) → o ≡ option_zip eight (Some none) → ReadsSome g old eight_selects (AreOthers g old First) (Ok o) new
-    reads_no_more one reads eight was o is = record {
-      was_open = λ clean. subst (λ r. IfOk r (λ _. IsTrue (state g old).is_open)) was (reads.was_open clean);
-      found = λ clean. subst (Found g old eight_selects (AreOthers g old First)) (sym is) (found_no_more eight (subst (λ r. IfOk r (Found g old eight_selects (AreEight g old))) was (reads.found clean)));
-      fails = λ _. tt;
-      leaves = reads.leaves;
-    }

@@ -24,12 +24,9 @@ use Rattle.atl_state.specs.Rows.{rows_by, rows_of, AreRowsOf}
 use Rattle.atl_state.specs.Rows as made
 use Rattle.atl_state.specs.Campaign.{CampaignValue}
 use Rattle.atl_state.specs.declared.parts.Parts.{Parts}
-use Rattle.atl_state.specs.declared.parts.StoredBooks.{StoredBooks}
-use Rattle.atl_state.specs.declared.parts.StoredHas.{StoredHas}
 use Rattle.atl_state.specs.declared.parts.StoredFaction.{StoredFaction}
 use Rattle.atl_state.specs.declared.parts.StoredHead.{StoredHead}
 use Rattle.atl_state.specs.declared.parts.StoredMail.{StoredMail}
-use Rattle.atl_state.specs.declared.parts.StoredMarket.{StoredMarket}
 use Rattle.atl_state.specs.declared.parts.StoredRegion.{StoredRegion}
 use Rattle.atl_state.specs.declared.parts.StoredReport.{StoredReport}
 use Rattle.atl_state.specs.declared.parts.StoredStructure.{StoredStructure}

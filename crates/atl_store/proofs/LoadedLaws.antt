@@ -1,5 +1,5 @@
 -- From the rows that were read to the campaign that is loaded.
-use Rattle.std.proofs.Common.{◌≡◌, ℕ, List, [], ◌∷◌, Bool, true, false, not, pos, map, IsTrue, IsPermutation, Result, Ok, Err, IfErr, IsErrAnd, ◌⊎◌, Some, inl, arith, refl, sym, ap, ◌∙◌, subst, inr, string_bytes}
+use Rattle.std.proofs.Common.{◌≡◌, ℕ, List, [], ◌∷◌, Bool, true, false, not, pos, map, IsTrue, Result, Ok, Err, IfErr, IsErrAnd, ◌⊎◌, Some, inl, arith, refl, sym, ap, ◌∙◌, subst, inr, string_bytes}
 use Rattle.std.specs.List.{IsDistinct}
 use Rattle.std.specs.Ordering.{eq_by_cmp, int_cmp}
 use Rattle.std.proofs.lemmas.Bool.{cases_Bool}
@@ -10,13 +10,13 @@ use Rattle.sqlite_trees.specs.Tree.{Trees}
 use Rattle.sqlite_trees.specs.declared.store.Store.{Ghosts}
 use Rattle.sqlite.specs.Effect.{Database}
 use Rattle.sqlite.specs.Held.{Held, state}
-use Rattle.sqlite.specs.State.{State, HasCleanDisk}
+use Rattle.sqlite.specs.State.{HasCleanDisk}
 use Rattle.sqlite.specs.Table.{Table}
 use Rattle.atl_tables.specs.Formats.{format_number}
 use Rattle.atl_tables.specs.declared.format.Format.{Format}
 use Rattle.atl_tables.specs.declared.format.Format.TheVariants.{First, Second}
 use Rattle.atl_tables.specs.Worlds.{WorldValue}
-use Rattle.atl_tables.specs.World.{world_by, world_of}
+use Rattle.atl_tables.specs.World.{world_by}
 use Rattle.atl_state.specs.Checking.{Checks, IsFirstBroken}
 use Rattle.atl_state.specs.RowRules.{is_one_head, are_of_format}
 use Rattle.atl_state.specs.Campaign.{CampaignValue, MarkedCampaign}
@@ -27,11 +27,11 @@ use Rattle.atl_state.specs.declared.checking.Rule.TheVariants.{OneRow, Ranges, N
 use Rattle.atl_state.specs.declared.parts.Parts.{Parts}
 use Rattle.atl_state.specs.declared.parts.StoredHead.{StoredHead}
 use Rattle.atl_state.specs.declared.parts.StoredMarket.{StoredMarket}
-use Rattle.atl_store.specs.Faults.{judged_fault, second_fault}
+use Rattle.atl_store.specs.Faults.{judged_fault}
 use Rattle.atl_store.specs.Gathering.{IsSettled, Lacks, Found, FailsToRead, FailsToConfirm, AreAllApart, OwnRead, OthersRead, AreMarkets, AreOthers, IsMadeOf, Gathered, IsConfirmed, IsLoaded}
 use Rattle.atl_store.specs.Keeps.{Keeps, Stores}
-use Rattle.atl_store.specs.Loading.{HaveRows, HaveMarkets, KeepsOneRow, BreaksRule, IsDamaged, RefusesToLoadIn, RefusesToLoad, StandsIn, LoadsIn, Loads, LeavesAlone, Leaves, AreMade, AreToldTyped, WantsMemory, FailedMeanwhile, RefusesAgain, placed_tables, other_selects}
-use Rattle.atl_store.specs.Rows.{Holds, HoldsIn}
+use Rattle.atl_store.specs.Loading.{HaveRows, HaveMarkets, KeepsOneRow, BreaksRule, IsDamaged, RefusesToLoadIn, StandsIn, LoadsIn, Loads, LeavesAlone, Leaves, AreMade, AreToldTyped, WantsMemory, FailedMeanwhile, RefusesAgain, placed_tables, other_selects}
+use Rattle.atl_store.specs.Rows.{HoldsIn}
 use Rattle.atl_store.specs.Statements.{selection}
 use Rattle.atl_store.specs.Sets.{IsKeyed}
 use Rattle.atl_store.specs.Tables.{IsSoundly, HasTablesOf, campaign_table, has_table, books_table, market_table}
@@ -316,11 +316,3 @@ module _ {S : Type 0} (g : Ghosts S) (old new : Held S) where
     good = loaded.good;
     unmarked = loaded.unmarked;
   }
-
-  -- the faults of the second format
-  pub refuses : (fault : LoadFault) → RefusesToLoadIn Second g old fault → RefusesToLoad g old (second_fault fault)
-  refuses Store refused = refused
-  refuses (Damaged rule) refused = refused
-  refuses NotACampaign refused = refused
-  refuses OtherFormat refused = refused
-  refuses Memory refused = refused

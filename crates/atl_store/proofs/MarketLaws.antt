@@ -1,5 +1,5 @@
 -- The rows of the stocks of all markets.
-use Rattle.std.proofs.Common.{◌≡◌, ℕ, ◌∷◌, [], take, sym, ap, subst}
+use Rattle.std.proofs.Common.{◌≡◌, ℕ, take, sym, ap, subst}
 use Rattle.std.specs.Ordering.{nat_cmp}
 use Rattle.std.specs.FinMap.{FinMap, entries}
 use Rattle.sqlite_rules.specs.Lists.{Has}

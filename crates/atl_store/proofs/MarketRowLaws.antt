@@ -1,5 +1,5 @@
 -- What the statements on the table market mean, and what they do.
-use Rattle.std.proofs.Common.{◌≡◌, ℕ, pos, List, [], ◌∷◌, codes, refl}
+use Rattle.std.proofs.Common.{ℕ, pos, List, [], ◌∷◌, codes, refl}
 use Rattle.std.proofs.lemmas.Bool.{and_parts, not-true}
 use Rattle.sqlite_tied.specs.Compute.{everything}
 use Rattle.sqlite.specs.Term.{Term, col, op2}

@@ -11,7 +11,7 @@ use Rattle.atl_tables.specs.declared.format.Format.{Format}
 use Rattle.atl_state.specs.declared.checking.Rule.TheVariants.{OneRow, Ranges, Names, Known, Next, Days, Gone, Owners, Water, Guards, Books, Mail}
 use Rattle.atl_state.specs.declared.parts.StoredHead.{StoredHead}
 use Rattle.atl_store.specs.Gathering.{own_fault, IsOwn, Judges, JudgesOwn, JudgesRows, JudgesFormat, OwnRead}
-use Rattle.atl_store.specs.Loading.{own_stored, AreOwnRow, IsOther, RefusesToLoadIn}
+use Rattle.atl_store.specs.Loading.{own_stored, AreOwnRow, RefusesToLoadIn}
 use Rattle.atl_store.specs.Reading.{Selects, RefusesToSelect}
 use Rattle.atl_store.specs.Statements.{selection}
 use Rattle.atl_store.specs.Sets.{rows_in}

@@ -120,23 +120,17 @@ made_goods : (n : ℕ) (held : Held) (sort : Sort) (thing amount : ℕ) → Has 
 made_goods n held Item thing amount there some = has_left (made.sort_rows n 0 (entries held.items)) (made.sort_rows n 1 (entries held.days)) _ (made_sort n 0 (entries held.items) thing amount there some)
 made_goods n held Skill thing amount there some = has_right (made.sort_rows n 0 (entries held.items)) (made.sort_rows n 1 (entries held.days)) _ (made_sort n 1 (entries held.days) thing amount there some)
 
+row_of_goods : (units : FinMap nat_cmp Unit) (r : Row) (n : ℕ) (unit : Unit) → Has (entries units) (n, unit) → (a : StoredHas) → r ≡ has_values a → (sort : Sort) (e : ℕ × ℕ) → Has (entries (things_of sort unit.holding)) e → e.1 ≢ 0 → a ≡ made.has_row n (sort_number sort) e.0 e.1 → HasRowsOf units r
+row_of_goods units r n unit there a is sort e has some made_is = (n, unit, entry_got units n unit there, sort, e.0, e.1, entry_got (things_of sort unit.holding) e.0 e.1 has, some, is ∙ ap has_values made_is)
+
 goods_held : (rows : List Row) (read : List StoredHas) (units : FinMap nat_cmp Unit) → IsPermutation rows (map has_values read) → IsPermutation (made.has_rows (entries units)) read → Is rows (HasRowsOf units)
 goods_held rows read units in_table of_them r =
     let is = are_made has_values rows read (made.has_rows (entries units)) in_table of_them r in (
       λ there.
           let a = is.0 there in
           let found = flat_has (λ (e : ℕ × Unit). made.held_rows e.0 e.1.holding) (entries units) a.0 a.1 in
-          let e = goods_made found.0.0 found.0.1.holding a.0 found.2 in (
-            found.0.0,
-            found.0.1,
-            entry_got units found.0.0 found.0.1 found.1,
-            e.0,
-            e.1.0,
-            e.1.1,
-            entry_got (things_of e.0 found.0.1.holding) e.1.0 e.1.1 e.2,
-            e.3,
-            a.2 ∙ ap has_values e.4,
-          ),
+          let e = goods_made found.0.0 found.0.1.holding a.0 found.2 in
+          row_of_goods units r found.0.0 found.0.1 found.1 a.0 a.2 e.0 e.1 e.2 e.3 e.4,
       λ of. is.1 (
         made.has_row of.0 (sort_number of.3) of.4 of.5,
         has_flat (λ (e : ℕ × Unit). made.held_rows e.0 e.1.holding) (entries units) (of.0, of.1) _ (got_entry units of.0 of.1 of.2) (made_goods of.0 of.1.holding of.3 of.4 of.5 (got_entry (things_of of.3 of.1.holding) of.4 of.5 of.6) of.7),
@@ -165,7 +159,7 @@ stocks_held rows read regions in_table of_them r =
       λ of. is.1 (
         made.market_row of.0 of.3 of.4,
         has_flat (λ (e : ℕ × Region). made.stock_rows e.0 (entries e.1.stocks)) (entries regions) (of.0, of.1) _ (got_entry regions of.0 of.1 of.2)
-        (made_amount (λ (r : StoredMarket). r.stock) (made.market_row of.0) (λ item stock. refl) (entries of.1.stocks) of.3 of.4 (got_entry of.1.stocks of.3 of.4 of.5) of.6),
+            (made_amount (λ (r : StoredMarket). r.stock) (made.market_row of.0) (λ item stock. refl) (entries of.1.stocks) of.3 of.4 (got_entry of.1.stocks of.3 of.4 of.5) of.6),
         of.7,
       ),
     )

@@ -12,7 +12,7 @@ use Rattle.atl_store.specs.Tables.{campaign_table}
 use Rattle.atl_store.specs.Shown.{Head, int, head_row, head_row_in, head_values}
 use Rattle.atl_store.specs.Statements.{upgrading_upsert}
 use Rattle.atl_store.specs.UpgradeSteps.{UpgradesHead}
-use Rattle.atl_store.proofs.OwnRowLaws.{MeansOwn, PutsOwn, changed_to, puts_own}
+use Rattle.atl_store.proofs.OwnRowLaws.{MeansOwn, changed_to, puts_own}
 use Rattle.atl_store.proofs.StatementLaws.{DoneBy, done_by}
 use Rattle.atl_store.proofs.Terms.{cast_int}
 

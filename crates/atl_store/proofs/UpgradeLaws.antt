@@ -1,7 +1,7 @@
 -- The steps of an upgrade, and both together.
-use Rattle.std.proofs.Common.{◌≡◌, ◌≢◌, ◌++◌, ℕ, List, [], ◌∷◌, IsTrue, drop, map, take, refl, sym, ap, ◌∙◌, subst, inl, inr}
+use Rattle.std.proofs.Common.{◌≡◌, ◌≢◌, ℕ, List, [], ◌∷◌, drop, map, take, refl, sym, ap, ◌∙◌, subst, inl, inr}
 use Rattle.std.specs.Ordering.{nat_cmp}
-use Rattle.std.specs.FinMap.{FinMap, get, empty, get-empty}
+use Rattle.std.specs.FinMap.{FinMap, get, get-empty}
 use Rattle.sqlite.specs.Effect.{Database}
 use Rattle.sqlite.specs.Order.{Row}
 use Rattle.sqlite.specs.Schema.{Schema}
@@ -9,16 +9,15 @@ use Rattle.sqlite.specs.State.{State}
 use Rattle.sqlite.specs.Table.{Table}
 use Rattle.sqlite_rules.specs.Lists.{Has}
 use Rattle.sqlite_rules.proofs.ListLemmas.{has_either, has_left}
-use Rattle.sqlite_schema.specs.declared.schema.Index.{Index}
 use Rattle.atl_tables.specs.declared.format.Format.TheVariants.{First}
 use Rattle.atl_state.specs.Campaign.{CampaignValue}
 use Rattle.atl_state.specs.Good.{HasNoStocks}
-use Rattle.atl_store.specs.Inside.{Inside, HasTables, Carries, Both, Done, Puts}
+use Rattle.atl_store.specs.Inside.{Inside, HasTables, Carries, Both, Puts}
 use Rattle.atl_store.specs.Rows.{head_of, rows_for, campaign_line, Holds, HoldsIn, MarketRowsOf}
 use Rattle.atl_store.specs.Sets.{Is, IsKeyed, rows_in, put, visible}
 use Rattle.atl_store.specs.Shown.{head_row, head_row_in}
 use Rattle.atl_store.specs.Statements.{creation}
-use Rattle.atl_store.specs.Tables.{Part, Own, Factions, Regions, Units, Goods, Structures, Mail, Reports, Books, Markets, campaign_table, market_table, all_tables, all_indexes, all_trees, first_tables, parts_in, table_of}
+use Rattle.atl_store.specs.Tables.{Part, Own, Factions, Regions, Units, Goods, Structures, Mail, Reports, Books, Markets, campaign_table, market_table, all_tables, all_indexes, first_tables, parts_in, table_of}
 use Rattle.atl_store.specs.UpgradeSteps.{AddsMarkets, IsOld, UpgradesHead, WritesUpgrade}
 use Rattle.atl_store.specs.Writes.{Runs}
 use Rattle.atl_store.proofs.CreateTexts.{makes_table, market_create}

@@ -1,13 +1,10 @@
 -- From the readings and the transaction of an upgrade to what it answers and leaves.
-use Rattle.std.proofs.Common.{◌≡◌, ◌⊎◌, ◌≤◌, ℕ, Bool, true, false, cond, List, IsTrue, Result, Ok, Err, IsErrAnd, IfErr, IfOk, refl, sym, ap, ◌∙◌, subst, inl, inr, arith}
-use Rattle.std.proofs.lemmas.Bool.{cases_Bool}
-use Rattle.sqlite_disk.specs.Disk.{MoreFaults}
+use Rattle.std.proofs.Common.{◌≡◌, ◌≤◌, ℕ, Bool, true, false, cond, List, IsTrue, Result, Ok, Err, IsErrAnd, IfErr, refl, sym, ap, ◌∙◌, subst, inl, inr, arith}
 use Rattle.sqlite_trees.specs.Tree.{Trees}
 use Rattle.sqlite_trees.specs.declared.store.Store.{Ghosts}
 use Rattle.sqlite.specs.declared.error.Error.{Error}
 use Rattle.sqlite.specs.Effect.{Database}
 use Rattle.sqlite.specs.Held.{Held, state}
-use Rattle.sqlite.specs.Schema.{Schema}
 use Rattle.sqlite.specs.State.{State, HasCleanDisk, Survives}
 use Rattle.atl_tables.specs.Faults.{Reads}
 use Rattle.atl_tables.specs.World.{world_of}
@@ -16,15 +13,15 @@ use Rattle.atl_tables.specs.declared.fault.WorldFault.{WorldFault}
 use Rattle.atl_tables.specs.declared.fault.WorldFault.TheVariants as world
 use Rattle.atl_tables.specs.declared.format.Format.TheVariants.{First}
 use Rattle.atl_tables.proofs.OldWorldLaws.{old_has_no_markets}
-use Rattle.atl_state.specs.Campaign.{CampaignValue, MarkedCampaign}
-use Rattle.atl_state.specs.Good.{HasNoStocks, IsGood}
+use Rattle.atl_state.specs.Campaign.{MarkedCampaign}
 use Rattle.atl_store.specs.Causes.{Gives}
 use Rattle.atl_store.specs.Faults.{is_memory, first_fault, new_world_fault, upgrade_fault}
 use Rattle.atl_store.specs.Inside.{Commits, LeavesOff, MayLeave}
-use Rattle.atl_store.specs.Keeps.{IsLater, Keeps, Spares, Stores}
+use Rattle.atl_store.specs.Keeps.{IsLater, Spares}
 use Rattle.atl_store.specs.Loading.{LeavesAlone, LoadsIn, RefusesToLoadIn}
 use Rattle.atl_store.specs.OwnStatements.{OfUpgrade}
 use Rattle.atl_store.specs.Rows.{Holds, HoldsIn}
+use Rattle.atl_store.specs.Tables.{HasTablesOf}
 use Rattle.atl_store.specs.UpgradeSteps.{IsJustOld, IsOld, WritesUpgrade}
 use Rattle.atl_store.specs.Upgrading.{BreaksOff, FailsCheck, FailsToWrite, HasMore, HasOld, HasOtherWorld, HoldsOld, IsReady, Matches, MayUpgrade, RefusesToUpgrade, Upgrades}
 use Rattle.atl_store.specs.WorldText.{world_text}
@@ -76,12 +73,16 @@ module _ {S : Type 0} (g : Ghosts S) (text : List ℕ) (old mid : Held S) (alone
   }
 
   pub has_more : (w : WorldValue) (c : MarkedCampaign) → IsReady g text old mid w c → ¬ IsJustOld mid.schema → HasMore g text old mid
-  has_more w c ready more = record {
-    world = w;
-    campaign = c.value;
-    matches = matched w c ready;
-    more = λ just. more (ap (λ (d : Database). d.schema) ((alone.spares clean).same (ready.loads.stands clean).is_open).0 ∙ just);
-  }
+  has_more w c ready more =
+      let stands = ready.loads.stands clean in
+      let same = (alone.spares clean).same stands.is_open in
+      record {
+        world = w;
+        campaign = c.value;
+        matches = matched w c ready;
+        begins = subst (λ (d : Database). HasTablesOf First d.schema) same.0 stands.begins;
+        more = λ just. more (ap (λ (d : Database). d.schema) same.0 ∙ just);
+      }
 
 pub later_both : (old mid new : State) (Early Late : Trees → Type 0) → Survives old mid Early → Survives mid new Late → IsLater old new
 later_both old mid new Early Late one two = record { clean = λ clean. omega (arith, one.clean, two.clean, clean); counts = omega (arith, one.counts, two.counts); shield = λ shielded. two.shield (one.shield shielded) }
@@ -97,14 +98,14 @@ module _ {S : Type 0} (g : Ghosts S) (text : List ℕ) (old new : Held S) where
   fails_to_load load.Memory refused = inl refused
 
   pub fails_to_read : (fault : WorldFault) → Reads (λ (w : WorldValue). w) (Err fault) (world_of text) → HasOld g text old new → FailsCheck g text old new (new_world_fault fault)
-  fails_to_read world.NotToml reads was = (was, reads)
-  fails_to_read (world.Missing path) reads was = (was, reads)
-  fails_to_read (world.WrongType path) reads was = (was, reads)
-  fails_to_read (world.OutOfRange path) reads was = (was, reads)
-  fails_to_read (world.TwoNames path) reads was = (was, reads)
-  fails_to_read (world.UnknownName path) reads was = (was, reads)
-  fails_to_read (world.BadNeighbour path) reads was = (was, reads)
-  fails_to_read world.NoLand reads was = (was, reads)
+  fails_to_read world.NotToml reads was = (was, reads, λ e. absurd cc)
+  fails_to_read (world.Missing path) reads was = (was, reads, λ e. absurd cc)
+  fails_to_read (world.WrongType path) reads was = (was, reads, λ e. absurd cc)
+  fails_to_read (world.OutOfRange path) reads was = (was, reads, λ e. absurd cc)
+  fails_to_read (world.TwoNames path) reads was = (was, reads, λ e. absurd cc)
+  fails_to_read (world.UnknownName path) reads was = (was, reads, λ e. absurd cc)
+  fails_to_read (world.BadNeighbour path) reads was = (was, reads, λ e. absurd cc)
+  fails_to_read world.NoLand reads was = (was, reads, λ e. absurd cc)
   fails_to_read world.Memory reads was = inr was
 
   -- nothing is changed

@@ -106,7 +106,7 @@ ReadsWorld f text r = Judges (λ w. world_by f text ≡ Ok w) ((w : WorldValue) 
 abbrev pub JudgesOwn : Format → List StoredCampaign → Result (StoredCampaign × WorldValue) LoadFault → Type 0
 JudgesOwn f rows r = Judges (λ both. IsOwn f rows both.0 both.1) ((own : StoredCampaign) (w : WorldValue) → ¬ IsOwn f rows own w) r
 
--- The rows that are shown are judged, which are not one of the other format: whether they are the one of a world's text.
+-- The rows that are shown are judged: whether they are the one of a world's text.
 abbrev pub JudgesRows : Format → List Row → Result (StoredCampaign × WorldValue) LoadFault → Type 0
 JudgesRows f rows r = Judges (λ both. AreOwnRow f rows both.0.head (string_bytes both.0.world) both.1) ((h : StoredHead) (text : List ℕ) (w : WorldValue) → ¬ AreOwnRow f rows h text w) r
 

@@ -7,6 +7,7 @@ use Rattle.sqlite.specs.State.{State, HasCleanDisk}
 use Rattle.sqlite.specs.declared.error.Error.{Error}
 use Rattle.atl_tables.specs.World.{world_of, old_world_of}
 use Rattle.atl_tables.specs.Worlds.{WorldValue, without_markets}
+use Rattle.atl_tables.specs.declared.fault.WorldFault.TheVariants as world
 use Rattle.atl_tables.specs.declared.format.Format.TheVariants.{First}
 use Rattle.atl_state.specs.Campaign.{CampaignValue, MarkedCampaign}
 use Rattle.atl_state.specs.Good.{HasNoStocks, IsGood}
@@ -20,6 +21,7 @@ use Rattle.atl_store.specs.Keeps.{HoldsCampaign, Stores, Spares}
 use Rattle.atl_store.specs.Loading.{LeavesAlone, LoadsIn, RefusesToLoadIn}
 use Rattle.atl_store.specs.OwnStatements.{OfUpgrade}
 use Rattle.atl_store.specs.Rows.{HoldsIn}
+use Rattle.atl_store.specs.Tables.{HasTablesOf}
 use Rattle.atl_store.specs.UpgradeSteps.{IsJustOld}
 
 -- the tables hold this good campaign in the first format, and a text of this world
@@ -65,6 +67,7 @@ module _ {S : Type 0} (g : Ghosts S) (text : List ℕ) (old new : Held S) where
     pub world : WorldValue
     pub campaign : CampaignValue
     pub matches : Matches (state g old) text world campaign
+    pub begins : HasTablesOf First old.schema
     pub more : ¬ IsJustOld old.schema
 
   -- the tables hold a campaign in the first format
@@ -85,7 +88,7 @@ module _ {S : Type 0} (g : Ghosts S) (text : List ℕ) (old new : Held S) where
   FailsCheck NotACampaign = RefusesToLoadIn First g old load.NotACampaign
   FailsCheck NotOld = RefusesToLoadIn First g old load.OtherFormat
   FailsCheck (Damaged rule) = RefusesToLoadIn First g old (load.Damaged rule)
-  FailsCheck (World fault) = HasOld × (world_of text ≡ Err fault)
+  FailsCheck (World fault) = HasOld × (world_of text ≡ Err fault) × (fault ≢ world.Memory)
   FailsCheck Differs = HasOtherWorld
   FailsCheck Store = RefusesToLoadIn First g old load.Store ⊎ HasMore
   FailsCheck Memory = RefusesToLoadIn First g old load.Memory ⊎ HasOld

@@ -68,15 +68,16 @@ fn prepared<S: Alter>(
     Ok((world, campaign))
 }
 
-/// Makes a file of the first format one of the second, with this world text, in one transaction: the table of markets is made,
-/// without a row, and the campaign's own row gets its format and the text. With Ok the connection holds the campaign that
-/// the tables held, of which nothing is marked; it is answered with the world of the new text, and the connection is in no
-/// transaction. NotACampaign, Damaged and Store are told as by `load`, by the rules of the first format. NotOld: the campaign's own
-/// rows are one, of the second format, whatever else it says. World: the new text is no world. Differs: its world differs from
-/// the one that the tables have the text of in more than markets. Store, too, where there are other tables than those of the first
-/// format, or the database gives an error that is not want of memory. Memory: there is none, and this is never told as a
-/// fault of the world. After a fault nothing is changed while the connection is open, and a crash leaves what it left before
-/// or, if the transaction was begun, the upgraded campaign. See docs/FORMATS.md, "Tables".
+/// Makes a file of the first format one of the second, with this world text, in one transaction: the table of markets
+/// is made, without a row, and the campaign's own row gets the format and the text. With Ok the connection holds the
+/// campaign that the tables held, of which nothing is marked; it is answered with the world of the text, and the
+/// connection is in no transaction. NotACampaign and Damaged are told as by `load`, by the rules of the first format.
+/// NotOld: the campaign's own rows are one, whose format is the second, whatever else it says. World: the new text is
+/// no world. Differs: its world differs from that of the old text in more than markets. Store is told as by `load`,
+/// too; or there are more tables or indexes than those of the first format; or the database gives an error that is not
+/// want of memory. Memory: there is none. After a fault the tables are as they were while the connection is open, and a
+/// crash leaves what it left before or, where the transaction was begun, the upgraded campaign. See docs/FORMATS.md,
+/// "Upgrading a file".
 pub fn upgrade<S: Alter>(
     alloc: Global,
     conn: &mut Connection<S>,

@@ -86,10 +86,7 @@ fn read_three<A: Listed, B: Listed, C: Listed, S: Alter>(
 }
 
 /// The rows of the eight tables that both formats have. There are none where a value of one of them is of another type.
-fn read_eight<S: Alter>(
-    alloc: Global,
-    conn: &mut Connection<S>,
-) -> Result<Option<Eight>, LoadFault>
+fn read_eight<S: Alter>(alloc: Global, conn: &mut Connection<S>) -> Result<Option<Eight>, LoadFault>
     requires idle { conn.old.in_transaction ≡ false }
     requires settled { IsSettled (state S.Store conn.old) }
     ensures { ReadsSome S.Store conn.old eight_selects (AreEight S.Store conn.old) result conn.new }

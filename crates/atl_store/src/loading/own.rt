@@ -11,7 +11,7 @@ ghost use Rattle.atl_store.specs.Gathering.{IsSettled, own_fault, only_of, Reads
 ghost use Rattle.atl_store.specs.Loading.{Leaves, RefusesToLoadIn, IsOther, other_format};
 ghost use Rattle.atl_store.specs.Shown.{int};
 
-use crate::fault::{ReadFault, LoadFault};
+use crate::fault::{LoadFault, ReadFault};
 use crate::rows::campaign::{StoredCampaign, select_campaign};
 use crate::rows::stored::parse_rows;
 use atl_state::Rule;
@@ -87,11 +87,7 @@ fn judged(
 }
 
 /// The campaign's own row and its world, of the rows that are shown.
-fn own_of(
-    alloc: Global,
-    rows: &[Row],
-    format: Format,
-) -> Result<(StoredCampaign, World), LoadFault>
+fn own_of(alloc: Global, rows: &[Row], format: Format) -> Result<(StoredCampaign, World), LoadFault>
     ensures { JudgesRows format rows.now result }
 {
     match parse_rows(alloc, rows) {
@@ -126,11 +122,7 @@ fn is_other(rows: &[Row], format: Format) -> bool
 }
 
 /// The campaign's own row and its world, where the rows that are shown are not one of the other format.
-fn own_in(
-    alloc: Global,
-    rows: &[Row],
-    format: Format,
-) -> Result<(StoredCampaign, World), LoadFault>
+fn own_in(alloc: Global, rows: &[Row], format: Format) -> Result<(StoredCampaign, World), LoadFault>
     ensures { JudgesFormat format rows.now result }
 {
     if is_other(rows, format) {

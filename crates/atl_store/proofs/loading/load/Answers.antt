@@ -1,4 +1,4 @@
-use Rattle.atl_store.proofs.LoadedLaws.{loads, refuses, told_as}
+use Rattle.atl_store.proofs.LoadedLaws.{loads}
 use Rattle.atl_store.proofs.loading.load.Goals as goal
 
 pub returns-clause-ok : goal.returns-clause-ok

@@ -6,7 +6,7 @@ use Rattle.atl_store.specs.Loading.{eight_selects, market_selects, other_selects
 use Rattle.atl_store.specs.Reading.{placed_rows_in}
 use Rattle.atl_store.specs.StoredRows.{market_stored}
 use Rattle.atl_store.specs.Tables.{market_table}
-use Rattle.atl_store.proofs.GatherLaws.{settled_then, first_fails, second_fails, reads_both, rows_behind}
+use Rattle.atl_store.proofs.GatherLaws.{first_fails, second_fails, reads_both, rows_behind}
 use Rattle.atl_store.proofs.loading.others.read_others.Goals as goal
 
 pub returns-in_err-eight : goal.returns-in_err-eight
