@@ -155,17 +155,17 @@ END
   sqlite3 "$db" 'SELECT world FROM campaign' >"$work/crowd.toml"
   market each "$work/crowd.toml" wood 9 4 1000 3 >"$work/markets.toml"
   unchanged 'an upgrade of the crowd by another world' "$db" 'fault: Differs' upgrade --db "$db" --world "$work/isle.toml"
-  upgraded crowd "$db" "$work/markets.toml" 400 pw pw pw pw pw pw pw pw pw pw
+  upgraded crowd "$db" "$work/markets.toml" 250 pw pw
   { echo '#ATLANTIS 1' && sqlite3 "$db" "SELECT 'UNIT ' || number || char(10) || 'SELL 1 wood' FROM unit WHERE faction = 1"; } >"$mailing"
   sellers=$(sqlite3 "$db" 'SELECT count(*) FROM unit JOIN has ON unit = number WHERE faction = 1 AND sort = 0 AND thing = 0')
   units=$(sqlite3 "$db" 'SELECT count(*) FROM unit WHERE faction = 1')
   check 'mail of the crowd' 0 "$units orders, 0 faults" '' mail --db "$db" --faction 1 --pass pw --file "$mailing"
   check 'a closing of the crowd' 0 'month 2 closed' '' close --db "$db" --month 2 --pass gm --seed 1
   whole "$db"
-  # each who has wood sells a piece for 4, and to each of the 400 stocks come 3
-  [ "$sellers" -gt 50 ] && [ "$(sqlite3 "$db" 'SELECT sum(stock) FROM market')" = $((sellers + 1200)) ] || fail 'the crowd' 'there are other stocks'
+  # each who has wood sells a piece for 4, and to each of the 250 stocks come 3
+  [ "$sellers" -gt 50 ] && [ "$(sqlite3 "$db" 'SELECT sum(stock) FROM market')" = $((sellers + 750)) ] || fail 'the crowd' 'there are other stocks'
   "$here/gm" books --db "$db" >"$work/books"
-  grep -qx "money sold $((4 * sellers))" "$work/books" && grep -qx 'item "wood" stocked 1200' "$work/books" || fail 'the crowd' "the books are others: $(cat "$work/books")"
+  grep -qx "money sold $((4 * sellers))" "$work/books" && grep -qx 'item "wood" stocked 750' "$work/books" || fail 'the crowd' "the books are others: $(cat "$work/books")"
   [ "$("$here/gm" report --db "$db" --faction 1 --pass pw | grep -c '^Unit [0-9]*, line [0-9]*, SELL: done 1\.$')" = "$sellers" ] ||
     fail 'the crowd' 'other units sell'
 fi

@@ -5,7 +5,7 @@
 # were made.
 #   trial.db   worlds/small.toml; two factions, a closed month, and mail
 #   club.db    worlds/isle.toml; the two months of a club's first hour, and mail with orders that there were none of then
-#   crowd.db   990 units of 10 factions in 400 regions, as in bench/closing; a closed month with structures, and mail of all factions
+#   crowd.db   990 units of 2 factions in 250 regions, as in bench/closing; a closed month with structures, and mail of both
 set -eu
 program=$1
 old=$(cd "$(dirname "$0")" && pwd)
@@ -119,12 +119,14 @@ elif path == "mail":
 else:
     closing.filled(path, factions, regions, units)
 END
-python3 -B fill.py "$here/bench/closing" 400 10 990 world >world.toml
-python3 -B fill.py "$here/bench/closing" 400 10 990 mail
+fill() {
+  python3 -B fill.py "$here/bench/closing" 250 2 990 "$1"
+}
+fill world >world.toml
+fill mail
 "$program" found --world world.toml --db "$db" --pass gm >/dev/null
-python3 -B fill.py "$here/bench/closing" 400 10 990 "$db"
+fill "$db"
 play close --month 1 --pass gm --seed 1
-for faction in 1 2 3 4 5 6 7 8 9 10; do
-  mail "$faction" pw <"mail$faction"
-done
-keep pw pw pw pw pw pw pw pw pw pw
+mail 1 pw <mail1
+mail 2 pw <mail2
+keep pw pw
