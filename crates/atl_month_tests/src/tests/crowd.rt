@@ -268,7 +268,7 @@ fn head(alloc: Global) -> Result<Sequence<StoredHead>, AllocError> {
     let mut all = Sequence::new(alloc);
     all.push(StoredHead {
         id: 1,
-        format: 1,
+        format: 2,
         month: 0,
         next_faction: i64::from(FACTIONS) + 1,
         next_unit: i64::from(UNITS) + 1,
