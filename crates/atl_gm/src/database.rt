@@ -1,6 +1,6 @@
 //! The campaign of a file.
 use crate::failure::Failure;
-use atl_service::{Answer, Command, Refused, Service, found, open};
+use atl_service::{Answer, Command, Refused, Service, found, open, upgrade};
 use sqlite::{Alter, Connection, FileFrom, FileStore, Start, Wary};
 use sqlite_disk::Disk;
 use std::alloc::Global;
@@ -30,6 +30,8 @@ pub enum Opening<'a> {
     Founded { world: &'a str, pass: &'a str },
     /// It stands in the file.
     Kept,
+    /// It stands in the file in the first format, and is upgraded by a new world text.
+    Upgraded { world: &'a str },
 }
 
 /// Whether a file or a folder is at the path.
@@ -82,6 +84,7 @@ fn opened<S: Alter>(
     match opening {
         Opening::Founded { world, pass } => found(alloc, conn, world, pass.as_bytes()),
         Opening::Kept => open(alloc, conn),
+        Opening::Upgraded { world } => upgrade(alloc, conn, world),
     }
 }
 
@@ -120,15 +123,15 @@ fn done_and_closed<T: Drop>(
 }
 
 /// Has the work done on the campaign of the file at the path, which then holds the campaign alone, whatever came of the work.
-/// Where the closing fails, the work may have been done, and a log stands beside the file. A kept campaign is asked for only
-/// where a file is.
+/// Where the closing fails, the work may have been done, and a log stands beside the file. A campaign that isn't founded is
+/// asked for only where a file is.
 pub fn work_on<W: Work>(
     rt: &HostRuntime,
     path: &str,
     opening: Opening<'_>,
     work: &W,
 ) -> Result<W::Done, Failure> {
-    if matches!(&opening, Opening::Kept) {
+    if !matches!(&opening, Opening::Founded { .. }) {
         confirm_file(rt, path)?;
     }
     let conn = connected(rt, path, Wary)?;

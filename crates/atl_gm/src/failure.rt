@@ -23,8 +23,14 @@ pub enum Failure {
     NotEmpty,
     /// No campaign is in the database.
     NotACampaign,
+    /// The campaign is of the first format.
+    OldFormat,
+    /// The campaign to upgrade is of the second format.
+    NotOld,
     /// The rows of the campaign break the rule of this number.
     Damaged(u8),
+    /// The new world differs from the old one in more than its markets.
+    Differs,
     /// The database refuses.
     Store,
     Memory,
@@ -45,7 +51,10 @@ impl Drop for Failure {
             Failure::Refused(_) => {}
             Failure::NotEmpty => {}
             Failure::NotACampaign => {}
+            Failure::OldFormat => {}
+            Failure::NotOld => {}
             Failure::Damaged(_) => {}
+            Failure::Differs => {}
             Failure::Store => {}
             Failure::Memory => {}
             Failure::Net => {}
@@ -82,7 +91,10 @@ impl From<Cause> for Failure {
             Cause::BadPassText => Failure::Refused(Refusal::BadPassText),
             Cause::NotEmpty => Failure::NotEmpty,
             Cause::NotACampaign => Failure::NotACampaign,
+            Cause::OldFormat => Failure::OldFormat,
+            Cause::NotOld => Failure::NotOld,
             Cause::Damaged(rule) => Failure::Damaged(rule.number()),
+            Cause::Differs => Failure::Differs,
             Cause::Store => Failure::Store,
             Cause::Memory => Failure::Memory,
         }
@@ -127,7 +139,10 @@ impl Failure {
             }
             Failure::NotEmpty => eprintln!(rt; "fault: NotEmpty"),
             Failure::NotACampaign => eprintln!(rt; "fault: NotACampaign"),
+            Failure::OldFormat => eprintln!(rt; "fault: OldFormat"),
+            Failure::NotOld => eprintln!(rt; "fault: NotOld"),
             Failure::Damaged(number) => eprintln!(rt; "fault: Damaged {number}"),
+            Failure::Differs => eprintln!(rt; "fault: Differs"),
             Failure::Store => eprintln!(rt; "fault: Store"),
             Failure::Memory => eprintln!(rt; "fault: Memory"),
             Failure::Net => eprintln!(rt; "fault: Net"),

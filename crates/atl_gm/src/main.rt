@@ -15,6 +15,7 @@ mod serve;
 mod subcommand;
 mod told;
 mod trial;
+mod upgrade;
 
 use crate::failure::Failure;
 use crate::subcommand::Subcommands;
@@ -35,7 +36,10 @@ type All = (
                 mail::Mail,
                 (
                     close::Close,
-                    (report::Report, (books::Books, (serve::Serve, ()))),
+                    (
+                        report::Report,
+                        (books::Books, (serve::Serve, (upgrade::Upgrade, ()))),
+                    ),
                 ),
             ),
         ),

@@ -3,7 +3,7 @@ use Rattle.std.proofs.Common.{◌≡◌, ◌⊎◌, Bool, true, false, List, ℕ
 use Rattle.std.proofs.lemmas.Bool.{false≢true}
 use Rattle.sqlite_trees.specs.declared.store.Store.{Ghosts}
 use Rattle.sqlite.specs.Held.{Held, state}
-use Rattle.atl_tables.specs.World.{old_world_of}
+use Rattle.atl_tables.specs.World.{world_of}
 use Rattle.atl_tables.specs.declared.fault.WorldFault.{WorldFault}
 use Rattle.atl_tables.specs.Worlds.{WorldValue}
 use Rattle.atl_state.specs.Campaign.{CampaignValue}
@@ -44,17 +44,20 @@ module _ {S : Type 0} (g : Ghosts S) where
       leaves BadPassText is = refl
       leaves none.NotEmpty is = refl
       leaves none.NotACampaign is = is true
+      leaves none.OldFormat is = is true
+      leaves none.NotOld is = is true
       leaves (none.Damaged rule) is = is true
+      leaves none.Differs is = is true
       leaves none.Store is = absurd (false≢true (sym (is true).2))
       leaves none.Memory is = (nothing_done conn text pass, inl refl)
 
   -- the service that is founded stands
-  pub founded_stands : (conn : Held S) (w : WorldValue) (c : CampaignValue) (text : List ℕ) → conn.in_transaction ≡ false → IsGood w c → old_world_of text ≡ Ok w → HoldsCampaign g conn text c → Stands g conn w c true
+  pub founded_stands : (conn : Held S) (w : WorldValue) (c : CampaignValue) (text : List ℕ) → conn.in_transaction ≡ false → IsGood w c → world_of text ≡ Ok w → HoldsCampaign g conn text c → Stands g conn w c true
   founded_stands conn w c text idle good is holds = record {
     idle = idle;
     good = λ up. good;
     tables = λ up clean. let kept = holds clean in subst (λ t. Keeps (state g conn) t c) (sym (world_text_is (state g conn) text c kept)) kept;
-    text = λ up clean. ap old_world_of (world_text_is (state g conn) text c (holds clean)) ∙ is;
+    text = λ up clean. ap world_of (world_text_is (state g conn) text c (holds clean)) ∙ is;
   }
 
   pub founds_on : (old conn : Held S) (w : WorldValue) (c : CampaignValue) (text pass : List ℕ) → Prepares text pass w c → Creates g text c old conn → IsLater (state g old) (state g conn) → Founds g old text pass (record { conn = conn; world = w; campaign = Some c })

@@ -3,6 +3,7 @@ pub mod AnswerLaws
 pub mod FoundServiceLaws
 pub mod ListLaws
 pub mod OpenLaws
+pub mod UpgradeLaws
 pub mod RunLaws
 pub mod StepLaws
 pub mod CloseLaws

@@ -5,7 +5,6 @@ use Rattle.sqlite.specs.Effect.{Database}
 use Rattle.sqlite.specs.Held.{Held, state}
 use Rattle.atl_tables.specs.Worlds.{WorldValue}
 use Rattle.atl_state.specs.Good.{IsGood}
-use Rattle.atl_tables.proofs.OldWorldLaws.{old_has_no_markets}
 use Rattle.atl_state.specs.Campaign.{MarkedCampaign}
 use Rattle.atl_store.specs.Loading.{Loads, RefusesToLoad, LeavesAlone}
 use Rattle.atl_store.specs.declared.fault.StoreFault.{StoreFault}
@@ -59,7 +58,7 @@ module _ {S : Type 0} (g : Ghosts S) where
           let rows = subst (λ (s : Database). Holds s.trees there c.value) ((alone.spares clean).same kept.is_open).0 kept.rows in
           let texts : there ≡ text = one_text db there text c.value d rows were.rows in
           let worlds : w ≡ v = holds_one_world w v db there text c.value d (loads.world clean) reads rows were.rows in
-          (texts, worlds, ap Some (holds_one v (old_has_no_markets text v reads) db there text c.value d (subst (λ p. IsGood p c.value) worlds loads.good) good rows were.rows).1)
+          (texts, worlds, ap Some (holds_one v db there text c.value d (subst (λ p. IsGood p c.value) worlds loads.good) good rows were.rows).1)
 
       -- the service that is opened stands
       pub opened_stands : old.in_transaction ≡ false → IsService g new w c true

@@ -3,7 +3,7 @@ use Rattle.std.proofs.Common.{◌≡◌, Bool, true, false, cond, Some, None, If
 use Rattle.std.proofs.lemmas.Bool.{false≢true}
 use Rattle.sqlite_trees.specs.declared.store.Store.{Ghosts}
 use Rattle.sqlite.specs.Held.{Held, state}
-use Rattle.atl_tables.specs.World.{old_world_of}
+use Rattle.atl_tables.specs.World.{world_of}
 use Rattle.atl_tables.specs.Worlds.{WorldValue}
 use Rattle.atl_state.specs.Campaign.{CampaignValue}
 use Rattle.atl_store.specs.Keeps.{Keeps}
@@ -38,7 +38,7 @@ module _ {S : Type 0} (g : Ghosts S) where
       idle = leaves.idle;
       good = λ up. done.good;
       tables = λ up clean. let kept = holding answer stands leaves done clean in subst (λ t. Keeps (state g conn') t c') (sym (world_text_is (state g conn') (text_in g conn) c' kept)) kept;
-      text = λ up clean. ap old_world_of (world_text_is (state g conn') (text_in g conn) c' (holding answer stands leaves done clean)) ∙ stands.text refl (leaves.later.clean clean);
+      text = λ up clean. ap world_of (world_text_is (state g conn') (text_in g conn) c' (holding answer stands leaves done clean)) ∙ stands.text refl (leaves.later.clean clean);
     }
 
     pub stands_after : (answer : Answer) (is_open : Bool) → is_open ≡ true → Stands g conn w c is_open → LeavesIdle g conn conn' → Answered answer → Stands g conn' w c' is_open

@@ -5,7 +5,7 @@ use Rattle.sqlite.specs.declared.error.Error.{Error}
 use Rattle.sqlite.specs.Held.{Held, state}
 use Rattle.sqlite.specs.State.{HasCleanDisk}
 use Rattle.atl_tables.specs.Worlds.{WorldValue}
-use Rattle.atl_tables.specs.World.{old_world_of}
+use Rattle.atl_tables.specs.World.{world_of}
 use Rattle.atl_state.specs.Founding.{founded_of}
 use Rattle.atl_state.specs.Campaign.{CampaignValue}
 use Rattle.atl_store.specs.Causes.{Gives}
@@ -29,7 +29,7 @@ OfCommand w c (Report faction pass) = λ sql params. ⊥
 
 -- those of the founding of a world text
 abbrev pub FoundsBy : List ℕ → List ℕ → Statements
-FoundsBy text pass sql params = (w : WorldValue) × (old_world_of text ≡ Ok w) × OfFounding text (founded_of w pass) sql params
+FoundsBy text pass sql params = (w : WorldValue) × (world_of text ≡ Ok w) × OfFounding text (founded_of w pass) sql params
 
 -- ---- causes
 

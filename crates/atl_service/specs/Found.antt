@@ -5,7 +5,7 @@ use Rattle.sqlite.specs.Held.{Held, state}
 use Rattle.sqlite.specs.State.{HasCleanDisk}
 use Rattle.atl_tables.specs.Names.{pass_ok}
 use Rattle.atl_tables.specs.Worlds.{WorldValue}
-use Rattle.atl_tables.specs.World.{old_world_of}
+use Rattle.atl_tables.specs.World.{world_of}
 use Rattle.atl_tables.specs.declared.fault.WorldFault.{WorldFault}
 use Rattle.atl_tables.specs.declared.fault.WorldFault.TheVariants as world
 use Rattle.atl_state.specs.Campaign.{CampaignValue}
@@ -15,7 +15,7 @@ use Rattle.atl_store.specs.Keeps.{HoldsCampaign, IsLater, IsReady, Spares, MayFo
 use Rattle.atl_store.specs.declared.fault.CreateFault.{CreateFault}
 use Rattle.atl_store.specs.declared.fault.CreateFault.TheVariants as create
 use Rattle.atl_service.specs.declared.command.Cause.{Cause}
-use Rattle.atl_service.specs.declared.command.Cause.TheVariants.{World as BadWorld, BadPassText, NotEmpty, NotACampaign, Damaged, Store, Memory}
+use Rattle.atl_service.specs.declared.command.Cause.TheVariants.{World as BadWorld, BadPassText, NotEmpty, NotACampaign, OldFormat, NotOld, Damaged, Differs, Store, Memory}
 use Rattle.atl_store.specs.OwnStatements.{Statements}
 use Rattle.atl_service.specs.Causes.{FoundsBy, FailsToWrite, LacksMemory}
 use Rattle.atl_service.specs.Service.{ServiceValue, text_in}
@@ -23,7 +23,7 @@ use Rattle.atl_service.specs.Service.{ServiceValue, text_in}
 -- where no table campaign was there, the service is open, with the world of the text and the founded campaign, and its tables hold the rows of both
 pub record Founds {S : Type 0} (g : Ghosts S) (old : Held S) (text pass : List ℕ) (made : ServiceValue S) : Type 0 where
   pub fresh : has_campaign old.schema ≡ false
-  pub world : old_world_of text ≡ Ok made.world
+  pub world : world_of text ≡ Ok made.world
   pub pass_is_good : pass_ok pass ≡ true
   pub campaign : made.campaign ≡ Some (founded_of made.world pass)
   pub tables : HoldsCampaign g made.conn text (founded_of made.world pass)
@@ -32,22 +32,25 @@ pub record Founds {S : Type 0} (g : Ghosts S) (old : Held S) (text pass : List �
 
 -- the world text has no fault
 abbrev pub IsWorldText : List ℕ → Type 0
-IsWorldText text = (w : WorldValue) × (old_world_of text ≡ Ok w)
+IsWorldText text = (w : WorldValue) × (world_of text ≡ Ok w)
 
--- the first of the checks that fails; what only an opening finds is never told
+-- the first of the checks that fails; what only an opening or an upgrade finds is never told
 abbrev pub IsCause : List ℕ → List ℕ → Bool → Cause → Type 0
-IsCause text pass is_there (BadWorld fault) = old_world_of text ≡ Err fault
+IsCause text pass is_there (BadWorld fault) = world_of text ≡ Err fault
 IsCause text pass is_there BadPassText = IsWorldText text × (pass_ok pass ≡ false)
 IsCause text pass is_there NotEmpty = IsWorldText text × (pass_ok pass ≡ true) × (is_there ≡ true)
 IsCause text pass is_there NotACampaign = ⊥
+IsCause text pass is_there OldFormat = ⊥
+IsCause text pass is_there NotOld = ⊥
 IsCause text pass is_there (Damaged rule) = ⊥
+IsCause text pass is_there Differs = ⊥
 IsCause text pass is_there Store = IsWorldText text × (pass_ok pass ≡ true) × (is_there ≡ false)
 IsCause text pass is_there Memory = ⊤
 
 -- The database could not be written, or there was no memory: while the connection is open its tables are as they were, and a crash leaves what it left before or the founded campaign.
 pub record FailsToFound {S : Type 0} (g : Ghosts S) (old : Held S) (text pass : List ℕ) (new : Held S) : Type 0 where
   pub tables : HasCleanDisk (state g new) → Spares (state g old) (state g new)
-  pub crash : HasCleanDisk (state g new) → (w : WorldValue) → old_world_of text ≡ Ok w → MayFound (state g old) text (founded_of w pass) (state g new)
+  pub crash : HasCleanDisk (state g new) → (w : WorldValue) → world_of text ≡ Ok w → MayFound (state g old) text (founded_of w pass) (state g new)
 
 -- The database has a table, an index or a view, or the connection is in a transaction, and nothing is changed; or neither is so, and a call of the writing gave another error than want of memory.
 abbrev pub RefusesToWrite : {S : Type 0} → Ghosts S → Statements → Held S → Held S → Type 0
@@ -59,7 +62,10 @@ Leaves g old text pass new (BadWorld fault) = new ≡ old
 Leaves g old text pass new BadPassText = new ≡ old
 Leaves g old text pass new NotEmpty = new ≡ old
 Leaves g old text pass new NotACampaign = ⊥
+Leaves g old text pass new OldFormat = ⊥
+Leaves g old text pass new NotOld = ⊥
 Leaves g old text pass new (Damaged rule) = ⊥
+Leaves g old text pass new Differs = ⊥
 Leaves g old text pass new Store = FailsToFound g old text pass new × RefusesToWrite g (FoundsBy text pass) old new
 Leaves g old text pass new Memory = FailsToFound g old text pass new × LacksMemory g (FoundsBy text pass) old new
 
@@ -71,7 +77,7 @@ pub record RefusesFounding {S : Type 0} (g : Ghosts S) (old : Held S) (text pass
 
 -- the world of the text, and the campaign that is founded in it
 pub record Prepares (text pass : List ℕ) (w : WorldValue) (c : CampaignValue) : Type 0 where
-  pub world : old_world_of text ≡ Ok w
+  pub world : world_of text ≡ Ok w
   pub pass_is_good : pass_ok pass ≡ true
   pub campaign : c ≡ founded_of w pass
 

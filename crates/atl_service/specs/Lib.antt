@@ -10,4 +10,5 @@ pub mod Runs
 pub mod Posting
 pub mod Found
 pub mod Opened
+pub mod Upgraded
 pub mod Files

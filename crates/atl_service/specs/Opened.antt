@@ -4,7 +4,7 @@ use Rattle.sqlite_trees.specs.declared.store.Store.{Ghosts}
 use Rattle.sqlite.specs.Held.{Held, state}
 use Rattle.sqlite.specs.State.{HasCleanDisk}
 use Rattle.atl_tables.specs.Worlds.{WorldValue}
-use Rattle.atl_tables.specs.World.{old_world_of}
+use Rattle.atl_tables.specs.World.{world_of}
 use Rattle.atl_state.specs.Good.{IsGood}
 use Rattle.atl_state.specs.Campaign.{CampaignValue, MarkedCampaign}
 use Rattle.atl_store.specs.Keeps.{HoldsCampaign, IsLater}
@@ -12,7 +12,7 @@ use Rattle.atl_store.specs.Loading.{Loads, RefusesToLoad, LeavesAlone}
 use Rattle.atl_store.specs.declared.fault.StoreFault.{StoreFault}
 use Rattle.atl_store.specs.declared.fault.StoreFault.TheVariants as load
 use Rattle.atl_service.specs.declared.command.Cause.{Cause}
-use Rattle.atl_service.specs.declared.command.Cause.TheVariants.{NotACampaign, Damaged, Store, Memory}
+use Rattle.atl_service.specs.declared.command.Cause.TheVariants.{NotACampaign, OldFormat, Damaged, Store, Memory}
 use Rattle.atl_service.specs.Service.{ServiceValue, text_in}
 
 -- The service is open, with the world and the good campaign that the tables hold, and the tables are as they were.
@@ -26,12 +26,13 @@ pub record Opens {S : Type 0} (g : Ghosts S) (old : Held S) (made : ServiceValue
 -- A world text and a good campaign of its world that the connection held are those of the service.
 abbrev pub ComesBack : {S : Type 0} → Ghosts S → Held S → ServiceValue S → Type 0
 ComesBack g old made =
-    HasCleanDisk (state g made.conn) → (text : List ℕ) (w : WorldValue) (c : CampaignValue) → old_world_of text ≡ Ok w → IsGood w c → HoldsCampaign g old text c
+    HasCleanDisk (state g made.conn) → (text : List ℕ) (w : WorldValue) (c : CampaignValue) → world_of text ≡ Ok w → IsGood w c → HoldsCampaign g old text c
     → (text_in g made.conn ≡ text) × (made.world ≡ w) × (made.campaign ≡ Some c)
 
 -- what is told of a fault of the loading
 abbrev pub of_loading : StoreFault → Cause
 of_loading load.NotACampaign = NotACampaign
+of_loading load.OldFormat = OldFormat
 of_loading (load.Damaged rule) = Damaged rule
 of_loading load.Store = Store
 of_loading load.Memory = Memory

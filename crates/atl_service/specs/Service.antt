@@ -5,7 +5,7 @@ use Rattle.sqlite_trees.specs.declared.store.Store.{Ghosts}
 use Rattle.sqlite.specs.Held.{Held, held_code, state}
 use Rattle.sqlite.specs.State.{HasCleanDisk}
 use Rattle.atl_tables.specs.Worlds.{WorldValue, world_code}
-use Rattle.atl_tables.specs.World.{old_world_of}
+use Rattle.atl_tables.specs.World.{world_of}
 use Rattle.atl_state.specs.Campaign.{CampaignValue, MarkedCampaign, campaign_code}
 use Rattle.atl_state.specs.Marks.{no_marks}
 use Rattle.atl_state.specs.Good.{IsGood}
@@ -34,7 +34,7 @@ pub record Stands {S : Type 0} (g : Ghosts S) (conn : Held S) (w : WorldValue) (
   pub idle : conn.in_transaction ≡ false
   pub good : is_open ≡ true → IsGood w c
   pub tables : is_open ≡ true → HoldsCampaign g conn (text_in g conn) c
-  pub text : is_open ≡ true → HasCleanDisk (state g conn) → old_world_of (text_in g conn) ≡ Ok w
+  pub text : is_open ≡ true → HasCleanDisk (state g conn) → world_of (text_in g conn) ≡ Ok w
 
 -- What is true of every service: it stands, and while it is open nothing of its campaign is marked.
 pub record IsService {S : Type 0} (g : Ghosts S) (conn : Held S) (w : WorldValue) (c : MarkedCampaign) (is_open : Bool) : Type 0 where

@@ -3,11 +3,12 @@ ghost use Rattle.std.specs.Prelude.{◌≡◌};
 ghost use Rattle.atl_service.specs.Numbers.{number_of, refusal_name, fault_name};
 ghost use Rattle.atl_service.specs.Found.{of_world, of_creation};
 ghost use Rattle.atl_service.specs.Opened.{of_loading};
+ghost use Rattle.atl_service.specs.Upgraded.{of_upgrading};
 ghost use Rattle.atl_service.specs.Answering.{of_writing};
 
 use atl_orders::FaultyLine;
 use atl_state::Rule;
-use atl_store::{CreateFault, StoreFault, WriteFault};
+use atl_store::{CreateFault, StoreFault, UpgradeFault, WriteFault};
 use atl_tables::{Sequence, Text, WorldFault, name_of};
 use sqlite::{Alter, Connection};
 use std::alloc::AllocError;
@@ -235,11 +236,12 @@ impl Drop for Answer {
     }
 }
 
-/// Why no campaign is founded or opened: the first of these that applies, or Memory at any point. A founding gives neither
-/// NotACampaign nor Damaged, and an opening gives only these, Store and Memory. See docs/FORMATS.md, "Tables".
+/// Why no campaign is founded, opened or upgraded: the first of these that applies, or Memory at any point. A founding gives
+/// World, BadPassText, NotEmpty, Store and Memory, an opening NotACampaign, OldFormat, Damaged, Store and Memory, and an upgrade
+/// NotACampaign, NotOld, Damaged, World, Differs, Store and Memory. See docs/FORMATS.md, "Tables".
 #[derive(Drop, Debug)]
 pub enum Cause {
-    /// The world text has this fault, which is not Memory.
+    /// The world text, of an upgrade the new one, has this fault, which is not Memory.
     World(WorldFault),
     /// The moderator's pass text breaks the rule of pass texts.
     BadPassText,
@@ -247,16 +249,22 @@ pub enum Cause {
     NotEmpty,
     /// The database has no table `campaign`, or the table lacks a column.
     NotACampaign,
-    /// The rows of the tables break this rule, and none before it.
+    /// The campaign has one row of its own, whose format is the first: the file is to be upgraded.
+    OldFormat,
+    /// The campaign has one row of its own, whose format is the second: the file was upgraded before, or founded so.
+    NotOld,
+    /// The rows of the tables break this rule of their format, and none before it.
     Damaged(Rule),
+    /// The new world differs from the old one in more than its markets.
+    Differs,
     /// The database refuses for another cause than memory. To a founding it has other tables; to an opening its tables are not
-    /// made as those of a campaign.
+    /// made as those of a campaign; to an upgrade they are not just those of the first format.
     Store,
     /// There was no memory.
     Memory,
 }
 
-/// As the program tells it: `world: 8 NoLand`, `refused: 2 BadPassText`, `fault: Damaged 11`, `fault: Store` and so on.
+/// As the program tells it: `world: 8 NoLand`, `refused: 2 BadPassText`, `fault: Damaged 11`, `fault: OldFormat` and so on.
 impl fmt::Display for Cause {
     fn fmt<W: fmt::Write>(&self, f: &mut fmt::Formatter<W>) -> fmt::Result {
         match self {
@@ -299,9 +307,26 @@ impl From<StoreFault> for Cause {
     fn from(fault: StoreFault) -> Cause {
         match fault {
             StoreFault::NotACampaign => Cause::NotACampaign,
+            StoreFault::OldFormat => Cause::OldFormat,
             StoreFault::Damaged(rule) => Cause::Damaged(rule),
             StoreFault::Store => Cause::Store,
             StoreFault::Memory => Cause::Memory,
+        }
+    }
+}
+
+impl From<UpgradeFault> for Cause {
+    ghost from_gives = { λ fault cause. cause ≡ of_upgrading fault };
+
+    fn from(fault: UpgradeFault) -> Cause {
+        match fault {
+            UpgradeFault::NotACampaign => Cause::NotACampaign,
+            UpgradeFault::NotOld => Cause::NotOld,
+            UpgradeFault::Damaged(rule) => Cause::Damaged(rule),
+            UpgradeFault::World(fault) => Cause::World(fault),
+            UpgradeFault::Differs => Cause::Differs,
+            UpgradeFault::Store => Cause::Store,
+            UpgradeFault::Memory => Cause::Memory,
         }
     }
 }
@@ -316,7 +341,7 @@ impl From<AllocError> for Cause {
     }
 }
 
-/// A founding or an opening that was refused hands its connection back, with its tables as they were.
+/// A founding, an opening or an upgrade that was refused hands its connection back, with its tables as they were.
 #[derive(Drop)]
 pub struct Refused<S: Alter> {
     /// The first cause that applies.

@@ -10,9 +10,9 @@ use sqlite::{FileStore, Start};
 use sqlite_disk::{Calls, Modelled};
 
 /// Does nothing. Its clause is the law that a service over files, of which each call is recorded, has a clean disk where its
-/// connection is shielded, unless a digest of 64 bits has collided. The kit's open shields a connection whose disk is clean then,
-/// and `found`, `open`, `run` and `run_all` keep it shielded. So all that is said of tables at the end of a call holds of a file
-/// whose disk was clean as it was opened, unless a digest has collided. See docs/PROVED.md, "Premises".
+/// connection is shielded, unless a digest of 64 bits has collided. The kit's open shields a connection whose disk is clean
+/// then, and `found`, `open`, `upgrade`, `run` and `run_all` keep it shielded. So all that is said of tables at the end of a
+/// call holds of a file whose disk was clean as it was opened, unless a digest has collided. See docs/PROVED.md, "Premises".
 pub fn a_shielded_disk_is_clean<C: Calls, S: Start>(service: &Service<FileStore<Modelled<C, S>>>)
     ensures { (file_state service.now.conn).IsShielded → HasCleanDisk (file_state service.now.conn) ⊎ HasCollided (start_of S.Start) (λ f. C.Calls.history (calls_of f)) service.now.conn.store }
 {

@@ -6,7 +6,7 @@ ghost use Rattle.atl_service.specs.Found.{Prepares, IsCause};
 
 use crate::command::Cause;
 use atl_state::{Campaign, founded};
-use atl_tables::{World, pass_ok, read_old_world};
+use atl_tables::{World, pass_ok, read_world};
 use std::alloc::Global;
 
 /// The world of a text and the campaign that is founded in it; or the first check that fails.
@@ -20,7 +20,7 @@ pub(crate) fn prepared(
     ensures things { IfOk result (λ made. length made.1.value.books ≤ most_things) }
     ensures err { IfErr result (λ why. (is_there : Bool) → IsCause world_text.now pass.now is_there why) }
 {
-    let world = read_old_world(alloc, world_text)?;
+    let world = read_world(alloc, world_text)?;
     if !pass_ok(pass) {
         return Err(Cause::BadPassText);
     }

@@ -14,4 +14,4 @@ mod sorting;
 pub use command::{Answer, Cause, Command, Fault, Refusal, Refused};
 pub use files::a_shielded_disk_is_clean;
 pub use posting::only_the_last_mail_counts;
-pub use service::{Service, found, open};
+pub use service::{Service, found, open, upgrade};

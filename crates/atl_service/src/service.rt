@@ -3,11 +3,12 @@ ghost use Rattle.std.specs.Prelude.{◌≡◌, Ok, IfOk, IfErr, OnErr, IfSome, I
 ghost use Rattle.std.specs.Option.{option_copied};
 ghost use Rattle.sqlite.specs.Held.{state};
 ghost use Rattle.sqlite.specs.State.{HasCleanDisk};
-ghost use Rattle.atl_tables.specs.World.{old_world_of};
+ghost use Rattle.atl_tables.specs.World.{world_of};
 ghost use Rattle.atl_state.specs.Totals.{Balances};
 ghost use Rattle.atl_report.specs.Books.{books_of};
 ghost use Rattle.atl_service.specs.Found.{Founds, RefusesFounding};
 ghost use Rattle.atl_service.specs.Opened.{ComesBack, Opens, RefusesOpening};
+ghost use Rattle.atl_service.specs.Upgraded.{UpgradesTo, RefusesUpgrade};
 
 use crate::answering::answered;
 use crate::command::{Answer, Cause, Command, Fault, Refused};
@@ -128,10 +129,10 @@ impl<S: Alter> Service<S> {
         Some(books_text(self.alloc, &self.world, campaign))
     }
 
-    /// The world of the campaign, as it was founded. It is lent also after a fault.
+    /// The world of the campaign, as it was founded or upgraded. It is lent also after a fault.
     pub fn world(&self) -> &World
         ensures value { result.now ≡ self.now.world }
-        ensures text { HasCleanDisk (state S.Store self.now.conn) → IsSome self.now.campaign → old_world_of (text_in S.Store self.now.conn) ≡ Ok self.now.world }
+        ensures text { HasCleanDisk (state S.Store self.now.conn) → IsSome self.now.campaign → world_of (text_in S.Store self.now.conn) ≡ Ok self.now.world }
     {
         &self.world
     }
@@ -190,9 +191,9 @@ pub fn found<S: Alter>(
 
 /// Opens the campaign that the tables hold, with its world: one that was stored comes back as it was. Nothing is changed,
 /// whatever is answered, and a refusal hands the connection back. NotACampaign: there is no table `campaign`, or it lacks a
-/// column. Damaged: the rows of the tables break this rule, and none before it. Store: the connection is in a transaction, the
-/// tables are not made as those of a campaign, or the database refuses for another cause than memory. See docs/FORMATS.md,
-/// "Rules of the tables".
+/// column. OldFormat: the campaign has one row of its own, whose format is the first, and `upgrade` takes it. Damaged: the rows
+/// of the tables break this rule, and none before it. Store: the connection is in a transaction, the tables are not made as
+/// those of a campaign, or the database refuses for another cause than memory. See docs/FORMATS.md, "Rules of the tables".
 pub fn open<S: Alter>(alloc: Global, mut conn: Connection<S>) -> Result<Service<S>, Refused<S>>
     ensures ok { IfOk result (Opens S.Store conn) }
     ensures back { IfOk result (ComesBack S.Store conn) }
@@ -206,6 +207,38 @@ pub fn open<S: Alter>(alloc: Global, mut conn: Connection<S>) -> Result<Service<
         });
     }
     match load(alloc, &mut conn) {
+        Ok((world, campaign)) => Ok(Service {
+            alloc,
+            conn,
+            world,
+            campaign,
+            is_open: true,
+        }),
+        Err(fault) => Err(Refused {
+            why: Cause::from(fault),
+            conn,
+        }),
+    }
+}
+
+/// Upgrades the campaign that tables of the first format hold to the second, with a new world that differs from the old one in
+/// markets alone, and opens it: the campaign is as it was, and nothing is in stock. The cause of a refusal is the first check
+/// that fails, and a refusal hands the connection back, with its tables as they were while it is open; a crash leaves what it
+/// left before or the upgraded campaign. NotACampaign: there is no table `campaign`, or it lacks a column. NotOld: the campaign
+/// has one row of its own, whose format is the second. Damaged: the rows of the tables break this rule of the first format, and
+/// none before it. World: the new world text has this fault. Differs: the worlds differ in more than markets. Store: the
+/// connection is in a transaction, the tables are not just those of the first format, or the database refuses for another cause
+/// than memory. See docs/FORMATS.md, "Upgrading a file".
+pub fn upgrade<S: Alter>(
+    alloc: Global,
+    mut conn: Connection<S>,
+    new_world: &str,
+) -> Result<Service<S>, Refused<S>>
+    ensures ok { IfOk result (UpgradesTo S.Store conn new_world.now) }
+    ensures balances { IfOk result (λ s. IfSome s.campaign Balances) }
+    ensures err { IfErr result (λ r. RefusesUpgrade S.Store conn new_world.now r.why r.conn) }
+{
+    match atl_store::upgrade(alloc, &mut conn, new_world) {
         Ok((world, campaign)) => Ok(Service {
             alloc,
             conn,

@@ -2,8 +2,9 @@
 use Rattle.std.proofs.Common.{◌≡◌, ◌≢◌, ◌+◌, ◌<◌, ◌∙◌, ℕ, ℤ, zero, suc, pos, negsuc, Bool, true, false, List, [], get_or, length, Some, inl, inr, refl, sym, ap, arith}
 use Rattle.std.specs.Prelude.{◌⊎◌, slice_index_or}
 use Rattle.std.specs.Ordering.{nat_cmp}
-use Rattle.std.specs.FinMap.{FinMap, empty, get}
+use Rattle.std.specs.FinMap.{FinMap, get}
 use Rattle.std.proofs.lemmas.List.{ext_get_or}
+use Rattle.std.proofs.lemmas.Option.{same_Some}
 use Rattle.sqlite.specs.Order.{Row}
 use Rattle.sqlite_trees.specs.Tree.{Trees}
 use Rattle.atl_tables.specs.Worlds.{WorldValue}
@@ -20,12 +21,11 @@ use Rattle.atl_state.specs.declared.records.Unit.{Unit}
 use Rattle.atl_state.proofs.BackLaws.{agree}
 use Rattle.atl_state.proofs.BookLaws.{place_at}
 use Rattle.atl_state.proofs.EveryEntryLaws.{entry_at}
-use Rattle.atl_state.proofs.MarketLaws.{no_stocks}
 use Rattle.atl_store.specs.Alike.{HoldsOne}
-use Rattle.atl_store.specs.Rows.{RowsOf, HasRowsOf, BooksRowsOf, Holds, campaign_line, faction_line, region_line, unit_line, structure_line, things_of}
+use Rattle.atl_store.specs.Rows.{RowsOf, HasRowsOf, BooksRowsOf, MarketRowsOf, Holds, campaign_line, faction_line, region_line, unit_line, structure_line, things_of}
 use Rattle.atl_store.specs.Sets.{Is}
-use Rattle.atl_store.specs.Tables.{Own, Factions, Regions, Units, Goods, Structures, Mail, Reports, Books}
-use Rattle.atl_store.specs.Shown.{flag, mail_row, report_row, has_row, books_row}
+use Rattle.atl_store.specs.Tables.{Own, Factions, Regions, Units, Goods, Structures, Mail, Reports, Books, Markets}
+use Rattle.atl_store.specs.Shown.{flag, mail_row, report_row, has_row, books_row, market_row}
 use Rattle.atl_store.specs.Written.{sort_number}
 use Rattle.atl_store.specs.declared.rows.has.Sort.{Sort}
 use Rattle.atl_store.specs.declared.rows.has.Sort.TheVariants.{Item, Skill}
@@ -67,14 +67,6 @@ factions_tell m k a b n p f g is there same =
     let gone : f.gone ≡ g.gone = same_flag f.gone g.gone (cc) in
     (at, λ i. record { number = number i; joined_as = joined i; name = name i; pass = pass i; gone = gone i })
 
--- regions with nothing in stock
-regions_tell : (m k : FinMap nat_cmp Region) → Every (λ n r. r.stocks ≡ empty) m → Every (λ n r. r.stocks ≡ empty) k → Tells region_line m k
-regions_tell m k a b n p r s is there same =
-    let peasants : r.peasants ≡ s.peasants = cc in
-    let money : r.money ≡ s.money = cc in
-    let stocks : r.stocks ≡ s.stocks = a n r is ∙ sym (b p s there) in
-    (cc, λ i. record { peasants = peasants i; money = money i; stocks = stocks i })
-
 structures_tell : (m k : FinMap nat_cmp Structure) → Tells structure_line m k
 structures_tell m k n p s t is there same =
     let kind : s.kind ≡ t.kind = cc in
@@ -113,15 +105,12 @@ module _ (rows : List Row) (m k : FinMap nat_cmp Unit) (a : Is rows (HasRowsOf m
       let row = has_row n (sort_number sort) thing amount in
       let (p, x, at, other, object, size, got, apart, same) = (b row).0 ((a row).1 (n, u, is, sort, thing, amount, has, some n u is sort thing amount has, refl)) in
       let number : n ≡ p = cc in
-      let unit : ◌≡◌ {A = Unit} v x = of_one v x (sym there ∙ ap (get k) number ∙ at) in
+      let unit : ◌≡◌ {A = Unit} v x = same_Some v x (sym there ∙ ap (get k) number ∙ at) in
       let kind : sort ≡ other = same_sort sort other (cc) in
       let what : thing ≡ object = cc in
       let count : amount ≡ size = cc in
       let left : get (things_of sort v.holding) thing ≡ get (things_of other x.holding) object = λ i. get (things_of (kind i) (unit i).holding) (what i) in
       left ∙ got ∙ sym (ap Some count)
-    where
-      of_one : (v x : Unit) → Some v ≡ Some x → v ≡ x
-      of_one v x e = cc
 
 module _ (rows goods : List Row) (m k : FinMap nat_cmp Unit) (a : Is rows (RowsOf unit_line m)) (b : Is rows (RowsOf unit_line k)) (h : Is goods (HasRowsOf m)) (j : Is goods (HasRowsOf k)) (some : HaveSome m) (more : HaveSome k) where
   units_there : Every (λ n u. get k n ≡ Some u) m
@@ -146,6 +135,40 @@ module _ (rows goods : List Row) (m k : FinMap nat_cmp Unit) (a : Is rows (RowsO
         holding = record { name = name i; men = men i; money = money i; guard = guard i; items = items i; days = days i };
       } in
       here ∙ sym (ap Some unit)
+
+-- ---- regions, with what is in stock
+
+-- of nothing there are none
+abbrev AreInStock : FinMap nat_cmp Region → Type 0
+AreInStock regions = Every (λ n r. Every (λ item stock. stock ≢ 0) r.stocks) regions
+
+are_in_stock : (w : WorldValue) (c : CampaignValue) → IsGood w c → AreInStock c.regions
+are_in_stock w c good n r is item stock there = let range = (good.sound.steady.numbers.regions n r is).stocks item stock there in λ none. omega (arith, range.0, none)
+
+module _ (rows : List Row) (m k : FinMap nat_cmp Region) (a : Is rows (MarketRowsOf m)) (b : Is rows (MarketRowsOf k)) where
+  -- what is in stock in a region of the one is so in that of the other
+  stocks_there : AreInStock m → (n : ℕ) (r s : Region) → get m n ≡ Some r → get k n ≡ Some s → Every (λ item stock. get s.stocks item ≡ Some stock) r.stocks
+  stocks_there some n r s is there item stock has =
+      let row = market_row n item stock in
+      let (p, x, at, object, size, got, apart, same) = (b row).0 ((a row).1 (n, r, is, item, stock, has, some n r is item stock has, refl)) in
+      let number : n ≡ p = cc in
+      let region : ◌≡◌ {A = Region} s x = same_Some s x (sym there ∙ ap (get k) number ∙ at) in
+      let what : item ≡ object = cc in
+      let count : stock ≡ size = cc in
+      let left : get s.stocks item ≡ get x.stocks object = λ i. get (region i).stocks (what i) in
+      left ∙ got ∙ sym (ap Some count)
+
+module _ (rows stocks : List Row) (m k : FinMap nat_cmp Region) (a : Is rows (RowsOf region_line m)) (b : Is rows (RowsOf region_line k)) (h : Is stocks (MarketRowsOf m)) (j : Is stocks (MarketRowsOf k)) (some : AreInStock m) (more : AreInStock k) where
+  regions_there : Every (λ n r. get k n ≡ Some r) m
+  regions_there n r is =
+      let (p, s, there, same) = other_line region_line rows m k a b n r is in
+      let at : n ≡ p = cc in
+      let here : get k n ≡ Some s = ap (get k) at ∙ there in
+      let peasants : r.peasants ≡ s.peasants = cc in
+      let money : r.money ≡ s.money = cc in
+      let in_stock : r.stocks ≡ s.stocks = agree _ _ (stocks_there stocks m k h j some n r s is here) (stocks_there stocks k m j h more n s r here is) in
+      let region : r ≡ s = λ i. record { peasants = peasants i; money = money i; stocks = in_stock i } in
+      here ∙ sym (ap Some region)
 
 -- ---- books
 
@@ -202,9 +225,7 @@ module _ (db : Trees) (one other : List ℕ) (c d : CampaignValue) (h : Holds db
   one_text = let own = one_row in cc
 
 pub holds_one : HoldsOne
-holds_one w bare db one other c d good sound h j =
-    let none = no_stocks w c bare good.sound.steady.known in
-    let nothing = no_stocks w d bare sound.sound.steady.known in
+holds_one w db one other c d good sound h j =
     let own : campaign_line one c ≡ campaign_line other d = one_row db one other c d h j in
     let text : one ≡ other = one_text db one other c d h j in
     let month : c.month ≡ d.month = cc in
@@ -215,7 +236,9 @@ holds_one w bare db one other c d good sound h j =
     let numbers = good.sound.steady.numbers in
     let others = sound.sound.steady.numbers in
     let factions = same_values faction_line _ c.factions d.factions (factions_tell _ _ numbers.factions others.factions) (factions_tell _ _ others.factions numbers.factions) (h.rows Factions) (j.rows Factions) in
-    let regions = same_values region_line _ c.regions d.regions (regions_tell _ _ none nothing) (regions_tell _ _ nothing none) (h.rows Regions) (j.rows Regions) in
+    let stocks = are_in_stock w c good in
+    let others_stocks = are_in_stock w d sound in
+    let regions = agree c.regions d.regions (regions_there _ _ c.regions d.regions (h.rows Regions) (j.rows Regions) (h.rows Markets) (j.rows Markets) stocks others_stocks) (regions_there _ _ d.regions c.regions (j.rows Regions) (h.rows Regions) (j.rows Markets) (h.rows Markets) others_stocks stocks) in
     let structures = same_values structure_line _ c.structures d.structures (structures_tell _ _) (structures_tell _ _) (h.rows Structures) (j.rows Structures) in
     let mail = same_values mail_row _ c.mail d.mail (mails_tell _ _) (mails_tell _ _) (h.rows Mail) (j.rows Mail) in
     let reports = same_values report_row _ c.reports d.reports (reports_tell _ _) (reports_tell _ _) (h.rows Reports) (j.rows Reports) in

@@ -1,41 +1,21 @@
 -- What the statements on the table books mean, and what they do.
-use Rattle.std.proofs.Common.{◌≡◌, ℕ, ℤ, pos, true, List, [], ◌∷◌, refl, sym, true≢false}
+use Rattle.std.proofs.Common.{◌≡◌, ℕ, ℤ, List, [], ◌∷◌, codes, refl}
 use Rattle.std.proofs.lemmas.Bool.{and_parts, not-true}
 use Rattle.sqlite_tied.specs.Compute.{everything}
-use Rattle.sqlite.specs.declared.types.Value.TheVariants.{Null}
-use Rattle.sqlite.specs.Term.{Term, lit, col, op2}
+use Rattle.sqlite.specs.Term.{Term, col, op2}
 use Rattle.sqlite.specs.Listing.{understood}
-use Rattle.sqlite.specs.Order.{Row}
 use Rattle.sqlite.specs.Collation.TheVariants.{Binary}
-use Rattle.sqlite.specs.Schema.{Schema}
 use Rattle.sqlite_sql.specs.declared.ops.BinaryOp.TheVariants.{Compare}
 use Rattle.sqlite_sql.specs.declared.ops.CompareOp.TheVariants.{Eq}
 use Rattle.sqlite_value.specs.Keys.{first_key}
-use Rattle.sqlite_schema.specs.declared.schema.Constraint.TheVariants.{Datatype, NotNull}
-use Rattle.sqlite_schema.specs.Rules.{passes}
 use Rattle.atl_store.specs.Tables.{Books, books_table, books_unique}
 use Rattle.atl_store.specs.Shown.{books_key, books_row}
 use Rattle.atl_store.specs.Inside.{Puts, Drops}
 use Rattle.atl_store.specs.Statements.{deletion, upsert}
-use Rattle.atl_store.proofs.KeyLaws.{int_by, cons_is}
-use Rattle.atl_store.proofs.KeyedRowLaws.{AreInts, HasKey, IsPutUnder, IsTakeOut, MakesValues, puts_keyed, drops_keyed}
+use Rattle.atl_store.proofs.KeyedRowLaws.{HasKey, IsPutUnder, IsTakeOut, puts_keyed, drops_keyed}
+use Rattle.atl_store.proofs.PairRowLaws.{pair_terms, pair_project, pair_ints, makes_pair}
 use Rattle.atl_store.proofs.PartLaws.{listed}
 use Rattle.atl_store.proofs.StatementLaws.{AlwaysPlain, DoneBy}
-use Rattle.atl_store.proofs.Terms.{cast_null, cast_int}
-
--- ---- its key: entry and thing
-
-ints_from : (schema : Schema) (x : Row) → passes Datatype schema (λ t. []) books_table x ≡ true → passes NotNull schema (λ t. []) books_table x ≡ true
-    → AreInts books_unique x
-ints_from schema [] typed present = absurd (true≢false (sym present))
-ints_from schema (r ∷ []) typed present = absurd (true≢false (sym present))
-ints_from schema (r ∷ a ∷ []) typed present = absurd (true≢false (sym (and_parts _ _ present).1))
-ints_from schema (r ∷ a ∷ b ∷ rest) typed present =
-    let t1 = and_parts _ _ (and_parts _ _ typed).0 in
-    let t2 = and_parts _ _ t1.1 in
-    let p1 = and_parts _ _ present in
-    let p2 = and_parts _ _ p1.1 in
-    (int_by a t1.0 (not-true _ p1.0), (int_by b t2.0 (not-true _ p2.0), tt))
 
 has_key : HasKey books_table 8 books_unique
 unfolding first_key
@@ -43,7 +23,7 @@ has_key = record {
   ours = listed Books;
   place = λ more. refl;
   plain = λ db. refl;
-  ints = ints_from;
+  ints = pair_ints 10 (codes "books") (codes "entry") (codes "thing") (codes "amount");
   first = λ x. refl;
   unique = λ indexes rows r passed. not-true _ (and_parts _ _ passed).0;
   hits = λ indexes new x. refl;
@@ -51,13 +31,7 @@ has_key = record {
 
 -- ---- a row is put
 
-abbrev terms : List Term
-terms = lit Null ∷ col 0 0 ∷ col 0 1 ∷ col 0 2 ∷ []
-
-abbrev project : List Term
-project = col 1 0 ∷ col 1 1 ∷ col 1 2 ∷ col 0 2 ∷ []
-
-put_is : IsPutUnder books_table.tree 8 books_unique (upsert books_table 2) 4 terms 3 project
+put_is : IsPutUnder books_table.tree 8 books_unique (upsert books_table 2) 4 pair_terms 3 pair_project
 unfolding understood everything
 put_is more indexes = refl
 
@@ -65,22 +39,8 @@ put_plain : AlwaysPlain (upsert books_table 2)
 unfolding understood everything
 put_plain more indexes = (refl, refl)
 
-makes_row : (entry thing : ℕ) (amount : ℤ) → MakesValues books_table books_unique 4 terms 3 project (books_row entry thing amount)
-makes_row entry thing amount = record {
-  source = refl;
-  casted = rw (cast_null, cast_int (pos entry), cast_int (pos thing), cast_int amount) refl;
-  again = λ n. rw (cast_int n, cast_int (pos entry), cast_int (pos thing), cast_int amount) refl;
-  shown = λ n. refl;
-  ints = λ n. (refl, (refl, tt));
-  aimed = λ x more. refl;
-  changed = λ more r same.
-      let one = cons_is _ _ _ _ same in
-      let two = cons_is _ _ _ _ one.1 in
-      rw (one.0, two.0, cast_int (pos entry), cast_int (pos thing), cast_int amount) refl;
-}
-
 pub puts_books : (entry thing : ℕ) (amount : ℤ) → DoneBy (upsert books_table 2) (books_row entry thing amount) (Puts books_table 2 (books_row entry thing amount))
-puts_books entry thing amount = puts_keyed books_table.tree _ _ books_unique 8 has_key (upsert books_table 2) 4 3 terms project put_is put_plain (books_row entry thing amount) (makes_row entry thing amount)
+puts_books entry thing amount = puts_keyed books_table.tree _ _ books_unique 8 has_key (upsert books_table 2) 4 3 pair_terms pair_project put_is put_plain (books_row entry thing amount) (makes_pair 10 (codes "books") (codes "entry") (codes "thing") (codes "amount") entry thing amount)
 
 -- ---- the row of a key is taken out
 

@@ -17,13 +17,14 @@ use Rattle.atl_state.specs.declared.books.Entry.{Entry}
 use Rattle.atl_state.specs.Limits.{entry_count}
 use Rattle.atl_state.proofs.EveryEntryLaws.{entry_small}
 use Rattle.atl_state.specs.declared.books.Thing.{Thing}
+use Rattle.atl_state.specs.declared.records.Region.{Region}
 use Rattle.atl_state.specs.declared.records.Unit.{Unit}
 use Rattle.atl_store.specs.declared.rows.has.Sort.{Sort}
 use Rattle.atl_store.specs.declared.rows.has.Sort.TheVariants.{Item, Skill}
 use Rattle.atl_store.specs.Sets.{Is, rows_in}
-use Rattle.atl_store.specs.Tables.{Part, Own, Factions, Regions, Units, Goods, Structures, Mail, Reports, Books, table_of}
+use Rattle.atl_store.specs.Tables.{Part, Own, Factions, Regions, Units, Goods, Structures, Mail, Reports, Books, Markets, table_of}
 use Rattle.atl_store.specs.Shown.{Head, head_row, mail_row, report_row, books_row}
-use Rattle.atl_store.specs.Rows.{RowsOf, HasRowsOf, BooksRowsOf, rows_for, head_of, campaign_line, faction_line, region_line, unit_line, structure_line, things_of, Holds}
+use Rattle.atl_store.specs.Rows.{RowsOf, HasRowsOf, BooksRowsOf, MarketRowsOf, rows_for, head_of, campaign_line, faction_line, region_line, unit_line, structure_line, things_of, Holds}
 use Rattle.atl_store.specs.Changing.{begins_marked, amount_marked, is_marked, Chosen, rewritten, head_after, HasUnmarked, WritesChanges, HoldsUnmarked}
 
 -- ---- a table whose unmarked rows are the campaign's
@@ -100,6 +101,11 @@ goods_follow one other marks r same not_marked of =
     let found = goods_same (get one of.0) (get other of.0) of.1 of.3 of.4 of.5 (same of.0 (ap (begins_marked marks) (sym of.8) ∙ not_marked)) of.2 of.6 in
     (of.0, found.0, found.1, of.3, of.4, of.5, found.2, of.7, of.8)
 
+-- ---- stocks
+
+stocks_follow : (one other : FinMap nat_cmp Region) (marks : FinSet nat_cmp) (r : Row) → SameBut marks one other → begins_marked marks r ≡ false → MarketRowsOf one r → MarketRowsOf other r
+stocks_follow one other marks r same not_marked of = (of.0, of.1, same of.0 (ap (begins_marked marks) (sym of.7) ∙ not_marked) ∙ of.2, of.3, of.4, of.5, of.6, of.7)
+
 -- ---- amounts
 
 amount_heads : (marks : FinSet nat_cmp) (e : Entry) (t : Thing) (amount : ℤ) → amount_marked marks (books_row (entry_place e + 1) (thing_place t) amount) ≡ contains marks (amount_number e t)
@@ -155,6 +161,8 @@ covers_unmarked c db text before covers held = record { before = head_of before;
     rest Reports = rest_same report_row c.marks.reports (λ n v. refl) before.reports c.value.reports _ covers.reports (held.rows Reports)
     rest Books =
         rest_of (amount_marked c.marks.books) (BooksRowsOf before.books) (BooksRowsOf c.value.books) _ (λ r is. amounts_follow before.books c.value.books c.marks.books r covers.books is) (λ r is. amounts_follow c.value.books before.books c.marks.books r (λ e t not_marked. sym (covers.books e t not_marked)) is) (held.rows Books)
+    rest Markets =
+        rest_of (begins_marked c.marks.regions) (MarketRowsOf before.regions) (MarketRowsOf c.value.regions) _ (λ r is. stocks_follow before.regions c.value.regions c.marks.regions r covers.regions is) (λ r is. stocks_follow c.value.regions before.regions c.marks.regions r (λ n not_marked. sym (covers.regions n not_marked)) is) (held.rows Markets)
 
 pub changes_held : (c : MarkedCampaign) (old new : Database) → WritesChanges c old new → (text : List ℕ) (before : CampaignValue) → Covers c.marks before c.value → Holds old.trees text before → Holds new.trees text c.value
 changes_held c old new changes text before covers held = unmarked_held c old new changes text (covers_unmarked c old.trees text before covers held)

@@ -9,13 +9,14 @@ use Rattle.sqlite.specs.Order.{Row}
 use Rattle.sqlite.specs.State.{State, HasCleanDisk, Survives, CommitsShowing, Shown, ShowsRows, FailsToQuery, FailsToShow, IsNotRun, IsUnchanged, IsRolledBack}
 use Rattle.sqlite.proofs.Callers.{IsPlain, never_commits}
 use Rattle.sqlite.proofs.StateLemmas.{survives_weaker}
+use Rattle.atl_tables.specs.declared.format.Format.{Format}
 use Rattle.atl_store.specs.Gathering.{IsSettled, FailsToConfirm}
-use Rattle.atl_store.specs.Faults.{is_memory, store_fault}
+use Rattle.atl_store.specs.Faults.{is_memory, load_fault}
 use Rattle.atl_store.specs.Loading.{Stays}
 use Rattle.atl_store.specs.Statements.{selection}
-use Rattle.atl_store.specs.Tables.{HasAll, campaign_table}
-use Rattle.atl_store.specs.declared.fault.StoreFault.{StoreFault}
-use Rattle.atl_store.specs.declared.fault.StoreFault.TheVariants as store
+use Rattle.atl_store.specs.Tables.{HasTablesOf, campaign_table}
+use Rattle.atl_store.specs.declared.fault.LoadFault.{LoadFault}
+use Rattle.atl_store.specs.declared.fault.LoadFault.TheVariants as load
 
 module _ (sql : List ℕ) (old new : State) (plain : IsPlain (understood old.now.schema sql)) where
   pub commits_none : Survives old new (CommitsShowing sql [] old) → Survives old new (λ _. ⊥)
@@ -46,11 +47,11 @@ module _ (sql : List ℕ) (old new : State) (plain : IsPlain (understood old.now
   refused_stays settled clean e (inr h) = unchanged_stays (fails_stay h.0 _ e h.0.returning (subst IsPlain h.1.is plain).0 h.2)
 
 -- the campaign's own row can't be asked for once more
-module _ {S : Type 0} (g : Ghosts S) (old during : Held S) (begins : HasAll old.schema) (e : Error) (failed : FailsToQuery (selection campaign_table 1) [] (state g old) (state g during) e) where
-  told_by : (memory : Bool) → is_memory e ≡ memory → FailsToConfirm g old (cond memory store.Memory store.Store)
+module _ (f : Format) {S : Type 0} (g : Ghosts S) (old during : Held S) (begins : HasTablesOf f old.schema) (e : Error) (failed : FailsToQuery (selection campaign_table 1) [] (state g old) (state g during) e) where
+  told_by : (memory : Bool) → is_memory e ≡ memory → FailsToConfirm g old f (cond memory load.Memory load.Store)
   told_by true is = (begins, (during, e, failed, is))
   told_by false is = inr (begins, (during, e, failed, is))
 
-  pub unconfirmed : {A : Type 0} (r : Result A StoreFault) → IsErrAnd r (λ told. told ≡ store_fault e) → IfErr r (FailsToConfirm g old)
+  pub unconfirmed : {A : Type 0} (r : Result A LoadFault) → IsErrAnd r (λ told. told ≡ load_fault e) → IfErr r (FailsToConfirm g old f)
   unconfirmed (Ok a) told = tt
-  unconfirmed (Err f) told = subst (FailsToConfirm g old) (sym told) (told_by (is_memory e) refl)
+  unconfirmed (Err fault) told = subst (FailsToConfirm g old f) (sym told) (told_by (is_memory e) refl)

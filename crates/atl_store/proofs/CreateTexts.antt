@@ -13,9 +13,9 @@ use Rattle.sqlite.specs.Listing.{understood}
 use Rattle.sqlite.specs.Schema.{Schema}
 use Rattle.sqlite.specs.Table.{Table}
 use Rattle.sqlite.specs.Command.TheVariants.{CreateTable}
-use Rattle.sqlite.specs.State.{State}
+use Rattle.sqlite.specs.State.{State, Executes}
 use Rattle.sqlite.proofs.Callers.{IsPlain, command_of, statement_of}
-use Rattle.atl_store.specs.Tables.{campaign_table, faction_table, region_table, unit_table, has_table, structure_table, mail_table, report_table, books_table, first_tables}
+use Rattle.atl_store.specs.Tables.{campaign_table, faction_table, region_table, unit_table, has_table, structure_table, mail_table, report_table, books_table, market_table, first_tables}
 use Rattle.atl_store.specs.Making.{Extends}
 use Rattle.atl_store.specs.Writes.{Writes, Runs}
 use Rattle.atl_store.specs.OwnStatements.{Only, Creations}
@@ -26,15 +26,23 @@ use Rattle.atl_store.proofs.MakingLaws.{extends}
 use Rattle.atl_store.proofs.WriteLaws.{weaker, among_only}
 
 -- a text makes a table, which is the last of the schema then
-record IsCreate (before after : Schema) (table : Table) (text : List ℕ) : Type 0 where
-  command : command_of (understood before text) ≡ CreateTable
-  whole : statement_of text (understood before text) ≡ text
-  defines : table_defined_by text ≡ Ok (record table { tree = 0 })
-  plain : IsPlain (understood before text)
-  after_is : created before (record table { tree = 0 }) ≡ after
-  tree_is : next_tree before ≡ table.tree
-  last : after.tables ≡ before.tables ++ table ∷ []
-  uncounted : lacks_sequence after ≡ false
+pub record IsCreate (before after : Schema) (table : Table) (text : List ℕ) : Type 0 where
+  pub command : command_of (understood before text) ≡ CreateTable
+  pub whole : statement_of text (understood before text) ≡ text
+  pub defines : table_defined_by text ≡ Ok (record table { tree = 0 })
+  pub plain : IsPlain (understood before text)
+  pub after_is : created before (record table { tree = 0 }) ≡ after
+  pub tree_is : next_tree before ≡ table.tree
+  pub last : after.tables ≡ before.tables ++ table ∷ []
+  pub uncounted : lacks_sequence after ≡ false
+
+-- what it does to a database of that schema
+pub makes_table : (before after : Schema) (table : Table) (text : List ℕ) → IsCreate before after table text → (old new : State) (count : ℕ) → old.now.schema ≡ before → Executes text [] old new (Ok count)
+    → Creates before after table.tree old.now new.now
+makes_table before after table text is old new count has ran =
+    let uncounted = subst (λ s. lacks_sequence s ≡ false) (sym is.after_is) is.uncounted in
+    subst (λ s. Creates before s table.tree old.now new.now) is.after_is (subst (λ tree. Creates before (created before (record table { tree = 0 })) tree old.now new.now) is.tree_is
+    (creates before (record table { tree = 0 }) text old new count is.command is.whole is.defines is.plain uncounted has ran))
 
 -- the text is one of them, and makes the one more table
 abbrev pub Makes : Schema → Schema → List ℕ → Type 1
@@ -44,11 +52,7 @@ makes : (before after : Schema) (table : Table) (text : List ℕ) → Has creati
 makes before after table text listed is = (listed, run)
   where
     run : (old new : State) → Runs text [] old new → Extends before after old new
-    run old new (inside, count, h) =
-        let uncounted = subst (λ s. lacks_sequence s ≡ false) (sym is.after_is) is.uncounted in
-        extends before after table old new inside h.1.mode is.last
-        (λ has. subst (λ s. Creates before s table.tree old.now new.now) is.after_is (subst (λ tree. Creates before (created before (record table { tree = 0 })) tree old.now new.now) is.tree_is
-        (creates before (record table { tree = 0 }) text old new count is.command is.whole is.defines is.plain uncounted has h.0)))
+    run old new (inside, count, h) = extends before after table old new inside h.1.mode is.last (λ has. makes_table before after table text is old new count has h.0)
 
 pub makes_campaign : Makes (first_tables 0 0) (first_tables 1 0) (creation 0)
 unfolding understood everything
@@ -85,6 +89,14 @@ makes_report = makes (first_tables 7 2) (first_tables 8 2) report_table (creatio
 pub makes_books : Makes (first_tables 8 2) (first_tables 9 3) (creation 8)
 unfolding understood everything
 makes_books = makes (first_tables 8 2) (first_tables 9 3) books_table (creation 8) (inr (inr (inr (inr (inr (inr (inr (inr (inl refl))))))))) (record { command = refl; whole = refl; defines = refl; plain = (refl, refl); after_is = refl; tree_is = refl; last = refl; uncounted = refl })
+
+-- the table that the first format hasn't
+pub market_create : IsCreate (first_tables 9 3) (first_tables 10 4) market_table (creation 9)
+unfolding understood everything
+market_create = record { command = refl; whole = refl; defines = refl; plain = (refl, refl); after_is = refl; tree_is = refl; last = refl; uncounted = refl }
+
+pub makes_market : Makes (first_tables 9 3) (first_tables 10 4) (creation 9)
+makes_market = makes (first_tables 9 3) (first_tables 10 4) market_table (creation 9) (inr (inr (inr (inr (inr (inr (inr (inr (inr (inl refl)))))))))) market_create
 
 -- ---- in a transaction
 

@@ -11,17 +11,21 @@ use Rattle.sqlite.specs.Order.{Row}
 use Rattle.sqlite.specs.State.{State, HasCleanDisk, Survives, Shown, ShowsRows}
 use Rattle.sqlite_rules.specs.Lists.{Has}
 use Rattle.sqlite_rules.proofs.ListLemmas.{has_left, has_right, has_either}
-use Rattle.atl_store.specs.Gathering.{IsSettled, kept_of, Found, AnswersOne, FailsToRead, AreRows, AreTwo, AreThree, OthersRead, AreOthers, ReadsSome}
+use Rattle.atl_tables.specs.declared.format.Format.{Format}
+use Rattle.atl_tables.specs.declared.format.Format.TheVariants.{First, Second}
+use Rattle.atl_state.specs.declared.parts.StoredMarket.{StoredMarket}
+use Rattle.atl_store.specs.declared.rows.stored.Placed.{Placed}
+use Rattle.atl_store.specs.Gathering.{IsSettled, kept_of, Found, AnswersOne, FailsToRead, AreRows, AreTwo, AreThree, EightRead, AreEight, AreMarkets, OthersRead, AreOthers, ReadsSome}
 use Rattle.atl_store.specs.Loading.{Stays, Leaves, Tells, AreTold, AreToldTyped, HasOtherType, RefusesOne}
 use Rattle.atl_store.specs.Reading.{ReadsRows, GivesTable, Rests, Selects, RefusesToSelect, placed_rows_in}
 use Rattle.atl_store.specs.Sets.{rows_in}
-use Rattle.atl_store.specs.StoredRows.{faction_stored, region_stored, unit_stored, structure_stored, mail_stored, report_stored, has_stored, books_stored}
+use Rattle.atl_store.specs.StoredRows.{faction_stored, region_stored, unit_stored, structure_stored, mail_stored, report_stored, has_stored, books_stored, market_stored}
 use Rattle.atl_store.specs.Stored.{Form, AreTyped}
-use Rattle.atl_store.specs.Tables.{faction_table, region_table, unit_table, has_table, structure_table, mail_table, report_table, books_table, HasAll}
+use Rattle.atl_store.specs.Tables.{faction_table, region_table, unit_table, has_table, structure_table, mail_table, report_table, books_table, market_table, HasTablesOf}
 use Rattle.atl_store.specs.declared.fault.ReadFault.{ReadFault}
 use Rattle.atl_store.specs.declared.fault.ReadFault.TheVariants as read
-use Rattle.atl_store.specs.declared.fault.StoreFault.{StoreFault}
-use Rattle.atl_store.specs.declared.fault.StoreFault.TheVariants.{Store, Damaged, NotACampaign, Memory}
+use Rattle.atl_store.specs.declared.fault.LoadFault.{LoadFault}
+use Rattle.atl_store.specs.declared.fault.LoadFault.TheVariants.{Store, Damaged, NotACampaign, OtherFormat, Memory}
 use Rattle.atl_store.proofs.KeepLaws.{survives_more}
 
 shows_open : (old new : State) (sql : List ℕ) (c : _) (row : Row) (rows : List Row) (what : Option Returning) → ShowsRows old new sql c row rows what → IsTrue old.is_open
@@ -33,10 +37,10 @@ pub shown_open : (sql : List ℕ) (old new : State) (rows : List Row) → Shown 
 unfolding Shown
 shown_open sql old new rows h = shows_open old new sql h.0 _ rows h.0.returning h.2
 
-same_kept : {A : Type 0} {a b : Option A} → ◌≡◌ {A = Result (Option A) StoreFault} (Ok a) (Ok b) → a ≡ b
+same_kept : {A : Type 0} {a b : Option A} → ◌≡◌ {A = Result (Option A) LoadFault} (Ok a) (Ok b) → a ≡ b
 same_kept is = cc
 
-same_fault : {A : Type 0} {a b : StoreFault} → ◌≡◌ {A = Result A StoreFault} (Err a) (Err b) → a ≡ b
+same_fault : {A : Type 0} {a b : LoadFault} → ◌≡◌ {A = Result A LoadFault} (Err a) (Err b) → a ≡ b
 same_fault is = cc
 
 not_store : read.Store ≢ read.OtherType
@@ -100,7 +104,7 @@ module _ {S : Type 0} (g : Ghosts S) where
 
   -- ---- one table
 
-  module _ {A : Type 0} (sql : List ℕ) (forms : List Form) (shown : A → Row) (in_table : Trees → List Row) (old new : Held S) (settled : IsSettled (state g old)) (idle : old.in_transaction ≡ false) where
+  module _ {A : Type 0} (sql : List ℕ) (forms : List Form) (shown : A → Row) (since : Format) (in_table : Trees → List Row) (old new : Held S) (settled : IsSettled (state g old)) (idle : old.in_transaction ≡ false) where
     abbrev this_select : List (List ℕ × List Form)
     this_select = (sql, forms) ∷ []
 
@@ -110,7 +114,7 @@ module _ {S : Type 0} (g : Ghosts S) where
     selects_open : (rows : List Row) → Selects g sql old rows → IsTrue (state g old).is_open
     selects_open rows told = shown_open sql _ _ rows told.1
 
-    found_one : {Z : Type 0} (r : Result (Vec A Z) ReadFault) → ReadsRows g sql old forms shown r new → GivesTable g in_table shown r old new → HasCleanDisk (state g new) → IfOk (kept_of r) (Found g old this_select (λ all. AreRows g old in_table shown all.items))
+    found_one : {Z : Type 0} (r : Result (Vec A Z) ReadFault) → ReadsRows g sql old forms shown r new → GivesTable g since in_table shown r old new → HasCleanDisk (state g new) → IfOk (kept_of r) (Found g old this_select (λ all. AreRows g old since in_table shown all.items))
     found_one (Ok all) reads gives clean =
         let told = reads.rows clean in
         (each_of_one (λ s. (rows : List Row) × Tells g old s.0 rows × AreTyped s.1 rows) (sql, forms) (told.0, tells told.0 told.1, told.3), gives clean)
@@ -150,11 +154,11 @@ module _ {S : Type 0} (g : Ghosts S) where
     fails_one (Err read.Refused) reads clean = inr (refuses read.Refused (reads.refused clean not_refused refused_no_memory))
 
     -- what was kept of its reading
-    pub reads_one : {Z : Type 0} (r : Result (Vec A Z) ReadFault) → ReadsRows g sql old forms shown r new → GivesTable g in_table shown r old new → (kept : Result (Option (Vec A Z)) StoreFault) → kept ≡ kept_of r
-        → ReadsSome g old this_select (λ all. AreRows g old in_table shown all.items) kept new
+    pub reads_one : {Z : Type 0} (r : Result (Vec A Z) ReadFault) → ReadsRows g sql old forms shown r new → GivesTable g since in_table shown r old new → (kept : Result (Option (Vec A Z)) LoadFault) → kept ≡ kept_of r
+        → ReadsSome g old this_select (λ all. AreRows g old since in_table shown all.items) kept new
     reads_one r reads gives kept is = record {
       was_open = λ clean. subst (λ k. IfOk k (λ _. IsTrue (state g old).is_open)) (sym is) (open_one r reads clean);
-      found = λ clean. subst (λ k. IfOk k (Found g old this_select (λ all. AreRows g old in_table shown all.items))) (sym is) (found_one r reads gives clean);
+      found = λ clean. subst (λ k. IfOk k (Found g old this_select (λ all. AreRows g old since in_table shown all.items))) (sym is) (found_one r reads gives clean);
       fails = λ clean. subst (λ k. IfErr k (FailsToRead g old this_select)) (sym is) (fails_one r reads clean);
       leaves = record {
         stays = λ clean. rests_stays (state g old) (state g new) settled (omega (arith, reads.survives.clean, clean)) (reads.rests clean);
@@ -183,25 +187,32 @@ module _ {S : Type 0} (g : Ghosts S) where
       other = found.other;
     }
 
-    pub rows_behind : {A : Type 0} (in_table : Trees → List Row) (shown : A → Row) (rows : List A) → AreRows g mid in_table shown rows → AreRows g old in_table shown rows
-    rows_behind in_table shown rows are begins =
-        subst (λ (d : Database). IsPermutation (in_table d.trees) (map shown rows)) same (are (subst HasAll (sym (ap (λ (d : Database). d.schema) same)) begins))
+    pub rows_behind : {A : Type 0} (since : Format) (in_table : Trees → List Row) (shown : A → Row) (rows : List A) → AreRows g mid since in_table shown rows → AreRows g old since in_table shown rows
+    rows_behind since in_table shown rows are begins =
+        subst (λ (d : Database). IsPermutation (in_table d.trees) (map shown rows)) same (are (subst (HasTablesOf since) (sym (ap (λ (d : Database). d.schema) same)) begins))
 
-    pub two_behind : {A B Z : Type 0} (first : Trees → List Row) (a : A → Row) (second : Trees → List Row) (b : B → Row) (read : Vec A Z × Vec B Z) → AreTwo g mid first a second b read → AreTwo g old first a second b read
-    two_behind first a second b read are = (rows_behind first a read.0.items are.0, rows_behind second b read.1.items are.1)
+    pub two_behind : {A B Z : Type 0} (one : Format) (first : Trees → List Row) (a : A → Row) (two : Format) (second : Trees → List Row) (b : B → Row) (read : Vec A Z × Vec B Z) → AreTwo g mid one first a two second b read → AreTwo g old one first a two second b read
+    two_behind one first a two second b read are = (rows_behind one first a read.0.items are.0, rows_behind two second b read.1.items are.1)
 
-    pub three_behind : {A B C Z : Type 0} (first : Trees → List Row) (a : A → Row) (second : Trees → List Row) (b : B → Row) (third : Trees → List Row) (c : C → Row) (read : (Vec A Z × Vec B Z) × Vec C Z)
-        → AreThree g mid first a second b third c read → AreThree g old first a second b third c read
-    three_behind first a second b third c read are = (two_behind first a second b read.0 are.0, rows_behind third c read.1.items are.1)
+    pub three_behind : {A B C Z : Type 0} (one : Format) (first : Trees → List Row) (a : A → Row) (two : Format) (second : Trees → List Row) (b : B → Row) (three : Format) (third : Trees → List Row) (c : C → Row) (read : (Vec A Z × Vec B Z) × Vec C Z)
+        → AreThree g mid one first a two second b three third c read → AreThree g old one first a two second b three third c read
+    three_behind one first a two second b three third c read are = (two_behind one first a two second b read.0 are.0, rows_behind three third c read.1.items are.1)
 
-    pub others_behind : {Z : Type 0} (read : OthersRead Z) → AreOthers g mid read → AreOthers g old read
-    others_behind read are = (
+    eight_behind : {Z : Type 0} (read : EightRead Z) → AreEight g mid read → AreEight g old read
+    eight_behind read are = (
       (
-        three_behind (rows_in faction_table) faction_stored (rows_in region_table) region_stored (rows_in report_table) report_stored read.0.0 are.0.0,
-        two_behind (rows_in unit_table) unit_stored (placed_rows_in has_table) has_stored read.0.1 are.0.1,
+        three_behind First (rows_in faction_table) faction_stored First (rows_in region_table) region_stored First (rows_in report_table) report_stored read.0.0 are.0.0,
+        two_behind First (rows_in unit_table) unit_stored First (placed_rows_in has_table) has_stored read.0.1 are.0.1,
       ),
-      three_behind (rows_in structure_table) structure_stored (rows_in mail_table) mail_stored (placed_rows_in books_table) books_stored read.1 are.1,
+      three_behind First (rows_in structure_table) structure_stored First (rows_in mail_table) mail_stored First (placed_rows_in books_table) books_stored read.1 are.1,
     )
+
+    markets_behind : (f : Format) (rows : List (Placed StoredMarket)) → AreMarkets g mid f rows → AreMarkets g old f rows
+    markets_behind First rows are = are
+    markets_behind Second rows are = rows_behind Second (placed_rows_in market_table) market_stored rows are
+
+    pub others_behind : (f : Format) {Z : Type 0} (read : OthersRead Z) → AreOthers g mid f read → AreOthers g old f read
+    others_behind f read are = (eight_behind read.0 are.0, markets_behind f read.1.items are.1)
 
   refuses_then : (old mid : Held S) → Leaves g old mid → (selects : List (List ℕ × List Form)) (fault : ReadFault) → RefusesOne g mid selects fault → RefusesOne g old selects fault
   refuses_then old mid first selects fault refused = record {
@@ -223,11 +234,12 @@ module _ {S : Type 0} (g : Ghosts S) where
   }
 
   -- a fault of a later reading
-  pub fails_then : (old mid : Held S) → Leaves g old mid → (selects : List (List ℕ × List Form)) (fault : StoreFault) → FailsToRead g mid selects fault → FailsToRead g old selects fault
+  pub fails_then : (old mid : Held S) → Leaves g old mid → (selects : List (List ℕ × List Form)) (fault : LoadFault) → FailsToRead g mid selects fault → FailsToRead g old selects fault
   fails_then old mid first selects Store (inl refused) = inl (refuses_then old mid first selects read.Store refused)
   fails_then old mid first selects Store (inr refused) = inr (refuses_then old mid first selects read.Refused refused)
   fails_then old mid first selects (Damaged rule) fails = fails
   fails_then old mid first selects NotACampaign fails = fails
+  fails_then old mid first selects OtherFormat fails = fails
   fails_then old mid first selects Memory (inl refused) = inl (refuses_then old mid first selects read.Memory refused)
   fails_then old mid first selects Memory (inr answers) = inr (answers_then old mid first selects answers)
 
@@ -238,11 +250,12 @@ module _ {S : Type 0} (g : Ghosts S) where
     answers_within : AnswersOne g old few → AnswersOne g old more
     answers_within answers = record { select = answers.select; one = within answers.select answers.one; before = answers.before; leaves = answers.leaves; rows = answers.rows; answered = answers.answered }
 
-    fails_within : (fault : StoreFault) → FailsToRead g old few fault → FailsToRead g old more fault
+    fails_within : (fault : LoadFault) → FailsToRead g old few fault → FailsToRead g old more fault
     fails_within Store (inl refused) = inl (refuses_within read.Store refused)
     fails_within Store (inr refused) = inr (refuses_within read.Refused refused)
     fails_within (Damaged rule) fails = fails
     fails_within NotACampaign fails = fails
+    fails_within OtherFormat fails = fails
     fails_within Memory (inl refused) = inl (refuses_within read.Memory refused)
     fails_within Memory (inr answers) = inr (answers_within answers)
 
@@ -259,7 +272,7 @@ module _ {S : Type 0} (g : Ghosts S) where
   found_both xs ys P Q old None None p q = other_within old xs (xs ++ ys) (has_left xs ys) (each_of_both (λ s. (rows : List Row) × Tells g old s.0 rows) xs ys p.all q.all) p
 
   -- what a stage found that begins where another ended
-  pub found_behind : {A : Type 0} (old mid new : Held S) → Leaves g old mid → (selects : List (List ℕ × List Form)) (P Q : A → Type 0) (r : Result (Option A) StoreFault) → ReadsSome g mid selects P r new → (o : Option A) → r ≡ Ok o
+  pub found_behind : {A : Type 0} (old mid new : Held S) → Leaves g old mid → (selects : List (List ℕ × List Form)) (P Q : A → Type 0) (r : Result (Option A) LoadFault) → ReadsSome g mid selects P r new → (o : Option A) → r ≡ Ok o
       → ((state g mid).now ≡ (state g old).now → (a : A) → P a → Q a) → HasCleanDisk (state g new) → Found g old selects Q o
   found_behind old mid new before selects P Q r reads o was weaker clean =
       let up = subst (λ r. IfOk r (λ _. IsTrue (state g mid).is_open)) was (reads.was_open clean) in
@@ -267,7 +280,7 @@ module _ {S : Type 0} (g : Ghosts S) where
       found_then old mid same selects P Q o (weaker same) (subst (λ r. IfOk r (Found g mid selects P)) was (reads.found clean))
 
   -- the first stage ends with a fault
-  pub first_fails : {A B : Type 0} (xs ys : List (List ℕ × List Form)) (P : A → Type 0) (Q : B → Type 0) (old new : Held S) (fault : StoreFault) (one : Result (Option A) StoreFault) (r : Result (Option B) StoreFault)
+  pub first_fails : {A B : Type 0} (xs ys : List (List ℕ × List Form)) (P : A → Type 0) (Q : B → Type 0) (old new : Held S) (fault : LoadFault) (one : Result (Option A) LoadFault) (r : Result (Option B) LoadFault)
       → ReadsSome g old xs P one new → one ≡ Err fault → IsErrAnd r (λ told. told ≡ fault) → ReadsSome g old (xs ++ ys) Q r new
   first_fails xs ys P Q old new fault one (Ok o) first was told = absurd told
   first_fails xs ys P Q old new fault one (Err f) first was told = record {
@@ -278,9 +291,9 @@ module _ {S : Type 0} (g : Ghosts S) where
   }
 
   -- where the second one begins
-  module _ {A B : Type 0} (xs ys : List (List ℕ × List Form)) (P : A → Type 0) (Q Q2 : B → Type 0) (old mid new : Held S) (one : Result (Option A) StoreFault) (two : Result (Option B) StoreFault)
+  module _ {A B : Type 0} (xs ys : List (List ℕ × List Form)) (P : A → Type 0) (Q Q2 : B → Type 0) (old mid new : Held S) (one : Result (Option A) LoadFault) (two : Result (Option B) LoadFault)
       (first : ReadsSome g old xs P one mid) (second : ReadsSome g mid ys Q two new) (a : Option A) (was_first : one ≡ Ok a) where
-    pub second_fails : {C : Type 0} (R : C → Type 0) (fault : StoreFault) (r : Result (Option C) StoreFault) → two ≡ Err fault → IsErrAnd r (λ told. told ≡ fault) → ReadsSome g old (xs ++ ys) R r new
+    pub second_fails : {C : Type 0} (R : C → Type 0) (fault : LoadFault) (r : Result (Option C) LoadFault) → two ≡ Err fault → IsErrAnd r (λ told. told ≡ fault) → ReadsSome g old (xs ++ ys) R r new
     second_fails R fault (Ok o) was told = absurd told
     second_fails R fault (Err f) was told = record {
       was_open = λ _. tt;

@@ -1,5 +1,6 @@
--- The rows of all that units have.
+-- Rows of amounts that are not 0, and so those of all that units have.
 use Rattle.std.proofs.Common.{◌≡◌, ◌≢◌, ◌==◌, ℕ, Bool, true, false, if◌then◌else◌, List, [], ◌∷◌, take, Some, refl, sym, ap, ◌∙◌, subst, inl, inr, true≢false, arith}
+use Rattle.std.specs.List.{flat_map}
 use Rattle.std.specs.Ordering.{nat_cmp}
 use Rattle.std.specs.FinMap.{FinMap, entries, get, is_sorted}
 use Rattle.std.proofs.lemmas.Bool.{cases_Bool, and_parts}
@@ -14,7 +15,7 @@ use Rattle.atl_store.specs.declared.rows.has.Sort.TheVariants.{Item, Skill}
 use Rattle.atl_store.specs.Shown.{int, has_key, has_row}
 use Rattle.atl_store.specs.Written.{sort_number}
 use Rattle.atl_store.specs.Rows.{things_of, HasRowsOf}
-use Rattle.atl_store.specs.Lines.{DifferInKey, AreGroups, thing_lines, sort_lines, goods_lines, unit_lines}
+use Rattle.atl_store.specs.Lines.{DifferInKey, AreGroups, sort_lines, goods_lines, unit_lines}
 use Rattle.atl_store.proofs.EntryLaws.{apart_append, below_has, less_apart, got_entry, entry_got, in_order, flat_has, has_flat}
 
 -- ---- one amount
@@ -38,30 +39,47 @@ not_zero a differs same = grind (arith, nat_tests)
 pub is_not_zero : (a : ℕ) → a ≢ 0 → (a == 0) ≡ false
 is_not_zero a apart = elim (cases_Bool (a == 0)) [ inl same ↦ absurd (apart (grind (arith, nat_tests))) | inr differs ↦ differs ]
 
-three_same : (a b c d e f : ℕ) → ◌≡◌ {A = Row} (has_key a b c) (has_key d e f) → (a ≡ d) × (b ≡ e) × (c ≡ f)
-three_same a b c d e f same = (cc, cc, cc)
+-- ---- the amounts under some numbers
+
+-- a row for each that is not 0
+abbrev pub amount_rows : (ℕ → ℕ → Row) → List (ℕ × ℕ) → List Row
+amount_rows row es = flat_map (λ e. if e.1 == 0 then [] else row e.0 e.1 ∷ []) es
+
+module _ (row : ℕ → ℕ → Row) where
+  pub amounts_have : (es : List (ℕ × ℕ)) (r : Row) → Has (amount_rows row es) r → (e : ℕ × ℕ) × Has es e × (e.1 ≢ 0) × (r ≡ row e.0 e.1)
+  amounts_have es r there =
+      let found = flat_has (λ (e : ℕ × ℕ). if e.1 == 0 then [] else row e.0 e.1 ∷ []) es r there in
+      let line = optional_has (found.0.1 == 0) (row found.0.0 found.0.1) r found.2 in
+      (found.0, found.1, not_zero found.0.1 line.0, line.1)
+
+  pub have_amount : (es : List (ℕ × ℕ)) (n amount : ℕ) → Has es (n, amount) → amount ≢ 0 → Has (amount_rows row es) (row n amount)
+  have_amount es n amount there some =
+      has_flat (λ (e : ℕ × ℕ). if e.1 == 0 then [] else row e.0 e.1 ∷ []) es (n, amount) _ there (has_optional (amount == 0) (row n amount) (is_not_zero amount some))
+
+  -- where the key tells the number
+  pub amounts_apart : (key : ℕ) → ((m a n b : ℕ) → take key (row m a) ≡ take key (row n b) → m ≡ n) → (es : List (ℕ × ℕ)) → is_sorted nat_cmp es ≡ true → DifferInKey key (amount_rows row es)
+  amounts_apart key tells [] sorted = tt
+  amounts_apart key tells (e ∷ es) sorted =
+      apart_append key (if e.1 == 0 then [] else row e.0 e.1 ∷ []) (amount_rows row es) (optional_apart key (e.1 == 0) (row e.0 e.1)) (amounts_apart key tells es (and_parts _ _ sorted).1)
+      (λ x y early late same.
+      let one = optional_has (e.1 == 0) (row e.0 e.1) x early in
+      let two = amounts_have es y late in
+      less_apart e.0 two.0.0 (below_has e.0 es two.0 (and_parts _ _ sorted).0 two.1) (tells e.0 e.1 two.0.0 two.0.1 (ap (take key) (sym one.1) ∙ same ∙ ap (take key) two.3)))
 
 -- ---- the things of one sort
 
-sort_has : (unit : ℕ) (sort : Sort) (es : List (ℕ × ℕ)) (r : Row) → Has (sort_lines unit sort es) r → (e : ℕ × ℕ) × Has es e × (e.1 ≢ 0) × (r ≡ has_row unit (sort_number sort) e.0 e.1)
-sort_has unit sort es r there =
-    let found = flat_has (λ (e : ℕ × ℕ). thing_lines unit sort e.0 e.1) es r there in
-    let row = optional_has (found.0.1 == 0) (has_row unit (sort_number sort) found.0.0 found.0.1) r found.2 in
-    (found.0, found.1, not_zero found.0.1 row.0, row.1)
+three_same : (a b c d e f : ℕ) → ◌≡◌ {A = Row} (has_key a b c) (has_key d e f) → (a ≡ d) × (b ≡ e) × (c ≡ f)
+three_same a b c d e f same = (cc, cc, cc)
 
-has_sort : (unit : ℕ) (sort : Sort) (es : List (ℕ × ℕ)) (thing amount : ℕ) → Has es (thing, amount) → amount ≢ 0 → Has (sort_lines unit sort es) (has_row unit (sort_number sort) thing amount)
-has_sort unit sort es thing amount there some =
-    has_flat (λ (e : ℕ × ℕ). thing_lines unit sort e.0 e.1) es (thing, amount) _ there (has_optional (amount == 0) (has_row unit (sort_number sort) thing amount) (is_not_zero amount some))
+module _ (unit : ℕ) (sort : Sort) where
+  sort_has : (es : List (ℕ × ℕ)) (r : Row) → Has (sort_lines unit sort es) r → (e : ℕ × ℕ) × Has es e × (e.1 ≢ 0) × (r ≡ has_row unit (sort_number sort) e.0 e.1)
+  sort_has = amounts_have (has_row unit (sort_number sort))
 
-sort_apart : (unit : ℕ) (sort : Sort) (es : List (ℕ × ℕ)) → is_sorted nat_cmp es ≡ true → DifferInKey 3 (sort_lines unit sort es)
-sort_apart unit sort [] sorted = tt
-sort_apart unit sort (e ∷ es) sorted =
-    apart_append 3 (thing_lines unit sort e.0 e.1) (sort_lines unit sort es) (optional_apart 3 (e.1 == 0) (has_row unit (sort_number sort) e.0 e.1)) (sort_apart unit sort es (and_parts _ _ sorted).1)
-    (λ x y early late same.
-    let one = optional_has (e.1 == 0) (has_row unit (sort_number sort) e.0 e.1) x early in
-    let two = sort_has unit sort es y late in
-    let keys = three_same unit (sort_number sort) e.0 unit (sort_number sort) two.0.0 (ap (take 3) (sym one.1) ∙ same ∙ ap (take 3) two.3) in
-    less_apart e.0 two.0.0 (below_has e.0 es two.0 (and_parts _ _ sorted).0 two.1) keys.2)
+  has_sort : (es : List (ℕ × ℕ)) (thing amount : ℕ) → Has es (thing, amount) → amount ≢ 0 → Has (sort_lines unit sort es) (has_row unit (sort_number sort) thing amount)
+  has_sort = have_amount (has_row unit (sort_number sort))
+
+  sort_apart : (es : List (ℕ × ℕ)) → is_sorted nat_cmp es ≡ true → DifferInKey 3 (sort_lines unit sort es)
+  sort_apart = amounts_apart (has_row unit (sort_number sort)) 3 (λ m a n b same. (three_same unit (sort_number sort) m unit (sort_number sort) n same).2)
 
 -- ---- all that one unit has
 

@@ -1,102 +1,43 @@
 -- What the statement on the table campaign means, and what it does: the row is put, or changed but for its format and its world text.
-use Rattle.std.proofs.Common.{IsTrue, ◌≡◌, ℕ, pos, true, List, [], ◌∷◌, Some, Ok, refl, sym, ap, ◌∙◌, subst, take}
+use Rattle.std.proofs.Common.{◌≡◌, ℕ, pos, List, [], ◌∷◌, refl, sym, ap, ◌∙◌}
 use Rattle.sqlite_tied.specs.Compute.{everything}
-use Rattle.sqlite.specs.declared.types.Value.TheVariants.{Null, Int, Text}
-use Rattle.sqlite.specs.Command.TheVariants.{InsertOr}
+use Rattle.sqlite.specs.declared.types.Value.TheVariants.{Null, Text}
 use Rattle.sqlite.specs.Term.{Term, lit, col}
-use Rattle.sqlite.specs.Source.TheVariants.{Values}
 use Rattle.sqlite.specs.Listing.{understood}
 use Rattle.sqlite.specs.Order.{Row, column}
-use Rattle.sqlite.specs.State.{State, ExecutesInside}
-use Rattle.sqlite.proofs.Callers.{IsPlain, command_of, statement_of, runs_as}
-use Rattle.sqlite_value.specs.Keys.{first_key}
-use Rattle.sqlite_schema.specs.declared.command.Conflict.TheVariants.{Abort}
 use Rattle.sqlite_trees.specs.Tree.{rowid}
-use Rattle.sqlite_trees.specs.View.{is_int}
-use Rattle.sqlite_rules.specs.Lists.{Has}
-use Rattle.sqlite_rules.specs.Cast.{cast_row}
-use Rattle.sqlite_rules.specs.Edit.{with_rowid}
-use Rattle.sqlite_rules.specs.declared.error.Rowids.TheVariants.{Chosen}
-use Rattle.sqlite_rules.proofs.ListLemmas.{all_has}
-use Rattle.atl_store.specs.Sets.{visible, rows_in, Is}
-use Rattle.atl_store.specs.Tables.{Own, campaign_table, all_and, all_tables}
+use Rattle.atl_store.specs.Sets.{visible}
+use Rattle.atl_store.specs.Tables.{campaign_table}
 use Rattle.atl_store.specs.Shown.{Head, int, head_row, head_values}
-use Rattle.sqlite.specs.Table.{Table}
-use Rattle.sqlite_schema.specs.declared.schema.Index.{Index}
-use Rattle.atl_store.specs.Inside.{Inside, HasTables, Done, Puts}
 use Rattle.atl_store.specs.PutsHead.{PutsHead}
 use Rattle.atl_store.specs.Statements.{campaign_upsert}
-use Rattle.atl_store.proofs.ListLaws.{has_map, map_has}
-use Rattle.atl_store.proofs.UpsertLaws.{Upserted, hits, update_query, clause_on}
-use Rattle.atl_store.proofs.StatementLaws.{upserting, DoneBy, done_by}
-use Rattle.atl_store.proofs.PartLaws.{listed}
-use Rattle.atl_store.proofs.CarryLaws.{among_all, unlinked, none_share, sound_under, altered, stays_there, carried}
-use Rattle.atl_store.proofs.MakeLaws.{did, upserts_make, updates_make, upserts_sound, upserts_others, Tests}
-use Rattle.atl_store.proofs.Terms.{cast_null, cast_int, head_is, by_number, one_number}
+use Rattle.atl_store.proofs.OwnRowLaws.{MeansOwn, changed_to, puts_own}
+use Rattle.atl_store.proofs.StatementLaws.{DoneBy, done_by}
+use Rattle.atl_store.proofs.Terms.{cast_int}
 
-ours : Has all_tables campaign_table
-ours = listed Own
-
-abbrev terms : List Term
-terms = lit (Int (pos 1)) ∷ lit Null ∷ lit (Int (pos 1)) ∷ col 0 0 ∷ col 0 1 ∷ col 0 2 ∷ col 0 3 ∷ col 0 4 ∷ col 0 5 ∷ []
-
+-- all is set but the format and the world text
 abbrev project : List Term
 project = col 1 0 ∷ lit Null ∷ col 1 2 ∷ col 0 0 ∷ col 0 1 ∷ col 0 2 ∷ col 0 3 ∷ col 0 4 ∷ col 1 8 ∷ []
 
-put_is : (more : List Table) (indexes : List Index) → command_of (understood (all_and more indexes) campaign_upsert) ≡ InsertOr 0 Abort (Values terms 9) (clause_on (0 ∷ []) (record { lets = []; body = update_query campaign_table.tree 6 project }) ∷ [])
+means : MeansOwn campaign_upsert project
 unfolding understood everything
-put_is more indexes = refl
+means = record { is = λ more indexes. refl; plain = λ more indexes. (refl, refl) }
 
-put_plain : (more : List Table) (indexes : List Index) → IsPlain (understood (all_and more indexes) campaign_upsert)
-unfolding understood everything
-put_plain more indexes = (refl, refl)
-
--- of the one row that is there
-format_is : (r : Row) (head : Head) (text : List ℕ) → visible campaign_table r ≡ head_row head text → column r 2 ≡ int 1
-format_is r head text e = ap (λ row. column row 1) e
-
-world_is : (r : Row) (head : Head) (text : List ℕ) → visible campaign_table r ≡ head_row head text → column r 8 ≡ Text text
-world_is r head text e = ap (λ row. column row 7) e
-
-puts_head : (old new : State) (head : Head) (world : List ℕ) (count : ℕ) → HasTables old.now → ExecutesInside 0 campaign_upsert (head_values head world) old new (Ok count) → Done (PutsHead head world) old.now new.now
-unfolding first_key
-puts_head old new head world count has ran =
-    let schema = all_and has.begins.tables has.begins.indexes in
-    let sound = sound_under old.now has in
-    let none = unlinked has.begins.tables has.begins.indexes campaign_table.tree has.begins.free in
-    let v = head_values head world in
-    let src = int 1 ∷ Null ∷ int 1 ∷ v in
-    let w = runs_as campaign_upsert v old new schema has.begins.is _ (put_is has.begins.tables has.begins.indexes) (put_plain has.begins.tables has.begins.indexes) count ran.0 in
-    let keyed = sound.keyed campaign_table ours in
-    let up = upserting schema campaign_table.tree _ _ _ _ _ _ 0 refl none old.step_limit v (0 ∷ []) 6 project (λ db. refl) (statement_of campaign_upsert (understood schema campaign_upsert)) terms 9 src
-    old.now.trees _ keyed (λ r there. refl) refl (did schema old new _ _ v count has.begins.is w) in
-    let casted : cast_row campaign_table src ≡ src = rw (cast_int (pos 1), cast_int (pos head.month), cast_int (pos head.next_faction), cast_int (pos head.next_unit), cast_int (pos head.next_structure), cast_null) refl in
-    let made : with_rowid Chosen (old.now.trees campaign_table.tree) (cast_row campaign_table src) ≡ src = ap (with_rowid Chosen (old.now.trees campaign_table.tree)) casted in
-    let are_ints : (x : Row) → Has (old.now.trees campaign_table.tree) x → is_int (rowid x) ≡ true = λ x there. all_has _ (old.now.trees campaign_table.tree) x keyed.ints there in
-    let upserted = subst (λ k. Upserted schema campaign_table none old.step_limit v (0 ∷ []) 6 project (λ db. refl) k old.now.trees new.now.trees) made up.0 in
-    let tests : Tests schema (among_all has.begins.tables) campaign_table 1 (hits schema campaign_table none old.step_limit v (0 ∷ []) 6 project (λ db. refl) src) (int 1 ∷ []) (old.now.trees campaign_table.tree) = λ x there. by_number (rowid x) 1 _ (none_share campaign_table (Some (0 ∷ [])) src x has.begins.indexes (λ i there. has.begins.plain i there campaign_table ours)) (are_ints x there) in
-    let first : rows_in campaign_table old.now.trees ≡ [] → Puts campaign_table 1 (head_row head world) old.now new.now = λ bare.
-    altered campaign_table old.now new.now has ours _ (upserts_make schema (among_all has.begins.tables) campaign_table 1 none old.step_limit v (0 ∷ []) 6 project (λ db. refl) src (head_row head world) old.now new.now upserted
-    (ap (visible campaign_table) casted)
-    (λ r there same. absurd (subst (λ l. Has l (visible campaign_table r)) bare (has_map (visible campaign_table) (old.now.trees campaign_table.tree) r there)))
-    tests
-    (λ x r one two same. one_number _ _ same)
-    ours sound w.sound up.1) in
-    let again : (before : Head) (text : List ℕ) → Is (rows_in campaign_table old.now.trees) (λ r. r ≡ head_row before text) → Puts campaign_table 1 (head_row head text) old.now new.now = λ before text is.
-    let x = map_has (visible campaign_table) (old.now.trees campaign_table.tree) (head_row before text) ((is (head_row before text)).1 refl) in
-    altered campaign_table old.now new.now has ours _ (updates_make schema (among_all has.begins.tables) campaign_table 1 none old.step_limit v (0 ∷ []) 6 project (λ db. refl) src (head_row head text) old.now new.now upserted
-    x.0 x.1 (ap (take 1) (sym x.2))
-    (λ r there same.
-    let shows = (is (visible campaign_table r)).0 (has_map (visible campaign_table) (old.now.trees campaign_table.tree) r there) in
-    rw (world_is r before text shows, format_is r before text shows, head_is _ _ _ _ same, cast_int (pos 1), cast_int (pos head.month), cast_int (pos head.next_faction), cast_int (pos head.next_unit), cast_int (pos head.next_structure)) refl)
-    tests
-    (λ x r one two same. one_number _ _ same)
-    ours sound w.sound up.1) in
-    record {
-      does = record { first = first; again = again };
-      tables = stays_there campaign_table old.now new.now has ours up.1 (upserts_sound schema (among_all has.begins.tables) campaign_table 1 none old.step_limit v (0 ∷ []) 6 project (λ db. refl) src v old.now new.now upserted sound w.sound up.1);
-      carries = carried campaign_table old.now new.now has ours up.1 (upserts_others schema (among_all has.begins.tables) campaign_table 1 none old.step_limit v (0 ∷ []) 6 project (λ db. refl) src v old.now new.now upserted);
-    }
+changed : (head before : Head) (world text : List ℕ) (r : Row) → visible campaign_table r ≡ head_row before text → changed_to project head world r ≡ head_row head text
+changed head before world text r shows =
+    let id : rowid r ≡ int 1 = ap (λ row. column row 0) shows in
+    let format : column r 2 ≡ int 2 = ap (λ row. column row 1) shows in
+    let kept : column r 8 ≡ Text text = ap (λ row. column row 7) shows in
+    rw (kept, format, id, cast_int (pos 1), cast_int (pos 2), cast_int (pos head.month), cast_int (pos head.next_faction), cast_int (pos head.next_unit), cast_int (pos head.next_structure)) refl
 
 pub puts_campaign : (head : Head) (world : List ℕ) → DoneBy campaign_upsert (head_values head world) (PutsHead head world)
-puts_campaign head world = done_by campaign_upsert (head_values head world) (PutsHead head world) (λ old new count inside ran. (ran.1.mode ∙ sym inside, λ has. puts_head old new head world count has ran))
+puts_campaign head world = done_by campaign_upsert (head_values head world) (PutsHead head world) (λ old new count inside ran. (
+  ran.1.mode ∙ sym inside,
+  λ has.
+      let put = puts_own campaign_upsert project means old new head world count has ran in
+      record {
+        does = record { first = put.first; again = λ before text is. put.again (head_row before text) (head_row head text) refl refl is (λ r shows. changed head before world text r shows) };
+        tables = put.tables;
+        carries = put.carries;
+      },
+))

@@ -18,13 +18,12 @@ use Rattle.sqlite_trees.specs.Tree.{Trees, rowid}
 use Rattle.sqlite_trees.specs.View.{is_int}
 use Rattle.sqlite_rules.specs.Lists.{Has}
 use Rattle.sqlite_rules.proofs.ListLemmas.{all_from}
-use Rattle.atl_tables.specs.declared.format.Format.TheVariants.{First}
+use Rattle.atl_tables.specs.declared.format.Format.{Format}
+use Rattle.atl_tables.specs.declared.format.Format.TheVariants.{First, Second}
 use Rattle.atl_state.specs.Rows.{rows_by, rows_of, AreRowsOf}
 use Rattle.atl_state.specs.Rows as made
 use Rattle.atl_state.specs.Campaign.{CampaignValue}
 use Rattle.atl_state.specs.declared.parts.Parts.{Parts}
-use Rattle.atl_state.specs.declared.parts.StoredBooks.{StoredBooks}
-use Rattle.atl_state.specs.declared.parts.StoredHas.{StoredHas}
 use Rattle.atl_state.specs.declared.parts.StoredFaction.{StoredFaction}
 use Rattle.atl_state.specs.declared.parts.StoredHead.{StoredHead}
 use Rattle.atl_state.specs.declared.parts.StoredMail.{StoredMail}
@@ -33,14 +32,15 @@ use Rattle.atl_state.specs.declared.parts.StoredReport.{StoredReport}
 use Rattle.atl_state.specs.declared.parts.StoredStructure.{StoredStructure}
 use Rattle.atl_state.specs.declared.parts.StoredUnit.{StoredUnit}
 use Rattle.atl_store.specs.declared.rows.stored.Placed.{Placed}
-use Rattle.atl_store.specs.Loading.{HaveRows, own_stored, has_values, books_values}
+use Rattle.atl_store.specs.Loading.{HaveRows, own_stored, has_values, books_values, market_values, placed_tables}
 use Rattle.atl_store.specs.Reading.{placed_rows_in}
 use Rattle.atl_store.specs.Sets.{IsKeyed, visible, rows_in}
-use Rattle.atl_store.specs.StoredRows.{faction_stored, region_stored, unit_stored, structure_stored, mail_stored, report_stored, has_stored, books_stored}
-use Rattle.atl_store.specs.Tables.{Part, Own, Factions, Regions, Units, Goods, Structures, Mail, Reports, Books, table_of, all_parts, campaign_table, faction_table, region_table, unit_table, has_table, structure_table, mail_table, report_table, books_table, all_tables}
+use Rattle.atl_store.specs.StoredRows.{faction_stored, region_stored, unit_stored, structure_stored, mail_stored, report_stored, has_stored, books_stored, market_stored}
+use Rattle.atl_store.specs.Tables.{Part, Own, Factions, Regions, Units, Goods, Structures, Mail, Reports, Books, Markets, table_of, parts_in, campaign_table, faction_table, region_table, unit_table, has_table, structure_table, mail_table, report_table, books_table, market_table}
 use Rattle.atl_store.proofs.EntryLaws.{below_has, less_apart, in_order}
 use Rattle.atl_store.proofs.ListLaws.{map_has}
 use Rattle.atl_store.proofs.LoadLaws.{keyed_by, keyed_shown}
+use Rattle.atl_store.proofs.PartsLaws.{no_markets}
 
 -- ---- rows by a number that each of them has in a column
 
@@ -119,37 +119,58 @@ unplaced stored values f v count tree placed cut_row cut_stored same =
     let right : map (take count) (map stored placed) ≡ map values (map (λ s. s.row) placed) = mapped_twice stored (take count) (λ s. values s.row) cut_stored placed ∙ sym (mapped_twice (λ s. s.row) values (λ s. values s.row) (λ s. refl) placed) in
     subst (IsPermutation (map v tree)) right (subst (λ rows. IsPermutation rows (map (take count) (map stored placed))) left cut)
 
-pub has_unplaced : (db : Trees) (placed : List (Placed StoredHas)) → IsPermutation (placed_rows_in has_table db) (map has_stored placed) → IsPermutation (rows_in has_table db) (map has_values (map (λ s. s.row) placed))
-has_unplaced db placed same = unplaced has_stored has_values (λ r. visible has_table r ++ rowid r ∷ []) (visible has_table) 4 (db has_table.tree) placed (λ r. refl) (λ s. refl) same
+-- A row of such a table is shown as its values and behind them, in the column of this number, its place; so is one that was read.
+pub record IsPlacedAs {A : Type 0} (table : Table) (stored : Placed A → Row) (values : A → Row) (count : ℕ) : Type 0 where
+  pub cut_row : (r : Row) → take count (visible table r ++ rowid r ∷ []) ≡ visible table r
+  pub cut_stored : (s : Placed A) → take count (stored s) ≡ values s.row
+  pub row_place : (r : Row) → column (visible table r ++ rowid r ∷ []) count ≡ rowid r
+  pub stored_place : (s : Placed A) → column (stored s) count ≡ Int s.rowid
 
-pub books_unplaced : (db : Trees) (placed : List (Placed StoredBooks)) → IsPermutation (placed_rows_in books_table db) (map books_stored placed) → IsPermutation (rows_in books_table db) (map books_values (map (λ s. s.row) placed))
-books_unplaced db placed same = unplaced books_stored books_values (λ r. visible books_table r ++ rowid r ∷ []) (visible books_table) 3 (db books_table.tree) placed (λ r. refl) (λ s. refl) same
+pub has_placed : IsPlacedAs has_table has_stored has_values 4
+has_placed = record { cut_row = λ r. refl; cut_stored = λ s. refl; row_place = λ r. refl; stored_place = λ s. refl }
 
-pub has_keyed : (db : Trees) (placed : List (Placed StoredHas)) → IsPermutation (placed_rows_in has_table db) (map has_stored placed) → IsDistinct int_eq (map (λ s. s.rowid) placed) → IsKeyed (db has_table.tree)
-has_keyed db placed same apart = keyed_numbers has_stored (λ s. s.rowid) 4 (λ s. refl) (λ r. visible has_table r ++ rowid r ∷ []) (db has_table.tree) placed (λ r. refl) same apart
+pub books_placed : IsPlacedAs books_table books_stored books_values 3
+books_placed = record { cut_row = λ r. refl; cut_stored = λ s. refl; row_place = λ r. refl; stored_place = λ s. refl }
 
-pub books_keyed : (db : Trees) (placed : List (Placed StoredBooks)) → IsPermutation (placed_rows_in books_table db) (map books_stored placed) → IsDistinct int_eq (map (λ s. s.rowid) placed) → IsKeyed (db books_table.tree)
-books_keyed db placed same apart = keyed_numbers books_stored (λ s. s.rowid) 3 (λ s. refl) (λ r. visible books_table r ++ rowid r ∷ []) (db books_table.tree) placed (λ r. refl) same apart
+pub market_placed : IsPlacedAs market_table market_stored market_values 3
+market_placed = record { cut_row = λ r. refl; cut_stored = λ s. refl; row_place = λ r. refl; stored_place = λ s. refl }
 
-pub has_apart : (db : Trees) (placed : List (Placed StoredHas)) → IsPermutation (placed_rows_in has_table db) (map has_stored placed) → IsKeyed (db has_table.tree) → IsDistinct int_eq (map (λ s. s.rowid) placed)
-has_apart db placed same keyed = keyed_apart has_stored (λ s. s.rowid) 4 (λ s. refl) (λ r. visible has_table r ++ rowid r ∷ []) (db has_table.tree) placed (λ r. refl) same keyed
+module _ {A : Type 0} {table : Table} {stored : Placed A → Row} {values : A → Row} {count : ℕ} (is : IsPlacedAs table stored values count) (db : Trees) (placed : List (Placed A)) (same : IsPermutation (placed_rows_in table db) (map stored placed)) where
+  pub placed_unplaced : IsPermutation (rows_in table db) (map values (map (λ s. s.row) placed))
+  placed_unplaced = unplaced stored values (λ r. visible table r ++ rowid r ∷ []) (visible table) count (db table.tree) placed is.cut_row is.cut_stored same
 
-pub books_apart : (db : Trees) (placed : List (Placed StoredBooks)) → IsPermutation (placed_rows_in books_table db) (map books_stored placed) → IsKeyed (db books_table.tree) → IsDistinct int_eq (map (λ s. s.rowid) placed)
-books_apart db placed same keyed = keyed_apart books_stored (λ s. s.rowid) 3 (λ s. refl) (λ r. visible books_table r ++ rowid r ∷ []) (db books_table.tree) placed (λ r. refl) same keyed
+  pub placed_keyed : IsDistinct int_eq (map (λ s. s.rowid) placed) → IsKeyed (db table.tree)
+  placed_keyed = keyed_numbers stored (λ s. s.rowid) count is.stored_place (λ r. visible table r ++ rowid r ∷ []) (db table.tree) placed is.row_place same
+
+  pub placed_apart : IsKeyed (db table.tree) → IsDistinct int_eq (map (λ s. s.rowid) placed)
+  placed_apart = keyed_apart stored (λ s. s.rowid) count is.stored_place (λ r. visible table r ++ rowid r ∷ []) (db table.tree) placed is.row_place same
 
 -- ---- all
 
-pub rows_keyed : (db : Trees) (text : List ℕ) (p : Parts) (c : CampaignValue) → HaveRows db text p → AreRowsOf First c p → IsKeyed (db has_table.tree) → IsKeyed (db books_table.tree) → (table : Table) → Has all_tables table → IsKeyed (db table.tree)
+pub rows_keyed : (f : Format) (db : Trees) (text : List ℕ) (p : Parts) (c : CampaignValue) → HaveRows f db text p → AreRowsOf f c p → ((table : Table) → Has (placed_tables f) table → IsKeyed (db table.tree)) → (table : Table) → Has (map table_of (parts_in f)) table → IsKeyed (db table.tree)
 unfolding rows_of
-rows_keyed db text p c have are has books table there = let part = map_has table_of all_parts table there in subst (λ (t : Table). IsKeyed (db t.tree)) (sym part.2) (keyed part.0)
+rows_keyed f db text p c have are placed table there = let part = map_has table_of (parts_in f) table there in subst (λ (t : Table). IsKeyed (db t.tree)) (sym part.2) (keyed part.0 part.1)
   where
-    keyed : (part : Part) → IsKeyed (db (table_of part).tree)
-    keyed Own = keyed_numbers (own_stored text) (λ (s : StoredHead). s.id) 0 (λ s. refl) (visible campaign_table) (db campaign_table.tree) p.campaign (λ r. refl) have.campaign (one_apart (λ (s : StoredHead). s.id) (made.head_row First c) p.campaign are.campaign)
-    keyed Factions = keyed_numbers faction_stored (λ (s : StoredFaction). s.number) 0 (λ s. refl) (visible faction_table) (db faction_table.tree) p.factions (λ r. refl) have.factions (read_apart (λ (s : StoredFaction). s.number) made.faction_row (λ n v. refl) p.factions c.factions are.factions)
-    keyed Regions = keyed_numbers region_stored (λ (s : StoredRegion). s.number) 0 (λ s. refl) (visible region_table) (db region_table.tree) p.regions (λ r. refl) have.regions (read_apart (λ (s : StoredRegion). s.number) made.region_row (λ n v. refl) p.regions c.regions are.regions)
-    keyed Units = keyed_numbers unit_stored (λ (s : StoredUnit). s.number) 0 (λ s. refl) (visible unit_table) (db unit_table.tree) p.units (λ r. refl) have.units (read_apart (λ (s : StoredUnit). s.number) made.unit_row (λ n v. refl) p.units c.units are.units)
-    keyed Goods = has
-    keyed Structures = keyed_numbers structure_stored (λ (s : StoredStructure). s.number) 0 (λ s. refl) (visible structure_table) (db structure_table.tree) p.structures (λ r. refl) have.structures (read_apart (λ (s : StoredStructure). s.number) made.structure_row (λ n v. refl) p.structures c.structures are.structures)
-    keyed Mail = keyed_numbers mail_stored (λ (s : StoredMail). s.faction) 0 (λ s. refl) (visible mail_table) (db mail_table.tree) p.mail (λ r. refl) have.mail (read_apart (λ (s : StoredMail). s.faction) made.mail_row (λ n v. refl) p.mail c.mail are.mail)
-    keyed Reports = keyed_numbers report_stored (λ (s : StoredReport). s.faction) 0 (λ s. refl) (visible report_table) (db report_table.tree) p.reports (λ r. refl) have.reports (read_apart (λ (s : StoredReport). s.faction) made.report_row (λ n v. refl) p.reports c.reports are.reports)
-    keyed Books = books
+    of_goods : (f : Format) → Has (placed_tables f) has_table
+    of_goods First = inl refl
+    of_goods Second = inl refl
+
+    of_books : (f : Format) → Has (placed_tables f) books_table
+    of_books First = inr (inl refl)
+    of_books Second = inr (inl refl)
+
+    of_markets : (f : Format) → Has (parts_in f) Markets → Has (placed_tables f) market_table
+    of_markets First there = absurd (no_markets there)
+    of_markets Second there = inr (inr (inl refl))
+
+    keyed : (part : Part) → Has (parts_in f) part → IsKeyed (db (table_of part).tree)
+    keyed Own there = keyed_numbers (own_stored text) (λ (s : StoredHead). s.id) 0 (λ s. refl) (visible campaign_table) (db campaign_table.tree) p.campaign (λ r. refl) have.campaign (one_apart (λ (s : StoredHead). s.id) (made.head_row f c) p.campaign are.campaign)
+    keyed Factions there = keyed_numbers faction_stored (λ (s : StoredFaction). s.number) 0 (λ s. refl) (visible faction_table) (db faction_table.tree) p.factions (λ r. refl) have.factions (read_apart (λ (s : StoredFaction). s.number) made.faction_row (λ n v. refl) p.factions c.factions are.factions)
+    keyed Regions there = keyed_numbers region_stored (λ (s : StoredRegion). s.number) 0 (λ s. refl) (visible region_table) (db region_table.tree) p.regions (λ r. refl) have.regions (read_apart (λ (s : StoredRegion). s.number) made.region_row (λ n v. refl) p.regions c.regions are.regions)
+    keyed Units there = keyed_numbers unit_stored (λ (s : StoredUnit). s.number) 0 (λ s. refl) (visible unit_table) (db unit_table.tree) p.units (λ r. refl) have.units (read_apart (λ (s : StoredUnit). s.number) made.unit_row (λ n v. refl) p.units c.units are.units)
+    keyed Goods there = placed has_table (of_goods f)
+    keyed Structures there = keyed_numbers structure_stored (λ (s : StoredStructure). s.number) 0 (λ s. refl) (visible structure_table) (db structure_table.tree) p.structures (λ r. refl) have.structures (read_apart (λ (s : StoredStructure). s.number) made.structure_row (λ n v. refl) p.structures c.structures are.structures)
+    keyed Mail there = keyed_numbers mail_stored (λ (s : StoredMail). s.faction) 0 (λ s. refl) (visible mail_table) (db mail_table.tree) p.mail (λ r. refl) have.mail (read_apart (λ (s : StoredMail). s.faction) made.mail_row (λ n v. refl) p.mail c.mail are.mail)
+    keyed Reports there = keyed_numbers report_stored (λ (s : StoredReport). s.faction) 0 (λ s. refl) (visible report_table) (db report_table.tree) p.reports (λ r. refl) have.reports (read_apart (λ (s : StoredReport). s.faction) made.report_row (λ n v. refl) p.reports c.reports are.reports)
+    keyed Books there = placed books_table (of_books f)
+    keyed Markets there = placed market_table (of_markets f there)

@@ -27,7 +27,13 @@ pub mod NumberedRowLaws
 pub mod KeyLaws
 pub mod KeyedRowLaws
 pub mod HasRowLaws
+pub mod PairRowLaws
 pub mod BooksRowLaws
+pub mod OwnRowLaws
+pub mod UpgradeHeadLaws
+pub mod UpgradeLaws
+pub mod BareWorldLaws
+pub mod MarketRowLaws
 pub mod HeadRowLaws
 pub mod ShownLaws
 pub mod CheckTerms
@@ -39,9 +45,11 @@ pub mod PutsLaws
 mod PuttingLaws
 pub mod EntryLaws
 pub mod GoodsLaws
+pub mod MarketLaws
 pub mod LedgerLaws
 pub mod WholeLaws
 pub mod StayLaws
+pub mod UpgradedLaws
 pub mod FillLaws
 pub mod ArriveLaws
 pub mod JoinLaws

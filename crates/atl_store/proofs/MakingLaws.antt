@@ -36,6 +36,9 @@ extends_then one two three a b c first second = (second.0 ∙ first.0, λ bare. 
 pub extends_three : (one two three four : Schema) (a b c d : State) → Extends one two a b → Extends two three b c → Extends three four c d → Extends one four a d
 extends_three one two three four a b c d first second third = extends_then one two four a b d first (extends_then two three four b c d second third)
 
+pub extends_four : (one two three four five : Schema) (a b c d e : State) → Extends one two a b → Extends two three b c → Extends three four c d → Extends four five d e → Extends one five a e
+extends_four one two three four five a b c d e first second third fourth = extends_then one four five a d e (extends_three one two three four a b c d first second third) fourth
+
 no_rows : IsKeyed []
 no_rows = record { apart = tt; ints = tt }
 

@@ -1,7 +1,7 @@
 -- Two texts whose rows one database holds read as one world.
 use Rattle.std.proofs.Common.{◌≡◌, ◌∙◌, Result, Ok, sym, ap}
 use Rattle.atl_tables.specs.Worlds.{WorldValue}
-use Rattle.atl_tables.specs.World.{old_world_of}
+use Rattle.atl_tables.specs.World.{world_of}
 use Rattle.atl_tables.specs.declared.fault.WorldFault.{WorldFault}
 use Rattle.atl_store.specs.OneWorld.{HoldsOneWorld}
 use Rattle.atl_store.proofs.AlikeLaws.{one_text}
@@ -10,4 +10,4 @@ pub same_world : (v w : WorldValue) → ◌≡◌ {A = Result WorldValue WorldFa
 same_world v w is = cc
 
 pub holds_one_world : HoldsOneWorld
-holds_one_world v w db one other c d reads others h j = same_world v w (sym reads ∙ ap old_world_of (one_text db one other c d h j) ∙ others)
+holds_one_world v w db one other c d reads others h j = same_world v w (sym reads ∙ ap world_of (one_text db one other c d h j) ∙ others)

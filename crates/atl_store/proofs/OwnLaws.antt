@@ -6,11 +6,12 @@ use Rattle.sqlite.specs.Order.{Row, column}
 use Rattle.sqlite_rules.specs.Lists.{Has}
 use Rattle.sqlite_trees.specs.declared.store.Store.{Ghosts}
 use Rattle.atl_tables.specs.Worlds.{WorldValue}
-use Rattle.atl_tables.specs.World.{old_world_of}
+use Rattle.atl_tables.specs.World.{world_by}
+use Rattle.atl_tables.specs.declared.format.Format.{Format}
 use Rattle.atl_state.specs.declared.checking.Rule.TheVariants.{OneRow, Ranges, Names, Known, Next, Days, Gone, Owners, Water, Guards, Books, Mail}
 use Rattle.atl_state.specs.declared.parts.StoredHead.{StoredHead}
-use Rattle.atl_store.specs.Gathering.{own_fault, IsOwn, Judges, JudgesOwn, JudgesRows, OwnRead}
-use Rattle.atl_store.specs.Loading.{own_stored, AreOwnRow, RefusesToLoad}
+use Rattle.atl_store.specs.Gathering.{own_fault, IsOwn, Judges, JudgesOwn, JudgesRows, JudgesFormat, OwnRead}
+use Rattle.atl_store.specs.Loading.{own_stored, AreOwnRow, RefusesToLoadIn}
 use Rattle.atl_store.specs.Reading.{Selects, RefusesToSelect}
 use Rattle.atl_store.specs.Statements.{selection}
 use Rattle.atl_store.specs.Sets.{rows_in}
@@ -18,8 +19,8 @@ use Rattle.atl_store.specs.Stored.{first_columns, AreTyped, IsTyped}
 use Rattle.atl_store.specs.StoredRows.{campaign_stored, campaign_forms}
 use Rattle.atl_store.specs.declared.fault.ReadFault.{ReadFault}
 use Rattle.atl_store.specs.declared.fault.ReadFault.TheVariants as read
-use Rattle.atl_store.specs.declared.fault.StoreFault.{StoreFault}
-use Rattle.atl_store.specs.declared.fault.StoreFault.TheVariants.{Store, Damaged, NotACampaign, Memory}
+use Rattle.atl_store.specs.declared.fault.LoadFault.{LoadFault}
+use Rattle.atl_store.specs.declared.fault.LoadFault.TheVariants.{Store, Damaged, NotACampaign, OtherFormat, Memory}
 use Rattle.atl_store.specs.Tables.{campaign_table}
 use Rattle.atl_store.specs.declared.rows.campaign.StoredCampaign.{StoredCampaign}
 use Rattle.atl_store.proofs.SelectLaws.{reads_campaign}
@@ -46,23 +47,23 @@ module _ (own : StoredCampaign) (h : StoredHead) (text : List ℕ) (is : campaig
   same_text = let e = at 7 in cc
 
 -- a row that is as it should be is one that was read so
-pub own_read : (items : List StoredCampaign) (rows : List Row) (h : StoredHead) (text : List ℕ) (w : WorldValue)
-    → map campaign_stored items ≡ map (first_columns (length campaign_forms)) rows → AreOwnRow rows h text w
-    → (own : StoredCampaign) × IsOwn items own w
-own_read items rows h text w shown own =
+pub own_read : (f : Format) (items : List StoredCampaign) (rows : List Row) (h : StoredHead) (text : List ℕ) (w : WorldValue)
+    → map campaign_stored items ≡ map (first_columns (length campaign_forms)) rows → AreOwnRow f rows h text w
+    → (own : StoredCampaign) × IsOwn f items own w
+own_read f items rows h text w shown own =
     let one = one_mapped campaign_stored items (own_stored text h) (shown ∙ own.is) in (
       one.0,
       record {
         only = one.1;
         id = same_id one.0 h text one.2 ∙ own.id;
         format = same_format one.0 h text one.2 ∙ own.format;
-        world = subst (λ t. old_world_of t ≡ Ok w) (sym (same_text one.0 h text one.2)) own.world;
+        world = subst (λ t. world_by f t ≡ Ok w) (sym (same_text one.0 h text one.2)) own.world;
       },
     )
 
 -- every value of it is of its column's type
-pub own_typed : (rows : List Row) (h : StoredHead) (text : List ℕ) (w : WorldValue) → AreOwnRow rows h text w → AreTyped campaign_forms rows
-own_typed rows h text w own row there =
+pub own_typed : (f : Format) (rows : List Row) (h : StoredHead) (text : List ℕ) (w : WorldValue) → AreOwnRow f rows h text w → AreTyped campaign_forms rows
+own_typed f rows h text w own row there =
     let one = one_mapped (first_columns (length campaign_forms)) rows (own_stored text h) own.is in
     typed row (found row there one.0 one.1 ∙ one.2)
   where
@@ -81,13 +82,14 @@ own_typed rows h text w own row there =
 -- ---- the rows that are shown
 
 -- what is so of each of the three answers is so of all
-judged_as : (Is : StoredCampaign × WorldValue → Type 0) (Nothing : Type 0) (P : Result (StoredCampaign × WorldValue) StoreFault → Type 0) → ((both : StoredCampaign × WorldValue) → Is both → P (Ok both)) → P (Err Memory) → (Nothing → P (Err (Damaged OneRow)))
-    → (r : Result (StoredCampaign × WorldValue) StoreFault) → Judges Is Nothing r → P r
+judged_as : (Is : StoredCampaign × WorldValue → Type 0) (Nothing : Type 0) (P : Result (StoredCampaign × WorldValue) LoadFault → Type 0) → ((both : StoredCampaign × WorldValue) → Is both → P (Ok both)) → P (Err Memory) → (Nothing → P (Err (Damaged OneRow)))
+    → (r : Result (StoredCampaign × WorldValue) LoadFault) → Judges Is Nothing r → P r
 judged_as Is Nothing P read lacks broken (Ok both) judged = read both judged
 judged_as Is Nothing P read lacks broken (Err Memory) judged = lacks
 judged_as Is Nothing P read lacks broken (Err (Damaged OneRow)) judged = broken judged
 judged_as Is Nothing P read lacks broken (Err Store) judged = absurd judged
 judged_as Is Nothing P read lacks broken (Err NotACampaign) judged = absurd judged
+judged_as Is Nothing P read lacks broken (Err OtherFormat) judged = absurd judged
 judged_as Is Nothing P read lacks broken (Err (Damaged Ranges)) judged = absurd judged
 judged_as Is Nothing P read lacks broken (Err (Damaged Names)) judged = absurd judged
 judged_as Is Nothing P read lacks broken (Err (Damaged Known)) judged = absurd judged
@@ -100,36 +102,42 @@ judged_as Is Nothing P read lacks broken (Err (Damaged Guards)) judged = absurd 
 judged_as Is Nothing P read lacks broken (Err (Damaged Books)) judged = absurd judged
 judged_as Is Nothing P read lacks broken (Err (Damaged Mail)) judged = absurd judged
 
--- they were read, and what was read is judged
-pub judged_rows : (items : List StoredCampaign) (rows : List Row) (r : Result (StoredCampaign × WorldValue) StoreFault)
-    → map campaign_stored items ≡ map (first_columns (length campaign_forms)) rows → JudgesOwn items r → JudgesRows rows r
-judged_rows items rows r shown =
-    judged_as (λ both. IsOwn items both.0 both.1) ((own : StoredCampaign) (w : WorldValue) → ¬ IsOwn items own w) (JudgesRows rows) (λ both own. record { is = sym shown ∙ ap (map campaign_stored) own.only; id = own.id; format = own.format; utf8 = IsUtf8-string_bytes both.0.world; world = own.world }) tt
-    (λ none h text w own. let was = own_read items rows h text w shown own in none was.0 w was.1) r
+module _ (f : Format) where
+  -- they were read, and what was read is judged
+  pub judged_rows : (items : List StoredCampaign) (rows : List Row) (r : Result (StoredCampaign × WorldValue) LoadFault)
+      → map campaign_stored items ≡ map (first_columns (length campaign_forms)) rows → JudgesOwn f items r → JudgesRows f rows r
+  judged_rows items rows r shown =
+      judged_as (λ both. IsOwn f items both.0 both.1) ((own : StoredCampaign) (w : WorldValue) → ¬ IsOwn f items own w) (JudgesRows f rows) (λ both own. record { is = sym shown ∙ ap (map campaign_stored) own.only; id = own.id; format = own.format; utf8 = IsUtf8-string_bytes both.0.world; world = own.world }) tt
+      (λ none h text w own. let was = own_read f items rows h text w shown own in none was.0 w was.1) r
 
--- they were not, as a value is of another type or for want of memory
-pub unread_rows : (rows : List Row) (fault : ReadFault) → (fault ≡ read.OtherType → ¬ AreTyped campaign_forms rows)
-    → ((fault ≡ read.OtherType → ⊥) → fault ≡ read.Memory) → JudgesRows rows (Err (own_fault fault))
-unread_rows rows read.OtherType other which = λ h text w own. other refl (own_typed rows h text w own)
-unread_rows rows read.Memory other which = tt
-unread_rows rows read.Store other which = absurd (let e = which (λ e. cc) in cc)
-unread_rows rows read.Refused other which = absurd (let e = which (λ e. cc) in cc)
+  -- they were not, as a value is of another type or for want of memory
+  pub unread_rows : (rows : List Row) (fault : ReadFault) → (fault ≡ read.OtherType → ¬ AreTyped campaign_forms rows)
+      → ((fault ≡ read.OtherType → ⊥) → fault ≡ read.Memory) → JudgesRows f rows (Err (own_fault fault))
+  unread_rows rows read.OtherType other which = λ h text w own. other refl (own_typed f rows h text w own)
+  unread_rows rows read.Memory other which = tt
+  unread_rows rows read.Store other which = absurd (let e = which (λ e. cc) in cc)
+  unread_rows rows read.Refused other which = absurd (let e = which (λ e. cc) in cc)
 
-module _ {S : Type 0} (g : Ghosts S) (old : Held S) where
+module _ (f : Format) {S : Type 0} (g : Ghosts S) (old : Held S) where
   -- the rows are not as they should be
-  pub refuses_own : old.in_transaction ≡ false → (rows : List Row) (r : Result (StoredCampaign × WorldValue) StoreFault) → JudgesRows rows r → Selects g (selection campaign_table 1) old rows
-      → IfErr r (RefusesToLoad g old)
-  refuses_own idle rows r judged told =
-      judged_as (λ both. AreOwnRow rows both.0.head (string_bytes both.0.world) both.1) ((h : StoredHead) (text : List ℕ) (w : WorldValue) → ¬ AreOwnRow rows h text w) (λ answer. IfErr answer (RefusesToLoad g old)) (λ both own. tt) (idle, inr (rows, told)) (λ none. record { rows = rows; selects = told; broken = none }) r judged
+  pub refuses_own : old.in_transaction ≡ false → (rows : List Row) (r : Result (StoredCampaign × WorldValue) LoadFault) → JudgesFormat f rows r → Selects g (selection campaign_table 1) old rows
+      → IfErr r (RefusesToLoadIn f g old)
+  refuses_own idle rows r (inl other) told = subst (λ answer. IfErr answer (RefusesToLoadIn f g old)) (sym other.1) (rows, told, other.0)
+  refuses_own idle rows r (inr judged) told =
+      judged_as (λ both. AreOwnRow f rows both.0.head (string_bytes both.0.world) both.1) ((h : StoredHead) (text : List ℕ) (w : WorldValue) → ¬ AreOwnRow f rows h text w) (λ answer. IfErr answer (RefusesToLoadIn f g old)) (λ both own. tt) (idle, inr (rows, told)) (λ none. record { rows = rows; selects = told; broken = none; of_format = judged.0 }) r judged.1
+
+  rows_own : (rows : List Row) (r : Result (StoredCampaign × WorldValue) LoadFault) → JudgesRows f rows r → Selects g (selection campaign_table 1) old rows → IfOk r (λ both. OwnRead g old f both.0 both.1)
+  rows_own rows (Err fault) judged told = tt
+  rows_own rows (Ok both) judged told = record { rows = rows; selects = told; row = judged; table = λ begins. subst (IsPermutation (rows_in campaign_table (state g old).now.trees)) judged.is (reads_campaign _ _ rows told.1 begins) }
 
   -- they are the campaign's own row and its world
-  pub own_is : (rows : List Row) (r : Result (StoredCampaign × WorldValue) StoreFault) → JudgesRows rows r → Selects g (selection campaign_table 1) old rows
-      → IfOk r (λ both. OwnRead g old both.0 both.1)
-  own_is rows (Err fault) judged told = tt
-  own_is rows (Ok both) judged told = record { rows = rows; selects = told; row = judged; table = λ begins. subst (IsPermutation (rows_in campaign_table (state g old).now.trees)) judged.is (reads_campaign _ _ rows told.1 begins) }
+  pub own_is : (rows : List Row) (r : Result (StoredCampaign × WorldValue) LoadFault) → JudgesFormat f rows r → Selects g (selection campaign_table 1) old rows
+      → IfOk r (λ both. OwnRead g old f both.0 both.1)
+  own_is rows r (inl other) told = subst (λ answer. IfOk answer (λ both. OwnRead g old f both.0 both.1)) (sym other.1) tt
+  own_is rows r (inr judged) told = rows_own rows r judged.1 told
 
   -- they could not be asked for
-  pub unasked_own : old.in_transaction ≡ false → (fault : ReadFault) → RefusesToSelect g (selection campaign_table 1) old fault → RefusesToLoad g old (own_fault fault)
+  pub unasked_own : old.in_transaction ≡ false → (fault : ReadFault) → RefusesToSelect g (selection campaign_table 1) old fault → RefusesToLoadIn f g old (own_fault fault)
   unasked_own idle read.Store refused = inr (inl refused)
   unasked_own idle read.Memory refused = (idle, inl refused)
   unasked_own idle read.Refused refused = refused

@@ -1,5 +1,6 @@
 -- From the rows that the tables have to the campaign that they hold, table by table.
 use Rattle.std.proofs.Common.{◌≡◌, ◌≢◌, ◌==◌, ℕ, ℤ, pos, negsuc, Bool, true, false, not, List, [], ◌∷◌, length, map, refl, sym, ap, ◌∙◌, subst, inl, inr, true≢false, arith}
+use Rattle.std.specs.Prelude.{⊤}
 use Rattle.std.specs.List.{range_with_len}
 use Rattle.std.specs.List.Sorted.{IsPermutation}
 use Rattle.std.specs.Ordering.{nat_cmp}
@@ -9,12 +10,13 @@ use Rattle.sqlite.specs.declared.types.Value.TheVariants.{Int, Text}
 use Rattle.sqlite.specs.Order.{Row}
 use Rattle.sqlite_trees.specs.Tree.{Trees}
 use Rattle.sqlite_rules.specs.Lists.{Has}
-use Rattle.sqlite_rules.proofs.ListLemmas.{has_either, has_left, has_right, has_filtered, has_kept}
-use Rattle.atl_tables.specs.declared.format.Format.TheVariants.{First}
+use Rattle.sqlite_rules.proofs.ListLemmas.{all_has, has_either, has_left, has_right, has_filtered, has_kept}
+use Rattle.atl_tables.specs.declared.format.Format.{Format}
+use Rattle.atl_tables.specs.declared.format.Format.TheVariants.{First, Second}
 use Rattle.atl_state.specs.Books.{all_entries, entry_place, thing_at, thing_place}
 use Rattle.atl_state.specs.Held.{Held}
 use Rattle.atl_state.specs.Limits.{entry_count}
-use Rattle.atl_state.specs.Rows.{rows_by, rows_of, is_zero, amount_at, AreRowsOf}
+use Rattle.atl_state.specs.Rows.{rows_by, rows_of, amount_rows, is_zero, amount_at, AreRowsOf}
 use Rattle.atl_state.specs.Rows as made
 use Rattle.atl_state.specs.Campaign.{CampaignValue}
 use Rattle.atl_state.specs.declared.books.Entry.{Entry}
@@ -23,17 +25,19 @@ use Rattle.atl_state.specs.declared.parts.Parts.{Parts}
 use Rattle.atl_state.specs.declared.parts.StoredBooks.{StoredBooks}
 use Rattle.atl_state.specs.declared.parts.StoredHas.{StoredHas}
 use Rattle.atl_state.specs.declared.parts.StoredHead.{StoredHead}
+use Rattle.atl_state.specs.declared.parts.StoredMarket.{StoredMarket}
 use Rattle.atl_state.specs.declared.records.Faction.{Faction}
+use Rattle.atl_state.specs.declared.records.Region.{Region}
 use Rattle.atl_state.specs.declared.records.Unit.{Unit}
 use Rattle.atl_state.proofs.BookLaws.{place_at}
 use Rattle.atl_store.specs.declared.rows.has.Sort.{Sort}
 use Rattle.atl_store.specs.declared.rows.has.Sort.TheVariants.{Item, Skill}
-use Rattle.atl_store.specs.Loading.{HaveRows, own_stored, has_values, books_values}
-use Rattle.atl_store.specs.Rows.{RowsOf, HasRowsOf, BooksRowsOf, rows_for, Holds, campaign_line, faction_line, region_line, unit_line, structure_line, things_of}
+use Rattle.atl_store.specs.Loading.{HaveRows, HaveMarkets, own_stored, has_values, books_values, market_values}
+use Rattle.atl_store.specs.Rows.{RowsOf, HasRowsOf, BooksRowsOf, MarketRowsOf, rows_for, Holds, HoldsIn, head_of, faction_line, region_line, unit_line, structure_line, things_of}
 use Rattle.atl_store.specs.Sets.{Is, rows_in}
-use Rattle.atl_store.specs.Shown.{flag, mail_row, report_row}
+use Rattle.atl_store.specs.Shown.{flag, head_row_in, mail_row, report_row}
 use Rattle.atl_store.specs.StoredRows.{faction_stored, region_stored, unit_stored, structure_stored, mail_stored, report_stored}
-use Rattle.atl_store.specs.Tables.{Part, Own, Factions, Regions, Units, Goods, Structures, Mail, Reports, Books, table_of, campaign_table, faction_table, region_table, unit_table, has_table, structure_table, mail_table, report_table, books_table}
+use Rattle.atl_store.specs.Tables.{Part, Own, Factions, Regions, Units, Goods, Structures, Mail, Reports, Books, Markets, table_of, all_parts, parts_in, campaign_table, faction_table, region_table, unit_table, has_table, structure_table, mail_table, report_table, books_table, market_table}
 use Rattle.atl_store.specs.Written.{sort_number}
 use Rattle.atl_store.proofs.EditLaws.{has_permuted}
 use Rattle.atl_store.proofs.EntryLaws.{got_entry, entry_got, flat_has, has_flat}
@@ -78,24 +82,33 @@ unit_same n u =
 
 -- ---- the campaign's own row
 
-own_held : (text : List ℕ) (c : CampaignValue) (rows : List Row) (read : List StoredHead) → IsPermutation rows (map (own_stored text) read) → IsPermutation (made.head_row First c ∷ []) read → Is rows (λ r. r ≡ campaign_line text c)
-own_held text c rows read in_table of_them r =
-    let is = are_made (own_stored text) rows read (made.head_row First c ∷ []) in_table of_them r in (
+own_held : (f : Format) (text : List ℕ) (c : CampaignValue) (rows : List Row) (read : List StoredHead) → IsPermutation rows (map (own_stored text) read) → IsPermutation (made.head_row f c ∷ []) read → Is rows (λ r. r ≡ head_row_in f (head_of c) text)
+own_held f text c rows read in_table of_them r =
+    let is = are_made (own_stored text) rows read (made.head_row f c ∷ []) in_table of_them r in (
       λ there. let a = is.0 there in elim a.1 [ inl same ↦ a.2 ∙ ap (own_stored text) same | inr none ↦ absurd none ],
-      λ same. is.1 (made.head_row First c, inl refl, same),
+      λ same. is.1 (made.head_row f c, inl refl, same),
     )
+
+-- ---- amounts that are not 0
+
+module _ {R : Type 0} (amount : R → ℤ) (row : ℕ → ℕ → R) (is : (thing count : ℕ) → amount (row thing count) ≡ pos count) where
+  amount_made : (es : List (ℕ × ℕ)) (s : R) → Has (amount_rows amount row es) s → (e : ℕ × ℕ) × Has es e × (e.1 ≢ 0) × (s ≡ row e.0 e.1)
+  amount_made es s there =
+      let kept = has_filtered (λ r. not (is_zero (amount r))) (rows_by row es) s there in
+      let e = map_has (λ (e : ℕ × ℕ). row e.0 e.1) es s kept.0 in
+      (e.0, e.1, λ zero. true≢false (sym kept.1 ∙ ap (λ r. not (is_zero (amount r))) e.2 ∙ ap (λ z. not (is_zero z)) (is e.0.0 e.0.1) ∙ ap (λ a. not (a == 0)) zero), e.2)
+
+  made_amount : (es : List (ℕ × ℕ)) (thing count : ℕ) → Has es (thing, count) → count ≢ 0 → Has (amount_rows amount row es) (row thing count)
+  made_amount es thing count there some =
+      has_kept (λ r. not (is_zero (amount r))) (rows_by row es) (row thing count) (has_map (λ (e : ℕ × ℕ). row e.0 e.1) es (thing, count) there) (ap (λ z. not (is_zero z)) (is thing count) ∙ ap not (is_not_zero count some))
 
 -- ---- what units have
 
 sort_made : (n sort : ℕ) (es : List (ℕ × ℕ)) (s : StoredHas) → Has (made.sort_rows n sort es) s → (e : ℕ × ℕ) × Has es e × (e.1 ≢ 0) × (s ≡ made.has_row n sort e.0 e.1)
-sort_made n sort es s there =
-    let kept = has_filtered (λ (r : StoredHas). not (is_zero r.amount)) (rows_by (made.has_row n sort) es) s there in
-    let e = map_has (λ (e : ℕ × ℕ). made.has_row n sort e.0 e.1) es s kept.0 in
-    (e.0, e.1, λ zero. true≢false (sym kept.1 ∙ ap (λ (r : StoredHas). not (is_zero r.amount)) e.2 ∙ ap (λ a. not (a == 0)) zero), e.2)
+sort_made n sort = amount_made (λ (r : StoredHas). r.amount) (made.has_row n sort) (λ thing count. refl)
 
 made_sort : (n sort : ℕ) (es : List (ℕ × ℕ)) (thing amount : ℕ) → Has es (thing, amount) → amount ≢ 0 → Has (made.sort_rows n sort es) (made.has_row n sort thing amount)
-made_sort n sort es thing amount there some =
-    has_kept (λ (r : StoredHas). not (is_zero r.amount)) (rows_by (made.has_row n sort) es) (made.has_row n sort thing amount) (has_map (λ (e : ℕ × ℕ). made.has_row n sort e.0 e.1) es (thing, amount) there) (ap not (is_not_zero amount some))
+made_sort n sort = made_amount (λ (r : StoredHas). r.amount) (made.has_row n sort) (λ thing count. refl)
 
 goods_made : (n : ℕ) (held : Held) (s : StoredHas) → Has (made.held_rows n held) s → (sort : Sort) × (e : ℕ × ℕ) × Has (entries (things_of sort held)) e × (e.1 ≢ 0) × (s ≡ made.has_row n (sort_number sort) e.0 e.1)
 goods_made n held s there = elim (has_either (made.sort_rows n 0 (entries held.items)) (made.sort_rows n 1 (entries held.days)) s there) [
@@ -107,27 +120,47 @@ made_goods : (n : ℕ) (held : Held) (sort : Sort) (thing amount : ℕ) → Has 
 made_goods n held Item thing amount there some = has_left (made.sort_rows n 0 (entries held.items)) (made.sort_rows n 1 (entries held.days)) _ (made_sort n 0 (entries held.items) thing amount there some)
 made_goods n held Skill thing amount there some = has_right (made.sort_rows n 0 (entries held.items)) (made.sort_rows n 1 (entries held.days)) _ (made_sort n 1 (entries held.days) thing amount there some)
 
+row_of_goods : (units : FinMap nat_cmp Unit) (r : Row) (n : ℕ) (unit : Unit) → Has (entries units) (n, unit) → (a : StoredHas) → r ≡ has_values a → (sort : Sort) (e : ℕ × ℕ) → Has (entries (things_of sort unit.holding)) e → e.1 ≢ 0 → a ≡ made.has_row n (sort_number sort) e.0 e.1 → HasRowsOf units r
+row_of_goods units r n unit there a is sort e has some made_is = (n, unit, entry_got units n unit there, sort, e.0, e.1, entry_got (things_of sort unit.holding) e.0 e.1 has, some, is ∙ ap has_values made_is)
+
 goods_held : (rows : List Row) (read : List StoredHas) (units : FinMap nat_cmp Unit) → IsPermutation rows (map has_values read) → IsPermutation (made.has_rows (entries units)) read → Is rows (HasRowsOf units)
 goods_held rows read units in_table of_them r =
     let is = are_made has_values rows read (made.has_rows (entries units)) in_table of_them r in (
       λ there.
           let a = is.0 there in
           let found = flat_has (λ (e : ℕ × Unit). made.held_rows e.0 e.1.holding) (entries units) a.0 a.1 in
-          let e = goods_made found.0.0 found.0.1.holding a.0 found.2 in (
-            found.0.0,
-            found.0.1,
-            entry_got units found.0.0 found.0.1 found.1,
-            e.0,
-            e.1.0,
-            e.1.1,
-            entry_got (things_of e.0 found.0.1.holding) e.1.0 e.1.1 e.2,
-            e.3,
-            a.2 ∙ ap has_values e.4,
-          ),
+          let e = goods_made found.0.0 found.0.1.holding a.0 found.2 in
+          row_of_goods units r found.0.0 found.0.1 found.1 a.0 a.2 e.0 e.1 e.2 e.3 e.4,
       λ of. is.1 (
         made.has_row of.0 (sort_number of.3) of.4 of.5,
         has_flat (λ (e : ℕ × Unit). made.held_rows e.0 e.1.holding) (entries units) (of.0, of.1) _ (got_entry units of.0 of.1 of.2) (made_goods of.0 of.1.holding of.3 of.4 of.5 (got_entry (things_of of.3 of.1.holding) of.4 of.5 of.6) of.7),
         of.8,
+      ),
+    )
+
+-- ---- the stocks
+
+stocks_held : (rows : List Row) (read : List StoredMarket) (regions : FinMap nat_cmp Region) → IsPermutation rows (map market_values read) → IsPermutation (made.market_rows Second (entries regions)) read → Is rows (MarketRowsOf regions)
+stocks_held rows read regions in_table of_them r =
+    let is = are_made market_values rows read (made.market_rows Second (entries regions)) in_table of_them r in (
+      λ there.
+          let a = is.0 there in
+          let found = flat_has (λ (e : ℕ × Region). made.stock_rows e.0 (entries e.1.stocks)) (entries regions) a.0 a.1 in
+          let e = amount_made (λ (r : StoredMarket). r.stock) (made.market_row found.0.0) (λ item stock. refl) (entries found.0.1.stocks) a.0 found.2 in (
+            found.0.0,
+            found.0.1,
+            entry_got regions found.0.0 found.0.1 found.1,
+            e.0.0,
+            e.0.1,
+            entry_got found.0.1.stocks e.0.0 e.0.1 e.1,
+            e.2,
+            a.2 ∙ ap market_values e.3,
+          ),
+      λ of. is.1 (
+        made.market_row of.0 of.3 of.4,
+        has_flat (λ (e : ℕ × Region). made.stock_rows e.0 (entries e.1.stocks)) (entries regions) (of.0, of.1) _ (got_entry regions of.0 of.1 of.2)
+            (made_amount (λ (r : StoredMarket). r.stock) (made.market_row of.0) (λ item stock. refl) (entries of.1.stocks) of.3 of.4 (got_entry of.1.stocks of.3 of.4 of.5) of.6),
+        of.7,
       ),
     )
 
@@ -180,18 +213,55 @@ module _ (books : List (List ℤ)) where
 
 -- ---- all tables
 
--- tables that have the rows of a campaign hold it
-pub rows_hold : (db : Trees) (text : List ℕ) (p : Parts) (c : CampaignValue) → HaveRows db text p → AreRowsOf First c p → Holds db text c
-unfolding rows_of
-rows_hold db text p c have are = record { rows = rows }
+-- the first format has no table of markets
+pub no_markets : Has (parts_in First) Markets → ⊥
+no_markets there = all_has IsNoMarkets (parts_in First) Markets (tt, (tt, (tt, (tt, (tt, (tt, (tt, (tt, (tt, tt))))))))) there
   where
-    rows : (part : Part) → Is (rows_in (table_of part) db) (rows_for (campaign_line text c) c part)
-    rows Own = own_held text c (rows_in campaign_table db) p.campaign have.campaign are.campaign
-    rows Factions = by_number faction_stored made.faction_row faction_line faction_same (rows_in faction_table db) p.factions c.factions have.factions are.factions
-    rows Regions = by_number region_stored made.region_row region_line (λ n r. refl) (rows_in region_table db) p.regions c.regions have.regions are.regions
-    rows Units = by_number unit_stored made.unit_row unit_line unit_same (rows_in unit_table db) p.units c.units have.units are.units
-    rows Goods = goods_held (rows_in has_table db) p.has c.units have.has are.has
-    rows Structures = by_number structure_stored made.structure_row structure_line (λ n s. refl) (rows_in structure_table db) p.structures c.structures have.structures are.structures
-    rows Mail = by_number mail_stored made.mail_row mail_row (λ n text. refl) (rows_in mail_table db) p.mail c.mail have.mail are.mail
-    rows Reports = by_number report_stored made.report_row report_row (λ n text. refl) (rows_in report_table db) p.reports c.reports have.reports are.reports
-    rows Books = books_held c.books (rows_in books_table db) p.books have.books are.books
+    IsNoMarkets : Part → Type 0
+    IsNoMarkets Markets = ⊥
+    IsNoMarkets Own = ⊤
+    IsNoMarkets Factions = ⊤
+    IsNoMarkets Regions = ⊤
+    IsNoMarkets Units = ⊤
+    IsNoMarkets Goods = ⊤
+    IsNoMarkets Structures = ⊤
+    IsNoMarkets Mail = ⊤
+    IsNoMarkets Reports = ⊤
+    IsNoMarkets Books = ⊤
+
+-- tables that have the rows of a campaign hold it
+pub rows_hold : (f : Format) (db : Trees) (text : List ℕ) (p : Parts) (c : CampaignValue) → HaveRows f db text p → AreRowsOf f c p → HoldsIn f db text c
+unfolding rows_of
+rows_hold f db text p c have are = record { rows = rows }
+  where
+    markets : (f : Format) → Has (parts_in f) Markets → HaveMarkets f db p.markets → IsPermutation (made.market_rows f (entries c.regions)) p.markets → Is (rows_in market_table db) (MarketRowsOf c.regions)
+    markets First there in_table of_them = absurd (no_markets there)
+    markets Second there in_table of_them = stocks_held (rows_in market_table db) p.markets c.regions in_table of_them
+
+    rows : (part : Part) → Has (parts_in f) part → Is (rows_in (table_of part) db) (rows_for (head_row_in f (head_of c) text) c part)
+    rows Own there = own_held f text c (rows_in campaign_table db) p.campaign have.campaign are.campaign
+    rows Factions there = by_number faction_stored made.faction_row faction_line faction_same (rows_in faction_table db) p.factions c.factions have.factions are.factions
+    rows Regions there = by_number region_stored made.region_row region_line (λ n r. refl) (rows_in region_table db) p.regions c.regions have.regions are.regions
+    rows Units there = by_number unit_stored made.unit_row unit_line unit_same (rows_in unit_table db) p.units c.units have.units are.units
+    rows Goods there = goods_held (rows_in has_table db) p.has c.units have.has are.has
+    rows Structures there = by_number structure_stored made.structure_row structure_line (λ n s. refl) (rows_in structure_table db) p.structures c.structures have.structures are.structures
+    rows Mail there = by_number mail_stored made.mail_row mail_row (λ n text. refl) (rows_in mail_table db) p.mail c.mail have.mail are.mail
+    rows Reports there = by_number report_stored made.report_row report_row (λ n text. refl) (rows_in report_table db) p.reports c.reports have.reports are.reports
+    rows Books there = books_held c.books (rows_in books_table db) p.books have.books are.books
+    rows Markets there = markets f there have.markets are.markets
+
+every_part : (part : Part) → Has all_parts part
+every_part Own = inl refl
+every_part Factions = inr (inl refl)
+every_part Regions = inr (inr (inl refl))
+every_part Units = inr (inr (inr (inl refl)))
+every_part Goods = inr (inr (inr (inr (inl refl))))
+every_part Structures = inr (inr (inr (inr (inr (inl refl)))))
+every_part Mail = inr (inr (inr (inr (inr (inr (inl refl))))))
+every_part Reports = inr (inr (inr (inr (inr (inr (inr (inl refl)))))))
+every_part Books = inr (inr (inr (inr (inr (inr (inr (inr (inl refl))))))))
+every_part Markets = inr (inr (inr (inr (inr (inr (inr (inr (inr (inl refl)))))))))
+
+-- in the second format they hold it whole
+pub holds_all : (db : Trees) (text : List ℕ) (c : CampaignValue) → HoldsIn Second db text c → Holds db text c
+holds_all db text c holds = record { rows = λ part. holds.rows part (every_part part) }

@@ -6,14 +6,15 @@ use Rattle.sqlite_trees.specs.Tree.{Trees}
 use Rattle.sqlite.specs.Held.{Held, state}
 use Rattle.sqlite.specs.Order.{Row}
 use Rattle.sqlite.specs.State.{State, Shown}
-use Rattle.atl_store.specs.Tables.{HasAll}
+use Rattle.atl_tables.specs.declared.format.Format.{Format}
+use Rattle.atl_store.specs.Tables.{HasTablesOf}
 use Rattle.atl_store.specs.Stored.{Form, first_columns}
 use Rattle.atl_store.specs.Reading.{ReadsRows, GivesTable}
 use Rattle.atl_store.specs.declared.fault.ReadFault.{ReadFault}
 use Rattle.atl_store.proofs.KeepLaws.{if_ok}
 
 module _ {S A Z : Type 0} (g : Ghosts S) (sql : List ℕ) (old new : Held S) (forms : List Form) (shown : A → Row) (r : Result (Vec A Z) ReadFault) where
-  pub gives_table : (in_table : Trees → List Row)
-      → ((old new : State) (rows : List Row) → Shown sql [] old new rows → HasAll old.now.schema → IsPermutation (in_table old.now.trees) (map (first_columns (length forms)) rows))
-      → ReadsRows g sql old forms shown r new → GivesTable g in_table shown r old new
-  gives_table in_table means read clean has = if_ok r (λ all did. subst (IsPermutation (in_table (state g old).now.trees)) (sym did.2) (means _ _ did.0 did.1.1 has)) (read.rows clean)
+  pub gives_table : (since : Format) (in_table : Trees → List Row)
+      → ((old new : State) (rows : List Row) → Shown sql [] old new rows → HasTablesOf since old.now.schema → IsPermutation (in_table old.now.trees) (map (first_columns (length forms)) rows))
+      → ReadsRows g sql old forms shown r new → GivesTable g since in_table shown r old new
+  gives_table since in_table means read clean has = if_ok r (λ all did. subst (IsPermutation (in_table (state g old).now.trees)) (sym did.2) (means _ _ did.0 did.1.1 has)) (read.rows clean)

@@ -4,14 +4,30 @@ use Rattle.sqlite.specs.Order.{Row}
 use Rattle.sqlite.specs.State.{State}
 use Rattle.atl_state.specs.Campaign.{CampaignValue}
 use Rattle.atl_store.specs.Sets.{Is, rows_in}
-use Rattle.atl_store.specs.Tables.{Own, campaign_table}
-use Rattle.atl_store.specs.Rows.{campaign_line}
+use Rattle.atl_tables.specs.declared.format.Format.{Format}
+use Rattle.atl_tables.specs.declared.format.Format.TheVariants.{First, Second}
+use Rattle.sqlite_rules.specs.Lists.{Has}
+use Rattle.atl_store.specs.Tables.{Own, campaign_table, parts_in}
+use Rattle.atl_store.specs.Shown.{head_row_in}
+use Rattle.atl_store.specs.Rows.{head_of}
 use Rattle.atl_store.specs.Keeps.{Keeps}
+use Rattle.atl_store.specs.Loading.{StandsIn}
 use Rattle.atl_store.specs.WorldText.{world_in, world_text}
 
-pub world_text_is : (s : State) (text : List ℕ) (c : CampaignValue) → Keeps s text c → world_text s ≡ text
-world_text_is s text c keeps = of (rows_in campaign_table s.now.trees) (keeps.rows.rows Own)
+-- each format has the campaign's own row
+has_own : (f : Format) → Has (parts_in f) Own
+has_own First = inl refl
+has_own Second = inl refl
+
+text_held : (f : Format) (s : State) (text : List ℕ) (c : CampaignValue) → Is (rows_in campaign_table s.now.trees) (λ r. r ≡ head_row_in f (head_of c) text) → world_text s ≡ text
+text_held f s text c holds = of (rows_in campaign_table s.now.trees) holds
   where
-    of : (rows : List Row) → Is rows (λ r. r ≡ campaign_line text c) → world_in rows ≡ text
-    of [] is = absurd ((is (campaign_line text c)).1 refl)
+    of : (rows : List Row) → Is rows (λ r. r ≡ head_row_in f (head_of c) text) → world_in rows ≡ text
+    of [] is = absurd ((is (head_row_in f (head_of c) text)).1 refl)
     of (r ∷ rows) is = ap (λ (x : Row). world_in (x ∷ [])) ((is r).0 (inl refl))
+
+pub world_text_is : (s : State) (text : List ℕ) (c : CampaignValue) → Keeps s text c → world_text s ≡ text
+world_text_is s text c keeps = text_held Second s text c (keeps.rows.rows Own)
+
+pub standing_text_is : (f : Format) (s : State) (text : List ℕ) (c : CampaignValue) → StandsIn f s text c → world_text s ≡ text
+standing_text_is f s text c stands = text_held f s text c (stands.rows.rows Own (has_own f))

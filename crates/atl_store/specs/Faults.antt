@@ -5,10 +5,16 @@ use Rattle.sqlite.specs.declared.error.Error.TheVariants.{SqliteFailure}
 use Rattle.sqlite.specs.declared.error.ErrorCode.TheVariants as code
 use Rattle.sqlite_trees.specs.declared.error.StoreError.{StoreError}
 use Rattle.sqlite_trees.specs.declared.error.StoreError.TheVariants as error
+use Rattle.atl_tables.specs.declared.fault.WorldFault.{WorldFault}
+use Rattle.atl_tables.specs.declared.fault.WorldFault.TheVariants as world
 use Rattle.atl_state.specs.declared.checking.CheckFault.{CheckFault}
 use Rattle.atl_state.specs.declared.checking.CheckFault.TheVariants as check
 use Rattle.atl_store.specs.declared.fault.StoreFault.{StoreFault}
 use Rattle.atl_store.specs.declared.fault.StoreFault.TheVariants as store
+use Rattle.atl_store.specs.declared.fault.LoadFault.{LoadFault}
+use Rattle.atl_store.specs.declared.fault.LoadFault.TheVariants as load
+use Rattle.atl_store.specs.declared.fault.UpgradeFault.{UpgradeFault}
+use Rattle.atl_store.specs.declared.fault.UpgradeFault.TheVariants as upgrade
 use Rattle.atl_store.specs.declared.fault.WriteFault.{WriteFault}
 use Rattle.atl_store.specs.declared.fault.WriteFault.TheVariants as write
 use Rattle.atl_store.specs.declared.fault.CreateFault.{CreateFault}
@@ -41,16 +47,56 @@ abbrev pub reopening_fault : StoreError → StoreFault
 reopening_fault error.OutOfMemory = store.Memory
 reopening_fault _ = store.Store
 
+abbrev pub load_fault : Error → LoadFault
+load_fault e = if is_memory e then load.Memory else load.Store
+
 -- of rows that are no campaign's
-abbrev pub judged_fault : CheckFault → StoreFault
-judged_fault (check.Damaged rule) = store.Damaged rule
-judged_fault check.Memory = store.Memory
+abbrev pub judged_fault : CheckFault → LoadFault
+judged_fault (check.Damaged rule) = load.Damaged rule
+judged_fault check.Memory = load.Memory
+
+-- of loading by the second format
+abbrev pub second_fault : LoadFault → StoreFault
+second_fault load.Store = store.Store
+second_fault (load.Damaged rule) = store.Damaged rule
+second_fault load.NotACampaign = store.NotACampaign
+second_fault load.OtherFormat = store.OldFormat
+second_fault load.Memory = store.Memory
 
 abbrev pub fault_number : StoreFault → Option ℕ
 fault_number store.Store = Some 1
 fault_number (store.Damaged rule) = Some 2
 fault_number store.NotACampaign = Some 3
+fault_number store.OldFormat = Some 4
 fault_number store.Memory = None
+
+-- ---- of an upgrade
+
+abbrev pub upgrade_fault : Error → UpgradeFault
+upgrade_fault e = if is_memory e then upgrade.Memory else upgrade.Store
+
+-- of loading by the first format
+abbrev pub first_fault : LoadFault → UpgradeFault
+first_fault load.Store = upgrade.Store
+first_fault (load.Damaged rule) = upgrade.Damaged rule
+first_fault load.NotACampaign = upgrade.NotACampaign
+first_fault load.OtherFormat = upgrade.NotOld
+first_fault load.Memory = upgrade.Memory
+
+abbrev pub new_world_fault : WorldFault → UpgradeFault
+new_world_fault world.Memory = upgrade.Memory
+new_world_fault fault = upgrade.World fault
+
+abbrev pub upgrade_number : UpgradeFault → Option ℕ
+upgrade_number upgrade.Store = Some 1
+upgrade_number (upgrade.Damaged rule) = Some 2
+upgrade_number upgrade.NotACampaign = Some 3
+upgrade_number upgrade.NotOld = Some 4
+upgrade_number (upgrade.World fault) = Some 5
+upgrade_number upgrade.Differs = Some 6
+upgrade_number upgrade.Memory = None
+
+-- ---- of writing and reading
 
 abbrev pub create_fault : Error → CreateFault
 create_fault e = if is_memory e then create.Memory else create.Store

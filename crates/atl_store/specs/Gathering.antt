@@ -7,13 +7,16 @@ use Rattle.sqlite.specs.declared.error.Error.{Error}
 use Rattle.sqlite.specs.Held.{Held, state}
 use Rattle.sqlite.specs.Order.{Row}
 use Rattle.sqlite.specs.State.{State, HasCleanDisk, FailsToQuery}
+use Rattle.sqlite.specs.Table.{Table}
 use Rattle.sqlite_rules.specs.Lists.{Has}
 use Rattle.sqlite_catalog.specs.Listing.{IsSound}
 use Rattle.sqlite_trees.specs.Tree.{Trees}
 use Rattle.sqlite_trees.specs.declared.store.Store.{Ghosts}
 use Rattle.atl_tables.specs.Worlds.{WorldValue}
-use Rattle.atl_tables.specs.declared.format.Format.TheVariants.{First}
-use Rattle.atl_tables.specs.World.{old_world_of}
+use Rattle.atl_tables.specs.Formats.{format_number}
+use Rattle.atl_tables.specs.declared.format.Format.{Format}
+use Rattle.atl_tables.specs.declared.format.Format.TheVariants.{First, Second}
+use Rattle.atl_tables.specs.World.{world_by}
 use Rattle.atl_state.specs.Checking.{IsChecked}
 use Rattle.atl_state.specs.RowRules.{is_one_head, are_of_format}
 use Rattle.atl_state.specs.Campaign.{MarkedCampaign}
@@ -24,22 +27,23 @@ use Rattle.atl_state.specs.declared.parts.StoredFaction.{StoredFaction}
 use Rattle.atl_state.specs.declared.parts.StoredHas.{StoredHas}
 use Rattle.atl_state.specs.declared.parts.StoredHead.{StoredHead}
 use Rattle.atl_state.specs.declared.parts.StoredMail.{StoredMail}
+use Rattle.atl_state.specs.declared.parts.StoredMarket.{StoredMarket}
 use Rattle.atl_state.specs.declared.parts.StoredRegion.{StoredRegion}
 use Rattle.atl_state.specs.declared.parts.StoredReport.{StoredReport}
 use Rattle.atl_state.specs.declared.parts.StoredStructure.{StoredStructure}
 use Rattle.atl_state.specs.declared.parts.StoredUnit.{StoredUnit}
 use Rattle.atl_store.specs.Faults.{is_memory}
-use Rattle.atl_store.specs.Loading.{HaveRows, AreOwnRow, HasOtherType, KeepsOneRow, other_selects, Leaves, AreToldTyped, RefusesOne}
+use Rattle.atl_store.specs.Loading.{HaveRows, AreOwnRow, IsOther, HasOtherType, KeepsOneRow, other_selects, placed_tables, Leaves, AreToldTyped, RefusesOne}
 use Rattle.atl_store.specs.Reading.{Selects, placed_rows_in}
 use Rattle.atl_store.specs.Statements.{placed_selection, selection}
-use Rattle.atl_store.specs.Sets.{rows_in}
-use Rattle.atl_store.specs.StoredRows.{campaign_stored, faction_stored, region_stored, unit_stored, structure_stored, mail_stored, report_stored, has_stored, books_stored, faction_forms, region_forms, unit_forms, structure_forms, mail_forms, report_forms, has_forms, books_forms}
+use Rattle.atl_store.specs.Sets.{IsKeyed, rows_in}
+use Rattle.atl_store.specs.StoredRows.{campaign_stored, faction_stored, region_stored, unit_stored, structure_stored, mail_stored, report_stored, has_stored, books_stored, market_stored, faction_forms, region_forms, unit_forms, structure_forms, mail_forms, report_forms, has_forms, books_forms}
 use Rattle.atl_store.specs.Stored.{Form}
-use Rattle.atl_store.specs.Tables.{campaign_table, faction_table, region_table, unit_table, has_table, structure_table, mail_table, report_table, books_table, HasAll}
+use Rattle.atl_store.specs.Tables.{campaign_table, faction_table, region_table, unit_table, has_table, structure_table, mail_table, report_table, books_table, market_table, HasTablesOf}
 use Rattle.atl_store.specs.declared.fault.ReadFault.{ReadFault}
 use Rattle.atl_store.specs.declared.fault.ReadFault.TheVariants as read
-use Rattle.atl_store.specs.declared.fault.StoreFault.{StoreFault}
-use Rattle.atl_store.specs.declared.fault.StoreFault.TheVariants.{Store, Damaged, NotACampaign, Memory}
+use Rattle.atl_store.specs.declared.fault.LoadFault.{LoadFault}
+use Rattle.atl_store.specs.declared.fault.LoadFault.TheVariants.{Store, Damaged, NotACampaign, OtherFormat, Memory}
 use Rattle.atl_store.specs.declared.rows.campaign.StoredCampaign.{StoredCampaign}
 use Rattle.atl_store.specs.declared.rows.stored.Placed.{Placed}
 
@@ -52,14 +56,14 @@ IsSettled s = HasCleanDisk s → IsTrue s.is_open → s.now ≡ s.committed
 -- ---- which fault is told
 
 -- of the campaign's own row
-abbrev pub own_fault : ReadFault → StoreFault
+abbrev pub own_fault : ReadFault → LoadFault
 own_fault read.Store = Store
 own_fault read.Refused = NotACampaign
 own_fault read.Memory = Memory
 own_fault read.OtherType = Damaged OneRow
 
 -- of another table: a value of another type is remembered, and all else ends the loading
-abbrev pub kept_of : {A Z : Type 0} → Result (Vec A Z) ReadFault → Result (Option (Vec A Z)) StoreFault
+abbrev pub kept_of : {A Z : Type 0} → Result (Vec A Z) ReadFault → Result (Option (Vec A Z)) LoadFault
 kept_of (Ok rows) = Ok (Some rows)
 kept_of (Err read.Store) = Err Store
 kept_of (Err read.Refused) = Err Store
@@ -67,10 +71,11 @@ kept_of (Err read.Memory) = Err Memory
 kept_of (Err read.OtherType) = Ok None
 
 -- of a step that is made where this is so: Store where it isn't, and want of memory
-abbrev pub Lacks : Type 0 → StoreFault → Type 0
+abbrev pub Lacks : Type 0 → LoadFault → Type 0
 Lacks P Store = ¬ P
 Lacks P (Damaged rule) = ⊥
 Lacks P NotACampaign = ⊥
+Lacks P OtherFormat = ⊥
 Lacks P Memory = ⊤
 
 -- ---- the campaign's own row
@@ -81,29 +86,33 @@ only_of [] = None
 only_of (own ∷ []) = Some own
 only_of (own ∷ other ∷ rows) = None
 
--- the only row is this one, whose id and format are 1, with a text of this world
-pub record IsOwn (rows : List StoredCampaign) (own : StoredCampaign) (w : WorldValue) : Type 0 where
+-- the only row is this one, whose id is 1 and whose format is this one, with a text of this world
+pub record IsOwn (f : Format) (rows : List StoredCampaign) (own : StoredCampaign) (w : WorldValue) : Type 0 where
   pub only : rows ≡ own ∷ []
   pub id : own.head.id ≡ pos 1
-  pub format : own.head.format ≡ pos 1
-  pub world : old_world_of (string_bytes own.world) ≡ Ok w
+  pub format : own.head.format ≡ pos (format_number f)
+  pub world : world_by f (string_bytes own.world) ≡ Ok w
 
 -- what is judged is this, or nothing is, or there was no memory
-abbrev pub Judges : {A : Type 0} → (A → Type 0) → Type 0 → Result A StoreFault → Type 0
+abbrev pub Judges : {A : Type 0} → (A → Type 0) → Type 0 → Result A LoadFault → Type 0
 Judges Is Nothing (Ok a) = Is a
 Judges Is Nothing (Err Memory) = ⊤
 Judges Is Nothing (Err (Damaged OneRow)) = Nothing
 Judges Is Nothing (Err fault) = ⊥
 
-abbrev pub ReadsWorld : List ℕ → Result WorldValue StoreFault → Type 0
-ReadsWorld text r = Judges (λ w. old_world_of text ≡ Ok w) ((w : WorldValue) → old_world_of text ≢ Ok w) r
+abbrev pub ReadsWorld : Format → List ℕ → Result WorldValue LoadFault → Type 0
+ReadsWorld f text r = Judges (λ w. world_by f text ≡ Ok w) ((w : WorldValue) → world_by f text ≢ Ok w) r
 
-abbrev pub JudgesOwn : List StoredCampaign → Result (StoredCampaign × WorldValue) StoreFault → Type 0
-JudgesOwn rows r = Judges (λ both. IsOwn rows both.0 both.1) ((own : StoredCampaign) (w : WorldValue) → ¬ IsOwn rows own w) r
+abbrev pub JudgesOwn : Format → List StoredCampaign → Result (StoredCampaign × WorldValue) LoadFault → Type 0
+JudgesOwn f rows r = Judges (λ both. IsOwn f rows both.0 both.1) ((own : StoredCampaign) (w : WorldValue) → ¬ IsOwn f rows own w) r
 
 -- The rows that are shown are judged: whether they are the one of a world's text.
-abbrev pub JudgesRows : List Row → Result (StoredCampaign × WorldValue) StoreFault → Type 0
-JudgesRows rows r = Judges (λ both. AreOwnRow rows both.0.head (string_bytes both.0.world) both.1) ((h : StoredHead) (text : List ℕ) (w : WorldValue) → ¬ AreOwnRow rows h text w) r
+abbrev pub JudgesRows : Format → List Row → Result (StoredCampaign × WorldValue) LoadFault → Type 0
+JudgesRows f rows r = Judges (λ both. AreOwnRow f rows both.0.head (string_bytes both.0.world) both.1) ((h : StoredHead) (text : List ℕ) (w : WorldValue) → ¬ AreOwnRow f rows h text w) r
+
+-- Whether they are one of the other format is judged first.
+abbrev pub JudgesFormat : Format → List Row → Result (StoredCampaign × WorldValue) LoadFault → Type 0
+JudgesFormat f rows r = (IsOther f rows × (r ≡ Err OtherFormat)) ⊎ ((¬ IsOther f rows) × JudgesRows f rows r)
 
 -- the SELECTs of the other tables, in the order in which they are asked
 abbrev pub place_selects : List (List ℕ × List Form)
@@ -115,17 +124,21 @@ people_selects = (selection unit_table 1, unit_forms) ∷ (placed_selection has_
 abbrev pub work_selects : List (List ℕ × List Form)
 work_selects = (selection structure_table 1, structure_forms) ∷ (selection mail_table 1, mail_forms) ∷ (placed_selection books_table 2, books_forms) ∷ []
 
--- what was read of the eight tables
+-- what was read of the eight tables that both formats have
+abbrev pub EightRead : Type 0 → Type 0
+EightRead Z = (((Vec StoredFaction Z × Vec StoredRegion Z) × Vec StoredReport Z) × (Vec StoredUnit Z × Vec (Placed StoredHas) Z)) × ((Vec StoredStructure Z × Vec StoredMail Z) × Vec (Placed StoredBooks) Z)
+
+-- and of that of markets
 abbrev pub OthersRead : Type 0 → Type 0
-OthersRead Z = (((Vec StoredFaction Z × Vec StoredRegion Z) × Vec StoredReport Z) × (Vec StoredUnit Z × Vec (Placed StoredHas) Z)) × ((Vec StoredStructure Z × Vec StoredMail Z) × Vec (Placed StoredBooks) Z)
+OthersRead Z = EightRead Z × Vec (Placed StoredMarket) Z
 
 module _ {S : Type 0} (g : Ghosts S) (old : Held S) where
-  -- one row was read, whose id and format are 1, with a text of the world
-  pub record OwnRead (own : StoredCampaign) (w : WorldValue) : Type 0 where
+  -- one row was read, whose id is 1 and whose format is this one, with a text of the world
+  pub record OwnRead (f : Format) (own : StoredCampaign) (w : WorldValue) : Type 0 where
     pub rows : List Row
     pub selects : Selects g (selection campaign_table 1) old rows
-    pub row : AreOwnRow rows own.head (string_bytes own.world) w
-    pub table : HasAll old.schema → IsPermutation (rows_in campaign_table (state g old).now.trees) (campaign_stored own ∷ [])
+    pub row : AreOwnRow f rows own.head (string_bytes own.world) w
+    pub table : HasTablesOf First old.schema → IsPermutation (rows_in campaign_table (state g old).now.trees) (campaign_stored own ∷ [])
 
   -- ---- the other tables
 
@@ -144,31 +157,40 @@ module _ {S : Type 0} (g : Ghosts S) (old : Held S) where
     pub answered : Selects g select.0 before rows
 
   -- Store where one of them is refused for another cause than memory, Memory where one is refused for want of it, or answered
-  abbrev pub FailsToRead : List (List ℕ × List Form) → StoreFault → Type 0
+  abbrev pub FailsToRead : List (List ℕ × List Form) → LoadFault → Type 0
   FailsToRead selects Store = RefusesOne g old selects read.Store ⊎ RefusesOne g old selects read.Refused
   FailsToRead selects (Damaged rule) = ⊥
   FailsToRead selects NotACampaign = ⊥
+  FailsToRead selects OtherFormat = ⊥
   FailsToRead selects Memory = RefusesOne g old selects read.Memory ⊎ AnswersOne selects
 
-  -- these are all rows of a table
-  abbrev pub AreRows : {A : Type 0} → (Trees → List Row) → (A → Row) → List A → Type 0
-  AreRows in_table shown rows = HasAll old.schema → IsPermutation (in_table (state g old).now.trees) (map shown rows)
+  -- these are all rows of a table, where the schema has the tables of the format since which it is there
+  abbrev pub AreRows : {A : Type 0} → Format → (Trees → List Row) → (A → Row) → List A → Type 0
+  AreRows since in_table shown rows = HasTablesOf since old.schema → IsPermutation (in_table (state g old).now.trees) (map shown rows)
 
   -- these are all rows of two tables, or of three
-  abbrev pub AreTwo : {A B Z : Type 0} → (Trees → List Row) → (A → Row) → (Trees → List Row) → (B → Row) → Vec A Z × Vec B Z → Type 0
-  AreTwo first a second b read = AreRows first a read.0.items × AreRows second b read.1.items
+  abbrev pub AreTwo : {A B Z : Type 0} → Format → (Trees → List Row) → (A → Row) → Format → (Trees → List Row) → (B → Row) → Vec A Z × Vec B Z → Type 0
+  AreTwo one first a two second b read = AreRows one first a read.0.items × AreRows two second b read.1.items
 
-  abbrev pub AreThree : {A B C Z : Type 0} → (Trees → List Row) → (A → Row) → (Trees → List Row) → (B → Row) → (Trees → List Row) → (C → Row) → (Vec A Z × Vec B Z) × Vec C Z → Type 0
-  AreThree first a second b third c read = AreTwo first a second b read.0 × AreRows third c read.1.items
+  abbrev pub AreThree : {A B C Z : Type 0} → Format → (Trees → List Row) → (A → Row) → Format → (Trees → List Row) → (B → Row) → Format → (Trees → List Row) → (C → Row) → (Vec A Z × Vec B Z) × Vec C Z → Type 0
+  AreThree one first a two second b three third c read = AreTwo one first a two second b read.0 × AreRows three third c read.1.items
 
   -- these are all rows of the eight tables
-  abbrev pub AreOthers : {Z : Type 0} → OthersRead Z → Type 0
-  AreOthers read =
-      (AreThree (rows_in faction_table) faction_stored (rows_in region_table) region_stored (rows_in report_table) report_stored read.0.0
-      × AreTwo (rows_in unit_table) unit_stored (placed_rows_in has_table) has_stored read.0.1)
-      × AreThree (rows_in structure_table) structure_stored (rows_in mail_table) mail_stored (placed_rows_in books_table) books_stored read.1
+  abbrev pub AreEight : {Z : Type 0} → EightRead Z → Type 0
+  AreEight read =
+      (AreThree First (rows_in faction_table) faction_stored First (rows_in region_table) region_stored First (rows_in report_table) report_stored read.0.0
+      × AreTwo First (rows_in unit_table) unit_stored First (placed_rows_in has_table) has_stored read.0.1)
+      × AreThree First (rows_in structure_table) structure_stored First (rows_in mail_table) mail_stored First (placed_rows_in books_table) books_stored read.1
 
-  pub record ReadsSome {A : Type 0} (selects : List (List ℕ × List Form)) (P : A → Type 0) (result : Result (Option A) StoreFault) (new : Held S) : Type 0 where
+  -- these are all rows of the table of markets, which the first format doesn't have
+  abbrev pub AreMarkets : Format → List (Placed StoredMarket) → Type 0
+  AreMarkets First rows = rows ≡ []
+  AreMarkets Second rows = AreRows Second (placed_rows_in market_table) market_stored rows
+
+  abbrev pub AreOthers : Format → {Z : Type 0} → OthersRead Z → Type 0
+  AreOthers f read = AreEight read.0 × AreMarkets f read.1.items
+
+  pub record ReadsSome {A : Type 0} (selects : List (List ℕ × List Form)) (P : A → Type 0) (result : Result (Option A) LoadFault) (new : Held S) : Type 0 where
     pub was_open : HasCleanDisk (state g new) → IfOk result (λ _. IsTrue (state g old).is_open)
     pub found : HasCleanDisk (state g new) → IfOk result (Found selects P)
     pub fails : HasCleanDisk (state g new) → IfErr result (FailsToRead selects)
@@ -181,70 +203,63 @@ module _ {S : Type 0} (g : Ghosts S) (old : Held S) where
   IsRefusedAgain memory = (during : Held S) × (e : Error) × FailsToQuery (selection campaign_table 1) [] (state g old) (state g during) e × (is_memory e ≡ memory)
 
   -- Store where the schema is another one, else what is told of that SELECT
-  abbrev pub FailsToConfirm : StoreFault → Type 0
-  FailsToConfirm Store = (¬ HasAll old.schema) ⊎ (HasAll old.schema × IsRefusedAgain false)
-  FailsToConfirm (Damaged rule) = ⊥
-  FailsToConfirm NotACampaign = ⊥
-  FailsToConfirm Memory = HasAll old.schema × IsRefusedAgain true
+  abbrev pub FailsToConfirm : Format → LoadFault → Type 0
+  FailsToConfirm f Store = (¬ HasTablesOf f old.schema) ⊎ (HasTablesOf f old.schema × IsRefusedAgain false)
+  FailsToConfirm f (Damaged rule) = ⊥
+  FailsToConfirm f NotACampaign = ⊥
+  FailsToConfirm f OtherFormat = ⊥
+  FailsToConfirm f Memory = HasTablesOf f old.schema × IsRefusedAgain true
 
 -- no two rows are kept at one place
 abbrev pub AreApart : {A : Type 0} → List (Placed A) → Type 0
 AreApart placed = IsDistinct (eq_by_cmp int_cmp) (map (λ s. s.rowid) placed)
 
+-- no two rows of has, of books, or of market are
+abbrev pub AreAllApart : {Z : Type 0} → OthersRead Z → Type 0
+AreAllApart read = AreApart read.0.0.1.1.items × AreApart read.0.1.1.items × AreApart read.1.items
+
 -- the rows as they are to be judged
 abbrev pub parts_with : {Z : Type 0} → StoredHead → OthersRead Z → Parts
 parts_with head read = record {
   campaign = head ∷ [];
-  factions = read.0.0.0.0.items;
-  regions = read.0.0.0.1.items;
-  units = read.0.1.0.items;
-  has = map (λ s. s.row) read.0.1.1.items;
-  structures = read.1.0.0.items;
-  mail = read.1.0.1.items;
-  reports = read.0.0.1.items;
-  books = map (λ s. s.row) read.1.1.items;
-  markets = [];
+  factions = read.0.0.0.0.0.items;
+  regions = read.0.0.0.0.1.items;
+  units = read.0.0.1.0.items;
+  has = map (λ s. s.row) read.0.0.1.1.items;
+  structures = read.0.1.0.0.items;
+  mail = read.0.1.0.1.items;
+  reports = read.0.0.0.1.items;
+  books = map (λ s. s.row) read.0.1.1.items;
+  markets = map (λ s. s.row) read.1.items;
 }
 
--- the rows are these, and no two of has, or of books, are kept at one place
+-- the rows are these, and no two of has, of books, or of market are kept at one place
 pub record IsMadeOf {Z : Type 0} (head : StoredHead) (read : OthersRead Z) (p : Parts) : Type 0 where
   pub is : p ≡ parts_with head read
-  pub has_apart : AreApart read.0.1.1.items
-  pub books_apart : AreApart read.1.1.items
-
--- the rows with their places
-pub record HavePlaces (db : Trees) (p : Parts) : Type 0 where
-  pub has_placed : List (Placed StoredHas)
-  pub has : IsPermutation (placed_rows_in has_table db) (map has_stored has_placed)
-  pub has_rows : p.has ≡ map (λ s. s.row) has_placed
-  pub has_apart : AreApart has_placed
-  pub books_placed : List (Placed StoredBooks)
-  pub books : IsPermutation (placed_rows_in books_table db) (map books_stored books_placed)
-  pub books_rows : p.books ≡ map (λ s. s.row) books_placed
-  pub books_apart : AreApart books_placed
+  pub apart : AreAllApart read
 
 -- ---- all of it
 
 -- all rows were read: those of the world's text and these
-pub record Gathered {S : Type 0} (g : Ghosts S) (old : Held S) (w : WorldValue) (p : Parts) : Type 0 where
-  pub one : KeepsOneRow g old
-  pub head : IsTrue (is_one_head First p.campaign)
-  pub markets : IsTrue (are_of_format First p.markets)
+pub record Gathered (f : Format) {S : Type 0} (g : Ghosts S) (old : Held S) (w : WorldValue) (p : Parts) : Type 0 where
+  pub one : KeepsOneRow f g old
+  pub head : IsTrue (is_one_head f p.campaign)
+  pub markets : IsTrue (are_of_format f p.markets)
   pub text : List ℕ
-  pub world : old_world_of text ≡ Ok w
-  pub typed : AreToldTyped g old other_selects
-  pub rows : HasAll old.schema → HaveRows (state g old).now.trees text p
-  pub places : HasAll old.schema → HavePlaces (state g old).now.trees p
+  pub world : world_by f text ≡ Ok w
+  pub typed : AreToldTyped g old (other_selects f)
+  pub rows : HasTablesOf f old.schema → HaveRows f (state g old).now.trees text p
+  pub keyed : HasTablesOf f old.schema → (table : Table) → Has (placed_tables f) table → IsKeyed ((state g old).now.trees table.tree)
 
 -- the schema is that of a campaign, and the connection is open
-pub record IsConfirmed (old new : State) : Type 0 where
-  pub begins : HasAll old.now.schema
+pub record IsConfirmed (f : Format) (old new : State) : Type 0 where
+  pub begins : HasTablesOf f old.now.schema
   pub is_open : IsTrue new.is_open
   pub sound : IsSound old.now.schema old.now.trees
 
 -- all rows were read of these tables, which are those of a campaign, and judged
-pub record IsLoaded {S : Type 0} (g : Ghosts S) (old new : Held S) (w : WorldValue) (c : MarkedCampaign) : Type 0 where
+pub record IsLoaded (f : Format) {S : Type 0} (g : Ghosts S) (old new : Held S) (w : WorldValue) (c : MarkedCampaign) : Type 0 where
   pub parts : Parts
-  pub gathered : HasCleanDisk (state g new) → Gathered g old w parts
-  pub confirmed : HasCleanDisk (state g new) → IsConfirmed (state g old) (state g new)
-  pub checked : IsChecked First w parts c
+  pub gathered : HasCleanDisk (state g new) → Gathered f g old w parts
+  pub confirmed : HasCleanDisk (state g new) → IsConfirmed f (state g old) (state g new)
+  pub checked : IsChecked f w parts c

@@ -26,4 +26,5 @@ pub mod Rewriting
 pub mod WorldText
 pub mod Alike
 pub mod OneWorld
+pub mod UpgradeSteps
 pub mod Upgrading

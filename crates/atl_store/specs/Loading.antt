@@ -3,38 +3,47 @@ use Rattle.std.specs.Prelude.{◌≡◌, ◌⊎◌, ◌++◌, ℕ, Bool, List, [
 use Rattle.sqlite.specs.declared.error.Error.{Error}
 use Rattle.sqlite.specs.declared.types.Value.TheVariants.{Int, Text}
 use Rattle.sqlite.specs.Held.{Held, state}
-use Rattle.sqlite.specs.Order.{Row}
+use Rattle.sqlite.specs.Order.{Row, column}
 use Rattle.sqlite.specs.State.{State, HasCleanDisk, Shown, Survives, FailsToQuery}
+use Rattle.sqlite.specs.Table.{Table}
+use Rattle.sqlite_catalog.specs.Listing.{IsSound}
 use Rattle.sqlite_disk.specs.Disk.{MoreFaults}
 use Rattle.sqlite_rules.specs.Lists.{Has}
 use Rattle.sqlite_trees.specs.Tree.{Trees}
 use Rattle.sqlite_trees.specs.declared.store.Store.{Ghosts}
 use Rattle.atl_tables.specs.Worlds.{WorldValue}
-use Rattle.atl_tables.specs.declared.format.Format.TheVariants.{First}
-use Rattle.atl_tables.specs.World.{old_world_of}
-use Rattle.atl_state.specs.Checking.{IsFirstBroken}
+use Rattle.atl_tables.specs.Formats.{format_number}
+use Rattle.atl_tables.specs.declared.format.Format.{Format}
+use Rattle.atl_tables.specs.declared.format.Format.TheVariants.{First, Second}
+use Rattle.atl_tables.specs.World.{world_by, world_of}
+use Rattle.atl_state.specs.Checking.{Fits, IsFirstBroken}
 use Rattle.atl_state.specs.Good.{IsGood}
 use Rattle.atl_state.specs.Marks.{no_marks}
-use Rattle.atl_state.specs.Campaign.{MarkedCampaign}
+use Rattle.atl_state.specs.Campaign.{CampaignValue, MarkedCampaign}
 use Rattle.atl_state.specs.declared.checking.Rule.{Rule}
 use Rattle.atl_state.specs.declared.checking.Rule.TheVariants.{OneRow, Ranges, Names, Known, Next, Days, Gone, Owners, Water, Guards, Books, Mail}
 use Rattle.atl_state.specs.declared.parts.Parts.{Parts}
 use Rattle.atl_state.specs.declared.parts.StoredBooks.{StoredBooks}
 use Rattle.atl_state.specs.declared.parts.StoredHas.{StoredHas}
 use Rattle.atl_state.specs.declared.parts.StoredHead.{StoredHead}
+use Rattle.atl_state.specs.declared.parts.StoredMarket.{StoredMarket}
 use Rattle.atl_store.specs.Faults.{is_memory}
 use Rattle.atl_store.specs.Keeps.{HoldsCampaign, Spares}
 use Rattle.atl_store.specs.Reading.{Selects, RefusesToSelect}
+use Rattle.atl_store.specs.Rows.{HoldsIn}
+use Rattle.atl_store.specs.Shown.{int}
 use Rattle.atl_store.specs.Statements.{placed_selection, selection}
 use Rattle.atl_store.specs.Sets.{rows_in, IsKeyed}
 use Rattle.atl_store.specs.Stored.{Form, first_columns, AreTyped}
-use Rattle.atl_store.specs.StoredRows.{head_stored, faction_stored, region_stored, unit_stored, structure_stored, mail_stored, report_stored, campaign_forms, faction_forms, region_forms, unit_forms, has_forms, structure_forms, mail_forms, report_forms, books_forms}
-use Rattle.atl_store.specs.Tables.{campaign_table, faction_table, region_table, unit_table, has_table, structure_table, mail_table, report_table, books_table, HasAll}
+use Rattle.atl_store.specs.StoredRows.{head_stored, faction_stored, region_stored, unit_stored, structure_stored, mail_stored, report_stored, campaign_forms, faction_forms, region_forms, unit_forms, has_forms, structure_forms, mail_forms, report_forms, books_forms, market_forms}
+use Rattle.atl_store.specs.Tables.{campaign_table, faction_table, region_table, unit_table, has_table, structure_table, mail_table, report_table, books_table, market_table, table_of, parts_in, HasTablesOf}
 use Rattle.atl_store.specs.WorldText.{world_text}
 use Rattle.atl_store.specs.declared.fault.ReadFault.{ReadFault}
 use Rattle.atl_store.specs.declared.fault.ReadFault.TheVariants as read
+use Rattle.atl_store.specs.declared.fault.LoadFault.{LoadFault}
+use Rattle.atl_store.specs.declared.fault.LoadFault.TheVariants.{Store, Damaged, NotACampaign, OtherFormat, Memory}
 use Rattle.atl_store.specs.declared.fault.StoreFault.{StoreFault}
-use Rattle.atl_store.specs.declared.fault.StoreFault.TheVariants.{Store, Damaged, NotACampaign, Memory}
+use Rattle.atl_store.specs.declared.fault.StoreFault.TheVariants as store
 
 -- ---- the rows of the tables
 
@@ -47,8 +56,16 @@ has_values s = Int s.unit ∷ Int s.sort ∷ Int s.thing ∷ Int s.amount ∷ []
 abbrev pub books_values : StoredBooks → Row
 books_values s = Int s.entry ∷ Int s.thing ∷ Int s.amount ∷ []
 
--- The tables have these rows and no others, each as often as it stands here; the campaign's own have this world text.
-pub record HaveRows (db : Trees) (text : List ℕ) (p : Parts) : Type 0 where
+abbrev pub market_values : StoredMarket → Row
+market_values s = Int s.region ∷ Int s.item ∷ Int s.stock ∷ []
+
+-- the first format has no table of markets
+abbrev pub HaveMarkets : Format → Trees → List StoredMarket → Type 0
+HaveMarkets First db rows = rows ≡ []
+HaveMarkets Second db rows = IsPermutation (rows_in market_table db) (map market_values rows)
+
+-- The tables of a format have these rows and no others, each as often as it stands here; the campaign's own have this world text.
+pub record HaveRows (f : Format) (db : Trees) (text : List ℕ) (p : Parts) : Type 0 where
   pub campaign : IsPermutation (rows_in campaign_table db) (map (own_stored text) p.campaign)
   pub factions : IsPermutation (rows_in faction_table db) (map faction_stored p.factions)
   pub regions : IsPermutation (rows_in region_table db) (map region_stored p.regions)
@@ -58,23 +75,46 @@ pub record HaveRows (db : Trees) (text : List ℕ) (p : Parts) : Type 0 where
   pub mail : IsPermutation (rows_in mail_table db) (map mail_stored p.mail)
   pub reports : IsPermutation (rows_in report_table db) (map report_stored p.reports)
   pub books : IsPermutation (rows_in books_table db) (map books_values p.books)
+  pub markets : HaveMarkets f db p.markets
 
 -- ---- the first rule
 
--- The rows are one, whose id and format are 1, with a text of UTF-8 that reads as a world.
-pub record AreOwnRow (rows : List Row) (h : StoredHead) (text : List ℕ) (w : WorldValue) : Type 0 where
+-- The rows are one, whose id is 1 and whose format is this one, with a text of UTF-8 that reads as a world.
+pub record AreOwnRow (f : Format) (rows : List Row) (h : StoredHead) (text : List ℕ) (w : WorldValue) : Type 0 where
   pub is : map (first_columns (length campaign_forms)) rows ≡ own_stored text h ∷ []
   pub id : h.id ≡ pos 1
-  pub format : h.format ≡ pos 1
+  pub format : h.format ≡ pos (format_number f)
   pub utf8 : IsUtf8 text
-  pub world : old_world_of text ≡ Ok w
+  pub world : world_by f text ≡ Ok w
+
+abbrev pub other_format : Format → Format
+other_format First = Second
+other_format Second = First
+
+-- they are one, whose format is the other one, whatever else it says
+abbrev pub IsOther : Format → List Row → Type 0
+IsOther f rows = (row : Row) × (rows ≡ row ∷ []) × (column row 1 ≡ int (format_number (other_format f)))
 
 -- ---- the other tables
 
--- the SELECTs of the other eight tables, each with what its columns are read as
-abbrev pub other_selects : List (List ℕ × List Form)
-other_selects =
+-- the SELECTs of the eight other tables that both formats have, each with what its columns are read as
+abbrev pub eight_selects : List (List ℕ × List Form)
+eight_selects =
     (selection faction_table 1, faction_forms) ∷ (selection region_table 1, region_forms) ∷ (selection report_table 1, report_forms) ∷ (selection unit_table 1, unit_forms) ∷ (placed_selection has_table 3, has_forms) ∷ (selection structure_table 1, structure_forms) ∷ (selection mail_table 1, mail_forms) ∷ (placed_selection books_table 2, books_forms) ∷ []
+
+-- that of the table of markets
+abbrev pub market_selects : Format → List (List ℕ × List Form)
+market_selects First = []
+market_selects Second = (placed_selection market_table 2, market_forms) ∷ []
+
+-- those of all other tables
+abbrev pub other_selects : Format → List (List ℕ × List Form)
+other_selects f = eight_selects ++ market_selects f
+
+-- those whose key is not the row's number
+abbrev pub placed_tables : Format → List Table
+placed_tables First = has_table ∷ books_table ∷ []
+placed_tables Second = has_table ∷ books_table ∷ market_table ∷ []
 
 -- while the connection is open, its tables are those of the one before
 pub record Stays (old new : State) : Type 0 where
@@ -121,59 +161,7 @@ module _ {S : Type 0} (g : Ghosts S) (old : Held S) where
       pub leaves : Leaves g old before
       pub refused : RefusesToSelect g select.0 before fault
 
-  -- ---- the tables, and their rows
-
-  -- They are the tables of a campaign, and no two rows of has, or of books, are kept at one place.
-  pub record AreMade : Type 0 where
-    pub begins : HasAll old.schema
-    pub has_keyed : IsKeyed ((state g old).now.trees has_table.tree)
-    pub books_keyed : IsKeyed ((state g old).now.trees books_table.tree)
-
-  -- The tables are made so, they keep the first rule, and of the rows that they have this is the first rule that is broken.
-  pub record BreaksRule (rule : Rule) : Type 0 where
-    pub made : AreMade
-    pub world : WorldValue
-    pub text : List ℕ
-    pub is_world : old_world_of text ≡ Ok world
-    pub parts : Parts
-    pub rows : HaveRows (state g old).now.trees text parts
-    pub first : IsFirstBroken First world parts rule
-
-  -- The campaign's own rows keep the first rule.
-  pub record KeepsOneRow : Type 0 where
-    pub rows : List Row
-    pub selects : Selects g (selection campaign_table 1) old rows
-    pub head : StoredHead
-    pub text : List ℕ
-    pub world : WorldValue
-    pub own : AreOwnRow rows head text world
-
-  -- They do not.
-  pub record BreaksOneRow : Type 0 where
-    pub rows : List Row
-    pub selects : Selects g (selection campaign_table 1) old rows
-    pub broken : (h : StoredHead) (text : List ℕ) (w : WorldValue) → ¬ AreOwnRow rows h text w
-
-  -- the first rule that is broken
-  abbrev pub IsDamaged : Rule → Type 0
-  IsDamaged OneRow = BreaksOneRow
-  IsDamaged Ranges = (KeepsOneRow × HasOtherType other_selects) ⊎ BreaksRule Ranges
-  IsDamaged Names = BreaksRule Names
-  IsDamaged Known = BreaksRule Known
-  IsDamaged Next = BreaksRule Next
-  IsDamaged Days = BreaksRule Days
-  IsDamaged Gone = BreaksRule Gone
-  IsDamaged Owners = BreaksRule Owners
-  IsDamaged Water = BreaksRule Water
-  IsDamaged Guards = BreaksRule Guards
-  IsDamaged Books = BreaksRule Books
-  IsDamaged Mail = BreaksRule Mail
-
-  -- ---- Store and Memory
-
-  -- one of the other tables can't be read, for another cause than memory
-  abbrev pub CannotRead : Type 0
-  CannotRead = RefusesOne other_selects read.Store ⊎ RefusesOne other_selects read.Refused
+  -- ---- the disk and the memory
 
   -- the disk failed as the tables were read
   pub record FailedMeanwhile : Type 0 where
@@ -190,27 +178,115 @@ module _ {S : Type 0} (g : Ghosts S) (old : Held S) where
     pub refused : FailsToQuery (selection campaign_table 1) [] (state g before) (state g during) error
     pub memory_is : is_memory error ≡ memory
 
+  -- Memory is told in no transaction, where the SELECT of the campaign's own row is refused for want of memory or is answered: what is behind it may want memory anywhere.
+  abbrev pub WantsMemory : Type 0
+  WantsMemory = (old.in_transaction ≡ false) × (RefusesToSelect g (selection campaign_table 1) old read.Memory ⊎ ((rows : List Row) × Selects g (selection campaign_table 1) old rows))
+
+-- ---- by format
+
+module _ (f : Format) {S : Type 0} (g : Ghosts S) (old : Held S) where
+  -- They are the tables of the format, and no two rows of one whose key is not the row's number are kept at one place.
+  pub record AreMade : Type 0 where
+    pub begins : HasTablesOf f old.schema
+    pub keyed : (table : Table) → Has (placed_tables f) table → IsKeyed ((state g old).now.trees table.tree)
+
+  -- The tables are made so, they keep the first rule, and of the rows that they have this is the first rule that is broken.
+  pub record BreaksRule (rule : Rule) : Type 0 where
+    pub made : AreMade
+    pub world : WorldValue
+    pub text : List ℕ
+    pub is_world : world_by f text ≡ Ok world
+    pub parts : Parts
+    pub rows : HaveRows f (state g old).now.trees text parts
+    pub first : IsFirstBroken f world parts rule
+
+  -- The campaign's own rows keep the first rule.
+  pub record KeepsOneRow : Type 0 where
+    pub rows : List Row
+    pub selects : Selects g (selection campaign_table 1) old rows
+    pub head : StoredHead
+    pub text : List ℕ
+    pub world : WorldValue
+    pub own : AreOwnRow f rows head text world
+
+  -- They do not, and are not one of the other format.
+  pub record BreaksOneRow : Type 0 where
+    pub rows : List Row
+    pub selects : Selects g (selection campaign_table 1) old rows
+    pub broken : (h : StoredHead) (text : List ℕ) (w : WorldValue) → ¬ AreOwnRow f rows h text w
+    pub of_format : ¬ IsOther f rows
+
+  -- the first rule that is broken
+  abbrev pub IsDamaged : Rule → Type 0
+  IsDamaged OneRow = BreaksOneRow
+  IsDamaged Ranges = (KeepsOneRow × HasOtherType g old (other_selects f)) ⊎ BreaksRule Ranges
+  IsDamaged Names = BreaksRule Names
+  IsDamaged Known = BreaksRule Known
+  IsDamaged Next = BreaksRule Next
+  IsDamaged Days = BreaksRule Days
+  IsDamaged Gone = BreaksRule Gone
+  IsDamaged Owners = BreaksRule Owners
+  IsDamaged Water = BreaksRule Water
+  IsDamaged Guards = BreaksRule Guards
+  IsDamaged Books = BreaksRule Books
+  IsDamaged Mail = BreaksRule Mail
+
+  -- ---- Store and Memory
+
+  -- one of the other tables can't be read, for another cause than memory
+  abbrev pub CannotRead : Type 0
+  CannotRead = RefusesOne g old (other_selects f) read.Store ⊎ RefusesOne g old (other_selects f) read.Refused
+
   -- all is read and each value is of its type, but the tables are made otherwise, or the disk fails before they are known to be a campaign's
   abbrev pub CannotConfirm : Type 0
-  CannotConfirm = AreToldTyped other_selects × ((¬ AreMade) ⊎ (FailedMeanwhile ⊎ RefusesAgain false))
+  CannotConfirm = AreToldTyped g old (other_selects f) × ((¬ AreMade) ⊎ (FailedMeanwhile g old ⊎ RefusesAgain g old false))
 
   -- Store is told in a transaction, where the SELECT of the campaign's own row is refused for the disk, for size or for steps, or, once that row keeps the first rule, where another table can't be read or the tables can't be confirmed.
   abbrev pub FailsToLoad : Type 0
   FailsToLoad = (old.in_transaction ≡ true) ⊎ (RefusesToSelect g (selection campaign_table 1) old read.Store ⊎ (KeepsOneRow × (CannotRead ⊎ CannotConfirm)))
 
-  -- Memory is told in no transaction, where that SELECT is refused for want of memory or is answered: what is behind it may want memory anywhere.
-  abbrev pub WantsMemory : Type 0
-  WantsMemory = (old.in_transaction ≡ false) × (RefusesToSelect g (selection campaign_table 1) old read.Memory ⊎ ((rows : List Row) × Selects g (selection campaign_table 1) old rows))
+  -- the campaign's own rows are one of the other format
+  abbrev pub HasOtherFormat : Type 0
+  HasOtherFormat = (rows : List Row) × Selects g (selection campaign_table 1) old rows × IsOther f rows
 
+  abbrev pub RefusesToLoadIn : LoadFault → Type 0
+  RefusesToLoadIn Store = FailsToLoad
+  RefusesToLoadIn (Damaged rule) = IsDamaged rule
+  RefusesToLoadIn NotACampaign = RefusesToSelect g (selection campaign_table 1) old read.Refused
+  RefusesToLoadIn OtherFormat = HasOtherFormat
+  RefusesToLoadIn Memory = WantsMemory g old
+
+-- The connection is open and in no transaction, and its tables, which are those of the last commit, are those of the format and hold exactly the rows of the text and the campaign.
+pub record StandsIn (f : Format) (s : State) (text : List ℕ) (c : CampaignValue) : Type 0 where
+  pub idle : s.in_transaction ≡ false
+  pub is_open : IsTrue s.is_open
+  pub settled : s.committed ≡ s.now
+  pub begins : HasTablesOf f s.now.schema
+  pub listed : IsSound s.now.schema s.now.trees
+  pub keyed : (table : Table) → Has (map table_of (parts_in f)) table → IsKeyed (s.now.trees table.tree)
+  pub rows : HoldsIn f s.now.trees text c
+
+-- The tables of the format hold the good campaign, of which nothing is marked, and a text of its world.
+pub record LoadsIn (f : Format) {S : Type 0} (g : Ghosts S) (old new : Held S) (w : WorldValue) (c : MarkedCampaign) : Type 0 where
+  pub world : HasCleanDisk (state g new) → world_by f (world_text (state g new)) ≡ Ok w
+  pub stands : HasCleanDisk (state g new) → StandsIn f (state g new) (world_text (state g new)) c.value
+  pub fits : Fits f c.value
+  pub good : IsGood w c.value
+  pub unmarked : c.marks ≡ no_marks
+
+-- ---- of the second format
+
+module _ {S : Type 0} (g : Ghosts S) (old : Held S) where
   abbrev pub RefusesToLoad : StoreFault → Type 0
-  RefusesToLoad Store = FailsToLoad
-  RefusesToLoad (Damaged rule) = IsDamaged rule
-  RefusesToLoad NotACampaign = RefusesToSelect g (selection campaign_table 1) old read.Refused
-  RefusesToLoad Memory = WantsMemory
+  RefusesToLoad store.Store = RefusesToLoadIn Second g old Store
+  RefusesToLoad (store.Damaged rule) = RefusesToLoadIn Second g old (Damaged rule)
+  RefusesToLoad store.NotACampaign = RefusesToLoadIn Second g old NotACampaign
+  RefusesToLoad store.OldFormat = RefusesToLoadIn Second g old OtherFormat
+  RefusesToLoad store.Memory = RefusesToLoadIn Second g old Memory
 
   -- The connection holds the good campaign, of which nothing is marked, and a text of its world.
   pub record Loads (new : Held S) (w : WorldValue) (c : MarkedCampaign) : Type 0 where
-    pub world : HasCleanDisk (state g new) → old_world_of (world_text (state g new)) ≡ Ok w
+    pub world : HasCleanDisk (state g new) → world_of (world_text (state g new)) ≡ Ok w
     pub tables : HoldsCampaign g new (world_text (state g new)) c.value
     pub good : IsGood w c.value
     pub unmarked : c.marks ≡ no_marks

@@ -9,7 +9,8 @@ use Rattle.sqlite.specs.Order.{Row}
 use Rattle.sqlite.specs.State.{State, HasCleanDisk, Survives, Shown, FailsToQuery}
 use Rattle.sqlite.specs.Table.{Table}
 use Rattle.atl_store.specs.Sets.{visible}
-use Rattle.atl_store.specs.Tables.{HasAll}
+use Rattle.atl_tables.specs.declared.format.Format.{Format}
+use Rattle.atl_store.specs.Tables.{HasTablesOf}
 use Rattle.atl_store.specs.Faults.{read_fault}
 use Rattle.atl_store.specs.Stored.{Form, first_columns, AreTyped}
 use Rattle.atl_store.specs.declared.fault.ReadFault.{ReadFault}
@@ -55,9 +56,9 @@ module _ {S : Type 0} (g : Ghosts S) (sql : List ℕ) (old : Held S) where
     pub survives : Survives (state g old) (state g new) (λ _. ⊥)
     pub idle : new.in_transaction ≡ false
 
--- these are all rows of the table, each once, where the schema begins with the tables of a campaign
-abbrev pub GivesTable : {S A Z : Type 0} → Ghosts S → (Trees → List Row) → (A → Row) → Result (Vec A Z) ReadFault → Held S → Held S → Type 0
-GivesTable g in_table shown result old new = HasCleanDisk (state g new) → HasAll old.schema → IfOk result (λ all. IsPermutation (in_table (state g old).now.trees) (map shown all.items))
+-- these are all rows of the table, each once, where the schema begins with the tables of the format since which it is there
+abbrev pub GivesTable : {S A Z : Type 0} → Ghosts S → Format → (Trees → List Row) → (A → Row) → Result (Vec A Z) ReadFault → Held S → Held S → Type 0
+GivesTable g since in_table shown result old new = HasCleanDisk (state g new) → HasTablesOf since old.schema → IfOk result (λ all. IsPermutation (in_table (state g old).now.trees) (map shown all.items))
 
 -- of a table whose key is not the row's number: each row with the place that the database keeps it at
 abbrev pub placed_rows_in : Table → Trees → List Row

@@ -1,8 +1,9 @@
 //! Why the store gives up.
 ghost use Rattle.std.specs.Prelude.{◌≡◌};
-ghost use Rattle.atl_store.specs.Faults.{read_fault, value_fault, write_fault, create_fault, store_fault, reopening_fault, judged_fault, fault_number};
+ghost use Rattle.atl_store.specs.Faults.{read_fault, value_fault, write_fault, create_fault, store_fault, reopening_fault, load_fault, judged_fault, second_fault, upgrade_fault, first_fault, new_world_fault, fault_number, upgrade_number};
 
 use atl_state::{CheckFault, Rule};
+use atl_tables::WorldFault;
 use sqlite::{Error, ErrorCode};
 use sqlite_trees::error::StoreError;
 use std::alloc::{AllocError, AllocFailed};
@@ -75,6 +76,7 @@ pub enum LoadFault {
 }
 
 /// Why no file is upgraded. While the connection is open the tables are as they were; a crash leaves them so, or upgraded.
+/// See docs/FORMATS.md, "Tables".
 #[derive(Drop, Debug)]
 pub enum UpgradeFault {
     /// The database refuses for another cause than memory, is in a transaction, or has other tables than those of the first format.
@@ -131,6 +133,19 @@ impl fmt::Display for StoreFault {
 }
 
 impl std::error::Error for StoreFault {}
+
+/// Its name; of `Damaged` the rule's number, too, as `Damaged 11`; of `World` what is told of the world text.
+impl fmt::Display for UpgradeFault {
+    fn fmt<W: fmt::Write>(&self, f: &mut fmt::Formatter<W>) -> fmt::Result {
+        match self {
+            UpgradeFault::Damaged(rule) => write!(f, "Damaged {}", rule.number()),
+            UpgradeFault::World(fault) => write!(f, "World: {fault}"),
+            fault => write!(f, "{fault:?}"),
+        }
+    }
+}
+
+impl std::error::Error for UpgradeFault {}
 
 impl From<Error> for WriteFault {
     ghost from_gives = { λ error fault. fault ≡ write_fault error };
@@ -215,24 +230,95 @@ impl From<StoreError> for StoreFault {
     }
 }
 
-impl From<AllocError> for StoreFault {
-    ghost use Rattle.atl_store.specs.declared.fault.StoreFault.TheVariants.{Memory};
+impl From<LoadFault> for StoreFault {
+    ghost from_gives = { λ fault told. told ≡ second_fault fault };
 
-    ghost from_gives = { λ _ fault. fault ≡ Memory };
-
-    fn from(_e: AllocError) -> StoreFault {
-        StoreFault::Memory
+    fn from(fault: LoadFault) -> StoreFault {
+        match fault {
+            LoadFault::Store => StoreFault::Store,
+            LoadFault::Damaged(rule) => StoreFault::Damaged(rule),
+            LoadFault::NotACampaign => StoreFault::NotACampaign,
+            LoadFault::OtherFormat => StoreFault::OldFormat,
+            LoadFault::Memory => StoreFault::Memory,
+        }
     }
 }
 
-impl From<CheckFault> for StoreFault {
+impl From<Error> for LoadFault {
+    ghost from_gives = { λ error fault. fault ≡ load_fault error };
+
+    fn from(error: Error) -> LoadFault {
+        match error {
+            Error::SqliteFailure(ErrorCode::OutOfMemory) => LoadFault::Memory,
+            _ => LoadFault::Store,
+        }
+    }
+}
+
+impl From<AllocError> for LoadFault {
+    ghost use Rattle.atl_store.specs.declared.fault.LoadFault.TheVariants.{Memory};
+
+    ghost from_gives = { λ _ fault. fault ≡ Memory };
+
+    fn from(_e: AllocError) -> LoadFault {
+        LoadFault::Memory
+    }
+}
+
+impl From<CheckFault> for LoadFault {
     ghost from_gives = { λ fault told. told ≡ judged_fault fault };
 
-    fn from(fault: CheckFault) -> StoreFault {
+    fn from(fault: CheckFault) -> LoadFault {
         match fault {
-            CheckFault::Damaged(rule) => StoreFault::Damaged(rule),
-            CheckFault::Memory => StoreFault::Memory,
+            CheckFault::Damaged(rule) => LoadFault::Damaged(rule),
+            CheckFault::Memory => LoadFault::Memory,
         }
+    }
+}
+
+impl From<LoadFault> for UpgradeFault {
+    ghost from_gives = { λ fault told. told ≡ first_fault fault };
+
+    fn from(fault: LoadFault) -> UpgradeFault {
+        match fault {
+            LoadFault::Store => UpgradeFault::Store,
+            LoadFault::Damaged(rule) => UpgradeFault::Damaged(rule),
+            LoadFault::NotACampaign => UpgradeFault::NotACampaign,
+            LoadFault::OtherFormat => UpgradeFault::NotOld,
+            LoadFault::Memory => UpgradeFault::Memory,
+        }
+    }
+}
+
+impl From<WorldFault> for UpgradeFault {
+    ghost from_gives = { λ fault told. told ≡ new_world_fault fault };
+
+    fn from(fault: WorldFault) -> UpgradeFault {
+        match fault {
+            WorldFault::Memory => UpgradeFault::Memory,
+            fault => UpgradeFault::World(fault),
+        }
+    }
+}
+
+impl From<Error> for UpgradeFault {
+    ghost from_gives = { λ error fault. fault ≡ upgrade_fault error };
+
+    fn from(error: Error) -> UpgradeFault {
+        match error {
+            Error::SqliteFailure(ErrorCode::OutOfMemory) => UpgradeFault::Memory,
+            _ => UpgradeFault::Store,
+        }
+    }
+}
+
+impl From<AllocError> for UpgradeFault {
+    ghost use Rattle.atl_store.specs.declared.fault.UpgradeFault.TheVariants.{Memory};
+
+    ghost from_gives = { λ _ fault. fault ≡ Memory };
+
+    fn from(_e: AllocError) -> UpgradeFault {
+        UpgradeFault::Memory
     }
 }
 
@@ -245,7 +331,25 @@ impl StoreFault {
             StoreFault::Store => Some(1),
             StoreFault::Damaged(_) => Some(2),
             StoreFault::NotACampaign => Some(3),
+            StoreFault::OldFormat => Some(4),
             StoreFault::Memory => None,
+        }
+    }
+}
+
+impl UpgradeFault {
+    /// The fault's number, from 1; `Memory` has none.
+    pub fn number(&self) -> Option<u8>
+        ensures { result ≡ upgrade_number self.now }
+    {
+        match self {
+            UpgradeFault::Store => Some(1),
+            UpgradeFault::Damaged(_) => Some(2),
+            UpgradeFault::NotACampaign => Some(3),
+            UpgradeFault::NotOld => Some(4),
+            UpgradeFault::World(_) => Some(5),
+            UpgradeFault::Differs => Some(6),
+            UpgradeFault::Memory => None,
         }
     }
 }

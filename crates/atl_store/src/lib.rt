@@ -20,12 +20,14 @@ pub mod rows;
 pub mod schema;
 mod statement;
 pub mod tables;
+mod upgrading;
 
 pub use alike::one_database_holds_one_campaign;
 pub use changing::write_changes;
-pub use fault::{CreateFault, ReadFault, StoreFault, WriteFault};
+pub use fault::{CreateFault, ReadFault, StoreFault, UpgradeFault, WriteFault};
 pub use founding::create;
 pub use joining::write_join;
 pub use loading::load;
 pub use mailing::write_mail;
 pub use reopening::reopened;
+pub use upgrading::upgrade;

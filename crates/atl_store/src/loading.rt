@@ -3,17 +3,17 @@ ghost use Rattle.std.specs.Prelude.{◌≡◌, false, IfOk, IfErr};
 ghost use Rattle.sqlite.specs.Held.{state};
 ghost use Rattle.sqlite.specs.State.{HasCleanDisk};
 ghost use Rattle.atl_store.specs.Gathering.{IsSettled, Gathered, IsLoaded};
-ghost use Rattle.atl_store.specs.Loading.{Leaves, Loads, RefusesToLoad, LeavesAlone};
+ghost use Rattle.atl_store.specs.Loading.{Leaves, Loads, LoadsIn, RefusesToLoad, RefusesToLoadIn, LeavesAlone};
 
 mod confirmed;
 mod gathered;
 mod others;
 mod own;
 
-use crate::fault::StoreFault;
+use crate::fault::{LoadFault, StoreFault};
 use atl_state::parts::Parts;
-use atl_state::{Campaign, Rule, check};
-use atl_tables::World;
+use atl_state::{Campaign, Rule, check_as};
+use atl_tables::{Format, World};
 use confirmed::confirm;
 use gathered::parts_with;
 use others::read_others;
@@ -21,17 +21,21 @@ use own::read_own;
 use sqlite::{Alter, Connection};
 use std::alloc::Global;
 
-/// The world, and the rows of all tables.
-fn gather<S: Alter>(alloc: Global, conn: &mut Connection<S>) -> Result<(World, Parts), StoreFault>
+/// The world, and the rows of all tables of the format.
+fn gather<S: Alter>(
+    alloc: Global,
+    conn: &mut Connection<S>,
+    format: Format,
+) -> Result<(World, Parts), LoadFault>
     requires idle { conn.old.in_transaction ≡ false }
     requires settled { IsSettled (state S.Store conn.old) }
-    ensures ok { HasCleanDisk (state S.Store conn.new) → IfOk result (λ both. Gathered S.Store conn.old both.0 both.1) }
-    ensures err { HasCleanDisk (state S.Store conn.new) → IfErr result (RefusesToLoad S.Store conn.old) }
+    ensures ok { HasCleanDisk (state S.Store conn.new) → IfOk result (λ both. Gathered format S.Store conn.old both.0 both.1) }
+    ensures err { HasCleanDisk (state S.Store conn.new) → IfErr result (RefusesToLoadIn format S.Store conn.old) }
     ensures leaves { Leaves S.Store conn.old conn.new }
 {
-    let (own, world) = read_own(alloc, conn)?;
-    let Some(others) = read_others(alloc, conn)? else {
-        return Err(StoreFault::Damaged(Rule::Ranges));
+    let (own, world) = read_own(alloc, conn, format)?;
+    let Some(others) = read_others(alloc, conn, format)? else {
+        return Err(LoadFault::Damaged(Rule::Ranges));
     };
     let parts = parts_with(alloc, own.into_head(), others)?;
     Ok((world, parts))
@@ -41,24 +45,44 @@ fn gather<S: Alter>(alloc: Global, conn: &mut Connection<S>) -> Result<(World, P
 fn load_idle<S: Alter>(
     alloc: Global,
     conn: &mut Connection<S>,
-) -> Result<(World, Campaign), StoreFault>
+    format: Format,
+) -> Result<(World, Campaign), LoadFault>
     requires idle { conn.old.in_transaction ≡ false }
     requires settled { IsSettled (state S.Store conn.old) }
-    ensures ok { IfOk result (λ both. IsLoaded S.Store conn.old conn.new both.0 both.1) }
-    ensures err { HasCleanDisk (state S.Store conn.new) → IfErr result (RefusesToLoad S.Store conn.old) }
+    ensures ok { IfOk result (λ both. IsLoaded format S.Store conn.old conn.new both.0 both.1) }
+    ensures err { HasCleanDisk (state S.Store conn.new) → IfErr result (RefusesToLoadIn format S.Store conn.old) }
     ensures leaves { Leaves S.Store conn.old conn.new }
 {
-    let (world, parts) = gather(alloc, conn)?;
-    confirm(conn)?;
-    let campaign = check(alloc, &world, parts)?;
+    let (world, parts) = gather(alloc, conn, format)?;
+    confirm(conn, format)?;
+    let campaign = check_as(alloc, &world, parts, format)?;
     Ok((world, campaign))
 }
 
+/// Loads the campaign that the tables hold in a format, with its world; nothing of it is marked, and it is good. Nothing is
+/// changed, whatever is answered. OtherFormat: the campaign's own rows are one, of the other format, whatever else it says. The
+/// other faults are told as by `load`. See docs/FORMATS.md, "Rules of the tables".
+pub(crate) fn load_as<S: Alter>(
+    alloc: Global,
+    conn: &mut Connection<S>,
+    format: Format,
+) -> Result<(World, Campaign), LoadFault>
+    ensures ok { IfOk result (λ both. LoadsIn format S.Store conn.old conn.new both.0 both.1) }
+    ensures err { HasCleanDisk (state S.Store conn.new) → IfErr result (RefusesToLoadIn format S.Store conn.old) }
+    ensures alone { LeavesAlone S.Store conn.old conn.new }
+{
+    if !conn.is_autocommit() {
+        return Err(LoadFault::Store);
+    }
+    load_idle(alloc, conn, format)
+}
+
 /// Loads the campaign that the tables hold, with its world; nothing of it is marked, and it is good. Nothing is changed,
-/// whatever is answered. NotACampaign: the campaign's own row can't be asked for. Damaged: the rows break this rule of the
-/// tables, and none before it; a value of another type in the campaign's own row breaks the first, one in another table the
-/// second. Store: the connection is in a transaction, a table can't be read, the tables or indexes are not made as `create`
-/// makes them, there is a view or a trigger, or the disk fails. See docs/FORMATS.md, "Rules of the tables".
+/// whatever is answered. NotACampaign: the campaign's own row can't be asked for. OldFormat: the campaign's own rows are one,
+/// whose format is the first, whatever else it says. Damaged: the rows break this rule of the tables, and none before it; a
+/// value of another type in the campaign's own row breaks the first, one in another table the second. Store: the connection is
+/// in a transaction, a table can't be read, the tables or indexes are not made as `create` makes them, there is a view or a
+/// trigger, or the disk fails. See docs/FORMATS.md, "Rules of the tables".
 pub fn load<S: Alter>(
     alloc: Global,
     conn: &mut Connection<S>,
@@ -67,8 +91,6 @@ pub fn load<S: Alter>(
     ensures err { HasCleanDisk (state S.Store conn.new) → IfErr result (RefusesToLoad S.Store conn.old) }
     ensures alone { LeavesAlone S.Store conn.old conn.new }
 {
-    if !conn.is_autocommit() {
-        return Err(StoreFault::Store);
-    }
-    load_idle(alloc, conn)
+    let both = load_as(alloc, conn, Format::Second)?;
+    Ok(both)
 }

@@ -1,4 +1,5 @@
 //! The stocks of markets, written row by row.
+ghost use Rattle.std.specs.FinMap.{entries};
 ghost use Rattle.atl_store.specs.Tables.{market_table};
 ghost use Rattle.atl_store.specs.Rows.{MarketRowsOf};
 ghost use Rattle.atl_store.specs.Lines.{stock_lines, stocks_lines, region_lines, all_stocks_lines};
@@ -8,7 +9,7 @@ ghost use Rattle.atl_store.specs.Writes.{WritesRows};
 use crate::grouped::Grouped;
 use crate::rows::market::{drop_stocks, put_stock};
 use atl_state::{Campaign, Region};
-use atl_tables::{Entries, MarkedNumbers};
+use atl_tables::{Entries, MarkedNumbers, Numbered};
 use sqlite::{Alter, Error, Transaction};
 
 /// Puts the row of a stock that is not 0.
@@ -30,11 +31,11 @@ fn put_some<S: Alter>(
 fn put_stocks<S: Alter>(
     tx: &mut Transaction<'_, S>,
     region: u32,
-    stocks: Entries<'_, u32>,
+    stocks: &Numbered<u32>,
 ) -> Result<(), Error>
-    ensures { WritesRows S.Store market_table 2 (stocks_lines region stocks.entry) result tx.old.conn tx.new.conn }
+    ensures { WritesRows S.Store market_table 2 (stocks_lines region (entries stocks.now)) result tx.old.conn tx.new.conn }
 {
-    for (item, stock) in stocks {
+    for (item, stock) in stocks.iter() {
         put_some(tx, region, item, *stock)?;
     }
     Ok(())
@@ -48,7 +49,7 @@ pub(crate) fn put_all_stocks<S: Alter>(
     ensures { WritesRows S.Store market_table 2 (all_stocks_lines regions.entry) result tx.old.conn tx.new.conn }
 {
     for (number, region) in regions {
-        put_stocks(tx, number, region.stocks.iter())?;
+        put_stocks(tx, number, &region.stocks)?;
     }
     Ok(())
 }
@@ -79,7 +80,7 @@ impl Grouped for Region {
     }
 
     fn put_rows<S: Alter>(&self, tx: &mut Transaction<'_, S>, number: u32) -> Result<(), Error> {
-        put_stocks(tx, number, self.stocks.iter())
+        put_stocks(tx, number, &self.stocks)
     }
 
     fn drop_rows<S: Alter>(tx: &mut Transaction<'_, S>, number: u32) -> Result<(), Error> {

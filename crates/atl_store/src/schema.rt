@@ -2,7 +2,8 @@
 ghost use Rattle.std.specs.Prelude.{◌≡◌, ◌≤◌, [], length};
 ghost use Rattle.std.specs.Bool.{Decides};
 ghost use Rattle.std.specs.List.{AllByRecursion};
-ghost use Rattle.atl_store.specs.Tables.{all_tables, all_indexes, AreTables, Begins, HasAll};
+ghost use Rattle.atl_store.specs.UpgradeSteps.{IsJustOld};
+ghost use Rattle.atl_store.specs.Tables.{all_tables, all_indexes, AreTables, Begins, HasAll, HasTablesOf};
 
 mod checks;
 mod columns;
@@ -12,6 +13,7 @@ mod places;
 mod shapes;
 mod tables;
 
+use atl_tables::Format;
 use indexes::are_indexes;
 use sqlite_schema::schema::{Schema, Table};
 use tables::are_first_tables;
@@ -55,6 +57,25 @@ fn begins(schema: &Schema, tables: usize, keys: usize) -> bool
         return false;
     }
     schema.views.is_empty()
+}
+
+/// Whether the schema begins with the tables of a format, as `has_all_tables` says.
+pub(crate) fn has_tables_of(schema: &Schema, format: Format) -> bool
+    ensures { Decides result (HasTablesOf format schema.now) }
+{
+    match format {
+        Format::First => begins(schema, places::FIRST_TABLES, places::FIRST_INDEXES),
+        Format::Second => has_all_tables(schema),
+    }
+}
+
+/// Whether there are just the tables of the first format, and their indexes.
+pub(crate) fn is_just_old(schema: &Schema) -> bool
+    ensures { Decides result (IsJustOld schema.now) }
+{
+    schema.tables.len() == places::FIRST_TABLES
+        && schema.indexes.len() == places::FIRST_INDEXES
+        && has_tables_of(schema, Format::First)
 }
 
 /// Whether the schema begins with the tables of a campaign, made as `create` makes them: after `create` it does. Other

@@ -5,21 +5,22 @@ ghost use Rattle.sqlite.specs.State.{HasCleanDisk};
 ghost use Rattle.atl_store.specs.Gathering.{IsSettled, FailsToConfirm, IsConfirmed};
 ghost use Rattle.atl_store.specs.Loading.{Leaves};
 
-use crate::fault::StoreFault;
-use crate::schema::has_all_tables;
+use crate::fault::LoadFault;
+use crate::schema::has_tables_of;
+use atl_tables::Format;
 use sqlite::{Alter, Connection};
 
 /// Tests the schema, and that the connection is open: a disk that failed as a reading was rolled back has shut it, and nothing
 /// shows that before the next statement.
-pub(crate) fn confirm<S: Alter>(conn: &mut Connection<S>) -> Result<(), StoreFault>
+pub(crate) fn confirm<S: Alter>(conn: &mut Connection<S>, format: Format) -> Result<(), LoadFault>
     requires idle { conn.old.in_transaction ≡ false }
     requires settled { IsSettled (state S.Store conn.old) }
-    ensures ok { HasCleanDisk (state S.Store conn.new) → OnOk result (IsConfirmed (state S.Store conn.old) (state S.Store conn.new)) }
-    ensures fails { HasCleanDisk (state S.Store conn.new) → IfErr result (FailsToConfirm S.Store conn.old) }
+    ensures ok { HasCleanDisk (state S.Store conn.new) → OnOk result (IsConfirmed format (state S.Store conn.old) (state S.Store conn.new)) }
+    ensures fails { HasCleanDisk (state S.Store conn.new) → IfErr result (FailsToConfirm S.Store conn.old format) }
     ensures leaves { Leaves S.Store conn.old conn.new }
 {
-    if !has_all_tables(conn.schema()) {
-        return Err(StoreFault::Store);
+    if !has_tables_of(conn.schema(), format) {
+        return Err(LoadFault::Store);
     }
     conn.query_all(
         "SELECT id, format, month, next_faction, next_unit, next_structure, pass, world FROM campaign ORDER BY id",

@@ -1,10 +1,10 @@
 //! The rows of the tables, as they are judged.
 ghost use Rattle.std.specs.Prelude.{◌≡◌, map, Ok, Err, if◌then◌else◌, IfOk, IfErr};
 ghost use Rattle.std.specs.Bool.{Decides};
-ghost use Rattle.atl_store.specs.declared.fault.StoreFault.TheVariants.{Store};
-ghost use Rattle.atl_store.specs.Gathering.{Lacks, AreApart, IsMadeOf};
+ghost use Rattle.atl_store.specs.declared.fault.LoadFault.TheVariants.{Store};
+ghost use Rattle.atl_store.specs.Gathering.{Lacks, AreApart, AreAllApart, IsMadeOf};
 
-use crate::fault::StoreFault;
+use crate::fault::LoadFault;
 use crate::loading::others::Others;
 use crate::rows::Placed;
 use atl_state::are_distinct;
@@ -43,18 +43,18 @@ fn unplaced<T: Drop>(alloc: Global, placed: Vec<Placed<T>>) -> Result<Sequence<T
 }
 
 /// Store, where two rows are kept at one place.
-fn told_apart(are_apart: bool) -> Result<(), StoreFault>
+fn told_apart(are_apart: bool) -> Result<(), LoadFault>
     ensures { result ≡ (if are_apart then Ok tt else Err Store) }
 {
     if are_apart {
         Ok(())
     } else {
-        Err(StoreFault::Store)
+        Err(LoadFault::Store)
     }
 }
 
 /// The rows without their places, which have to differ.
-fn rows_apart<T: Drop>(alloc: Global, placed: Vec<Placed<T>>) -> Result<Sequence<T>, StoreFault>
+fn rows_apart<T: Drop>(alloc: Global, placed: Vec<Placed<T>>) -> Result<Sequence<T>, LoadFault>
     ensures ok { IfOk result (λ rows. (rows ≡ map (λ s. s.row) placed.items) × AreApart placed.items) }
     ensures fails { IfErr result (Lacks (AreApart placed.items)) }
 {
@@ -68,13 +68,15 @@ pub(crate) fn parts_with(
     alloc: Global,
     head: StoredHead,
     others: Others,
-) -> Result<Parts, StoreFault>
+) -> Result<Parts, LoadFault>
     ensures ok { IfOk result (λ parts. IsMadeOf head others parts) }
-    ensures fails { IfErr result (Lacks (AreApart others.0.1.1.items × AreApart others.1.1.items)) }
+    ensures fails { IfErr result (Lacks (AreAllApart others)) }
 {
-    let ((((factions, regions), reports), (units, has)), ((structures, mail), books)) = others;
+    let (((((factions, regions), reports), (units, has)), ((structures, mail), books)), markets) =
+        others;
     let has = rows_apart(alloc, has)?;
     let books = rows_apart(alloc, books)?;
+    let markets = rows_apart(alloc, markets)?;
     let mut campaign = Sequence::new(alloc);
     campaign.push(head)?;
     Ok(Parts {
@@ -87,6 +89,6 @@ pub(crate) fn parts_with(
         mail: Sequence::from_vec(mail),
         reports: Sequence::from_vec(reports),
         books,
-        markets: Sequence::new(alloc),
+        markets,
     })
 }

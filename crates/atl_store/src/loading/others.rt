@@ -2,15 +2,16 @@
 //! only where none of them fails to be read.
 ghost use Rattle.std.specs.Prelude.{◌≡◌, false, [], ◌∷◌};
 ghost use Rattle.sqlite.specs.Held.{state};
-ghost use Rattle.atl_store.specs.Gathering.{IsSettled, kept_of, AreRows, AreTwo, AreThree, AreOthers, ReadsSome};
-ghost use Rattle.atl_store.specs.Loading.{other_selects};
+ghost use Rattle.atl_store.specs.Gathering.{IsSettled, kept_of, AreRows, AreTwo, AreThree, AreEight, AreOthers, ReadsSome};
+ghost use Rattle.atl_store.specs.Loading.{eight_selects, other_selects};
 
-use crate::fault::{ReadFault, StoreFault};
+use crate::fault::{LoadFault, ReadFault};
 use crate::rows::{Listed, Placed};
 use atl_state::parts::{
-    StoredBooks, StoredFaction, StoredHas, StoredMail, StoredRegion, StoredReport, StoredStructure,
-    StoredUnit,
+    StoredBooks, StoredFaction, StoredHas, StoredMail, StoredMarket, StoredRegion, StoredReport,
+    StoredStructure, StoredUnit,
 };
+use atl_tables::Format;
 use sqlite::{Alter, Connection};
 use std::alloc::Global;
 
@@ -26,18 +27,21 @@ pub(crate) type Works = (
     Vec<Placed<StoredBooks>>,
 );
 
+/// The eight that both formats have.
+pub(crate) type Eight = ((Places, People), Works);
+
 /// All of them.
-pub(crate) type Others = ((Places, People), Works);
+pub(crate) type Others = (Eight, Vec<Placed<StoredMarket>>);
 
 /// The rows of a table. There are none where a value is of another type.
-fn kept<T: Drop>(rows: Result<Vec<T>, ReadFault>) -> Result<Option<Vec<T>>, StoreFault>
+fn kept<T: Drop>(rows: Result<Vec<T>, ReadFault>) -> Result<Option<Vec<T>>, LoadFault>
     ensures { result ≡ kept_of rows }
 {
     match rows {
         Ok(rows) => Ok(Some(rows)),
         Err(ReadFault::OtherType) => Ok(None),
-        Err(ReadFault::Memory) => Err(StoreFault::Memory),
-        Err(ReadFault::Store | ReadFault::Refused) => Err(StoreFault::Store),
+        Err(ReadFault::Memory) => Err(LoadFault::Memory),
+        Err(ReadFault::Store | ReadFault::Refused) => Err(LoadFault::Store),
     }
 }
 
@@ -45,10 +49,10 @@ fn kept<T: Drop>(rows: Result<Vec<T>, ReadFault>) -> Result<Option<Vec<T>>, Stor
 fn read_one<A: Listed, S: Alter>(
     alloc: Global,
     conn: &mut Connection<S>,
-) -> Result<Option<Vec<A>>, StoreFault>
+) -> Result<Option<Vec<A>>, LoadFault>
     requires idle { conn.old.in_transaction ≡ false }
     requires settled { IsSettled (state S.Store conn.old) }
-    ensures { ReadsSome S.Store conn.old ((A.Listed.select, A.Stored.forms) ∷ []) (λ all. AreRows S.Store conn.old A.Listed.in_table A.Stored.shown all.items) result conn.new }
+    ensures { ReadsSome S.Store conn.old ((A.Listed.select, A.Stored.forms) ∷ []) (λ all. AreRows S.Store conn.old A.Listed.since A.Listed.in_table A.Stored.shown all.items) result conn.new }
 {
     kept(A::read(alloc, conn))
 }
@@ -57,10 +61,10 @@ fn read_one<A: Listed, S: Alter>(
 fn read_two<A: Listed, B: Listed, S: Alter>(
     alloc: Global,
     conn: &mut Connection<S>,
-) -> Result<Option<(Vec<A>, Vec<B>)>, StoreFault>
+) -> Result<Option<(Vec<A>, Vec<B>)>, LoadFault>
     requires idle { conn.old.in_transaction ≡ false }
     requires settled { IsSettled (state S.Store conn.old) }
-    ensures { ReadsSome S.Store conn.old ((A.Listed.select, A.Stored.forms) ∷ (B.Listed.select, B.Stored.forms) ∷ []) (AreTwo S.Store conn.old A.Listed.in_table A.Stored.shown B.Listed.in_table B.Stored.shown) result conn.new }
+    ensures { ReadsSome S.Store conn.old ((A.Listed.select, A.Stored.forms) ∷ (B.Listed.select, B.Stored.forms) ∷ []) (AreTwo S.Store conn.old A.Listed.since A.Listed.in_table A.Stored.shown B.Listed.since B.Listed.in_table B.Stored.shown) result conn.new }
 {
     let first = read_one::<A, S>(alloc, conn)?;
     let second = read_one::<B, S>(alloc, conn)?;
@@ -71,27 +75,45 @@ fn read_two<A: Listed, B: Listed, S: Alter>(
 fn read_three<A: Listed, B: Listed, C: Listed, S: Alter>(
     alloc: Global,
     conn: &mut Connection<S>,
-) -> Result<Option<((Vec<A>, Vec<B>), Vec<C>)>, StoreFault>
+) -> Result<Option<((Vec<A>, Vec<B>), Vec<C>)>, LoadFault>
     requires idle { conn.old.in_transaction ≡ false }
     requires settled { IsSettled (state S.Store conn.old) }
-    ensures { ReadsSome S.Store conn.old ((A.Listed.select, A.Stored.forms) ∷ (B.Listed.select, B.Stored.forms) ∷ (C.Listed.select, C.Stored.forms) ∷ []) (AreThree S.Store conn.old A.Listed.in_table A.Stored.shown B.Listed.in_table B.Stored.shown C.Listed.in_table C.Stored.shown) result conn.new }
+    ensures { ReadsSome S.Store conn.old ((A.Listed.select, A.Stored.forms) ∷ (B.Listed.select, B.Stored.forms) ∷ (C.Listed.select, C.Stored.forms) ∷ []) (AreThree S.Store conn.old A.Listed.since A.Listed.in_table A.Stored.shown B.Listed.since B.Listed.in_table B.Stored.shown C.Listed.since C.Listed.in_table C.Stored.shown) result conn.new }
 {
     let two = read_two::<A, B, S>(alloc, conn)?;
     let third = read_one::<C, S>(alloc, conn)?;
     Ok(two.zip(third))
 }
 
-/// The rows of the eight tables. There are none where a value of one of them is of another type.
-pub(crate) fn read_others<S: Alter>(
-    alloc: Global,
-    conn: &mut Connection<S>,
-) -> Result<Option<Others>, StoreFault>
+/// The rows of the eight tables that both formats have. There are none where a value of one of them is of another type.
+fn read_eight<S: Alter>(alloc: Global, conn: &mut Connection<S>) -> Result<Option<Eight>, LoadFault>
     requires idle { conn.old.in_transaction ≡ false }
     requires settled { IsSettled (state S.Store conn.old) }
-    ensures { ReadsSome S.Store conn.old other_selects (AreOthers S.Store conn.old) result conn.new }
+    ensures { ReadsSome S.Store conn.old eight_selects (AreEight S.Store conn.old) result conn.new }
 {
     let places = read_three::<StoredFaction, StoredRegion, StoredReport, S>(alloc, conn)?;
     let people = read_two::<StoredUnit, Placed<StoredHas>, S>(alloc, conn)?;
     let works = read_three::<StoredStructure, StoredMail, Placed<StoredBooks>, S>(alloc, conn)?;
     Ok(places.zip(people).zip(works))
+}
+
+/// The rows of all of them, those of markets only by the second format. There are none where a value of one of them is of
+/// another type.
+pub(crate) fn read_others<S: Alter>(
+    alloc: Global,
+    conn: &mut Connection<S>,
+    format: Format,
+) -> Result<Option<Others>, LoadFault>
+    requires idle { conn.old.in_transaction ≡ false }
+    requires settled { IsSettled (state S.Store conn.old) }
+    ensures { ReadsSome S.Store conn.old (other_selects format) (AreOthers S.Store conn.old format) result conn.new }
+{
+    let eight = read_eight(alloc, conn)?;
+    match format {
+        Format::First => Ok(eight.zip(Some(Vec::new(alloc)))),
+        Format::Second => {
+            let markets = read_one::<Placed<StoredMarket>, S>(alloc, conn)?;
+            Ok(eight.zip(markets))
+        }
+    }
 }

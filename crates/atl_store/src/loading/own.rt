@@ -2,28 +2,34 @@
 ghost use Rattle.std.specs.Prelude.{◌≡◌, false, pos, IfOk, IfErr};
 ghost use Rattle.std.specs.Bool.{Decides};
 ghost use Rattle.sqlite.specs.Held.{state};
+ghost use Rattle.sqlite.specs.Order.{column};
 ghost use Rattle.sqlite.specs.State.{HasCleanDisk};
-ghost use Rattle.atl_store.specs.Gathering.{IsSettled, own_fault, only_of, ReadsWorld, JudgesOwn, JudgesRows, OwnRead};
-ghost use Rattle.atl_store.specs.Loading.{Leaves, RefusesToLoad};
+ghost use Rattle.atl_tables.specs.Faults.{Reads};
+ghost use Rattle.atl_tables.specs.Formats.{format_number};
+ghost use Rattle.atl_tables.specs.World.{world_by};
+ghost use Rattle.atl_store.specs.Gathering.{IsSettled, own_fault, only_of, ReadsWorld, JudgesOwn, JudgesRows, JudgesFormat, OwnRead};
+ghost use Rattle.atl_store.specs.Loading.{Leaves, RefusesToLoadIn, IsOther, other_format};
+ghost use Rattle.atl_store.specs.Shown.{int};
 
-use crate::fault::{ReadFault, StoreFault};
+use crate::fault::{LoadFault, ReadFault};
 use crate::rows::campaign::{StoredCampaign, select_campaign};
 use crate::rows::stored::parse_rows;
 use atl_state::Rule;
 use atl_state::parts::StoredHead;
-use atl_tables::{World, WorldFault, read_old_world};
+use atl_tables::{Format, World, WorldFault, read_old_world, read_world};
+use sqlite::types::ValueRef;
 use sqlite::{Alter, Connection, Row};
 use std::alloc::Global;
 
 /// The fault of a campaign's own row that isn't read.
-fn own_fault(fault: ReadFault) -> StoreFault
+fn own_fault(fault: ReadFault) -> LoadFault
     ensures { result ≡ own_fault fault }
 {
     match fault {
-        ReadFault::Store => StoreFault::Store,
-        ReadFault::Refused => StoreFault::NotACampaign,
-        ReadFault::Memory => StoreFault::Memory,
-        ReadFault::OtherType => StoreFault::Damaged(Rule::OneRow),
+        ReadFault::Store => LoadFault::Store,
+        ReadFault::Refused => LoadFault::NotACampaign,
+        ReadFault::Memory => LoadFault::Memory,
+        ReadFault::OtherType => LoadFault::Damaged(Rule::OneRow),
     }
 }
 
@@ -35,60 +41,110 @@ fn only(mut rows: Vec<StoredCampaign>) -> Option<StoredCampaign>
     if rows.is_empty() { last } else { None }
 }
 
-fn is_own(head: &StoredHead) -> bool
-    ensures { Decides result ((head.now.id ≡ pos 1) × (head.now.format ≡ pos 1)) }
+fn is_own(head: &StoredHead, format: Format) -> bool
+    ensures { Decides result ((head.now.id ≡ pos 1) × (head.now.format ≡ pos (format_number format))) }
 {
-    head.id == 1 && head.format == 1
+    head.id == 1 && head.format == i64::from(format.number())
+}
+
+/// The world that a text describes in a format.
+fn world_by(alloc: Global, text: &str, format: Format) -> Result<World, WorldFault>
+    ensures { Reads (λ w. w) result (world_by format text.now) }
+{
+    match format {
+        Format::First => read_old_world(alloc, text),
+        Format::Second => read_world(alloc, text),
+    }
 }
 
 /// The world of a text that a campaign keeps.
-fn world_from(alloc: Global, text: &str) -> Result<World, StoreFault>
-    ensures { ReadsWorld text.now result }
+fn world_from(alloc: Global, text: &str, format: Format) -> Result<World, LoadFault>
+    ensures { ReadsWorld format text.now result }
 {
-    match read_old_world(alloc, text) {
+    match world_by(alloc, text, format) {
         Ok(world) => Ok(world),
-        Err(WorldFault::Memory) => Err(StoreFault::Memory),
-        Err(_) => Err(StoreFault::Damaged(Rule::OneRow)),
+        Err(WorldFault::Memory) => Err(LoadFault::Memory),
+        Err(_) => Err(LoadFault::Damaged(Rule::OneRow)),
     }
 }
 
 /// The only row with its world, where it is as it should be.
-fn judged(alloc: Global, rows: Vec<StoredCampaign>) -> Result<(StoredCampaign, World), StoreFault>
-    ensures { JudgesOwn rows.items result }
+fn judged(
+    alloc: Global,
+    rows: Vec<StoredCampaign>,
+    format: Format,
+) -> Result<(StoredCampaign, World), LoadFault>
+    ensures { JudgesOwn format rows.items result }
 {
     let Some(own) = only(rows) else {
-        return Err(StoreFault::Damaged(Rule::OneRow));
+        return Err(LoadFault::Damaged(Rule::OneRow));
     };
-    if !is_own(&own.head) {
-        return Err(StoreFault::Damaged(Rule::OneRow));
+    if !is_own(&own.head, format) {
+        return Err(LoadFault::Damaged(Rule::OneRow));
     }
-    let world = world_from(alloc, own.world.as_str())?;
+    let world = world_from(alloc, own.world.as_str(), format)?;
     Ok((own, world))
 }
 
 /// The campaign's own row and its world, of the rows that are shown.
-fn own_of(alloc: Global, rows: &[Row]) -> Result<(StoredCampaign, World), StoreFault>
-    ensures { JudgesRows rows.now result }
+fn own_of(alloc: Global, rows: &[Row], format: Format) -> Result<(StoredCampaign, World), LoadFault>
+    ensures { JudgesRows format rows.now result }
 {
     match parse_rows(alloc, rows) {
-        Ok(rows) => judged(alloc, rows),
+        Ok(rows) => judged(alloc, rows, format),
         Err(fault) => Err(own_fault(fault)),
     }
+}
+
+fn other(format: Format) -> Format
+    ensures { result ≡ other_format format }
+{
+    match format {
+        Format::First => Format::Second,
+        Format::Second => Format::First,
+    }
+}
+
+fn says(row: &Row, format: Format) -> bool
+    ensures { Decides result (column row.now 1 ≡ int (format_number format)) }
+{
+    match row.get_ref(1) {
+        Ok(ValueRef::Int(number)) => number == i64::from(format.number()),
+        _ => false,
+    }
+}
+
+/// Whether the rows that are shown are one of the other format, whatever else it says.
+fn is_other(rows: &[Row], format: Format) -> bool
+    ensures { Decides result (IsOther format rows.now) }
+{
+    rows.len() == 1 && says(&rows[0], other(format))
+}
+
+/// The campaign's own row and its world, where the rows that are shown are not one of the other format.
+fn own_in(alloc: Global, rows: &[Row], format: Format) -> Result<(StoredCampaign, World), LoadFault>
+    ensures { JudgesFormat format rows.now result }
+{
+    if is_other(rows, format) {
+        return Err(LoadFault::OtherFormat);
+    }
+    own_of(alloc, rows, format)
 }
 
 /// The campaign's own row, and its world. The rows are judged as they are shown, before their values are typed.
 pub(crate) fn read_own<S: Alter>(
     alloc: Global,
     conn: &mut Connection<S>,
-) -> Result<(StoredCampaign, World), StoreFault>
+    format: Format,
+) -> Result<(StoredCampaign, World), LoadFault>
     requires idle { conn.old.in_transaction ≡ false }
     requires settled { IsSettled (state S.Store conn.old) }
-    ensures ok { HasCleanDisk (state S.Store conn.new) → IfOk result (λ both. OwnRead S.Store conn.old both.0 both.1) }
-    ensures err { HasCleanDisk (state S.Store conn.new) → IfErr result (RefusesToLoad S.Store conn.old) }
+    ensures ok { HasCleanDisk (state S.Store conn.new) → IfOk result (λ both. OwnRead S.Store conn.old format both.0 both.1) }
+    ensures err { HasCleanDisk (state S.Store conn.new) → IfErr result (RefusesToLoadIn format S.Store conn.old) }
     ensures leaves { Leaves S.Store conn.old conn.new }
 {
     match select_campaign(conn) {
-        Ok(rows) => own_of(alloc, rows.as_slice()),
+        Ok(rows) => own_in(alloc, rows.as_slice(), format),
         Err(fault) => Err(own_fault(fault)),
     }
 }

@@ -1,5 +1,6 @@
 //! The table of the books: signed amounts by entry and thing.
 ghost use Rattle.std.specs.Prelude.{◌≡◌, false};
+ghost use Rattle.atl_tables.specs.declared.format.Format.TheVariants.{First};
 ghost use Rattle.atl_store.specs.Tables.{books_table};
 ghost use Rattle.atl_store.specs.Shown.{books_key};
 ghost use Rattle.atl_store.specs.Written.{books_shown};
@@ -19,7 +20,7 @@ use std::alloc::Global;
 /// What is booked of a thing under an entry, which is not 0.
 #[derive(Clone, Copy, Debug)]
 pub struct BooksRow {
-    /// The number of the entry, from 1 to 13.
+    /// The number of the entry, from 1 to 16.
     pub entry: u32,
     /// 0 for money, 1 for people, and 2 more than its number for an item.
     pub thing: u32,
@@ -71,6 +72,8 @@ impl Stored for Placed<StoredBooks> {
 }
 
 impl Listed for Placed<StoredBooks> {
+    ghost since = { First };
+
     ghost select = { placed_selection books_table 2 };
 
     ghost in_table = { placed_rows_in books_table };

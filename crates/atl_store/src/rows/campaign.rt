@@ -1,18 +1,20 @@
 //! The table of the campaign's own row.
 ghost use Rattle.std.specs.Prelude.{◌≡◌, false, not, IsTrue, IfOk, IfErr};
+ghost use Rattle.atl_tables.specs.declared.format.Format.TheVariants.{First};
 ghost use Rattle.atl_store.specs.Faults.{is_memory};
 ghost use Rattle.atl_store.specs.Stored.{first_columns, IsTyped};
 ghost use Rattle.atl_store.specs.Tables.{campaign_table};
 ghost use Rattle.atl_store.specs.Written.{head_shown};
 ghost use Rattle.atl_store.specs.PutsHead.{PutsHead};
 ghost use Rattle.atl_store.specs.Shown.{head_values};
-ghost use Rattle.atl_store.specs.Statements.{campaign_upsert, selection};
+ghost use Rattle.atl_store.specs.Statements.{campaign_upsert, selection, upgrading_upsert};
 ghost use Rattle.atl_store.specs.OwnStatements.{Only};
 ghost use Rattle.atl_store.specs.Writes.{Writes};
 ghost use Rattle.atl_store.specs.Inside.{Inside, HasTables};
 ghost use Rattle.atl_store.specs.StoredRows.{head_stored, head_forms, campaign_stored, campaign_forms};
 ghost use Rattle.atl_store.specs.Sets.{rows_in};
 ghost use Rattle.atl_store.specs.Reading.{Asks};
+ghost use Rattle.atl_store.specs.UpgradeSteps.{UpgradesHead};
 
 use crate::fault::ReadFault;
 use crate::rows::columns::{letters, three_integers, words};
@@ -48,6 +50,28 @@ pub(crate) fn put_campaign<S: Alter>(
     run(
         tx,
         "INSERT INTO campaign (id, format, month, next_faction, next_unit, next_structure, pass, world) VALUES (1, 2, ?1, ?2, ?3, ?4, ?5, ?6) ON CONFLICT (id) DO UPDATE SET month = ?1, next_faction = ?2, next_unit = ?3, next_structure = ?4, pass = ?5",
+        params![
+            row.month,
+            row.next_faction,
+            row.next_unit,
+            row.next_structure,
+            row.pass,
+            world
+        ],
+    )
+}
+
+/// Changes the format and the world text of the row that is there.
+pub(crate) fn put_upgraded<S: Alter>(
+    tx: &mut Transaction<'_, S>,
+    row: &CampaignRow<'_>,
+    world: &str,
+) -> Result<(), Error>
+    ensures { Writes S.Store (Only upgrading_upsert (head_values (head_shown row.now) world.now)) (Inside HasTables (UpgradesHead (head_shown row.now) world.now)) result tx.old.conn tx.new.conn }
+{
+    run(
+        tx,
+        "INSERT INTO campaign (id, format, month, next_faction, next_unit, next_structure, pass, world) VALUES (1, 2, ?1, ?2, ?3, ?4, ?5, ?6) ON CONFLICT (id) DO UPDATE SET format = 2, world = ?6",
         params![
             row.month,
             row.next_faction,
@@ -129,6 +153,8 @@ pub(crate) fn select_campaign<S: Alter>(conn: &mut Connection<S>) -> Result<Vec<
 }
 
 impl Listed for StoredCampaign {
+    ghost since = { First };
+
     ghost select = { selection campaign_table 1 };
 
     ghost in_table = { rows_in campaign_table };

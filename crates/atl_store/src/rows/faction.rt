@@ -1,5 +1,6 @@
 //! The table of factions.
 ghost use Rattle.std.specs.Prelude.{◌≡◌, false, refl};
+ghost use Rattle.atl_tables.specs.declared.format.Format.TheVariants.{First};
 ghost use Rattle.atl_store.specs.Tables.{faction_table};
 ghost use Rattle.atl_store.specs.Statements.{selection};
 ghost use Rattle.atl_store.specs.OwnStatements.{puts_faction, drops_faction};
@@ -82,6 +83,8 @@ impl Stored for StoredFaction {
 }
 
 impl Listed for StoredFaction {
+    ghost since = { First };
+
     ghost select = { selection faction_table 1 };
 
     ghost in_table = { rows_in faction_table };

@@ -1,5 +1,6 @@
 //! The table of what units have: an amount of an item, or days of a skill.
 ghost use Rattle.std.specs.Prelude.{◌≡◌, false, [], ◌∷◌};
+ghost use Rattle.atl_tables.specs.declared.format.Format.TheVariants.{First};
 ghost use Rattle.atl_store.specs.Tables.{has_table};
 ghost use Rattle.atl_store.specs.Shown.{int};
 ghost use Rattle.atl_store.specs.Written.{has_shown, sort_number};
@@ -86,6 +87,8 @@ impl Stored for Placed<StoredHas> {
 }
 
 impl Listed for Placed<StoredHas> {
+    ghost since = { First };
+
     ghost select = { placed_selection has_table 3 };
 
     ghost in_table = { placed_rows_in has_table };

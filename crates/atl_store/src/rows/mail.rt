@@ -1,5 +1,6 @@
 //! The table of mail.
 ghost use Rattle.std.specs.Prelude.{◌≡◌, false, refl};
+ghost use Rattle.atl_tables.specs.declared.format.Format.TheVariants.{First};
 ghost use Rattle.atl_store.specs.Tables.{mail_table};
 ghost use Rattle.atl_store.specs.Statements.{selection};
 ghost use Rattle.atl_store.specs.OwnStatements.{puts_mail, drops_mail};
@@ -80,6 +81,8 @@ impl Stored for StoredMail {
 }
 
 impl Listed for StoredMail {
+    ghost since = { First };
+
     ghost select = { selection mail_table 1 };
 
     ghost in_table = { rows_in mail_table };

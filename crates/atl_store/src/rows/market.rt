@@ -1,5 +1,6 @@
 //! The table of the stocks of markets.
 ghost use Rattle.std.specs.Prelude.{◌≡◌, false, [], ◌∷◌};
+ghost use Rattle.atl_tables.specs.declared.format.Format.TheVariants.{Second};
 ghost use Rattle.atl_store.specs.Tables.{market_table};
 ghost use Rattle.atl_store.specs.Shown.{int, market_row};
 ghost use Rattle.atl_store.specs.Statements.{placed_selection};
@@ -56,6 +57,8 @@ impl Stored for Placed<StoredMarket> {
 }
 
 impl Listed for Placed<StoredMarket> {
+    ghost since = { Second };
+
     ghost select = { placed_selection market_table 2 };
 
     ghost in_table = { placed_rows_in market_table };

@@ -1,5 +1,6 @@
 //! The table of regions.
 ghost use Rattle.std.specs.Prelude.{◌≡◌, false, refl};
+ghost use Rattle.atl_tables.specs.declared.format.Format.TheVariants.{First};
 ghost use Rattle.atl_store.specs.Tables.{region_table};
 ghost use Rattle.atl_store.specs.Statements.{selection};
 ghost use Rattle.atl_store.specs.OwnStatements.{puts_region, drops_region};
@@ -70,6 +71,8 @@ impl Stored for StoredRegion {
 }
 
 impl Listed for StoredRegion {
+    ghost since = { First };
+
     ghost select = { selection region_table 1 };
 
     ghost in_table = { rows_in region_table };

@@ -1,5 +1,6 @@
 //! The table of reports.
 ghost use Rattle.std.specs.Prelude.{◌≡◌, false, refl};
+ghost use Rattle.atl_tables.specs.declared.format.Format.TheVariants.{First};
 ghost use Rattle.atl_store.specs.Tables.{report_table};
 ghost use Rattle.atl_store.specs.Statements.{selection};
 ghost use Rattle.atl_store.specs.OwnStatements.{puts_report, drops_report};
@@ -71,6 +72,8 @@ impl Stored for StoredReport {
 }
 
 impl Listed for StoredReport {
+    ghost since = { First };
+
     ghost select = { selection report_table 1 };
 
     ghost in_table = { rows_in report_table };

@@ -2,6 +2,7 @@
 ghost use Rattle.std.specs.Prelude.{◌≡◌, ◌≢◌, ℕ, List, map, length, false, not, IsTrue, IfOk, IfErr};
 ghost use Rattle.sqlite.specs.Order.{Row as SqlRow};
 ghost use Rattle.sqlite_trees.specs.Tree.{Trees};
+ghost use Rattle.atl_tables.specs.declared.format.Format.{Format};
 ghost use Rattle.atl_store.specs.Faults.{is_memory};
 ghost use Rattle.atl_store.specs.Reading.{Asks, GivesTable, ReadsRows};
 ghost use Rattle.atl_store.specs.Stored.{Form, first_columns, IsTyped, AreTyped};
@@ -27,7 +28,9 @@ pub trait Stored: Drop + Sized {
 
 /// A row of a table of which all rows are read at once.
 pub trait Listed: Stored {
-    // The SELECT of all its columns, and what the table has.
+    // The format since which there is the table, the SELECT of all its columns, and what the table has.
+    ghost since: { Format };
+
     ghost select: { List ℕ };
 
     ghost in_table: { Trees → List SqlRow };
@@ -38,7 +41,7 @@ pub trait Listed: Stored {
     fn read<S: Alter>(alloc: Global, conn: &mut Connection<S>) -> Result<Vec<Self>, ReadFault>
         requires { conn.old.in_transaction ≡ false }
         ensures select { ReadsRows S.Store select conn.old Self.forms Self.shown result conn.new }
-        ensures table { GivesTable S.Store in_table Self.shown result conn.old conn.new };
+        ensures table { GivesTable S.Store since in_table Self.shown result conn.old conn.new };
 }
 
 /// A row of a table that has no number for its rows, with the place that the database keeps it at.

@@ -1,5 +1,6 @@
 //! The table of structures.
 ghost use Rattle.std.specs.Prelude.{◌≡◌, false, refl};
+ghost use Rattle.atl_tables.specs.declared.format.Format.TheVariants.{First};
 ghost use Rattle.atl_store.specs.Tables.{structure_table};
 ghost use Rattle.atl_store.specs.Statements.{selection};
 ghost use Rattle.atl_store.specs.OwnStatements.{puts_structure, drops_structure};
@@ -86,6 +87,8 @@ impl Stored for StoredStructure {
 }
 
 impl Listed for StoredStructure {
+    ghost since = { First };
+
     ghost select = { selection structure_table 1 };
 
     ghost in_table = { rows_in structure_table };

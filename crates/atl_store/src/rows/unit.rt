@@ -1,5 +1,6 @@
 //! The table of units.
 ghost use Rattle.std.specs.Prelude.{◌≡◌, false, refl};
+ghost use Rattle.atl_tables.specs.declared.format.Format.TheVariants.{First};
 ghost use Rattle.atl_store.specs.Tables.{unit_table};
 ghost use Rattle.atl_store.specs.Statements.{selection};
 ghost use Rattle.atl_store.specs.OwnStatements.{puts_unit, drops_unit};
@@ -101,6 +102,8 @@ impl Stored for StoredUnit {
 }
 
 impl Listed for StoredUnit {
+    ghost since = { First };
+
     ghost select = { selection unit_table 1 };
 
     ghost in_table = { rows_in unit_table };

@@ -27,6 +27,11 @@ pub(crate) const TABLES: usize = 10;
 /// How many indexes the keys of its tables have.
 pub(crate) const INDEXES: usize = 4;
 
+/// How many of them, and of the indexes, the first format has.
+pub(crate) const FIRST_TABLES: usize = 9;
+
+pub(crate) const FIRST_INDEXES: usize = 3;
+
 /// In the order in which the tables are made.
 pub(crate) const TREES: [u32; TABLES] = [
     CAMPAIGN, FACTION, REGION, UNIT, HAS, STRUCTURE, MAIL, REPORT, BOOKS, MARKET,

@@ -2,48 +2,52 @@ use Rattle.std.proofs.Common.{subst, inl, arith, IfErr}
 use Rattle.sqlite.specs.Held.{state}
 use Rattle.sqlite.specs.State.{HasCleanDisk}
 use Rattle.atl_store.specs.Gathering.{Found, FailsToRead, AreOthers, IsMadeOf}
-use Rattle.atl_store.specs.Loading.{RefusesToLoad, other_selects}
+use Rattle.atl_store.specs.Loading.{RefusesToLoadIn, other_selects}
 use Rattle.atl_store.proofs.GatherLaws.{found_behind, others_behind}
 use Rattle.atl_store.proofs.LoadedLaws.{own_kept, gathered_with, unread_refuses, unmade_refuses, told_as}
 use Rattle.atl_store.proofs.loading.gather.Goals as goal
 
 pub returns-in_err-others-clause-err : goal.returns-in_err-others-clause-err
 returns-in_err-others-clause-err g c clean =
+    let f = c.args.format in
     let old = c.args.conn.now in
     let mid = c.read_own.new.conn in
     let after_own : HasCleanDisk (state g.S.Store mid) = omega (arith, c.read_others.ensures.leaves.survives.clean, clean) in
-    told_as g.S.Store (RefusesToLoad g.S.Store old) c.in_err-others.field-0.0 c.from_residual-in_err-others.result c.from_residual-in_err-others.ensures.1
-    (unread_refuses g.S.Store old mid c.requires.idle (own_kept g.S.Store old c.in_ok-own.own c.in_ok-own.world (c.in_ok-own.ensures.ok after_own)) c.read_own.ensures.leaves c.in_err-others.field-0.0
-    (subst (λ r. IfErr r (FailsToRead g.S.Store mid other_selects)) c.in_err-others.was (c.read_others.ensures.fails clean)))
+    told_as g.S.Store (RefusesToLoadIn f g.S.Store old) c.in_err-others.field-0.0 c.from_residual-in_err-others.result c.from_residual-in_err-others.ensures.1
+    (unread_refuses f g.S.Store old mid c.requires.idle (own_kept f g.S.Store old c.in_ok-own.own c.in_ok-own.world (c.in_ok-own.ensures.ok after_own)) c.read_own.ensures.leaves c.in_err-others.field-0.0
+    (subst (λ r. IfErr r (FailsToRead g.S.Store mid (other_selects f))) c.in_err-others.was (c.read_others.ensures.fails clean)))
 
 pub returns-in_err-parts-clause-err : goal.returns-in_err-parts-clause-err
 returns-in_err-parts-clause-err g c clean =
+    let f = c.args.format in
     let old = c.args.conn.now in
     let mid = c.read_own.new.conn in
     let after_own : HasCleanDisk (state g.S.Store mid) = omega (arith, c.read_others.ensures.leaves.survives.clean, clean) in
-    told_as g.S.Store (RefusesToLoad g.S.Store old) c.in_err-parts.field-0.0 c.from_residual-in_err-parts.result c.from_residual-in_err-parts.ensures.1
-    (unmade_refuses g.S.Store old c.requires.idle (own_kept g.S.Store old c.in_ok-own.own c.in_ok-own.world (c.in_ok-own.ensures.ok after_own)) c.in-Some.others
-    (subst (Found g.S.Store old other_selects (AreOthers g.S.Store old)) c.in-Some.is (found_behind g.S.Store old mid c.read_others.new.conn c.read_own.ensures.leaves other_selects _ _ c.read_others.result c.read_others.ensures c.in_ok-others.field-0 c.in_ok-others.was
-    (λ same read are. others_behind g.S.Store old mid same read are) clean))
+    told_as g.S.Store (RefusesToLoadIn f g.S.Store old) c.in_err-parts.field-0.0 c.from_residual-in_err-parts.result c.from_residual-in_err-parts.ensures.1
+    (unmade_refuses f g.S.Store old c.requires.idle (own_kept f g.S.Store old c.in_ok-own.own c.in_ok-own.world (c.in_ok-own.ensures.ok after_own)) c.in-Some.others
+    (subst (Found g.S.Store old (other_selects f) (AreOthers g.S.Store old f)) c.in-Some.is (found_behind g.S.Store old mid c.read_others.new.conn c.read_own.ensures.leaves (other_selects f) _ _ c.read_others.result c.read_others.ensures c.in_ok-others.field-0 c.in_ok-others.was
+    (λ same read are. others_behind g.S.Store old mid same f read are) clean))
     c.in_err-parts.field-0.0 c.in_err-parts.ensures.fails)
 
 pub returns-in_default-clause-err : goal.returns-in_default-clause-err
 returns-in_default-clause-err g c clean =
+    let f = c.args.format in
     let old = c.args.conn.now in
     let mid = c.read_own.new.conn in
     let after_own : HasCleanDisk (state g.S.Store mid) = omega (arith, c.read_others.ensures.leaves.survives.clean, clean) in
     inl (
-      own_kept g.S.Store old c.in_ok-own.own c.in_ok-own.world (c.in_ok-own.ensures.ok after_own),
-      subst (Found g.S.Store old other_selects (AreOthers g.S.Store old)) c.in_default.is (found_behind g.S.Store old mid c.read_others.new.conn c.read_own.ensures.leaves other_selects _ _ c.read_others.result c.read_others.ensures c.in_ok-others.field-0 c.in_ok-others.was
-          (λ same read are. others_behind g.S.Store old mid same read are) clean),
+      own_kept f g.S.Store old c.in_ok-own.own c.in_ok-own.world (c.in_ok-own.ensures.ok after_own),
+      subst (Found g.S.Store old (other_selects f) (AreOthers g.S.Store old f)) c.in_default.is (found_behind g.S.Store old mid c.read_others.new.conn c.read_own.ensures.leaves (other_selects f) _ _ c.read_others.result c.read_others.ensures c.in_ok-others.field-0 c.in_ok-others.was
+          (λ same read are. others_behind g.S.Store old mid same f read are) clean),
     )
 
 pub returns-clause-ok : goal.returns-clause-ok
 returns-clause-ok g c clean =
+    let f = c.args.format in
     let old = c.args.conn.now in
     let mid = c.read_own.new.conn in
     let after_own : HasCleanDisk (state g.S.Store mid) = omega (arith, c.read_others.ensures.leaves.survives.clean, clean) in
-    gathered_with g.S.Store old c.in_ok-own.own c.in_ok-own.world c.in-Some.others c.in_ok-parts.parts (c.in_ok-own.ensures.ok after_own)
-    (subst (Found g.S.Store old other_selects (AreOthers g.S.Store old)) c.in-Some.is (found_behind g.S.Store old mid c.read_others.new.conn c.read_own.ensures.leaves other_selects _ _ c.read_others.result c.read_others.ensures c.in_ok-others.field-0 c.in_ok-others.was
-    (λ same read are. others_behind g.S.Store old mid same read are) clean))
+    gathered_with f g.S.Store old c.in_ok-own.own c.in_ok-own.world c.in-Some.others c.in_ok-parts.parts (c.in_ok-own.ensures.ok after_own)
+    (subst (Found g.S.Store old (other_selects f) (AreOthers g.S.Store old f)) c.in-Some.is (found_behind g.S.Store old mid c.read_others.new.conn c.read_own.ensures.leaves (other_selects f) _ _ c.read_others.result c.read_others.ensures c.in_ok-others.field-0 c.in_ok-others.was
+    (λ same read are. others_behind g.S.Store old mid same f read are) clean))
     (subst (λ head. IsMadeOf head c.in-Some.others c.in_ok-parts.parts) c.into_head.ensures c.in_ok-parts.ensures.ok)

@@ -1,12 +1,5 @@
-use Rattle.atl_store.proofs.KeepLaws.{if_ok}
-use Rattle.atl_store.proofs.LoadedLaws.{is_idle, leaves_alone, loads}
+use Rattle.atl_store.proofs.LoadedLaws.{loads}
 use Rattle.atl_store.proofs.loading.load.Goals as goal
 
 pub returns-clause-ok : goal.returns-clause-ok
-returns-clause-ok g c =
-    let old = c.args.conn.now in
-    let new = c.load_idle.new.conn in
-    if_ok c.load_idle.result (λ both loaded. loads g.S.Store old new both.0 both.1 loaded c.load_idle.ensures.leaves (λ clean up. c.is_autocommit.ensures.settled c.if-not-is_autocommit.false up) (λ db up may. g.met.S.Store.settled new.store db up may)) c.load_idle.ensures.ok
-
-pub returns-clause-alone : goal.returns-clause-alone
-returns-clause-alone g c = leaves_alone g.S.Store c.args.conn.now c.load_idle.new.conn (is_idle g.S.Store c.is_autocommit.result c.args.conn.now.in_transaction c.is_autocommit.ensures.value c.if-not-is_autocommit.false) c.load_idle.ensures.leaves
+returns-clause-ok g c = loads g.S.Store c.args.conn.now c.load_as.new.conn (λ db up may. g.met.S.Store.settled c.load_as.new.conn.store db up may) c.in_ok-both.both.0 c.in_ok-both.both.1 c.in_ok-both.ensures.ok

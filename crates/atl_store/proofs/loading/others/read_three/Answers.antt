@@ -12,11 +12,11 @@ returns-in_err-two g c =
 
 pub returns-in_err-third : goal.returns-in_err-third
 returns-in_err-third g c =
-    second_fails g.S.Store ((g.A.Listed.select, g.A.Stored.forms) ∷ (g.B.Listed.select, g.B.Stored.forms) ∷ []) ((g.C.Listed.select, g.C.Stored.forms) ∷ []) _ _ (λ rows. AreRows g.S.Store c.args.conn.now g.C.Listed.in_table g.C.Stored.shown rows.items) c.args.conn.now c.read_two.new.conn c.read_one.new.conn c.read_two.result c.read_one.result c.read_two.ensures c.read_one.ensures c.in_ok-two.two c.in_ok-two.was _ c.in_err-third.field-0.0 _ c.in_err-third.was c.from_residual-in_err-third.ensures.1
+    second_fails g.S.Store ((g.A.Listed.select, g.A.Stored.forms) ∷ (g.B.Listed.select, g.B.Stored.forms) ∷ []) ((g.C.Listed.select, g.C.Stored.forms) ∷ []) _ _ (λ rows. AreRows g.S.Store c.args.conn.now g.C.Listed.since g.C.Listed.in_table g.C.Stored.shown rows.items) c.args.conn.now c.read_two.new.conn c.read_one.new.conn c.read_two.result c.read_one.result c.read_two.ensures c.read_one.ensures c.in_ok-two.two c.in_ok-two.was _ c.in_err-third.field-0.0 _ c.in_err-third.was c.from_residual-in_err-third.ensures.1
 
 pub returns : goal.returns
 returns g c =
     let old = c.args.conn.now in
     let two = c.read_two.new.conn in
-    reads_both g.S.Store ((g.A.Listed.select, g.A.Stored.forms) ∷ (g.B.Listed.select, g.B.Stored.forms) ∷ []) ((g.C.Listed.select, g.C.Stored.forms) ∷ []) _ _ (λ rows. AreRows g.S.Store old g.C.Listed.in_table g.C.Stored.shown rows.items) old two c.read_one.new.conn c.read_two.result c.read_one.result c.read_two.ensures c.read_one.ensures c.in_ok-two.two c.in_ok-two.was c.in_ok-third.third c.in_ok-third.was
-    (λ same rows are. rows_behind g.S.Store old two same g.C.Listed.in_table g.C.Stored.shown rows.items are) c.zip.result c.zip.ensures
+    reads_both g.S.Store ((g.A.Listed.select, g.A.Stored.forms) ∷ (g.B.Listed.select, g.B.Stored.forms) ∷ []) ((g.C.Listed.select, g.C.Stored.forms) ∷ []) _ _ (λ rows. AreRows g.S.Store old g.C.Listed.since g.C.Listed.in_table g.C.Stored.shown rows.items) old two c.read_one.new.conn c.read_two.result c.read_one.result c.read_two.ensures c.read_one.ensures c.in_ok-two.two c.in_ok-two.was c.in_ok-third.third c.in_ok-third.was
+    (λ same rows are. rows_behind g.S.Store old two same g.C.Listed.since g.C.Listed.in_table g.C.Stored.shown rows.items are) c.zip.result c.zip.ensures

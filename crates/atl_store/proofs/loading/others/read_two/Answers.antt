@@ -12,11 +12,11 @@ returns-in_err-first g c =
 
 pub returns-in_err-second : goal.returns-in_err-second
 returns-in_err-second g c =
-    second_fails g.S.Store ((g.A.Listed.select, g.A.Stored.forms) ∷ []) ((g.B.Listed.select, g.B.Stored.forms) ∷ []) _ _ (λ rows. AreRows g.S.Store c.args.conn.now g.B.Listed.in_table g.B.Stored.shown rows.items) c.args.conn.now c.read_one.new.conn c.read_one-2.new.conn c.read_one.result c.read_one-2.result c.read_one.ensures c.read_one-2.ensures c.in_ok-first.first c.in_ok-first.was _ c.in_err-second.field-0.0 _ c.in_err-second.was c.from_residual-in_err-second.ensures.1
+    second_fails g.S.Store ((g.A.Listed.select, g.A.Stored.forms) ∷ []) ((g.B.Listed.select, g.B.Stored.forms) ∷ []) _ _ (λ rows. AreRows g.S.Store c.args.conn.now g.B.Listed.since g.B.Listed.in_table g.B.Stored.shown rows.items) c.args.conn.now c.read_one.new.conn c.read_one-2.new.conn c.read_one.result c.read_one-2.result c.read_one.ensures c.read_one-2.ensures c.in_ok-first.first c.in_ok-first.was _ c.in_err-second.field-0.0 _ c.in_err-second.was c.from_residual-in_err-second.ensures.1
 
 pub returns : goal.returns
 returns g c =
     let old = c.args.conn.now in
     let one = c.read_one.new.conn in
-    reads_both g.S.Store ((g.A.Listed.select, g.A.Stored.forms) ∷ []) ((g.B.Listed.select, g.B.Stored.forms) ∷ []) _ _ (λ rows. AreRows g.S.Store old g.B.Listed.in_table g.B.Stored.shown rows.items) old one c.read_one-2.new.conn c.read_one.result c.read_one-2.result c.read_one.ensures c.read_one-2.ensures c.in_ok-first.first c.in_ok-first.was c.in_ok-second.second c.in_ok-second.was
-    (λ same rows are. rows_behind g.S.Store old one same g.B.Listed.in_table g.B.Stored.shown rows.items are) c.zip.result c.zip.ensures
+    reads_both g.S.Store ((g.A.Listed.select, g.A.Stored.forms) ∷ []) ((g.B.Listed.select, g.B.Stored.forms) ∷ []) _ _ (λ rows. AreRows g.S.Store old g.B.Listed.since g.B.Listed.in_table g.B.Stored.shown rows.items) old one c.read_one-2.new.conn c.read_one.result c.read_one-2.result c.read_one.ensures c.read_one-2.ensures c.in_ok-first.first c.in_ok-first.was c.in_ok-second.second c.in_ok-second.was
+    (λ same rows are. rows_behind g.S.Store old one same g.B.Listed.since g.B.Listed.in_table g.B.Stored.shown rows.items are) c.zip.result c.zip.ensures

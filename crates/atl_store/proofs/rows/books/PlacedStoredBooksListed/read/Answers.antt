@@ -1,3 +1,4 @@
+use Rattle.atl_tables.specs.declared.format.Format.TheVariants.{First}
 use Rattle.atl_store.specs.Tables.{books_table}
 use Rattle.atl_store.specs.Reading.{placed_rows_in}
 use Rattle.atl_store.specs.StoredRows.{books_forms}
@@ -6,4 +7,4 @@ use Rattle.atl_store.proofs.SelectLaws.{reads_books}
 use Rattle.atl_store.proofs.rows.books.PlacedStoredBooksListed.read.Goals as goal
 
 pub returns-clause-table : goal.returns-clause-table
-returns-clause-table g c = gives_table g.S.Store _ _ _ books_forms _ _ (placed_rows_in books_table) reads_books c.read_all.ensures
+returns-clause-table g c = gives_table g.S.Store _ _ _ books_forms _ _ First (placed_rows_in books_table) reads_books c.read_all.ensures

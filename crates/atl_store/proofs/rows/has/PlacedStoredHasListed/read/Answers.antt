@@ -1,3 +1,4 @@
+use Rattle.atl_tables.specs.declared.format.Format.TheVariants.{First}
 use Rattle.atl_store.specs.Tables.{has_table}
 use Rattle.atl_store.specs.Reading.{placed_rows_in}
 use Rattle.atl_store.specs.StoredRows.{has_forms}
@@ -6,4 +7,4 @@ use Rattle.atl_store.proofs.SelectLaws.{reads_has}
 use Rattle.atl_store.proofs.rows.has.PlacedStoredHasListed.read.Goals as goal
 
 pub returns-clause-table : goal.returns-clause-table
-returns-clause-table g c = gives_table g.S.Store _ _ _ has_forms _ _ (placed_rows_in has_table) reads_has c.read_all.ensures
+returns-clause-table g c = gives_table g.S.Store _ _ _ has_forms _ _ First (placed_rows_in has_table) reads_has c.read_all.ensures

@@ -1,3 +1,4 @@
+use Rattle.atl_tables.specs.declared.format.Format.TheVariants.{First}
 use Rattle.atl_store.specs.Tables.{mail_table}
 use Rattle.atl_store.specs.Sets.{rows_in}
 use Rattle.atl_store.specs.StoredRows.{mail_forms}
@@ -6,4 +7,4 @@ use Rattle.atl_store.proofs.SelectLaws.{reads_mail}
 use Rattle.atl_store.proofs.rows.mail.StoredMailListed.read.Goals as goal
 
 pub returns-clause-table : goal.returns-clause-table
-returns-clause-table g c = gives_table g.S.Store _ _ _ mail_forms _ _ (rows_in mail_table) reads_mail c.read_all.ensures
+returns-clause-table g c = gives_table g.S.Store _ _ _ mail_forms _ _ First (rows_in mail_table) reads_mail c.read_all.ensures

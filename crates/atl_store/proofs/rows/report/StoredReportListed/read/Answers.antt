@@ -1,3 +1,4 @@
+use Rattle.atl_tables.specs.declared.format.Format.TheVariants.{First}
 use Rattle.atl_store.specs.Tables.{report_table}
 use Rattle.atl_store.specs.Sets.{rows_in}
 use Rattle.atl_store.specs.StoredRows.{report_forms}
@@ -6,4 +7,4 @@ use Rattle.atl_store.proofs.SelectLaws.{reads_report}
 use Rattle.atl_store.proofs.rows.report.StoredReportListed.read.Goals as goal
 
 pub returns-clause-table : goal.returns-clause-table
-returns-clause-table g c = gives_table g.S.Store _ _ _ report_forms _ _ (rows_in report_table) reads_report c.read_all.ensures
+returns-clause-table g c = gives_table g.S.Store _ _ _ report_forms _ _ First (rows_in report_table) reads_report c.read_all.ensures

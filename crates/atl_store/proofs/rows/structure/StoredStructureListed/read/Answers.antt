@@ -1,3 +1,4 @@
+use Rattle.atl_tables.specs.declared.format.Format.TheVariants.{First}
 use Rattle.atl_store.specs.Tables.{structure_table}
 use Rattle.atl_store.specs.Sets.{rows_in}
 use Rattle.atl_store.specs.StoredRows.{structure_forms}
@@ -6,4 +7,4 @@ use Rattle.atl_store.proofs.SelectLaws.{reads_structure}
 use Rattle.atl_store.proofs.rows.structure.StoredStructureListed.read.Goals as goal
 
 pub returns-clause-table : goal.returns-clause-table
-returns-clause-table g c = gives_table g.S.Store _ _ _ structure_forms _ _ (rows_in structure_table) reads_structure c.read_all.ensures
+returns-clause-table g c = gives_table g.S.Store _ _ _ structure_forms _ _ First (rows_in structure_table) reads_structure c.read_all.ensures

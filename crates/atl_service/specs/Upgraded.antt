@@ -1,0 +1,38 @@
+-- What an upgrade may answer and leave.
+use Rattle.std.specs.Prelude.{◌≡◌, ℕ, List, Some}
+use Rattle.sqlite_trees.specs.declared.store.Store.{Ghosts}
+use Rattle.sqlite.specs.Held.{Held, state}
+use Rattle.sqlite.specs.State.{HasCleanDisk}
+use Rattle.atl_state.specs.Campaign.{MarkedCampaign}
+use Rattle.atl_store.specs.Keeps.{IsLater}
+use Rattle.atl_store.specs.Upgrading.{Upgrades, RefusesToUpgrade}
+use Rattle.atl_store.specs.declared.fault.UpgradeFault.{UpgradeFault}
+use Rattle.atl_store.specs.declared.fault.UpgradeFault.TheVariants as upgrade
+use Rattle.atl_service.specs.declared.command.Cause.{Cause}
+use Rattle.atl_service.specs.declared.command.Cause.TheVariants.{World, NotACampaign, NotOld, Damaged, Differs, Store, Memory}
+use Rattle.atl_service.specs.Service.{ServiceValue, text_in}
+
+-- The service is open, with the world of the new text and the good campaign that the tables held, which has nothing in stock; the tables hold the rows of both.
+pub record UpgradesTo {S : Type 0} (g : Ghosts S) (old : Held S) (text : List ℕ) (made : ServiceValue S) : Type 0 where
+  pub campaign : MarkedCampaign
+  pub is_open : made.campaign ≡ Some campaign.value
+  pub upgrades : Upgrades g text old made.conn made.world campaign
+  pub text_is : HasCleanDisk (state g made.conn) → text_in g made.conn ≡ text
+  pub later : IsLater (state g old) (state g made.conn)
+
+-- what is told of a fault of the upgrade
+abbrev pub of_upgrading : UpgradeFault → Cause
+of_upgrading upgrade.NotACampaign = NotACampaign
+of_upgrading upgrade.NotOld = NotOld
+of_upgrading (upgrade.Damaged rule) = Damaged rule
+of_upgrading (upgrade.World fault) = World fault
+of_upgrading upgrade.Differs = Differs
+of_upgrading upgrade.Store = Store
+of_upgrading upgrade.Memory = Memory
+
+-- The upgrade is refused for what the store refuses, and the tables are as they were.
+pub record RefusesUpgrade {S : Type 0} (g : Ghosts S) (old : Held S) (text : List ℕ) (why : Cause) (new : Held S) : Type 0 where
+  pub fault : UpgradeFault
+  pub why_is : why ≡ of_upgrading fault
+  pub refused : RefusesToUpgrade g text old new fault
+  pub later : IsLater (state g old) (state g new)

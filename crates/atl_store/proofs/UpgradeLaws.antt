@@ -1,0 +1,126 @@
+-- The steps of an upgrade, and both together.
+use Rattle.std.proofs.Common.{◌≡◌, ◌≢◌, ℕ, List, [], ◌∷◌, drop, map, take, refl, sym, ap, ◌∙◌, subst, inl, inr}
+use Rattle.std.specs.Ordering.{nat_cmp}
+use Rattle.std.specs.FinMap.{FinMap, get, get-empty}
+use Rattle.sqlite.specs.Effect.{Database}
+use Rattle.sqlite.specs.Order.{Row}
+use Rattle.sqlite.specs.Schema.{Schema}
+use Rattle.sqlite.specs.State.{State}
+use Rattle.sqlite.specs.Table.{Table}
+use Rattle.sqlite_rules.specs.Lists.{Has}
+use Rattle.sqlite_rules.proofs.ListLemmas.{has_either, has_left}
+use Rattle.atl_tables.specs.declared.format.Format.TheVariants.{First}
+use Rattle.atl_state.specs.Campaign.{CampaignValue}
+use Rattle.atl_state.specs.Good.{HasNoStocks}
+use Rattle.atl_store.specs.Inside.{Inside, HasTables, Carries, Both, Puts}
+use Rattle.atl_store.specs.Rows.{head_of, rows_for, campaign_line, Holds, HoldsIn, MarketRowsOf}
+use Rattle.atl_store.specs.Sets.{Is, IsKeyed, rows_in, put, visible}
+use Rattle.atl_store.specs.Shown.{head_row, head_row_in}
+use Rattle.atl_store.specs.Statements.{creation}
+use Rattle.atl_store.specs.Tables.{Part, Own, Factions, Regions, Units, Goods, Structures, Mail, Reports, Books, Markets, campaign_table, market_table, all_tables, all_indexes, first_tables, parts_in, table_of}
+use Rattle.atl_store.specs.UpgradeSteps.{AddsMarkets, IsOld, UpgradesHead, WritesUpgrade}
+use Rattle.atl_store.specs.Writes.{Runs}
+use Rattle.atl_store.proofs.CreateTexts.{makes_table, market_create}
+use Rattle.atl_store.proofs.ListLaws.{has_map}
+use Rattle.atl_store.proofs.Made.{Creates}
+use Rattle.atl_store.proofs.PartLaws.{listed, same_part}
+use Rattle.atl_store.proofs.WholeLaws.{inside_then, inside_weaker}
+
+abbrev old_schema : Schema
+old_schema = first_tables 9 3
+
+abbrev new_schema : Schema
+new_schema = first_tables 10 4
+
+-- ---- the table of markets
+
+no_rows : IsKeyed []
+no_rows = record { apart = tt; ints = tt }
+
+-- behind just the tables of the first format
+module _ (old new : Database) (is : IsOld old) (made : Creates old_schema new_schema market_table.tree old new) where
+  has_all : HasTables new
+  has_all = record {
+    begins = record { tables = []; indexes = []; is = made.schema_is; free = tt; plain = λ i none. absurd none };
+    sound = record {
+      keyed = λ t there. elim (has_either old_schema.tables (market_table ∷ []) t there) [
+        | inl was ↦ subst IsKeyed (sym (made.others t was)) (is.keyed t was)
+        | inr (inl same) ↦ subst (λ (u : Table). IsKeyed (new.trees u.tree)) (sym same) (subst IsKeyed (sym made.empty) no_rows)
+        | inr (inr none) ↦ absurd none
+      ];
+      listed = made.sound;
+    };
+  }
+
+  carries_all : Carries old new
+  carries_all = record {
+    tables = λ t there. subst (λ (s : Schema). Has s.tables t) (sym made.schema_is) (has_left old_schema.tables (market_table ∷ []) t (subst (λ (s : Schema). Has s.tables t) is.just there));
+    indexes = λ i there. subst (λ (s : Schema). Has s.indexes i) (sym made.schema_is) (has_left old_schema.indexes (drop 3 all_indexes) i (subst (λ (s : Schema). Has s.indexes i) is.just there));
+    others = λ t there free.
+        let was = subst (λ (s : Schema). Has s.tables t) is.just there in
+        absurd (free (has_map (λ (u : Table). u.tree) all_tables t (has_left old_schema.tables (market_table ∷ []) t was)));
+  }
+
+pub adds_markets : (old new : State) → Runs (creation 9) [] old new → Inside IsOld AddsMarkets old new
+adds_markets old new ran = (
+  ran.2.1.mode ∙ sym ran.0,
+  λ is.
+      let made = makes_table old_schema new_schema market_table (creation 9) market_create old new ran.1 is.just ran.2.0 in
+      record {
+        does = record { empty = made.empty; others = λ t there. made.others t there };
+        tables = has_all old.now new.now is made;
+        carries = carries_all old.now new.now is made;
+      },
+)
+
+-- ---- the whole
+
+-- where nothing is in stock there are no rows of stocks
+no_stocks : (c : CampaignValue) → HasNoStocks c → (r : Row) → ¬ MarketRowsOf c.regions r
+no_stocks c bare r of =
+    let e = sym (get-empty {X = ℕ} nat_cmp of.3) ∙ ap (λ (m : FinMap nat_cmp ℕ). get m of.3) (sym (bare of.0 of.1 of.2)) ∙ of.5 in
+    absurd cc
+
+-- the one row is the new one
+own_row : (rows old : List Row) (was row : Row) → take 1 was ≡ take 1 row → Is old (λ r. r ≡ was) → Is rows (put 1 row (Has old)) → Is rows (λ r. r ≡ row)
+own_row rows old was row key one made r = (
+  λ there. elim ((made r).0 there) [ inl same ↦ same | inr (there, other) ↦ absurd (other (ap (take 1) ((one r).0 there) ∙ key)) ],
+  λ same. (made r).1 (inl same),
+)
+
+module _ (text : List ℕ) (c : CampaignValue) (old mid new : Database) (first : AddsMarkets old mid) (second : UpgradesHead (head_of c) text mid new) (before : List ℕ) (held : HoldsIn First old.trees before c) (bare : HasNoStocks c) where
+  -- the rows of a table that was there, behind the first step
+  was : (part : Part) → Has (parts_in First) part → Is (rows_in (table_of part) mid.trees) (rows_for (head_row_in First (head_of c) before) c part)
+  was part there = subst (λ rows. Is rows (rows_for (head_row_in First (head_of c) before) c part)) (sym (ap (map (visible (table_of part))) (first.others (table_of part) (has_map table_of (parts_in First) part there)))) (held.rows part there)
+
+  did : Puts campaign_table 1 (head_row (head_of c) text) mid new
+  did = second before (was Own (inl refl))
+
+  -- each other table is as the first step left it
+  rest : (part : Part) → part ≢ Own → rows_in (table_of part) new.trees ≡ rows_in (table_of part) mid.trees
+  rest part other = ap (map (visible (table_of part))) (did.others (table_of part) (listed part) (λ same. other (same_part part Own same)))
+
+  kept : (part : Part) → part ≢ Own → Has (parts_in First) part → Is (rows_in (table_of part) new.trees) (rows_for (head_row_in First (head_of c) before) c part)
+  kept part other there = subst (λ rows. Is rows (rows_for (head_row_in First (head_of c) before) c part)) (sym (rest part other)) (was part there)
+
+  pub upgrade_held : Holds new.trees text c
+  upgrade_held = record { rows = rows }
+    where
+      rows : (part : Part) → Is (rows_in (table_of part) new.trees) (rows_for (campaign_line text c) c part)
+      rows Own = own_row _ _ (head_row_in First (head_of c) before) (campaign_line text c) refl (was Own (inl refl)) did.rows
+      rows Factions = kept Factions (λ e. absurd cc) (inr (inl refl))
+      rows Regions = kept Regions (λ e. absurd cc) (inr (inr (inl refl)))
+      rows Units = kept Units (λ e. absurd cc) (inr (inr (inr (inl refl))))
+      rows Goods = kept Goods (λ e. absurd cc) (inr (inr (inr (inr (inl refl)))))
+      rows Structures = kept Structures (λ e. absurd cc) (inr (inr (inr (inr (inr (inl refl))))))
+      rows Mail = kept Mail (λ e. absurd cc) (inr (inr (inr (inr (inr (inr (inl refl)))))))
+      rows Reports = kept Reports (λ e. absurd cc) (inr (inr (inr (inr (inr (inr (inr (inl refl))))))))
+      rows Books = kept Books (λ e. absurd cc) (inr (inr (inr (inr (inr (inr (inr (inr (inl refl)))))))))
+      rows Markets = λ r. (λ there. absurd (subst (λ l. Has l r) (rest Markets (λ e. absurd cc) ∙ ap (map (visible market_table)) first.empty) there), λ of. absurd (no_stocks c bare r of))
+
+-- the head is upgraded behind the new table
+pub upgrade_done : (text : List ℕ) (c : CampaignValue) (start mid end : State) → Inside IsOld AddsMarkets start mid → Inside HasTables (UpgradesHead (head_of c) text) mid end → Inside IsOld (WritesUpgrade text c) start end
+upgrade_done text c start mid end first second =
+    inside_weaker IsOld (Both AddsMarkets (UpgradesHead (head_of c) text)) (WritesUpgrade text c) start end
+    (λ is did before held bare. upgrade_held text c start.now did.0 end.now did.1 did.2 before held bare)
+    (inside_then IsOld AddsMarkets (UpgradesHead (head_of c) text) start mid end first second)

@@ -1,0 +1,192 @@
+-- From the readings and the transaction of an upgrade to what it answers and leaves.
+use Rattle.std.proofs.Common.{◌≡◌, ◌≤◌, ℕ, Bool, true, false, cond, List, IsTrue, Result, Ok, Err, IsErrAnd, IfErr, refl, sym, ap, ◌∙◌, subst, inl, inr, arith}
+use Rattle.sqlite_trees.specs.Tree.{Trees}
+use Rattle.sqlite_trees.specs.declared.store.Store.{Ghosts}
+use Rattle.sqlite.specs.declared.error.Error.{Error}
+use Rattle.sqlite.specs.Effect.{Database}
+use Rattle.sqlite.specs.Held.{Held, state}
+use Rattle.sqlite.specs.State.{State, HasCleanDisk, Survives}
+use Rattle.atl_tables.specs.Faults.{Reads}
+use Rattle.atl_tables.specs.World.{world_of}
+use Rattle.atl_tables.specs.Worlds.{WorldValue, without_markets}
+use Rattle.atl_tables.specs.declared.fault.WorldFault.{WorldFault}
+use Rattle.atl_tables.specs.declared.fault.WorldFault.TheVariants as world
+use Rattle.atl_tables.specs.declared.format.Format.TheVariants.{First}
+use Rattle.atl_tables.proofs.OldWorldLaws.{old_has_no_markets}
+use Rattle.atl_state.specs.Campaign.{MarkedCampaign}
+use Rattle.atl_store.specs.Causes.{Gives}
+use Rattle.atl_store.specs.Faults.{is_memory, first_fault, new_world_fault, upgrade_fault}
+use Rattle.atl_store.specs.Inside.{Commits, LeavesOff, MayLeave}
+use Rattle.atl_store.specs.Keeps.{IsLater, Spares}
+use Rattle.atl_store.specs.Loading.{LeavesAlone, LoadsIn, RefusesToLoadIn}
+use Rattle.atl_store.specs.OwnStatements.{OfUpgrade}
+use Rattle.atl_store.specs.Rows.{Holds, HoldsIn}
+use Rattle.atl_store.specs.Tables.{HasTablesOf}
+use Rattle.atl_store.specs.UpgradeSteps.{IsJustOld, IsOld, WritesUpgrade}
+use Rattle.atl_store.specs.Upgrading.{BreaksOff, FailsCheck, FailsToWrite, HasMore, HasOld, HasOtherWorld, HoldsOld, IsReady, Matches, MayUpgrade, RefusesToUpgrade, Upgrades}
+use Rattle.atl_store.specs.WorldText.{world_text}
+use Rattle.atl_store.specs.Writes.{Transacts}
+use Rattle.atl_store.specs.declared.fault.LoadFault.{LoadFault}
+use Rattle.atl_store.specs.declared.fault.LoadFault.TheVariants as load
+use Rattle.atl_store.specs.declared.fault.UpgradeFault.{UpgradeFault}
+use Rattle.atl_store.specs.declared.fault.UpgradeFault.TheVariants as upgrade
+use Rattle.atl_store.proofs.BareWorldLaws.{good_either}
+use Rattle.atl_store.proofs.StayLaws.{commits_keeps, leaves_spares, may_found}
+
+-- the fault that was handed on
+pub told_as : {A F : Type 0} (P : F → Type 0) (r : Result A F) (fault : F) → IsErrAnd r (λ f. f ≡ fault) → P fault → IfErr r P
+told_as P (Ok a) fault told p = tt
+told_as P (Err f) fault told p = subst P (sym told) p
+
+-- ---- what was loaded is what the tables held
+
+module _ {S : Type 0} (g : Ghosts S) (text : List ℕ) (old mid : Held S) (alone : LeavesAlone g old mid) (clean : HasCleanDisk (state g mid)) where
+  pub loaded_old : (w : WorldValue) (c : MarkedCampaign) → LoadsIn First g old mid w c → HoldsOld (state g old) w c.value
+  loaded_old w c loads =
+      let stands = loads.stands clean in
+      let same = (alone.spares clean).same stands.is_open in
+      record {
+        text = world_text (state g mid);
+        world = loads.world clean;
+        rows = subst (λ (d : Database). HoldsIn First d.trees (world_text (state g mid)) c.value) same.0 stands.rows;
+        good = loads.good;
+      }
+
+  -- its world had no markets
+  bare_before : (w : WorldValue) (c : MarkedCampaign) → LoadsIn First g old mid w c → without_markets w ≡ w
+  bare_before w c loads = old_has_no_markets (world_text (state g mid)) w (loads.world clean)
+
+  pub matched : (w : WorldValue) (c : MarkedCampaign) → IsReady g text old mid w c → Matches (state g old) text w c.value
+  matched w c ready = record {
+    world = ready.world;
+    was = subst (λ v. HoldsOld (state g old) v c.value) (sym (bare_before ready.before c ready.loads) ∙ sym ready.same) (loaded_old ready.before c ready.loads);
+  }
+
+  pub other_world : (before w : WorldValue) (c : MarkedCampaign) → LoadsIn First g old mid before c → world_of text ≡ Ok w → ¬ (without_markets w ≡ without_markets before) → HasOtherWorld g text old mid
+  other_world before w c loads is differs = record {
+    world = w;
+    before = before;
+    campaign = c.value;
+    was = loaded_old before c loads;
+    is = is;
+    differs = λ same. differs (same ∙ sym (bare_before before c loads));
+  }
+
+  pub has_more : (w : WorldValue) (c : MarkedCampaign) → IsReady g text old mid w c → ¬ IsJustOld mid.schema → HasMore g text old mid
+  has_more w c ready more =
+      let stands = ready.loads.stands clean in
+      let same = (alone.spares clean).same stands.is_open in
+      record {
+        world = w;
+        campaign = c.value;
+        matches = matched w c ready;
+        begins = subst (λ (d : Database). HasTablesOf First d.schema) same.0 stands.begins;
+        more = λ just. more (ap (λ (d : Database). d.schema) same.0 ∙ just);
+      }
+
+pub later_both : (old mid new : State) (Early Late : Trees → Type 0) → Survives old mid Early → Survives mid new Late → IsLater old new
+later_both old mid new Early Late one two = record { clean = λ clean. omega (arith, one.clean, two.clean, clean); counts = omega (arith, one.counts, two.counts); shield = λ shielded. two.shield (one.shield shielded) }
+
+-- ---- before the transaction
+
+module _ {S : Type 0} (g : Ghosts S) (text : List ℕ) (old new : Held S) where
+  pub fails_to_load : (fault : LoadFault) → RefusesToLoadIn First g old fault → FailsCheck g text old new (first_fault fault)
+  fails_to_load load.Store refused = inl refused
+  fails_to_load (load.Damaged rule) refused = refused
+  fails_to_load load.NotACampaign refused = refused
+  fails_to_load load.OtherFormat refused = refused
+  fails_to_load load.Memory refused = inl refused
+
+  pub fails_to_read : (fault : WorldFault) → Reads (λ (w : WorldValue). w) (Err fault) (world_of text) → HasOld g text old new → FailsCheck g text old new (new_world_fault fault)
+  fails_to_read world.NotToml reads was = (was, reads, λ e. absurd cc)
+  fails_to_read (world.Missing path) reads was = (was, reads, λ e. absurd cc)
+  fails_to_read (world.WrongType path) reads was = (was, reads, λ e. absurd cc)
+  fails_to_read (world.OutOfRange path) reads was = (was, reads, λ e. absurd cc)
+  fails_to_read (world.TwoNames path) reads was = (was, reads, λ e. absurd cc)
+  fails_to_read (world.UnknownName path) reads was = (was, reads, λ e. absurd cc)
+  fails_to_read (world.BadNeighbour path) reads was = (was, reads, λ e. absurd cc)
+  fails_to_read world.NoLand reads was = (was, reads, λ e. absurd cc)
+  fails_to_read world.Memory reads was = inr was
+
+  -- nothing is changed
+  pub refused_before : (fault : UpgradeFault) → (HasCleanDisk (state g new) → FailsCheck g text old new fault) → LeavesAlone g old new → RefusesToUpgrade g text old new fault
+  refused_before fault fails alone = record {
+    cause = λ clean. inl (fails clean, alone);
+    spares = alone.spares;
+    crash = λ clean db may. elim (alone.survives.crash clean db may) [ inl was ↦ inl was | inr none ↦ absurd none ];
+  }
+
+-- ---- the transaction
+
+module _ {S : Type 0} (g : Ghosts S) (text : List ℕ) (old mid new : Held S) (w : WorldValue) (c : MarkedCampaign) (alone : LeavesAlone g old mid) (ready : IsReady g text old mid w c) where
+  abbrev Wrote : {A : Type 0} → Result A Error → Type 0
+  Wrote r = Transacts g (OfUpgrade text c.value) IsOld (WritesUpgrade text c.value) r mid new
+
+  -- the tables are just the old ones
+  is_old : IsJustOld mid.schema → HasCleanDisk (state g mid) → IsOld (state g mid).now
+  is_old just clean = let stands = ready.loads.stands clean in record { just = just; keyed = stands.keyed; listed = stands.listed }
+
+  did : (db : Database) → HasCleanDisk (state g mid) → WritesUpgrade text c.value (state g mid).now db → Holds db.trees text c.value
+  did db clean wrote = wrote (world_text (state g mid)) (ready.loads.stands clean).rows ready.loads.fits.stocks
+
+  before : Survives (state g mid) (state g new) (MayLeave IsOld (WritesUpgrade text c.value) (state g mid)) → HasCleanDisk (state g new) → HasCleanDisk (state g mid)
+  before survives clean = omega (arith, survives.clean, clean)
+
+  pub upgrades : (settled : (db : Trees) → IsTrue (state g new).is_open → (state g new).may_leave db → db ≡ (state g new).committed.trees) → IsJustOld mid.schema → (HasCleanDisk (state g new) → Commits IsOld (WritesUpgrade text c.value) (state g mid) (state g new)) → Survives (state g mid) (state g new) (MayLeave IsOld (WritesUpgrade text c.value) (state g mid)) → new.in_transaction ≡ false
+      → Upgrades g text old new w c
+  upgrades settled just done survives over = record {
+    world = ready.world;
+    was = λ clean. (matched g text old mid alone (before survives clean) w c ready).was;
+    bare = ready.loads.fits.stocks;
+    tables = λ clean.
+        let clean_mid = before survives clean in
+        commits_keeps (state g mid) (state g new) text settled IsOld (WritesUpgrade text c.value) c.value (done clean) (is_old just clean_mid) (did new_now clean_mid);
+    good = good_either ready.before w c.value ready.same ready.loads.fits.stocks ready.loads.good;
+    unmarked = ready.loads.unmarked;
+    idle = over;
+  }
+    where
+      new_now : Database
+      new_now = (state g new).now
+
+  -- the connection after both
+  spares_both : (was_open : IsTrue (state g new).is_open → IsTrue (state g mid).is_open) → (state g old).faults ≤ (state g mid).faults → (state g mid).faults ≤ (state g new).faults → Spares (state g old) (state g mid) → Spares (state g mid) (state g new) → Spares (state g old) (state g new)
+  spares_both was_open early late first second = record {
+    same = λ up.
+        let one = first.same (was_open up) in
+        let two = second.same up in
+        (two.0 ∙ one.0, two.1 ∙ one.1, two.2 ∙ one.2);
+    closes = λ was. elim (first.closes was) [
+      | inl still ↦ elim (second.closes still) [ inl up ↦ inl up | inr more ↦ inr (omega (arith, early, more)) ]
+      | inr more ↦ inr (omega (arith, late, more))
+    ];
+  }
+
+  module _ (just : IsJustOld mid.schema) (idle : mid.in_transaction ≡ false) (off : HasCleanDisk (state g new) → LeavesOff (state g mid) (state g new)) (survives : Survives (state g mid) (state g new) (MayLeave IsOld (WritesUpgrade text c.value) (state g mid))) where
+    spared : HasCleanDisk (state g new) → Spares (state g old) (state g new)
+    spared clean =
+        let clean_mid = before survives clean in
+        let stands = ready.loads.stands clean_mid in
+        spares_both (off clean).was_open alone.survives.counts survives.counts (alone.spares clean_mid) (leaves_spares (state g mid) (state g new) _ clean (off clean) survives idle (λ up. sym stands.settled))
+
+    may_upgrade : HasCleanDisk (state g new) → MayUpgrade (state g old) text (state g new)
+    may_upgrade clean db may =
+        let clean_mid = before survives clean in
+        elim (may_found (state g mid) (state g new) text c.value IsOld (WritesUpgrade text c.value) (is_old just clean_mid) (λ other. did other clean_mid) clean survives db may) [
+          | inl was ↦ elim (alone.survives.crash clean_mid db was) [ inl early ↦ inl early | inr none ↦ absurd none ]
+          | inr stored ↦ inr (w, c.value, matched g text old mid alone clean_mid w c ready, stored)
+        ]
+
+    broken_off : (e : Error) (memory : Bool) → is_memory e ≡ memory → Gives g (OfUpgrade text c.value) e mid new → HasCleanDisk (state g mid) → BreaksOff g text old new memory
+    broken_off e memory is gave clean_mid = record { world = w; campaign = c.value; matches = matched g text old mid alone clean_mid w c ready; before = mid; alone = alone; error = e; memory_is = is; given = gave }
+
+    fails_to_write : (e : Error) (memory : Bool) → is_memory e ≡ memory → Gives g (OfUpgrade text c.value) e mid new → HasCleanDisk (state g mid) → FailsToWrite g text old new (cond memory upgrade.Memory upgrade.Store)
+    fails_to_write e true is gave clean_mid = broken_off e true is gave clean_mid
+    fails_to_write e false is gave clean_mid = broken_off e false is gave clean_mid
+
+    pub refused_after : (e : Error) → (HasCleanDisk (state g new) → Gives g (OfUpgrade text c.value) e mid new) → RefusesToUpgrade g text old new (upgrade_fault e)
+    refused_after e gave = record {
+      cause = λ clean. inr (fails_to_write e (is_memory e) refl (gave clean) (before survives clean));
+      spares = spared;
+      crash = may_upgrade;
+    }

@@ -1,0 +1,7 @@
+use Rattle.atl_store.specs.Tables.{market_table}
+use Rattle.atl_store.specs.Lines.{all_stocks_lines}
+use Rattle.atl_store.proofs.PuttingLaws.{Putting}
+use Rattle.atl_store.proofs.markets.put_all_stocks.Given as goal
+
+abbrev pub invariant-loop-number : goal.invariant-loop-number
+invariant-loop-number g l = Putting g.S.Store market_table 2 (all_stocks_lines l.number-iterator) (all_stocks_lines l.fn.regions) l.fn.tx.conn l.tx.conn

@@ -1,0 +1,37 @@
+-- What the transaction of an upgrade does.
+use Rattle.std.specs.Prelude.{◌≡◌, [], List, ℕ, map}
+use Rattle.sqlite.specs.Effect.{Database}
+use Rattle.sqlite.specs.Schema.{Schema}
+use Rattle.sqlite.specs.Table.{Table}
+use Rattle.sqlite_catalog.specs.Listing.{IsSound}
+use Rattle.sqlite_rules.specs.Lists.{Has}
+use Rattle.atl_tables.specs.declared.format.Format.TheVariants.{First}
+use Rattle.atl_state.specs.Campaign.{CampaignValue}
+use Rattle.atl_state.specs.Good.{HasNoStocks}
+use Rattle.atl_store.specs.Inside.{Puts}
+use Rattle.atl_store.specs.Rows.{Holds, HoldsIn}
+use Rattle.atl_store.specs.Sets.{Is, IsKeyed, rows_in}
+use Rattle.atl_store.specs.Shown.{Head, head_row, head_row_in}
+use Rattle.atl_store.specs.Tables.{campaign_table, market_table, first_tables, indexes_in, parts_in, table_of, tables_in}
+
+-- just the tables of the first format
+abbrev pub IsJustOld : Schema → Type 0
+IsJustOld schema = schema ≡ first_tables (tables_in First) (indexes_in First)
+
+pub record IsOld (db : Database) : Type 0 where
+  pub just : IsJustOld db.schema
+  pub keyed : (table : Table) → Has (map table_of (parts_in First)) table → IsKeyed (db.trees table.tree)
+  pub listed : IsSound db.schema db.trees
+
+-- the table of markets has no row, and each other table is as it was
+pub record AddsMarkets (old new : Database) : Type 0 where
+  pub empty : new.trees market_table.tree ≡ []
+  pub others : (table : Table) → Has (map table_of (parts_in First)) table → new.trees table.tree ≡ old.trees table.tree
+
+-- the row of the first format, whatever its world text, becomes that of the second with this text
+abbrev pub UpgradesHead : Head → List ℕ → Database → Database → Type 0
+UpgradesHead head text old new = (before : List ℕ) → Is (rows_in campaign_table old.trees) (λ r. r ≡ head_row_in First head before) → Puts campaign_table 1 (head_row head text) old new
+
+-- where the tables held the campaign in the first format, with whatever text, and it has nothing in stock, they hold it with this text
+abbrev pub WritesUpgrade : List ℕ → CampaignValue → Database → Database → Type 0
+WritesUpgrade text c old new = (before : List ℕ) → HoldsIn First old.trees before c → HasNoStocks c → Holds new.trees text c

@@ -1,0 +1,96 @@
+//! A file of the first format is upgraded.
+ghost use Rattle.std.specs.Prelude.{◌≡◌, false, IfOk, IfErr, OnOk};
+ghost use Rattle.sqlite.specs.Held.{state};
+ghost use Rattle.sqlite.specs.State.{HasCleanDisk};
+ghost use Rattle.atl_store.specs.Inside.{Inside};
+ghost use Rattle.atl_store.specs.Keeps.{IsLater};
+ghost use Rattle.atl_store.specs.Loading.{LeavesAlone};
+ghost use Rattle.atl_store.specs.OwnStatements.{OfUpgrade};
+ghost use Rattle.atl_store.specs.UpgradeSteps.{IsOld, WritesUpgrade};
+ghost use Rattle.atl_store.specs.Upgrading.{FailsCheck, IsReady, RefusesToUpgrade, Upgrades};
+ghost use Rattle.atl_store.specs.Writes.{Writes, Transacts};
+
+use crate::fault::UpgradeFault;
+use crate::head::upgrade_head;
+use crate::loading::load_as;
+use crate::schema::is_just_old;
+use crate::tables::create_market;
+use atl_state::Campaign;
+use atl_tables::{Format, World, read_world};
+use sqlite::{Alter, Connection, Error, Transaction};
+use std::alloc::Global;
+
+/// Makes the table of markets, and gives the campaign's own row the second format and this world text.
+fn put_upgrade<S: Alter>(
+    tx: &mut Transaction<'_, S>,
+    text: &str,
+    campaign: &Campaign,
+) -> Result<(), Error>
+    ensures { Writes S.Store (OfUpgrade text.now campaign.now.value) (Inside IsOld (WritesUpgrade text.now campaign.now.value)) result tx.old.conn tx.new.conn }
+{
+    create_market(tx)?;
+    upgrade_head(tx, campaign, text)
+}
+
+/// The transaction of an upgrade.
+fn write_upgrade<S: Alter>(
+    conn: &mut Connection<S>,
+    text: &str,
+    campaign: &Campaign,
+) -> Result<(), Error>
+    requires { conn.old.in_transaction ≡ false }
+    ensures { Transacts S.Store (OfUpgrade text.now campaign.now.value) IsOld (WritesUpgrade text.now campaign.now.value) result conn.old conn.new }
+{
+    let mut tx = conn.transaction();
+    put_upgrade(&mut tx, text, campaign)?;
+    tx.commit()
+}
+
+/// The world of the new text with the campaign that the tables hold, where the two worlds differ in markets alone.
+fn prepared<S: Alter>(
+    alloc: Global,
+    conn: &mut Connection<S>,
+    new_world: &str,
+) -> Result<(World, Campaign), UpgradeFault>
+    ensures ok { IfOk result (λ both. IsReady S.Store new_world.now conn.old conn.new both.0 both.1) }
+    ensures err { HasCleanDisk (state S.Store conn.new) → IfErr result (FailsCheck S.Store new_world.now conn.old conn.new) }
+    ensures alone { LeavesAlone S.Store conn.old conn.new }
+    ensures idle { OnOk result (conn.new.in_transaction ≡ false) }
+{
+    if !conn.is_autocommit() {
+        return Err(UpgradeFault::Store);
+    }
+    let (old_world, campaign) = load_as(alloc, conn, Format::First)?;
+    let world = read_world(alloc, new_world)?;
+    if !world.differs_in_markets_alone(&old_world) {
+        return Err(UpgradeFault::Differs);
+    }
+    Ok((world, campaign))
+}
+
+/// Makes a file of the first format one of the second, with this world text, in one transaction: the table of markets
+/// is made, without a row, and the campaign's own row gets the format and the text. With Ok the connection holds the
+/// campaign that the tables held, of which nothing is marked; it is answered with the world of the text, and the
+/// connection is in no transaction. NotACampaign and Damaged are told as by `load`, by the rules of the first format.
+/// NotOld: the campaign's own rows are one, whose format is the second, whatever else it says. World: the new text is
+/// no world. Differs: its world differs from that of the old text in more than markets. Store is told as by `load`,
+/// too; or there are more tables or indexes than those of the first format; or the database gives an error that is not
+/// want of memory. Memory: there is none. After a fault the tables are as they were while the connection is open, and a
+/// crash leaves what it left before or, where the transaction was begun, the upgraded campaign. See docs/FORMATS.md,
+/// "Tables".
+pub fn upgrade<S: Alter>(
+    alloc: Global,
+    conn: &mut Connection<S>,
+    new_world: &str,
+) -> Result<(World, Campaign), UpgradeFault>
+    ensures ok { IfOk result (λ both. Upgrades S.Store new_world.now conn.old conn.new both.0 both.1) }
+    ensures err { IfErr result (RefusesToUpgrade S.Store new_world.now conn.old conn.new) }
+    ensures later { IsLater (state S.Store conn.old) (state S.Store conn.new) }
+{
+    let (world, campaign) = prepared(alloc, conn, new_world)?;
+    if !is_just_old(conn.schema()) {
+        return Err(UpgradeFault::Store);
+    }
+    write_upgrade(conn, new_world, &campaign)?;
+    Ok((world, campaign))
+}
