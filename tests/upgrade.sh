@@ -5,7 +5,8 @@
 set -u
 here=$(cd "$(dirname "$0")/.." && pwd)
 . "$here/tests/checks.sh"
-old=$here/tests/old
+old=$work/old
+mkdir "$old" && cp "$here"/tests/old/*.* "$old" && gunzip "$old"/*.gz || exit 1
 mailing=$work/mailing
 printf '#ATLANTIS 1\n' >"$mailing"
 

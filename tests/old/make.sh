@@ -5,7 +5,8 @@
 # were made.
 #   trial.db   worlds/small.toml; two factions, a closed month, and mail
 #   club.db    worlds/isle.toml; the two months of a club's first hour, and mail with orders that there were none of then
-#   crowd.db   990 units of 2 factions in 250 regions, as in bench/closing; a closed month with structures, and mail of both
+#   crowd.db   990 units of 2 factions in 250 regions, as in bench/closing; a closed month with structures, and mail of both. It is packed, and
+#              so are its reports
 set -eu
 program=$1
 old=$(cd "$(dirname "$0")" && pwd)
@@ -130,3 +131,4 @@ play close --month 1 --pass gm --seed 1
 mail 1 pw <mail1
 mail 2 pw <mail2
 keep pw pw
+gzip -n9f "$old/crowd.db" "$old/crowd.reports"
