@@ -1,6 +1,6 @@
 #!/usr/bin/env python3
-"""Prints the cases of crates/atl_phase_tests/data/crowd.txt: 300 units of two factions in 12 regions with orders of all sorts, and beside them what
-tests/plain.py reckons."""
+"""Prints the cases of crates/atl_phase_tests/data/crowd.txt: 300 units of two factions in 12 regions with markets and orders of all sorts, and beside
+them what tests/plain.py reckons."""
 import os, random, sys
 
 sys.dont_write_bytecode = True
@@ -69,6 +69,8 @@ for region in world.regions:
 # some have full purses
 for unit in dice.sample(units, 12):
     unit.money = 999_999_999 - dice.randint(0, 60)
+# of each market so much is in stock
+stocks = {(region, item): dice.choice((0, 1, market["limit"] // 2, market["limit"])) for region in world.regions for item, market in world.markets[region].items()}
 
 
 def campaign():
@@ -79,6 +81,8 @@ def campaign():
             yield f"has {u.number} {thing} {amount}"
     for place in structures:
         yield f"structure {place.kind} {place.region} {place.done} {place.owner}"
+    for (region, item), amount in stocks.items():
+        yield f"stock {region} {item} {amount}"
 
 
 def near(unit):
@@ -87,9 +91,18 @@ def near(unit):
     return dice.choice(there) if there and dice.random() < 0.9 else dice.randint(1, UNITS + 5)
 
 
+def trade(unit):
+    """An order to sell or to buy, mostly an item of the markets where the unit stands, and to sell mostly what it has."""
+    verb, there = dice.choice(("SELL", "BUY")), world.markets[unit.region]
+    fit = [item for item in there if verb == "BUY" or item in unit.items] or [*there]
+    return f"{verb} {dice.choice((1, 3, 10, 400))} {dice.choice(fit if fit and dice.random() < 0.9 else [*world.items])}"
+
+
 def instant(unit):
     """One order that takes no month."""
     item = dice.choice([*unit.items] or [*world.items])
+    if dice.random() < 0.2:
+        return trade(unit)
     if unit.guard and dice.random() < 0.3:
         return "TAX"
     return dice.choice(

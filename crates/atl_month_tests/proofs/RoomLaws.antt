@@ -10,6 +10,7 @@ use Rattle.atl_instant.proofs.MeaningLaws.{room_when_sound}
 use Rattle.atl_market.specs.Produce.{produce_terms}
 use Rattle.atl_market.specs.Recruit.{recruit_terms}
 use Rattle.atl_market.specs.Tax.{tax_terms}
+use Rattle.atl_market.specs.Trade.{buy_terms, sell_terms}
 use Rattle.atl_market.specs.Work.{work_terms}
 use Rattle.atl_month.specs.Upkeep.{upkeep_terms}
 use Rattle.atl_month.proofs.PhaseLaws.{early_are, later_are, upkeep_alone, work_alone}
@@ -20,6 +21,12 @@ little false moved l = omega (arith, l)
 
 room_of : (phase : PhaseTerms) → MovesItsOwn phase → (w : WorldValue) (c : CampaignValue) → IsGood w c → HaveRoom phase.moving c
 room_of phase own w c good = room_when_sound w c phase.moving (λ e t. little (may_move phase.moved e t) (phase.moving e t) (own e t)) good.sound
+
+pub room_for_selling : (w : WorldValue) (c : CampaignValue) → IsGood w c → HaveRoom sell_terms.moving c
+room_for_selling = room_of sell_terms early_are.1.1.1.1.1.0.moves
+
+pub room_for_buying : (w : WorldValue) (c : CampaignValue) → IsGood w c → HaveRoom buy_terms.moving c
+room_for_buying = room_of buy_terms early_are.1.1.1.1.1.1.0.moves
 
 pub room_for_tax : (w : WorldValue) (c : CampaignValue) → IsGood w c → HaveRoom tax_terms.moving c
 room_for_tax = room_of tax_terms early_are.1.1.1.1.1.1.1.0.moves

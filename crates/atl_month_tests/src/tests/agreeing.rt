@@ -3,11 +3,12 @@ ghost use Rattle.atl_state.specs.Good.{IsGood};
 ghost use Rattle.atl_instant.specs.Fit.{AreFit};
 
 use super::crowd::{crowd, crowd_month, crowd_world};
-use super::former::plain::{Good, Land, Person, Plain};
-use super::former::{produce, recruit, shares, tax, upkeep, work};
+use super::former::plain::{Good, Land, Person, Plain, Stock};
+use super::former::trade::Trade;
+use super::former::{produce, recruit, shares, tax, trade, upkeep, work};
 use super::shares::are_small;
-use atl_instant::{Month, Phase};
-use atl_market::{ProducePhase, RecruitPhase, TaxPhase, WorkPhase, share};
+use atl_instant::{Arrangement, Month, Phase};
+use atl_market::{BuyPhase, ProducePhase, RecruitPhase, SellPhase, TaxPhase, WorkPhase, share};
 use atl_month::UpkeepPhase;
 use atl_state::{Campaign, Event};
 use atl_tables::World;
@@ -50,6 +51,17 @@ fn lands_are(rt: &impl Abort, told: &[Land], wanted: &[Land]) {
     }
 }
 
+fn stock_is(rt: &impl Abort, told: &Stock, wanted: &Stock) {
+    assert!(rt; told == wanted, "a stock of region {}", wanted.region);
+}
+
+fn stocks_are(rt: &impl Abort, told: &[Stock], wanted: &[Stock]) {
+    assert!(rt; told.len() == wanted.len());
+    for (told, wanted) in told.iter().zip(wanted.iter()) {
+        stock_is(rt, told, wanted);
+    }
+}
+
 fn event_is(rt: &impl Abort, told: &Event, wanted: &Event) {
     assert!(rt; told == wanted, "an event of unit {}", wanted.unit);
 }
@@ -73,6 +85,11 @@ fn is_as(
     people_are(rt, &told.people, &wanted.people);
     goods_are(rt, &told.sorted_goods(alloc)?, &wanted.sorted_goods(alloc)?);
     lands_are(rt, &told.lands, &wanted.lands);
+    stocks_are(
+        rt,
+        &told.sorted_stocks(alloc)?,
+        &wanted.sorted_stocks(alloc)?,
+    );
     events_are(rt, month.events(), &wanted.events);
     Ok(())
 }
@@ -81,6 +98,8 @@ fn is_as(
 
 #[derive(Clone, Copy, Drop)]
 enum Played {
+    Sell,
+    Buy,
     Tax,
     Recruit,
     Produce,
@@ -88,13 +107,39 @@ enum Played {
     Upkeep,
 }
 
-const PLAYED: [Played; 5] = [
+const PLAYED: [Played; 7] = [
+    Played::Sell,
+    Played::Buy,
     Played::Tax,
     Played::Recruit,
     Played::Produce,
     Played::Work,
     Played::Upkeep,
 ];
+
+fn run_sell(
+    alloc: Global,
+    world: &World,
+    campaign: Campaign,
+    month: Month,
+) -> Result<(Campaign, Month), AllocError>
+    requires good { IsGood world.now campaign.value }
+    requires read { AreFit world.now month.readings }
+{
+    SellPhase.run(alloc, world, campaign, month)
+}
+
+fn run_buy(
+    alloc: Global,
+    world: &World,
+    campaign: Campaign,
+    month: Month,
+) -> Result<(Campaign, Month), AllocError>
+    requires good { IsGood world.now campaign.value }
+    requires read { AreFit world.now month.readings }
+{
+    BuyPhase.run(alloc, world, campaign, month)
+}
 
 fn run_tax(
     alloc: Global,
@@ -168,12 +213,29 @@ fn run_on(
     requires read { AreFit world.now month.readings }
 {
     match played {
+        Played::Sell => run_sell(alloc, world, campaign, month),
+        Played::Buy => run_buy(alloc, world, campaign, month),
         Played::Tax => run_tax(alloc, world, campaign, month),
         Played::Recruit => run_recruit(alloc, world, campaign, month),
         Played::Produce => run_produce(alloc, world, campaign, month),
         Played::Work => run_work(alloc, world, campaign, month),
         Played::Upkeep => run_upkeep(alloc, world, campaign, month),
     }
+}
+
+/// Reckons the trades that units are told of.
+fn reckon_trade(
+    alloc: Global,
+    world: &World,
+    trade: Trade,
+    plain: &mut Plain,
+    month: &Month,
+) -> Result<(), AllocError> {
+    let orders = match trade {
+        Trade::Sell => month.orders(alloc, &SellPhase, Arrangement::ByUnit)?,
+        Trade::Buy => month.orders(alloc, &BuyPhase, Arrangement::ByUnit)?,
+    };
+    trade::play(alloc, trade, world, plain, month, &orders)
 }
 
 /// Reckons a phase.
@@ -185,6 +247,8 @@ fn reckon(
     month: &Month,
 ) -> Result<(), AllocError> {
     match played {
+        Played::Sell => reckon_trade(alloc, world, Trade::Sell, plain, month),
+        Played::Buy => reckon_trade(alloc, world, Trade::Buy, plain, month),
         Played::Tax => tax::play(alloc, world, plain, month),
         Played::Recruit => recruit::play(alloc, world, plain, month),
         Played::Produce => produce::play(alloc, world, plain, month),

@@ -7,10 +7,11 @@ ghost use Rattle.atl_instant.specs.Fit.{AreFit};
 use super::months::month;
 use atl_instant::Month;
 use atl_state::parts::{
-    Parts, StoredBooks, StoredFaction, StoredHas, StoredHead, StoredReport, StoredUnit,
+    Parts, StoredBooks, StoredFaction, StoredHas, StoredHead, StoredMarket, StoredReport,
+    StoredUnit,
 };
 use atl_state::{Campaign, check, founded};
-use atl_tables::{Sequence, Text, World, read_old_world};
+use atl_tables::{Sequence, Text, World, read_world};
 use std::alloc::{AllocError, Global};
 use std::test::Fail;
 
@@ -92,6 +93,58 @@ fee = 9
 
 const ITEMS: u32 = 5;
 
+/// A market as a region's table has it.
+#[derive(Clone, Copy, Drop)]
+struct Stall {
+    item: u32,
+    name: &'static str,
+    price: u32,
+    pays: u32,
+    limit: u32,
+}
+
+/// Two of these in a row are the markets of a region.
+const STALLS: [Stall; 5] = [
+    Stall {
+        item: 0,
+        name: "wood",
+        price: 6,
+        pays: 4,
+        limit: 40,
+    },
+    Stall {
+        item: 1,
+        name: "stone",
+        price: 30,
+        pays: 90,
+        limit: 9,
+    },
+    Stall {
+        item: 0,
+        name: "wood",
+        price: 2,
+        pays: 1,
+        limit: 1_000_000,
+    },
+    Stall {
+        item: 2,
+        name: "grain",
+        price: 1,
+        pays: 3,
+        limit: 301,
+    },
+    Stall {
+        item: 4,
+        name: "relic",
+        price: 700,
+        pays: 200,
+        limit: 3,
+    },
+];
+
+/// How many thirds of its limit a market has in stock.
+const FILLED: [u32; 4] = [0, 1, 3, 2];
+
 const SKILLS: u32 = 4;
 
 /// Terrain, peasants and money of regions.
@@ -133,6 +186,34 @@ const MONTH_LONG: [&str; 9] = [
     "PRODUCE wood",
 ];
 
+/// What a unit is told to sell, and to buy.
+const SOLD: [&str; 8] = [
+    "SELL 3 wood",
+    "SELL 40 grain",
+    "",
+    "SELL 7 wood",
+    "SELL 2 stone",
+    "SELL 1000000 wood",
+    "SELL 1 relic",
+    "SELL 9 cart",
+];
+
+const BOUGHT: [&str; 13] = [
+    "BUY 2 grain",
+    "BUY 5 wood",
+    "",
+    "BUY 100 grain",
+    "BUY 1 relic",
+    "BUY 30 wood",
+    "",
+    "BUY 4 stone",
+    "BUY 999999999 wood",
+    "BUY 8 grain",
+    "",
+    "BUY 3 wood",
+    "BUY 1 cart",
+];
+
 const RECRUITED: [u32; 5] = [1, 20, 3, 7, 400];
 
 /// The orders of one of so many units are for the next one, which is another faction's.
@@ -154,12 +235,42 @@ fn dealt<T: Copy + Drop>(table: &[T], number: u32) -> T
 
 // ---- the world
 
+/// The markets of a region.
+fn stalls_of(region: u32) -> [Stall; 2] {
+    [
+        dealt(&STALLS, region),
+        dealt(&STALLS, region.wrapping_add(1)),
+    ]
+}
+
+fn add_stall(alloc: Global, stall: Stall, text: &mut String) -> Result<(), AllocError> {
+    let Stall {
+        item: _,
+        name,
+        price,
+        pays,
+        limit,
+    } = stall;
+    let table = format!(in alloc;
+        "[[region.market]]\nitem = \"{name}\"\nprice = {price}\npays = {pays}\nlimit = {limit}\nrestock = 5\n"
+    )?;
+    text.push_str(table.as_str())
+}
+
+fn add_stalls(alloc: Global, number: u32, text: &mut String) -> Result<(), AllocError> {
+    for stall in stalls_of(number).iter() {
+        add_stall(alloc, *stall, text)?;
+    }
+    Ok(())
+}
+
 fn add_region(alloc: Global, number: u32, text: &mut String) -> Result<(), AllocError> {
     let (terrain, peasants, money) = dealt(&LANDS, number);
     let table = format!(in alloc;
         "[[region]]\nnumber = {number}\nname = \"Vale\"\nterrain = \"{terrain}\"\npeasants = {peasants}\nmoney = {money}\n"
     )?;
-    text.push_str(table.as_str())
+    text.push_str(table.as_str())?;
+    add_stalls(alloc, number, text)
 }
 
 pub(crate) fn crowd_world(alloc: Global) -> Result<World, Fail> {
@@ -167,7 +278,7 @@ pub(crate) fn crowd_world(alloc: Global) -> Result<World, Fail> {
     for number in 1..=REGIONS {
         add_region(alloc, number, &mut text)?;
     }
-    Ok(read_old_world(alloc, text.as_str())?)
+    Ok(read_world(alloc, text.as_str())?)
 }
 
 // ---- the units
@@ -262,13 +373,54 @@ fn has(alloc: Global) -> Result<Sequence<StoredHas>, AllocError> {
     Ok(has)
 }
 
+// ---- the stocks
+
+fn stock_of(region: u32, stall: Stall) -> i64 {
+    let thirds = dealt(&FILLED, region.wrapping_add(stall.item));
+    i64::from(stall.limit.wrapping_mul(thirds) / 3)
+}
+
+/// Adds the stocks of a region, each that isn't 0.
+fn add_stocks(region: u32, markets: &mut Sequence<StoredMarket>) -> Result<(), AllocError> {
+    for stall in stalls_of(region).iter() {
+        let stock = stock_of(region, *stall);
+        if stock != 0 {
+            markets.push(StoredMarket {
+                region: i64::from(region),
+                item: i64::from(stall.item),
+                stock,
+            })?;
+        }
+    }
+    Ok(())
+}
+
+fn stocks(alloc: Global) -> Result<Sequence<StoredMarket>, AllocError> {
+    let mut markets = Sequence::new(alloc);
+    for region in 1..=REGIONS {
+        add_stocks(region, &mut markets)?;
+    }
+    Ok(markets)
+}
+
+/// How much of an item all regions have in stock.
+fn all_in_stock(markets: &Sequence<StoredMarket>, item: u32) -> i64 {
+    let mut all: i64 = 0;
+    for row in markets.as_slice() {
+        if row.item == i64::from(item) {
+            all = all.wrapping_add(row.stock);
+        }
+    }
+    all
+}
+
 // ---- factions and books
 
 fn head(alloc: Global) -> Result<Sequence<StoredHead>, AllocError> {
     let mut all = Sequence::new(alloc);
     all.push(StoredHead {
         id: 1,
-        format: 1,
+        format: 2,
         month: 0,
         next_faction: i64::from(FACTIONS) + 1,
         next_unit: i64::from(UNITS) + 1,
@@ -308,7 +460,7 @@ fn reports(alloc: Global) -> Result<Sequence<StoredReport>, AllocError> {
     Ok(all)
 }
 
-/// Books under joining what all units have of a thing.
+/// Books under joining what there is of a thing.
 fn book(thing: i64, amount: i64, books: &mut Sequence<StoredBooks>) -> Result<(), AllocError> {
     if amount == 0 {
         return Ok(());
@@ -340,20 +492,25 @@ fn all_pieces(item: u32) -> i64 {
     all
 }
 
-fn book_all(books: &mut Sequence<StoredBooks>) -> Result<(), AllocError> {
+fn book_all(
+    markets: &Sequence<StoredMarket>,
+    books: &mut Sequence<StoredBooks>,
+) -> Result<(), AllocError> {
     let (money, men) = money_and_men();
     book(MONEY_BOOKED, money, books)?;
     book(PEOPLE_BOOKED, men, books)?;
     for item in 0..ITEMS {
         let thing = FIRST_ITEM_BOOKED.wrapping_add(i64::from(item));
-        book(thing, all_pieces(item), books)?;
+        let pieces = all_pieces(item).wrapping_add(all_in_stock(markets, item));
+        book(thing, pieces, books)?;
     }
     Ok(())
 }
 
 fn rows(alloc: Global, world: &World) -> Result<Parts, AllocError> {
     let mut parts = founded(alloc, world, b"gm")?.parts()?;
-    book_all(&mut parts.books)?;
+    parts.markets = stocks(alloc)?;
+    book_all(&parts.markets, &mut parts.books)?;
     parts.campaign = head(alloc)?;
     parts.factions = factions(alloc)?;
     parts.units = units(alloc)?;
@@ -385,7 +542,10 @@ fn add_orders(alloc: Global, number: u32, mailing: &mut String) -> Result<(), Al
     let unit = told_unit(number);
     let men = dealt(&RECRUITED, number);
     let all_month = dealt(&MONTH_LONG, number);
-    let orders = format!(in alloc; "UNIT {unit}\nTAX\nRECRUIT {men}\n{all_month}\n")?;
+    let (sold, bought) = (dealt(&SOLD, number), dealt(&BOUGHT, number));
+    let orders = format!(in alloc;
+        "UNIT {unit}\n{sold}\n{bought}\nTAX\nRECRUIT {men}\n{all_month}\n"
+    )?;
     mailing.push_str(orders.as_str())
 }
 

@@ -6,5 +6,6 @@ pub(crate) mod produce;
 pub(crate) mod recruit;
 pub(crate) mod shares;
 pub(crate) mod tax;
+pub(crate) mod trade;
 pub(crate) mod upkeep;
 pub(crate) mod work;

@@ -1,5 +1,5 @@
 //! A campaign as lists of numbers.
-use atl_state::{Campaign, Event, Unit};
+use atl_state::{Campaign, Event, Region, Unit};
 use atl_tables::let_go;
 use std::alloc::{AllocError, Global};
 
@@ -31,17 +31,26 @@ pub(crate) struct Land {
     pub money: u64,
 }
 
+/// Pieces of an item that a region has in stock.
+#[derive(Clone, Copy, Debug, Drop, PartialEq, Eq)]
+pub(crate) struct Stock {
+    pub region: u32,
+    pub item: u32,
+    pub amount: u64,
+}
+
 /// A campaign, and what came of its orders.
 pub(crate) struct Plain {
     pub people: Vec<Person>,
     pub goods: Vec<Good>,
     pub lands: Vec<Land>,
+    pub stocks: Vec<Stock>,
     pub events: Vec<Event>,
 }
 
 impl Drop for Plain {
     fn drop(self) {
-        let_go!(self: Plain { people, goods, lands, events });
+        let_go!(self: Plain { people, goods, lands, stocks, events });
     }
 }
 
@@ -111,16 +120,38 @@ fn lands_of(alloc: Global, campaign: &Campaign) -> Result<Vec<Land>, AllocError>
     Ok(lands)
 }
 
+/// Adds the stocks of a region.
+fn add_stocks(number: u32, region: &Region, stocks: &mut Vec<Stock>) -> Result<(), AllocError> {
+    for (item, amount) in region.stocks.iter() {
+        stocks.push(Stock {
+            region: number,
+            item,
+            amount: u64::from(*amount),
+        })?;
+    }
+    Ok(())
+}
+
+fn stocks_of(alloc: Global, campaign: &Campaign) -> Result<Vec<Stock>, AllocError> {
+    let mut stocks = Vec::new(alloc);
+    for (number, region) in campaign.regions() {
+        add_stocks(number, region, &mut stocks)?;
+    }
+    Ok(stocks)
+}
+
 impl Plain {
     /// A campaign, of whose orders nothing came yet.
     pub fn of(alloc: Global, campaign: &Campaign) -> Result<Plain, AllocError> {
         let people = people_of(alloc, campaign)?;
         let goods = goods_of(alloc, campaign)?;
         let lands = lands_of(alloc, campaign)?;
+        let stocks = stocks_of(alloc, campaign)?;
         Ok(Plain {
             people,
             goods,
             lands,
+            stocks,
             events: Vec::new(alloc),
         })
     }
@@ -148,6 +179,19 @@ impl Plain {
         });
         match found {
             Some(good) => good.amount,
+            None => 0,
+        }
+    }
+
+    /// How much a region has of an item in stock.
+    pub fn stock(&self, region: u32, item: u32) -> u64 {
+        let found = self
+            .stocks
+            .iter()
+            .copied()
+            .find(|stock| stock.region == region && stock.item == item);
+        match found {
+            Some(stock) => stock.amount,
             None => 0,
         }
     }
@@ -185,6 +229,33 @@ impl Plain {
             self.goods.push(new)?;
         }
         Ok(())
+    }
+
+    /// A region has so much of an item in stock; one that is new to it comes last.
+    pub fn set_stock(&mut self, new: Stock) -> Result<(), AllocError> {
+        let mut is_new = true;
+        for stock in self.stocks.iter_mut() {
+            if stock.region == new.region && stock.item == new.item {
+                stock.amount = new.amount;
+                is_new = false;
+            }
+        }
+        if is_new {
+            self.stocks.push(new)?;
+        }
+        Ok(())
+    }
+
+    /// The stocks that are there, by region and item.
+    pub fn sorted_stocks(&self, alloc: Global) -> Result<Vec<Stock>, AllocError> {
+        let mut stocks = Vec::new(alloc);
+        for stock in self.stocks.iter() {
+            if stock.amount != 0 {
+                stocks.push(*stock)?;
+            }
+        }
+        stocks.sort_unstable_by_key(|stock| [stock.region as usize, stock.item as usize]);
+        Ok(stocks)
     }
 
     /// The goods that are there, by unit, items before skills, and by their numbers.

@@ -1,0 +1,201 @@
+//! SELL and BUY: units sell to the markets of their regions, and buy of them.
+use super::plain::{Good, Person, Plain, Stock};
+use super::pots::{Claim, Claimed, Given, Pot, own, shared, tell};
+use super::tax::MOST_MONEY;
+use atl_instant::{Month, Written};
+use atl_orders::Order;
+use atl_state::EventFault;
+use atl_tables::{Market, World};
+use std::alloc::{AllocError, Global};
+
+/// The most pieces of an item that a unit has.
+const MOST_PIECES: u64 = MOST_MONEY;
+
+/// What is done with a market.
+#[derive(Clone, Copy, Drop)]
+pub(crate) enum Trade {
+    Sell,
+    Buy,
+}
+
+/// How many of which item an order is about.
+fn asked(month: &Month, order: Written) -> (u64, u16) {
+    match month.order(order.faction, order.place) {
+        Some((_, Order::Sell { amount, item } | Order::Buy { amount, item })) => {
+            (u64::from(*amount), *item)
+        }
+        _ => (0, 0),
+    }
+}
+
+/// How many a unit can sell: of those that it has, and as it has room for money.
+fn most_sold(plain: &Plain, person: Person, market: &Market) -> u64 {
+    let held = plain.amount(person.number, false, u32::from(market.item));
+    let room = MOST_MONEY.saturating_sub(person.money);
+    held.min(room.checked_div(u64::from(market.pays)).unwrap_or(0))
+}
+
+/// How many a unit can buy: as it has money, and room for the item.
+fn most_bought(plain: &Plain, person: Person, market: &Market) -> u64 {
+    let held = plain.amount(person.number, false, u32::from(market.item));
+    let payable = person
+        .money
+        .checked_div(u64::from(market.price))
+        .unwrap_or(0);
+    payable.min(MOST_PIECES.saturating_sub(held))
+}
+
+fn is_short(trade: Trade, plain: &Plain, person: Person, market: &Market) -> bool {
+    match trade {
+        Trade::Sell => plain.amount(person.number, false, u32::from(market.item)) == 0,
+        Trade::Buy => person.money < u64::from(market.price),
+    }
+}
+
+fn claim(trade: Trade, world: &World, plain: &Plain, month: &Month, order: Written) -> Claim {
+    let Some(person) = own(plain, order) else {
+        return Claim::Fault(EventFault::NotYours);
+    };
+    let (amount, item) = asked(month, order);
+    let Some(market) = world.market(person.region, item) else {
+        return Claim::Fault(EventFault::NoMarket);
+    };
+    if is_short(trade, plain, person, market) {
+        return Claim::Fault(EventFault::NotEnough);
+    }
+    let most = match trade {
+        Trade::Sell => most_sold(plain, person, market),
+        Trade::Buy => most_bought(plain, person, market),
+    };
+    Claim::Want(u32::from(item), amount.min(most))
+}
+
+fn claims(
+    alloc: Global,
+    trade: Trade,
+    world: &World,
+    plain: &Plain,
+    month: &Month,
+    orders: &[Written],
+) -> Result<Vec<Claimed>, AllocError> {
+    let mut claims = Vec::new(alloc);
+    for order in orders {
+        claims.push(Claimed {
+            order: *order,
+            claim: claim(trade, world, plain, month, *order),
+        })?;
+    }
+    Ok(claims)
+}
+
+/// What a market takes or gives.
+fn pot(trade: Trade, plain: &Plain, region: u32, market: &Market) -> Pot {
+    let thing = u32::from(market.item);
+    let stock = plain.stock(region, thing);
+    Pot {
+        region,
+        thing,
+        size: match trade {
+            Trade::Sell => u64::from(market.limit).saturating_sub(stock),
+            Trade::Buy => stock,
+        },
+    }
+}
+
+/// Adds the pots of a region's markets.
+fn add_pots(
+    trade: Trade,
+    world: &World,
+    plain: &Plain,
+    region: u32,
+    pots: &mut Vec<Pot>,
+) -> Result<(), AllocError> {
+    if let Some(place) = world.region(region) {
+        for (_, market) in place.markets.iter() {
+            pots.push(pot(trade, plain, region, market))?;
+        }
+    }
+    Ok(())
+}
+
+fn pots(alloc: Global, trade: Trade, world: &World, plain: &Plain) -> Result<Vec<Pot>, AllocError> {
+    let mut pots = Vec::new(alloc);
+    for land in plain.lands.iter() {
+        add_pots(trade, world, plain, land.number, &mut pots)?;
+    }
+    Ok(pots)
+}
+
+/// So many pieces go from one who has them to one who gets them, who had so many.
+fn moved(trade: Trade, held: u64, stock: u64, pieces: u64) -> (u64, u64) {
+    match trade {
+        Trade::Sell => (held.wrapping_sub(pieces), stock.wrapping_add(pieces)),
+        Trade::Buy => (held.wrapping_add(pieces), stock.wrapping_sub(pieces)),
+    }
+}
+
+/// The money of a unit behind its trade.
+fn money_behind(trade: Trade, person: Person, market: &Market, pieces: u64) -> u64 {
+    match trade {
+        Trade::Sell => person
+            .money
+            .wrapping_add(pieces.wrapping_mul(u64::from(market.pays))),
+        Trade::Buy => person
+            .money
+            .wrapping_sub(pieces.wrapping_mul(u64::from(market.price))),
+    }
+}
+
+/// A unit trades its share.
+fn pay(trade: Trade, world: &World, plain: &mut Plain, given: Given) -> Result<(), AllocError> {
+    let Some(person) = plain.person(given.unit) else {
+        return Ok(());
+    };
+    let item = u16::try_from(given.thing).unwrap_or(0);
+    let Some(market) = world.market(person.region, item) else {
+        return Ok(());
+    };
+    let held = plain.amount(given.unit, false, given.thing);
+    let stock = plain.stock(person.region, given.thing);
+    let (held, stock) = moved(trade, held, stock, given.amount);
+    let money = money_behind(trade, person, market, given.amount);
+    plain.set_person(given.unit, person.men, money);
+    plain.set_amount(Good {
+        unit: given.unit,
+        is_skill: false,
+        thing: given.thing,
+        amount: held,
+    })?;
+    plain.set_stock(Stock {
+        region: person.region,
+        item: given.thing,
+        amount: stock,
+    })
+}
+
+fn pay_all(
+    trade: Trade,
+    world: &World,
+    plain: &mut Plain,
+    given: &[Given],
+) -> Result<(), AllocError> {
+    for one in given {
+        pay(trade, world, plain, *one)?;
+    }
+    Ok(())
+}
+
+/// Trades by these orders.
+pub(crate) fn play(
+    alloc: Global,
+    trade: Trade,
+    world: &World,
+    plain: &mut Plain,
+    month: &Month,
+    orders: &[Written],
+) -> Result<(), AllocError> {
+    let claims = claims(alloc, trade, world, plain, month, orders)?;
+    let given = shared(alloc, plain, &claims, &pots(alloc, trade, world, plain)?)?;
+    tell(plain, &claims, &given)?;
+    pay_all(trade, world, plain, &given)
+}
