@@ -1,7 +1,7 @@
 #!/usr/bin/env bash
-# Kills `join`, `mail` and `close`, by turns, at random moments, and finds each time that the campaign in the file is the one before the command
-# or the one after it: by `report`, by the rows of all tables, and by `PRAGMA integrity_check`. Before that the same is found by sqlite3 alone
-# of a copy of what the kill left. Where strace is there, each command is then killed at each system call that it makes, and each of its
+# Kills `join`, `mail`, `close` and `upgrade`, by turns, at random moments, and finds each time that the campaign in the file is the one before
+# the command or the one after it: by `report`, by the rows of all tables, and by `PRAGMA integrity_check`. Before that the same is found by
+# sqlite3 alone of a copy of what the kill left. Where strace is there, each command is then killed at each system call that it makes, and each of its
 # calls on files is made to fail, once with a fault of the disk and once with a full disk. Called as
 #   tests/killed.sh [KILLS]
 # with 200 kills where none is said, it takes one to four minutes once the program is built, wants sqlite3, and ends with what was found. A command that
@@ -19,6 +19,8 @@ program=$here/crates/atl_gm/out/atl_gm
 "$program" join --db "$db" --name Avalon --pass pw --seed 0 >/dev/null || exit 1
 first=$work/first.db
 cp "$db" "$first"
+# an old file, which each upgrade begins with, and a world for it
+old=$here/tests/old/trial.db upgrade=(upgrade --world "$here/worlds/small.toml")
 round=0 killed=0 before=0 after=0 logs=0 factions=1
 
 fail() {
@@ -60,12 +62,21 @@ tell_ends() {
   [ "$rows_before" != "$rows_after" ] || fail 'the command changes nothing'
 }
 
+# is_reported FILE: whether the first faction gets its report, or is told of an old file that it is one
+is_reported() {
+  "$program" report --db "$1" --faction 1 --pass pw >"$work/report" 2>"$work/refusal"
+  if [ "${command[0]}" = upgrade ] && [ "$found" = "$rows_before" ]; then
+    [ "$(cat "$work/refusal")" = 'fault: OldFormat' ]
+  else
+    head -n 1 "$work/report" | grep -qx 'Atlantis report, month [0-9]*, faction 1 "Avalon".'
+  fi
+}
+
 # judge FILE: what a command left that did not come to its end. The log is in the file then.
 judge() {
   copied "$1"
   one_of_both "$work/left.db" || fail 'sqlite3 finds another campaign'
-  "$program" report --db "$1" --faction 1 --pass pw >"$work/report" || fail 'there is no report'
-  head -n 1 "$work/report" | grep -qx 'Atlantis report, month [0-9]*, faction 1 "Avalon".' || fail 'there is another report'
+  is_reported "$1" || fail 'there is another report, or none'
   rm -f "$1-wal"
   copied "$1"
   one_of_both "$work/left.db" || fail 'the program leaves another campaign'
@@ -76,29 +87,35 @@ now() {
   echo $((${EPOCHREALTIME/[.,]/}))
 }
 
-# Random moments. The campaign goes on from what each kill left.
+# Random moments. The campaign goes on from what each kill left; an upgrade begins with the old file.
 while ((killed < kills)); do
   round=$((round + 1))
-  case $((round % 3)) in
+  file=$db
+  case $((round % 4)) in
     1) command=(join --name "Faction $round" --pass pw --seed "$round") ;;
     2)
       printf '#ATLANTIS 1\nUNIT 1\nWORK ; round %s\n' "$round" >"$mailing"
       command=(mail --faction 1 --pass pw --file "$mailing")
       ;;
-    0) command=(close --month $(($(month_of "$db") + 1)) --pass gm --seed "$round") ;;
+    3) command=(close --month $(($(month_of "$db") + 1)) --pass gm --seed "$round") ;;
+    0)
+      command=("${upgrade[@]}")
+      file=$work/old.db
+      cp "$old" "$file" && rm -f "$file-wal"
+      ;;
   esac
-  tell_ends "$db"
-  cp "$db" "$work/timed.db" && rm -f "$work/timed.db-wal"
+  tell_ends "$file"
+  cp "$file" "$work/timed.db" && rm -f "$work/timed.db-wal"
   begin=$(now)
   "$program" "${command[@]}" --db "$work/timed.db" >/dev/null
   moment=$(((RANDOM * 32768 + RANDOM) % ($(now) - begin)))
-  "$program" "${command[@]}" --db "$db" >/dev/null 2>&1 &
+  "$program" "${command[@]}" --db "$file" >/dev/null 2>&1 &
   process=$!
   sleep "$(printf '%d.%06d' $((moment / 1000000)) $((moment % 1000000)))"
   kill -KILL "$process" 2>/dev/null
   wait "$process" 2>/dev/null || killed=$((killed + 1))
-  [ ! -e "$db-wal" ] || [ "$(stat -c %s "$db-wal")" -le 41 ] || logs=$((logs + 1))
-  judge "$db"
+  [ ! -e "$file-wal" ] || [ "$(stat -c %s "$file-wal")" -le 41 ] || logs=$((logs + 1))
+  judge "$file"
   if [ "$found" = "$rows_after" ]; then
     after=$((after + 1))
     [ "${command[0]}" = join ] && factions=$((factions + 1))
@@ -111,7 +128,7 @@ while ((killed < kills)); do
 done
 echo "killed: $killed of $round commands, the others had ended; $logs left a log; $before campaigns as before, $after as after, no other"
 
-# injected WHAT CALL NUMBER: the command on a copy of the campaign with one faction, where this call is killed or fails
+# injected WHAT CALL NUMBER: the command on a copy of `first`, where this call is killed or fails
 injected() {
   cp "$first" "$work/stopped.db" && rm -f "$work/stopped.db-wal"
   strace -f -o "$work/injected" -e "inject=$2:$1:when=$3" "$program" "${command[@]}" --db "$work/stopped.db" >/dev/null 2>&1
@@ -140,13 +157,17 @@ stop_each() {
 
 if command -v strace >/dev/null; then
   printf '#ATLANTIS 1\nUNIT 1\nTAX\n' >"$mailing"
-  for name in join mail close; do
+  for name in join mail close upgrade; do
     case $name in
       join) command=(join --name Last --pass pw --seed 1) ;;
       mail) command=(mail --faction 1 --pass pw --file "$mailing") ;;
       close)
         "$program" mail --db "$first" --faction 1 --pass pw --file "$mailing" >/dev/null || exit 1
         command=(close --month 1 --pass gm --seed 1)
+        ;;
+      upgrade)
+        command=("${upgrade[@]}")
+        first=$old
         ;;
     esac
     tell_ends "$first"

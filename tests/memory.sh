@@ -99,6 +99,7 @@ each "$db" /dev/null mail --db "$run" --faction 1 --pass pw --file "$mailing"
 each "$db" /dev/null close --db "$run" --month 1 --pass gm --seed 0
 each "$db" /dev/null report --db "$run" --faction 1 --pass pw
 each "$db" /dev/null books --db "$run"
+each "$here/tests/old/trial.db" /dev/null upgrade --db "$run" --world "$here/worlds/small.toml"
 each "$db" /dev/null serve --db "$run" --port 0 --count 0 --seed 0
 
 [ $failed = 0 ] && echo 'memory: all as expected'

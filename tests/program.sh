@@ -1,61 +1,11 @@
 #!/usr/bin/env bash
 # Runs the program on worlds, mailings, databases and command lines, many of which it refuses, and compares standard output, standard
-# error and status with what docs/FORMATS.md says; then it plays what the pages show (tests/pages.sh). Called without arguments, it takes
-# under a minute once the program is built, and ends with 'program: all as expected'. It wants sqlite3: without that the rows that look into
+# error and status with what docs/FORMATS.md says; then it upgrades old files (tests/upgrade.sh) and plays what the pages show
+# (tests/pages.sh). Called without arguments, it takes about a minute once the program is built, and ends with 'program: all as expected'. It wants sqlite3: without that the rows that look into
 # a database by it, or make one with it, are passed over, which is said at the end. The gate runs only the first report that crates/atl_gm stores.
 set -u
 here=$(cd "$(dirname "$0")/.." && pwd)
-work=$(mktemp -d)
-trap 'rm -rf "$work"' EXIT
-cd "$work" || exit 1
-out=$work/out err=$work/err
-failed=0
-has_sqlite=
-command -v sqlite3 >/dev/null && has_sqlite=yes
-
-# fail NAME REASON..
-fail() {
-  echo "$1: ${*:2}"
-  failed=1
-}
-
-# check NAME STATUS OUTPUT ERROR ARGUMENT..: what is on standard input is handed on; '-' for ERROR is any text but none
-check() {
-  local name=$1 status=$2 output=$3 error=$4 told
-  shift 4
-  "$here/gm" "$@" >"$out" 2>"$err"
-  told=$?
-  if [ "$told" != "$status" ] || [ "$(cat "$out")" != "$output" ] ||
-    if [ "$error" = - ]; then [ ! -s "$err" ]; else [ "$(cat "$err")" != "$error" ]; fi; then
-    fail "$name" "status $told, output and error:"
-    cat "$out" "$err"
-  fi
-  [ ! -s "$out" ] || [ -z "$(tail -c 1 "$out")" ] || fail "$name" 'the output does not end with a line feed'
-}
-
-# whole FILE: no log with content is beside the file. One of 41 bytes or less holds nothing.
-whole() {
-  local log
-  for log in "$1-wal" "$1-journal"; do
-    [ ! -e "$log" ] || [ "$(stat -c %s "$log")" -le 41 ] || fail "$1" "there is content in $log"
-  done
-}
-
-# rows FILE: all that the database holds, or its bytes where sqlite3 is not there
-rows() {
-  if [ -n "$has_sqlite" ]; then sqlite3 "$1" .dump; else od -c "$1"; fi
-}
-
-# refused NAME FILE ERROR ARGUMENT..: the command has status 1, and the file's rows stay
-refused() {
-  local name=$1 db=$2 error=$3
-  shift 3
-  cp "$db" "$work/before"
-  check "$name" 1 '' "$error" "$@"
-  cp "$db" "$work/after"
-  [ "$(rows "$work/before")" = "$(rows "$work/after")" ] || fail "$name" 'the rows changed'
-  whole "$db"
-}
+. "$here/tests/checks.sh"
 
 small=$here/worlds/small.toml
 isle=$here/worlds/isle.toml
@@ -153,6 +103,65 @@ people total 1001' '' books --db "$closed"
 whole "$closed"
 check 'a month that is no number' 2 '' - close --db "$closed" --month x --pass gm --seed 0
 
+# A market: over three months a unit buys of the stock, and then finds none wanted.
+mart=$work/mart.db
+{
+  cat "$small"
+  printf '[[region.market]]\nitem = "wood"\nprice = 7\npays = 5\nlimit = 30\nrestock = 20\n[[item]]\nname = "wood"\nweight = 5\ncarry = 0\n'
+} >"$work/mart.toml"
+check 'a market founded' 0 'founded, 1 regions' '' found --world "$work/mart.toml" --db "$mart" --pass gm
+check 'a market joined' 0 'faction 1, unit 1' '' join --db "$mart" --name Avalon --pass pw --seed 0
+check 'a market without a stock' 0 'Atlantis report, month 0, faction 1 "Avalon".
+Orders:
+None.
+Region 1 "Vale", plain: 1000 peasants, 500 money.
+Exits: none.
+Market wood: 0 in stock at 7, 30 wanted at 5.
+* Unit 1 "Unit 1": 1 men, 1000 money.' '' report --db "$mart" --faction 1 --pass pw
+check 'a market stocked' 0 'month 1 closed' '' close --db "$mart" --month 1 --pass gm --seed 0
+check 'a market with a stock' 0 'Atlantis report, month 1, faction 1 "Avalon".
+Orders:
+Unit 1, line 0, WORK: done 12.
+Region 1 "Vale", plain: 1000 peasants, 1500 money.
+Exits: none.
+Market wood: 20 in stock at 7, 10 wanted at 5.
+* Unit 1 "Unit 1": 1 men, 1002 money.' '' report --db "$mart" --faction 1 --pass pw
+printf '#ATLANTIS 1\nUNIT 1\nBUY 3 wood\n' >"$mailing"
+check 'an order to buy' 0 '1 orders, 0 faults' '' mail --db "$mart" --faction 1 --pass pw --file "$mailing"
+check 'a market bought from' 0 'month 2 closed' '' close --db "$mart" --month 2 --pass gm --seed 0
+check 'what was bought' 0 'Atlantis report, month 2, faction 1 "Avalon".
+Orders:
+Unit 1, line 3, BUY: done 3.
+Unit 1, line 0, WORK: done 12.
+Region 1 "Vale", plain: 1000 peasants, 2500 money.
+Exits: none.
+Market wood: 30 in stock at 7, 0 wanted at 5.
+* Unit 1 "Unit 1": 1 men, 983 money, 3 wood.' '' report --db "$mart" --faction 1 --pass pw
+check 'the books of a market' 0 'money founding 500
+money joining 1000
+money income 2000
+money wages 24
+money upkeep -20
+money bought -21
+money total 3483
+people founding 1000
+people joining 1
+people total 1001
+item "wood" stocked 33
+item "wood" total 33' '' books --db "$mart"
+printf '#ATLANTIS 1\nUNIT 1\nSELL 2 wood\n' >"$mailing"
+check 'an order to sell' 0 '1 orders, 0 faults' '' mail --db "$mart" --faction 1 --pass pw --file "$mailing"
+check 'a full market' 0 'month 3 closed' '' close --db "$mart" --month 3 --pass gm --seed 0
+check 'what was not sold' 0 'Atlantis report, month 3, faction 1 "Avalon".
+Orders:
+Unit 1, line 3, SELL: done 0.
+Unit 1, line 0, WORK: done 12.
+Region 1 "Vale", plain: 1000 peasants, 3500 money.
+Exits: none.
+Market wood: 30 in stock at 7, 0 wanted at 5.
+* Unit 1 "Unit 1": 1 men, 985 money, 3 wood.' '' report --db "$mart" --faction 1 --pass pw
+whole "$mart"
+
 # Where the dice lay a faction on an island: the words of seed 3 are 1686128983 and 2024058790, and there are three regions with land.
 island='Atlantis report, month 0, faction 1 "Avalon".
 Orders:
@@ -211,6 +220,7 @@ refused 'a header without a number' "$db" 'refused: 10 BadHeader' mail --db "$db
 echo '#ATLANTIS 2' >"$mailing"
 refused 'a header of another faction' "$db" 'refused: 11 WrongFaction' mail --db "$db" --faction 1 --pass pw --file "$mailing"
 refused 'a file that is founded twice' "$db" 'fault: NotEmpty' found --world "$small" --db "$db" --pass gm
+refused 'an upgrade of a file that is not old' "$db" 'fault: NotOld' upgrade --db "$db" --world "$small"
 
 # Foundings that are refused leave no campaign, and the next one takes their file.
 sed 's/^growth = 0$/growth = "0"/' "$small" >"$work/bad.toml"
@@ -228,6 +238,7 @@ printf '\377' >"$work/bytes.toml"
 none=$work/none
 check 'a world that is no text' 1 '' 'file: cannot read' found --world "$work/bytes.toml" --db "$none" --pass gm
 check 'a world that is not there' 1 '' 'file: cannot read' found --world "$work/no.toml" --db "$none" --pass gm
+check 'a new world that is not there' 1 '' 'file: cannot read' upgrade --world "$work/no.toml" --db "$none"
 check 'a world that is a folder' 1 '' 'file: cannot read' found --world "$work" --db "$none" --pass gm
 check 'a mailing that is not there' 1 '' 'file: cannot read' mail --db "$none" --faction 1 --pass pw --file "$work/no.txt"
 
@@ -237,6 +248,7 @@ check 'mail where no file is' 1 '' 'fault: NotACampaign' mail --db "$none" --fac
 check 'a report where no file is' 1 '' 'fault: NotACampaign' report --db "$none" --faction 1 --pass pw
 check 'books where no file is' 1 '' 'fault: NotACampaign' books --db "$none"
 check 'a serving where no file is' 1 '' 'fault: NotACampaign' serve --db "$none" --port 0 --count 0 --seed 0
+check 'an upgrade where no file is' 1 '' 'fault: NotACampaign' upgrade --world "$small" --db "$none"
 check 'a report of an empty path' 1 '' 'fault: NotACampaign' report --db '' --faction 1 --pass pw
 check 'a report below a file' 1 '' 'fault: Store' report --db "$db/none" --faction 1 --pass pw
 check 'a report of a folder that is not there' 1 '' 'fault: Store' report --db "$none/" --faction 1 --pass pw
@@ -246,6 +258,7 @@ check 'mail in no folder' 1 '' 'fault: Store' mail --db "$none/x.db" --faction 1
 check 'a closing in no folder' 1 '' 'fault: Store' close --db "$none/x.db" --month 1 --pass gm --seed 0
 check 'a report in no folder' 1 '' 'fault: Store' report --db "$none/x/y.db" --faction 1 --pass pw
 check 'books in no folder' 1 '' 'fault: Store' books --db "$none/x.db"
+check 'an upgrade in no folder' 1 '' 'fault: Store' upgrade --world "$small" --db "$none/x.db"
 check 'a serving in no folder' 1 '' 'fault: Store' serve --db "$none/x.db" --port 0 --count 0 --seed 0
 [ -z "$(find "$work" -name 'none*')" ] || fail 'a path without a file' 'a file was made'
 check 'a report where no file is, in this folder' 1 '' 'fault: NotACampaign' report --db none --faction 1 --pass pw
@@ -263,6 +276,7 @@ if [ -n "$has_sqlite" ]; then
   sqlite3 "$work/other.db" "CREATE TABLE note (words TEXT); INSERT INTO note VALUES ('milk')"
   refused 'a report of another database' "$work/other.db" 'fault: NotACampaign' report --db "$work/other.db" --faction 1 --pass pw
   refused 'a joining of another database' "$work/other.db" 'fault: NotACampaign' join --db "$work/other.db" --name A --pass pw --seed 0
+  refused 'an upgrade of another database' "$work/other.db" 'fault: NotACampaign' upgrade --world "$small" --db "$work/other.db"
   refused 'a founding in another database' "$work/other.db" 'fault: Store' found --world "$small" --db "$work/other.db" --pass gm
 
   # Campaigns that were changed by hand.
@@ -364,6 +378,7 @@ check 'no subcommand' 2 '' - </dev/null
 check 'an unknown subcommand' 2 '' - sail
 check 'an unknown option' 2 '' - trial --seed 1 </dev/null
 check 'an unknown option of a file' 2 '' - report --db "$db" --faction 1 --pass pw --month 1
+check 'an upgrade without a world' 2 '' - upgrade --db "$db"
 check 'an option that lacks' 2 '' - report --db "$db" --faction 1
 check 'another option that lacks' 2 '' - found --world "$small" --pass gm
 check 'an option without a value' 2 '' - report --db "$db" --faction 1 --pass
@@ -380,7 +395,7 @@ check 'a word that is no text' 2 '' - report --db "$db" --faction 1 --pass $'\37
 for words in help -h --help --version; do
   check "$words" 2 '' - $words </dev/null
 done
-for name in trial found join mail close report books serve; do
+for name in trial found join mail close report books serve upgrade; do
   check "help of $name" 2 '' - "$name" --help
   ! grep -q '>  *$' "$err" || fail "help of $name" 'an option is not told in words'
   cp "$err" "$work/told"
@@ -388,7 +403,8 @@ for name in trial found join mail close report books serve; do
 done
 whole "$db"
 
-# What the example and the pages show.
+# What old files come to, and what the example and the pages show.
+"$here/tests/upgrade.sh" || failed=1
 "$here/examples/first_hour.sh" >"$out" 2>"$err" && [ ! -s "$err" ] || fail 'the first hour' "$(tail -n 3 "$out" "$err")"
 "$here/tests/pages.sh" || failed=1
 

@@ -12,6 +12,7 @@ use std::alloc::{AllocError, Global};
 pub enum Call {
     Found,
     Open,
+    Upgrade,
     Join,
     Mail,
     Close,
@@ -23,9 +24,10 @@ pub enum Call {
 }
 
 /// The calls in the order of their trials.
-pub const CALLS: [Call; 10] = [
+pub const CALLS: [Call; 11] = [
     Call::Found,
     Call::Open,
+    Call::Upgrade,
     Call::Join,
     Call::Mail,
     Call::Close,
@@ -106,7 +108,9 @@ fn commands_of(alloc: Global, call: Call) -> Result<Vec<Command>, AllocError> {
         Call::Close => one(alloc, close(alloc)?),
         Call::Report => one(alloc, report(alloc)?),
         Call::RunAll => all_commands(alloc),
-        Call::Found | Call::Open | Call::Parts | Call::Check => Ok(Vec::new(alloc)),
+        Call::Found | Call::Open | Call::Upgrade | Call::Parts | Call::Check => {
+            Ok(Vec::new(alloc))
+        }
     }
 }
 

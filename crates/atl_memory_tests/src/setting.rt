@@ -1,9 +1,10 @@
 //! The campaign that is tried: two factions, eleven units, a boat, and mail of both; and the commands that are run in it.
 use atl_service::{Answer, Command, Service, found, open};
 use atl_tables::Sequence;
+use atl_test_files::old_file;
 use atl_test_worlds::ISLE;
 use atl_test_worlds::month::{OF_AVALON, OF_BREE, ROWS};
-use sqlite::{Alter, Connection};
+use sqlite::{Alter, Connection, MemStore};
 use std::alloc::{AllocError, Global};
 
 /// Eleven orders of the second faction in the place of its one, and a line that is none.
@@ -112,4 +113,11 @@ pub fn begun<S: Alter + Drop>(alloc: Global, conn: Connection<S>) -> Option<Serv
     let are_kept = is_kept(&mut service, mail(alloc, 1, "pw", OF_AVALON))
         && is_kept(&mut service, mail(alloc, 2, "pb", OF_BREE));
     if are_kept { Some(service) } else { None }
+}
+
+/// A file of the first format with the campaign of a service.
+pub fn old_of<S: Alter + Drop>(alloc: Global, service: Service<S>) -> Option<Connection<MemStore>> {
+    let mut conn = Connection::open_in_memory(alloc).ok()?;
+    old_file(&mut conn, ISLE, service.campaign()?).ok()?;
+    Some(conn)
 }

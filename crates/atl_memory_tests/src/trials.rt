@@ -1,12 +1,12 @@
 //! A call with memory short, and what it leaves.
 use crate::cases::{Call, Case};
-use crate::setting::begun;
+use crate::setting::{begun, old_of};
 use crate::shortage::Shortage;
 use crate::texts::{is_text, rows, rows_of, text_of, told};
-use atl_service::{Answer, Cause, Fault, Refused, Service, found, open};
+use atl_service::{Answer, Cause, Fault, Refused, Service, found, open, upgrade};
 use atl_state::{Campaign, CheckFault, check};
 use atl_tables::World;
-use atl_test_worlds::ISLE;
+use atl_test_worlds::{ISLE, ISLE_WITH_MARKET};
 use sqlite::{Alter, Connection};
 use std::alloc::Global;
 
@@ -185,6 +185,47 @@ fn opens<S: Alter + Drop>(
     }
 }
 
+/// Whether a file is an old one still, and is upgraded to what it comes to with ample memory.
+fn is_still_old<S: Alter + Drop>(alloc: Global, conn: Connection<S>, case: &Case) -> bool {
+    match open(alloc, conn) {
+        Err(
+            Refused {
+                why: Cause::OldFormat,
+                conn,
+            },
+        ) => match upgrade(alloc, conn, ISLE_WITH_MARKET) {
+            Ok(service) => has_rows(alloc, service, case.rows_behind(0)),
+            Err(_) => false,
+        },
+        _ => false,
+    }
+}
+
+/// The upgrade of an old file that has the campaign of a service.
+fn upgrades<S: Alter + Drop>(
+    alloc: Global,
+    service: Service<S>,
+    case: &Case,
+    shortage: &mut Shortage,
+) -> Came {
+    let Some(conn) = old_of(alloc, service) else {
+        return Came::Wrong("no old file");
+    };
+    shortage.begin(alloc);
+    let answer = upgrade(alloc, conn, ISLE_WITH_MARKET);
+    shortage.end(alloc);
+    match answer {
+        Ok(service) => done(has_rows(alloc, service, case.rows_behind(0))),
+        Err(
+            Refused {
+                why: Cause::Memory,
+                conn,
+            },
+        ) => held(is_still_old(alloc, conn, case)),
+        Err(_) => Came::Wrong("another cause"),
+    }
+}
+
 fn runs<S: Alter + Drop>(
     alloc: Global,
     mut service: Service<S>,
@@ -291,6 +332,7 @@ fn called<S: Alter + Drop>(
 ) -> Came {
     match case.call {
         Call::Open => opens(alloc, service, case, shortage),
+        Call::Upgrade => upgrades(alloc, service, case, shortage),
         Call::RunAll => runs_all(alloc, service, case, shortage),
         Call::Books => tells_books(alloc, service, case, shortage),
         Call::Parts | Call::Check => reads(alloc, service, case, shortage),

@@ -104,8 +104,11 @@ carry = 0
 "#
 );
 
-/// An island of three regions with land, and the sea.
-pub const ISLE: &str = r#"[rules]
+/// An island of three regions with land, and the sea. These texts stand behind its first region and its third one.
+macro_rules! isle {
+    ($of_first:literal, $of_third:literal) => {
+        concat!(
+            r#"[rules]
 maintenance = 10
 tax_per_man = 10
 recruit_price = 50
@@ -194,7 +197,9 @@ terrain = "plain"
 peasants = 1000
 money = 500
 east = 2
-[[region]]
+"#,
+            $of_first,
+            r#"[[region]]
 number = 2
 name = "Sound"
 terrain = "ocean"
@@ -210,11 +215,55 @@ peasants = 200
 money = 100
 north = 4
 west = 2
-[[region]]
+"#,
+            $of_third,
+            r#"[[region]]
 number = 4
 name = "Wood"
 terrain = "forest"
 peasants = 100
 money = 50
 south = 3
-"#;
+"#
+        )
+    };
+}
+
+/// The island without a market.
+pub const ISLE: &str = isle!("", "");
+
+/// The island with a market of wood in its first region.
+pub const ISLE_WITH_MARKET: &str = isle!(
+    r#"[[region.market]]
+item = "wood"
+price = 7
+pays = 5
+limit = 30
+restock = 20
+"#,
+    ""
+);
+
+/// The island with markets in two regions: of both items in the first one, and of carts in the third one.
+pub const ISLE_WITH_MARKETS: &str = isle!(
+    r#"[[region.market]]
+item = "cart"
+price = 90
+pays = 60
+limit = 5
+restock = 0
+[[region.market]]
+item = "wood"
+price = 7
+pays = 5
+limit = 30
+restock = 20
+"#,
+    r#"[[region.market]]
+item = "cart"
+price = 80
+pays = 50
+limit = 4
+restock = 1
+"#
+);

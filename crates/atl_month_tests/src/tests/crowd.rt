@@ -10,7 +10,7 @@ use atl_state::parts::{
     Parts, StoredBooks, StoredFaction, StoredHas, StoredHead, StoredReport, StoredUnit,
 };
 use atl_state::{Campaign, check, founded};
-use atl_tables::{Sequence, Text, World, read_old_world};
+use atl_tables::{Sequence, Text, World, read_world};
 use std::alloc::{AllocError, Global};
 use std::test::Fail;
 
@@ -167,7 +167,7 @@ pub(crate) fn crowd_world(alloc: Global) -> Result<World, Fail> {
     for number in 1..=REGIONS {
         add_region(alloc, number, &mut text)?;
     }
-    Ok(read_old_world(alloc, text.as_str())?)
+    Ok(read_world(alloc, text.as_str())?)
 }
 
 // ---- the units
@@ -268,7 +268,7 @@ fn head(alloc: Global) -> Result<Sequence<StoredHead>, AllocError> {
     let mut all = Sequence::new(alloc);
     all.push(StoredHead {
         id: 1,
-        format: 1,
+        format: 2,
         month: 0,
         next_faction: i64::from(FACTIONS) + 1,
         next_unit: i64::from(UNITS) + 1,

@@ -7,17 +7,17 @@ ghost use Rattle.atl_instant.specs.Fit.{AreFit};
 use atl_instant::Month;
 use atl_orders::{Mailing, read_mailing};
 use atl_state::are_distinct;
-use atl_tables::{World, read_old_world};
+use atl_tables::{World, read_world};
 use atl_test_worlds::{SMALL, WOOD_AND_SAILING};
 use std::alloc::{AllocError, Global};
 use std::test::Fail;
 
 pub(crate) fn world(alloc: Global) -> Result<World, Fail> {
-    Ok(read_old_world(alloc, WOOD_AND_SAILING)?)
+    Ok(read_world(alloc, WOOD_AND_SAILING)?)
 }
 
 pub(crate) fn small_world(alloc: Global) -> Result<World, Fail> {
-    Ok(read_old_world(alloc, SMALL)?)
+    Ok(read_world(alloc, SMALL)?)
 }
 
 fn mailings_of(alloc: Global, world: &World, texts: &[&str]) -> Result<Vec<Mailing>, Fail>

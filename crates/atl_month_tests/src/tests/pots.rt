@@ -5,7 +5,7 @@ ghost use Rattle.atl_month_tests.specs.Places.{pot_in};
 
 use atl_market::{Pots, pot_shares};
 use atl_state::{Campaign, Holding, LAST_UNIT, Unit, founded};
-use atl_tables::{Numbered, Text, World, read_old_world};
+use atl_tables::{Numbered, Text, World, read_world};
 use atl_test_worlds::TWO_REGIONS;
 use std::alloc::Global;
 use std::process::Abort;
@@ -157,6 +157,6 @@ fn shares_all(rt: &impl Abort, alloc: Global, world: &World) -> Result<(), Fail>
 
 #[test]
 fn pots_are_shared(rt: HostRuntime) -> Result<(), Fail> {
-    let world = read_old_world(rt.alloc(), TWO_REGIONS)?;
+    let world = read_world(rt.alloc(), TWO_REGIONS)?;
     shares_all(&rt, rt.alloc(), &world)
 }

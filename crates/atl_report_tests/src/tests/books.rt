@@ -5,7 +5,7 @@ use super::compare::is_text;
 use super::scenes::{CART, MAN, NOBODY, Person, Scene, WOOD, campaign_of};
 use atl_report::books_text;
 use atl_state::Campaign;
-use atl_tables::{World, read_old_world};
+use atl_tables::{World, read_world};
 use atl_test_worlds::{ISLE, SMALL};
 use std::alloc::Global;
 use std::process::Abort;
@@ -213,12 +213,12 @@ fn tells_all(
 
 #[test]
 fn books_of_money_and_people(rt: HostRuntime) -> Result<(), Fail> {
-    let world = read_old_world(rt.alloc(), SMALL)?;
+    let world = read_world(rt.alloc(), SMALL)?;
     tells_all(&rt, rt.alloc(), &world, &OF_SMALL)
 }
 
 #[test]
 fn books_of_items(rt: HostRuntime) -> Result<(), Fail> {
-    let world = read_old_world(rt.alloc(), ISLE)?;
+    let world = read_world(rt.alloc(), ISLE)?;
     tells_all(&rt, rt.alloc(), &world, &OF_ISLE)
 }

@@ -3,7 +3,7 @@ use super::compare::is_text;
 use atl_orders::{FaultyLine, LineFault, Verb};
 use atl_report::{View, report_text};
 use atl_state::{Event, EventVerb, Outcome};
-use atl_tables::{Sequence, Text, World, read_old_world};
+use atl_tables::{Sequence, Text, World, read_world};
 use atl_test_worlds::SMALL;
 use std::alloc::Global;
 use std::process::Abort;
@@ -197,6 +197,6 @@ fn tells_all(rt: &impl Abort, alloc: Global, world: &World) -> Result<(), Fail> 
 
 #[test]
 fn faults_and_events(rt: HostRuntime) -> Result<(), Fail> {
-    let world = read_old_world(rt.alloc(), SMALL)?;
+    let world = read_world(rt.alloc(), SMALL)?;
     tells_all(&rt, rt.alloc(), &world)
 }

@@ -7,7 +7,7 @@ use super::scenes::{
 use atl_orders::{FaultyLine, LineFault, Verb};
 use atl_report::{report_text, view};
 use atl_state::{Campaign, Event, EventVerb, Outcome};
-use atl_tables::{World, read_old_world};
+use atl_tables::{World, read_world};
 use atl_test_worlds::ISLE;
 use std::alloc::Global;
 use std::process::Abort;
@@ -554,7 +554,7 @@ fn tells(rt: &impl Abort, alloc: Global, world: &World, case: &Case) -> Result<(
 }
 
 fn tells_all(rt: &impl Abort, alloc: Global, cases: &[Case]) -> Result<(), Fail> {
-    let world = read_old_world(alloc, ISLE)?;
+    let world = read_world(alloc, ISLE)?;
     for case in cases {
         tells(rt, alloc, &world, case)?;
     }

@@ -6,7 +6,7 @@ use super::compare::is_text;
 use atl_orders::{FaultyLine, LineFault, Verb};
 use atl_report::{report_text, view};
 use atl_state::{Campaign, Event, EventVerb, Outcome, founded};
-use atl_tables::{World, read_old_world};
+use atl_tables::{World, read_world};
 use atl_test_worlds::SMALL;
 use std::alloc::Global;
 use std::process::Abort;
@@ -70,6 +70,6 @@ fn joins_and_reads(rt: &impl Abort, alloc: Global, world: &World) -> Result<(), 
 
 #[test]
 fn orders_and_regions(rt: HostRuntime) -> Result<(), Fail> {
-    let world = read_old_world(rt.alloc(), SMALL)?;
+    let world = read_world(rt.alloc(), SMALL)?;
     joins_and_reads(&rt, rt.alloc(), &world)
 }

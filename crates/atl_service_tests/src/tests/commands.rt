@@ -32,7 +32,7 @@ Exits: none.
 ";
 
 /// What a faction sees that begins in the second land region.
-const FAR_REPORT: &str = "Atlantis report, month 0, faction 1 \"Avalon\".
+pub(crate) const FAR_REPORT: &str = "Atlantis report, month 0, faction 1 \"Avalon\".
 Orders:
 None.
 Region 3 \"Far\", forest: 200 peasants, 100 money.

@@ -3,7 +3,7 @@ use super::files::{connected, new_files};
 use super::making::begun;
 use super::script::{Asked, Step, follow};
 use atl_service::{Cause, Refused, open};
-use atl_test_worlds::ISLE;
+use atl_test_worlds::ISLE_WITH_MARKET;
 use sqlite::{Alter, Connection};
 use std::alloc::Global;
 use std::process::Abort;
@@ -16,6 +16,10 @@ enum Told {
     /// The number of the rule that is broken.
     Damaged(u8),
     NotACampaign,
+    OldFormat,
+    NotOld,
+    Differs,
+    World,
     Store,
     /// Want of memory, or what only a founding is answered.
     Other,
@@ -25,6 +29,10 @@ fn refusal(why: &Cause) -> Told {
     match why {
         Cause::Damaged(rule) => Told::Damaged(rule.number()),
         Cause::NotACampaign => Told::NotACampaign,
+        Cause::OldFormat => Told::OldFormat,
+        Cause::NotOld => Told::NotOld,
+        Cause::Differs => Told::Differs,
+        Cause::World(_) => Told::World,
         Cause::Store => Told::Store,
         _ => Told::Other,
     }
@@ -43,13 +51,14 @@ fn is_told(rt: &impl Abort, told: Told, wanted: Told, sql: &str) {
 }
 
 /// Statements, and what opening is answered after them. Avalon and Bree have a unit each in region 3, on land.
-const ROWS: [(&str, Told); 22] = [
+const ROWS: [(&str, Told); 23] = [
     ("DELETE FROM mail", Told::Opens),
     ("CREATE TABLE notes (words TEXT)", Told::Opens),
     ("CREATE INDEX units_by_region ON unit (region)", Told::Opens),
     ("INSERT INTO has VALUES (1, 1, 0, 450)", Told::Opens),
     ("DELETE FROM campaign", Told::Damaged(1)),
-    ("UPDATE campaign SET format = 2", Told::Damaged(1)),
+    ("UPDATE campaign SET format = 3", Told::Damaged(1)),
+    ("UPDATE campaign SET format = 1", Told::OldFormat),
     ("UPDATE campaign SET world = 'no world'", Told::Damaged(1)),
     ("UPDATE campaign SET month = 10000", Told::Damaged(2)),
     ("UPDATE campaign SET pass = 'a b'", Told::Damaged(3)),
@@ -86,12 +95,37 @@ const ROWS: [(&str, Told); 22] = [
         Told::Damaged(12),
     ),
     (
-        "UPDATE campaign SET format = 2; UPDATE campaign SET month = 10000; UPDATE unit SET guard = 1",
+        "UPDATE campaign SET format = 3; UPDATE campaign SET month = 10000; UPDATE unit SET guard = 1",
         Told::Damaged(1),
     ),
     (
         "UPDATE unit SET guard = 1; UPDATE faction SET gone = 1 WHERE number = 2",
         Told::Damaged(7),
+    ),
+];
+
+/// The same of the stocks of a market of wood in the first region, of which there are up to 30.
+const STOCKS: [(&str, Told); 9] = [
+    (
+        "INSERT INTO market VALUES (1, 0, 30); INSERT INTO books VALUES (16, 2, 30)",
+        Told::Opens,
+    ),
+    ("INSERT INTO market VALUES (1, 0, 0)", Told::Damaged(2)),
+    ("INSERT INTO market VALUES (1, 0, 31)", Told::Damaged(2)),
+    (
+        "INSERT INTO market VALUES (1, 1, 1000000000)",
+        Told::Damaged(2),
+    ),
+    ("INSERT INTO market VALUES (1, 1, 5)", Told::Damaged(4)),
+    ("INSERT INTO market VALUES (9, 0, 5)", Told::Damaged(4)),
+    ("INSERT INTO market VALUES (1, 0, 5)", Told::Damaged(11)),
+    (
+        "INSERT INTO books VALUES (17, 0, 5); UPDATE unit SET money = money + 5 WHERE number = 1",
+        Told::Damaged(11),
+    ),
+    (
+        "DROP TABLE market; CREATE TABLE market (region INTEGER NOT NULL, item INTEGER NOT NULL, stock INTEGER NOT NULL) STRICT",
+        Told::Store,
     ),
 ];
 
@@ -145,7 +179,7 @@ const SHAPES: [(&str, Told); 10] = [
 
 /// The same, where two faults meet. In this order are told: the campaign's own row can't be asked for; it breaks the first rule; another
 /// table can't be read; a value of another type; tables made otherwise; rows that break a later rule.
-const MEETINGS: [(&str, Told); 15] = [
+const MEETINGS: [(&str, Told); 16] = [
     ("DROP TABLE campaign; DROP TABLE unit", Told::NotACampaign),
     (
         "DROP TABLE campaign; CREATE VIEW rich AS SELECT number FROM unit",
@@ -156,12 +190,16 @@ const MEETINGS: [(&str, Told); 15] = [
         Told::NotACampaign,
     ),
     (
-        "DROP TABLE unit; UPDATE campaign SET format = 2",
+        "DROP TABLE unit; UPDATE campaign SET format = 3",
         Told::Damaged(1),
+    ),
+    (
+        "DROP TABLE unit; UPDATE campaign SET format = 1, month = 10000",
+        Told::OldFormat,
     ),
     (loose_campaign!("; DROP TABLE books"), Told::Damaged(1)),
     (
-        loose_units!("'x'", "; UPDATE campaign SET format = 2"),
+        loose_units!("'x'", "; UPDATE campaign SET format = 3"),
         Told::Damaged(1),
     ),
     (
@@ -205,13 +243,13 @@ const BOTH_JOIN: [Step; 2] = [
     Step::Joined(Asked::Join("Bree", "pb", 1), 2, 2),
 ];
 
-/// The database of the island's campaign, in which both have joined.
+/// The database of the campaign of an island with a market, in which both have joined.
 fn island<S: Alter + Drop>(
     rt: &impl Abort,
     alloc: Global,
     conn: Connection<S>,
 ) -> Result<Connection<S>, Fail> {
-    let mut service = begun(alloc, conn, ISLE)?;
+    let mut service = begun(alloc, conn, ISLE_WITH_MARKET)?;
     let done = follow(rt, alloc, &mut service, &BOTH_JOIN);
     let conn = service.end();
     done?;
@@ -248,6 +286,11 @@ fn are_judged(rt: &impl Abort, alloc: Global, cases: &[(&str, Told)]) -> Result<
 #[test]
 fn the_first_rule_that_rows_break_is_told(rt: HostRuntime) -> Result<(), Fail> {
     are_judged(&rt, rt.alloc(), &ROWS)
+}
+
+#[test]
+fn stocks_that_break_a_rule_are_told(rt: HostRuntime) -> Result<(), Fail> {
+    are_judged(&rt, rt.alloc(), &STOCKS)
 }
 
 #[test]

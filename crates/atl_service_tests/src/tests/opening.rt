@@ -79,7 +79,7 @@ fn rows_after<S: Alter>(
     rows_in(alloc, service)
 }
 
-fn has_rows<S: Alter>(
+pub(crate) fn has_rows<S: Alter>(
     rt: &impl Abort,
     alloc: Global,
     service: &Service<S>,

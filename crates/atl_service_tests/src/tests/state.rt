@@ -6,14 +6,14 @@ use super::commands::FIRST_REPORT;
 use super::compare::{are_numbers, is_count, is_number, is_text, is_total};
 use atl_report::{report_text, view};
 use atl_state::{Campaign, Entry, Thing, founded};
-use atl_tables::{Text, World, read_old_world};
+use atl_tables::{Text, World, read_world};
 use atl_test_worlds::SMALL;
 use std::alloc::{AllocError, Global};
 use std::process::Abort;
 use std::test::Fail;
 
 fn small_world(alloc: Global) -> Result<World, Fail> {
-    Ok(read_old_world(alloc, SMALL)?)
+    Ok(read_world(alloc, SMALL)?)
 }
 
 fn small_campaign(alloc: Global, world: &World) -> Result<Campaign, Fail>

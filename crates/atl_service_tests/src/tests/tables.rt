@@ -42,6 +42,13 @@ pub(crate) const WAGES: &str = "SELECT amount FROM books WHERE entry = 4 AND thi
 
 pub(crate) const UPKEEP: &str = "SELECT amount FROM books WHERE entry = 7 AND thing = 0";
 
+pub(crate) const FORMAT: &str = "SELECT format FROM campaign";
+
+/// How many markets have a stock, and what all of them have.
+pub(crate) const STOCKED: &str = "SELECT count(*) FROM market";
+
+pub(crate) const STOCK: &str = "SELECT sum(stock) FROM market";
+
 /// A number that a query answers.
 pub(crate) fn number<S: Alter>(conn: &mut Connection<S>, sql: &str) -> Option<i64> {
     match conn.query_row(sql, &[]) {

@@ -2,7 +2,7 @@
 use super::compare::{is_count, is_number};
 use super::making::founded_in;
 use atl_state::{Books, Campaign, Entry, Thing};
-use atl_tables::{World, read_old_world};
+use atl_tables::{World, read_world};
 use atl_test_worlds::ISLE;
 use std::alloc::Global;
 use std::process::Abort;
@@ -89,6 +89,6 @@ fn books(rt: &impl Abort, alloc: Global, world: &World) -> Result<(), Fail> {
 
 #[test]
 fn booking_in_a_campaign(rt: HostRuntime) -> Result<(), Fail> {
-    let world = read_old_world(rt.alloc(), ISLE)?;
+    let world = read_world(rt.alloc(), ISLE)?;
     books(&rt, rt.alloc(), &world)
 }

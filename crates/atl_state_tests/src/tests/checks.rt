@@ -5,7 +5,7 @@ use atl_state::parts::{
     StoredStructure, StoredUnit,
 };
 use atl_state::{Campaign, CheckFault, check};
-use atl_tables::{Sequence, Text, World, read_old_world};
+use atl_tables::{Sequence, Text, World, read_world};
 use atl_test_worlds::ISLE;
 use std::alloc::Global;
 use std::process::Abort;
@@ -39,7 +39,7 @@ struct Rows {
 }
 
 const GOOD: Rows = Rows {
-    format: 1,
+    format: 2,
     pass: "gm",
     next_unit: 3,
     peasants: 1000,
@@ -58,7 +58,7 @@ const GOOD: Rows = Rows {
 const CASES: [(Rows, u64); 15] = [
     (GOOD, 0),
     (Rows { days: 450, ..GOOD }, 0),
-    (Rows { format: 2, ..GOOD }, 1),
+    (Rows { format: 3, ..GOOD }, 1),
     (
         Rows {
             peasants: -1,
@@ -260,7 +260,7 @@ fn tells(rt: &impl Abort, alloc: Global, world: &World) -> Result<(), Fail> {
 
 #[test]
 fn the_first_broken_rule_is_told(rt: HostRuntime) -> Result<(), Fail> {
-    let world = read_old_world(rt.alloc(), ISLE)?;
+    let world = read_world(rt.alloc(), ISLE)?;
     tells(&rt, rt.alloc(), &world)
 }
 
@@ -294,6 +294,6 @@ fn is_checked(rt: &impl Abort, alloc: Global, world: &World) -> Result<(), Fail>
 
 #[test]
 fn rows_give_the_campaign_again(rt: HostRuntime) -> Result<(), Fail> {
-    let world = read_old_world(rt.alloc(), ISLE)?;
+    let world = read_world(rt.alloc(), ISLE)?;
     is_checked(&rt, rt.alloc(), &world)
 }

@@ -2,7 +2,7 @@
 use super::compare::{is_amount, is_count};
 use super::making::{BOAT, avalon_joins, founded_in, is_begun, joined_in, man_comes};
 use atl_state::Campaign;
-use atl_tables::{World, read_old_world};
+use atl_tables::{World, read_world};
 use atl_test_worlds::ISLE;
 use std::alloc::Global;
 use std::process::Abort;
@@ -23,7 +23,7 @@ fn join_is_marked(rt: &impl Abort, alloc: Global, world: &World) -> Result<(), F
 
 #[test]
 fn joining_is_marked(rt: HostRuntime) -> Result<(), Fail> {
-    let world = read_old_world(rt.alloc(), ISLE)?;
+    let world = read_world(rt.alloc(), ISLE)?;
     join_is_marked(&rt, rt.alloc(), &world)
 }
 
@@ -65,7 +65,7 @@ fn come(rt: &impl Abort, alloc: Global, world: &World) -> Result<(), Fail> {
 
 #[test]
 fn units_and_structures_come(rt: HostRuntime) -> Result<(), Fail> {
-    let world = read_old_world(rt.alloc(), ISLE)?;
+    let world = read_world(rt.alloc(), ISLE)?;
     come(&rt, rt.alloc(), &world)
 }
 
@@ -98,6 +98,6 @@ fn lends_marked(rt: &impl Abort, alloc: Global, world: &World) -> Result<(), Fai
 
 #[test]
 fn lending_is_marked(rt: HostRuntime) -> Result<(), Fail> {
-    let world = read_old_world(rt.alloc(), ISLE)?;
+    let world = read_world(rt.alloc(), ISLE)?;
     lends_marked(&rt, rt.alloc(), &world)
 }

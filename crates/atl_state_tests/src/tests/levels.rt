@@ -2,7 +2,7 @@
 use super::compare::row_is;
 use super::making::one_man;
 use atl_state::{Holding, carry, goods, level, load};
-use atl_tables::{World, read_old_world};
+use atl_tables::{World, read_world};
 use atl_test_worlds::ISLE;
 use std::alloc::Global;
 use std::process::Abort;
@@ -135,6 +135,6 @@ fn weighs_all(rt: &impl Abort, alloc: Global, world: &World) -> Result<(), Fail>
 
 #[test]
 fn goods_loads_and_carriage(rt: HostRuntime) -> Result<(), Fail> {
-    let world = read_old_world(rt.alloc(), ISLE)?;
+    let world = read_world(rt.alloc(), ISLE)?;
     weighs_all(&rt, rt.alloc(), &world)
 }

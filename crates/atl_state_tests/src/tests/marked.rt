@@ -2,7 +2,7 @@
 use super::compare::{are_numbers, is_so};
 use super::making::joined_in;
 use atl_state::{Campaign, Entry, Thing};
-use atl_tables::{MarkedNumbers, World, read_old_world};
+use atl_tables::{MarkedNumbers, World, read_world};
 use atl_test_worlds::ISLE;
 use std::alloc::Global;
 use std::process::Abort;
@@ -101,6 +101,6 @@ fn shows_marks(rt: &impl Abort, alloc: Global, world: &World) -> Result<(), Fail
 
 #[test]
 fn marks_are_shown(rt: HostRuntime) -> Result<(), Fail> {
-    let world = read_old_world(rt.alloc(), ISLE)?;
+    let world = read_world(rt.alloc(), ISLE)?;
     shows_marks(&rt, rt.alloc(), &world)
 }

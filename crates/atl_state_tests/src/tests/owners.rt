@@ -2,7 +2,7 @@
 use super::compare::{are_numbers, row_is};
 use super::making::{BOAT, LODGE, founded_in, is_begun, man_comes};
 use atl_state::Campaign;
-use atl_tables::{World, read_old_world};
+use atl_tables::{World, read_world};
 use atl_test_worlds::ISLE;
 use std::alloc::Global;
 use std::process::Abort;
@@ -198,7 +198,7 @@ fn places(rt: &impl Abort, alloc: Global, world: &World) -> Result<(), Fail> {
 
 #[test]
 fn placing_and_removing(rt: HostRuntime) -> Result<(), Fail> {
-    let world = read_old_world(rt.alloc(), ISLE)?;
+    let world = read_world(rt.alloc(), ISLE)?;
     places(&rt, rt.alloc(), &world)
 }
 
@@ -229,7 +229,7 @@ fn tells_owners(rt: &impl Abort, alloc: Global, world: &World) -> Result<(), Fai
 
 #[test]
 fn owners_after_a_leaving(rt: HostRuntime) -> Result<(), Fail> {
-    let world = read_old_world(rt.alloc(), ISLE)?;
+    let world = read_world(rt.alloc(), ISLE)?;
     tells_owners(&rt, rt.alloc(), &world)
 }
 
@@ -262,6 +262,6 @@ fn sails(rt: &impl Abort, alloc: Global, world: &World) -> Result<(), Fail> {
 
 #[test]
 fn going_inside_a_structure(rt: HostRuntime) -> Result<(), Fail> {
-    let world = read_old_world(rt.alloc(), ISLE)?;
+    let world = read_world(rt.alloc(), ISLE)?;
     sails(&rt, rt.alloc(), &world)
 }

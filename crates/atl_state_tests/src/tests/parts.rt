@@ -6,7 +6,7 @@ use atl_state::parts::{
     Parts, StoredBooks, StoredFaction, StoredHas, StoredHead, StoredMail, StoredRegion,
     StoredReport, StoredStructure, StoredUnit,
 };
-use atl_tables::{Sequence, Text, World, read_old_world};
+use atl_tables::{Sequence, Text, World, read_world};
 use atl_test_worlds::ISLE;
 use std::alloc::Global;
 use std::process::Abort;
@@ -45,7 +45,7 @@ fn rows(alloc: Global, world: &World) -> Result<Parts, Fail> {
 fn shows_head(rt: &impl Abort, rows: &[StoredHead]) -> Result<(), Fail> {
     is_count(rt, rows.len(), 1);
     let row = rows.first().ok_or("a row")?;
-    are_amounts(rt, &[row.id, row.format, row.month], &[1, 1, 0]);
+    are_amounts(rt, &[row.id, row.format, row.month], &[1, 2, 0]);
     are_amounts(
         rt,
         &[row.next_faction, row.next_unit, row.next_structure],
@@ -159,6 +159,6 @@ fn shows_all(rt: &impl Abort, alloc: Global, world: &World) -> Result<(), Fail> 
 
 #[test]
 fn rows_of_a_campaign(rt: HostRuntime) -> Result<(), Fail> {
-    let world = read_old_world(rt.alloc(), ISLE)?;
+    let world = read_world(rt.alloc(), ISLE)?;
     shows_all(&rt, rt.alloc(), &world)
 }

@@ -3,7 +3,7 @@ use super::checks::checked;
 use super::compare::{are_numbers, is_count, is_so};
 use super::making::{FAR, joined_in, man_comes};
 use atl_state::Campaign;
-use atl_tables::{Text, World, read_old_world};
+use atl_tables::{Text, World, read_world};
 use atl_test_worlds::ISLE;
 use std::alloc::Global;
 use std::process::Abort;
@@ -115,6 +115,6 @@ fn go_round(rt: &impl Abort, alloc: Global, world: &World) -> Result<(), Fail> {
 
 #[test]
 fn units_go_and_come(rt: HostRuntime) -> Result<(), Fail> {
-    let world = read_old_world(rt.alloc(), ISLE)?;
+    let world = read_world(rt.alloc(), ISLE)?;
     go_round(&rt, rt.alloc(), &world)
 }

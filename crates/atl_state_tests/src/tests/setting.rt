@@ -2,7 +2,7 @@
 use super::compare::{is_amount, is_bytes, is_count, is_so, is_text};
 use super::making::{FAR, LODGE, is_begun, joined_in};
 use atl_state::{Campaign, Faction, Region, Structure, Unit};
-use atl_tables::{Sequence, Text, World, read_old_world};
+use atl_tables::{Sequence, Text, World, read_world};
 use atl_test_worlds::ISLE;
 use std::alloc::Global;
 use std::process::Abort;
@@ -250,6 +250,6 @@ fn sets_all(rt: &impl Abort, alloc: Global, world: &World) -> Result<(), Fail> {
 
 #[test]
 fn setting_entries(rt: HostRuntime) -> Result<(), Fail> {
-    let world = read_old_world(rt.alloc(), ISLE)?;
+    let world = read_world(rt.alloc(), ISLE)?;
     sets_all(&rt, rt.alloc(), &world)
 }

@@ -2,7 +2,7 @@
 use super::compare::{is_amount, is_count, is_number, is_text, row_is};
 use super::making::{FAR, LODGE, is_begun, joined_in};
 use atl_state::{Campaign, Thing};
-use atl_tables::{World, read_old_world};
+use atl_tables::{World, read_world};
 use atl_test_worlds::ISLE;
 use std::alloc::Global;
 use std::process::Abort;
@@ -90,7 +90,7 @@ fn walks(rt: &impl Abort, alloc: Global, world: &World) -> Result<(), Fail> {
 
 #[test]
 fn walking_over_a_campaign(rt: HostRuntime) -> Result<(), Fail> {
-    let world = read_old_world(rt.alloc(), ISLE)?;
+    let world = read_world(rt.alloc(), ISLE)?;
     walks(&rt, rt.alloc(), &world)
 }
 
@@ -101,6 +101,6 @@ fn totals(rt: &impl Abort, alloc: Global, world: &World) -> Result<(), Fail> {
 
 #[test]
 fn totals_of_a_campaign(rt: HostRuntime) -> Result<(), Fail> {
-    let world = read_old_world(rt.alloc(), ISLE)?;
+    let world = read_world(rt.alloc(), ISLE)?;
     totals(&rt, rt.alloc(), &world)
 }

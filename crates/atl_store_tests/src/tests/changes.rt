@@ -11,7 +11,10 @@ use std::process::Abort;
 use std::test::Fail;
 
 /// Writes what is marked, and tells what was answered, in words.
-fn answered<S: Alter>(conn: &mut Connection<S>, campaign: &mut Campaign) -> &'static str {
+pub(crate) fn answered<S: Alter>(
+    conn: &mut Connection<S>,
+    campaign: &mut Campaign,
+) -> &'static str {
     if !has_few_things(campaign) || !conn.is_autocommit() {
         return "not asked";
     }
@@ -29,7 +32,7 @@ fn number<S: Alter>(conn: &mut Connection<S>, sql: &str) -> Result<i64, Fail> {
 }
 
 /// Asserts what queries answer.
-fn holds<S: Alter>(
+pub(crate) fn holds<S: Alter>(
     rt: &impl Abort,
     conn: &mut Connection<S>,
     wanted: &[(&str, i64)],

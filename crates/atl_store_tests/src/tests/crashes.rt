@@ -66,7 +66,10 @@ fn factions<S: Alter>(alloc: Global, conn: &mut Connection<S>) -> Result<Option<
     Ok(Some(factions))
 }
 
-fn open<D: Disk + Drop>(alloc: Global, files: Files<D>) -> Option<Connection<FileStore<D>>> {
+pub(crate) fn open<D: Disk + Drop>(
+    alloc: Global,
+    files: Files<D>,
+) -> Option<Connection<FileStore<D>>> {
     if !files.may_be_used() {
         return None;
     }

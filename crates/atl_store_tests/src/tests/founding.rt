@@ -19,7 +19,7 @@ use std::test::Fail;
 fn is_head(rt: &impl Abort, row: &StoredCampaign) {
     let head = &row.head;
     is_number(rt, head.id, 1);
-    is_number(rt, head.format, 1);
+    is_number(rt, head.format, 2);
     is_number(rt, head.month, 0);
     is_number(rt, head.next_faction, 1);
     is_number(rt, head.next_unit, 1);

@@ -7,7 +7,7 @@ ghost use Rattle.atl_store.specs.Arriving.{HasArrival};
 
 use atl_state::{Campaign, founded};
 use atl_store::{create, write_join, write_mail};
-use atl_tables::{Text, World, read_old_world};
+use atl_tables::{Text, World, read_world};
 use atl_test_worlds::SMALL;
 use sqlite::{Alter, Connection, MemStore};
 use std::alloc::Global;
@@ -19,10 +19,15 @@ fn founded_in(alloc: Global, world: &World) -> Result<Campaign, Fail>
     Ok(founded(alloc, world, b"gm")?)
 }
 
+/// The campaign of a world text as it is founded.
+pub(crate) fn founded_by(alloc: Global, text: &str) -> Result<Campaign, Fail> {
+    let world = read_world(alloc, text)?;
+    founded_in(alloc, &world)
+}
+
 /// The campaign as it is founded.
 pub(crate) fn small(alloc: Global) -> Result<Campaign, Fail> {
-    let world = read_old_world(alloc, SMALL)?;
-    founded_in(alloc, &world)
+    founded_by(alloc, SMALL)
 }
 
 /// Avalon joins and gets its first report.
@@ -43,7 +48,7 @@ fn joined_in(alloc: Global, world: &World) -> Result<Campaign, Fail> {
 
 /// The campaign once Avalon has joined and has its first report.
 pub(crate) fn joined(alloc: Global) -> Result<Campaign, Fail> {
-    let world = read_old_world(alloc, SMALL)?;
+    let world = read_world(alloc, SMALL)?;
     joined_in(alloc, &world)
 }
 
@@ -65,22 +70,37 @@ pub(crate) fn has_arrived(campaign: &Campaign) -> bool
         && campaign.unit(campaign.next_unit() - 1).is_some()
 }
 
-fn creates<S: Alter>(conn: &mut Connection<S>, campaign: &mut Campaign) -> Result<(), Fail>
+fn creates<S: Alter>(
+    conn: &mut Connection<S>,
+    text: &str,
+    campaign: &mut Campaign,
+) -> Result<(), Fail>
     ensures { OnOk result (conn.new.in_transaction ≡ false) }
 {
     if !has_few_things(campaign) {
         return Err(Fail::new("the books of a small world"));
     }
-    create(conn, SMALL, campaign)?;
+    create(conn, text, campaign)?;
     Ok(())
+}
+
+/// The campaign of a world text is created as it is founded.
+pub(crate) fn found_by<S: Alter>(
+    alloc: Global,
+    conn: &mut Connection<S>,
+    text: &str,
+) -> Result<(), Fail>
+    ensures { OnOk result (conn.new.in_transaction ≡ false) }
+{
+    let mut campaign = founded_by(alloc, text)?;
+    creates(conn, text, &mut campaign)
 }
 
 /// The campaign is created as it is founded.
 pub(crate) fn found<S: Alter>(alloc: Global, conn: &mut Connection<S>) -> Result<(), Fail>
     ensures { OnOk result (conn.new.in_transaction ≡ false) }
 {
-    let mut campaign = small(alloc)?;
-    creates(conn, &mut campaign)
+    found_by(alloc, conn, SMALL)
 }
 
 /// A store of the campaign as it is founded.

@@ -1,0 +1,286 @@
+//! Files of the first format: they aren't opened, and are upgraded once.
+use super::commands::{AVALON, FAR_REPORT};
+use super::compare::is_text;
+use super::founding::told;
+use super::making::{begun, opened};
+use super::opening::{has_rows, rows_in};
+use super::script::{Asked, Step, follow};
+use super::tables::{FORMAT, STOCK, STOCKED, holds};
+use atl_service::{Refused, Service, open, upgrade};
+use atl_test_files::old_file;
+use atl_test_worlds::{ISLE, ISLE_WITH_MARKET, SMALL};
+use sqlite::{Alter, Connection};
+use std::alloc::Global;
+use std::process::Abort;
+use std::test::Fail;
+
+/// A file of the first format: the island's campaign behind these steps, changed by hand, and what the upgraded one comes to.
+struct Story {
+    before: &'static [Step],
+    by_hand: &'static str,
+    behind: &'static [Step],
+    after: &'static [(&'static str, Option<i64>)],
+}
+
+fn write_old<S: Alter, T: Alter>(
+    conn: &mut Connection<T>,
+    service: &Service<S>,
+) -> Result<(), Fail> {
+    match service.campaign() {
+        Some(campaign) => old_file(conn, ISLE, campaign)?,
+        None => return Err(Fail::new("closed")),
+    }
+    Ok(())
+}
+
+/// Makes the file by a campaign that is played in a database of its own.
+fn make_old<S: Alter>(
+    rt: &impl Abort,
+    alloc: Global,
+    conn: &mut Connection<S>,
+    story: &Story,
+) -> Result<(), Fail> {
+    let mut service = begun(alloc, Connection::open_in_memory(alloc)?, ISLE)?;
+    follow(rt, alloc, &mut service, story.before)?;
+    write_old(conn, &service)?;
+    conn.execute_batch(story.by_hand)?;
+    Ok(())
+}
+
+/// The rows of the same campaign in the second format.
+fn rows_wanted(rt: &impl Abort, alloc: Global, story: &Story) -> Result<String, Fail> {
+    let mut service = begun(alloc, Connection::open_in_memory(alloc)?, ISLE)?;
+    follow(rt, alloc, &mut service, story.before)?;
+    let mut conn = service.end();
+    conn.execute_batch(story.by_hand)?;
+    rows_in(alloc, &opened(alloc, conn)?)
+}
+
+/// Asserts why a database isn't opened, and hands it back.
+fn stays_shut<S: Alter + Drop>(
+    rt: &impl Abort,
+    alloc: Global,
+    conn: Connection<S>,
+    words: &str,
+) -> Connection<S> {
+    match open(alloc, conn) {
+        Ok(service) => {
+            assert!(rt; false);
+            service.end()
+        }
+        Err(Refused { why, conn }) => {
+            is_text(rt, told(&why), words);
+            conn
+        }
+    }
+}
+
+/// Asserts why a file isn't upgraded, and hands it back.
+fn refuses<S: Alter + Drop>(
+    rt: &impl Abort,
+    alloc: Global,
+    conn: Connection<S>,
+    world: &str,
+    words: &str,
+) -> Connection<S> {
+    match upgrade(alloc, conn, world) {
+        Ok(service) => {
+            assert!(rt; false);
+            service.end()
+        }
+        Err(Refused { why, conn }) => {
+            is_text(rt, told(&why), words);
+            conn
+        }
+    }
+}
+
+/// Upgrades a file that was refused before, and asserts that the campaign has these rows.
+fn upgraded<S: Alter + Drop>(
+    rt: &impl Abort,
+    alloc: Global,
+    conn: Connection<S>,
+    rows: &str,
+) -> Result<Connection<S>, Fail> {
+    let conn = stays_shut(rt, alloc, conn, "old format");
+    let conn = refuses(rt, alloc, conn, SMALL, "differs");
+    let conn = refuses(rt, alloc, conn, "a = = b", "world");
+    match upgrade(alloc, conn, ISLE_WITH_MARKET) {
+        Ok(service) => {
+            has_rows(rt, alloc, &service, rows)?;
+            Ok(service.end())
+        }
+        Err(_) => Err(Fail::new("upgrade")),
+    }
+}
+
+/// Opens the upgraded file, asserts that the campaign has these rows, and plays on.
+fn goes_on<S: Alter + Drop>(
+    rt: &impl Abort,
+    alloc: Global,
+    conn: Connection<S>,
+    story: &Story,
+    rows: &str,
+) -> Result<(), Fail> {
+    let conn = refuses(rt, alloc, conn, ISLE_WITH_MARKET, "not old");
+    let mut service = opened(alloc, conn)?;
+    has_rows(rt, alloc, &service, rows)?;
+    let done = follow(rt, alloc, &mut service, story.behind);
+    holds(rt, &mut service.end(), story.after);
+    done
+}
+
+fn is_upgraded<S: Alter + Drop>(
+    rt: &impl Abort,
+    alloc: Global,
+    mut conn: Connection<S>,
+    story: &Story,
+) -> Result<(), Fail> {
+    make_old(rt, alloc, &mut conn, story)?;
+    let rows = rows_wanted(rt, alloc, story)?;
+    let conn = upgraded(rt, alloc, conn, rows.as_str())?;
+    goes_on(rt, alloc, conn, story, rows.as_str())
+}
+
+const FAR_JOINS: [Step; 1] = [Step::Joined(Asked::Join("Avalon", "pw", 1), 1, 1)];
+
+/// The unit stands in the third region, and the market is in the first one.
+const AFTER_BUYING: &str = "Atlantis report, month 1, faction 1 \"Avalon\".
+Orders:
+Unit 1, line 3, BUY: fault 24 NoMarket.
+Unit 1, line 0, WORK: done 10.
+Region 3 \"Far\", forest: 200 peasants, 300 money.
+Exits: north 4, west 2.
+* Unit 1 \"Unit 1\": 1 men, 1000 money.
+";
+
+const MONTH_ONE: Asked = Asked::Close(1, "gm", &[0, 0, 0, 0]);
+
+/// The report that was stored before is given still.
+const BUYS_NOTHING: [Step; 4] = [
+    Step::Told(Asked::Report(1, "pw"), FAR_REPORT),
+    Step::Mailed(
+        Asked::Mail(1, "pw", "#ATLANTIS 1\nUNIT 1\nBUY 1 wood\n"),
+        1,
+        &[],
+    ),
+    Step::Closed(MONTH_ONE, 1),
+    Step::Told(Asked::Report(1, "pw"), AFTER_BUYING),
+];
+
+const AFTER_NOTHING: [(&str, Option<i64>); 3] = [
+    (FORMAT, Some(2)),
+    (STOCKED, Some(1)),
+    (STOCK, Some(20)),
+];
+
+const FAR_FROM_MARKET: Story = Story {
+    before: &FAR_JOINS,
+    by_hand: "",
+    behind: &BUYS_NOTHING,
+    after: &AFTER_NOTHING,
+};
+
+const SELLS: &str = "#ATLANTIS 1\nUNIT 1\nSELL 3 wood\n";
+
+/// The mail is kept from before the upgrade.
+const SENDS_EARLY: [Step; 2] = [
+    Step::Joined(AVALON, 1, 1),
+    Step::Mailed(Asked::Mail(1, "pw", SELLS), 1, &[]),
+];
+
+const HAS_WOOD: &str = "INSERT INTO has VALUES (1, 0, 0, 4); INSERT INTO books VALUES (2, 2, 4)";
+
+/// To the 3 that are sold come 20 in stock.
+const AFTER_SELLING: &str = "Atlantis report, month 1, faction 1 \"Avalon\".
+Orders:
+Unit 1, line 3, SELL: done 3.
+Unit 1, line 0, WORK: done 12.
+Region 1 \"Shore\", plain: 1000 peasants, 1500 money.
+Exits: east 2.
+Market wood: 23 in stock at 7, 7 wanted at 5.
+* Unit 1 \"Unit 1\": 1 men, 1017 money, 1 wood.
+";
+
+const BOOKS_AFTER_SELLING: &str = "money founding 650
+money joining 1000
+money income 1300
+money wages 12
+money upkeep -10
+money sold 15
+money total 2967
+people founding 1300
+people joining 1
+people total 1301
+item \"wood\" joining 4
+item \"wood\" stocked 20
+item \"wood\" total 24
+item \"cart\" total 0
+";
+
+const SELLS_THREE: [Step; 4] = [
+    Step::Keeps(Some(SELLS)),
+    Step::Closed(MONTH_ONE, 1),
+    Step::Told(Asked::Report(1, "pw"), AFTER_SELLING),
+    Step::Books(BOOKS_AFTER_SELLING),
+];
+
+const AFTER_THREE: [(&str, Option<i64>); 2] = [(STOCKED, Some(1)), (STOCK, Some(23))];
+
+const WITH_EARLY_MAIL: Story = Story {
+    before: &SENDS_EARLY,
+    by_hand: HAS_WOOD,
+    behind: &SELLS_THREE,
+    after: &AFTER_THREE,
+};
+
+#[test]
+fn a_file_is_upgraded_once(rt: HostRuntime) -> Result<(), Fail> {
+    let conn = Connection::open_in_memory(rt.alloc())?;
+    is_upgraded(&rt, rt.alloc(), conn, &FAR_FROM_MARKET)
+}
+
+#[test]
+fn early_mail_is_carried_out(rt: HostRuntime) -> Result<(), Fail> {
+    let conn = Connection::open_in_memory(rt.alloc())?;
+    is_upgraded(&rt, rt.alloc(), conn, &WITH_EARLY_MAIL)
+}
+
+/// Statements on the file, why it isn't opened then, and why it isn't upgraded.
+const REFUSED: [(&str, &str, &str); 8] = [
+    ("UPDATE campaign SET month = 10000", "old format", "damaged"),
+    ("UPDATE campaign SET world = 'x'", "old format", "damaged"),
+    ("UPDATE campaign SET format = 3", "damaged", "damaged"),
+    ("DELETE FROM campaign", "damaged", "damaged"),
+    ("DROP TABLE campaign", "not a campaign", "not a campaign"),
+    ("DROP TABLE unit", "old format", "store"),
+    ("CREATE TABLE notes (words TEXT)", "old format", "store"),
+    ("BEGIN", "store", "store"),
+];
+
+fn is_refused<S: Alter + Drop>(
+    rt: &impl Abort,
+    alloc: Global,
+    mut conn: Connection<S>,
+    refused: &(&str, &str, &str),
+) -> Result<(), Fail> {
+    let (sql, opening, upgrade) = *refused;
+    make_old(rt, alloc, &mut conn, &FAR_FROM_MARKET)?;
+    conn.execute_batch(sql)?;
+    let conn = stays_shut(rt, alloc, conn, opening);
+    let conn = refuses(rt, alloc, conn, ISLE_WITH_MARKET, upgrade);
+    stays_shut(rt, alloc, conn, opening);
+    Ok(())
+}
+
+fn are_refused(rt: &impl Abort, alloc: Global) -> Result<(), Fail> {
+    for refused in REFUSED.iter() {
+        is_refused(rt, alloc, Connection::open_in_memory(alloc)?, refused)?;
+    }
+    Ok(())
+}
+
+#[test]
+fn the_first_check_of_an_old_file_is_told(rt: HostRuntime) -> Result<(), Fail> {
+    are_refused(&rt, rt.alloc())
+}

@@ -1,0 +1,267 @@
+//! Files of the first format are told as such, and upgraded.
+use super::changes::{holds, rows_of};
+use super::compare::is_text;
+use super::making::{found_by, founded_by};
+use atl_store::{StoreFault, UpgradeFault, load, upgrade};
+use atl_test_files::old_file;
+use atl_test_worlds::month::ROWS;
+use atl_test_worlds::{ISLE, ISLE_WITH_MARKET, SMALL};
+use sqlite::{Alter, Connection};
+use std::alloc::Global;
+use std::process::Abort;
+use std::test::Fail;
+
+/// What a loading or an upgrade is answered.
+#[derive(Clone, Copy, PartialEq, Eq, Debug)]
+pub(crate) enum Told {
+    Done,
+    Store,
+    /// The number of the rule that is broken.
+    Damaged(u8),
+    NotACampaign,
+    OldFormat,
+    NotOld,
+    World,
+    Differs,
+    Memory,
+}
+
+pub(crate) fn told_of_loading<S: Alter>(alloc: Global, conn: &mut Connection<S>) -> Told {
+    match load(alloc, conn) {
+        Ok(_) => Told::Done,
+        Err(StoreFault::Store) => Told::Store,
+        Err(StoreFault::Damaged(rule)) => Told::Damaged(rule.number()),
+        Err(StoreFault::NotACampaign) => Told::NotACampaign,
+        Err(StoreFault::OldFormat) => Told::OldFormat,
+        Err(StoreFault::Memory) => Told::Memory,
+    }
+}
+
+pub(crate) fn told_of_upgrade<S: Alter>(
+    alloc: Global,
+    conn: &mut Connection<S>,
+    world: &str,
+) -> Told {
+    match upgrade(alloc, conn, world) {
+        Ok(_) => Told::Done,
+        Err(UpgradeFault::Store) => Told::Store,
+        Err(UpgradeFault::Damaged(rule)) => Told::Damaged(rule.number()),
+        Err(UpgradeFault::NotACampaign) => Told::NotACampaign,
+        Err(UpgradeFault::NotOld) => Told::NotOld,
+        Err(UpgradeFault::World(_)) => Told::World,
+        Err(UpgradeFault::Differs) => Told::Differs,
+        Err(UpgradeFault::Memory) => Told::Memory,
+    }
+}
+
+/// A file of the first format with a campaign of the island: two factions, eleven units and a boat.
+pub(crate) fn old_island<S: Alter>(alloc: Global, conn: &mut Connection<S>) -> Result<(), Fail> {
+    let campaign = founded_by(alloc, ISLE)?;
+    old_file(conn, ISLE, &campaign)?;
+    conn.execute_batch(ROWS)?;
+    Ok(())
+}
+
+/// The rows of the same campaign as the second format has them.
+fn rows_of_island<S: Alter>(alloc: Global, conn: &mut Connection<S>) -> Result<String, Fail> {
+    found_by(alloc, conn, ISLE)?;
+    conn.execute_batch(ROWS)?;
+    let (_world, campaign) = load(alloc, conn)?;
+    rows_of(alloc, &campaign)
+}
+
+/// The format and the tables of an upgraded file.
+const UPGRADED: [(&str, i64); 4] = [
+    ("SELECT format FROM campaign", 2),
+    ("SELECT count(*) FROM market", 0),
+    ("SELECT count(*) FROM unit", 11),
+    ("SELECT next_unit FROM campaign", 12),
+];
+
+/// Upgrades the file, and gives the campaign's rows.
+fn upgraded<S: Alter>(alloc: Global, conn: &mut Connection<S>) -> Result<String, Fail> {
+    let (_world, campaign) = upgrade(alloc, conn, ISLE_WITH_MARKET)?;
+    rows_of(alloc, &campaign)
+}
+
+fn loaded<S: Alter>(alloc: Global, conn: &mut Connection<S>) -> Result<String, Fail> {
+    let (_world, campaign) = load(alloc, conn)?;
+    rows_of(alloc, &campaign)
+}
+
+/// The campaign is the old one, by the upgrade and by a loading behind it.
+fn is_the_same<S: Alter>(
+    rt: &impl Abort,
+    alloc: Global,
+    conn: &mut Connection<S>,
+    rows: &str,
+) -> Result<(), Fail> {
+    old_island(alloc, conn)?;
+    is_text(rt, upgraded(alloc, conn)?.as_str(), rows);
+    is_text(rt, loaded(alloc, conn)?.as_str(), rows);
+    is_answer(
+        rt,
+        told_of_upgrade(alloc, conn, ISLE_WITH_MARKET),
+        Told::NotOld,
+        "an upgrade",
+    );
+    holds(rt, conn, &UPGRADED)
+}
+
+#[test]
+fn the_campaign_is_the_old_one(rt: HostRuntime) -> Result<(), Fail> {
+    let mut conn = Connection::open_in_memory(rt.alloc())?;
+    let rows = rows_of_island(rt.alloc(), &mut conn)?;
+    let mut conn = Connection::open_in_memory(rt.alloc())?;
+    is_the_same(&rt, rt.alloc(), &mut conn, rows.as_str())
+}
+
+/// What a file after these statements is answered by a loading, and by an upgrade with this world.
+struct Case {
+    sql: &'static str,
+    world: &'static str,
+    loading: Told,
+    upgrade: Told,
+}
+
+const fn case(sql: &'static str, world: &'static str, loading: Told, upgrade: Told) -> Case {
+    Case {
+        sql,
+        world,
+        loading,
+        upgrade,
+    }
+}
+
+const NO_WORLD: &str = "a = = b";
+
+/// The campaign's own table anew without STRICT; its month is a word.
+const LOOSE: &str =
+    "DROP TABLE campaign; CREATE TABLE campaign (id INTEGER NOT NULL PRIMARY KEY CHECK (id = 1), format INTEGER NOT NULL, month INTEGER NOT NULL, next_faction INTEGER NOT NULL, next_unit INTEGER NOT NULL, next_structure INTEGER NOT NULL, pass TEXT NOT NULL, world TEXT NOT NULL); INSERT INTO campaign VALUES (1, 1, 'x', 3, 12, 2, 'gm', 'no world')";
+
+/// Files that are as they are to be but for these statements, and worlds.
+const CASES: [Case; 18] = [
+    case("", SMALL, Told::OldFormat, Told::Differs),
+    case("", NO_WORLD, Told::OldFormat, Told::World),
+    case("", ISLE, Told::OldFormat, Told::Done),
+    case("", ISLE_WITH_MARKET, Told::OldFormat, Told::Done),
+    case("BEGIN", ISLE, Told::Store, Told::Store),
+    case(
+        "DROP TABLE campaign",
+        NO_WORLD,
+        Told::NotACampaign,
+        Told::NotACampaign,
+    ),
+    case(
+        "DELETE FROM campaign",
+        ISLE,
+        Told::Damaged(1),
+        Told::Damaged(1),
+    ),
+    case(
+        "UPDATE campaign SET format = 3",
+        NO_WORLD,
+        Told::Damaged(1),
+        Told::Damaged(1),
+    ),
+    case(
+        "UPDATE campaign SET format = 2",
+        NO_WORLD,
+        Told::Store,
+        Told::NotOld,
+    ),
+    case(LOOSE, ISLE, Told::OldFormat, Told::Damaged(1)),
+    case(
+        "UPDATE campaign SET month = 10000",
+        NO_WORLD,
+        Told::OldFormat,
+        Told::Damaged(2),
+    ),
+    case(
+        "INSERT INTO books VALUES (14, 0, -4); UPDATE unit SET money = 0 WHERE number = 10",
+        ISLE,
+        Told::OldFormat,
+        Told::Damaged(11),
+    ),
+    case(
+        "DELETE FROM report",
+        SMALL,
+        Told::OldFormat,
+        Told::Damaged(12),
+    ),
+    case("DROP TABLE unit", ISLE, Told::OldFormat, Told::Store),
+    case(
+        "CREATE TABLE notes (words TEXT)",
+        NO_WORLD,
+        Told::OldFormat,
+        Told::World,
+    ),
+    case(
+        "CREATE TABLE notes (words TEXT)",
+        SMALL,
+        Told::OldFormat,
+        Told::Differs,
+    ),
+    case(
+        "CREATE TABLE notes (words TEXT)",
+        ISLE,
+        Told::OldFormat,
+        Told::Store,
+    ),
+    case(
+        "CREATE INDEX units_by_region ON unit (region)",
+        ISLE,
+        Told::OldFormat,
+        Told::Store,
+    ),
+];
+
+/// Of a file that these statements changed.
+fn is_answer(rt: &impl Abort, told: Told, wanted: Told, sql: &str) {
+    assert_eq!(rt; told, wanted, "after {sql}");
+}
+
+/// How many tables there are.
+fn tables<S: Alter>(conn: &Connection<S>) -> usize {
+    conn.schema().tables.len()
+}
+
+/// Where no upgrade is done, no table comes to those that are there.
+fn is_told<S: Alter>(
+    rt: &impl Abort,
+    alloc: Global,
+    conn: &mut Connection<S>,
+    case: &Case,
+) -> Result<(), Fail> {
+    old_island(alloc, conn)?;
+    conn.execute_batch(case.sql)?;
+    let before = tables(conn);
+    is_answer(rt, told_of_loading(alloc, conn), case.loading, case.sql);
+    is_answer(
+        rt,
+        told_of_upgrade(alloc, conn, case.world),
+        case.upgrade,
+        case.sql,
+    );
+    assert!(rt; case.upgrade == Told::Done || tables(conn) == before);
+    is_answer(rt, told_of_loading(alloc, conn), after(case), case.sql);
+    Ok(())
+}
+
+/// What a loading behind the upgrade is answered.
+fn after(case: &Case) -> Told {
+    if case.upgrade == Told::Done {
+        Told::Done
+    } else {
+        case.loading
+    }
+}
+
+#[test]
+fn the_first_check_that_fails_is_told(rt: HostRuntime) -> Result<(), Fail> {
+    for case in CASES.iter() {
+        let mut conn = Connection::open_in_memory(rt.alloc())?;
+        is_told(&rt, rt.alloc(), &mut conn, case)?;
+    }
+    Ok(())
+}

@@ -1,0 +1,34 @@
+//! A file of the first format for tests: the nine tables as they stood before there were markets, with the rows of a campaign.
+#![tactic(auto)]
+
+mod rows;
+
+use crate::rows::put_all;
+use atl_state::Campaign;
+use atl_tables::Format;
+use sqlite::{Alter, Connection, Error};
+
+const FIRST_TABLES: &str =
+    "CREATE TABLE campaign (id INTEGER NOT NULL PRIMARY KEY CHECK (id = 1), format INTEGER NOT NULL, month INTEGER NOT NULL, next_faction INTEGER NOT NULL, next_unit INTEGER NOT NULL, next_structure INTEGER NOT NULL, pass TEXT NOT NULL, world TEXT NOT NULL) STRICT;
+CREATE TABLE faction (number INTEGER NOT NULL PRIMARY KEY, joined_as TEXT NOT NULL UNIQUE, name TEXT NOT NULL, pass TEXT NOT NULL, gone INTEGER NOT NULL) STRICT;
+CREATE TABLE region (number INTEGER NOT NULL PRIMARY KEY, peasants INTEGER NOT NULL, money INTEGER NOT NULL) STRICT;
+CREATE TABLE unit (number INTEGER NOT NULL PRIMARY KEY, faction INTEGER NOT NULL, name TEXT NOT NULL, region INTEGER NOT NULL, structure INTEGER NOT NULL, men INTEGER NOT NULL, money INTEGER NOT NULL, guard INTEGER NOT NULL) STRICT;
+CREATE TABLE has (unit INTEGER NOT NULL, sort INTEGER NOT NULL, thing INTEGER NOT NULL, amount INTEGER NOT NULL, PRIMARY KEY (unit, sort, thing)) STRICT;
+CREATE TABLE structure (number INTEGER NOT NULL PRIMARY KEY, kind INTEGER NOT NULL, name TEXT NOT NULL, region INTEGER NOT NULL, done INTEGER NOT NULL, owner INTEGER NOT NULL) STRICT;
+CREATE TABLE mail (faction INTEGER NOT NULL PRIMARY KEY, text BLOB NOT NULL) STRICT;
+CREATE TABLE report (faction INTEGER NOT NULL PRIMARY KEY, text TEXT NOT NULL) STRICT;
+CREATE TABLE books (entry INTEGER NOT NULL, thing INTEGER NOT NULL, amount INTEGER NOT NULL, PRIMARY KEY (entry, thing)) STRICT";
+
+/// Makes the tables of the first format where there are none, with this world text and the rows of a campaign, in one transaction.
+/// Of its stocks none is written. Where a statement fails the transaction may be open.
+pub fn old_file<S: Alter>(
+    conn: &mut Connection<S>,
+    world: &str,
+    campaign: &Campaign,
+) -> Result<(), Error> {
+    let parts = campaign.parts_as(Format::First)?;
+    conn.execute_batch("BEGIN")?;
+    conn.execute_batch(FIRST_TABLES)?;
+    put_all(conn, world, &parts)?;
+    conn.execute_batch("COMMIT")
+}
