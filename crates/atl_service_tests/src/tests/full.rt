@@ -22,10 +22,12 @@ const STEPS: [i64; 17] = [
 ];
 
 /// Avalon's units are booked.
-const MANY_ARE_BOOKED: &str = "UPDATE books SET amount = amount + 9999 WHERE entry = 1 AND thing = 1;
+const MANY_ARE_BOOKED: &str =
+    "UPDATE books SET amount = amount + 9999 WHERE entry = 1 AND thing = 1;
 UPDATE campaign SET next_unit = 10001";
 
-const UNITS_ARE_FULL: &str = "UPDATE books SET amount = amount + 99999 WHERE entry = 1 AND thing = 1;
+const UNITS_ARE_FULL: &str =
+    "UPDATE books SET amount = amount + 99999 WHERE entry = 1 AND thing = 1;
 UPDATE campaign SET next_unit = 100001";
 
 /// The other factions are gone and have reports.
