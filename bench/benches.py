@@ -1,5 +1,5 @@
 """What benches share that are scripts."""
-import importlib.machinery, importlib.util, os
+import importlib.machinery, importlib.util, os, subprocess, sys, time
 
 HERE = os.path.dirname(os.path.abspath(__file__))
 
@@ -10,3 +10,39 @@ def bench(name):
     module = importlib.util.module_from_spec(importlib.util.spec_from_loader(name, loader))
     loader.exec_module(module)
     return module
+
+
+def started(words):
+    return subprocess.Popen(words, stdout=subprocess.DEVNULL)
+
+
+def confirm(process, words):
+    if process.wait() != 0:
+        sys.exit(f"status {process.returncode} of {words}")
+
+
+def seconds(words):
+    """The seconds of a run."""
+    begin = time.perf_counter()
+    process = started(words)
+    confirm(process, words)
+    return time.perf_counter() - begin
+
+
+def peak_now(process):
+    """The peak memory up to now in kilobytes, while the process runs."""
+    try:
+        with open(f"/proc/{process.pid}/status") as status:
+            return next((int(line.split()[1]) for line in status if line.startswith("VmHWM:")), 0)
+    except (FileNotFoundError, ProcessLookupError):
+        return 0
+
+
+def peak(words):
+    """The peak memory of a run in kilobytes. It is asked for again and again, as what the system tells at the end counts this script as well."""
+    process = started(words)
+    most = 0
+    while process.poll() is None:
+        most = max(most, peak_now(process))
+    confirm(process, words)
+    return most

@@ -1,7 +1,7 @@
 """The phases that carry orders out one by one, and lessons, as tests/plain.py reckons them."""
 from plain_campaign import HOLDING_LIMIT, MEN_LIMIT, Fault, Structure, Unit, must, own
 
-LAST_UNIT, MOST_UNITS, MOST_STRUCTURES = 999_999_999, 10_000, 10_000
+LAST_UNIT, MOST_UNITS, MOST_STRUCTURES = 999_999_999, 100_000, 10_000
 # how many men a teacher teaches for each of its own
 PLACES_OF_TEACHER = 10
 # what a month adds to a man's days: by his study, by a teacher and by a place that helps; and the most that he has

@@ -58,3 +58,23 @@ fn shares_all(rt: &impl Abort, alloc: Global) -> Result<(), Fail> {
 fn a_pot_is_shared(rt: HostRuntime) -> Result<(), Fail> {
     shares_all(&rt, rt.alloc())
 }
+
+/// The sum of all that is given, where a crowd wants all there can be of all there can be.
+fn given_to_crowd(alloc: Global, wants: &[u64]) -> Result<u64, Fail> {
+    if !are_small(wants) {
+        return Err(Fail::new("wants that are small enough"));
+    }
+    let mut sum: u64 = 0;
+    for given in share(alloc, 999_999_999, wants)?.iter() {
+        sum = sum.wrapping_add(*given);
+    }
+    Ok(sum)
+}
+
+#[test]
+fn a_crowd_gets_the_whole_pot(rt: HostRuntime) -> Result<(), Fail> {
+    let wants = [999_999_999u64].repeat(rt.alloc(), 100_000)?;
+    let given = given_to_crowd(rt.alloc(), wants.as_slice())?;
+    assert_eq!(rt; given, 999_999_999);
+    Ok(())
+}

@@ -126,7 +126,7 @@ pub(crate) const KEY_CHANGES: [Change; 22] = [
     ),
     (
         "money = 500",
-        "money = 500\nwest = 10000",
+        "money = 500\nwest = 100000",
         "4 OutOfRange region[0].west",
     ),
     (
@@ -348,7 +348,7 @@ pub(crate) const NEIGHBOUR_CHANGES: [Change; 11] = [
     ),
     (
         "money = 500",
-        "money = 500\nnorth = 9999",
+        "money = 500\nnorth = 99999",
         "7 BadNeighbour region[0].north",
     ),
     (
@@ -358,7 +358,7 @@ pub(crate) const NEIGHBOUR_CHANGES: [Change; 11] = [
     ),
     (
         "money = 500",
-        "money = 500\nsouth = 10000",
+        "money = 500\nsouth = 100000",
         "4 OutOfRange region[0].south",
     ),
     (

@@ -8,7 +8,7 @@ use super::changes::{
 use super::worlds::{MORE, changed, fault, small_with, with_markets};
 use atl_tables::{Format, Text};
 use atl_test_worlds::SMALL;
-use std::alloc::Global;
+use std::alloc::{AllocError, Global};
 use std::process::Abort;
 use std::test::Fail;
 
@@ -186,8 +186,8 @@ level = 1
 /// What is put so often behind the small world, and the first fault then: names are equal as long as there are not too many.
 const REPEATED: [(&str, usize, &str); 11] = [
     (REGION, 1, "5 TwoNames region[1].number"),
-    (REGION, 2_499, "5 TwoNames region[1].number"),
-    (REGION, 2_500, "4 OutOfRange region"),
+    (REGION, 9_999, "5 TwoNames region[1].number"),
+    (REGION, 10_000, "4 OutOfRange region"),
     (TERRAIN, 19, "5 TwoNames terrain[1].name"),
     (TERRAIN, 20, "4 OutOfRange terrain"),
     (ITEM, 200, "5 TwoNames item[1].name"),
@@ -210,6 +210,35 @@ fn repeated_are(rt: &impl Abort, alloc: Global, rows: &[(&str, usize, &str)]) ->
         let told = fault_repeated(alloc, piece, *times)?;
         row_is(rt, piece, told.as_str(), wanted);
     }
+    Ok(())
+}
+
+/// A text of so many regions, with the numbers from 1.
+fn regions(alloc: Global, count: u32) -> Result<String, AllocError> {
+    let mut text = String::new(alloc);
+    for number in 1..=count {
+        let region = format!(in alloc;
+            "[[region]]\nnumber = {number}\nname = \"Vale\"\nterrain = \"plain\"\npeasants = 1000\nmoney = 500\n"
+        )?;
+        text.push_str(region.as_str())?;
+    }
+    Ok(text)
+}
+
+/// The first fault of a world of so many regions.
+fn fault_of_regions(alloc: Global, count: u32) -> Result<Text, Fail> {
+    let regions = regions(alloc, count)?;
+    let rules = before("[[region]]");
+    let text = format!(in alloc; "{rules}{regions}")?;
+    fault(alloc, Format::Second, text.as_str())
+}
+
+#[test]
+fn many_regions(rt: HostRuntime) -> Result<(), Fail> {
+    let most = fault_of_regions(rt.alloc(), 10_000)?;
+    row_is(&rt, "most", most.as_str(), "none");
+    let more = fault_of_regions(rt.alloc(), 10_001)?;
+    row_is(&rt, "more", more.as_str(), "4 OutOfRange region");
     Ok(())
 }
 

@@ -29,7 +29,7 @@ const NEEDED: [Range; 21] = [
     ("skill[0].fee", "10", 0, 1_000_000),
     ("kind[0].size", "20", 1, 999_999),
     ("kind[0].level", "1", 1, 5),
-    ("region[0].number", "1", 1, 9_999),
+    ("region[0].number", "1", 1, 99_999),
     ("region[0].peasants", "1000", 0, 999_999_999),
     ("region[0].money", "500", 0, 999_999_999),
 ];

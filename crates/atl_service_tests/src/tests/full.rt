@@ -1,4 +1,4 @@
-//! Campaigns in which no faction or no unit more can come.
+//! Joinings of campaigns with many units and factions: of one with room, and where no faction or no unit more can come.
 use super::commands::AVALON;
 use super::making::{begun, opened};
 use super::script::{Asked, Step, follow};
@@ -9,21 +9,26 @@ use std::alloc::Global;
 use std::process::Abort;
 use std::test::Fail;
 
-/// Each number that is there has one `?1` above it, if that isn't past the last.
+/// Each number that is there has one `?1` above it, if that isn't past `?2`.
 const MORE_UNITS: &str =
-    "INSERT INTO unit SELECT number + ?1, 1, 'Unit', 1, 0, 1, 0, 0 FROM unit WHERE number + ?1 <= 10000";
+    "INSERT INTO unit SELECT number + ?1, 1, 'Unit', 1, 0, 1, 0, 0 FROM unit WHERE number + ?1 <= ?2";
 
 const MORE_FACTIONS: &str =
-    "INSERT INTO faction SELECT number + ?1, 'F' || (number + ?1), 'F' || (number + ?1), 'pw', 1 FROM faction WHERE number + ?1 <= 9999";
+    "INSERT INTO faction SELECT number + ?1, 'F' || (number + ?1), 'F' || (number + ?1), 'pw', 1 FROM faction WHERE number + ?1 <= ?2";
 
 /// What the rows are doubled by, until there are all.
-const STEPS: [i64; 14] = [
-    1, 2, 4, 8, 16, 32, 64, 128, 256, 512, 1024, 2048, 4096, 8192,
+const STEPS: [i64; 17] = [
+    1, 2, 4, 8, 16, 32, 64, 128, 256, 512, 1024, 2048, 4096, 8192, 16384, 32768, 65536,
 ];
 
 /// Avalon's units are booked.
-const UNITS_ARE_FULL: &str = "UPDATE books SET amount = amount + 9999 WHERE entry = 1 AND thing = 1;
+const MANY_ARE_BOOKED: &str =
+    "UPDATE books SET amount = amount + 9999 WHERE entry = 1 AND thing = 1;
 UPDATE campaign SET next_unit = 10001";
+
+const UNITS_ARE_FULL: &str =
+    "UPDATE books SET amount = amount + 99999 WHERE entry = 1 AND thing = 1;
+UPDATE campaign SET next_unit = 100001";
 
 /// The other factions are gone and have reports.
 const FACTIONS_ARE_FULL: &str =
@@ -32,36 +37,51 @@ UPDATE campaign SET next_faction = 10000";
 
 const NUMBERS_ARE_FULL: &str = "UPDATE campaign SET next_unit = 1000000000";
 
-/// A full campaign: what doubles its rows, what makes it good again, and what it then holds.
-struct Full {
-    more: Option<&'static str>,
+/// A campaign that is filled by hand: what doubles its rows, up to which number, what makes it good again, what a joining is
+/// then answered, and what the tables hold behind it.
+struct Filled {
+    more: Option<(&'static str, i64)>,
     then: &'static str,
+    told: &'static str,
     rows: [(&'static str, Option<i64>); 3],
 }
 
-/// Avalon has 10,000 units; 9,998 more factions joined, and are gone; the last unit number was given.
-const FULL: [Full; 3] = [
-    Full {
-        more: Some(MORE_UNITS),
-        then: UNITS_ARE_FULL,
+/// Avalon has 10,000 units, and 100,000; 9,998 more factions joined, and are gone; the last unit number was given.
+const FILLED: [Filled; 4] = [
+    Filled {
+        more: Some((MORE_UNITS, 10_000)),
+        then: MANY_ARE_BOOKED,
+        told: "joined",
         rows: [
-            (NEXT, Some(210001)),
-            (FACTIONS, Some(1)),
-            (UNITS, Some(10000)),
+            (NEXT, Some(310002)),
+            (FACTIONS, Some(2)),
+            (UNITS, Some(10001)),
         ],
     },
-    Full {
-        more: Some(MORE_FACTIONS),
+    Filled {
+        more: Some((MORE_UNITS, 100_000)),
+        then: UNITS_ARE_FULL,
+        told: "full",
+        rows: [
+            (NEXT, Some(300001)),
+            (FACTIONS, Some(1)),
+            (UNITS, Some(100000)),
+        ],
+    },
+    Filled {
+        more: Some((MORE_FACTIONS, 9_999)),
         then: FACTIONS_ARE_FULL,
+        told: "full",
         rows: [
             (NEXT, Some(1000000002)),
             (FACTIONS, Some(9999)),
             (UNITS, Some(1)),
         ],
     },
-    Full {
+    Filled {
         more: None,
         then: NUMBERS_ARE_FULL,
+        told: "full",
         rows: [
             (NEXT, Some(1000200000)),
             (FACTIONS, Some(1)),
@@ -72,7 +92,7 @@ const FULL: [Full; 3] = [
 
 const AVALON_JOINS: [Step; 1] = [Step::Told(AVALON, "joined")];
 
-const IS_FULL: [Step; 1] = [Step::Told(Asked::Join("Bree", "pb", 0), "full")];
+const BREE: Asked = Asked::Join("Bree", "pb", 0);
 
 /// The small world's campaign, with Avalon in it.
 fn joined<S: Alter + Drop>(
@@ -87,46 +107,46 @@ fn joined<S: Alter + Drop>(
     Ok(conn)
 }
 
-/// Doubles the rows of a table.
-fn doubled<S: Alter>(conn: &mut Connection<S>, sql: &str) -> Result<(), Fail> {
+/// Doubles the rows of a table, up to a number.
+fn doubled<S: Alter>(conn: &mut Connection<S>, sql: &str, last: i64) -> Result<(), Fail> {
     for step in STEPS.iter() {
-        conn.execute(sql, params![*step])?;
+        conn.execute(sql, params![*step, last])?;
     }
     Ok(())
 }
 
 /// Fills a campaign by hand.
-fn fill<S: Alter>(conn: &mut Connection<S>, full: &Full) -> Result<(), Fail> {
-    if let Some(more) = full.more {
-        doubled(conn, more)?;
+fn fill<S: Alter>(conn: &mut Connection<S>, filled: &Filled) -> Result<(), Fail> {
+    if let Some((sql, last)) = filled.more {
+        doubled(conn, sql, last)?;
     }
-    conn.execute_batch(full.then)?;
+    conn.execute_batch(filled.then)?;
     Ok(())
 }
 
-/// Asserts that a joining is refused as Full, and that the tables are as they were.
-fn is_full<S: Alter + Drop>(
+/// Asserts what a joining is answered, and what the tables hold behind it.
+fn answers<S: Alter + Drop>(
     rt: &impl Abort,
     alloc: Global,
     conn: Connection<S>,
-    rows: &[(&str, Option<i64>)],
+    filled: &Filled,
 ) -> Result<(), Fail> {
     let mut service = opened(alloc, conn)?;
-    let done = follow(rt, alloc, &mut service, &IS_FULL);
-    holds(rt, &mut service.end(), rows);
+    let done = follow(rt, alloc, &mut service, &[Step::Told(BREE, filled.told)]);
+    holds(rt, &mut service.end(), &filled.rows);
     done
 }
 
-fn are_full(rt: &impl Abort, alloc: Global) -> Result<(), Fail> {
-    for full in FULL.iter() {
+fn all_answer(rt: &impl Abort, alloc: Global) -> Result<(), Fail> {
+    for filled in FILLED.iter() {
         let mut conn = joined(rt, alloc, Connection::open_in_memory(alloc)?)?;
-        fill(&mut conn, full)?;
-        is_full(rt, alloc, conn, &full.rows)?;
+        fill(&mut conn, filled)?;
+        answers(rt, alloc, conn, filled)?;
     }
     Ok(())
 }
 
 #[test]
 fn nobody_joins_a_full_campaign(rt: HostRuntime) -> Result<(), Fail> {
-    are_full(&rt, rt.alloc())
+    all_answer(&rt, rt.alloc())
 }

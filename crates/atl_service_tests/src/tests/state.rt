@@ -5,7 +5,8 @@ ghost use Rattle.atl_state.specs.Good.{IsGood};
 use super::commands::FIRST_REPORT;
 use super::compare::{are_numbers, is_count, is_number, is_text, is_total};
 use atl_report::{report_text, view};
-use atl_state::{Campaign, Entry, Thing, founded};
+use atl_state::{Campaign, Entry, MOST_UNITS, Thing, founded};
+use atl_tables::limits::MOST_REGIONS;
 use atl_tables::{Text, World, read_world};
 use atl_test_worlds::SMALL;
 use std::alloc::{AllocError, Global};
@@ -30,7 +31,7 @@ fn avalon_joins(rt: &impl Abort, world: &World, campaign: &mut Campaign)
 }
 
 fn total(campaign: &Campaign, thing: Thing) -> Option<u64> {
-    if campaign.unit_count() > 10_000 || campaign.region_count() > 2_500 {
+    if campaign.unit_count() > MOST_UNITS || campaign.region_count() > MOST_REGIONS {
         return None;
     }
     Some(campaign.total(thing))

@@ -1,7 +1,8 @@
 //! Walks over all factions, regions, units and structures of a campaign, and its totals.
 use super::compare::{is_amount, is_count, is_number, is_text, row_is};
 use super::making::{FAR, LODGE, is_begun, joined_in};
-use atl_state::{Campaign, Thing};
+use atl_state::{Campaign, MOST_UNITS, Thing};
+use atl_tables::limits::MOST_REGIONS;
 use atl_tables::{World, read_world};
 use atl_test_worlds::ISLE;
 use std::alloc::Global;
@@ -52,7 +53,7 @@ const TOTALS: [(Thing, u64); 4] = [
 ];
 
 fn total(campaign: &Campaign, thing: Thing) -> Result<u64, Fail> {
-    if campaign.unit_count() > 10_000 || campaign.region_count() > 2_500 {
+    if campaign.unit_count() > MOST_UNITS || campaign.region_count() > MOST_REGIONS {
         return Err(Fail::new("few units and regions"));
     }
     Ok(campaign.total(thing))
