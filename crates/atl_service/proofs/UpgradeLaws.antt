@@ -1,11 +1,10 @@
 -- An upgrade.
-use Rattle.std.proofs.Common.{◌≡◌, List, ℕ, true, Some, refl, sym, ap, ◌∙◌, subst}
+use Rattle.std.proofs.Common.{List, ℕ, true, Some, refl}
 use Rattle.sqlite_trees.specs.declared.store.Store.{Ghosts}
 use Rattle.sqlite.specs.Held.{Held, state}
-use Rattle.atl_tables.specs.World.{world_of}
 use Rattle.atl_tables.specs.Worlds.{WorldValue}
 use Rattle.atl_state.specs.Campaign.{MarkedCampaign}
-use Rattle.atl_store.specs.Keeps.{Keeps, IsLater}
+use Rattle.atl_store.specs.Keeps.{IsLater}
 use Rattle.atl_store.specs.Upgrading.{Upgrades}
 use Rattle.atl_store.proofs.WorldTextLaws.{world_text_is}
 use Rattle.atl_service.specs.Service.{IsService}
