@@ -13,6 +13,7 @@ use std::process::Abort;
 use std::test::Fail;
 
 /// The stock of an item in a region.
+#[derive(Clone, Copy, Drop)]
 struct Stock {
     region: u32,
     item: u32,

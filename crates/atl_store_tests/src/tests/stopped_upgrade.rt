@@ -54,7 +54,7 @@ fn is_whole(rt: &impl Abort, told: Told, left: Told) {
 }
 
 /// Which of the two disks stops.
-#[derive(Clone, Copy)]
+#[derive(Clone, Copy, Drop)]
 enum WhichDisk {
     Log,
     Database,

@@ -12,7 +12,7 @@ use std::process::Abort;
 use std::test::Fail;
 
 /// What a loading or an upgrade is answered.
-#[derive(Clone, Copy, PartialEq, Eq, Debug)]
+#[derive(Clone, Copy, Drop, PartialEq, Eq, Debug)]
 pub(crate) enum Told {
     Done,
     Store,
@@ -116,22 +116,8 @@ fn the_campaign_is_the_old_one(rt: HostRuntime) -> Result<(), Fail> {
     is_the_same(&rt, rt.alloc(), &mut conn, rows.as_str())
 }
 
-/// What a file after these statements is answered by a loading, and by an upgrade with this world.
-struct Case {
-    sql: &'static str,
-    world: &'static str,
-    loading: Told,
-    upgrade: Told,
-}
-
-const fn case(sql: &'static str, world: &'static str, loading: Told, upgrade: Told) -> Case {
-    Case {
-        sql,
-        world,
-        loading,
-        upgrade,
-    }
-}
+/// Statements on a file, a world, and what the file is answered then by a loading, and by an upgrade with this world.
+type Case = (&'static str, &'static str, Told, Told);
 
 const NO_WORLD: &str = "a = = b";
 
@@ -141,74 +127,74 @@ const LOOSE: &str =
 
 /// Files that are as they are to be but for these statements, and worlds.
 const CASES: [Case; 18] = [
-    case("", SMALL, Told::OldFormat, Told::Differs),
-    case("", NO_WORLD, Told::OldFormat, Told::World),
-    case("", ISLE, Told::OldFormat, Told::Done),
-    case("", ISLE_WITH_MARKET, Told::OldFormat, Told::Done),
-    case("BEGIN", ISLE, Told::Store, Told::Store),
-    case(
+    ("", SMALL, Told::OldFormat, Told::Differs),
+    ("", NO_WORLD, Told::OldFormat, Told::World),
+    ("", ISLE, Told::OldFormat, Told::Done),
+    ("", ISLE_WITH_MARKET, Told::OldFormat, Told::Done),
+    ("BEGIN", ISLE, Told::Store, Told::Store),
+    (
         "DROP TABLE campaign",
         NO_WORLD,
         Told::NotACampaign,
         Told::NotACampaign,
     ),
-    case(
+    (
         "DELETE FROM campaign",
         ISLE,
         Told::Damaged(1),
         Told::Damaged(1),
     ),
-    case(
+    (
         "UPDATE campaign SET format = 3",
         NO_WORLD,
         Told::Damaged(1),
         Told::Damaged(1),
     ),
-    case(
+    (
         "UPDATE campaign SET format = 2",
         NO_WORLD,
         Told::Store,
         Told::NotOld,
     ),
-    case(LOOSE, ISLE, Told::OldFormat, Told::Damaged(1)),
-    case(
+    (LOOSE, ISLE, Told::OldFormat, Told::Damaged(1)),
+    (
         "UPDATE campaign SET month = 10000",
         NO_WORLD,
         Told::OldFormat,
         Told::Damaged(2),
     ),
-    case(
+    (
         "INSERT INTO books VALUES (14, 0, -4); UPDATE unit SET money = 0 WHERE number = 10",
         ISLE,
         Told::OldFormat,
         Told::Damaged(11),
     ),
-    case(
+    (
         "DELETE FROM report",
         SMALL,
         Told::OldFormat,
         Told::Damaged(12),
     ),
-    case("DROP TABLE unit", ISLE, Told::OldFormat, Told::Store),
-    case(
+    ("DROP TABLE unit", ISLE, Told::OldFormat, Told::Store),
+    (
         "CREATE TABLE notes (words TEXT)",
         NO_WORLD,
         Told::OldFormat,
         Told::World,
     ),
-    case(
+    (
         "CREATE TABLE notes (words TEXT)",
         SMALL,
         Told::OldFormat,
         Told::Differs,
     ),
-    case(
+    (
         "CREATE TABLE notes (words TEXT)",
         ISLE,
         Told::OldFormat,
         Told::Store,
     ),
-    case(
+    (
         "CREATE INDEX units_by_region ON unit (region)",
         ISLE,
         Told::OldFormat,
@@ -234,26 +220,27 @@ fn is_told<S: Alter>(
     case: &Case,
 ) -> Result<(), Fail> {
     old_island(alloc, conn)?;
-    conn.execute_batch(case.sql)?;
+    let (sql, world, loading, upgrade) = *case;
+    conn.execute_batch(sql)?;
     let before = tables(conn);
-    is_answer(rt, told_of_loading(alloc, conn), case.loading, case.sql);
+    is_answer(rt, told_of_loading(alloc, conn), loading, sql);
+    is_answer(rt, told_of_upgrade(alloc, conn, world), upgrade, sql);
+    assert!(rt; upgrade == Told::Done || tables(conn) == before);
     is_answer(
         rt,
-        told_of_upgrade(alloc, conn, case.world),
-        case.upgrade,
-        case.sql,
+        told_of_loading(alloc, conn),
+        after(loading, upgrade),
+        sql,
     );
-    assert!(rt; case.upgrade == Told::Done || tables(conn) == before);
-    is_answer(rt, told_of_loading(alloc, conn), after(case), case.sql);
     Ok(())
 }
 
 /// What a loading behind the upgrade is answered.
-fn after(case: &Case) -> Told {
-    if case.upgrade == Told::Done {
+fn after(loading: Told, upgrade: Told) -> Told {
+    if upgrade == Told::Done {
         Told::Done
     } else {
-        case.loading
+        loading
     }
 }
 
