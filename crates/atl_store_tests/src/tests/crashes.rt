@@ -145,11 +145,31 @@ fn stopped<D: Crash + Drop>(
     }
 }
 
-/// A log and a database on disks that pass so many calls on.
-fn stopping(alloc: Global, log: u64, db: u64) -> Files<Fuse<Memory>> {
+/// Files that hold nothing yet.
+pub(crate) fn new_files(alloc: Global) -> Files<Memory> {
     Files {
-        log: Fuse::new(Memory::new(alloc), log),
-        db: Fuse::new(Memory::new(alloc), db),
+        log: Memory::new(alloc),
+        db: Memory::new(alloc),
+    }
+}
+
+/// Which of the two disks stops.
+#[derive(Clone, Copy, Drop)]
+pub(crate) enum WhichDisk {
+    Log,
+    Database,
+}
+
+/// The files on disks, one of which passes so many calls on.
+pub(crate) fn stopping(files: Files<Memory>, which: WhichDisk, calls: u64) -> Files<Fuse<Memory>> {
+    let Files { log, db } = files;
+    let (of_log, of_db) = match which {
+        WhichDisk::Log => (calls, u64::MAX),
+        WhichDisk::Database => (u64::MAX, calls),
+    };
+    Files {
+        log: Fuse::new(log, of_log),
+        db: Fuse::new(db, of_db),
     }
 }
 
@@ -163,44 +183,29 @@ fn is_whole(rt: &impl Abort, answered: Answered, found: Option<usize>) {
     }
 }
 
-/// The disk of the log stops at each of its calls, up to one that is past the last.
-fn stops_log(
+/// A disk stops at each of its calls, up to a run in which it doesn't.
+fn stops(
     rt: &impl Abort,
     alloc: Global,
     before: &mut Campaign,
     after: &Campaign,
+    which: WhichDisk,
 ) -> Result<(), Fail> {
-    let mut last = Answered::Nothing;
-    for calls in 0..29 {
-        let (answered, found) = stopped(alloc, stopping(alloc, calls, u64::MAX), before, after)?;
+    for calls in 0..1_000u64 {
+        let files = stopping(new_files(alloc), which, calls);
+        let (answered, found) = stopped(alloc, files, before, after)?;
         is_whole(rt, answered, found);
-        last = answered;
+        if answered == Answered::Joined {
+            return Ok(());
+        }
     }
-    assert!(rt; last == Answered::Joined);
-    Ok(())
-}
-
-/// The disk of the database stops at each of its calls, up to one that is past the last.
-fn stops_db(
-    rt: &impl Abort,
-    alloc: Global,
-    before: &mut Campaign,
-    after: &Campaign,
-) -> Result<(), Fail> {
-    let mut last = Answered::Nothing;
-    for calls in 0..40 {
-        let (answered, found) = stopped(alloc, stopping(alloc, u64::MAX, calls), before, after)?;
-        is_whole(rt, answered, found);
-        last = answered;
-    }
-    assert!(rt; last == Answered::Joined);
-    Ok(())
+    Err(Fail::new("stopped each time"))
 }
 
 fn stops_joining(rt: &impl Abort, alloc: Global, before: &mut Campaign) -> Result<(), Fail> {
     let after = joined(alloc)?;
-    stops_log(rt, alloc, before, &after)?;
-    stops_db(rt, alloc, before, &after)
+    stops(rt, alloc, before, &after, WhichDisk::Log)?;
+    stops(rt, alloc, before, &after, WhichDisk::Database)
 }
 
 #[test]

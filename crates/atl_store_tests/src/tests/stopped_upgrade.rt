@@ -1,19 +1,15 @@
 //! A disk that stops at each of its calls while a file is upgraded. What works on the disk takes any disk that can crash.
-use super::crashes::open;
+use super::crashes::{WhichDisk, new_files, open, stopping};
 use super::upgrading::{Told, old_island, told_of_loading, told_of_upgrade};
 use atl_test_worlds::ISLE_WITH_MARKET;
-use sqlite_disk::{Crash, Files, Fuse, Memory};
+use sqlite_disk::{Crash, Files, Memory};
 use std::alloc::Global;
 use std::process::Abort;
 use std::test::Fail;
 
 /// A file of the first format.
 fn old_files(alloc: Global) -> Result<Files<Memory>, Fail> {
-    let files = Files {
-        log: Memory::new(alloc),
-        db: Memory::new(alloc),
-    };
-    let mut conn = open(alloc, files).ok_or("open")?;
+    let mut conn = open(alloc, new_files(alloc)).ok_or("open")?;
     old_island(alloc, &mut conn)?;
     Ok(conn.into_store().close())
 }
@@ -50,26 +46,6 @@ fn is_whole(rt: &impl Abort, told: Told, left: Told) {
         Told::Done => assert!(rt; left == Told::Done),
         Told::Store => assert!(rt; left == Told::Done || left == Told::OldFormat),
         _ => assert!(rt; false),
-    }
-}
-
-/// Which of the two disks stops.
-#[derive(Clone, Copy, Drop)]
-enum WhichDisk {
-    Log,
-    Database,
-}
-
-/// The files on disks, one of which passes so many calls on.
-fn stopping(files: Files<Memory>, which: WhichDisk, calls: u64) -> Files<Fuse<Memory>> {
-    let Files { log, db } = files;
-    let (of_log, of_db) = match which {
-        WhichDisk::Log => (calls, u64::MAX),
-        WhichDisk::Database => (u64::MAX, calls),
-    };
-    Files {
-        log: Fuse::new(log, of_log),
-        db: Fuse::new(db, of_db),
     }
 }
 
