@@ -5,8 +5,8 @@
 # were made.
 #   trial.db   worlds/small.toml; two factions, a closed month, and mail
 #   club.db    worlds/isle.toml; the two months of a club's first hour, and mail with orders that there were none of then
-#   crowd.db   990 units of 2 factions in 250 regions, as in bench/closing; a closed month with structures, and mail of both. It is packed, and
-#              so are its reports
+#   crowd.db   990 units of 2 factions in 250 regions, as in bench/closing of commit 11e96e8b; a closed month with structures, and mail of
+#              both. It is packed, and so are its reports
 set -eu
 program=$1
 old=$(cd "$(dirname "$0")" && pwd)
@@ -120,8 +120,12 @@ elif path == "mail":
 else:
     closing.filled(path, factions, regions, units)
 END
+mkdir bench
+for name in closing month.txt; do
+  git -C "$here" show "11e96e8b:bench/$name" >"bench/$name"
+done
 fill() {
-  python3 -B fill.py "$here/bench/closing" 250 2 990 "$1"
+  python3 -B fill.py bench/closing 250 2 990 "$1"
 }
 fill world >world.toml
 fill mail
