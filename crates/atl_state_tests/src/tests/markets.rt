@@ -197,7 +197,11 @@ fn shows_market(rt: &impl Abort, rows: &[StoredMarket]) -> Result<(), Fail> {
 fn comes_back(rt: &impl Abort, alloc: Global, world: &World, first: &Campaign) -> Result<(), Fail> {
     let rows = first.parts_as(Format::Second)?;
     shows_market(rt, rows.markets.as_slice())?;
-    is_count(rt, first.parts()?.markets.as_slice().len(), 0);
+    is_count(
+        rt,
+        first.parts_as(Format::First)?.markets.as_slice().len(),
+        0,
+    );
     let again = checked(alloc, world, rows)?;
     is_amount(rt, again.stock(1, 0), 20);
     Ok(())
