@@ -82,7 +82,8 @@ def campaign():
     for place in structures:
         yield f"structure {place.kind} {place.region} {place.done} {place.owner}"
     for (region, item), amount in stocks.items():
-        yield f"stock {region} {item} {amount}"
+        if amount:
+            yield f"stock {region} {item} {amount}"
 
 
 def near(unit):
