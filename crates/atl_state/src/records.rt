@@ -1,8 +1,6 @@
 //! What a campaign consists of.
 use crate::holding::{Holding, amount_under};
-use atl_tables::{Numbered, Text, let_go};
-use std::error::Error;
-use std::fmt;
+use atl_tables::{Numbered, Text, let_go, shown_by_name};
 
 /// A player's faction. Names and pass texts keep their rules (docs/RULES.md, "Names and pass texts").
 pub struct Faction {
@@ -96,11 +94,4 @@ pub enum JoinFault {
     Memory,
 }
 
-/// Its name.
-impl fmt::Display for JoinFault {
-    fn fmt<W: fmt::Write>(&self, f: &mut fmt::Formatter<W>) -> fmt::Result {
-        write!(f, "{self:?}")
-    }
-}
-
-impl Error for JoinFault {}
+shown_by_name!(JoinFault);

@@ -7,6 +7,13 @@ ghost use Rattle.atl_tables.specs.Sums.{mapped};
 use crate::numbered::Numbered;
 use crate::world::{Item, Kind, RegionPlan, Rules, Skill, Terrain, World};
 
+/// Whether two values are equal in each of these fields: `agree!(one other: land wage)`.
+macro_rules! agree {
+    ($one:ident $other:ident: $first:ident $($field:ident)*) => {
+        $one.$first == $other.$first $(&& $one.$field == $other.$field)*
+    };
+}
+
 /// What stands in a world under a number of its own.
 trait Thing: Drop {
     fn is_same(&self, other: &Self) -> bool
@@ -30,24 +37,14 @@ fn are_same<T: Thing>(things: &[T], others: &[T]) -> bool
 impl Thing for Terrain {
     fn is_same(&self, other: &Terrain) -> bool {
         self.name.is_same(&other.name)
-            && self.land == other.land
-            && self.wage == other.wage
-            && self.places == other.places
-            && self.money_limit == other.money_limit
-            && self.peasant_limit == other.peasant_limit
+            && agree!(self other: land wage places money_limit peasant_limit)
             && self.output.as_slice() == other.output.as_slice()
     }
 }
 
 impl Thing for Item {
     fn is_same(&self, other: &Item) -> bool {
-        self.name.is_same(&other.name)
-            && self.weight == other.weight
-            && self.carry == other.carry
-            && self.skill == other.skill
-            && self.level == other.level
-            && self.raw == other.raw
-            && self.raw_count == other.raw_count
+        self.name.is_same(&other.name) && agree!(self other: weight carry skill level raw raw_count)
     }
 }
 
@@ -60,32 +57,15 @@ impl Thing for Skill {
 impl Thing for Kind {
     fn is_same(&self, other: &Kind) -> bool {
         self.name.is_same(&other.name)
-            && self.ship == other.ship
-            && self.material == other.material
-            && self.size == other.size
-            && self.skill == other.skill
-            && self.level == other.level
-            && self.capacity == other.capacity
-            && self.crew == other.crew
-            && self.helps == other.helps
+            && agree!(self other: ship material size skill level capacity crew helps)
     }
 }
 
 fn are_same_rules(rules: &Rules, others: &Rules) -> bool
     ensures { Decides result (rules.now ≡ others.now) }
 {
-    rules.maintenance == others.maintenance
-        && rules.tax_per_man == others.tax_per_man
-        && rules.recruit_price == others.recruit_price
-        && rules.recruit_fraction == others.recruit_fraction
-        && rules.growth == others.growth
-        && rules.income == others.income
-        && rules.start_money == others.start_money
-        && rules.man_weight == others.man_weight
-        && rules.man_carry == others.man_carry
-        && rules.observation == others.observation
-        && rules.stealth == others.stealth
-        && rules.sailing == others.sailing
+    agree!(rules others: maintenance tax_per_man recruit_price recruit_fraction growth income)
+        && agree!(rules others: start_money man_weight man_carry observation stealth sailing)
 }
 
 fn is_same_region(plan: &RegionPlan, other: &RegionPlan) -> bool
@@ -93,13 +73,7 @@ fn is_same_region(plan: &RegionPlan, other: &RegionPlan) -> bool
 {
     plan.number == other.number
         && plan.name.is_same(&other.name)
-        && plan.terrain == other.terrain
-        && plan.peasants == other.peasants
-        && plan.money == other.money
-        && plan.north == other.north
-        && plan.south == other.south
-        && plan.east == other.east
-        && plan.west == other.west
+        && agree!(plan other: terrain peasants money north south east west)
 }
 
 fn are_same_regions(plans: &Numbered<RegionPlan>, others: &Numbered<RegionPlan>) -> bool

@@ -1,4 +1,4 @@
-//! Lists of the variants of an enum.
+//! Lists of the variants of an enum, and their names.
 
 /// Some variants of an enum: `variants!(Verb: Name Guard)` is `[Verb::Name, Verb::Guard]`.
 #[macro_export]
@@ -16,5 +16,21 @@ macro_rules! name_of {
         match $value {
             $($enum::$variant => stringify!($variant),)*
         }
+    };
+}
+
+/// Errors that are shown by the names of their variants: `shown_by_name!(WriteFault ReadFault)`.
+#[macro_export]
+macro_rules! shown_by_name {
+    ($($fault:ident)*) => {
+        $(
+            impl std::fmt::Display for $fault {
+                fn fmt<W: std::fmt::Write>(&self, f: &mut std::fmt::Formatter<W>) -> std::fmt::Result {
+                    write!(f, "{self:?}")
+                }
+            }
+
+            impl std::error::Error for $fault {}
+        )*
     };
 }

@@ -9,6 +9,13 @@ use crate::schema::places;
 use crate::schema::shapes::{is_keyed, is_simple, is_strict};
 use sqlite_schema::schema::{Kind, Table};
 
+/// Columns in their order: the kind of some that stand side by side, and their names.
+macro_rules! columns {
+    ($($kind:ident: $($name:literal)*);*) => {
+        &[$($(($name, Kind::$kind),)*)*]
+    };
+}
+
 /// The table of the campaign's own row, which has a check.
 fn is_campaign(found: &Table) -> bool
     ensures { Decides result (found.now ≡ campaign_table) }
@@ -17,16 +24,10 @@ fn is_campaign(found: &Table) -> bool
         found,
         places::CAMPAIGN,
         b"campaign",
-        &[
-            (b"id", Kind::Integer),
-            (b"format", Kind::Integer),
-            (b"month", Kind::Integer),
-            (b"next_faction", Kind::Integer),
-            (b"next_unit", Kind::Integer),
-            (b"next_structure", Kind::Integer),
-            (b"pass", Kind::Text),
-            (b"world", Kind::Text),
-        ],
+        columns!(
+            Integer: b"id" b"format" b"month" b"next_faction" b"next_unit" b"next_structure";
+            Text: b"pass" b"world"
+        ),
     ) && is_numbered(found)
         && has_no_unique(found)
         && is_own_row(&found.checks)
@@ -40,13 +41,7 @@ fn is_faction(found: &Table) -> bool
         found,
         places::FACTION,
         b"faction",
-        &[
-            (b"number", Kind::Integer),
-            (b"joined_as", Kind::Text),
-            (b"name", Kind::Text),
-            (b"pass", Kind::Text),
-            (b"gone", Kind::Integer),
-        ],
+        columns!(Integer: b"number"; Text: b"joined_as" b"name" b"pass"; Integer: b"gone"),
     ) && is_numbered(found)
         && is_unique(found, &places::FACTION_UNIQUE)
         && found.checks.roots.is_empty()
@@ -59,11 +54,7 @@ fn is_region(found: &Table) -> bool
         found,
         places::REGION,
         b"region",
-        &[
-            (b"number", Kind::Integer),
-            (b"peasants", Kind::Integer),
-            (b"money", Kind::Integer),
-        ],
+        columns!(Integer: b"number" b"peasants" b"money"),
     )
 }
 
@@ -74,16 +65,11 @@ fn is_unit(found: &Table) -> bool
         found,
         places::UNIT,
         b"unit",
-        &[
-            (b"number", Kind::Integer),
-            (b"faction", Kind::Integer),
-            (b"name", Kind::Text),
-            (b"region", Kind::Integer),
-            (b"structure", Kind::Integer),
-            (b"men", Kind::Integer),
-            (b"money", Kind::Integer),
-            (b"guard", Kind::Integer),
-        ],
+        columns!(
+            Integer: b"number" b"faction";
+            Text: b"name";
+            Integer: b"region" b"structure" b"men" b"money" b"guard"
+        ),
     )
 }
 
@@ -94,12 +80,7 @@ fn is_has(found: &Table) -> bool
         found,
         places::HAS,
         b"has",
-        &[
-            (b"unit", Kind::Integer),
-            (b"sort", Kind::Integer),
-            (b"thing", Kind::Integer),
-            (b"amount", Kind::Integer),
-        ],
+        columns!(Integer: b"unit" b"sort" b"thing" b"amount"),
         &places::HAS_UNIQUE,
     )
 }
@@ -111,14 +92,7 @@ fn is_structure(found: &Table) -> bool
         found,
         places::STRUCTURE,
         b"structure",
-        &[
-            (b"number", Kind::Integer),
-            (b"kind", Kind::Integer),
-            (b"name", Kind::Text),
-            (b"region", Kind::Integer),
-            (b"done", Kind::Integer),
-            (b"owner", Kind::Integer),
-        ],
+        columns!(Integer: b"number" b"kind"; Text: b"name"; Integer: b"region" b"done" b"owner"),
     )
 }
 
@@ -129,7 +103,7 @@ fn is_mail(found: &Table) -> bool
         found,
         places::MAIL,
         b"mail",
-        &[(b"faction", Kind::Integer), (b"text", Kind::Blob)],
+        columns!(Integer: b"faction"; Blob: b"text"),
     )
 }
 
@@ -140,7 +114,7 @@ fn is_report(found: &Table) -> bool
         found,
         places::REPORT,
         b"report",
-        &[(b"faction", Kind::Integer), (b"text", Kind::Text)],
+        columns!(Integer: b"faction"; Text: b"text"),
     )
 }
 
@@ -151,11 +125,7 @@ fn is_books(found: &Table) -> bool
         found,
         places::BOOKS,
         b"books",
-        &[
-            (b"entry", Kind::Integer),
-            (b"thing", Kind::Integer),
-            (b"amount", Kind::Integer),
-        ],
+        columns!(Integer: b"entry" b"thing" b"amount"),
         &places::BOOKS_UNIQUE,
     )
 }
@@ -167,11 +137,7 @@ fn is_market(found: &Table) -> bool
         found,
         places::MARKET,
         b"market",
-        &[
-            (b"region", Kind::Integer),
-            (b"item", Kind::Integer),
-            (b"stock", Kind::Integer),
-        ],
+        columns!(Integer: b"region" b"item" b"stock"),
         &places::MARKET_UNIQUE,
     )
 }
