@@ -4,7 +4,7 @@ ghost use Rattle.atl_orders.specs.Words.{is_word};
 ghost use Rattle.atl_orders.specs.Views.{word_text};
 
 use crate::words::{Word, is_same};
-use atl_tables::variants;
+use atl_tables::{text_of, variants};
 
 /// What an order does.
 #[derive(Drop, Clone, Copy, Debug, PartialEq, Eq)]
@@ -45,29 +45,12 @@ impl Verb {
     pub fn keyword(self) -> &'static str
         ensures { result.now ≡ keyword self }
     {
-        match self {
-            Verb::Form => "FORM",
-            Verb::Name => "NAME",
-            Verb::Guard => "GUARD",
-            Verb::Enter => "ENTER",
-            Verb::Leave => "LEAVE",
-            Verb::Promote => "PROMOTE",
-            Verb::Give => "GIVE",
-            Verb::Pay => "PAY",
-            Verb::Transfer => "TRANSFER",
-            Verb::Sell => "SELL",
-            Verb::Buy => "BUY",
-            Verb::Tax => "TAX",
-            Verb::Recruit => "RECRUIT",
-            Verb::Quit => "QUIT",
-            Verb::Move => "MOVE",
-            Verb::Sail => "SAIL",
-            Verb::Build => "BUILD",
-            Verb::Teach => "TEACH",
-            Verb::Study => "STUDY",
-            Verb::Produce => "PRODUCE",
-            Verb::Work => "WORK",
-        }
+        text_of!(
+            self, Verb: Form "FORM" Name "NAME" Guard "GUARD" Enter "ENTER" Leave "LEAVE"
+            Promote "PROMOTE" Give "GIVE" Pay "PAY" Transfer "TRANSFER" Sell "SELL" Buy "BUY"
+            Tax "TAX" Recruit "RECRUIT" Quit "QUIT" Move "MOVE" Sail "SAIL" Build "BUILD"
+            Teach "TEACH" Study "STUDY" Produce "PRODUCE" Work "WORK"
+        )
     }
 
     /// The verb of the order table whose keyword a word is.

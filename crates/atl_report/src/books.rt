@@ -6,31 +6,19 @@ ghost use Rattle.atl_state.specs.Totals.{IsCountable};
 ghost use Rattle.atl_report.specs.Books.{IsThing, entry_name, item_name, thing_name, amount_text, amount_line, amount_lines, total_line, thing_part, item_parts, books_of};
 
 use atl_state::{Campaign, Entry, Thing};
-use atl_tables::World;
+use atl_tables::{World, text_of};
 use std::alloc::{AllocError, Global};
 use std::fmt::Write;
 
 fn entry_name(entry: Entry) -> &'static str
     ensures { result.now ≡ entry_name entry }
 {
-    match entry {
-        Entry::Founding => "founding",
-        Entry::Joining => "joining",
-        Entry::Income => "income",
-        Entry::Wages => "wages",
-        Entry::Recruiting => "recruiting",
-        Entry::Study => "study",
-        Entry::Upkeep => "upkeep",
-        Entry::Lost => "lost",
-        Entry::Births => "births",
-        Entry::Starved => "starved",
-        Entry::Left => "left",
-        Entry::Made => "made",
-        Entry::Used => "used",
-        Entry::Bought => "bought",
-        Entry::Sold => "sold",
-        Entry::Stocked => "stocked",
-    }
+    text_of!(
+        entry, Entry: Founding "founding" Joining "joining" Income "income" Wages "wages"
+        Recruiting "recruiting" Study "study" Upkeep "upkeep" Lost "lost" Births "births"
+        Starved "starved" Left "left" Made "made" Used "used" Bought "bought" Sold "sold"
+        Stocked "stocked"
+    )
 }
 
 /// What a line begins with: the thing.

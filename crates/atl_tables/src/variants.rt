@@ -19,6 +19,17 @@ macro_rules! name_of {
     };
 }
 
+/// The text of the variant that a value is, of an enum whose variants have these: `text_of!(verb, Verb: Form "FORM" Name "NAME")`
+/// is `"NAME"` of `Verb::Name`.
+#[macro_export]
+macro_rules! text_of {
+    ($value:expr, $enum:ident: $($variant:ident $text:literal)*) => {
+        match $value {
+            $($enum::$variant => $text,)*
+        }
+    };
+}
+
 /// Errors that are shown by the names of their variants: `shown_by_name!(WriteFault ReadFault)`.
 #[macro_export]
 macro_rules! shown_by_name {
