@@ -1,16 +1,18 @@
 -- Keys that differ.
-use Rattle.std.proofs.Common.{◌≡◌, ℕ, ◌+◌, ◌<◌, ◌++◌, List, [], ◌∷◌, Bool, true, false, ◌||◌, cond, take, drop, length, get_or, refl, sym, ap, subst, ◌∙◌, add-one}
+use Rattle.std.proofs.Common.{◌≡◌, ℕ, ◌+◌, ◌-◌, ◌<◌, ◌≤◌, ◌++◌, ◌⊎◌, inl, inr, List, [], ◌∷◌, Bool, true, false, ◌||◌, cond, take, drop, length, get_or, refl, sym, ap, subst, ◌∙◌, add-one, arith}
 use Rattle.std.specs.Prelude.{Result, Ok, Err, IfOk, map}
 use Rattle.std.specs.Bool.{Decides}
 use Rattle.std.specs.declared.cmp.Ordering.{Ordering}
+use Rattle.std.specs.declared.cmp.Ordering.TheVariants.{Less}
 use Rattle.std.specs.Cmp.{IsTotalOrder, eq_by_cmp_equiv}
 use Rattle.std.specs.Ordering.{eq_by_cmp}
 use Rattle.std.specs.List.{list_any, AllByRecursion, IsDistinct}
+use Rattle.std.specs.List.Sorted.{IsStrictlySortedBy}
 use Rattle.std.proofs.Math.Seq.{drop-cons}
-use Rattle.std.proofs.lemmas.Bool.{false≢true}
-use Rattle.std.proofs.lemmas.List.{take_more, take-append-drop}
+use Rattle.std.proofs.lemmas.Bool.{false≢true, cases_order}
+use Rattle.std.proofs.lemmas.List.{get_or_default, take_more, take-append-drop}
 use Rattle.std.proofs.lemmas.List.Folds.{list_any-append}
-use Rattle.std.proofs.lemmas.Map.Keys.{IsDistinct-head, IsDistinct-tail, IsDistinct-push}
+use Rattle.std.proofs.lemmas.Map.Keys.{IsDistinct-head, IsDistinct-tail, IsDistinct-push, sorted_from_all_adjacent}
 
 at_middle : {K : Type 0} (P : K → Type 0) (front rest : List K) (x : K) → AllByRecursion P (front ++ x ∷ rest) → P x
 at_middle P [] rest x h = h.0
@@ -73,3 +75,29 @@ module _ {A B : Type 0} (f : A → B) (e : B → B → Bool) where
 pub IfOk-decided : {E P Q : Type 0} (r : Result Bool E) → (P → Q) → (Q → P) → IfOk r (λ yes. Decides yes P) → IfOk r (λ yes. Decides yes Q)
 IfOk-decided (Ok answer) there back h = (λ e. there (h.0 e), λ q. h.1 (back q))
 IfOk-decided (Err x) there back h = tt
+
+module _ {K : Type 0} {R : K → K → Ordering} (o : IsTotalOrder R) where
+  -- the first so many of a list rise, place by place
+  abbrev pub RisesTo : ℕ → List K → Type 0
+  RisesTo i ks = (d : K) (k : ℕ) → k + 1 < i → R (get_or ks k d) (get_or ks (k + 1) d) ≡ Less
+
+  pub rises : (ks : List K) (i : ℕ) → length ks ≤ i → RisesTo i ks → IsStrictlySortedBy R ks
+  unfolding IsStrictlySortedBy
+  rises [] i most steps = tt
+  rises (x ∷ xs) i most steps = sorted_from_all_adjacent o (x ∷ xs) x (λ k l. steps x k (omega (arith, l, most)))
+
+  -- one more, which is above the last of them
+  pub rises_more : (ks : List K) (i : ℕ) (x y : K) → 1 ≤ i → i < length ks → x ≡ get_or ks (i - 1) x → y ≡ get_or ks i y → R x y ≡ Less → RisesTo i ks → RisesTo (i + 1) ks
+  rises_more ks i x y some within x_is y_is above steps d k l = by_order (cases_order (k + 1) i)
+    where
+      last : k + 1 ≡ i → R (get_or ks k d) (get_or ks (k + 1) d) ≡ Less
+      last e =
+          let before : i - 1 ≡ k = omega (arith, e) in
+          let first : get_or ks k d ≡ x = ap (λ n. get_or ks n d) (sym before) ∙ get_or_default ks (i - 1) d x (omega (arith, within)) ∙ sym x_is in
+          let second : get_or ks (k + 1) d ≡ y = ap (λ n. get_or ks n d) e ∙ get_or_default ks i d y within ∙ sym y_is in
+          rw (first, second) above
+
+      by_order : (k + 1 ≡ i) ⊎ ((k + 1 < i) ⊎ (i < k + 1)) → R (get_or ks k d) (get_or ks (k + 1) d) ≡ Less
+      by_order (inl e) = last e
+      by_order (inr (inl below)) = steps d k below
+      by_order (inr (inr beyond)) = absurd (omega (arith, l, beyond))

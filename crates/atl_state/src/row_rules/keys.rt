@@ -1,7 +1,8 @@
 //! Whether no two rows of a table have one key.
-ghost use Rattle.std.specs.Prelude.{◌≡◌, IfOk, map};
+ghost use Rattle.std.specs.Prelude.{◌≡◌, IfOk, map, true};
 ghost use Rattle.std.specs.Bool.{Decides};
 ghost use Rattle.std.specs.List.{IsDistinct};
+ghost use Rattle.std.specs.List.Sorted.{IsStrictlySortedBy};
 ghost use Rattle.std.specs.Ordering.{eq_by_cmp};
 ghost use Rattle.atl_state.specs.RowRules.{Key, faction_key, region_key, unit_key, has_key, structure_key, mail_key, report_key, books_key, market_key, HaveKeys, AreKeyed};
 
@@ -10,6 +11,7 @@ use crate::parts::{
     StoredReport, StoredStructure, StoredUnit,
 };
 use std::alloc::{AllocError, Global};
+use std::cmp::Ordering;
 use std::collections::BTreeSet;
 
 /// A row with a key.
@@ -102,10 +104,26 @@ fn keys_of<R: Keyed>(alloc: Global, rows: &[R]) -> Result<Vec<(i64, i64, i64)>, 
     Ok(keys)
 }
 
-/// Whether no two of the values are equal. It takes memory for each, and n log n steps.
+/// Whether each value is above the one before it.
+fn are_rising<K: Ord + Drop>(keys: &[K]) -> bool
+    ensures { result ≡ true → IsStrictlySortedBy K.cmp keys.now }
+{
+    for i in 1..keys.len() {
+        match keys[i - 1].cmp(&keys[i]) {
+            Ordering::Less => {}
+            Ordering::Equal | Ordering::Greater => return false,
+        }
+    }
+    true
+}
+
+/// Whether no two of the values are equal. Where they don't rise it takes memory for each, and n log n steps.
 pub fn are_distinct<K: Ord + Copy + Drop>(alloc: Global, keys: &[K]) -> Result<bool, AllocError>
     ensures { IfOk result (λ yes. Decides yes (IsDistinct (eq_by_cmp K.cmp) keys.now)) }
 {
+    if are_rising(keys) {
+        return Ok(true);
+    }
     let mut seen = BTreeSet::new(alloc);
     for key in keys {
         if !seen.insert(*key)? {

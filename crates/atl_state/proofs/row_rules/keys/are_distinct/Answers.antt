@@ -2,6 +2,7 @@ use Rattle.std.proofs.Common.{◌≡◌, Bool, true, false, not, cond, sym, ap, 
 use Rattle.std.specs.List.{list_any, IsDistinct}
 use Rattle.std.specs.Ordering.{eq_by_cmp}
 use Rattle.std.proofs.lemmas.Bool.{false≢true}
+use Rattle.std.proofs.lemmas.Map.Keys.{IsDistinct-from_sorted}
 use Rattle.atl_state.proofs.KeyLaws.{stands_twice, still_apart, seen_more}
 use Rattle.atl_state.proofs.row_rules.keys.are_distinct.Goals as goal
 
@@ -12,6 +13,9 @@ not_new false r h e = sym e ∙ h
 is_new : (b r : Bool) → r ≡ not b → r ≡ true → b ≡ false
 is_new true r h e = sym e ∙ h
 is_new false r h e = refl
+
+pub returns-then-are_rising : goal.returns-then-are_rising
+returns-then-are_rising g c = (λ _. IsDistinct-from_sorted g.K.Ord.cmp c.args.keys.now (c.are_rising.ensures c.if-are_rising.true), λ _. refl)
 
 pub loop-key-init : goal.loop-key-init
 unfolding IsDistinct
