@@ -29,7 +29,7 @@ is_forming verb = false
 
 -- ---- one order
 
--- no further unit can come: 10,000 stand, or the last number is given
+-- no further unit can come: the most that may stand do, or the last number is given
 abbrev pub is_unit_limit : CampaignValue → Bool
 is_unit_limit c = nat_le most_units (len c.units) || nat_lt last_unit c.next_unit
 

@@ -1,5 +1,5 @@
 -- General laws of truth values, numbers and keys, which the crates above cite, too.
-use Rattle.std.proofs.Common.{◌≡◌, ◌≢◌, ◌==◌, ◌∙◌, ◌+◌, ◌≤◌, ℕ, Bool, cond, true, false, T, nat_eq, ap, refl, sym, arith}
+use Rattle.std.proofs.Common.{◌≡◌, ◌≢◌, ◌==◌, ◌∙◌, ◌+◌, ◌≤◌, ℕ, Bool, cond, true, false, T, nat_eq, refl, sym, arith}
 use Rattle.std.specs.Ordering.{nat_cmp, eq_by_cmp}
 use Rattle.std.specs.Cmp.{nat_cmp_total, unsigned_tied}
 use Rattle.std.specs.FinMap.{FinMap, insert, len, len-insert, contains_key}

@@ -3,6 +3,8 @@ pub mod Maps
 pub mod Lent
 pub mod SetLaws
 pub mod MarkLaws
+pub mod MergeLaws
+pub mod ApartLaws
 pub mod CountLaws
 pub mod LookupLaws
 pub mod SumLaws

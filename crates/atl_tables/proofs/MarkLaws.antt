@@ -10,11 +10,10 @@ use Rattle.std.specs.FinSet as set
 use Rattle.std.proofs.lemmas.Bool.{cases_order, false≢true, false_from_ne_true}
 use Rattle.std.proofs.lemmas.Map.Keys.{sorted_from_strictly_increasing, below_from_sorted, non_decreasing_from_sorted, sorted_head, sorted_tail}
 use Rattle.std.proofs.lemmas.List.{get_or_default}
-use Rattle.std.proofs.lemmas.Map.Views.{length-le_from_below}
 use Rattle.std.proofs.lemmas.List.Edits.{length-insert, length-remove, get_or-insert_below, get_or-insert_at, get_or-insert_above, get_or-remove_below, get_or-remove_above}
 use Rattle.std.proofs.lemmas.List.Sorted.{IsPermutation-insert, IsPermutation-remove, list_any-IsPermutation, searched}
 use Rattle.atl_tables.specs.Rising.{Stands, Belongs}
-use Rattle.atl_tables.proofs.SetLaws.{same, insert_twice, insert_undone, remove_absent, contains_inserted}
+use Rattle.atl_tables.proofs.SetLaws.{same, insert_twice, insert_undone, contains_inserted}
 
 abbrev IsRising : List ℕ → Type 0
 IsRising xs = IsStrictlySortedBy nat_cmp xs
@@ -90,15 +89,6 @@ len-rising (x ∷ xs) s =
     set.len-insert nat_cmp_total (set.from_list xs) x
     ∙ one_more _ _ _ (set.contains-from_list nat_cmp_total xs x ∙ apart x xs (sorted_head nat_cmp x xs s)) (len-rising xs (sorted_tail nat_cmp x xs s))
 
--- numbers that rise are as many, at most, as there are up to the last
-pub length-by_last : (xs : List ℕ) (last : ℕ) → IsRising xs → get_or xs (length xs - 1) 0 ≡ last → length xs ≤ last + 1
-length-by_last xs last s e = length-le_from_below (last + 1) xs s (λ k d l.
-    let read : get_or xs k d ≡ get_or xs k 0 = get_or_default xs k d 0 l in
-    by_cases k (length xs - 1)
-    (λ here. let is : get_or xs k 0 ≡ last = ap (λ p. get_or xs p 0) here ∙ e in omega (arith, read, is))
-    (λ m. let rises = below_from_sorted xs k (length xs - 1) 0 s m (omega arith) in omega (arith, read, rises, e))
-    (λ m. absurd (omega (arith, l, m))))
-
 -- ---- which numbers it has
 moved : (xs ys : List ℕ) → IsPermutation xs ys → set.from_list {R = nat_cmp} xs ≡ set.from_list ys
 moved xs ys p = same _ _ (λ q. set.contains-from_list nat_cmp_total xs q ∙ list_any-IsPermutation (eq_by_cmp nat_cmp q) xs ys p ∙ sym (set.contains-from_list nat_cmp_total ys q))
@@ -132,9 +122,6 @@ from_list-remove xs n i s h =
     let as_many : set.len {R = nat_cmp} (set.from_list xs) ≡ set.len {R = nat_cmp} (set.from_list (remove xs i)) = ap set.len (back ∙ insert_twice (set.from_list (remove xs i)) n e) in
     omega (arith, all, less, size, as_many)) in
     sym (ap (λ t. set.remove t n) back ∙ insert_undone (set.from_list (remove xs i)) n gone)
-
-pub remove-belongs : (xs : List ℕ) (n i : ℕ) → IsRising xs → Belongs xs n i → set.remove {R = nat_cmp} (set.from_list xs) n ≡ set.from_list xs
-remove-belongs xs n i s b = remove_absent (set.from_list xs) n (contains-belongs xs n i s b)
 
 pub rising-empty : IsRising []
 unfolding IsStrictlySortedBy

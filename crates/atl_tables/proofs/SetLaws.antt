@@ -47,11 +47,11 @@ some : (n : ℕ) (t : set.FinSet nat_cmp) (k : ℕ) → set.len t ≡ n → set.
 some zero t k e h = absurd (false≢true (sym (set.contains-empty nat_cmp k) ∙ ap (λ u. set.contains u k) (sym (set.empty_of_len t e)) ∙ h))
 some (suc n) t k e h = omega arith
 
-without_first : (a b : Bool) → (not a && b) ≡ true → a ≡ false
+pub without_first : (a b : Bool) → (not a && b) ≡ true → a ≡ false
 without_first true b h = absurd (false≢true h)
 without_first false b h = refl
 
-rest_holds : (a b : Bool) → a ≡ false → (a || b) ≡ true → b ≡ true
+pub rest_holds : (a b : Bool) → a ≡ false → (a || b) ≡ true → b ≡ true
 rest_holds true b e h = absurd (false≢true (sym e))
 rest_holds false b e h = h
 
@@ -84,11 +84,11 @@ fewer (k ∷ ks) s t all h =
 pub len-within : (s t : set.FinSet nat_cmp) → ((q : ℕ) → set.contains s q ≡ true → set.contains t q ≡ true) → set.len s ≤ set.len t
 len-within s t h = fewer (set.items s) s t (λ q e. sym (set.contains-items s q) ∙ e) h
 
-nothing_more : (b : Bool) → (b || false) ≡ b
+pub nothing_more : (b : Bool) → (b || false) ≡ b
 nothing_more true = refl
 nothing_more false = refl
 
-swapped : (a b c : Bool) → (a || (b || c)) ≡ (b || (a || c))
+pub swapped : (a b c : Bool) → (a || (b || c)) ≡ (b || (a || c))
 swapped true true c = refl
 swapped true false c = refl
 swapped false b c = refl
@@ -101,7 +101,7 @@ union-insert s t k = same _ _ (λ q.
     set.contains-union nat_cmp_total s (set.insert t k) q ∙ ap (λ b. set.contains s q || b) (set.contains-insert nat_cmp_total t k q) ∙ swapped (set.contains s q) (eq_by_cmp nat_cmp q k) (set.contains t q)
     ∙ sym (set.contains-insert nat_cmp_total (set.union s t) k q ∙ ap (λ b. eq_by_cmp nat_cmp q k || b) (set.contains-union nat_cmp_total s t q)))
 
-joined : (a b c : Bool) → ((a || b) || c) ≡ (a || (b || c))
+pub joined : (a b c : Bool) → ((a || b) || c) ≡ (a || (b || c))
 joined true b c = refl
 joined false b c = refl
 

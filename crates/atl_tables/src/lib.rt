@@ -24,6 +24,7 @@ mod placed;
 mod reading;
 mod region_table;
 mod regions;
+mod rising;
 mod rules_table;
 mod same;
 mod sequence;

@@ -1,4 +1,8 @@
 //! The marked numbers, one after another.
+ghost use Rattle.std.specs.Slice.Iter.{iter_rest};
+ghost use Rattle.std.specs.Iterator.{YieldsFirstBy};
+
+use std::cmp::Ordering;
 use std::marker::Model;
 use std::slice::Iter;
 
@@ -6,15 +10,18 @@ use std::slice::Iter;
 #[derive(Drop)]
 pub struct MarkedNumbers<'a> {
     pub(crate) numbers: Iter<'a, u32>,
+    pub(crate) late: Iter<'a, u32>,
 }
 
 impl<'a> Model for MarkedNumbers<'a> {
-    ghost use Rattle.std.specs.Prelude.{List, ℕ};
+    ghost use Rattle.std.specs.Prelude.{List, ℕ, true};
+    ghost use Rattle.std.specs.Ordering.{nat_cmp};
+    ghost use Rattle.std.specs.Set.{sorted_merge};
     ghost use Rattle.std.specs.Slice.Iter.{iter_rest};
 
     ghost Value = { List ℕ };
 
-    ghost view = { λ a. iter_rest a.numbers };
+    ghost view = { λ a. sorted_merge nat_cmp true (iter_rest a.numbers) (iter_rest a.late) };
 }
 
 impl<'a> Iterator for MarkedNumbers<'a> {
@@ -27,9 +34,29 @@ impl<'a> Iterator for MarkedNumbers<'a> {
     ghost remaining = { item_count (λ s. s) };
 
     fn next(&mut self) -> Option<u32> {
-        match self.numbers.next() {
-            Some(number) => Some(*number),
-            None => None,
+        let Some(number) = self.numbers.as_slice().first() else {
+            return next_of(&mut self.late);
+        };
+        let Some(late) = self.late.as_slice().first() else {
+            return next_of(&mut self.numbers);
+        };
+        match number.cmp(late) {
+            Ordering::Less => next_of(&mut self.numbers),
+            Ordering::Equal => {
+                let _ = next_of(&mut self.late);
+                next_of(&mut self.numbers)
+            }
+            Ordering::Greater => next_of(&mut self.late),
         }
+    }
+}
+
+/// The next number of a slice.
+fn next_of(numbers: &mut Iter<'_, u32>) -> Option<u32>
+    ensures { YieldsFirstBy (λ n. n) iter_rest numbers.old result numbers.new }
+{
+    match numbers.next() {
+        Some(number) => Some(*number),
+        None => None,
     }
 }

@@ -1,41 +1,47 @@
 //! Which numbers are marked.
-ghost use Rattle.std.specs.Prelude.{◌≡◌, ◌+◌, ◌<◌, ◌≤◌, IfOk, IfErr, OnOk, length, vec_capacity};
-ghost use Rattle.std.specs.List.{insert};
-ghost use Rattle.std.specs.List.Sorted.{IsStrictlySortedBy};
-ghost use Rattle.std.specs.Ordering.{nat_cmp};
+ghost use Rattle.std.specs.Prelude.{◌≡◌, true, ◌+◌, ◌<◌, ◌≤◌, IfOk, OnOk};
 ghost use Rattle.std.specs.FinMap as map;
 ghost use Rattle.std.specs.FinSet as set;
 ghost use Rattle.atl_tables.specs.Limits.{number_count};
 ghost use Rattle.atl_tables.specs.Marked.{held, HasRoom};
-ghost use Rattle.atl_tables.specs.Rising.{Stands, Belongs};
 ghost use Rattle.atl_tables.specs.Tracking.{marked_with, Lists};
 
+use crate::let_go;
 use crate::marked::MarkedNumbers;
 use crate::numbered::Numbered;
+use crate::rising::RisingNumbers;
 use std::alloc::{AllocError, Global};
 use std::marker::Model;
 
+/// So many numbers are late at most.
+const LATE: usize = 512;
+
 /// The marked numbers, with room for more: to mark one takes no memory, and to let all marks go takes no longer than the
 /// marks are many.
-#[derive(Drop)]
 pub struct Marks {
-    numbers: Vec<u32>,
+    numbers: RisingNumbers,
+    // Those that were marked last, so few that it takes little to put one among them.
+    late: RisingNumbers,
+}
+
+impl Drop for Marks {
+    fn drop(self) {
+        let_go!(self: Marks { numbers, late });
+    }
 }
 
 impl Model for Marks {
-    ghost use Rattle.std.specs.Prelude.{vec_capacity};
-    ghost use Rattle.std.specs.List.Sorted.{IsStrictlySortedBy};
-    ghost use Rattle.std.specs.Ordering.{nat_cmp};
     ghost use Rattle.std.specs.FinSet as set;
     ghost use Rattle.atl_tables.specs.Marked.{Marked, marked_code};
+    ghost use Rattle.atl_tables.specs.Rising.{AreMarks};
 
     ghost Value = { Marked };
 
     ghost coded = { marked_code };
 
-    ghost view = { λ a. record { numbers = set.from_list a.numbers.items; room = vec_capacity a.numbers } };
+    ghost view = { λ a. record { numbers = set.union a.numbers.numbers a.late.numbers; room = a.numbers.room } };
 
-    ghost invariant = { λ a. IsStrictlySortedBy nat_cmp a.numbers.items };
+    ghost invariant = { λ a. AreMarks a.numbers a.late };
 }
 
 impl Marks {
@@ -44,7 +50,8 @@ impl Marks {
         ensures { result ≡ record { numbers = set.empty; room = 0 } }
     {
         Marks {
-            numbers: Vec::new(alloc),
+            numbers: RisingNumbers::new(alloc),
+            late: RisingNumbers::new(alloc),
         }
     }
 
@@ -52,9 +59,9 @@ impl Marks {
     pub fn with_room(alloc: Global, room: usize) -> Result<Marks, AllocError>
         ensures { IfOk result (λ marks. marks ≡ record { numbers = set.empty; room = room }) }
     {
-        Ok(Marks {
-            numbers: Vec::with_capacity(alloc, room)?,
-        })
+        let late = RisingNumbers::with_room(alloc, room.min(LATE))?;
+        let numbers = RisingNumbers::with_room(alloc, room)?;
+        Ok(Marks { numbers, late })
     }
 
     /// Makes room for so many numbers more. Without memory for it nothing changes.
@@ -63,7 +70,12 @@ impl Marks {
         ensures room { OnOk result (set.len self.old.numbers + more ≤ self.new.room) }
         ensures kept { self.old.room ≤ self.new.room }
     {
-        self.numbers.reserve(more)
+        let late = self.late.len();
+        let Some(all) = late.checked_add(more) else {
+            return Err(AllocError);
+        };
+        self.late.make_room(LATE.saturating_sub(late).min(more))?;
+        self.numbers.make_room(all)
     }
 
     /// Marks a number for which there is room. It takes no memory.
@@ -71,9 +83,14 @@ impl Marks {
         requires { set.len (set.insert self.old.numbers number) ≤ self.old.room }
         ensures { self.new ≡ record self.old { numbers = set.insert self.old.numbers number } }
     {
-        match place_of(&self.numbers, number) {
-            Ok(_) => {}
-            Err(place) => put_at(&mut self.numbers, place, number),
+        if self.contains(number) {
+            return;
+        }
+        if takes_late(&self.late) {
+            self.late.add(number);
+        } else {
+            self.numbers.take_over(&mut self.late);
+            self.numbers.add(number);
         }
     }
 
@@ -102,12 +119,8 @@ impl Marks {
     pub fn take(&mut self, number: u32)
         ensures { self.new ≡ record self.old { numbers = set.remove self.old.numbers number } }
     {
-        match place_of(&self.numbers, number) {
-            Ok(place) => {
-                self.numbers.remove(place);
-            }
-            Err(_) => {}
-        }
+        self.numbers.take(number);
+        self.late.take(number);
     }
 
     /// Leaves nothing marked. It takes no memory.
@@ -115,16 +128,14 @@ impl Marks {
         ensures { self.new ≡ record self.old { numbers = set.empty } }
     {
         self.numbers.clear();
+        self.late.clear();
     }
 
     /// Whether a number is marked.
     pub fn contains(&self, number: u32) -> bool
         ensures { result ≡ set.contains self.now.numbers number }
     {
-        match place_of(&self.numbers, number) {
-            Ok(_) => true,
-            Err(_) => false,
-        }
+        self.numbers.contains(number) || self.late.contains(number)
     }
 
     /// How many numbers are marked.
@@ -132,10 +143,7 @@ impl Marks {
         ensures value { result ≡ set.len self.now.numbers }
         ensures small { result ≤ number_count }
     {
-        match self.numbers.last() {
-            Some(last) => counted(&self.numbers, *last),
-            None => 0,
-        }
+        self.numbers.len() + self.late.len()
     }
 
     /// The marked numbers, in rising order. It takes no memory.
@@ -143,35 +151,15 @@ impl Marks {
         ensures { Lists self.now.numbers result }
     {
         MarkedNumbers {
-            numbers: self.numbers.iter(),
+            numbers: self.numbers.as_slice().iter(),
+            late: self.late.as_slice().iter(),
         }
     }
 }
 
-/// Where a number stands in a rising list, or else where it belongs.
-fn place_of(numbers: &[u32], number: u32) -> Result<usize, usize>
-    requires { IsStrictlySortedBy nat_cmp numbers.now }
-    ensures found { IfOk result (λ place. Stands numbers.now number place) }
-    ensures missing { IfErr result (λ place. Belongs numbers.now number place) }
+/// Whether one number more can be among those that were marked last.
+fn takes_late(late: &RisingNumbers) -> bool
+    ensures { result ≡ true → set.len late.now.numbers < late.now.room }
 {
-    numbers.binary_search(&number)
-}
-
-/// Puts a number at a place of a list that has room for it.
-fn put_at(numbers: &mut Vec<u32>, place: usize, number: u32)
-    requires within { place ≤ length numbers.old.items }
-    requires room { length numbers.old.items < vec_capacity numbers.old }
-    ensures items { numbers.new.items ≡ insert numbers.old.items place number }
-    ensures room { vec_capacity numbers.new ≡ vec_capacity numbers.old }
-{
-    let _ = numbers.insert(place, number);
-}
-
-/// How many numbers a rising list has, of which the last is known.
-fn counted(numbers: &[u32], last: u32) -> usize
-    requires { length numbers.now ≤ last + 1 }
-    ensures value { result ≡ length numbers.now }
-    ensures small { result ≤ number_count }
-{
-    numbers.len()
+    late.len() < late.room().min(LATE)
 }

@@ -1,18 +1,19 @@
-use Rattle.std.proofs.Common.{sym, ap, ◌∙◌}
+use Rattle.std.proofs.Common.{◌||◌, sym, ap, ◌∙◌}
+use Rattle.std.specs.Cmp.{nat_cmp_total}
 use Rattle.std.specs.FinSet as set
 use Rattle.atl_tables.specs.Marked.{Marked}
-use Rattle.atl_tables.specs.Rising.{Stands, Belongs}
-use Rattle.atl_tables.proofs.MarkLaws.{contains-stands, contains-belongs}
 use Rattle.atl_tables.proofs.marks.Marks.contains.Goals as goal
 
-pub returns-in-Ok : goal.returns-in-Ok
-returns-in-Ok c =
-    let items = c.self.inside.numbers.items in
-    let stands : Stands items c.args.number c.in-Ok.field-0 = rw c.deref.ensures.value at c.in-Ok.ensures.found in
-    sym (sym (ap (λ (m : Marked). set.contains m.numbers c.args.number) c.self.view_is) ∙ contains-stands items c.args.number c.in-Ok.field-0 stands)
+pub returns-then-contains : goal.returns-then-contains
+returns-then-contains c =
+    let n = c.args.number in
+    let first = sym c.contains.ensures ∙ c.if-contains.true in
+    let both = ap (λ b. b || set.contains c.self.inside.late.numbers n) first in
+    c.if-contains.true ∙ sym (sym (ap (λ (m : Marked). set.contains m.numbers n) c.self.view_is) ∙ set.contains-union nat_cmp_total c.self.inside.numbers.numbers c.self.inside.late.numbers n ∙ both)
 
-pub returns-in-Err : goal.returns-in-Err
-returns-in-Err c =
-    let items = c.self.inside.numbers.items in
-    let belongs : Belongs items c.args.number c.in-Err.field-0 = rw c.deref.ensures.value at c.in-Err.ensures.missing in
-    sym (sym (ap (λ (m : Marked). set.contains m.numbers c.args.number) c.self.view_is) ∙ contains-belongs items c.args.number c.in-Err.field-0 c.self.invariant belongs)
+pub returns-else-contains : goal.returns-else-contains
+returns-else-contains c =
+    let n = c.args.number in
+    let first = sym c.contains.ensures ∙ c.if-contains.false in
+    let both = ap (λ b. b || set.contains c.self.inside.late.numbers n) first in
+    c.contains-else-contains.ensures ∙ sym (sym (ap (λ (m : Marked). set.contains m.numbers n) c.self.view_is) ∙ set.contains-union nat_cmp_total c.self.inside.numbers.numbers c.self.inside.late.numbers n ∙ both)

@@ -2,12 +2,12 @@ use Rattle.std.proofs.Common.{ap, arith}
 use Rattle.std.proofs.lemmas.Result.{on_ok_weaker}
 use Rattle.std.specs.FinSet as set
 use Rattle.atl_tables.specs.Marked.{Marked}
-use Rattle.atl_tables.proofs.MarkLaws.{len-rising}
+use Rattle.atl_tables.proofs.ApartLaws.{len-apart}
 use Rattle.atl_tables.proofs.marks.Marks.make_room.Goals as goal
 
 pub returns-clause-room : goal.returns-clause-room
 returns-clause-room c =
-    let all = len-rising c.self.inside.numbers.items c.self.invariant in
+    let all = len-apart c.self.inside.numbers.numbers c.self.inside.late.numbers c.self.invariant.apart in
     let seen = ap (λ (m : Marked). set.len m.numbers) c.self.view_is in
-    let size = c.self.inside.numbers.ok.0 in
-    on_ok_weaker c.reserve.result (λ room. omega (arith, room, all, seen, size, c.reserve.ensures.len)) c.reserve.ensures.ok
+    let sum = c.in-Some.ensures in
+    on_ok_weaker c.make_room-2.result (λ room. omega (arith, room, all, seen, sum, c.len-late.ensures.value)) c.make_room-2.ensures.room

@@ -1,5 +1,5 @@
 use Rattle.atl_tables.proofs.MarkLaws.{searched-found, searched-missing}
-use Rattle.atl_tables.proofs.marks.place_of.Goals as goal
+use Rattle.atl_tables.proofs.rising.place_of.Goals as goal
 
 pub returns-clause-found : goal.returns-clause-found
 returns-clause-found c = searched-found c.args.numbers.now c.args.number c.binary_search.result c.requires c.binary_search.ensures.position
