@@ -17,6 +17,7 @@ pub mod EachLaws
 pub mod OutputLaws
 pub mod PlacedLaws
 pub mod RegionLaws
+pub mod SeenLaws
 pub mod TwinLaws
 pub mod WorldLaws
 pub mod OldWorldLaws

@@ -34,5 +34,6 @@ pub mod Drafts
 pub mod Parts
 pub mod Places
 pub mod Given
+pub mod Seen
 pub mod Marked
 pub mod Rising

@@ -17,8 +17,9 @@ use crate::limits::MOST_AMOUNT;
 use crate::sequence::Sequence;
 use crate::tables::Tables;
 use crate::text::Text;
-use crate::titled::{Titled, is_among, known, same_name};
+use crate::titled::{is_new, known, same_name};
 use std::alloc::{AllocError, Global};
+use std::collections::BTreeSet;
 use toml::Table;
 
 /// An item by name, and how much of it a region gives in a month, at most `MOST_AMOUNT`.
@@ -26,14 +27,6 @@ use toml::Table;
 pub struct Output {
     pub item: Text,
     pub amount: u32,
-}
-
-impl Titled for Output {
-    ghost title_of = { λ o. o.item };
-
-    fn title(&self) -> &Text {
-        &self.item
-    }
 }
 
 /// Each key with its amount, in byte order, else WrongType or OutOfRange at the first key without one.
@@ -77,9 +70,9 @@ pub(crate) fn outputs(
 pub(crate) fn no_twin_keys(alloc: Global, at: &str, outputs: &[Output]) -> Result<(), WorldFault>
     ensures { Gives (λ u. u) result (first_fault (each (twin_key_at at.now outputs.now) 0 outputs.now)) (tt {0}) }
 {
-    for i in 0..outputs.len() {
-        let output = &outputs[i];
-        if is_among(&outputs[..i], output.title()) {
+    let mut seen = BTreeSet::new(alloc);
+    for output in outputs {
+        if !is_new(alloc, &mut seen, &output.item)? {
             return Err(WorldFault::TwoNames(path(alloc, at, output.item.as_str())?));
         }
     }

@@ -1,6 +1,6 @@
 //! Names that may stand once only, and the numbers that names stand for.
-ghost use Rattle.std.specs.Prelude.{◌≡◌, ◌≤◌, ◌<◌, ℕ, List, length, IfOk, IfSome, Some, None, unwrap_or, option_and_then};
-ghost use Rattle.std.specs.List.{list_any};
+ghost use Rattle.std.specs.Prelude.{◌≡◌, ◌≤◌, ◌<◌, ℕ, List, length, not, ◌||◌, IfOk, OnOk, OnErr, IfSome, Some, None, unwrap_or, option_and_then};
+ghost use Rattle.std.specs.BTreeSet.{IsUnchanged};
 ghost use Rattle.atl_tables.specs.Each.{each};
 ghost use Rattle.atl_tables.specs.Faults.{Conditions, first_fault};
 ghost use Rattle.atl_tables.specs.Given.{Gives};
@@ -8,11 +8,13 @@ ghost use Rattle.atl_tables.specs.Keys.{path};
 ghost use Rattle.atl_tables.specs.Limits.{most_numbered};
 ghost use Rattle.atl_tables.specs.Titles.{twins, number_of, known, known_or_absent};
 ghost use Rattle.atl_tables.specs.Names.{same_name};
+ghost use Rattle.atl_tables.specs.Seen.{has_name};
 
 use crate::fault::WorldFault;
 use crate::keys::{indexed, path};
 use crate::text::Text;
-use std::alloc::Global;
+use std::alloc::{AllocError, Global};
+use std::collections::BTreeSet;
 
 /// What has a name.
 pub(crate) trait Titled {
@@ -29,10 +31,20 @@ pub(crate) fn same_name(name: &Text, other: &Text) -> bool
     name.as_bytes().eq_ignore_ascii_case(other.as_bytes())
 }
 
-pub(crate) fn is_among<T: Titled>(items: &[T], name: &Text) -> bool
-    ensures { result ≡ list_any (λ x. same_name (T.title_of x) name.now) items.now }
+/// Puts a name into those seen, and tells whether none of them was equal to it, ignoring ASCII case. Without memory they
+/// are as they were.
+pub(crate) fn is_new(
+    alloc: Global,
+    seen: &mut BTreeSet<String>,
+    name: &Text,
+) -> Result<bool, AllocError>
+    ensures new { IfOk result (λ new. new ≡ not (has_name seen.old name.now)) }
+    ensures seen { OnOk result ((other : List ℕ) → has_name seen.new other ≡ (has_name seen.old other || same_name name.now other)) }
+    ensures err { OnErr result (IsUnchanged seen.old seen.new) }
 {
-    items.iter().any(|item| same_name(item.title(), name))
+    let lowered = name.as_str().to_ascii_lowercase(alloc)?;
+    let new = seen.insert(lowered)?;
+    Ok(new)
 }
 
 /// That no two elements of the array at a path have equal names under a key, ignoring ASCII case, else TwoNames at the second.
@@ -44,8 +56,9 @@ pub(crate) fn no_twins<T: Titled>(
 ) -> Result<(), WorldFault>
     ensures { Gives (λ u. u) result (first_fault (twins T.title_of array.now key.now items.now)) (tt {0}) }
 {
-    for i in 0..items.len() {
-        if is_among(&items[..i], items[i].title()) {
+    let mut seen = BTreeSet::new(alloc);
+    for (i, item) in items.iter().enumerate() {
+        if !is_new(alloc, &mut seen, item.title())? {
             let place = indexed(alloc, array, i)?;
             return Err(WorldFault::TwoNames(path(alloc, place.as_str(), key)?));
         }

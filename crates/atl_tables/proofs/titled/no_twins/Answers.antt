@@ -1,11 +1,12 @@
-use Rattle.std.proofs.Common.{◌≡◌, ℕ, Bool, true, false, cond, List, take, Some, None, sym, ◌∙◌}
+use Rattle.std.proofs.Common.{◌≡◌, ℕ, Bool, true, false, cond, List, take, Some, None}
 use Rattle.std.specs.List.{list_any}
 use Rattle.atl_tables.specs.declared.fault.WorldFault.TheVariants.{TwoNames}
 use Rattle.atl_tables.specs.Faults.{first_fault}
 use Rattle.atl_tables.specs.Keys.{path, indexed}
-use Rattle.atl_tables.specs.Titles.{twin_at}
+use Rattle.atl_tables.specs.Titles.{twin_at, twins}
 use Rattle.atl_tables.specs.Names.{same_name}
 use Rattle.atl_tables.proofs.EachLaws.{goes_on_at, ends_at}
+use Rattle.atl_tables.proofs.SeenLaws.{stands_before, stands_first, has_one_more}
 use Rattle.atl_tables.proofs.titled.no_twins.Goals as goal
 
 -- what the test says of an element
@@ -15,16 +16,27 @@ unfolding twin_at
 by_test title array key all i x true h = rw h
 by_test title array key all i x false h = rw h
 
-pub returns-then-is_among : goal.returns-then-is_among
-returns-then-is_among g c =
+pub returns-then-not-branch : goal.returns-then-not-branch
+returns-then-not-branch g c =
     let x = c.index-items-i.result in
     let title = g.T.Titled.title_of in
-    let test : list_any (λ y. same_name (title y) (title x)) (take c.loop-i.i c.args.items.now) ≡ true = rw (← c.title.ensures) (sym c.is_among.ensures ∙ c.if-is_among.true) in
-    rw (c.in_ok-path.ensures, c.as_str.ensures, c.in_ok-place.ensures) (ends_at (twin_at title c.args.array.now c.args.key.now c.args.items.now) c.args.items.now c.loop-i.i x _ c.loop-i-test.true c.index-items-i.is c.loop-i.invariant (TwoNames (path (indexed c.args.array.now c.loop-i.i) c.args.key.now)) (by_test title c.args.array.now c.args.key.now c.args.items.now c.loop-i.i x true test))
+    let array = c.args.array.now in
+    let key = c.args.key.now in
+    let all = c.args.items.now in
+    let i = c.loop-i.i in
+    let test = stands_before title all i x c.loop-i.seen c.loop-i.invariant.seen _ (rw c.title.ensures at c.in_ok-is_new.ensures.new) c.if-not-branch.true in
+    rw (c.in_ok-path.ensures, c.as_str.ensures, c.in_ok-place.ensures) (ends_at (twin_at title array key all) all i x (first_fault (twins title array key all)) c.loop-i-test.true c.index-items-i.is c.loop-i.invariant.faults (TwoNames (path (indexed array i) key)) (by_test title array key all i x true test))
 
 pub loop-i-preserved : goal.loop-i-preserved
 loop-i-preserved g c =
     let x = c.index-items-i.result in
     let title = g.T.Titled.title_of in
-    let test : list_any (λ y. same_name (title y) (title x)) (take c.loop-i.i c.args.items.now) ≡ false = rw (← c.title.ensures) (sym c.is_among.ensures ∙ c.if-is_among.false) in
-    goes_on_at (twin_at title c.args.array.now c.args.key.now c.args.items.now) c.args.items.now c.loop-i.i x _ c.loop-i-test.true c.index-items-i.is c.loop-i.invariant (by_test title c.args.array.now c.args.key.now c.args.items.now c.loop-i.i x false test)
+    let array = c.args.array.now in
+    let key = c.args.key.now in
+    let all = c.args.items.now in
+    let i = c.loop-i.i in
+    let test = stands_first title all i x c.loop-i.seen c.loop-i.invariant.seen _ (rw c.title.ensures at c.in_ok-is_new.ensures.new) c.if-not-branch.false in
+    record {
+      seen = has_one_more title all i x c.loop-i.seen c.loop-i.invariant.seen c.is_new.new.seen c.loop-i-test.true c.index-items-i.is (rw c.title.ensures at c.in_ok-is_new.ensures.seen);
+      faults = goes_on_at (twin_at title array key all) all i x (first_fault (twins title array key all)) c.loop-i-test.true c.index-items-i.is c.loop-i.invariant.faults (by_test title array key all i x false test);
+    }

@@ -1,0 +1,44 @@
+-- The names that a set has, as a loop over a list puts them in.
+use Rattle.std.proofs.Common.{◌≡◌, ℕ, ◌+◌, ◌<◌, Bool, true, false, not, cond, ◌||◌, List, length, map, take, get_or, refl, sym, ap, ◌∙◌}
+use Rattle.std.proofs.lemmas.List.Folds.{list_any_more}
+use Rattle.std.proofs.lemmas.Map.Text.{btree_set_updates_text}
+use Rattle.std.specs.BTreeSet.{BTreeSet, Updates}
+use Rattle.std.specs.Char.{to_ascii_lowercase}
+use Rattle.std.specs.List.{list_any}
+use Rattle.std.specs.String.{string_bytes, string_cmp}
+use Rattle.std.specs.declared.string.String.{String}
+use Rattle.atl_tables.specs.Names.{same_name}
+use Rattle.atl_tables.specs.Seen.{has_name, HasNames}
+
+or_of : (b there : Bool) → cond b true there ≡ (there || b)
+or_of true true = refl
+or_of true false = refl
+or_of false true = refl
+or_of false false = refl
+
+-- a set that took a name in lower case has this one too
+pub has_more : {Z : Type 0} (seen grown : BTreeSet (String Z)) (lowered : String Z) (name : List ℕ) → Updates string_cmp seen grown lowered true → string_bytes lowered ≡ map to_ascii_lowercase name
+    → (other : List ℕ) → has_name grown other ≡ (has_name seen other || same_name name other)
+unfolding same_name
+has_more seen grown lowered name put same other =
+    rw same at (btree_set_updates_text (string_bytes lowered) seen grown true put (map to_ascii_lowercase other)) ∙ or_of (same_name name other) (has_name seen other)
+
+there_before : (new there : Bool) → new ≡ not there → new ≡ false → there ≡ true
+there_before new true said h = refl
+there_before new false said h = sym h ∙ said
+
+not_before : (new there : Bool) → new ≡ not there → new ≡ true → there ≡ false
+not_before new true said h = sym h ∙ said
+not_before new false said h = refl
+
+module _ {A Z : Type 0} (title : A → List ℕ) (all : List A) (i : ℕ) (x : A) (seen : BTreeSet (String Z)) (so_far : HasNames title (take i all) seen) where
+  pub stands_before : (new : Bool) → new ≡ not (has_name seen (title x)) → new ≡ false → list_any (λ y. same_name (title y) (title x)) (take i all) ≡ true
+  stands_before new said h = sym (so_far (title x)) ∙ there_before new _ said h
+
+  pub stands_first : (new : Bool) → new ≡ not (has_name seen (title x)) → new ≡ true → list_any (λ y. same_name (title y) (title x)) (take i all) ≡ false
+  stands_first new said h = sym (so_far (title x)) ∙ not_before new _ said h
+
+  pub has_one_more : (grown : BTreeSet (String Z)) → i < length all → x ≡ get_or all i x → ((other : List ℕ) → has_name grown other ≡ (has_name seen other || same_name (title x) other)) → HasNames title (take (i + 1) all) grown
+  has_one_more grown below here put name =
+      let more = list_any_more (λ y. same_name (title y) name) all i x below in
+      put name ∙ ap (λ b. b || same_name (title x) name) (so_far name) ∙ sym (rw (← here) at more)
