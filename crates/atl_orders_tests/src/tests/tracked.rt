@@ -236,3 +236,66 @@ fn marks_in_falling_order(rt: HostRuntime) -> Result<(), Fail> {
     falls(&rt, &mut map);
     Ok(())
 }
+
+/// How many numbers the test in mixed order marks: one fewer than a prime has.
+const MIXED: u32 = 1008;
+
+/// Marks the numbers from 1 on, each once, in an order that neither rises nor falls.
+fn marks_mixed(map: &mut Tracked<u32>) {
+    for step in 1..MIXED + 1 {
+        map.mark(step * 387 % (MIXED + 1));
+    }
+}
+
+/// Takes out each third number, with its mark.
+fn takes_thirds(map: &mut Tracked<u32>) {
+    for third in 1..MIXED / 3 + 1 {
+        map.take_out(third * 3, false);
+    }
+}
+
+/// Puts each third number in again, the highest first, and so marks it.
+fn puts_thirds(map: &mut Tracked<u32>) -> Result<(), Fail> {
+    for step in 0..MIXED / 3 {
+        inserts(map, MIXED - step * 3, step)?;
+    }
+    Ok(())
+}
+
+/// The number that comes after another where each third one is left out.
+fn after(number: u32) -> usize {
+    let next = number as usize + 1;
+    if next % 3 == 0 { next + 1 } else { next }
+}
+
+/// Asserts that the numbers are those from 1 on but for each third one.
+fn count_up_without_thirds(rt: &impl Abort, told: MarkedNumbers<'_>) {
+    let mut wanted = 1;
+    for number in told {
+        is_number(rt, number as usize, wanted);
+        wanted = after(number);
+    }
+}
+
+fn mixes(rt: &impl Abort, map: &mut Tracked<u32>) -> Result<(), Fail> {
+    map.unmark();
+    marks_mixed(map);
+    is_number(rt, map.marked(), 1008);
+    count_up(rt, map.marked_numbers());
+    takes_thirds(map);
+    is_number(rt, map.marked(), 672);
+    count_up_without_thirds(rt, map.marked_numbers());
+    puts_thirds(map)?;
+    is_number(rt, map.marked(), 1008);
+    count_up(rt, map.marked_numbers());
+    Ok(())
+}
+
+#[test]
+fn marks_in_mixed_order(rt: HostRuntime) -> Result<(), Fail> {
+    let mut map = Tracked::new(rt.alloc());
+    for number in 0..MIXED {
+        map.put(number + 1, number)?;
+    }
+    mixes(&rt, &mut map)
+}
