@@ -23,6 +23,7 @@ pub mod LevelLaws
 pub mod HeldLaws
 pub mod ListLaws
 pub mod KeyLaws
+pub mod FreeLaws
 pub mod FromRowLaws
 pub mod BooksRowLaws
 pub mod HasLaws
