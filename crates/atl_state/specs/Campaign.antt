@@ -122,6 +122,13 @@ with_men c n men = unit_changed (λ u. record u { holding = record u.holding { m
 abbrev pub with_money : CampaignValue → ℕ → ℕ → CampaignValue
 with_money c n money = unit_changed (λ u. record u { holding = record u.holding { money = money } }) c n
 
+-- a unit with another amount of an item, and with other days of a skill
+abbrev pub with_item : CampaignValue → (unit item : ℕ) → ℕ → CampaignValue
+with_item c n item amount = unit_changed (λ u. record u { holding = record u.holding { items = with_amount_of u.holding.items item amount } }) c n
+
+abbrev pub with_skill : CampaignValue → (unit skill : ℕ) → ℕ → CampaignValue
+with_skill c n skill days = unit_changed (λ u. record u { holding = record u.holding { days = with_amount_of u.holding.days skill days } }) c n
+
 abbrev pub with_guard : CampaignValue → ℕ → Bool → CampaignValue
 with_guard c n guard = unit_changed (λ u. record u { holding = record u.holding { guard = guard } }) c n
 

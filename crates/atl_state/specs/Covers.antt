@@ -7,7 +7,7 @@ use Rattle.atl_state.specs.declared.books.Entry.{Entry}
 use Rattle.atl_state.specs.declared.books.Thing.{Thing}
 use Rattle.atl_state.specs.declared.records.Unit.{Unit}
 use Rattle.atl_state.specs.Books.{amount_in}
-use Rattle.atl_state.specs.Marks.{Marks, amount_number}
+use Rattle.atl_state.specs.Marks.{Marks, Things, amount_number, is_thing_marked}
 use Rattle.atl_state.specs.Campaign.{CampaignValue, MarkedCampaign}
 
 -- under a number that is not marked stands the same in both
@@ -18,10 +18,18 @@ SameBut marks before after = (n : ℕ) → contains marks n ≡ false → get af
 abbrev pub bare : Unit → Unit
 bare u = record u { holding = record u.holding { items = empty; days = empty } }
 
--- the items and the days under a number; none where there is no unit
-abbrev pub goods_under : Option Unit → FinMap nat_cmp ℕ × FinMap nat_cmp ℕ
-goods_under None = (empty, empty)
-goods_under (Some u) = (u.holding.items, u.holding.days)
+-- the items under a number, and the days; none where there is no unit
+abbrev pub items_under : Option Unit → FinMap nat_cmp ℕ
+items_under None = empty
+items_under (Some u) = u.holding.items
+
+abbrev pub days_under : Option Unit → FinMap nat_cmp ℕ
+days_under None = empty
+days_under (Some u) = u.holding.days
+
+-- of a thing of a unit that is not marked there is as much
+abbrev pub SameThings : FinSet nat_cmp → Things → (Option Unit → FinMap nat_cmp ℕ) → FinMap nat_cmp Unit → FinMap nat_cmp Unit → Type 0
+SameThings goods things under before after = (n thing : ℕ) → is_thing_marked goods things n thing ≡ false → get (under (get after n)) thing ≡ get (under (get before n)) thing
 
 -- what the campaign's own row says
 abbrev pub own_row : CampaignValue → ℕ × (List ℕ × (ℕ × (ℕ × ℕ)))
@@ -33,15 +41,20 @@ pub record Covers (m : Marks) (before after : CampaignValue) : Type 0 where
   pub structures : SameBut m.structures before.structures after.structures
   pub mail : SameBut m.mail before.mail after.mail
   pub reports : SameBut m.reports before.reports after.reports
-  -- Of a unit that is not marked all but its goods is the same, and there is none where there was none.
-  pub units : (n : ℕ) → contains m.units n ≡ false → option_map bare (get after.units n) ≡ option_map bare (get before.units n)
-  pub goods : (n : ℕ) → contains m.goods n ≡ false → goods_under (get after.units n) ≡ goods_under (get before.units n)
+  -- Of a unit whose row is not marked all but its goods is the same, and there is none where there was none.
+  pub units : (n : ℕ) → contains m.rows n ≡ false → option_map bare (get after.units n) ≡ option_map bare (get before.units n)
+  pub items : SameThings m.goods m.items items_under before.units after.units
+  pub days : SameThings m.goods m.skills days_under before.units after.units
   pub books : (e : Entry) (t : Thing) → contains m.books (amount_number e t) ≡ false → amount_in after.books e t ≡ amount_in before.books e t
   pub row : m.row ≡ false → own_row after ≡ own_row before
 
 -- what was marked still is
 abbrev pub StaysMarked : FinSet nat_cmp → FinSet nat_cmp → Type 0
 StaysMarked before after = (n : ℕ) → contains before n ≡ true → contains after n ≡ true
+
+-- likewise of things, whether alone or with all goods of their unit
+abbrev pub ThingsStayMarked : (goods : FinSet nat_cmp) (things : Things) (goods_after : FinSet nat_cmp) (things_after : Things) → Type 0
+ThingsStayMarked goods things goods_after things_after = (n thing : ℕ) → is_thing_marked goods things n thing ≡ true → is_thing_marked goods_after things_after n thing ≡ true
 
 pub record StayMarked (before after : Marks) : Type 0 where
   pub factions : StaysMarked before.factions after.factions
@@ -50,7 +63,10 @@ pub record StayMarked (before after : Marks) : Type 0 where
   pub mail : StaysMarked before.mail after.mail
   pub reports : StaysMarked before.reports after.reports
   pub units : StaysMarked before.units after.units
+  pub rows : StaysMarked before.rows after.rows
   pub goods : StaysMarked before.goods after.goods
+  pub items : ThingsStayMarked before.goods before.items after.goods after.items
+  pub skills : ThingsStayMarked before.goods before.skills after.goods after.skills
   pub books : StaysMarked before.books after.books
   pub row : before.row ≡ true → after.row ≡ true
 

@@ -8,17 +8,21 @@ use Rattle.atl_state.specs.declared.books.Thing.TheVariants.{Money, People}
 use Rattle.atl_state.specs.declared.books.Entry.{Entry}
 use Rattle.atl_state.specs.declared.books.Thing.{Thing}
 use Rattle.atl_state.specs.declared.records.Unit.{Unit}
-use Rattle.atl_state.specs.Marks.{Marks, amount_marked}
+use Rattle.atl_state.specs.Marks.{Marks, amount_marked, thing_marked}
 use Rattle.atl_state.specs.Owners.{heir, is_owned_by, placed}
 use Rattle.atl_state.specs.Campaign.{MarkedCampaign, with_owner}
 
 -- a unit that was lent, with its goods, where it is there
 abbrev pub mark_unit : MarkedCampaign → ℕ → Marks
-mark_unit c n = record c.marks { units = marked_with c.marks.units n (get c.value.units n); goods = marked_with c.marks.goods n (get c.value.units n) }
+mark_unit c n = record c.marks {
+  units = marked_with c.marks.units n (get c.value.units n);
+  rows = marked_with c.marks.rows n (get c.value.units n);
+  goods = marked_with c.marks.goods n (get c.value.units n);
+}
 
 -- a unit that came, with its goods
 abbrev pub mark_unit_added : MarkedCampaign → ℕ → Marks
-mark_unit_added c n = record c.marks { units = insert c.marks.units n; goods = insert c.marks.goods n }
+mark_unit_added c n = record c.marks { units = insert c.marks.units n; rows = insert c.marks.rows n; goods = insert c.marks.goods n }
 
 -- a unit that came under the number that comes next
 abbrev pub mark_unit_begun : MarkedCampaign → Marks
@@ -26,7 +30,15 @@ mark_unit_begun c = record (mark_unit_added c c.value.next_unit) { row = true }
 
 -- a unit's row, and none of its goods
 abbrev pub mark_unit_row : MarkedCampaign → ℕ → Marks
-mark_unit_row c n = record c.marks { units = marked_with c.marks.units n (get c.value.units n) }
+mark_unit_row c n = record c.marks { units = marked_with c.marks.units n (get c.value.units n); rows = marked_with c.marks.rows n (get c.value.units n) }
+
+-- an item of a unit that is there, and neither its row nor another of its goods
+abbrev pub mark_item : MarkedCampaign → ℕ → ℕ → Marks
+mark_item c n item = record c.marks { units = marked_with c.marks.units n (get c.value.units n); items = thing_marked c.marks.items n item (get c.value.units n) }
+
+-- likewise a skill
+abbrev pub mark_skill : MarkedCampaign → ℕ → ℕ → Marks
+mark_skill c n skill = record c.marks { units = marked_with c.marks.units n (get c.value.units n); skills = thing_marked c.marks.skills n skill (get c.value.units n) }
 
 abbrev pub mark_faction : MarkedCampaign → ℕ → Marks
 mark_faction c n = record c.marks { factions = marked_with c.marks.factions n (get c.value.factions n) }
@@ -95,6 +107,7 @@ abbrev pub join_marked : MarkedCampaign → Marks
 join_marked c = record c.marks {
   factions = insert c.marks.factions c.value.next_faction;
   units = insert c.marks.units c.value.next_unit;
+  rows = insert c.marks.rows c.value.next_unit;
   goods = insert c.marks.goods c.value.next_unit;
   books = amount_marked (amount_marked c.marks.books Joining Money) Joining People;
   row = true;

@@ -1,33 +1,79 @@
 -- What a contract sees of a campaign's change marks.
-use Rattle.std.specs.Prelude.{◌≡◌, ◌<◌, ℕ, ◌+◌, ◌*◌, refl, Bool, true, false, if◌then◌else◌}
+use Rattle.std.specs.Prelude.{◌≡◌, ◌<◌, ℕ, ◌+◌, ◌*◌, ◌||◌, refl, Bool, true, false, Option, Some, None, is_some, if◌then◌else◌}
 use Rattle.std.specs.Ordering.{nat_cmp}
 use Rattle.std.specs.Coded.{Coded, code_by, coded×, coded_ℕ, coded_bool}
+use Rattle.std.specs.FinMap as map
 use Rattle.std.specs.FinSet.{FinSet, code, contains, empty, insert, len}
+use Rattle.atl_tables.specs.Groups.{group_of}
+use base.Stored.{coded_unit}
 use Rattle.atl_state.specs.Limits.{entry_count}
 use Rattle.atl_state.specs.declared.books.Entry.{Entry}
 use Rattle.atl_state.specs.declared.books.Thing.{Thing}
 use Rattle.atl_state.specs.Books.{entry_place, thing_place}
 
--- the numbers that are marked of factions, regions, units, the units' goods (their items and days), structures, and of the factions of mail and reports; those of the amounts of the books; and whether the campaign's own row is marked
+-- single things of units: the numbers of some items, or of some skills, by the numbers of their units
+abbrev pub Things : Type 0
+Things = map.FinMap nat_cmp (map.FinMap nat_cmp (Prim.Unit {0}))
+
+-- things with one more of a unit
+abbrev pub with_thing : Things → ℕ → ℕ → Things
+with_thing things n thing = map.insert things n (map.insert (group_of things n) thing tt)
+
+-- likewise, of a unit that is there
+abbrev pub thing_marked : {V : Type 0} → Things → ℕ → ℕ → Option V → Things
+thing_marked things n thing None = things
+thing_marked things n thing (Some v) = with_thing things n thing
+
+-- The numbers that are marked of factions, regions, structures, and of the factions of mail and reports; those of the units of which something is marked; of those, the units whose rows are, those all of whose goods are (their items and days), and single items and skills of units; those of the amounts of the books; and whether the campaign's own row is marked.
 pub record Marks : Type 0 where
   pub factions : FinSet nat_cmp
   pub regions : FinSet nat_cmp
   pub units : FinSet nat_cmp
+  pub rows : FinSet nat_cmp
   pub goods : FinSet nat_cmp
+  pub items : Things
+  pub skills : Things
   pub structures : FinSet nat_cmp
   pub mail : FinSet nat_cmp
   pub reports : FinSet nat_cmp
   pub books : FinSet nat_cmp
   pub row : Bool
 
+abbrev pub things_code : Coded Things
+things_code = map.code coded_ℕ (map.code coded_ℕ coded_unit)
+
 abbrev pub marks_code : Coded Marks
 marks_code =
     let numbers = code coded_ℕ in
-    code_by (FinSet nat_cmp × (FinSet nat_cmp × (FinSet nat_cmp × (FinSet nat_cmp × (FinSet nat_cmp × (FinSet nat_cmp × (FinSet nat_cmp × (FinSet nat_cmp × Bool))))))))
-    (coded× numbers (coded× numbers (coded× numbers (coded× numbers (coded× numbers (coded× numbers (coded× numbers (coded× numbers coded_bool))))))))
-    (λ m. (m.factions, (m.regions, (m.units, (m.goods, (m.structures, (m.mail, (m.reports, (m.books, m.row)))))))))
-    (λ p. record { factions = p.0; regions = p.1.0; units = p.1.1.0; goods = p.1.1.1.0; structures = p.1.1.1.1.0; mail = p.1.1.1.1.1.0; reports = p.1.1.1.1.1.1.0; books = p.1.1.1.1.1.1.1.0; row = p.1.1.1.1.1.1.1.1 })
+    code_by (FinSet nat_cmp × (FinSet nat_cmp × (FinSet nat_cmp × (FinSet nat_cmp × (FinSet nat_cmp × (Things × (Things × (FinSet nat_cmp × (FinSet nat_cmp × (FinSet nat_cmp × (FinSet nat_cmp × Bool)))))))))))
+    (coded× numbers (coded× numbers (coded× numbers (coded× numbers (coded× numbers (coded× things_code (coded× things_code (coded× numbers (coded× numbers (coded× numbers (coded× numbers coded_bool)))))))))))
+    (λ m. (m.factions, (m.regions, (m.units, (m.rows, (m.goods, (m.items, (m.skills, (m.structures, (m.mail, (m.reports, (m.books, m.row))))))))))))
+    (λ p. record {
+      factions = p.0;
+      regions = p.1.0;
+      units = p.1.1.0;
+      rows = p.1.1.1.0;
+      goods = p.1.1.1.1.0;
+      items = p.1.1.1.1.1.0;
+      skills = p.1.1.1.1.1.1.0;
+      structures = p.1.1.1.1.1.1.1.0;
+      mail = p.1.1.1.1.1.1.1.1.0;
+      reports = p.1.1.1.1.1.1.1.1.1.0;
+      books = p.1.1.1.1.1.1.1.1.1.1.0;
+      row = p.1.1.1.1.1.1.1.1.1.1.1;
+    })
     (λ _. refl)
+
+-- whether a thing of a unit is marked, alone or with all the unit's goods
+abbrev pub is_thing_marked : FinSet nat_cmp → Things → ℕ → ℕ → Bool
+is_thing_marked goods things n thing = contains goods n || is_some (map.get (group_of things n) thing)
+
+-- what of a unit is marked is marked only with the unit
+pub record AreWithin (units rows goods : FinSet nat_cmp) (items skills : Things) : Type 0 where
+  pub rows_within : (n : ℕ) → contains rows n ≡ true → contains units n ≡ true
+  pub goods_within : (n : ℕ) → contains goods n ≡ true → contains units n ≡ true
+  pub items_within : (n : ℕ) → is_some (map.get items n) ≡ true → contains units n ≡ true
+  pub skills_within : (n : ℕ) → is_some (map.get skills n) ≡ true → contains units n ≡ true
 
 -- nothing is marked
 abbrev pub no_marks : Marks
@@ -35,7 +81,10 @@ no_marks = record {
   factions = empty;
   regions = empty;
   units = empty;
+  rows = empty;
   goods = empty;
+  items = map.empty;
+  skills = map.empty;
   structures = empty;
   mail = empty;
   reports = empty;
@@ -43,7 +92,7 @@ no_marks = record {
   row = false;
 }
 
--- how many things are marked; the campaign's row is one, and so is a unit with its goods
+-- how many things are marked; the campaign's row is one, and so is a unit, whatever of it is marked
 abbrev pub marks_in : Marks → ℕ
 marks_in m = len m.factions + len m.regions + len m.units + len m.structures + len m.mail + len m.reports + len m.books + (if m.row then 1 else 0)
 

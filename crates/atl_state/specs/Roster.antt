@@ -1,4 +1,4 @@
--- What a campaign sees of its units: by their numbers, and with change marks on their rows and on their goods, which are their items and days.
+-- What a campaign sees of its units: by their numbers, and with change marks: on units, on their rows, on all their goods (their items and days), and on single items and skills.
 use Rattle.std.specs.Prelude.{ℕ, refl, Option, Some, None}
 use Rattle.std.specs.Ordering.{nat_cmp}
 use Rattle.std.specs.Coded.{Coded, code_by, coded×, coded_ℕ}
@@ -8,35 +8,55 @@ use Rattle.atl_tables.specs.Sums.{changed}
 use Rattle.atl_tables.specs.Tracking.{marked_with}
 use Rattle.atl_state.specs.declared.records.Unit.{Unit}
 use Rattle.atl_state.specs.contracts.records.Unit as unit
+use Rattle.atl_state.specs.Marks.{Things, things_code, thing_marked}
 
 pub record Roster : Type 0 where
   pub values : map.FinMap nat_cmp Unit
   pub marks : set.FinSet nat_cmp
+  pub rows : set.FinSet nat_cmp
   pub goods : set.FinSet nat_cmp
+  pub items : Things
+  pub skills : Things
 
 abbrev pub roster_code : Coded Roster
 roster_code =
-    code_by (map.FinMap nat_cmp Unit × (set.FinSet nat_cmp × set.FinSet nat_cmp))
-    (coded× (map.code coded_ℕ unit.the_row.coded) (coded× (set.code coded_ℕ) (set.code coded_ℕ)))
-    (λ r. (r.values, (r.marks, r.goods)))
-    (λ p. record { values = p.0; marks = p.1.0; goods = p.1.1 })
+    let numbers = set.code coded_ℕ in
+    code_by (map.FinMap nat_cmp Unit × (set.FinSet nat_cmp × (set.FinSet nat_cmp × (set.FinSet nat_cmp × (Things × Things)))))
+    (coded× (map.code coded_ℕ unit.the_row.coded) (coded× numbers (coded× numbers (coded× numbers (coded× things_code things_code)))))
+    (λ r. (r.values, (r.marks, (r.rows, (r.goods, (r.items, r.skills))))))
+    (λ p. record { values = p.0; marks = p.1.0; rows = p.1.1.0; goods = p.1.1.1.0; items = p.1.1.1.1.0; skills = p.1.1.1.1.1 })
     (λ _. refl)
+
+-- units of which nothing is marked
+abbrev pub unmarked : map.FinMap nat_cmp Unit → Roster
+unmarked values = record { values = values; marks = set.empty; rows = set.empty; goods = set.empty; items = map.empty; skills = map.empty }
 
 -- nobody
 abbrev pub no_units : Roster
-no_units = record { values = map.empty; marks = set.empty; goods = set.empty }
+no_units = unmarked map.empty
+
+-- the marks of a unit's row and of all its goods
+abbrev pub all_marked : Roster → ℕ → Roster
+all_marked r n = record r { marks = set.insert r.marks n; rows = set.insert r.rows n; goods = set.insert r.goods n }
 
 -- a unit that came, or may have changed
 abbrev pub with_unit_at : Roster → ℕ → Unit → Roster
-with_unit_at r n u = record { values = map.insert r.values n u; marks = set.insert r.marks n; goods = set.insert r.goods n }
+with_unit_at r n u = record (all_marked r n) { values = map.insert r.values n u }
 
 -- a unit whose row changed, and none of its goods
 abbrev pub with_row : (Unit → Unit) → Roster → ℕ → Roster
-with_row f r n = record r { values = changed f r.values n; marks = marked_with r.marks n (map.get r.values n) }
+with_row f r n = record r { values = changed f r.values n; marks = marked_with r.marks n (map.get r.values n); rows = marked_with r.rows n (map.get r.values n) }
+
+-- a unit of which one item changed, or one skill, and nothing else
+abbrev pub with_item_at : (Unit → Unit) → Roster → ℕ → ℕ → Roster
+with_item_at f r n item = record r { values = changed f r.values n; marks = marked_with r.marks n (map.get r.values n); items = thing_marked r.items n item (map.get r.values n) }
+
+abbrev pub with_skill_at : (Unit → Unit) → Roster → ℕ → ℕ → Roster
+with_skill_at f r n skill = record r { values = changed f r.values n; marks = marked_with r.marks n (map.get r.values n); skills = thing_marked r.skills n skill (map.get r.values n) }
 
 abbrev pub gone_at : Roster → ℕ → Option Unit → Roster
 gone_at r n None = r
-gone_at r n (Some u) = record { values = map.remove r.values n; marks = set.insert r.marks n; goods = set.insert r.goods n }
+gone_at r n (Some u) = record (all_marked r n) { values = map.remove r.values n }
 
 -- a unit that went
 abbrev pub without_unit_at : Roster → ℕ → Roster

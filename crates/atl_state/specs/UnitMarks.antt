@@ -14,4 +14,4 @@ LendsUnit r n u = LendsIf the_row unit.the_row r u (with_unit_at r.now n) r.now
 
 -- r ends with the last value behind u under the number, of which the row alone is marked, or as it was
 abbrev pub LendsRow : MutBor Roster → ℕ → Option (MutBor Unit) → Fml
-LendsRow r n u = LendsIf the_row unit.the_row r u (λ w. record r.now { values = map.insert r.now.values n w; marks = set.insert r.now.marks n }) r.now
+LendsRow r n u = LendsIf the_row unit.the_row r u (λ w. record r.now { values = map.insert r.now.values n w; marks = set.insert r.now.marks n; rows = set.insert r.now.rows n }) r.now

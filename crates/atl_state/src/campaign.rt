@@ -91,7 +91,10 @@ impl Model for Campaign {
         factions = a.factions.marks;
         regions = a.regions.marks;
         units = a.units.marks;
+        rows = a.units.rows;
         goods = a.units.goods;
+        items = a.units.items;
+        skills = a.units.skills;
         structures = a.structures.marks;
         mail = a.mail.marks;
         reports = a.reports.marks;
@@ -327,7 +330,7 @@ impl Campaign {
         listed(&self.lists.by_structure, structure)
     }
 
-    /// Lends a unit's holding, and marks the unit and its goods; None, and no mark, where no unit has the number. Nothing else
+    /// Lends a unit's holding, and marks the unit's row and all its goods; None, and no mark, where no unit has the number. Nothing else
     /// changes. It takes no memory.
     pub fn unit_mut(&mut self, number: u32) -> Option<&mut Holding>
         ensures* writes_back { sem 𝓛 (LendsHolding self.entry number result) }

@@ -1,28 +1,36 @@
 //! The units of a campaign.
-ghost use Rattle.std.specs.Prelude.{◌≡◌, ◌≤◌, ℕ, IfOk, OnOk, OnErr, IsTrue, option_copied, None};
+ghost use Rattle.std.specs.Prelude.{◌≡◌, ◌≤◌, IfOk, OnOk, OnErr, option_copied, None};
 ghost use Rattle.std.specs.FinMap as map;
 ghost use Rattle.std.specs.FinSet as set;
 ghost use Rattle.atl_tables.specs.Tracking.{Lists};
 ghost use Rattle.atl_state.specs.Limits.{holding_limit, men_limit, most_numbered};
-ghost use Rattle.atl_state.specs.Roster.{no_units, with_unit_at, with_row, without_unit_at};
+ghost use Rattle.atl_state.specs.Held.{with_amount_of};
+ghost use Rattle.atl_state.specs.Marks.{AreWithin};
+ghost use Rattle.atl_state.specs.Roster.{no_units, unmarked, with_unit_at, with_row, with_item_at, with_skill_at, without_unit_at};
 
 use crate::arena::{Arena, SlotEntries};
 use crate::records::Unit;
-use atl_tables::{MarkedNumbers, Marks, Text, let_go};
+use atl_tables::{Entries, MarkedNumbers, Marks, Numbered, Text, let_go};
 use std::alloc::{AllocError, Global};
 use std::marker::Model;
 
-/// The units by their numbers. Each has a mark on its row and one on its goods; the latter stands only with the former.
+/// The units by their numbers. Of each its row, all of its goods, or single items and skills can be marked; the unit is then
+/// marked itself.
 pub(crate) struct Units {
     units: Arena<Unit>,
-    // The units whose rows are marked, and those whose goods are, each with room for every unit.
+    // The units of which something is marked, those whose rows are, and those all of whose goods are, each with room for
+    // every unit.
+    marks: Marks,
     rows: Marks,
     goods: Marks,
+    // The single items and skills that are marked, by unit.
+    items: Numbered<Numbered<()>>,
+    skills: Numbered<Numbered<()>>,
 }
 
 impl Drop for Units {
     fn drop(self) {
-        let_go!(self: Units { units, rows, goods });
+        let_go!(self: Units { units, marks, rows, goods, items, skills });
     }
 }
 
@@ -34,9 +42,9 @@ impl Model for Units {
 
     ghost coded = { roster_code };
 
-    ghost view = { λ a. record { values = a.units; marks = a.rows.numbers; goods = a.goods.numbers } };
+    ghost view = { λ a. record { values = a.units; marks = a.marks.numbers; rows = a.rows.numbers; goods = a.goods.numbers; items = a.items; skills = a.skills } };
 
-    ghost invariant = { λ a. AreUnits a.units a.rows a.goods };
+    ghost invariant = { λ a. AreUnits a.units a.marks a.rows a.goods a.items a.skills };
 }
 
 impl Units {
@@ -49,21 +57,28 @@ impl Units {
     {
         Units {
             units: Arena::new(alloc),
+            marks: Marks::new(alloc),
             rows: Marks::new(alloc),
             goods: Marks::new(alloc),
+            items: Numbered::new(alloc),
+            skills: Numbered::new(alloc),
         }
     }
 
     /// These units, with nothing marked.
     pub(crate) fn of(alloc: Global, values: Arena<Unit>) -> Result<Units, AllocError>
-        ensures { IfOk result (λ units. units ≡ record { values = values; marks = set.empty; goods = set.empty }) }
+        ensures { IfOk result (λ units. units ≡ unmarked values) }
     {
+        let marks = Marks::with_room(alloc, values.len())?;
         let rows = Marks::with_room(alloc, values.len())?;
         let goods = Marks::with_room(alloc, values.len())?;
         Ok(Units {
             units: values,
+            marks,
             rows,
             goods,
+            items: Numbered::new(alloc),
+            skills: Numbered::new(alloc),
         })
     }
 
@@ -90,26 +105,47 @@ impl Units {
     pub(crate) fn marked(&self) -> usize
         ensures value { result ≡ set.len self.now.marks }
         ensures small { result ≤ most_numbered }
-        ensures goods { (n : ℕ) → IsTrue (set.contains self.now.goods n) → IsTrue (set.contains self.now.marks n) }
+        ensures within { AreWithin self.now.marks self.now.rows self.now.goods self.now.items self.now.skills }
     {
-        self.rows.len()
+        self.marks.len()
+    }
+
+    /// The numbers of the units of which something is marked, in rising order.
+    pub(crate) fn marked_numbers(&self) -> MarkedNumbers<'_>
+        ensures { Lists self.now.marks result }
+    {
+        self.marks.iter()
     }
 
     /// The numbers whose rows are marked, in rising order.
-    pub(crate) fn marked_numbers(&self) -> MarkedNumbers<'_>
-        ensures { Lists self.now.marks result }
+    pub(crate) fn marked_rows(&self) -> MarkedNumbers<'_>
+        ensures { Lists self.now.rows result }
     {
         self.rows.iter()
     }
 
-    /// The numbers whose goods are marked, in rising order.
+    /// The numbers whose goods are all marked, in rising order.
     pub(crate) fn marked_goods(&self) -> MarkedNumbers<'_>
         ensures { Lists self.now.goods result }
     {
         self.goods.iter()
     }
 
-    /// Lends a unit, and marks its row and its goods. It takes no memory.
+    /// The single items that are marked, by unit, in rising order.
+    pub(crate) fn marked_items(&self) -> Entries<'_, Numbered<()>>
+        ensures { result ≡ map.entries self.now.items }
+    {
+        self.items.iter()
+    }
+
+    /// The single skills that are marked, by unit, in rising order.
+    pub(crate) fn marked_skills(&self) -> Entries<'_, Numbered<()>>
+        ensures { result ≡ map.entries self.now.skills }
+    {
+        self.skills.iter()
+    }
+
+    /// Lends a unit, and marks its row and all its goods. It takes no memory.
     pub(crate) fn get_mut(&mut self, number: u32) -> Option<&mut Unit>
         ensures* writes_back { sem 𝓛 (LendsUnit self.entry number result) }
         ensures value { option_copied_mut result ≡ map.get self.old.values number }
@@ -118,6 +154,7 @@ impl Units {
             Some(_) => {}
             None => return None,
         }
+        self.marks.add(number);
         self.rows.add(number);
         self.goods.add(number);
         match self.units.get_mut(number) {
@@ -135,6 +172,7 @@ impl Units {
             Some(_) => {}
             None => return None,
         }
+        self.marks.add(number);
         self.rows.add(number);
         match self.units.get_mut(number) {
             Some(unit) => Some(unit),
@@ -190,26 +228,70 @@ impl Units {
         }
     }
 
-    /// Puts a unit under a number that has none, and marks its row and its goods. Without memory for it nothing changes.
+    /// Sets how many pieces of an item a unit has, at most 999,999,999, and marks that item of it alone. Without memory the
+    /// units are as they were, but for that mark.
+    pub(crate) fn set_item(
+        &mut self,
+        alloc: Global,
+        number: u32,
+        item: u32,
+        amount: u32,
+    ) -> Result<(), AllocError>
+        requires { amount ≤ holding_limit }
+        ensures ok { OnOk result (self.new ≡ with_item_at (λ u. record u { holding = record u.holding { items = with_amount_of u.holding.items item amount } }) self.old number item) }
+        ensures err { OnErr result (self.new.values ≡ self.old.values) }
+    {
+        let Some(unit) = self.units.get_mut(number) else {
+            return Ok(());
+        };
+        self.items.insert_under(alloc, number, item, ())?;
+        self.marks.add(number);
+        unit.holding.set_amount(item, amount)
+    }
+
+    /// Sets a unit's days of a skill over all men, and marks that skill of it alone. Without memory the units are as they were,
+    /// but for that mark.
+    pub(crate) fn set_days(
+        &mut self,
+        alloc: Global,
+        number: u32,
+        skill: u32,
+        days: u32,
+    ) -> Result<(), AllocError>
+        ensures ok { OnOk result (self.new ≡ with_skill_at (λ u. record u { holding = record u.holding { days = with_amount_of u.holding.days skill days } }) self.old number skill) }
+        ensures err { OnErr result (self.new.values ≡ self.old.values) }
+    {
+        let Some(unit) = self.units.get_mut(number) else {
+            return Ok(());
+        };
+        self.skills.insert_under(alloc, number, skill, ())?;
+        self.marks.add(number);
+        unit.holding.set_days(skill, days)
+    }
+
+    /// Puts a unit under a number that has none, and marks its row and all its goods. Without memory for it nothing changes.
     pub(crate) fn insert(&mut self, number: u32, unit: Unit) -> Result<(), AllocError>
         requires { map.get self.old.values number ≡ None }
         ensures ok { OnOk result (self.new ≡ with_unit_at self.old number unit) }
         ensures err { OnErr result (self.new ≡ self.old) }
     {
         let room = self.units.len() + 1;
+        self.marks.make_room(room)?;
         self.rows.make_room(room)?;
         self.goods.make_room(room)?;
         self.units.insert(number, unit)?;
+        self.marks.add(number);
         self.rows.add(number);
         self.goods.add(number);
         Ok(())
     }
 
-    /// Takes a unit out, where there is one, and marks its row and its goods. It takes no memory.
+    /// Takes a unit out, where there is one, and marks its row and all its goods. It takes no memory.
     pub(crate) fn remove(&mut self, number: u32)
         ensures { self.new ≡ without_unit_at self.old number }
     {
         if self.units.remove(number) {
+            self.marks.add(number);
             self.rows.add(number);
             self.goods.add(number);
         }
@@ -217,9 +299,12 @@ impl Units {
 
     /// Leaves nothing marked. It takes no memory.
     pub(crate) fn unmark(&mut self)
-        ensures { self.new ≡ record { values = self.old.values; marks = set.empty; goods = set.empty } }
+        ensures { self.new ≡ unmarked self.old.values }
     {
+        self.marks.clear();
         self.rows.clear();
         self.goods.clear();
+        self.items.clear();
+        self.skills.clear();
     }
 }

@@ -1,20 +1,21 @@
 //! What of a campaign is marked.
-ghost use Rattle.std.specs.Prelude.{◌≡◌, ◌<◌, ℕ, IsTrue, length};
+ghost use Rattle.std.specs.Prelude.{◌≡◌, ◌<◌, length};
+ghost use Rattle.std.specs.FinMap as map;
 ghost use Rattle.std.specs.FinSet as set;
 ghost use Rattle.atl_tables.specs.Tracking.{Lists};
 ghost use Rattle.atl_state.specs.Books.{thing_place};
-ghost use Rattle.atl_state.specs.Marks.{no_marks, marks_in, amount_number};
+ghost use Rattle.atl_state.specs.Marks.{AreWithin, no_marks, marks_in, amount_number};
 
 use super::Campaign;
 use crate::books::{Entry, Thing, amount_number};
-use atl_tables::MarkedNumbers;
+use atl_tables::{Entries, MarkedNumbers, Numbered};
 
 impl Campaign {
-    /// How many things are marked. The campaign's own row is one, and so is a unit with its goods: these are marked only
-    /// with their unit. It takes no memory.
+    /// How many things are marked. The campaign's own row is one, and so is a unit, whatever of it is marked. It takes no
+    /// memory.
     pub fn marks(&self) -> usize
         ensures value { result ≡ marks_in self.now.marks }
-        ensures goods { (n : ℕ) → IsTrue (set.contains self.now.marks.goods n) → IsTrue (set.contains self.now.marks.units n) }
+        ensures units { AreWithin self.now.marks.units self.now.marks.rows self.now.marks.goods self.now.marks.items self.now.marks.skills }
     {
         let row = if self.row_marked { 1 } else { 0 };
         let named = self.factions.marked() + self.mail.marked() + self.reports.marked();
@@ -36,18 +37,41 @@ impl Campaign {
         self.regions.marked_numbers()
     }
 
-    /// The numbers of the marked units, of those too that are gone, in rising order. It takes no memory.
+    /// The numbers of the units of which something is marked, of those too that are gone, in rising order. It takes no memory.
     pub fn marked_units(&self) -> MarkedNumbers<'_>
         ensures { Lists self.now.marks.units result }
     {
         self.units.marked_numbers()
     }
 
-    /// The numbers of the units whose goods are marked, of those too that are gone, in rising order. It takes no memory.
+    /// The numbers of the units whose rows are marked, of those too that are gone, in rising order. It takes no memory.
+    pub fn marked_rows(&self) -> MarkedNumbers<'_>
+        ensures { Lists self.now.marks.rows result }
+    {
+        self.units.marked_rows()
+    }
+
+    /// The numbers of the units all of whose goods are marked, of those too that are gone, in rising order. It takes no memory.
     pub fn marked_goods(&self) -> MarkedNumbers<'_>
         ensures { Lists self.now.marks.goods result }
     {
         self.units.marked_goods()
+    }
+
+    /// The single items that are marked, by the numbers of their units, in rising order; also of what is gone. It takes no
+    /// memory.
+    pub fn marked_items(&self) -> Entries<'_, Numbered<()>>
+        ensures { result ≡ map.entries self.now.marks.items }
+    {
+        self.units.marked_items()
+    }
+
+    /// The single skills that are marked, by the numbers of their units, in rising order; also of what is gone. It takes no
+    /// memory.
+    pub fn marked_skills(&self) -> Entries<'_, Numbered<()>>
+        ensures { result ≡ map.entries self.now.marks.skills }
+    {
+        self.units.marked_skills()
     }
 
     /// The numbers of the marked structures, in rising order. It takes no memory.
