@@ -32,3 +32,8 @@ module _ {A : Type 0} (xs : List A) (free place : ℕ) where
       let long : free ≤ length (take (free + place) xs) = omega (arith, length-take-le (free + place) xs l) in
       let behind : suc (free + place) ≡ free + suc place = omega arith in
       drop-append-le free (take (free + place) xs) (drop (suc (free + place)) xs) long ∙ rw (drop-take free place xs, behind) (ap (λ ys. take place (drop free xs) ++ ys) (sym (drop-drop (suc place) free xs)))
+
+  pub inserted : (x : A) → free + place ≤ length xs → drop free (insert xs (free + place) x) ≡ insert (drop free xs) place x
+  inserted x l =
+      let long : free ≤ length (take (free + place) xs) = omega (arith, length-take-le (free + place) xs l) in
+      drop-append-le free (take (free + place) xs) (x ∷ drop (free + place) xs) long ∙ rw (drop-take free place xs) (ap (λ ys. take place (drop free xs) ++ x ∷ ys) (sym (drop-drop place free xs)))

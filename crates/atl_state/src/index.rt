@@ -7,6 +7,7 @@ ghost use Rattle.std.specs.FinMap as map;
 ghost use Rattle.atl_tables.specs.Rising.{Stands, Belongs};
 ghost use Rattle.atl_state.specs.Index.{numbers_of, slots_of};
 
+use crate::shelf::Shelf;
 use std::alloc::{AllocError, Global};
 use std::marker::Model;
 use std::slice::Iter;
@@ -22,7 +23,7 @@ pub(crate) struct Place {
 #[derive(Drop)]
 pub(crate) struct Index {
     // The numbers rise.
-    places: Vec<Place>,
+    places: Shelf<Place>,
 }
 
 impl Model for Index {
@@ -37,9 +38,9 @@ impl Model for Index {
 
     ghost coded = { map.code coded_ℕ coded_ℕ };
 
-    ghost view = { λ a. map.from_entries (slots_of a.places.items) };
+    ghost view = { λ a. map.from_entries (slots_of a.places) };
 
-    ghost invariant = { λ a. IsStrictlySortedBy nat_cmp (numbers_of a.places.items) };
+    ghost invariant = { λ a. IsStrictlySortedBy nat_cmp (numbers_of a.places) };
 }
 
 impl Index {
@@ -48,7 +49,7 @@ impl Index {
         ensures { result ≡ map.empty }
     {
         Index {
-            places: Vec::new(alloc),
+            places: Shelf::new(alloc),
         }
     }
 
@@ -56,8 +57,9 @@ impl Index {
     pub(crate) fn get(&self, number: u32) -> Option<usize>
         ensures { result ≡ map.get self.now number }
     {
-        match place_of(&self.places, number) {
-            Ok(place) => Some(self.places[place].slot),
+        let places = self.places.as_slice();
+        match place_of(places, number) {
+            Ok(place) => Some(places[place].slot),
             Err(_) => None,
         }
     }
@@ -68,7 +70,7 @@ impl Index {
         ensures ok { OnOk result (self.new ≡ map.insert self.old number slot) }
         ensures err { OnErr result (self.new ≡ self.old) }
     {
-        match place_of(&self.places, number) {
+        match place_of(self.places.as_slice(), number) {
             Ok(_) => unreachable!(),
             Err(place) => self.places.insert(place, Place { number, slot })?,
         }
@@ -80,8 +82,13 @@ impl Index {
         ensures slot { result ≡ map.get self.old number }
         ensures taken { self.new ≡ map.remove self.old number }
     {
-        match place_of(&self.places, number) {
-            Ok(place) => Some(self.places.remove(place).slot),
+        let places = self.places.as_slice();
+        match place_of(places, number) {
+            Ok(place) => {
+                let slot = places[place].slot;
+                self.places.remove(place);
+                Some(slot)
+            }
             Err(_) => None,
         }
     }
@@ -98,7 +105,7 @@ impl Index {
     pub(crate) fn iter(&self) -> Iter<'_, Place>
         ensures { slots_of (iter_rest result) ≡ map.entries self.now }
     {
-        self.places.iter()
+        self.places.as_slice().iter()
     }
 }
 

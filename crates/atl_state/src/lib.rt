@@ -18,6 +18,7 @@ pub mod records;
 mod row_rules;
 mod rows;
 mod rules;
+mod shelf;
 mod totals;
 mod units;
 

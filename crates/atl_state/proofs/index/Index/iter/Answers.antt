@@ -5,4 +5,4 @@ use Rattle.atl_state.proofs.IndexLaws.{entries-places}
 use Rattle.atl_state.proofs.index.Index.iter.Goals as goal
 
 pub returns : goal.returns
-returns c = ap slots_of (c.iter.ensures.rest ∙ c.deref.ensures.value) ∙ sym (entries-places c.self.inside.places.items c.self.invariant) ∙ ap entries c.self.view_is
+returns c = ap slots_of (c.iter.ensures.rest ∙ c.as_slice.ensures) ∙ sym (entries-places c.self.inside.places c.self.invariant) ∙ ap entries c.self.view_is

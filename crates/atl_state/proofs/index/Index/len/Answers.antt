@@ -4,4 +4,4 @@ use Rattle.atl_state.proofs.IndexLaws.{len-places}
 use Rattle.atl_state.proofs.index.Index.len.Goals as goal
 
 pub returns-clause-value : goal.returns-clause-value
-returns-clause-value c = c.len.ensures ∙ c.self.inside.places.ok.0 ∙ sym (len-places c.self.inside.places.items c.self.invariant) ∙ ap len c.self.view_is
+returns-clause-value c = c.len.ensures.value ∙ sym (len-places c.self.inside.places c.self.invariant) ∙ ap len c.self.view_is

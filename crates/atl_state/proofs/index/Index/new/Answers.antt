@@ -2,4 +2,4 @@ use Rattle.atl_state.proofs.IndexLaws.{rising-none}
 use Rattle.atl_state.proofs.index.Index.new.Goals as goal
 
 pub invariant_of-result : goal.invariant_of-result
-invariant_of-result c = rw c.new.ensures.items rising-none
+invariant_of-result c = rw c.new.ensures rising-none
