@@ -2,11 +2,14 @@
 ghost use Rattle.atl_store.specs.Tables.{has_table};
 ghost use Rattle.atl_store.specs.Rows.{HasRowsOf};
 ghost use Rattle.atl_store.specs.Lines.{thing_lines, sort_lines, goods_lines, unit_lines, all_goods_lines};
-ghost use Rattle.atl_store.specs.OwnStatements.{puts_has, drops_goods};
-ghost use Rattle.atl_store.specs.Writes.{WritesRows};
+ghost use Rattle.atl_store.specs.OwnStatements.{OfChange, puts_has, drops_goods};
+ghost use Rattle.atl_store.specs.Writes.{Writes, WritesRows};
+ghost use Rattle.atl_store.specs.Inside.{Inside, HasTables};
+ghost use Rattle.atl_store.specs.Rewriting.{RewritesGoods};
 
-use crate::grouped::Grouped;
+use crate::grouped::{Grouped, rewrite_marked_groups};
 use crate::rows::has::{HasRow, Sort, drop_goods, put_has};
+use crate::things::rewrite_sort;
 use atl_state::{Campaign, Holding, SlotEntries, Unit};
 use atl_tables::{Entries, MarkedNumbers};
 use sqlite::{Alter, Error, Transaction};
@@ -105,4 +108,16 @@ impl Grouped for Unit {
     fn drop_rows<S: Alter>(tx: &mut Transaction<'_, S>, number: u32) -> Result<(), Error> {
         drop_goods(tx, number)
     }
+}
+
+/// Writes what is marked of what units have: all that a unit has, and single things.
+pub(crate) fn rewrite_goods<S: Alter>(
+    tx: &mut Transaction<'_, S>,
+    campaign: &Campaign,
+) -> Result<(), Error>
+    ensures { Writes S.Store (OfChange campaign.now.value) (Inside HasTables (RewritesGoods campaign.now)) result tx.old.conn tx.new.conn }
+{
+    rewrite_marked_groups::<Unit, S>(tx, campaign)?;
+    rewrite_sort(tx, campaign, Sort::Item)?;
+    rewrite_sort(tx, campaign, Sort::Skill)
 }

@@ -20,6 +20,7 @@ pub mod rows;
 pub mod schema;
 mod statement;
 pub mod tables;
+mod things;
 mod upgrading;
 
 pub use alike::one_database_holds_one_campaign;
