@@ -125,6 +125,13 @@ listed_key : {V : Type 0} (es : List (ℕ × V)) (t : ℕ) → is_among (map (λ
 listed_key [] t = refl
 listed_key (e ∷ es) t = elim (eq_by_cmp nat_cmp t e.0) as (λ b. (b || is_among (map (λ x. x.0) es) t) ≡ is_some (cond b (Some e.1) (find nat_cmp t es))) [ true ↦ refl | false ↦ listed_key es t ]
 
+differs : (k n : ℕ) → is_lt (nat_cmp k n) ≡ true → is_number n k ≡ false
+differs k n less = elim (nat_cmp k n) as (λ o. is_lt o ≡ true → is_eq o ≡ false) [
+  | Less ↦ λ _. refl
+  | Equal ↦ λ never. absurd (true≢false (sym never))
+  | Greater ↦ λ _. refl
+] less
+
 module _ {V : Type 0} where
   -- whether a thing is of this unit and among the keys of the entries
   abbrev pub is_key : ℕ → List (ℕ × V) → ℕ → ℕ → Bool
@@ -133,13 +140,6 @@ module _ {V : Type 0} where
   -- whether a thing is in the group of its unit
   abbrev pub is_listed : List (ℕ × FinMap nat_cmp V) → ℕ → ℕ → Bool
   is_listed es n t = list_any (λ e. is_of e.0 e.1 n t) es
-
-  differs : (k n : ℕ) → is_lt (nat_cmp k n) ≡ true → is_number n k ≡ false
-  differs k n less = elim (nat_cmp k n) as (λ o. is_lt o ≡ true → is_eq o ≡ false) [
-    | Less ↦ λ _. refl
-    | Equal ↦ λ never. absurd (true≢false (sym never))
-    | Greater ↦ λ _. refl
-  ] less
 
   not_listed : (es : List (ℕ × FinMap nat_cmp V)) (n t : ℕ) → below_all nat_cmp n es ≡ true → is_listed es n t ≡ false
   not_listed [] n t below = refl

@@ -40,7 +40,7 @@ of_amounts marks entries things r = accounts (λ entry thing. entries entry && (
 abbrev pub is_thing : (unit thing : ℕ) → ℕ → ℕ → Bool
 is_thing unit thing n t = is_number unit n && is_number thing t
 
-abbrev pub is_of : (unit : ℕ) → FinMap nat_cmp (Prim.Unit {0}) → ℕ → ℕ → Bool
+abbrev pub is_of : {V : Type 0} → (unit : ℕ) → FinMap nat_cmp V → ℕ → ℕ → Bool
 is_of unit things n t = is_number unit n && is_some (get things t)
 
 -- the one row that has this number, or none
