@@ -83,8 +83,6 @@ impl Grouped for Unit {
 
     ghost lines = { unit_lines };
 
-    ghost values = { λ c. c.units };
-
     ghost wanted = { λ c. HasRowsOf c.units };
 
     ghost marks = { λ m. m.goods };
@@ -92,10 +90,6 @@ impl Grouped for Unit {
     ghost of_row = { λ c r is. puts_has is };
 
     ghost of_number = { λ c n. drops_goods };
-
-    fn under(campaign: &Campaign, number: u32) -> Option<&Unit> {
-        campaign.unit(number)
-    }
 
     fn marked_groups(campaign: &Campaign) -> MarkedNumbers<'_> {
         campaign.marked_goods()

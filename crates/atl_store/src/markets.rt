@@ -61,8 +61,6 @@ impl Grouped for Region {
 
     ghost lines = { region_lines };
 
-    ghost values = { λ c. c.regions };
-
     ghost wanted = { λ c. MarketRowsOf c.regions };
 
     ghost marks = { λ m. m.regions };
@@ -70,10 +68,6 @@ impl Grouped for Region {
     ghost of_row = { λ c r is. puts_market is };
 
     ghost of_number = { λ c n. drops_stocks };
-
-    fn under(campaign: &Campaign, number: u32) -> Option<&Region> {
-        campaign.region(number)
-    }
 
     fn marked_groups(campaign: &Campaign) -> MarkedNumbers<'_> {
         campaign.marked_regions()
