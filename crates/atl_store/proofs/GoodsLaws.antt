@@ -1,6 +1,5 @@
 -- Rows of amounts that are not 0, and so those of all that units have.
 use Rattle.std.proofs.Common.{◌≡◌, ◌≢◌, ◌==◌, ℕ, Bool, true, false, if◌then◌else◌, List, [], ◌∷◌, take, Option, Some, None, unwrap_or, refl, sym, ap, ◌∙◌, subst, inl, inr, true≢false, arith}
-use Rattle.std.specs.List.{flat_map}
 use Rattle.std.specs.Ordering.{nat_cmp}
 use Rattle.std.specs.FinMap.{FinMap, entries, get, get-empty, is_sorted}
 use Rattle.std.proofs.lemmas.Bool.{cases_Bool, and_parts}
@@ -15,7 +14,7 @@ use Rattle.atl_store.specs.declared.rows.has.Sort.TheVariants.{Item, Skill}
 use Rattle.atl_store.specs.Shown.{int, has_key, has_row}
 use Rattle.atl_store.specs.Written.{sort_number}
 use Rattle.atl_store.specs.Rows.{things_of, things_under, amount_under, HasRowsOf}
-use Rattle.atl_store.specs.Lines.{DifferInKey, AreGroups, sort_lines, goods_lines, unit_lines}
+use Rattle.atl_store.specs.Lines.{DifferInKey, AreGroups, amount_rows, sort_lines, goods_lines, unit_lines}
 use Rattle.atl_store.proofs.EntryLaws.{apart_append, below_has, less_apart, got_entry, entry_got, in_order, flat_has, has_flat}
 
 -- ---- one amount
@@ -40,10 +39,6 @@ pub is_not_zero : (a : ℕ) → a ≢ 0 → (a == 0) ≡ false
 is_not_zero a apart = elim (cases_Bool (a == 0)) [ inl same ↦ absurd (apart (grind (arith, nat_tests))) | inr differs ↦ differs ]
 
 -- ---- the amounts under some numbers
-
--- a row for each that is not 0
-abbrev pub amount_rows : (ℕ → ℕ → Row) → List (ℕ × ℕ) → List Row
-amount_rows row es = flat_map (λ e. if e.1 == 0 then [] else row e.0 e.1 ∷ []) es
 
 module _ (row : ℕ → ℕ → Row) where
   pub amounts_have : (es : List (ℕ × ℕ)) (r : Row) → Has (amount_rows row es) r → (e : ℕ × ℕ) × Has es e × (e.1 ≢ 0) × (r ≡ row e.0 e.1)

@@ -3,6 +3,7 @@
 #![tactic(auto)]
 
 mod alike;
+mod amounts;
 mod changing;
 pub mod fault;
 mod founding;
