@@ -1,17 +1,18 @@
 -- Tables that hold what is not marked of a campaign hold it all, once what is marked is written.
-use Rattle.std.proofs.Common.{◌≡◌, ◌+◌, ◌<◌, ◌&&◌, ℕ, suc, ℤ, Bool, true, false, List, Option, Some, None, nat_le, refl, sym, ap, subst, ◌∙◌, true≢false, arith}
+use Rattle.std.proofs.Common.{◌≡◌, ◌+◌, ◌<◌, ◌&&◌, ◌||◌, ℕ, suc, ℤ, Bool, true, false, List, Option, Some, None, unwrap_or, nat_le, refl, sym, ap, subst, ◌∙◌, true≢false, arith}
 use Rattle.std.proofs.lemmas.Bool.Decides.{nat_tests}
+use Rattle.std.proofs.Math.Bool.{or-false}
 use Rattle.std.specs.Prelude.{◌↔◌, option_map}
 use Rattle.std.specs.Ordering.{nat_cmp}
-use Rattle.std.specs.FinMap.{FinMap, get, get-empty}
+use Rattle.std.specs.FinMap.{FinMap, get}
 use Rattle.std.specs.FinSet.{FinSet, contains}
 use Rattle.sqlite.specs.Effect.{Database}
 use Rattle.sqlite.specs.Order.{Row}
 use Rattle.sqlite_trees.specs.Tree.{Trees}
 use Rattle.sqlite_rules.specs.Lists.{Has}
-use Rattle.atl_state.specs.Covers.{SameBut, Covers, bare, goods_under, own_row}
+use Rattle.atl_state.specs.Covers.{SameBut, SameThings, Covers, bare, own_row}
 use Rattle.atl_state.specs.Books.{amount_in, entry_place, thing_place}
-use Rattle.atl_state.specs.Marks.{amount_number}
+use Rattle.atl_state.specs.Marks.{Marks, amount_number, is_thing_marked}
 use Rattle.atl_state.specs.Campaign.{CampaignValue, MarkedCampaign}
 use Rattle.atl_state.specs.declared.books.Entry.{Entry}
 use Rattle.atl_state.specs.Limits.{entry_count}
@@ -23,9 +24,12 @@ use Rattle.atl_store.specs.declared.rows.has.Sort.{Sort}
 use Rattle.atl_store.specs.declared.rows.has.Sort.TheVariants.{Item, Skill}
 use Rattle.atl_store.specs.Sets.{Is, rows_in}
 use Rattle.atl_store.specs.Tables.{Part, Own, Factions, Regions, Units, Goods, Structures, Mail, Reports, Books, Markets, table_of}
-use Rattle.atl_store.specs.Shown.{Head, head_row, mail_row, report_row, books_row}
-use Rattle.atl_store.specs.Rows.{RowsOf, HasRowsOf, BooksRowsOf, MarketRowsOf, rows_for, head_of, campaign_line, faction_line, region_line, unit_line, structure_line, things_of, Holds}
-use Rattle.atl_store.specs.Changing.{begins_marked, amount_marked, is_marked, Chosen, rewritten, head_after, HasUnmarked, WritesChanges, HoldsUnmarked}
+use Rattle.atl_store.specs.Shown.{Head, head_row, has_row, mail_row, report_row, books_row}
+use Rattle.atl_store.specs.Written.{sort_number}
+use Rattle.atl_store.specs.Rows.{RowsOf, HasRowsOf, BooksRowsOf, MarketRowsOf, rows_for, head_of, campaign_line, faction_line, region_line, unit_line, structure_line, things_under, amount_under, Holds}
+use Rattle.atl_store.specs.Changing.{begins_marked, has_thing, goods_marked, amount_marked, is_marked, Chosen, rewritten, head_after, HasUnmarked, WritesChanges, HoldsUnmarked}
+use Rattle.atl_store.specs.Rewriting.{marked_things}
+use Rattle.atl_store.proofs.GoodsLaws.{had_of, of_had}
 
 -- ---- a table whose unmarked rows are the campaign's
 
@@ -79,27 +83,20 @@ bare_same n o (Some w) v same there = (w, refl, let e : bare w ≡ bare v = (let
 
 -- ---- goods
 
-abbrev things_in : Sort → FinMap nat_cmp ℕ × FinMap nat_cmp ℕ → FinMap nat_cmp ℕ
-things_in Item goods = goods.0
-things_in Skill goods = goods.1
+goods_heads : (marks : Marks) (n : ℕ) (sort : Sort) (thing amount : ℕ) → goods_marked marks (has_row n (sort_number sort) thing amount) ≡ is_thing_marked marks.goods (marked_things marks sort) n thing
+goods_heads marks n Item thing amount = or-false (is_thing_marked marks.goods marks.items n thing)
+goods_heads marks n Skill thing amount = ap (λ b. b || has_thing marks.skills n thing) (or-false (contains marks.goods n))
 
-of_unit : (sort : Sort) (u : Unit) → things_in sort (goods_under (Some u)) ≡ things_of sort u.holding
-of_unit Item u = refl
-of_unit Skill u = refl
+goods_same : (m : Marks) (before after : CampaignValue) → Covers m before after → (sort : Sort) → SameThings m.goods (marked_things m sort) (things_under sort) before.units after.units
+goods_same m before after covers Item = covers.items
+goods_same m before after covers Skill = covers.days
 
-of_none : (sort : Sort) (thing amount : ℕ) (P : Type 0) → get (things_in sort (goods_under None)) thing ≡ Some amount → P
-of_none Item thing amount P there = absurd (let e = sym (get-empty {X = ℕ} nat_cmp thing) ∙ there in cc)
-of_none Skill thing amount P there = absurd (let e = sym (get-empty {X = ℕ} nat_cmp thing) ∙ there in cc)
-
-pub goods_same : (o p : Option Unit) (v : Unit) (sort : Sort) (thing amount : ℕ) → goods_under p ≡ goods_under o → o ≡ Some v → get (things_of sort v.holding) thing ≡ Some amount → (w : Unit) × (p ≡ Some w) × (get (things_of sort w.holding) thing ≡ Some amount)
-goods_same o None v sort thing amount same there has = of_none sort thing amount _ (ap (λ goods. get (things_in sort goods) thing) (same ∙ ap goods_under there) ∙ ap (λ things. get things thing) (of_unit sort v) ∙ has)
-goods_same o (Some w) v sort thing amount same there has =
-    (w, refl, ap (λ things. get things thing) (sym (of_unit sort w)) ∙ ap (λ goods. get (things_in sort goods) thing) (same ∙ ap goods_under there) ∙ ap (λ things. get things thing) (of_unit sort v) ∙ has)
-
-goods_follow : (one other : FinMap nat_cmp Unit) (marks : FinSet nat_cmp) (r : Row) → ((n : ℕ) → contains marks n ≡ false → goods_under (get other n) ≡ goods_under (get one n)) → begins_marked marks r ≡ false → HasRowsOf one r → HasRowsOf other r
+goods_follow : (one other : FinMap nat_cmp Unit) (marks : Marks) (r : Row) → ((sort : Sort) → SameThings marks.goods (marked_things marks sort) (things_under sort) one other) → goods_marked marks r ≡ false → HasRowsOf one r → HasRowsOf other r
 goods_follow one other marks r same not_marked of =
-    let found = goods_same (get one of.0) (get other of.0) of.1 of.3 of.4 of.5 (same of.0 (ap (begins_marked marks) (sym of.8) ∙ not_marked)) of.2 of.6 in
-    (of.0, found.0, found.1, of.3, of.4, of.5, found.2, of.7, of.8)
+    let had = had_of one r of in
+    let amount = amount_under one had.0 had.1 had.2 in
+    let is : amount ≡ amount_under other had.0 had.1 had.2 = ap (λ (o : Option ℕ). unwrap_or o 0) (sym (same had.1 had.0 had.2 (sym (goods_heads marks had.0 had.1 had.2 amount) ∙ ap (goods_marked marks) (sym had.4) ∙ not_marked))) in
+    subst (HasRowsOf other) (sym had.4) (of_had other had.0 had.1 had.2 amount is had.3)
 
 -- ---- stocks
 
@@ -152,10 +149,12 @@ covers_unmarked c db text before covers held = record { before = head_of before;
     rest Factions = rest_same faction_line c.marks.factions (λ n v. refl) before.factions c.value.factions _ covers.factions (held.rows Factions)
     rest Regions = rest_same region_line c.marks.regions (λ n v. refl) before.regions c.value.regions _ covers.regions (held.rows Regions)
     rest Units =
-        rest_numbered unit_line c.marks.units (λ n v. refl) before.units c.value.units _
+        rest_numbered unit_line c.marks.rows (λ n v. refl) before.units c.value.units _
         (λ n v not_marked there. bare_same n (get before.units n) (get c.value.units n) v (covers.units n not_marked) there) (λ n v not_marked there. bare_same n (get c.value.units n) (get before.units n) v (sym (covers.units n not_marked)) there) (held.rows Units)
     rest Goods =
-        rest_of (begins_marked c.marks.goods) (HasRowsOf before.units) (HasRowsOf c.value.units) _ (λ r is. goods_follow before.units c.value.units c.marks.goods r covers.goods is) (λ r is. goods_follow c.value.units before.units c.marks.goods r (λ n not_marked. sym (covers.goods n not_marked)) is) (held.rows Goods)
+        let same = goods_same c.marks before c.value covers in
+        rest_of (goods_marked c.marks) (HasRowsOf before.units) (HasRowsOf c.value.units) _ (λ r is. goods_follow before.units c.value.units c.marks r same is)
+        (λ r is. goods_follow c.value.units before.units c.marks r (λ sort n thing not_marked. sym (same sort n thing not_marked)) is) (held.rows Goods)
     rest Structures = rest_same structure_line c.marks.structures (λ n v. refl) before.structures c.value.structures _ covers.structures (held.rows Structures)
     rest Mail = rest_same mail_row c.marks.mail (λ n v. refl) before.mail c.value.mail _ covers.mail (held.rows Mail)
     rest Reports = rest_same report_row c.marks.reports (λ n v. refl) before.reports c.value.reports _ covers.reports (held.rows Reports)

@@ -1,21 +1,20 @@
 -- Rows of amounts that are not 0, and so those of all that units have.
-use Rattle.std.proofs.Common.{◌≡◌, ◌≢◌, ◌==◌, ℕ, Bool, true, false, if◌then◌else◌, List, [], ◌∷◌, take, Some, refl, sym, ap, ◌∙◌, subst, inl, inr, true≢false, arith}
-use Rattle.std.specs.List.{flat_map}
+use Rattle.std.proofs.Common.{◌≡◌, ◌≢◌, ◌==◌, ℕ, Bool, true, false, if◌then◌else◌, List, [], ◌∷◌, take, Option, Some, None, unwrap_or, refl, sym, ap, ◌∙◌, subst, inl, inr, true≢false, arith}
 use Rattle.std.specs.Ordering.{nat_cmp}
-use Rattle.std.specs.FinMap.{FinMap, entries, get, is_sorted}
+use Rattle.std.specs.FinMap.{FinMap, entries, get, get-empty, is_sorted}
 use Rattle.std.proofs.lemmas.Bool.{cases_Bool, and_parts}
 use Rattle.std.proofs.lemmas.Bool.Decides.{nat_tests}
 use Rattle.sqlite.specs.Order.{Row}
 use Rattle.sqlite_rules.specs.Lists.{Has}
 use Rattle.sqlite_rules.proofs.ListLemmas.{has_either, has_left, has_right}
-use Rattle.atl_state.specs.Held.{Held}
+use Rattle.atl_state.specs.Held.{Held, amount_of}
 use Rattle.atl_state.specs.declared.records.Unit.{Unit}
 use Rattle.atl_store.specs.declared.rows.has.Sort.{Sort}
 use Rattle.atl_store.specs.declared.rows.has.Sort.TheVariants.{Item, Skill}
 use Rattle.atl_store.specs.Shown.{int, has_key, has_row}
 use Rattle.atl_store.specs.Written.{sort_number}
-use Rattle.atl_store.specs.Rows.{things_of, HasRowsOf}
-use Rattle.atl_store.specs.Lines.{DifferInKey, AreGroups, sort_lines, goods_lines, unit_lines}
+use Rattle.atl_store.specs.Rows.{things_of, things_under, amount_under, HasRowsOf}
+use Rattle.atl_store.specs.Lines.{DifferInKey, AreGroups, amount_rows, sort_lines, goods_lines, unit_lines}
 use Rattle.atl_store.proofs.EntryLaws.{apart_append, below_has, less_apart, got_entry, entry_got, in_order, flat_has, has_flat}
 
 -- ---- one amount
@@ -41,10 +40,6 @@ is_not_zero a apart = elim (cases_Bool (a == 0)) [ inl same ↦ absurd (apart (g
 
 -- ---- the amounts under some numbers
 
--- a row for each that is not 0
-abbrev pub amount_rows : (ℕ → ℕ → Row) → List (ℕ × ℕ) → List Row
-amount_rows row es = flat_map (λ e. if e.1 == 0 then [] else row e.0 e.1 ∷ []) es
-
 module _ (row : ℕ → ℕ → Row) where
   pub amounts_have : (es : List (ℕ × ℕ)) (r : Row) → Has (amount_rows row es) r → (e : ℕ × ℕ) × Has es e × (e.1 ≢ 0) × (r ≡ row e.0 e.1)
   amounts_have es r there =
@@ -68,7 +63,7 @@ module _ (row : ℕ → ℕ → Row) where
 
 -- ---- the things of one sort
 
-three_same : (a b c d e f : ℕ) → ◌≡◌ {A = Row} (has_key a b c) (has_key d e f) → (a ≡ d) × (b ≡ e) × (c ≡ f)
+pub three_same : (a b c d e f : ℕ) → ◌≡◌ {A = Row} (has_key a b c) (has_key d e f) → (a ≡ d) × (b ≡ e) × (c ≡ f)
 three_same a b c d e f same = (cc, cc, cc)
 
 module _ (unit : ℕ) (sort : Sort) where
@@ -125,3 +120,38 @@ goods_grouped units = record {
     subst (Has (goods_lines of.0 of.1.holding)) (sym of.8) (has_goods of.0 of.1.holding of.3 of.4 of.5 (got_entry (things_of of.3 of.1.holding) of.4 of.5 of.6) of.7),
   );
 }
+
+-- ---- how much a unit has of a thing
+
+under_unit : (sort : Sort) (u : Unit) → things_under sort (Some u) ≡ things_of sort u.holding
+under_unit Item u = refl
+under_unit Skill u = refl
+
+under_none : (sort : Sort) (thing : ℕ) → amount_of (things_under sort None) thing ≡ 0
+under_none Item thing = ap (λ (o : Option ℕ). unwrap_or o 0) (get-empty {X = ℕ} nat_cmp thing)
+under_none Skill thing = ap (λ (o : Option ℕ). unwrap_or o 0) (get-empty {X = ℕ} nat_cmp thing)
+
+module _ (units : FinMap nat_cmp Unit) where
+  pub amount_none : (n : ℕ) (sort : Sort) (thing : ℕ) → get units n ≡ None → amount_under units n sort thing ≡ 0
+  amount_none n sort thing none = ap (λ o. amount_of (things_under sort o) thing) none ∙ under_none sort thing
+
+  pub amount_some : (n : ℕ) (sort : Sort) (thing : ℕ) (u : Unit) → get units n ≡ Some u → amount_under units n sort thing ≡ amount_of (things_of sort u.holding) thing
+  amount_some n sort thing u there = ap (λ o. amount_of (things_under sort o) thing) there ∙ ap (λ things. amount_of things thing) (under_unit sort u)
+
+  -- each row tells how much there is of a thing
+  pub had_of : (r : Row) → HasRowsOf units r → (n : ℕ) × (sort : Sort) × (thing : ℕ) × (amount_under units n sort thing ≢ 0) × (r ≡ has_row n (sort_number sort) thing (amount_under units n sort thing))
+  had_of r of =
+      let amount : amount_under units of.0 of.3 of.4 ≡ of.5 = amount_some of.0 of.3 of.4 of.1 of.2 ∙ ap (λ (o : Option ℕ). unwrap_or o 0) of.6 in
+      (of.0, of.3, of.4, λ none. of.7 (sym amount ∙ none), of.8 ∙ ap (has_row of.0 (sort_number of.3) of.4) (sym amount))
+
+  -- and what there is has its row
+  pub of_had : (n : ℕ) (sort : Sort) (thing amount : ℕ) → amount ≡ amount_under units n sort thing → amount ≢ 0 → HasRowsOf units (has_row n (sort_number sort) thing amount)
+  of_had n sort thing amount is some = there (get units n) refl
+    where
+      got : (o : Option ℕ) → amount ≡ unwrap_or o 0 → o ≡ Some amount
+      got None zero = absurd (some zero)
+      got (Some x) same = ap Some (sym same)
+
+      there : (o : Option Unit) → get units n ≡ o → HasRowsOf units (has_row n (sort_number sort) thing amount)
+      there None none = absurd (some (is ∙ amount_none n sort thing none))
+      there (Some u) found = (n, u, found, sort, thing, amount, got (get (things_of sort u.holding) thing) (is ∙ amount_some n sort thing u found), some, refl)

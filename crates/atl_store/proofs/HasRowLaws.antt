@@ -14,7 +14,7 @@ use Rattle.sqlite_value.specs.Keys.{first_key}
 use Rattle.sqlite_schema.specs.declared.schema.Constraint.TheVariants.{Datatype, NotNull}
 use Rattle.sqlite_schema.specs.Rules.{passes}
 use Rattle.atl_store.specs.Tables.{Goods, has_table, has_unique}
-use Rattle.atl_store.specs.Shown.{int, has_row}
+use Rattle.atl_store.specs.Shown.{int, has_key, has_row}
 use Rattle.atl_store.specs.Inside.{Puts, Drops}
 use Rattle.atl_store.specs.Statements.{deletion, upsert}
 use Rattle.atl_store.proofs.KeyLaws.{int_by, cons_is}
@@ -40,9 +40,9 @@ ints_from schema (r ∷ a ∷ b ∷ c ∷ rest) typed present =
     let p3 = and_parts _ _ p2.1 in
     (int_by a t1.0 (not-true _ p1.0), (int_by b t2.0 (not-true _ p2.0), (int_by c t3.0 (not-true _ p3.0), tt)))
 
-has_key : HasKey has_table 4 has_unique
+keyed : HasKey has_table 4 has_unique
 unfolding first_key
-has_key = record {
+keyed = record {
   ours = listed Goods;
   place = λ more. refl;
   plain = λ db. refl;
@@ -84,7 +84,7 @@ makes_row unit sort thing amount = record {
 }
 
 pub puts_has : (unit sort thing amount : ℕ) → DoneBy (upsert has_table 3) (has_row unit sort thing amount) (Puts has_table 3 (has_row unit sort thing amount))
-puts_has unit sort thing amount = puts_keyed has_table.tree _ _ has_unique 4 has_key (upsert has_table 3) 5 4 terms project put_is put_plain (has_row unit sort thing amount) (makes_row unit sort thing amount)
+puts_has unit sort thing amount = puts_keyed has_table.tree _ _ has_unique 4 keyed (upsert has_table 3) 5 4 terms project put_is put_plain (has_row unit sort thing amount) (makes_row unit sort thing amount)
 
 -- ---- all rows of a unit are taken out
 
@@ -100,4 +100,20 @@ unfolding understood everything
 goods_plain more indexes = (refl, refl)
 
 pub drops_goods : (unit : ℕ) → DoneBy (deletion has_table 1) (int unit ∷ []) (Drops has_table 1 (int unit ∷ []))
-drops_goods unit = drops_keyed has_table.tree _ _ has_unique 4 has_key (deletion has_table 1) of_unit goods_is goods_plain (1 ∷ []) (λ x ints. (ints.0, tt)) (λ x. refl) (int unit ∷ []) (refl, tt) refl (λ x. refl)
+drops_goods unit = drops_keyed has_table.tree _ _ has_unique 4 keyed (deletion has_table 1) of_unit goods_is goods_plain (1 ∷ []) (λ x ints. (ints.0, tt)) (λ x. refl) (int unit ∷ []) (refl, tt) refl (λ x. refl)
+
+-- ---- the row of a key is taken out
+
+abbrev of_key : List Term
+of_key = op2 (Compare Eq Binary) (col 1 1) (col 0 0) ∷ op2 (Compare Eq Binary) (col 1 2) (col 0 1) ∷ op2 (Compare Eq Binary) (col 1 3) (col 0 2) ∷ []
+
+drop_is : IsTakeOut has_table.tree 4 (deletion has_table 3) of_key
+unfolding understood everything
+drop_is more indexes = refl
+
+drop_plain : AlwaysPlain (deletion has_table 3)
+unfolding understood everything
+drop_plain more indexes = (refl, refl)
+
+pub drops_has : (unit sort thing : ℕ) → DoneBy (deletion has_table 3) (has_key unit sort thing) (Drops has_table 3 (has_key unit sort thing))
+drops_has unit sort thing = drops_keyed has_table.tree _ _ has_unique 4 keyed (deletion has_table 3) of_key drop_is drop_plain has_unique (λ x ints. ints) (λ x. refl) (has_key unit sort thing) (refl, (refl, (refl, tt))) refl (λ x. refl)

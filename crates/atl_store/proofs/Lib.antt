@@ -45,6 +45,7 @@ pub mod PutsLaws
 mod PuttingLaws
 pub mod EntryLaws
 pub mod GoodsLaws
+pub mod ThingLaws
 pub mod MarketLaws
 pub mod LedgerLaws
 pub mod WholeLaws

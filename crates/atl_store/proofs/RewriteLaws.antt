@@ -95,6 +95,15 @@ module _ (table : Table) (Wanted : Set) where
         },
   )
 
+  -- the rows that one test finds, and then those of another
+  pub both_rewritten : (p q : Row → Bool) (old mid new : Database) → Rewrites table p Wanted old mid → Rewrites table q Wanted mid new → Rewrites table (λ r. p r || q r) Wanted old new
+  both_rewritten p q old mid new one two = record {
+    rows = λ r.
+        let both = chosen_step (p r) (q r) (Wanted r) (Has (rows_in table old.trees) r) (Has (rows_in table mid.trees) r) (one.rows r) in
+        (λ h. both.0 ((two.rows r).0 h), λ h. (two.rows r).1 (both.1 h));
+    others = λ t listed other. two.others t listed other ∙ one.others t listed other;
+  }
+
   -- a step that chooses no row is none
   pub none_chosen : (step : Row → Bool) → ((r : Row) → step r ≡ false) → (s : State) → Inside HasTables (Rewrites table step Wanted) s s
   none_chosen step none s = all_rewritten step step step none (λ r. refl) s s (none_nearer step step (λ r. refl) s)

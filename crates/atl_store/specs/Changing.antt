@@ -1,6 +1,7 @@
 -- What the writing of a campaign's changes does: a row whose key is marked is the campaign's afterwards, and every other row is as it was.
-use Rattle.std.specs.Prelude.{◌≡◌, ◌+◌, ◌*◌, ◌&&◌, ◌↔◌, ℕ, Bool, true, false, pos, suc, nat_le, List, ◌∷◌}
+use Rattle.std.specs.Prelude.{◌≡◌, ◌==◌, ◌+◌, ◌*◌, ◌&&◌, ◌||◌, ◌↔◌, ℕ, Bool, true, false, pos, suc, is_some, nat_le, List, ◌∷◌}
 use Rattle.std.specs.Ordering.{nat_cmp}
+use Rattle.std.specs.FinMap.{get}
 use Rattle.std.specs.FinSet.{FinSet, contains}
 use Rattle.sqlite.specs.declared.types.Value.TheVariants.{Int}
 use Rattle.sqlite.specs.Effect.{Database}
@@ -8,12 +9,16 @@ use Rattle.sqlite.specs.Order.{Row}
 use Rattle.sqlite_trees.specs.Tree.{Trees}
 use Rattle.sqlite.specs.Table.{Table}
 use Rattle.sqlite_rules.specs.Lists.{Has}
+use Rattle.atl_tables.specs.Groups.{group_of}
 use Rattle.atl_state.specs.Limits.{entry_count}
 use Rattle.atl_state.specs.Campaign.{CampaignValue, MarkedCampaign}
-use Rattle.atl_state.specs.Marks.{Marks}
+use Rattle.atl_state.specs.Marks.{Marks, Things}
+use Rattle.atl_store.specs.declared.rows.has.Sort.{Sort}
+use Rattle.atl_store.specs.declared.rows.has.Sort.TheVariants.{Item, Skill}
 use Rattle.atl_store.specs.Sets.{Set, Is, rows_in}
 use Rattle.atl_store.specs.Tables.{Part, Own, Factions, Regions, Units, Goods, Structures, Mail, Reports, Books, Markets, campaign_table, table_of}
 use Rattle.atl_store.specs.Shown.{Head, head_row}
+use Rattle.atl_store.specs.Written.{sort_number}
 use Rattle.atl_store.specs.Rows.{head_of, campaign_line, rows_for}
 
 -- whether a row begins with a number of which this is so
@@ -26,8 +31,21 @@ abbrev pub accounts : (ℕ → ℕ → Bool) → Row → Bool
 accounts is_so (Int (pos (suc entry)) ∷ Int (pos thing) ∷ row) = is_so entry thing
 accounts is_so row = false
 
+-- whether this is so of the unit and the thing of a row of this sort
+abbrev pub of_sort : Sort → (ℕ → ℕ → Bool) → Row → Bool
+of_sort sort is_so (Int (pos unit) ∷ Int (pos number) ∷ Int (pos thing) ∷ row) = number == sort_number sort && is_so unit thing
+of_sort sort is_so row = false
+
 abbrev pub begins_marked : FinSet nat_cmp → Row → Bool
 begins_marked marks r = begins (contains marks) r
+
+-- whether a thing of a unit is one of these
+abbrev pub has_thing : Things → ℕ → ℕ → Bool
+has_thing things unit thing = is_some (get (group_of things unit) thing)
+
+-- whether all that a row's unit has is marked, or the row's item or skill alone
+abbrev pub goods_marked : Marks → Row → Bool
+goods_marked marks r = begins_marked marks.goods r || of_sort Item (has_thing marks.items) r || of_sort Skill (has_thing marks.skills) r
 
 -- whether the amount of an entry, of which there are so many, and a thing is marked
 abbrev pub is_marked_amount : FinSet nat_cmp → ℕ → ℕ → Bool
@@ -62,8 +80,8 @@ abbrev pub is_marked : Marks → Part → Row → Bool
 is_marked marks Own = λ r. true
 is_marked marks Factions = begins_marked marks.factions
 is_marked marks Regions = begins_marked marks.regions
-is_marked marks Units = begins_marked marks.units
-is_marked marks Goods = begins_marked marks.goods
+is_marked marks Units = begins_marked marks.rows
+is_marked marks Goods = goods_marked marks
 is_marked marks Structures = begins_marked marks.structures
 is_marked marks Mail = begins_marked marks.mail
 is_marked marks Reports = begins_marked marks.reports

@@ -36,14 +36,19 @@ pub record AreGroups {V : Type 0} (lines : ℕ → V → List Row) (key : ℕ) (
   pub wanted : (n : ℕ) (v : V) → get values n ≡ Some v → (r : Row) → Has (lines n v) r → Wanted r
   pub lined : (r : Row) → Wanted r → (n : ℕ) × (v : V) × (get values n ≡ Some v) × Has (lines n v) r
 
--- ---- what units have
+-- ---- amounts of things
 
 -- a row where the amount is not 0
-abbrev pub thing_lines : ℕ → Sort → ℕ → ℕ → List Row
-thing_lines unit sort thing amount = if amount == 0 then [] else has_row unit (sort_number sort) thing amount ∷ []
+abbrev pub thing_rows : (ℕ → ℕ → Row) → ℕ → ℕ → List Row
+thing_rows row thing amount = if amount == 0 then [] else row thing amount ∷ []
+
+abbrev pub amount_rows : (ℕ → ℕ → Row) → List (ℕ × ℕ) → List Row
+amount_rows row amounts = flat_map (λ e. thing_rows row e.0 e.1) amounts
+
+-- ---- what units have
 
 abbrev pub sort_lines : ℕ → Sort → List (ℕ × ℕ) → List Row
-sort_lines unit sort things = flat_map (λ e. thing_lines unit sort e.0 e.1) things
+sort_lines unit sort things = amount_rows (has_row unit (sort_number sort)) things
 
 abbrev pub goods_lines : ℕ → Held → List Row
 goods_lines unit held = sort_lines unit Item (entries held.items) ++ sort_lines unit Skill (entries held.days)
@@ -56,15 +61,8 @@ all_goods_lines units = groups_of unit_lines units
 
 -- ---- the stocks of markets
 
--- a row where the stock is not 0
-abbrev pub stock_lines : ℕ → ℕ → ℕ → List Row
-stock_lines region item stock = if stock == 0 then [] else market_row region item stock ∷ []
-
-abbrev pub stocks_lines : ℕ → List (ℕ × ℕ) → List Row
-stocks_lines region stocks = flat_map (λ e. stock_lines region e.0 e.1) stocks
-
 abbrev pub region_lines : ℕ → Region → List Row
-region_lines n region = stocks_lines n (entries region.stocks)
+region_lines n region = amount_rows (market_row n) (entries region.stocks)
 
 abbrev pub all_stocks_lines : List (ℕ × Region) → List Row
 all_stocks_lines regions = groups_of region_lines regions

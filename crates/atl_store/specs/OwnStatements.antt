@@ -12,8 +12,10 @@ use Rattle.atl_state.specs.declared.books.Thing.TheVariants.{Money, People}
 use Rattle.atl_state.specs.declared.records.Faction.{Faction}
 use Rattle.atl_state.specs.declared.records.Unit.{Unit}
 use Rattle.atl_store.specs.Sets.{Set}
-use Rattle.atl_store.specs.Shown.{int, head_values, mail_row, report_row, books_key, books_row}
-use Rattle.atl_store.specs.Rows.{head_of, faction_line, region_line, unit_line, structure_line, RowsOf, HasRowsOf, BooksRowsOf, MarketRowsOf}
+use Rattle.atl_store.specs.declared.rows.has.Sort.{Sort}
+use Rattle.atl_store.specs.Shown.{int, head_values, has_key, mail_row, report_row, books_key, books_row}
+use Rattle.atl_store.specs.Written.{sort_number}
+use Rattle.atl_store.specs.Rows.{head_of, faction_line, region_line, unit_line, structure_line, amount_under, RowsOf, HasRowsOf, BooksRowsOf, MarketRowsOf}
 use Rattle.atl_store.specs.Statements.{campaign_upsert, upgrading_upsert, creation, creations, deletion, upsert}
 use Rattle.atl_store.specs.Tables.{books_table, faction_table, has_table, mail_table, market_table, region_table, report_table, structure_table, unit_table}
 
@@ -65,6 +67,7 @@ pub data OfChange (c : CampaignValue) : List ℕ → Row → Type 0 where
   drops_region : {n : ℕ} → get c.regions n ≡ None → OfChange c (deletion region_table 1) (int n ∷ [])
   drops_unit : {n : ℕ} → get c.units n ≡ None → OfChange c (deletion unit_table 1) (int n ∷ [])
   drops_goods : {n : ℕ} → OfChange c (deletion has_table 1) (int n ∷ [])
+  drops_thing : {n : ℕ} (sort : Sort) {thing : ℕ} → amount_under c.units n sort thing ≡ 0 → OfChange c (deletion has_table 3) (has_key n (sort_number sort) thing)
   drops_stocks : {n : ℕ} → OfChange c (deletion market_table 1) (int n ∷ [])
   drops_structure : {n : ℕ} → get c.structures n ≡ None → OfChange c (deletion structure_table 1) (int n ∷ [])
   drops_mail : {n : ℕ} → get c.mail n ≡ None → OfChange c (deletion mail_table 1) (int n ∷ [])

@@ -1,21 +1,24 @@
 -- What the steps of writing a campaign's changes do. For proofs and for private functions.
-use Rattle.std.specs.Prelude.{◌≡◌, ◌+◌, ◌*◌, ◌&&◌, ℕ, Bool, List}
+use Rattle.std.specs.Prelude.{◌≡◌, ◌+◌, ◌*◌, ◌&&◌, ℕ, Bool, List, is_some}
 use Rattle.std.specs.List.{list_any}
 use Rattle.std.specs.Ordering.{nat_cmp, eq_by_cmp}
 use Rattle.std.specs.FinSet.{FinSet, contains}
-use Rattle.std.specs.FinMap.{FinMap}
+use Rattle.std.specs.FinMap.{FinMap, get}
 use Rattle.sqlite.specs.Effect.{Database}
 use Rattle.sqlite.specs.Order.{Row}
 use Rattle.sqlite.specs.Table.{Table}
 use Rattle.sqlite_rules.specs.Lists.{Has}
 use Rattle.atl_state.specs.Limits.{entry_count}
-use Rattle.atl_state.specs.Campaign.{MarkedCampaign}
+use Rattle.atl_state.specs.Campaign.{CampaignValue, MarkedCampaign}
+use Rattle.atl_state.specs.Marks.{Marks, Things}
+use Rattle.atl_store.specs.declared.rows.has.Sort.{Sort}
+use Rattle.atl_store.specs.declared.rows.has.Sort.TheVariants.{Item, Skill}
 use Rattle.atl_store.specs.Sets.{Set, Is, rows_in}
 use Rattle.atl_store.specs.Inside.{Alters, Changes}
-use Rattle.atl_store.specs.Tables.{Part, campaign_table, books_table}
+use Rattle.atl_store.specs.Tables.{Part, campaign_table, has_table, books_table}
 use Rattle.atl_store.specs.Shown.{Head, head_row}
-use Rattle.atl_store.specs.Rows.{RowsOf, BooksRowsOf, rows_for}
-use Rattle.atl_store.specs.Changing.{begins, accounts, begins_marked, amount_marked, is_marked, rewritten, own_after}
+use Rattle.atl_store.specs.Rows.{RowsOf, HasRowsOf, BooksRowsOf, rows_for}
+use Rattle.atl_store.specs.Changing.{begins, accounts, of_sort, begins_marked, goods_marked, amount_marked, is_marked, rewritten, own_after}
 
 -- the table's rows with a chosen key are those that are wanted, its others are as they were, and so is every other table
 abbrev pub Rewrites : Table → (Row → Bool) → Set → Database → Database → Type 0
@@ -33,6 +36,13 @@ is_among ns k = list_any (eq_by_cmp nat_cmp k) ns
 abbrev pub of_amounts : FinSet nat_cmp → (ℕ → Bool) → (ℕ → Bool) → Row → Bool
 of_amounts marks entries things r = accounts (λ entry thing. entries entry && (things thing && contains marks (entry_count * thing + entry))) r
 
+-- whether a thing of a unit is this one, and whether it is one of these of this unit
+abbrev pub is_thing : (unit thing : ℕ) → ℕ → ℕ → Bool
+is_thing unit thing n t = is_number unit n && is_number thing t
+
+abbrev pub is_of : {V : Type 0} → (unit : ℕ) → FinMap nat_cmp V → ℕ → ℕ → Bool
+is_of unit things n t = is_number unit n && is_some (get things t)
+
 -- the one row that has this number, or none
 abbrev pub RewritesNumber : {V : Type 0} → Table → (ℕ → V → Row) → FinMap nat_cmp V → ℕ → Database → Database → Type 0
 RewritesNumber table line values n old new = Rewrites table (begins (is_number n)) (RowsOf line values) old new
@@ -48,6 +58,19 @@ RewritesGroup table Wanted n old new = Rewrites table (begins (is_number n)) Wan
 -- the rows that belong to all that is marked
 abbrev pub RewritesGroups : Table → Set → FinSet nat_cmp → Database → Database → Type 0
 RewritesGroups table Wanted marks old new = Rewrites table (begins_marked marks) Wanted old new
+
+-- the rows of these things of a sort
+abbrev pub RewritesThings : CampaignValue → Sort → (ℕ → ℕ → Bool) → Database → Database → Type 0
+RewritesThings c sort things old new = Rewrites has_table (of_sort sort things) (HasRowsOf c.units) old new
+
+-- the single things of a sort that are marked
+abbrev pub marked_things : Marks → Sort → Things
+marked_things marks Item = marks.items
+marked_things marks Skill = marks.skills
+
+-- the rows of all that is marked of what units have
+abbrev pub RewritesGoods : MarkedCampaign → Database → Database → Type 0
+RewritesGoods c old new = Rewrites has_table (goods_marked c.marks) (HasRowsOf c.value.units) old new
 
 -- the marked amounts of these entries and things
 abbrev pub RewritesAmounts : MarkedCampaign → (ℕ → Bool) → (ℕ → Bool) → Database → Database → Type 0

@@ -1,11 +1,12 @@
 -- The rows that stand for a world text and a campaign: of each table the set of its rows, told from the whole campaign.
-use Rattle.std.specs.Prelude.{◌≡◌, ◌≢◌, ◌+◌, ℕ, ℤ, pos, List, map, Some}
+use Rattle.std.specs.Prelude.{◌≡◌, ◌≢◌, ◌+◌, ℕ, ℤ, pos, List, map, Option, Some}
 use Rattle.std.specs.Ordering.{nat_cmp}
 use Rattle.std.specs.FinMap.{FinMap, get}
 use Rattle.sqlite.specs.Order.{Row}
 use Rattle.sqlite_trees.specs.Tree.{Trees}
 use Rattle.atl_state.specs.Campaign.{CampaignValue}
-use Rattle.atl_state.specs.Held.{Held}
+use Rattle.atl_state.specs.Covers.{items_under, days_under}
+use Rattle.atl_state.specs.Held.{Held, amount_of}
 use Rattle.atl_state.specs.Books.{amount_in, entry_place, thing_place}
 use Rattle.atl_state.specs.declared.books.Entry.{Entry}
 use Rattle.atl_state.specs.declared.books.Thing.{Thing}
@@ -52,6 +53,15 @@ lines_of line entries = map (λ e. line e.0 e.1) entries
 abbrev pub things_of : Sort → Held → FinMap nat_cmp ℕ
 things_of Item held = held.items
 things_of Skill held = held.days
+
+-- the same under a number; nothing where there is no unit
+abbrev pub things_under : Sort → Option Unit → FinMap nat_cmp ℕ
+things_under Item = items_under
+things_under Skill = days_under
+
+-- how much a unit has of a thing, 0 where there is no unit
+abbrev pub amount_under : FinMap nat_cmp Unit → ℕ → Sort → ℕ → ℕ
+amount_under units n sort thing = amount_of (things_under sort (get units n)) thing
 
 -- one row for each thing that a unit has, where the amount is not 0
 abbrev pub HasRowsOf : FinMap nat_cmp Unit → Row → Type 0

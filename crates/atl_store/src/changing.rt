@@ -17,6 +17,7 @@ ghost use Rattle.atl_store.specs.Inside.{Inside, HasTables, LeavesOff};
 ghost use Rattle.atl_store.specs.Keeps.{Keeps, Stops, IsLater, MayFound, SparesOthers};
 
 use crate::fault::WriteFault;
+use crate::goods::rewrite_goods;
 use crate::grouped::rewrite_marked_groups;
 use crate::head::rewrite_head;
 use crate::kept::rewrite_marked;
@@ -50,7 +51,7 @@ fn rewrite_people<S: Alter>(tx: &mut Transaction<'_, S>, campaign: &Campaign) ->
     ensures { Writes S.Store (OfChange campaign.now.value) (Inside HasTables (RewritesParts campaign.now people_parts)) result tx.old.conn tx.new.conn }
 {
     rewrite_marked::<Unit, S>(tx, campaign)?;
-    rewrite_marked_groups::<Unit, S>(tx, campaign)?;
+    rewrite_goods(tx, campaign)?;
     rewrite_marked::<Sequence<u8>, S>(tx, campaign)
 }
 

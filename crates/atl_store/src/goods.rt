@@ -1,51 +1,50 @@
 //! What units have, written row by row.
 ghost use Rattle.atl_store.specs.Tables.{has_table};
+ghost use Rattle.atl_store.specs.Shown.{has_row};
+ghost use Rattle.atl_store.specs.Written.{sort_number};
 ghost use Rattle.atl_store.specs.Rows.{HasRowsOf};
-ghost use Rattle.atl_store.specs.Lines.{thing_lines, sort_lines, goods_lines, unit_lines, all_goods_lines};
-ghost use Rattle.atl_store.specs.OwnStatements.{puts_has, drops_goods};
-ghost use Rattle.atl_store.specs.Writes.{WritesRows};
+ghost use Rattle.atl_store.specs.Lines.{goods_lines, unit_lines, all_goods_lines};
+ghost use Rattle.atl_store.specs.OwnStatements.{OfChange, puts_has, drops_goods};
+ghost use Rattle.atl_store.specs.Writes.{Writes, WritesRows};
+ghost use Rattle.atl_store.specs.Inside.{Inside, HasTables};
+ghost use Rattle.atl_store.specs.Rewriting.{RewritesGoods};
 
-use crate::grouped::Grouped;
+use crate::amounts::{Stocked, put_amounts};
+use crate::grouped::{Grouped, rewrite_marked_groups};
 use crate::rows::has::{HasRow, Sort, drop_goods, put_has};
+use crate::things::rewrite_sort;
 use atl_state::{Campaign, Holding, SlotEntries, Unit};
-use atl_tables::{Entries, MarkedNumbers};
+use atl_tables::MarkedNumbers;
 use sqlite::{Alter, Error, Transaction};
 
-/// Puts the row of an amount that is not 0.
-fn put_thing<S: Alter>(
-    tx: &mut Transaction<'_, S>,
+/// What a unit has of a sort.
+#[derive(Clone, Copy)]
+struct Things {
     unit: u32,
     sort: Sort,
-    thing: u32,
-    amount: u32,
-) -> Result<(), Error>
-    ensures { WritesRows S.Store has_table 3 (thing_lines unit sort thing amount) result tx.old.conn tx.new.conn }
-{
-    if amount == 0 {
-        return Ok(());
-    }
-    let row = HasRow {
-        unit,
-        sort,
-        thing,
-        amount,
-    };
-    put_has(tx, &row)
 }
 
-/// Puts the rows of all items, or of all skills.
-fn put_sort<S: Alter>(
-    tx: &mut Transaction<'_, S>,
-    unit: u32,
-    sort: Sort,
-    things: Entries<'_, u32>,
-) -> Result<(), Error>
-    ensures { WritesRows S.Store has_table 3 (sort_lines unit sort things.entry) result tx.old.conn tx.new.conn }
-{
-    for (thing, amount) in things {
-        put_thing(tx, unit, sort, thing, *amount)?;
+impl Stocked for Things {
+    ghost table = { has_table };
+
+    ghost key = { 3 };
+
+    ghost line = { λ t. has_row t.unit (sort_number t.sort) };
+
+    fn put<S: Alter>(
+        self,
+        tx: &mut Transaction<'_, S>,
+        thing: u32,
+        amount: u32,
+    ) -> Result<(), Error> {
+        let row = HasRow {
+            unit: self.unit,
+            sort: self.sort,
+            thing,
+            amount,
+        };
+        put_has(tx, &row)
     }
-    Ok(())
 }
 
 /// Puts the rows of all that a unit has.
@@ -56,8 +55,16 @@ fn put_goods<S: Alter>(
 ) -> Result<(), Error>
     ensures { WritesRows S.Store has_table 3 (goods_lines unit holding.now) result tx.old.conn tx.new.conn }
 {
-    put_sort(tx, unit, Sort::Item, holding.items())?;
-    put_sort(tx, unit, Sort::Skill, holding.days())
+    let items = Things {
+        unit,
+        sort: Sort::Item,
+    };
+    let skills = Things {
+        unit,
+        sort: Sort::Skill,
+    };
+    put_amounts(tx, items, holding.items())?;
+    put_amounts(tx, skills, holding.days())
 }
 
 /// Puts the rows of all that all units have.
@@ -80,8 +87,6 @@ impl Grouped for Unit {
 
     ghost lines = { unit_lines };
 
-    ghost values = { λ c. c.units };
-
     ghost wanted = { λ c. HasRowsOf c.units };
 
     ghost marks = { λ m. m.goods };
@@ -89,10 +94,6 @@ impl Grouped for Unit {
     ghost of_row = { λ c r is. puts_has is };
 
     ghost of_number = { λ c n. drops_goods };
-
-    fn under(campaign: &Campaign, number: u32) -> Option<&Unit> {
-        campaign.unit(number)
-    }
 
     fn marked_groups(campaign: &Campaign) -> MarkedNumbers<'_> {
         campaign.marked_goods()
@@ -105,4 +106,16 @@ impl Grouped for Unit {
     fn drop_rows<S: Alter>(tx: &mut Transaction<'_, S>, number: u32) -> Result<(), Error> {
         drop_goods(tx, number)
     }
+}
+
+/// Writes what is marked of what units have: all that a unit has, and single things.
+pub(crate) fn rewrite_goods<S: Alter>(
+    tx: &mut Transaction<'_, S>,
+    campaign: &Campaign,
+) -> Result<(), Error>
+    ensures { Writes S.Store (OfChange campaign.now.value) (Inside HasTables (RewritesGoods campaign.now)) result tx.old.conn tx.new.conn }
+{
+    rewrite_marked_groups::<Unit, S>(tx, campaign)?;
+    rewrite_sort(tx, campaign, Sort::Item)?;
+    rewrite_sort(tx, campaign, Sort::Skill)
 }

@@ -1,8 +1,6 @@
 //! What has rows in a table of their own under its number, as many as it needs: all of them are deleted and put anew.
-ghost use Rattle.std.specs.Prelude.{◌≡◌, ℕ, suc, List, [], ◌∷◌};
+ghost use Rattle.std.specs.Prelude.{ℕ, suc, List, [], ◌∷◌};
 ghost use Rattle.std.specs.Ordering.{nat_cmp};
-ghost use Rattle.std.specs.Option.{option_copied};
-ghost use Rattle.std.specs.FinMap.{FinMap, get};
 ghost use Rattle.std.specs.FinSet.{FinSet};
 ghost use Rattle.sqlite.specs.Order.{Row as SqlRow};
 ghost use Rattle.sqlite.specs.Table.{Table};
@@ -17,20 +15,19 @@ ghost use Rattle.atl_tables.specs.Tracking.{Lists};
 ghost use Rattle.atl_state.specs.Marks.{Marks};
 ghost use Rattle.atl_state.specs.Campaign.{CampaignValue};
 
+use crate::kept::Kept;
 use atl_state::Campaign;
 use atl_tables::MarkedNumbers;
 use sqlite::{Alter, Error, Transaction};
 
-/// What has rows of a table under its number, which is the first column of their key.
-pub(crate) trait Grouped: Sized {
+/// What has, beside its own row, rows of another table under its number, which is the first column of their key.
+pub(crate) trait Grouped: Kept {
     ghost table: { Table };
 
     // How many columns of the key come behind the number.
     ghost more: { ℕ };
 
     ghost lines: { ℕ → Self → List SqlRow };
-
-    ghost values: { CampaignValue → FinMap nat_cmp Self };
 
     ghost wanted: { CampaignValue → SqlRow → Type 0 };
 
@@ -39,10 +36,6 @@ pub(crate) trait Grouped: Sized {
     ghost of_row: { (c : CampaignValue) (r : SqlRow) → wanted c r → OfRow c (upsert table (suc more)) r };
 
     ghost of_number: { (c : CampaignValue) (n : ℕ) → OfChange c (deletion table 1) (int n ∷ []) };
-
-    /// What stands under a number of a campaign.
-    fn under(campaign: &Campaign, number: u32) -> Option<&Self>
-        ensures { option_copied result ≡ get (values campaign.now.value) number };
 
     /// The numbers whose rows are marked in a campaign, in rising order.
     fn marked_groups(campaign: &Campaign) -> MarkedNumbers<'_>
@@ -63,11 +56,11 @@ fn rewrite_group<V: Grouped + Drop, S: Alter>(
     campaign: &Campaign,
     number: u32,
 ) -> Result<(), Error>
-    requires { AreGroups V.Grouped.lines (suc V.Grouped.more) (V.Grouped.values campaign.now.value) (V.Grouped.wanted campaign.now.value) }
+    requires { AreGroups V.Grouped.lines (suc V.Grouped.more) (V.Kept.values campaign.now.value) (V.Grouped.wanted campaign.now.value) }
     ensures { Writes S.Store (OfChange campaign.now.value) (Inside HasTables (RewritesGroup V.Grouped.table (V.Grouped.wanted campaign.now.value) number)) result tx.old.conn tx.new.conn }
 {
     V::drop_rows(tx, number)?;
-    match V::under(campaign, number) {
+    match V::of(campaign, number) {
         Some(value) => value.put_rows(tx, number),
         None => Ok(()),
     }
@@ -78,7 +71,7 @@ pub(crate) fn rewrite_marked_groups<V: Grouped + Drop, S: Alter>(
     tx: &mut Transaction<'_, S>,
     campaign: &Campaign,
 ) -> Result<(), Error>
-    requires { AreGroups V.Grouped.lines (suc V.Grouped.more) (V.Grouped.values campaign.now.value) (V.Grouped.wanted campaign.now.value) }
+    requires { AreGroups V.Grouped.lines (suc V.Grouped.more) (V.Kept.values campaign.now.value) (V.Grouped.wanted campaign.now.value) }
     ensures { Writes S.Store (OfChange campaign.now.value) (Inside HasTables (RewritesGroups V.Grouped.table (V.Grouped.wanted campaign.now.value) (V.Grouped.marks campaign.now.marks))) result tx.old.conn tx.new.conn }
 {
     for number in V::marked_groups(campaign) {

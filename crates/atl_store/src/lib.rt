@@ -3,6 +3,7 @@
 #![tactic(auto)]
 
 mod alike;
+mod amounts;
 mod changing;
 pub mod fault;
 mod founding;
@@ -20,6 +21,7 @@ pub mod rows;
 pub mod schema;
 mod statement;
 pub mod tables;
+mod things;
 mod upgrading;
 
 pub use alike::one_database_holds_one_campaign;

@@ -2,7 +2,7 @@
 ghost use Rattle.std.specs.Prelude.{◌≡◌, false, [], ◌∷◌};
 ghost use Rattle.atl_tables.specs.declared.format.Format.TheVariants.{First};
 ghost use Rattle.atl_store.specs.Tables.{has_table};
-ghost use Rattle.atl_store.specs.Shown.{int};
+ghost use Rattle.atl_store.specs.Shown.{int, has_key};
 ghost use Rattle.atl_store.specs.Written.{has_shown, sort_number};
 ghost use Rattle.atl_store.specs.Statements.{placed_selection};
 ghost use Rattle.atl_store.specs.Writes.{WritesRow, TakesOut};
@@ -58,6 +58,23 @@ pub(crate) fn put_has<S: Alter>(tx: &mut Transaction<'_, S>, row: &HasRow) -> Re
         tx,
         "INSERT INTO has (unit, sort, thing, amount) VALUES (?1, ?2, ?3, ?4) ON CONFLICT (unit, sort, thing) DO UPDATE SET amount = ?4",
         params![row.unit, sort, row.thing, row.amount],
+    )
+}
+
+/// Deletes the row of this unit, sort and thing, where there is one.
+pub(crate) fn drop_has<S: Alter>(
+    tx: &mut Transaction<'_, S>,
+    unit: u32,
+    sort: Sort,
+    thing: u32,
+) -> Result<(), Error>
+    ensures { TakesOut S.Store has_table 3 (has_key unit (sort_number sort) thing) result tx.old.conn tx.new.conn }
+{
+    let sort = sort.number();
+    run(
+        tx,
+        "DELETE FROM has WHERE unit = ?1 AND sort = ?2 AND thing = ?3",
+        params![unit, sort, thing],
     )
 }
 

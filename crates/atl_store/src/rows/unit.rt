@@ -29,7 +29,7 @@ impl Kept for Unit {
 
     ghost values = { λ c. c.units };
 
-    ghost marks = { λ m. m.units };
+    ghost marks = { λ m. m.rows };
 
     ghost of_row = { λ c n v is. puts_unit (n, v, is, refl) };
 
@@ -40,7 +40,7 @@ impl Kept for Unit {
     }
 
     fn marked(campaign: &Campaign) -> MarkedNumbers<'_> {
-        campaign.marked_units()
+        campaign.marked_rows()
     }
 
     fn put<S: Alter>(&self, tx: &mut Transaction<'_, S>, number: u32) -> Result<(), Error> {

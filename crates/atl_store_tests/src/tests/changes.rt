@@ -211,6 +211,76 @@ fn a_unit_and_its_goods_are_written_apart(rt: HostRuntime) -> Result<(), Fail> {
     writes_unit(&rt, rt.alloc(), &mut conn)
 }
 
+/// Rows of the unit and of a skill are changed by hand; another skill and an item are marked.
+fn writes_single_things<S: Alter>(
+    rt: &impl Abort,
+    conn: &mut Connection<S>,
+    campaign: &mut Campaign,
+) -> Result<(), Fail> {
+    conn.execute_batch("UPDATE has SET amount = 31 WHERE thing = 1")?;
+    conn.execute_batch("UPDATE unit SET name = 'By hand'")?;
+    campaign.set_days(1, 4, 90)?;
+    campaign.set_item(1, 2, 5)?;
+    is_text(rt, answered(conn, campaign), "written");
+    holds(rt, conn, &SINGLE)
+}
+
+/// The rows that were changed by hand stay.
+const SINGLE: [(&str, i64); 5] = [
+    (
+        "SELECT amount FROM has WHERE unit = 1 AND sort = 1 AND thing = 1",
+        31,
+    ),
+    (
+        "SELECT amount FROM has WHERE unit = 1 AND sort = 1 AND thing = 4",
+        90,
+    ),
+    (
+        "SELECT amount FROM has WHERE unit = 1 AND sort = 0 AND thing = 2",
+        5,
+    ),
+    ("SELECT count(*) FROM has", 3),
+    ("SELECT count(*) FROM unit WHERE name = 'By hand'", 1),
+];
+
+/// A skill is forgotten, and there is an item of the number of the other.
+fn writes_none_of_a_thing<S: Alter>(
+    rt: &impl Abort,
+    conn: &mut Connection<S>,
+    campaign: &mut Campaign,
+) -> Result<(), Fail> {
+    campaign.set_days(1, 4, 0)?;
+    campaign.set_item(1, 1, 7)?;
+    is_text(rt, answered(conn, campaign), "written");
+    holds(rt, conn, &FORGOTTEN)
+}
+
+const FORGOTTEN: [(&str, i64); 4] = [
+    ("SELECT amount FROM has WHERE sort = 1 AND thing = 1", 31),
+    ("SELECT amount FROM has WHERE sort = 0 AND thing = 1", 7),
+    ("SELECT amount FROM has WHERE sort = 0 AND thing = 2", 5),
+    ("SELECT count(*) FROM has", 3),
+];
+
+fn writes_things<S: Alter>(
+    rt: &impl Abort,
+    alloc: Global,
+    conn: &mut Connection<S>,
+) -> Result<(), Fail> {
+    let mut campaign = unmarked(alloc)?;
+    writes_goods(rt, conn, &mut campaign)?;
+    writes_single_things(rt, conn, &mut campaign)?;
+    writes_none_of_a_thing(rt, conn, &mut campaign)?;
+    campaign.set_days(1, 1, 40)?;
+    writes_removal(rt, conn, &mut campaign)
+}
+
+#[test]
+fn a_marked_thing_is_written_alone(rt: HostRuntime) -> Result<(), Fail> {
+    let mut conn = visited(rt.alloc())?;
+    writes_things(&rt, rt.alloc(), &mut conn)
+}
+
 /// Nothing of the income is left.
 const UNDONE: [(&str, i64); 2] = [
     ("SELECT count(*) FROM books WHERE entry = 3", 0),

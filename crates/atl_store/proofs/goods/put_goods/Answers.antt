@@ -11,9 +11,9 @@ returns g c =
     let items = sort_lines c.args.unit Item in
     let days = sort_lines c.args.unit Skill in
     both_written g.S.Store has_table 3 (items (entries c.args.holding.now.items)) (days (entries c.args.holding.now.days))
-    (same_written g.S.Store has_table 3 _ _ (ap items c.items.ensures) c.in_ok-put_sort.ensures) (same_written g.S.Store has_table 3 _ _ (ap days c.days.ensures) c.put_sort-2.ensures)
+    (same_written g.S.Store has_table 3 _ _ (ap items c.items.ensures) c.in_ok-put_amounts.ensures) (same_written g.S.Store has_table 3 _ _ (ap days c.days.ensures) c.put_amounts-2.ensures)
 
-pub returns-in_err-put_sort : goal.returns-in_err-put_sort
-returns-in_err-put_sort g c =
+pub returns-in_err-put_amounts : goal.returns-in_err-put_amounts
+returns-in_err-put_amounts g c =
     let items = sort_lines c.args.unit Item in
-    first_failed g.S.Store has_table 3 (items (entries c.args.holding.now.items)) _ (same_written g.S.Store has_table 3 _ _ (ap items c.items.ensures) c.in_err-put_sort.ensures) c.from_residual.ensures
+    first_failed g.S.Store has_table 3 (items (entries c.args.holding.now.items)) _ (same_written g.S.Store has_table 3 _ _ (ap items c.items.ensures) c.in_err-put_amounts.ensures) c.from_residual.ensures

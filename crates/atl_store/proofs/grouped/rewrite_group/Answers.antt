@@ -10,7 +10,7 @@ returns-in_err-drop_rows g c = stops g.S.Store (among_only g.S.Store _ _ (g.V.Gr
 
 pub returns-in-Some : goal.returns-in-Some
 returns-in-Some g c =
-    let values = g.V.Grouped.values c.args.campaign.now.value in
+    let values = g.V.Kept.values c.args.campaign.now.value in
     let wanted = g.V.Grouped.wanted c.args.campaign.now.value in
     let value = c.in-Some.value.now in
     let got : get values c.args.number ≡ Some value = sym c.in-Some.ensures in
@@ -20,7 +20,7 @@ returns-in-Some g c =
 
 pub returns-in-None : goal.returns-in-None
 returns-in-None g c =
-    let values = g.V.Grouped.values c.args.campaign.now.value in
+    let values = g.V.Kept.values c.args.campaign.now.value in
     let wanted = g.V.Grouped.wanted c.args.campaign.now.value in
     weaker g.S.Store (bare_done g.V.Grouped.lines g.V.Grouped.more values wanted c.requires g.V.Grouped.table c.args.number (sym c.in-None.ensures))
     (among_only g.S.Store _ _ (g.V.Grouped.of_number c.args.campaign.now.value c.args.number) c.in_ok-drop_rows.ensures)

@@ -1,0 +1,13 @@
+use Rattle.std.proofs.Common.{Bool, if◌then◌else◌, [], ◌∷◌, ap}
+use Rattle.atl_store.specs.Lines.{thing_rows}
+use Rattle.atl_store.proofs.GoodsLaws.{is_not_zero}
+use Rattle.atl_store.proofs.PuttingLaws.{none_written, one_written}
+use Rattle.atl_store.proofs.amounts.put_some.Goals as goal
+
+pub returns : goal.returns
+returns g c =
+    let row = g.O.Stocked.line c.args.owner c.args.thing c.args.amount in
+    one_written g.S.Store g.O.Stocked.table g.O.Stocked.key row _ (ap (λ (zero : Bool). if zero then [] else row ∷ []) (is_not_zero c.args.amount c.if-amount-eq0.false)) c.put.ensures
+
+pub returns-then-amount-eq0 : goal.returns-then-amount-eq0
+returns-then-amount-eq0 g c = none_written g.S.Store g.O.Stocked.table g.O.Stocked.key _ (ap (thing_rows (g.O.Stocked.line c.args.owner) c.args.thing) c.if-amount-eq0.true)
