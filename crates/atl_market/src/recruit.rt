@@ -9,6 +9,7 @@ ghost use Rattle.atl_state.specs.Good.{IsEarly};
 ghost use Rattle.atl_state.specs.Lending.{with_holding};
 ghost use Rattle.atl_state.specs.Limits.{holding_limit, men_limit};
 ghost use Rattle.atl_state.specs.Campaign.{with_amount, with_peasants};
+ghost use Rattle.atl_instant.specs.Holdings.{MarksNoGoods};
 ghost use Rattle.atl_instant.specs.Meaning.{HaveRoom, most_moved};
 ghost use Rattle.atl_instant.specs.PhaseOrders.{orders_by_unit, written_by_unit};
 ghost use Rattle.atl_market.specs.Asking.{asked_of, count_in};
@@ -69,6 +70,7 @@ fn join_unit(campaign: &mut Campaign, unit: u32, recruits: u32, cost: u32)
     requires payable { (u : Unit) → finmap.get campaign.old.value.units unit ≡ Some u → cost ≤ u.holding.money }
     ensures what { (u : Unit) → finmap.get campaign.old.value.units unit ≡ Some u → campaign.new.value ≡ with_holding campaign.old.value unit (with_men u.holding recruits cost) }
     ensures marks { MarksChanges campaign.old campaign.new }
+    ensures goods { MarksNoGoods campaign.old.marks campaign.new.marks }
 {
     if let Some(found) = campaign.unit(unit) {
         let men = found.holding.men() + recruits;

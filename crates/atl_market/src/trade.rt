@@ -143,7 +143,7 @@ fn deal_of(trade: Trade, holding: &Holding, stock: u32, share: u32, market: &Mar
     }
 }
 
-/// Sets the money of a unit that is there, and how much of an item it has.
+/// Sets a unit's money, and how much of an item it has, where it is there.
 fn set_goods(
     campaign: &mut Campaign,
     number: u32,
@@ -155,13 +155,8 @@ fn set_goods(
     requires amount { amount ≤ holding_limit }
     ensures { OnOk result (ChangesHolding campaign.old campaign.new number (λ h. record h { money = money; items = with_amount_of h.items item amount })) }
 {
-    match campaign.unit_mut(number) {
-        Some(holding) => {
-            holding.set_money(money);
-            holding.set_amount(item, amount)
-        }
-        None => Ok(()),
-    }
+    campaign.set_money(number, money);
+    campaign.set_item(number, item, amount)
 }
 
 /// A unit of a region, the region's stock and the books become what a deal leaves of them. AllocError without memory; the
