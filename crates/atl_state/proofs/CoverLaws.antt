@@ -1,14 +1,16 @@
 -- Changes one after the other, each of which is marked.
 use Rattle.std.proofs.Common.{◌≡◌, ◌≢◌, ◌==◌, ◌||◌, ℕ, ◌<◌, Bool, true, false, Option, Some, None, refl, sym, ap, ◌∙◌, arith, true≢false}
-use Rattle.std.specs.Prelude.{ℤ, List, option_map}
+use Rattle.std.specs.Prelude.{ℤ, List, cond, is_some, option_map, unwrap_or}
 use Rattle.std.proofs.lemmas.Bool.Decides.{nat_tests}
 use Rattle.std.specs.Cmp.{nat_cmp_total, unsigned_ties}
 use Rattle.std.specs.Ordering.{nat_cmp, eq_by_cmp}
-use Rattle.std.specs.FinMap.{FinMap, get}
+use Rattle.std.specs.FinMap.{FinMap, get, get-insert}
 use Rattle.std.specs.FinMap as map
 use Rattle.std.specs.FinSet.{FinSet, contains, insert, contains-insert}
+use Rattle.atl_tables.specs.Groups.{group_of}
 use Rattle.atl_tables.specs.Sums.{changed, changed_at}
 use Rattle.atl_tables.specs.Tracking.{marked_with}
+use Rattle.atl_tables.proofs.GeneralLaws.{same_key}
 use Rattle.atl_state.specs.declared.books.Entry.{Entry}
 use Rattle.atl_state.specs.declared.books.Thing.{Thing}
 use Rattle.atl_state.specs.declared.records.Faction.{Faction}
@@ -16,9 +18,9 @@ use Rattle.atl_state.specs.declared.records.Region.{Region}
 use Rattle.atl_state.specs.declared.records.Structure.{Structure}
 use Rattle.atl_state.specs.declared.records.Unit.{Unit}
 use Rattle.atl_state.specs.Books.{IsGrid, amount_in, thing_place}
-use Rattle.atl_state.specs.Covers.{Covers, StaysMarked, StayMarked, MarksChanges, bare, goods_under, own_row}
+use Rattle.atl_state.specs.Covers.{Covers, ThingsStayMarked, StaysMarked, StayMarked, MarksChanges, bare, days_under, items_under, own_row}
 use Rattle.atl_state.specs.Marking.{mark_amount, mark_faction, mark_region}
-use Rattle.atl_state.specs.Marks.{Marks, amount_number}
+use Rattle.atl_state.specs.Marks.{Marks, Things, amount_number, is_thing_marked, with_thing}
 use Rattle.atl_state.specs.Campaign.{CampaignValue, MarkedCampaign, faction_changed, region_changed, with_amount}
 use Rattle.atl_state.proofs.EveryLaws.{get-insert_other}
 use Rattle.atl_state.proofs.RegionLaws.{amount-other}
@@ -39,7 +41,10 @@ stay-trans one two = record {
   mail = λ n h. two.mail n (one.mail n h);
   reports = λ n h. two.reports n (one.reports n h);
   units = λ n h. two.units n (one.units n h);
+  rows = λ n h. two.rows n (one.rows n h);
   goods = λ n h. two.goods n (one.goods n h);
+  items = λ n t h. two.items n t (one.items n t h);
+  skills = λ n t h. two.skills n t (one.skills n t h);
   books = λ n h. two.books n (one.books n h);
   row = λ h. two.row (one.row h);
 }
@@ -52,8 +57,9 @@ covers-trans {m} {n} a b c stay one two = record {
   structures = λ k free. two.structures k free ∙ one.structures k (was_unmarked m.structures n.structures stay.structures k free);
   mail = λ k free. two.mail k free ∙ one.mail k (was_unmarked m.mail n.mail stay.mail k free);
   reports = λ k free. two.reports k free ∙ one.reports k (was_unmarked m.reports n.reports stay.reports k free);
-  units = λ k free. two.units k free ∙ one.units k (was_unmarked m.units n.units stay.units k free);
-  goods = λ k free. two.goods k free ∙ one.goods k (was_unmarked m.goods n.goods stay.goods k free);
+  units = λ k free. two.units k free ∙ one.units k (was_unmarked m.rows n.rows stay.rows k free);
+  items = λ k t free. two.items k t free ∙ one.items k t (unmarked (is_thing_marked m.goods m.items k t) (is_thing_marked n.goods n.items k t) (stay.items k t) free);
+  days = λ k t free. two.days k t free ∙ one.days k t (unmarked (is_thing_marked m.goods m.skills k t) (is_thing_marked n.goods n.skills k t) (stay.skills k t) free);
   books = λ e t free. two.books e t free ∙ one.books e t (was_unmarked m.books n.books stay.books (amount_number e t) free);
   row = λ free. two.row free ∙ one.row (unmarked m.row n.row stay.row free);
 }
@@ -80,6 +86,54 @@ put_there marks n k e = contains-insert nat_cmp_total marks n k ∙ ap (λ b. b 
 pub apart_by : (marks : FinSet nat_cmp) (n k : ℕ) → contains (insert marks n) k ≡ false → k ≢ n
 apart_by marks n k free same = absurd (true≢false (sym (put_there marks n k same) ∙ free))
 
+-- ---- things of units
+
+-- what is marked by one of two tests, where each test is as it was or says more
+both_stay : (a b c d : Bool) → (a ≡ true → b ≡ true) → (c ≡ true → d ≡ true) → (a || c) ≡ true → (b || d) ≡ true
+both_stay true b c d one two h = ap (λ x. x || d) (one refl)
+both_stay false b c d one two h = ap (λ x. b || x) (two h) ∙ or-true b
+
+neither : (a b : Bool) → (a || b) ≡ false → (a ≡ false) × (b ≡ false)
+neither true b h = absurd (true≢false h)
+neither false b h = (refl, h)
+
+-- a thing is still marked where all goods of a unit are besides, and one that is not marked then is of another unit
+pub whole_stays : (goods : FinSet nat_cmp) (things : Things) (n : ℕ) → ThingsStayMarked goods things (insert goods n) things
+whole_stays goods things n k t = both_stay (contains goods k) (contains (insert goods n) k) (is_some (get (group_of things k) t)) (is_some (get (group_of things k) t)) (put_stays goods n k) (λ h. h)
+
+pub apart_by_whole : (goods : FinSet nat_cmp) (things : Things) (n k t : ℕ) → is_thing_marked (insert goods n) things k t ≡ false → k ≢ n
+apart_by_whole goods things n k t free = apart_by goods n k (neither (contains (insert goods n) k) (is_some (get (group_of things k) t)) free).0
+
+module _ (goods : FinSet nat_cmp) (things : Things) (n thing : ℕ) where
+  -- what of a unit's things is marked after one of them was
+  put_in : (k t : ℕ) → is_some (get (group_of (with_thing things n thing) k) t) ≡ cond (eq_by_cmp nat_cmp k n) (eq_by_cmp nat_cmp t thing || is_some (get (group_of things n) t)) (is_some (get (group_of things k) t))
+  put_in k t =
+      ap (λ (o : Option (FinMap nat_cmp (Prim.Unit {0}))). is_some (get (unwrap_or o map.empty) t)) (get-insert nat_cmp_total things n (map.insert (group_of things n) thing tt) k)
+      ∙ by_unit (eq_by_cmp nat_cmp k n)
+    where
+      by_thing : (b : Bool) (o : Option (Prim.Unit {0})) → is_some (cond b (Some tt) o) ≡ (b || is_some o)
+      by_thing true o = refl
+      by_thing false o = refl
+
+      by_unit : (b : Bool) → is_some (get (unwrap_or (cond b (Some (map.insert (group_of things n) thing tt)) (get things k)) map.empty) t)
+          ≡ cond b (eq_by_cmp nat_cmp t thing || is_some (get (group_of things n) t)) (is_some (get (group_of things k) t))
+      by_unit true = ap is_some (get-insert nat_cmp_total (group_of things n) thing tt t) ∙ by_thing (eq_by_cmp nat_cmp t thing) (get (group_of things n) t)
+      by_unit false = refl
+
+  -- a thing is still marked where one is besides, and one that is not marked then is another
+  pub thing_stays : ThingsStayMarked goods things goods (with_thing things n thing)
+  thing_stays k t = both_stay (contains goods k) (contains goods k) (is_some (get (group_of things k) t)) (is_some (get (group_of (with_thing things n thing) k) t)) (λ h. h) (λ h. put_in k t ∙ by_unit h (eq_by_cmp nat_cmp k n) refl)
+    where
+      by_unit : is_some (get (group_of things k) t) ≡ true → (b : Bool) → eq_by_cmp nat_cmp k n ≡ b → cond b (eq_by_cmp nat_cmp t thing || is_some (get (group_of things n) t)) (is_some (get (group_of things k) t)) ≡ true
+      by_unit h true e = ap (λ q. eq_by_cmp nat_cmp t thing || is_some (get (group_of things q) t)) (sym (same_key k n e)) ∙ ap (λ b. eq_by_cmp nat_cmp t thing || b) h ∙ or-true (eq_by_cmp nat_cmp t thing)
+      by_unit h false e = h
+
+  pub apart_by_thing : (k t : ℕ) → is_thing_marked goods (with_thing things n thing) k t ≡ false → k ≡ n → t ≢ thing
+  apart_by_thing k t free same_unit same =
+      let there = put_in k t ∙ ap (λ b. cond b (eq_by_cmp nat_cmp t thing || is_some (get (group_of things n) t)) (is_some (get (group_of things k) t))) (ties k n same_unit)
+          ∙ ap (λ b. b || is_some (get (group_of things n) t)) (ties t thing same) in
+      absurd (true≢false (sym there ∙ (neither (contains goods k) (is_some (get (group_of (with_thing things n thing) k) t)) free).1))
+
 -- ---- the parts of a campaign, which are marked each for itself
 
 pub data Part : Type 0 where
@@ -89,12 +143,17 @@ pub data Part : Type 0 where
   Mail : Part
   Reports : Part
   Units : Part
+  Rows : Part
   Goods : Part
+  Items : Part
+  Skills : Part
   Books : Part
   Row : Part
 
--- what a mark of a part is
+-- what a mark of a part is: of an item or a skill its unit's number and its own
 abbrev pub Mark : Part → Type 0
+Mark Items = ℕ × ℕ
+Mark Skills = ℕ × ℕ
 Mark Row = Prim.Unit {0}
 Mark _ = ℕ
 
@@ -105,12 +164,17 @@ is_marked Structures m k = contains m.structures k
 is_marked Mail m k = contains m.mail k
 is_marked Reports m k = contains m.reports k
 is_marked Units m k = contains m.units k
+is_marked Rows m k = contains m.rows k
 is_marked Goods m k = contains m.goods k
+is_marked Items m k = is_thing_marked m.goods m.items k.0 k.1
+is_marked Skills m k = is_thing_marked m.goods m.skills k.0 k.1
 is_marked Books m k = contains m.books k
 is_marked Row m k = m.row
 
 -- where something of a part stands, and the mark of it
 abbrev pub Place : Part → Type 0
+Place Items = ℕ × ℕ
+Place Skills = ℕ × ℕ
 Place Books = Entry × Thing
 Place Row = Prim.Unit {0}
 Place _ = ℕ
@@ -119,15 +183,18 @@ abbrev pub mark_at : (p : Part) → Place p → Mark p
 mark_at Books k = amount_number k.0 k.1
 mark_at _ k = k
 
--- what is shown of one
+-- what is shown of one; of a unit and of all its goods nothing, as its row, its items and its skills are parts of their own
 abbrev pub Shown : Part → Type 0
 Shown Factions = Option Faction
 Shown Regions = Option Region
 Shown Structures = Option Structure
 Shown Mail = Option (List ℕ)
 Shown Reports = Option (List ℕ)
-Shown Units = Option Unit
-Shown Goods = FinMap nat_cmp ℕ × FinMap nat_cmp ℕ
+Shown Units = Prim.Unit {0}
+Shown Rows = Option Unit
+Shown Goods = Prim.Unit {0}
+Shown Items = Option ℕ
+Shown Skills = Option ℕ
 Shown Books = ℤ
 Shown Row = ℕ × (List ℕ × (ℕ × (ℕ × ℕ)))
 
@@ -137,8 +204,11 @@ shown Regions c k = get c.regions k
 shown Structures c k = get c.structures k
 shown Mail c k = get c.mail k
 shown Reports c k = get c.reports k
-shown Units c k = option_map bare (get c.units k)
-shown Goods c k = goods_under (get c.units k)
+shown Units c k = tt
+shown Rows c k = option_map bare (get c.units k)
+shown Goods c k = tt
+shown Items c k = get (items_under (get c.units k.0)) k.1
+shown Skills c k = get (days_under (get c.units k.0)) k.1
 shown Books c k = amount_in c.books k.0 k.1
 shown Row c k = own_row c
 
@@ -151,15 +221,29 @@ Tells m before after p = (k : Place p) → is_marked p m (mark_at p k) ≡ false
 
 pub part_by_part : (a b : MarkedCampaign) → ((p : Part) → Stays a.marks b.marks p) → ((p : Part) → Tells b.marks a.value b.value p) → MarksChanges a b
 part_by_part a b stays tells = record {
-  stay = record { factions = stays Factions; regions = stays Regions; structures = stays Structures; mail = stays Mail; reports = stays Reports; units = stays Units; goods = stays Goods; books = stays Books; row = stays Row tt };
+  stay = record {
+    factions = stays Factions;
+    regions = stays Regions;
+    structures = stays Structures;
+    mail = stays Mail;
+    reports = stays Reports;
+    units = stays Units;
+    rows = stays Rows;
+    goods = stays Goods;
+    items = λ n t. stays Items (n, t);
+    skills = λ n t. stays Skills (n, t);
+    books = stays Books;
+    row = stays Row tt;
+  };
   covers = record {
     factions = tells Factions;
     regions = tells Regions;
     structures = tells Structures;
     mail = tells Mail;
     reports = tells Reports;
-    units = tells Units;
-    goods = tells Goods;
+    units = tells Rows;
+    items = λ n t. tells Items (n, t);
+    days = λ n t. tells Skills (n, t);
     books = λ e t. tells Books (e, t);
     row = tells Row tt;
   };
@@ -168,21 +252,21 @@ part_by_part a b stays tells = record {
 pub marks-refl : (a : MarkedCampaign) → MarksChanges a a
 marks-refl a = part_by_part a a (λ p k h. h) (λ p k free. refl)
 
--- what becomes of values and their marks, where the value under a number is changed and marked if it is there
-pub changed_there : {V : Type 0} (P : FinMap nat_cmp V → FinSet nat_cmp → Type 0) (f : V → V) (values : FinMap nat_cmp V) (marks : FinSet nat_cmp) (n : ℕ)
-    → P values marks → ((v : V) → get values n ≡ Some v → P (map.insert values n (f v)) (insert marks n)) → P (changed f values n) (marked_with marks n (get values n))
-changed_there {V} P f values marks n none some = by_value (get values n) refl
+-- what becomes of values where the one under a number is changed, if it is there
+pub changed_there : {V : Type 0} (P : FinMap nat_cmp V → Option V → Type 0) (f : V → V) (values : FinMap nat_cmp V) (n : ℕ)
+    → P values None → ((v : V) → get values n ≡ Some v → P (map.insert values n (f v)) (Some v)) → P (changed f values n) (get values n)
+changed_there {V} P f values n none some = by_value (get values n) refl
   where
-    by_value : (o : Option V) → get values n ≡ o → P (changed_at f values n o) (marked_with marks n o)
+    by_value : (o : Option V) → get values n ≡ o → P (changed_at f values n o) o
     by_value None is = none
     by_value (Some v) is = some v is
 
 -- a faction that is changed and marked
 pub marks-faction : (f : Faction → Faction) (c : MarkedCampaign) (n : ℕ) → MarksChanges c (record { value = faction_changed f c.value n; marks = mark_faction c n })
 marks-faction f c n =
-    let after : FinMap nat_cmp Faction → FinSet nat_cmp → MarkedCampaign = λ m k. record { value = record c.value { factions = m }; marks = record c.marks { factions = k } } in
-    changed_there (λ m k. MarksChanges c (after m k)) f c.value.factions c.marks.factions n (marks-refl c) (λ v is.
-    let next = after (map.insert c.value.factions n (f v)) (insert c.marks.factions n) in
+    let after : FinMap nat_cmp Faction → Option Faction → MarkedCampaign = λ m o. record { value = record c.value { factions = m }; marks = record c.marks { factions = marked_with c.marks.factions n o } } in
+    changed_there (λ m o. MarksChanges c (after m o)) f c.value.factions n (marks-refl c) (λ v is.
+    let next = after (map.insert c.value.factions n (f v)) (Some v) in
     part_by_part c next
     (λ p. elim p as (Stays c.marks next.marks) [ Factions ↦ put_stays c.marks.factions n | _ ↦ λ k h. h ])
     (λ p. elim p as (Tells next.marks c.value next.value) [ Factions ↦ λ k free. get-insert_other c.value.factions n k (f v) (apart_by c.marks.factions n k free) | _ ↦ λ k free. refl ]))
@@ -190,23 +274,31 @@ marks-faction f c n =
 -- a region that is changed and marked
 pub marks-region : (f : Region → Region) (c : MarkedCampaign) (n : ℕ) → MarksChanges c (record { value = region_changed f c.value n; marks = mark_region c n })
 marks-region f c n =
-    let after : FinMap nat_cmp Region → FinSet nat_cmp → MarkedCampaign = λ m k. record { value = record c.value { regions = m }; marks = record c.marks { regions = k } } in
-    changed_there (λ m k. MarksChanges c (after m k)) f c.value.regions c.marks.regions n (marks-refl c) (λ v is.
-    let next = after (map.insert c.value.regions n (f v)) (insert c.marks.regions n) in
+    let after : FinMap nat_cmp Region → Option Region → MarkedCampaign = λ m o. record { value = record c.value { regions = m }; marks = record c.marks { regions = marked_with c.marks.regions n o } } in
+    changed_there (λ m o. MarksChanges c (after m o)) f c.value.regions n (marks-refl c) (λ v is.
+    let next = after (map.insert c.value.regions n (f v)) (Some v) in
     part_by_part c next
     (λ p. elim p as (Stays c.marks next.marks) [ Regions ↦ put_stays c.marks.regions n | _ ↦ λ k h. h ])
     (λ p. elim p as (Tells next.marks c.value next.value) [ Regions ↦ λ k free. get-insert_other c.value.regions n k (f v) (apart_by c.marks.regions n k free) | _ ↦ λ k free. refl ]))
 
 -- units that are as they were but for one number, which is marked with its goods
 pub marks-unit : (c : MarkedCampaign) (units : FinMap nat_cmp Unit) (n : ℕ) → ((k : ℕ) → k ≢ n → get units k ≡ get c.value.units k)
-    → MarksChanges c (record { value = record c.value { units = units }; marks = record c.marks { units = insert c.marks.units n; goods = insert c.marks.goods n } })
+    → MarksChanges c (record { value = record c.value { units = units }; marks = record c.marks { units = insert c.marks.units n; rows = insert c.marks.rows n; goods = insert c.marks.goods n } })
 marks-unit c units n others =
-    let next : MarkedCampaign = record { value = record c.value { units = units }; marks = record c.marks { units = insert c.marks.units n; goods = insert c.marks.goods n } } in
+    let next : MarkedCampaign = record { value = record c.value { units = units }; marks = record c.marks { units = insert c.marks.units n; rows = insert c.marks.rows n; goods = insert c.marks.goods n } } in
     part_by_part c next
-    (λ p. elim p as (Stays c.marks next.marks) [ Units ↦ put_stays c.marks.units n | Goods ↦ put_stays c.marks.goods n | _ ↦ λ k h. h ])
+    (λ p. elim p as (Stays c.marks next.marks) [
+      | Units ↦ put_stays c.marks.units n
+      | Rows ↦ put_stays c.marks.rows n
+      | Goods ↦ put_stays c.marks.goods n
+      | Items ↦ λ k h. whole_stays c.marks.goods c.marks.items n k.0 k.1 h
+      | Skills ↦ λ k h. whole_stays c.marks.goods c.marks.skills n k.0 k.1 h
+      | _ ↦ λ k h. h
+    ])
     (λ p. elim p as (Tells next.marks c.value next.value) [
-      | Units ↦ λ k free. ap (option_map bare) (others k (apart_by c.marks.units n k free))
-      | Goods ↦ λ k free. ap goods_under (others k (apart_by c.marks.goods n k free))
+      | Rows ↦ λ k free. ap (option_map bare) (others k (apart_by c.marks.rows n k free))
+      | Items ↦ λ k free. ap (λ o. get (items_under o) k.1) (others k.0 (apart_by_whole c.marks.goods c.marks.items n k.0 k.1 free))
+      | Skills ↦ λ k free. ap (λ o. get (days_under o) k.1) (others k.0 (apart_by_whole c.marks.goods c.marks.skills n k.0 k.1 free))
       | _ ↦ λ k free. refl
     ])
 

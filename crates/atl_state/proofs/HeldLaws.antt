@@ -9,8 +9,8 @@ use Rattle.std.specs.FinMap.{FinMap, get, get-insert, get-remove, insert, remove
 use Rattle.atl_state.specs.Good.{Every}
 use Rattle.atl_state.specs.Held.{AreAmounts, Held, IsHolding, amount_of, with_amount_of}
 use Rattle.atl_state.specs.Limits.{holding_limit}
-use Rattle.atl_state.proofs.EveryLaws.{every-insert}
-use Rattle.atl_state.proofs.RemovedLaws.{every-remove}
+use Rattle.atl_state.proofs.EveryLaws.{every-insert, get-insert_other}
+use Rattle.atl_state.proofs.RemovedLaws.{every-remove, get-remove_other}
 
 -- what is so of the amount that is set is so of each
 pub every_amount : (P : ℕ → ℕ → Type 0) (items : FinMap nat_cmp ℕ) (i amount : ℕ) → (1 ≤ amount → P i amount) → Every P items → Every P (with_amount_of items i amount)
@@ -61,6 +61,13 @@ module _ (items : FinMap nat_cmp ℕ) (i amount : ℕ) where
     | inl same ↦ absurd (apart (alike i j same))
     | inr other ↦ set_amount items i amount j ∙ ap (λ b. cond b amount (amount_of items j)) other
   ]
+
+  pub get-set_other : (j : ℕ) → j ≢ i → get (with_amount_of items i amount) j ≡ get items j
+  get-set_other j apart = by_zero (amount == 0)
+    where
+      by_zero : (b : Bool) → get (if b then remove items i else insert items i amount) j ≡ get items j
+      by_zero true = get-remove_other items i j apart
+      by_zero false = get-insert_other items i j amount apart
 
 -- ---- a unit's amounts stay within the limits, whether there was memory or not
 pub AreAmounts-set : {E : Type 0} (r : Result (Unit {0}) E) (old new : FinMap nat_cmp ℕ) (item amount : ℕ) → amount ≤ holding_limit → OnOk r (new ≡ with_amount_of old item amount) → OnErr r (new ≡ old) → AreAmounts old → AreAmounts new

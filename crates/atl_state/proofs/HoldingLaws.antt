@@ -1,7 +1,7 @@
 -- How a campaign changes with what one unit holds.
 use Rattle.std.proofs.Common.{◌≡◌, ◌≢◌, ◌==◌, ℕ, ◌+◌, ◌*◌, ◌≤◌, ◌<◌, Bool, true, cond, Option, Some, None, length, refl, sym, ap, ◌∙◌, arith}
 use Rattle.std.specs.Prelude.{IsTrue, option_map}
-use Rattle.std.specs.Ordering.{nat_cmp, is_eq}
+use Rattle.std.specs.Ordering.{nat_cmp, eq_by_cmp}
 use Rattle.std.specs.Cmp.{nat_cmp_total, ranked}
 use Rattle.std.specs.declared.cmp.Ordering.TheVariants.{Less, Equal, Greater}
 use Rattle.std.specs.FinMap.{FinMap, get, insert, get-insert, nat_cmp-IsAntisymmetric}
@@ -10,20 +10,23 @@ use Rattle.atl_tables.specs.Names.{name_ok}
 use Rattle.atl_tables.specs.Worlds.{WorldValue}
 use Rattle.atl_tables.specs.Sums.{sum_over}
 use Rattle.atl_tables.specs.Tracking.{marked_with}
+use Rattle.atl_tables.proofs.GeneralLaws.{same_key}
 use Rattle.atl_tables.proofs.SumLaws.{numbers_where-insert_known, sum_over-insert_known}
-use Rattle.atl_state.specs.Covers.{MarksChanges, bare, goods_under}
+use Rattle.atl_state.specs.Covers.{MarksChanges, bare, days_under, items_under}
 use Rattle.atl_state.specs.Limits.{holding_limit, most_days}
 use Rattle.atl_state.specs.declared.books.Thing.{Thing}
 use Rattle.atl_state.specs.declared.records.Region.{Region}
 use Rattle.atl_state.specs.declared.records.Unit.{Unit}
 use Rattle.atl_state.specs.Good.{AreAfloat, AreInRange, AreKnown, AreNumbered, AreOfOneFaction, AreOwned, Every, GoneHaveNone, IsPlaced, IsSteady, guards}
-use Rattle.atl_state.specs.Held.{Held, IsHolding}
+use Rattle.atl_state.specs.Held.{Held, IsHolding, with_amount_of}
 use Rattle.atl_state.specs.Lending.{lent, with_held}
-use Rattle.atl_state.specs.Marking.{mark_unit_row}
-use Rattle.atl_state.specs.Campaign.{MarkedCampaign, CampaignValue, unit_changed}
+use Rattle.atl_state.specs.Marking.{mark_item, mark_skill, mark_unit_row}
+use Rattle.atl_state.specs.Marks.{thing_marked}
+use Rattle.atl_state.specs.Campaign.{MarkedCampaign, CampaignValue, unit_changed, with_item, with_skill}
 use Rattle.atl_state.specs.Totals.{held, kept, total}
-use Rattle.atl_state.proofs.CoverLaws.{Goods, Stays, Tells, Units, apart_by, changed_there, marks-refl, marks-unit, part_by_part, put_stays}
+use Rattle.atl_state.proofs.CoverLaws.{Items, Rows, Skills, Stays, Tells, Units, apart_by, apart_by_thing, changed_there, marks-refl, marks-unit, part_by_part, put_stays, thing_stays}
 use Rattle.atl_state.proofs.EveryLaws.{every-insert, get-insert_other, none_some, there-insert}
+use Rattle.atl_state.proofs.HeldLaws.{get-set_other}
 use Rattle.atl_state.proofs.RegionLaws.{get-insert_same, same_len}
 
 -- What a unit of a steady campaign may hold in the place of what it holds: within the limits, of what the world has, and it guards only if it did.
@@ -171,33 +174,68 @@ module _ (w : WorldValue) (c : CampaignValue) (n : ℕ) (u : Unit) (h : Held) (i
 
 -- ---- what is marked
 
+-- what is shown of a unit, where another shows the same or is under another number
+shown_still : {X : Type 0} (shown : Option Unit → X) (units : FinMap nat_cmp Unit) (n k : ℕ) (u v : Unit) → get units n ≡ Some u → (k ≡ n → shown (Some v) ≡ shown (Some u)) → shown (get (insert units n v) k) ≡ shown (get units k)
+shown_still shown units n k u v is same = ap shown (get-insert nat_cmp_total units n v k) ∙ by_number (eq_by_cmp nat_cmp k n) refl
+  where
+    by_number : (b : Bool) → eq_by_cmp nat_cmp k n ≡ b → shown (cond b (Some v) (get units k)) ≡ shown (get units k)
+    by_number true e = let here = same_key k n e in same here ∙ sym (ap shown (ap (get units) here ∙ is))
+    by_number false e = refl
+
+abbrev goods_of : Unit → FinMap nat_cmp ℕ × FinMap nat_cmp ℕ
+goods_of u = (u.holding.items, u.holding.days)
+
 -- a unit whose row is changed and marked, and whose goods stay
-pub marks-unit_row : (f : Unit → Unit) → ((u : Unit) → goods_under (Some (f u)) ≡ goods_under (Some u)) → (c : MarkedCampaign) (n : ℕ) → MarksChanges c (record { value = unit_changed f c.value n; marks = mark_unit_row c n })
+pub marks-unit_row : (f : Unit → Unit) → ((u : Unit) → goods_of (f u) ≡ goods_of u) → (c : MarkedCampaign) (n : ℕ) → MarksChanges c (record { value = unit_changed f c.value n; marks = mark_unit_row c n })
 marks-unit_row f same c n =
-    let after : FinMap nat_cmp Unit → set.FinSet nat_cmp → MarkedCampaign = λ m k. record { value = record c.value { units = m }; marks = record c.marks { units = k } } in
-    changed_there (λ m k. MarksChanges c (after m k)) f c.value.units c.marks.units n (marks-refl c) (λ u is.
-    let next = after (insert c.value.units n (f u)) (set.insert c.marks.units n) in
+    let after : FinMap nat_cmp Unit → Option Unit → MarkedCampaign = λ m o. record { value = record c.value { units = m }; marks = record c.marks { units = marked_with c.marks.units n o; rows = marked_with c.marks.rows n o } } in
+    changed_there (λ m o. MarksChanges c (after m o)) f c.value.units n (marks-refl c) (λ u is.
+    let next = after (insert c.value.units n (f u)) (Some u) in
     part_by_part c next
-    (λ p. elim p as (Stays c.marks next.marks) [ Units ↦ put_stays c.marks.units n | _ ↦ λ k h. h ])
+    (λ p. elim p as (Stays c.marks next.marks) [ Units ↦ put_stays c.marks.units n | Rows ↦ put_stays c.marks.rows n | _ ↦ λ k h. h ])
     (λ p. elim p as (Tells next.marks c.value next.value) [
-      | Units ↦ λ k free. ap (option_map bare) (get-insert_other c.value.units n k (f u) (apart_by c.marks.units n k free))
-      | Goods ↦ λ k free. goods_kept u is k
+      | Rows ↦ λ k free. ap (option_map bare) (get-insert_other c.value.units n k (f u) (apart_by c.marks.rows n k free))
+      | Items ↦ λ k free. shown_still (λ o. get (items_under o) k.1) c.value.units n k.0 u (f u) is (λ _. ap (λ (g : FinMap nat_cmp ℕ × FinMap nat_cmp ℕ). get g.0 k.1) (same u))
+      | Skills ↦ λ k free. shown_still (λ o. get (days_under o) k.1) c.value.units n k.0 u (f u) is (λ _. ap (λ (g : FinMap nat_cmp ℕ × FinMap nat_cmp ℕ). get g.1 k.1) (same u))
       | _ ↦ λ k free. refl
     ]))
-  where
-    goods_kept : (u : Unit) → get c.value.units n ≡ Some u → (k : ℕ) → goods_under (get (insert c.value.units n (f u)) k) ≡ goods_under (get c.value.units k)
-    goods_kept u is k =
-        ap goods_under (get-insert nat_cmp_total c.value.units n (f u) k)
-        ∙ elim (nat_cmp k n) as (λ o. nat_cmp k n ≡ o → goods_under (cond (is_eq o) (Some (f u)) (get c.value.units k)) ≡ goods_under (get c.value.units k)) [
-          | Less ↦ λ o. refl
-          | Equal ↦ λ o. same u ∙ sym (ap goods_under (ap (get c.value.units) (nat_cmp-IsAntisymmetric k n o) ∙ is))
-          | Greater ↦ λ o. refl
-        ] refl
+
+-- a unit of which one item is changed and marked
+pub marks-item : (c : MarkedCampaign) (n item amount : ℕ) → MarksChanges c (record { value = with_item c.value n item amount; marks = mark_item c n item })
+marks-item c n item amount =
+    let with_other : Unit → Unit = λ u. record u { holding = record u.holding { items = with_amount_of u.holding.items item amount } } in
+    let after : FinMap nat_cmp Unit → Option Unit → MarkedCampaign = λ m o. record { value = record c.value { units = m }; marks = record c.marks { units = marked_with c.marks.units n o; items = thing_marked c.marks.items n item o } } in
+    changed_there (λ m o. MarksChanges c (after m o)) with_other c.value.units n (marks-refl c) (λ u is.
+    let next = after (insert c.value.units n (with_other u)) (Some u) in
+    part_by_part c next
+    (λ p. elim p as (Stays c.marks next.marks) [ Units ↦ put_stays c.marks.units n | Items ↦ λ k h. thing_stays c.marks.goods c.marks.items n item k.0 k.1 h | _ ↦ λ k h. h ])
+    (λ p. elim p as (Tells next.marks c.value next.value) [
+      | Rows ↦ λ k free. shown_still (option_map bare) c.value.units n k u (with_other u) is (λ _. refl)
+      | Items ↦ λ k free. shown_still (λ o. get (items_under o) k.1) c.value.units n k.0 u (with_other u) is (λ here. get-set_other u.holding.items item amount k.1 (apart_by_thing c.marks.goods c.marks.items n item k.0 k.1 free here))
+      | Skills ↦ λ k free. shown_still (λ o. get (days_under o) k.1) c.value.units n k.0 u (with_other u) is (λ _. refl)
+      | _ ↦ λ k free. refl
+    ]))
+
+-- likewise a skill
+pub marks-skill : (c : MarkedCampaign) (n skill days : ℕ) → MarksChanges c (record { value = with_skill c.value n skill days; marks = mark_skill c n skill })
+marks-skill c n skill days =
+    let with_other : Unit → Unit = λ u. record u { holding = record u.holding { days = with_amount_of u.holding.days skill days } } in
+    let after : FinMap nat_cmp Unit → Option Unit → MarkedCampaign = λ m o. record { value = record c.value { units = m }; marks = record c.marks { units = marked_with c.marks.units n o; skills = thing_marked c.marks.skills n skill o } } in
+    changed_there (λ m o. MarksChanges c (after m o)) with_other c.value.units n (marks-refl c) (λ u is.
+    let next = after (insert c.value.units n (with_other u)) (Some u) in
+    part_by_part c next
+    (λ p. elim p as (Stays c.marks next.marks) [ Units ↦ put_stays c.marks.units n | Skills ↦ λ k h. thing_stays c.marks.goods c.marks.skills n skill k.0 k.1 h | _ ↦ λ k h. h ])
+    (λ p. elim p as (Tells next.marks c.value next.value) [
+      | Rows ↦ λ k free. shown_still (option_map bare) c.value.units n k u (with_other u) is (λ _. refl)
+      | Items ↦ λ k free. shown_still (λ o. get (items_under o) k.1) c.value.units n k.0 u (with_other u) is (λ _. refl)
+      | Skills ↦ λ k free. shown_still (λ o. get (days_under o) k.1) c.value.units n k.0 u (with_other u) is (λ here. get-set_other u.holding.days skill days k.1 (apart_by_thing c.marks.goods c.marks.skills n skill k.0 k.1 free here))
+      | _ ↦ λ k free. refl
+    ]))
 
 -- a unit's holding that was lent
 pub marks-lent : (c : MarkedCampaign) (n : ℕ) (h : Held) → MarksChanges c (lent c n h)
 marks-lent c n h = by_unit (get c.value.units n)
   where
-    by_unit : (o : Option Unit) → MarksChanges c (record { value = with_held c.value n h o; marks = record c.marks { units = marked_with c.marks.units n o; goods = marked_with c.marks.goods n o } })
+    by_unit : (o : Option Unit) → MarksChanges c (record { value = with_held c.value n h o; marks = record c.marks { units = marked_with c.marks.units n o; rows = marked_with c.marks.rows n o; goods = marked_with c.marks.goods n o } })
     by_unit None = marks-refl c
     by_unit (Some u) = let v = record u { holding = h } in marks-unit c (insert c.value.units n v) n (λ k apart. get-insert_other c.value.units n k v apart)

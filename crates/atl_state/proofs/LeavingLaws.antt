@@ -308,9 +308,9 @@ module _ (w : WorldValue) (c : CampaignValue) (n : ℕ) (u : Unit) (is : get c.u
 -- a structure that is changed and marked
 pub marks-structure : (f : Structure → Structure) (c : MarkedCampaign) (n : ℕ) → MarksChanges c (record { value = structure_changed f c.value n; marks = mark_structure c n })
 marks-structure f c n =
-    let after : FinMap nat_cmp Structure → set.FinSet nat_cmp → MarkedCampaign = λ m k. record { value = record c.value { structures = m }; marks = record c.marks { structures = k } } in
-    changed_there (λ m k. MarksChanges c (after m k)) f c.value.structures c.marks.structures n (marks-refl c) (λ v is.
-    let next = after (insert c.value.structures n (f v)) (set.insert c.marks.structures n) in
+    let after : FinMap nat_cmp Structure → Option Structure → MarkedCampaign = λ m o. record { value = record c.value { structures = m }; marks = record c.marks { structures = marked_with c.marks.structures n o } } in
+    changed_there (λ m o. MarksChanges c (after m o)) f c.value.structures n (marks-refl c) (λ v is.
+    let next = after (insert c.value.structures n (f v)) (Some v) in
     part_by_part c next
     (λ p. elim p as (Stays c.marks next.marks) [ Structures ↦ put_stays c.marks.structures n | _ ↦ λ k h. h ])
     (λ p. elim p as (Tells next.marks c.value next.value) [ Structures ↦ λ k free. get-insert_other c.value.structures n k (f v) (apart_by c.marks.structures n k free) | _ ↦ λ k free. refl ]))
@@ -329,7 +329,7 @@ marks-taken c n = by_unit (get c.value.units n) refl
     by_unit : (o : Option Unit) → get c.value.units n ≡ o → MarksChanges c (taken_marked c n)
     by_unit None is = subst (MarksChanges c) (taken_none c n is) (marks-refl c)
     by_unit (Some u) is =
-        subst (λ (o : Option Unit). MarksChanges c (record { value = record c.value { units = remove c.value.units n }; marks = record c.marks { units = marked_with c.marks.units n o; goods = marked_with c.marks.goods n o } })) (sym is)
+        subst (λ (o : Option Unit). MarksChanges c (record { value = record c.value { units = remove c.value.units n }; marks = record c.marks { units = marked_with c.marks.units n o; rows = marked_with c.marks.rows n o; goods = marked_with c.marks.goods n o } })) (sym is)
         (marks-unit c (remove c.value.units n) n (λ k apart. get-remove_other c.value.units n k apart))
 
 marks_gone : (c : MarkedCampaign) (n : ℕ) (o : Option Unit) → MarksChanges c (gone_marked_at c n o)

@@ -12,7 +12,7 @@ use Rattle.atl_state.specs.Campaign.{MarkedCampaign, with_owner}
 
 -- the campaign with these units, and the marks of a unit that went, if it was there
 abbrev without : MarkedCampaign → ℕ → FinMap nat_cmp Unit → Option Unit → MarkedCampaign
-without c n units o = record { value = record c.value { units = units }; marks = record c.marks { units = marked_with c.marks.units n o; goods = marked_with c.marks.goods n o } }
+without c n units o = record { value = record c.value { units = units }; marks = record c.marks { units = marked_with c.marks.units n o; rows = marked_with c.marks.rows n o; goods = marked_with c.marks.goods n o } }
 
 -- a unit that isn't there can't be taken out
 pub taken_none : (c : MarkedCampaign) (n : ℕ) → get c.value.units n ≡ None → c ≡ taken_marked c n

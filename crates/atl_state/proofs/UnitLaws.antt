@@ -1,15 +1,16 @@
--- Units, with room for the marks on their rows and on their goods.
-use Rattle.std.proofs.Common.{◌≡◌, ℕ, ◌+◌, ◌≤◌, Bool, true, false, ◌||◌, Option, Some, None, refl, sym, ap, ◌∙◌, arith}
+-- Units, with room for the marks on them, on their rows and on their goods.
+use Rattle.std.proofs.Common.{◌≡◌, ℕ, ◌+◌, ◌≤◌, Bool, true, false, ◌||◌, cond, Option, Some, None, refl, sym, ap, ◌∙◌, arith}
 use Rattle.std.specs.Prelude.{is_some}
 use Rattle.std.specs.Ordering.{nat_cmp, eq_by_cmp}
 use Rattle.std.specs.Cmp.{nat_cmp_total}
-use Rattle.std.specs.FinMap.{FinMap, get, insert, remove, len, empty}
+use Rattle.std.specs.FinMap.{FinMap, get, get-empty, get-insert, insert, remove, len, empty}
 use Rattle.std.specs.FinSet as set
 use Rattle.std.proofs.lemmas.Bool.{false≢true}
-use Rattle.atl_tables.specs.Marked.{Marked, HasRoom, held}
+use Rattle.atl_tables.specs.Marked.{Marked, HasRoom}
 use Rattle.atl_tables.proofs.GeneralLaws.{one_more}
 use Rattle.atl_tables.proofs.TrackLaws.{Room-empty, Room-of, Room-unmarked, Room-lent, Room-over, Room-inserted, Room-without, fits-inserted}
 use Rattle.atl_state.specs.declared.records.Unit.{Unit}
+use Rattle.atl_state.specs.Marks.{Things, AreWithin}
 use Rattle.atl_state.specs.UnitRoom.{AreUnits}
 
 -- ---- what is marked
@@ -17,94 +18,164 @@ either : (b c d : Bool) → (c ≡ true → d ≡ true) → (b || c) ≡ true �
 either true c d h e = refl
 either false c d h e = h e
 
+either_there : {V : Type 0} (b : Bool) (v : V) (o : Option V) (d : Bool) → (is_some o ≡ true → d ≡ true) → is_some (cond b (Some v) o) ≡ true → (b || d) ≡ true
+either_there true v o d h e = refl
+either_there false v o d h e = h e
+
 more : (b d : Bool) → d ≡ true → (b || d) ≡ true
 more true d e = refl
 more false d e = e
 
+-- what is marked only with some numbers, where there is one more of both, of the numbers alone, or of things with their number
 within_both : (g r : set.FinSet nat_cmp) (n : ℕ) → ((q : ℕ) → set.contains g q ≡ true → set.contains r q ≡ true) → (q : ℕ) → set.contains (set.insert g n) q ≡ true → set.contains (set.insert r n) q ≡ true
 within_both g r n h q e =
     set.contains-insert nat_cmp_total r n q ∙ either (eq_by_cmp nat_cmp q n) (set.contains g q) (set.contains r q) (h q) (sym (set.contains-insert nat_cmp_total g n q) ∙ e)
 
-within_more : (g r : set.FinSet nat_cmp) (n : ℕ) → ((q : ℕ) → set.contains g q ≡ true → set.contains r q ≡ true) → (q : ℕ) → set.contains g q ≡ true → set.contains (set.insert r n) q ≡ true
-within_more g r n h q e = set.contains-insert nat_cmp_total r n q ∙ more (eq_by_cmp nat_cmp q n) (set.contains r q) (h q e)
+within_more : (marked : ℕ → Bool) (r : set.FinSet nat_cmp) (n : ℕ) → ((q : ℕ) → marked q ≡ true → set.contains r q ≡ true) → (q : ℕ) → marked q ≡ true → set.contains (set.insert r n) q ≡ true
+within_more marked r n h q e = set.contains-insert nat_cmp_total r n q ∙ more (eq_by_cmp nat_cmp q n) (set.contains r q) (h q e)
+
+within_things : {V : Type 0} (g : FinMap nat_cmp V) (r : set.FinSet nat_cmp) (n : ℕ) (v : V) → ((q : ℕ) → is_some (get g q) ≡ true → set.contains r q ≡ true) → (q : ℕ) → is_some (get (insert g n v) q) ≡ true → set.contains (set.insert r n) q ≡ true
+within_things g r n v h q e =
+    set.contains-insert nat_cmp_total r n q ∙ either_there (eq_by_cmp nat_cmp q n) v (get g q) (set.contains r q) (h q) (sym (ap is_some (get-insert nat_cmp_total g n v q)) ∙ e)
+
+within-none : AreWithin set.empty set.empty set.empty empty empty
+within-none = record { rows_within = λ q e. e; goods_within = λ q e. e; items_within = nothing; skills_within = nothing }
+  where
+    nothing : (q : ℕ) → is_some (get {X = FinMap nat_cmp (Prim.Unit {0})} {R = nat_cmp} empty q) ≡ true → set.contains {R = nat_cmp} set.empty q ≡ true
+    nothing q e = absurd (false≢true (sym (ap is_some (get-empty nat_cmp q)) ∙ e))
+
+module _ (marks rows goods : set.FinSet nat_cmp) (items skills : Things) (n : ℕ) (h : AreWithin marks rows goods items skills) where
+  within-whole : AreWithin (set.insert marks n) (set.insert rows n) (set.insert goods n) items skills
+  within-whole = record {
+    rows_within = within_both rows marks n h.rows_within;
+    goods_within = within_both goods marks n h.goods_within;
+    items_within = within_more _ marks n h.items_within;
+    skills_within = within_more _ marks n h.skills_within;
+  }
+
+  within-row : AreWithin (set.insert marks n) (set.insert rows n) goods items skills
+  within-row = record {
+    rows_within = within_both rows marks n h.rows_within;
+    goods_within = within_more _ marks n h.goods_within;
+    items_within = within_more _ marks n h.items_within;
+    skills_within = within_more _ marks n h.skills_within;
+  }
+
+  within-item : (group : FinMap nat_cmp (Prim.Unit {0})) → AreWithin (set.insert marks n) rows goods (insert items n group) skills
+  within-item group = record {
+    rows_within = within_more _ marks n h.rows_within;
+    goods_within = within_more _ marks n h.goods_within;
+    items_within = within_things items marks n group h.items_within;
+    skills_within = within_more _ marks n h.skills_within;
+  }
+
+  within-skill : (group : FinMap nat_cmp (Prim.Unit {0})) → AreWithin (set.insert marks n) rows goods items (insert skills n group)
+  within-skill group = record {
+    rows_within = within_more _ marks n h.rows_within;
+    goods_within = within_more _ marks n h.goods_within;
+    items_within = within_more _ marks n h.items_within;
+    skills_within = within_things skills marks n group h.skills_within;
+  }
 
 -- ---- units
-pub AreUnits-none : AreUnits empty (record { numbers = set.empty; room = 0 }) (record { numbers = set.empty; room = 0 })
-AreUnits-none = record {
-  within = λ q e. absurd (false≢true (sym (set.contains-empty nat_cmp q) ∙ e));
-  rows_fit = Room-empty Unit;
-  goods_fit = Room-empty Unit;
-}
+
+abbrev marking : Marked → ℕ → Marked
+marking marks n = record marks { numbers = set.insert marks.numbers n }
+
+abbrev cleared : Marked → Marked
+cleared marks = record marks { numbers = set.empty }
+
+abbrev nothing_marked : ℕ → Marked
+nothing_marked room = record { numbers = set.empty; room = room }
+
+pub AreUnits-none : AreUnits empty (nothing_marked 0) (nothing_marked 0) (nothing_marked 0) empty empty
+AreUnits-none = record { within = within-none; marks_fit = Room-empty Unit; rows_fit = Room-empty Unit; goods_fit = Room-empty Unit }
 
 -- units with nothing marked
-pub AreUnits-of : (units : FinMap nat_cmp Unit) → AreUnits units (record { numbers = set.empty; room = len units }) (record { numbers = set.empty; room = len units })
-AreUnits-of units = record {
-  within = λ q e. absurd (false≢true (sym (set.contains-empty nat_cmp q) ∙ e));
-  rows_fit = Room-of units;
-  goods_fit = Room-of units;
-}
+pub AreUnits-of : (units : FinMap nat_cmp Unit) → AreUnits units (nothing_marked (len units)) (nothing_marked (len units)) (nothing_marked (len units)) empty empty
+AreUnits-of units = record { within = within-none; marks_fit = Room-of units; rows_fit = Room-of units; goods_fit = Room-of units }
 
-module _ (units : FinMap nat_cmp Unit) (rows goods : Marked) where
-  pub AreUnits-unmarked : AreUnits units rows goods → AreUnits units (record rows { numbers = set.empty }) (record goods { numbers = set.empty })
+module _ (units : FinMap nat_cmp Unit) (marks rows goods : Marked) (items skills : Things) where
+  abbrev Before : Type 0
+  Before = AreUnits units marks rows goods items skills
+
+  pub AreUnits-unmarked : Before → AreUnits units (cleared marks) (cleared rows) (cleared goods) empty empty
   AreUnits-unmarked h = record {
-    within = λ q e. absurd (false≢true (sym (set.contains-empty nat_cmp q) ∙ e));
+    within = within-none;
+    marks_fit = Room-unmarked units marks.numbers marks.room h.marks_fit;
     rows_fit = Room-unmarked units rows.numbers rows.room h.rows_fit;
     goods_fit = Room-unmarked units goods.numbers goods.room h.goods_fit;
   }
 
   -- a unit that was lent
-  pub AreUnits-lent : (n : ℕ) (u w : Unit) → get units n ≡ Some u → AreUnits units rows goods → AreUnits (insert units n w) (record rows { numbers = set.insert rows.numbers n }) (record goods { numbers = set.insert goods.numbers n })
+  pub AreUnits-lent : (n : ℕ) (u w : Unit) → get units n ≡ Some u → Before → AreUnits (insert units n w) (marking marks n) (marking rows n) (marking goods n) items skills
   AreUnits-lent n u w is h = record {
-    within = within_both goods.numbers rows.numbers n h.within;
+    within = within-whole marks.numbers rows.numbers goods.numbers items skills n h.within;
+    marks_fit = Room-lent units marks.numbers marks.room n (Some u) w is refl h.marks_fit;
     rows_fit = Room-lent units rows.numbers rows.room n (Some u) w is refl h.rows_fit;
     goods_fit = Room-lent units goods.numbers goods.room n (Some u) w is refl h.goods_fit;
   }
 
   -- a unit whose row changed
-  pub AreUnits-row : (n : ℕ) (u w : Unit) → get units n ≡ Some u → AreUnits units rows goods → AreUnits (insert units n w) (record rows { numbers = set.insert rows.numbers n }) goods
+  pub AreUnits-row : (n : ℕ) (u w : Unit) → get units n ≡ Some u → Before → AreUnits (insert units n w) (marking marks n) (marking rows n) goods items skills
   AreUnits-row n u w is h = record {
-    within = within_more goods.numbers rows.numbers n h.within;
+    within = within-row marks.numbers rows.numbers goods.numbers items skills n h.within;
+    marks_fit = Room-lent units marks.numbers marks.room n (Some u) w is refl h.marks_fit;
     rows_fit = Room-lent units rows.numbers rows.room n (Some u) w is refl h.rows_fit;
     goods_fit = Room-over units goods.numbers goods.room n w (ap is_some is) h.goods_fit;
   }
 
+  -- a unit of which an item changed, or a skill
+  pub AreUnits-item : (n : ℕ) (u w : Unit) (group : FinMap nat_cmp (Prim.Unit {0})) → get units n ≡ Some u → Before → AreUnits (insert units n w) (marking marks n) rows goods (insert items n group) skills
+  AreUnits-item n u w group is h = record {
+    within = within-item marks.numbers rows.numbers goods.numbers items skills n h.within group;
+    marks_fit = Room-lent units marks.numbers marks.room n (Some u) w is refl h.marks_fit;
+    rows_fit = Room-over units rows.numbers rows.room n w (ap is_some is) h.rows_fit;
+    goods_fit = Room-over units goods.numbers goods.room n w (ap is_some is) h.goods_fit;
+  }
+
+  pub AreUnits-skill : (n : ℕ) (u w : Unit) (group : FinMap nat_cmp (Prim.Unit {0})) → get units n ≡ Some u → Before → AreUnits (insert units n w) (marking marks n) rows goods items (insert skills n group)
+  AreUnits-skill n u w group is h = record {
+    within = within-skill marks.numbers rows.numbers goods.numbers items skills n h.within group;
+    marks_fit = Room-lent units marks.numbers marks.room n (Some u) w is refl h.marks_fit;
+    rows_fit = Room-over units rows.numbers rows.room n w (ap is_some is) h.rows_fit;
+    goods_fit = Room-over units goods.numbers goods.room n w (ap is_some is) h.goods_fit;
+  }
+
   -- a unit that went
-  gone_at : (n : ℕ) (o : Option Unit) → get units n ≡ o → is_some o ≡ true → AreUnits units rows goods → AreUnits (remove units n) (record rows { numbers = set.insert rows.numbers n }) (record goods { numbers = set.insert goods.numbers n })
+  gone_at : (n : ℕ) (o : Option Unit) → get units n ≡ o → is_some o ≡ true → Before → AreUnits (remove units n) (marking marks n) (marking rows n) (marking goods n) items skills
   gone_at n None is there h = absurd (false≢true there)
   gone_at n (Some u) is there h = record {
-    within = within_both goods.numbers rows.numbers n h.within;
+    within = within-whole marks.numbers rows.numbers goods.numbers items skills n h.within;
+    marks_fit = Room-without units marks.numbers marks.room n (Some u) is h.marks_fit;
     rows_fit = Room-without units rows.numbers rows.room n (Some u) is h.rows_fit;
     goods_fit = Room-without units goods.numbers goods.room n (Some u) is h.goods_fit;
   }
 
-  pub AreUnits-gone : (n : ℕ) → is_some (get units n) ≡ true → AreUnits units rows goods → AreUnits (remove units n) (record rows { numbers = set.insert rows.numbers n }) (record goods { numbers = set.insert goods.numbers n })
+  pub AreUnits-gone : (n : ℕ) → is_some (get units n) ≡ true → Before → AreUnits (remove units n) (marking marks n) (marking rows n) (marking goods n) items skills
   AreUnits-gone n there h = gone_at n (get units n) refl there h
 
--- ---- more room
-pub HasRoom-wider : (units : FinMap nat_cmp Unit) (marks more : Marked) → more.numbers ≡ marks.numbers → marks.room ≤ more.room → HasRoom units marks → HasRoom units more
-HasRoom-wider units marks more same wider h = let as_many = ap (λ s. set.len (held units s)) same in omega (arith, h, as_many, wider)
-
-pub AreUnits-wider : (units : FinMap nat_cmp Unit) (rows goods rows2 goods2 : Marked) → rows2.numbers ≡ rows.numbers → goods2.numbers ≡ goods.numbers → rows.room ≤ rows2.room → goods.room ≤ goods2.room → AreUnits units rows goods → AreUnits units rows2 goods2
-AreUnits-wider units rows goods rows2 goods2 same same2 wider wider2 h = record {
-  within = λ q e. ap (λ s. set.contains s q) same ∙ h.within q (ap (λ s. set.contains s q) (sym same2) ∙ e);
-  rows_fit = HasRoom-wider units rows rows2 same wider h.rows_fit;
-  goods_fit = HasRoom-wider units goods goods2 same2 wider2 h.goods_fit;
-}
-
 -- ---- a unit that is new
-room_inserted : (units : FinMap nat_cmp Unit) (marks more : Marked) (n size : ℕ) (w : Unit) → more.numbers ≡ marks.numbers → size ≡ len units → set.len marks.numbers + (size + 1) ≤ more.room → set.len more.numbers + len (insert units n w) ≤ more.room
-room_inserted units marks more n size w same many room = let l = one_more units n w in let as_many = ap set.len same in omega (arith, room, l, as_many, many)
 
-pub fits-new : (units : FinMap nat_cmp Unit) (marks more : Marked) (n size : ℕ) (w : Unit) → more.numbers ≡ marks.numbers → size ≡ len units → set.len marks.numbers + (size + 1) ≤ more.room → set.len (set.insert more.numbers n) ≤ more.room
-fits-new units marks more n size w same many room = fits-inserted units more.numbers more.room n w (room_inserted units marks more n size w same many room)
+-- with the same numbers marked, and room for a unit more
+pub record IsWider (units : FinMap nat_cmp Unit) (marks more : Marked) : Type 0 where
+  pub same : more.numbers ≡ marks.numbers
+  pub room : set.len marks.numbers + (len units + 1) ≤ more.room
 
-HasRoom-added : (units : FinMap nat_cmp Unit) (marks more : Marked) (n size : ℕ) (w : Unit) → more.numbers ≡ marks.numbers → size ≡ len units → set.len marks.numbers + (size + 1) ≤ more.room → HasRoom (insert units n w) (record more { numbers = set.insert more.numbers n })
-HasRoom-added units marks more n size w same many room = Room-inserted units more.numbers more.room n w (room_inserted units marks more n size w same many room)
+room_inserted : (units : FinMap nat_cmp Unit) (marks more : Marked) (n : ℕ) (w : Unit) → IsWider units marks more → set.len more.numbers + len (insert units n w) ≤ more.room
+room_inserted units marks more n w h = let l = one_more units n w in let as_many = ap set.len h.same in omega (arith, h.room, l, as_many)
 
-pub AreUnits-added : (units : FinMap nat_cmp Unit) (rows goods rows2 goods2 : Marked) (n size : ℕ) (w : Unit) → rows2.numbers ≡ rows.numbers → goods2.numbers ≡ goods.numbers → size ≡ len units
-    → set.len rows.numbers + (size + 1) ≤ rows2.room → set.len goods.numbers + (size + 1) ≤ goods2.room → AreUnits units rows goods → AreUnits (insert units n w) (record rows2 { numbers = set.insert rows2.numbers n }) (record goods2 { numbers = set.insert goods2.numbers n })
-AreUnits-added units rows goods rows2 goods2 n size w same same2 many room room2 h = record {
-  within = λ q e. ap (λ s. set.contains (set.insert s n) q) same ∙ within_both goods.numbers rows.numbers n h.within q (ap (λ s. set.contains (set.insert s n) q) (sym same2) ∙ e);
-  rows_fit = HasRoom-added units rows rows2 n size w same many room;
-  goods_fit = HasRoom-added units goods goods2 n size w same2 many room2;
+pub fits-new : (units : FinMap nat_cmp Unit) (marks more : Marked) (n : ℕ) (w : Unit) → IsWider units marks more → set.len (set.insert more.numbers n) ≤ more.room
+fits-new units marks more n w h = fits-inserted units more.numbers more.room n w (room_inserted units marks more n w h)
+
+HasRoom-added : (units : FinMap nat_cmp Unit) (marks more : Marked) (n : ℕ) (w : Unit) → IsWider units marks more → HasRoom (insert units n w) (marking more n)
+HasRoom-added units marks more n w h = Room-inserted units more.numbers more.room n w (room_inserted units marks more n w h)
+
+pub AreUnits-added : (units : FinMap nat_cmp Unit) (marks rows goods marks2 rows2 goods2 : Marked) (items skills : Things) (n : ℕ) (w : Unit) → IsWider units marks marks2 → IsWider units rows rows2 → IsWider units goods goods2
+    → AreUnits units marks rows goods items skills → AreUnits (insert units n w) (marking marks2 n) (marking rows2 n) (marking goods2 n) items skills
+AreUnits-added units marks rows goods marks2 rows2 goods2 items skills n w wider wider2 wider3 h = record {
+  within = rw (wider.same, wider2.same, wider3.same) (within-whole marks.numbers rows.numbers goods.numbers items skills n h.within);
+  marks_fit = HasRoom-added units marks marks2 n w wider;
+  rows_fit = HasRoom-added units rows rows2 n w wider2;
+  goods_fit = HasRoom-added units goods goods2 n w wider3;
 }

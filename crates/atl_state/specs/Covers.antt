@@ -1,9 +1,8 @@
 -- What change marks say of two campaigns, an older one and one that came of it: all that is not marked is the same in both.
-use Rattle.std.specs.Prelude.{◌≡◌, ℕ, List, true, false, Option, Some, None, is_some, option_map}
+use Rattle.std.specs.Prelude.{◌≡◌, ℕ, List, true, false, Option, Some, None, option_map}
 use Rattle.std.specs.Ordering.{nat_cmp}
 use Rattle.std.specs.FinMap.{FinMap, get, empty}
 use Rattle.std.specs.FinSet.{FinSet, contains}
-use Rattle.atl_tables.specs.Groups.{group_of}
 use Rattle.atl_state.specs.declared.books.Entry.{Entry}
 use Rattle.atl_state.specs.declared.books.Thing.{Thing}
 use Rattle.atl_state.specs.declared.records.Unit.{Unit}
@@ -53,8 +52,9 @@ pub record Covers (m : Marks) (before after : CampaignValue) : Type 0 where
 abbrev pub StaysMarked : FinSet nat_cmp → FinSet nat_cmp → Type 0
 StaysMarked before after = (n : ℕ) → contains before n ≡ true → contains after n ≡ true
 
-abbrev pub ThingsStayMarked : Things → Things → Type 0
-ThingsStayMarked before after = (n thing : ℕ) → is_some (get (group_of before n) thing) ≡ true → is_some (get (group_of after n) thing) ≡ true
+-- likewise of things, whether alone or with all goods of their unit
+abbrev pub ThingsStayMarked : (goods : FinSet nat_cmp) (things : Things) (goods_after : FinSet nat_cmp) (things_after : Things) → Type 0
+ThingsStayMarked goods things goods_after things_after = (n thing : ℕ) → is_thing_marked goods things n thing ≡ true → is_thing_marked goods_after things_after n thing ≡ true
 
 pub record StayMarked (before after : Marks) : Type 0 where
   pub factions : StaysMarked before.factions after.factions
@@ -65,8 +65,8 @@ pub record StayMarked (before after : Marks) : Type 0 where
   pub units : StaysMarked before.units after.units
   pub rows : StaysMarked before.rows after.rows
   pub goods : StaysMarked before.goods after.goods
-  pub items : ThingsStayMarked before.items after.items
-  pub skills : ThingsStayMarked before.skills after.skills
+  pub items : ThingsStayMarked before.goods before.items after.goods after.items
+  pub skills : ThingsStayMarked before.goods before.skills after.goods after.skills
   pub books : StaysMarked before.books after.books
   pub row : before.row ≡ true → after.row ≡ true
 

@@ -70,10 +70,10 @@ is_thing_marked goods things n thing = contains goods n || is_some (map.get (gro
 
 -- what of a unit is marked is marked only with the unit
 pub record AreWithin (units rows goods : FinSet nat_cmp) (items skills : Things) : Type 0 where
-  pub rows : (n : ℕ) → contains rows n ≡ true → contains units n ≡ true
-  pub goods : (n : ℕ) → contains goods n ≡ true → contains units n ≡ true
-  pub items : (n : ℕ) → is_some (map.get items n) ≡ true → contains units n ≡ true
-  pub skills : (n : ℕ) → is_some (map.get skills n) ≡ true → contains units n ≡ true
+  pub rows_within : (n : ℕ) → contains rows n ≡ true → contains units n ≡ true
+  pub goods_within : (n : ℕ) → contains goods n ≡ true → contains units n ≡ true
+  pub items_within : (n : ℕ) → is_some (map.get items n) ≡ true → contains units n ≡ true
+  pub skills_within : (n : ℕ) → is_some (map.get skills n) ≡ true → contains units n ≡ true
 
 -- nothing is marked
 abbrev pub no_marks : Marks

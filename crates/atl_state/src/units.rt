@@ -241,15 +241,12 @@ impl Units {
         ensures ok { OnOk result (self.new ≡ with_item_at (λ u. record u { holding = record u.holding { items = with_amount_of u.holding.items item amount } }) self.old number item) }
         ensures err { OnErr result (self.new.values ≡ self.old.values) }
     {
-        if self.units.get(number).is_none() {
+        let Some(unit) = self.units.get_mut(number) else {
             return Ok(());
-        }
+        };
         self.items.insert_under(alloc, number, item, ())?;
         self.marks.add(number);
-        match self.units.get_mut(number) {
-            Some(unit) => unit.holding.set_amount(item, amount),
-            None => Ok(()),
-        }
+        unit.holding.set_amount(item, amount)
     }
 
     /// Sets a unit's days of a skill over all men, and marks that skill of it alone. Without memory the units are as they were,
@@ -264,15 +261,12 @@ impl Units {
         ensures ok { OnOk result (self.new ≡ with_skill_at (λ u. record u { holding = record u.holding { days = with_amount_of u.holding.days skill days } }) self.old number skill) }
         ensures err { OnErr result (self.new.values ≡ self.old.values) }
     {
-        if self.units.get(number).is_none() {
+        let Some(unit) = self.units.get_mut(number) else {
             return Ok(());
-        }
+        };
         self.skills.insert_under(alloc, number, skill, ())?;
         self.marks.add(number);
-        match self.units.get_mut(number) {
-            Some(unit) => unit.holding.set_days(skill, days),
-            None => Ok(()),
-        }
+        unit.holding.set_days(skill, days)
     }
 
     /// Puts a unit under a number that has none, and marks its row and all its goods. Without memory for it nothing changes.
