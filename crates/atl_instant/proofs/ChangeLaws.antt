@@ -1,6 +1,7 @@
 -- What becomes of a campaign where one unit has other things, and what is marked.
 use Rattle.std.proofs.Common.{◌≡◌, ◌≢◌, ℕ, Option, Some, None, refl, sym, ap, ◌∙◌}
-use Rattle.std.specs.FinMap.{get, insert}
+use Rattle.std.specs.Ordering.{nat_cmp}
+use Rattle.std.specs.FinMap.{FinMap, get, insert}
 use Rattle.atl_tables.specs.Sums.{changed_at}
 use Rattle.atl_tables.proofs.Maps.{insert_over}
 use Rattle.atl_tables.proofs.SumLaws.{put_same}
@@ -77,19 +78,24 @@ then_changes a b d n f g one two = record {
 }
 
 -- the setters
-pub money_changes : (c d : MarkedCampaign) (n money : ℕ) → d.value ≡ with_money c.value n money → d.marks ≡ mark_unit_row c n → ChangesHolding c d n (λ h. record h { money = money })
-money_changes c d n money what marks = record {
-  value = what;
-  marks = marks_by c d (record { value = with_money c.value n money; marks = mark_unit_row c n }) what marks (marks-unit_row (λ u. record u { holding = record u.holding { money = money } }) (λ u. refl) c n);
-  goods = ap (λ (m : Marks). m.goods) marks;
-}
+abbrev goods_of : Held → FinMap nat_cmp ℕ × FinMap nat_cmp ℕ
+goods_of h = (h.items, h.days)
+
+row_changes : (f : Held → Held) → ((h : Held) → goods_of (f h) ≡ goods_of h) → (c d : MarkedCampaign) (n : ℕ)
+    → d.value ≡ unit_changed (λ u. record u { holding = f u.holding }) c.value n → d.marks ≡ mark_unit_row c n → ChangesHolding c d n f
+row_changes f same c d n what marks =
+    let with_other : Unit → Unit = λ u. record u { holding = f u.holding } in
+    record {
+      value = what;
+      marks = marks_by c d (record { value = unit_changed with_other c.value n; marks = mark_unit_row c n }) what marks (marks-unit_row with_other (λ u. same u.holding) c n);
+      goods = ap (λ (m : Marks). m.goods) marks;
+    }
 
 pub men_changes : (c d : MarkedCampaign) (n men : ℕ) → d.value ≡ with_men c.value n men → d.marks ≡ mark_unit_row c n → ChangesHolding c d n (λ h. record h { men = men })
-men_changes c d n men what marks = record {
-  value = what;
-  marks = marks_by c d (record { value = with_men c.value n men; marks = mark_unit_row c n }) what marks (marks-unit_row (λ u. record u { holding = record u.holding { men = men } }) (λ u. refl) c n);
-  goods = ap (λ (m : Marks). m.goods) marks;
-}
+men_changes c d n men = row_changes (λ h. record h { men = men }) (λ h. refl) c d n
+
+pub money_changes : (c d : MarkedCampaign) (n money : ℕ) → d.value ≡ with_money c.value n money → d.marks ≡ mark_unit_row c n → ChangesHolding c d n (λ h. record h { money = money })
+money_changes c d n money = row_changes (λ h. record h { money = money }) (λ h. refl) c d n
 
 pub item_changes : (c d : MarkedCampaign) (n item amount : ℕ) → d.value ≡ with_item c.value n item amount → d.marks ≡ mark_item c n item → ChangesHolding c d n (λ h. record h { items = with_amount_of h.items item amount })
 item_changes c d n item amount what marks = record {
