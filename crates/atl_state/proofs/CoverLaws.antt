@@ -131,7 +131,7 @@ module _ (goods : FinSet nat_cmp) (things : Things) (n thing : ℕ) where
   pub apart_by_thing : (k t : ℕ) → is_thing_marked goods (with_thing things n thing) k t ≡ false → k ≡ n → t ≢ thing
   apart_by_thing k t free same_unit same =
       let there = put_in k t ∙ ap (λ b. cond b (eq_by_cmp nat_cmp t thing || is_some (get (group_of things n) t)) (is_some (get (group_of things k) t))) (ties k n same_unit)
-          ∙ ap (λ b. b || is_some (get (group_of things n) t)) (ties t thing same) in
+      ∙ ap (λ b. b || is_some (get (group_of things n) t)) (ties t thing same) in
       absurd (true≢false (sym there ∙ (neither (contains goods k) (is_some (get (group_of (with_thing things n thing) k) t)) free).1))
 
 -- ---- the parts of a campaign, which are marked each for itself

@@ -7,7 +7,6 @@ use Rattle.std.specs.declared.cmp.Ordering.TheVariants.{Less, Equal, Greater}
 use Rattle.std.specs.Ordering.{nat_cmp}
 use Rattle.std.specs.Cmp.{ranked}
 use Rattle.std.specs.FinMap.{FinMap, get, insert, len, nat_cmp-IsAntisymmetric, remove}
-use Rattle.std.specs.FinSet as set
 use Rattle.atl_tables.specs.Worlds.{WorldValue}
 use Rattle.atl_tables.specs.Tracking.{marked_with}
 use Rattle.atl_tables.specs.ByNumber.{is_land_at, size_of}

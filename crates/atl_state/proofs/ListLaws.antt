@@ -1,7 +1,7 @@
 -- The lists of the regions and of the factions, as units come and go.
 use Rattle.std.proofs.Common.{◌≡◌, ◌≢◌, ◌==◌, ℕ, true, false, cond, Option, Some, None, List, [], map, filter, refl, sym, ap, subst, ◌∙◌, arith, inl, inr}
 use Rattle.std.specs.declared.cmp.Ordering.TheVariants.{Less, Equal, Greater}
-use Rattle.std.specs.Prelude.{unwrap_or}
+use Rattle.std.specs.Prelude.{Result, Ok, Err, OnOk, OnErr, unwrap_or}
 use Rattle.std.specs.Ordering.{nat_cmp, is_eq}
 use Rattle.std.specs.Cmp.{nat_cmp_total, ranked}
 use Rattle.std.specs.FinMap.{FinMap, get, insert, remove, empty, get-empty, get-insert, get-remove, nat_cmp-IsAntisymmetric}
@@ -265,3 +265,9 @@ AreUnitLists-changed f stays units lists n is = by_unit (get units n) refl
     by_unit : (o : Option Unit) → get units n ≡ o → AreUnitLists (changed_at f units n o) lists
     by_unit None e = is
     by_unit (Some u) e = AreUnitLists-kept units lists n u (f u) e (stays u) is
+
+-- likewise where that may want for memory
+pub AreUnitLists-set : {A E : Type 0} (r : Result A E) (f : Unit → Unit) → ((u : Unit) → listing_of u ≡ listing_of (f u)) → (old new : FinMap nat_cmp Unit) (lists : UnitLists) (n : ℕ) → OnOk r (new ≡ changed f old n) → OnErr r (new ≡ old)
+    → AreUnitLists old lists → AreUnitLists new lists
+AreUnitLists-set (Ok a) f stays old new lists n put same is = subst (λ (units : FinMap nat_cmp Unit). AreUnitLists units lists) (sym put) (AreUnitLists-changed f stays old lists n is)
+AreUnitLists-set (Err e) f stays old new lists n put same is = subst (λ (units : FinMap nat_cmp Unit). AreUnitLists units lists) (sym same) is

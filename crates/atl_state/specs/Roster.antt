@@ -28,12 +28,12 @@ roster_code =
     (λ _. refl)
 
 -- units of which nothing is marked
-abbrev pub unmarked : map.FinMap nat_cmp Unit → Roster
-unmarked values = record { values = values; marks = set.empty; rows = set.empty; goods = set.empty; items = map.empty; skills = map.empty }
+abbrev pub unmarked_units : map.FinMap nat_cmp Unit → Roster
+unmarked_units values = record { values = values; marks = set.empty; rows = set.empty; goods = set.empty; items = map.empty; skills = map.empty }
 
 -- nobody
 abbrev pub no_units : Roster
-no_units = unmarked map.empty
+no_units = unmarked_units map.empty
 
 -- the marks of a unit's row and of all its goods
 abbrev pub all_marked : Roster → ℕ → Roster

@@ -6,7 +6,7 @@ ghost use Rattle.atl_tables.specs.Tracking.{Lists};
 ghost use Rattle.atl_state.specs.Limits.{holding_limit, men_limit, most_numbered};
 ghost use Rattle.atl_state.specs.Held.{with_amount_of};
 ghost use Rattle.atl_state.specs.Marks.{AreWithin};
-ghost use Rattle.atl_state.specs.Roster.{no_units, unmarked, with_unit_at, with_row, with_item_at, with_skill_at, without_unit_at};
+ghost use Rattle.atl_state.specs.Roster.{no_units, unmarked_units, with_unit_at, with_row, with_item_at, with_skill_at, without_unit_at};
 
 use crate::arena::{Arena, SlotEntries};
 use crate::records::Unit;
@@ -67,7 +67,7 @@ impl Units {
 
     /// These units, with nothing marked.
     pub(crate) fn of(alloc: Global, values: Arena<Unit>) -> Result<Units, AllocError>
-        ensures { IfOk result (λ units. units ≡ unmarked values) }
+        ensures { IfOk result (λ units. units ≡ unmarked_units values) }
     {
         let marks = Marks::with_room(alloc, values.len())?;
         let rows = Marks::with_room(alloc, values.len())?;
@@ -299,7 +299,7 @@ impl Units {
 
     /// Leaves nothing marked. It takes no memory.
     pub(crate) fn unmark(&mut self)
-        ensures { self.new ≡ unmarked self.old.values }
+        ensures { self.new ≡ unmarked_units self.old.values }
     {
         self.marks.clear();
         self.rows.clear();

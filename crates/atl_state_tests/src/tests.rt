@@ -15,4 +15,5 @@ mod parts;
 mod rounds;
 mod setting;
 mod stocks;
+mod things;
 mod walks;

@@ -1,12 +1,12 @@
 //! The units, with what they have, and the lists of them.
 ghost use Rattle.std.specs.Prelude.{◌≡◌, IfOk, ℕ, true};
-ghost use Rattle.std.specs.FinSet as set;
 ghost use Rattle.std.specs.List.{list_all};
 ghost use Rattle.atl_tables.specs.Groups.{group_of};
 ghost use Rattle.atl_tables.specs.Names.{name_ok};
 ghost use Rattle.atl_state.specs.Kept.{AreUnitLists};
 ghost use Rattle.atl_state.specs.FromRows.{as_u32, by_number, unit_with, unit_of};
 ghost use Rattle.atl_state.specs.Held.{AreAmounts};
+ghost use Rattle.atl_state.specs.Roster.{unmarked_units};
 ghost use Rattle.atl_state.specs.RowRules.{unit_in_range, has_in_range};
 
 use super::goods::{things_had, things_of};
@@ -87,7 +87,7 @@ pub(crate) fn roster_of(alloc: Global, parts: &Parts) -> Result<Units, AllocErro
     requires named { list_all (λ r. name_ok r.name) parts.now.units ≡ true }
     requires range { list_all unit_in_range parts.now.units ≡ true }
     requires amounts { list_all has_in_range parts.now.has ≡ true }
-    ensures { IfOk result (λ units. units ≡ record { values = by_number (λ r. as_u32 r.number) (unit_of parts.now.has) parts.now.units; marks = set.empty; goods = set.empty }) }
+    ensures { IfOk result (λ units. units ≡ unmarked_units (by_number (λ r. as_u32 r.number) (unit_of parts.now.has) parts.now.units)) }
 {
     let units = units_of(alloc, parts.units.as_slice(), parts.has.as_slice())?;
     Units::of(alloc, units)

@@ -1,5 +1,4 @@
-use Rattle.std.proofs.Common.{◌∙◌, ap}
-use Rattle.atl_state.proofs.UnitLaws.{IsWider, fits-new, AreUnits-added}
+use Rattle.atl_state.proofs.UnitLaws.{fits-new, AreUnits-added}
 use Rattle.atl_state.proofs.units.Units.insert.Goals as goal
 
 pub add-requires : goal.add-requires
