@@ -11,8 +11,7 @@ use Rattle.atl_tables.specs.ByNumber.{fee_of}
 use Rattle.atl_orders.specs.Bounds.{IsOrderOf}
 use Rattle.atl_orders.specs.declared.order.Order.TheVariants as orders
 use Rattle.atl_orders.specs.Orders.{Said}
-use Rattle.atl_state.specs.Books.{IsGrid, amount_in, thing_place}
-use Rattle.atl_state.specs.Covers.{MarksChanges}
+use Rattle.atl_state.specs.Books.{amount_in, thing_place}
 use Rattle.atl_state.specs.declared.books.Entry.{Entry}
 use Rattle.atl_state.specs.declared.books.Entry.TheVariants.{Lost, Study}
 use Rattle.atl_state.specs.declared.books.Thing.{Thing}
@@ -24,14 +23,12 @@ use Rattle.atl_state.specs.declared.records.Unit.{Unit}
 use Rattle.atl_state.specs.Founding.{things_of}
 use Rattle.atl_state.specs.Good.{IsSteady}
 use Rattle.atl_state.specs.Held.{Held, amount_of}
-use Rattle.atl_state.specs.Lending.{lent, with_held}
+use Rattle.atl_state.specs.Lending.{with_held}
 use Rattle.atl_state.specs.Limits.{most_days}
-use Rattle.atl_state.specs.Marking.{mark_amount}
 use Rattle.atl_state.specs.Marks.{amount_number}
-use Rattle.atl_state.specs.Campaign.{MarkedCampaign, CampaignValue, with_amount}
+use Rattle.atl_state.specs.Campaign.{CampaignValue, with_amount}
 use Rattle.atl_state.specs.Totals.{Balances, held, total}
 use Rattle.atl_state.proofs.BookLaws.{booked-with_booked}
-use Rattle.atl_state.proofs.CoverLaws.{marks-amount, marks-trans}
 use Rattle.atl_state.proofs.EveryLaws.{get-insert_other}
 use Rattle.atl_state.proofs.HavingLaws.{may_have}
 use Rattle.atl_state.proofs.HoldingLaws.{MayHold, steady-held, total-held}
@@ -41,8 +38,6 @@ use Rattle.atl_instant.specs.Outcomes.{unless}
 use Rattle.atl_instant.specs.Steps.{IsDrawn, IsOrderly, IsOwnOrder, IsSpared, IsSparing, StepsWell}
 use Rattle.atl_state.proofs.HeldLaws.{every_amount}
 use Rattle.atl_instant.proofs.BookingLaws.{booked-near, within-neg}
-use Rattle.atl_instant.proofs.MarkLaws.{marks_by}
-use Rattle.atl_instant.proofs.MovingLaws.{lent_marks}
 use Rattle.atl_instant.proofs.OutcomeLaws.{none_fits, not_less}
 use Rattle.atl_instant.proofs.QuitLaws.{quit_orderly}
 use Rattle.atl_instant.proofs.StepLaws.{drawn_near, well_same}
@@ -50,14 +45,6 @@ use Rattle.atl_instant.proofs.UnbookedLaws.{other_unit}
 use Rattle.atl_instant.specs.Staying.{IsUnchanged}
 use Rattle.atl_action.specs.Study.{days_after, is_helpful, studied, study, study_fault, study_moves, study_reserve, study_said, study_step, with_study}
 use Rattle.atl_action.specs.Teach.{Taught}
-
--- ---- what is marked
-
--- a unit whose holding was lent, and an amount that is booked
-pub paid_marks : (things : ℕ) (a b d : MarkedCampaign) (n : ℕ) (h : Held) (z : ℤ) → IsGrid things b.value.books → 0 < things → b ≡ lent a n h → d.value ≡ with_amount b.value Study Money z → d.marks ≡ mark_amount b Study Money → MarksChanges a d
-paid_marks things a b d n h z grid some first what marks =
-    marks-trans a b d (lent_marks a b n h first)
-    (marks_by b d (record { value = with_amount b.value Study Money z; marks = mark_amount b Study Money }) what marks (marks-amount things b Study Money z grid some))
 
 -- ---- a unit that pays, and reaches so many days
 

@@ -72,18 +72,8 @@ fn study_fault(holding: &Holding, cost: u64) -> Option<EventFault>
     }
 }
 
-/// People pay, and reach so many days of a skill.
-fn learn(holding: &mut Holding, skill: u16, cost: u32, days: u32) -> Result<(), AllocError>
-    requires { cost ≤ holding.old.money }
-    ensures { OnOk result (holding.new ≡ with_study holding.old skill cost days) }
-{
-    let money = holding.money() - cost;
-    holding.set_money(money);
-    holding.set_days(u32::from(skill), days)
-}
-
-/// A unit that is there pays, and reaches so many days of a skill.
-fn learn_at(
+/// A unit pays, and reaches so many days of a skill, where it is there.
+fn learn(
     campaign: &mut Campaign,
     unit: u32,
     skill: u16,
@@ -93,10 +83,12 @@ fn learn_at(
     requires { (u : Unit) → map.get campaign.old.value.units unit ≡ Some u → cost ≤ u.holding.money }
     ensures { OnOk result (ChangesHolding campaign.old campaign.new unit (λ h. with_study h skill cost days)) }
 {
-    match campaign.unit_mut(unit) {
-        Some(holding) => learn(holding, skill, cost, days),
-        None => Ok(()),
-    }
+    let Some(learner) = campaign.unit(unit) else {
+        return Ok(());
+    };
+    let money = learner.holding.money() - cost;
+    campaign.set_money(unit, money);
+    campaign.set_days(unit, u32::from(skill), days)
 }
 
 /// A unit that is there studies, and what it pays is booked.
@@ -114,7 +106,7 @@ fn put_study(
     ensures what { OnOk result ((u : Unit) → map.get campaign.old.value.units unit ≡ Some u → campaign.new.value ≡ studied campaign.old.value unit u skill cost days) }
     ensures marks { OnOk result (MarksChanges campaign.old campaign.new) }
 {
-    learn_at(campaign, unit, skill, cost, days)?;
+    learn(campaign, unit, skill, cost, days)?;
     book_taken(campaign, Entry::Study, Thing::Money, cost);
     Ok(())
 }

@@ -10,7 +10,8 @@ use Rattle.atl_state.specs.Deciding.{EachOf}
 use Rattle.atl_state.specs.Good.{Every}
 use Rattle.atl_state.specs.Held.{Held, amount_of, with_amount_of}
 use Rattle.atl_state.proofs.EveryLaws.{each-from_every, every-empty}
-use Rattle.atl_instant.specs.Raising.{raised_list, rest_set, with_days}
+use Rattle.atl_instant.specs.Holdings.{with_days}
+use Rattle.atl_instant.specs.Raising.{left_list, raised_list}
 use Rattle.atl_instant.specs.Transfer.{DaysGoWithMen, days_going, going_of, raised_of, staying_of, with_fewer, with_more}
 use Rattle.atl_instant.proofs.AmountsForLaws.{as_said, each_said, same_amounts}
 use Rattle.atl_state.proofs.HeldLaws.{alike, every_amount, set_amount}
@@ -97,32 +98,45 @@ every_set : (f : ℕ → ℕ → ℕ) (es : List (ℕ × ℕ)) (left : FinMap na
 every_set f [] left old = old
 every_set f (e ∷ es) left old = every_set f es (with_amount_of left e.0 (f e.0 e.1)) (every_amount (λ s d. 1 ≤ d) left e.0 (f e.0 e.1) (λ some. some) old)
 
-abbrev rest_days : (n men skill days : ℕ) → ℕ
+-- days set one by one are as they are said, if each skill is
+set_as_said : (days had said : FinMap nat_cmp ℕ) (f : ℕ → ℕ → ℕ) → Every (λ s d. 1 ≤ d) had → Every (λ s d. 1 ≤ d) said
+    → ((s : ℕ) → amount_of days s ≡ 0 → amount_of had s ≡ f s 0) → ((s : ℕ) → f s (amount_of days s) ≡ amount_of said s)
+    → with_days had (map (λ e. (e.0, f e.0 e.1)) (entries days)) ≡ said
+set_as_said days had said f some some_said others each =
+    let set = with_days_mapped f (entries days) had in
+    same_amounts (with_days had (map (λ e. (e.0, f e.0 e.1)) (entries days))) said
+    (subst (Every (λ s d. 1 ≤ d)) (sym set) (every_set f (entries days) had some)) some_said
+    (λ s. ap (λ (m : FinMap nat_cmp ℕ). amount_of m s) set ∙ set_each days f s had (others s) ∙ each s)
+
+-- those that are set where they stand are as if each were set from nothing
+pub set_again : (days : FinMap nat_cmp ℕ) (f : ℕ → ℕ → ℕ) → ((s : ℕ) → f s 0 ≡ 0) → Every (λ s d. 1 ≤ d) days
+    → with_days days (map (λ e. (e.0, f e.0 e.1)) (entries days)) ≡ fold (λ (m : FinMap nat_cmp ℕ) (e : ℕ × ℕ). with_amount_of m e.0 (f e.0 e.1)) empty (entries days)
+set_again days f none some =
+    let anew = fold (λ (m : FinMap nat_cmp ℕ) (e : ℕ × ℕ). with_amount_of m e.0 (f e.0 e.1)) empty (entries days) in
+    set_as_said days days anew f some (every_set f (entries days) empty (every-empty (λ s d. 1 ≤ d))) (λ s free. free ∙ sym (none s))
+    (λ s. sym (set_each days f s empty (λ free. ap (λ (o : Option ℕ). unwrap_or o 0) (get-empty nat_cmp s) ∙ sym (none s))))
+
+abbrev rest_days : (n men : ℕ) → (skill days : ℕ) → ℕ
 rest_days n men k d = d - days_going n men d
 
-pub fewer_is : (n : ℕ) (h : Held) → record h { men = h.men - n; days = rest_set n h.men h.days } ≡ with_fewer n h
-fewer_is n h =
+pub fewer_is : (n : ℕ) (h : Held) → Every (λ s d. 1 ≤ d) h.days → record h { men = h.men - n; days = with_days h.days (left_list n h.men h.days) } ≡ with_fewer n h
+fewer_is n h had =
     ap (λ (m : FinMap nat_cmp ℕ). record h { men = h.men - n; days = m })
-    (same_amounts (rest_set n h.men h.days) (with_fewer n h).days (every_set (rest_days n h.men) (entries h.days) empty (every-empty (λ s d. 1 ≤ d)))
+    (set_as_said h.days h.days (with_fewer n h).days (rest_days n h.men) had
     (λ s d there. (each_said (staying_of n h) (keys h.days) s d there).0)
-    (λ s.
-    set_each h.days (rest_days n h.men) s empty (λ none. ap (λ (o : Option ℕ). unwrap_or o 0) (get-empty nat_cmp s) ∙ sym (none_stay 0 (days_going n h.men 0) refl))
-    ∙ sym (days_go_with_men n h h s).stay))
+    (λ s none. none ∙ sym (none_stay 0 (days_going n h.men 0) refl))
+    (λ s. sym (days_go_with_men n h h s).stay))
 
 abbrev raised_days : (n men : ℕ) → FinMap nat_cmp ℕ → (skill days : ℕ) → ℕ
 raised_days n men had k d = amount_of had k + days_going n men d
 
 pub more_is : (n : ℕ) (other h : Held) → Every (λ s d. 1 ≤ d) h.days → record h { men = h.men + n; days = with_days h.days (raised_list n other.men other.days h.days) } ≡ with_more n other h
 more_is n other h had =
-    let set = with_days_mapped (raised_days n other.men h.days) (entries other.days) h.days in
     ap (λ (m : FinMap nat_cmp ℕ). record h { men = h.men + n; days = m })
-    (same_amounts (with_days h.days (raised_list n other.men other.days h.days)) (with_more n other h).days
-    (subst (Every (λ s d. 1 ≤ d)) (sym set) (every_set (raised_days n other.men h.days) (entries other.days) h.days had))
+    (set_as_said other.days h.days (with_more n other h).days (raised_days n other.men h.days) had
     (λ s d there. (each_said (raised_of n other h) (keys h.days ++ keys other.days) s d there).0)
-    (λ s.
-    ap (λ (m : FinMap nat_cmp ℕ). amount_of m s) set
-    ∙ set_each other.days (raised_days n other.men h.days) s h.days (λ none. nothing_more (amount_of h.days s) (days_going n other.men 0) (nobody_goes n other.men))
-    ∙ sym (days_go_with_men n other h s).come))
+    (λ s none. nothing_more (amount_of h.days s) (days_going n other.men 0) (nobody_goes n other.men))
+    (λ s. sym (days_go_with_men n other h s).come))
   where
     nothing_more : (a g : ℕ) → g ≡ 0 → a ≡ a + g
     nothing_more a g e = omega arith

@@ -1,7 +1,7 @@
 -- How a campaign changes as a unit forms another.
 use Rattle.std.proofs.Common.{◌≡◌, ◌≢◌, ◌==◌, ◌||◌, ◌*◌, ℕ, ◌+◌, ◌≤◌, ◌<◌, Bool, true, false, cond, Some, None, length, nat_le, nat_lt, refl, sym, ap, ◌∙◌, arith}
 use Rattle.std.proofs.lemmas.Bool.{true≢false}
-use Rattle.std.specs.Prelude.{IsTrue, is_some, option_map, unwrap_or}
+use Rattle.std.specs.Prelude.{IsTrue, is_some, unwrap_or}
 use Rattle.std.specs.Ordering.{nat_cmp}
 use Rattle.std.specs.Cmp.{nat_cmp_total}
 use Rattle.std.specs.FinMap.{FinMap, get, get-empty, insert, len, len-insert}
@@ -10,17 +10,17 @@ use Rattle.atl_tables.specs.Names.{name_ok}
 use Rattle.atl_tables.specs.Worlds.{WorldValue}
 use Rattle.atl_tables.proofs.SumLaws.{numbers_where-insert_other}
 use Rattle.atl_tables.specs.ByNumber.{is_land_at}
-use Rattle.atl_state.specs.Covers.{MarksChanges, bare, goods_under}
+use Rattle.atl_state.specs.Covers.{MarksChanges}
 use Rattle.atl_state.specs.Limits.{holding_limit, last_unit, most_days, most_units}
 use Rattle.atl_state.specs.declared.books.Thing.{Thing}
 use Rattle.atl_state.specs.declared.books.Thing.TheVariants.{Item, Money, People}
 use Rattle.atl_state.specs.declared.records.Unit.{Unit}
 use Rattle.atl_state.specs.Good.{AreAfloat, AreInRange, AreKnown, AreNamed, AreNumbered, AreOfOneFaction, AreOwned, Every, GoneHaveNone, IsAboard, IsEarly, IsPlaced, IsSteady, guards}
 use Rattle.atl_state.specs.Held.{IsHolding}
-use Rattle.atl_state.specs.Marking.{mark_unit_begun}
-use Rattle.atl_state.specs.Campaign.{MarkedCampaign, CampaignValue, with_unit_begun}
+use Rattle.atl_state.specs.Marking.{mark_unit_added, mark_unit_begun}
+use Rattle.atl_state.specs.Campaign.{MarkedCampaign, CampaignValue, with_unit, with_unit_begun}
 use Rattle.atl_state.specs.Totals.{held, total}
-use Rattle.atl_state.proofs.CoverLaws.{Goods, Row, Stays, Tells, Units, apart_by, part_by_part, put_stays}
+use Rattle.atl_state.proofs.CoverLaws.{Row, Stays, Tells, marks-trans, marks-unit, part_by_part}
 use Rattle.atl_state.proofs.EveryLaws.{every-empty, every-insert, get-insert_other, none_some, there-insert}
 use Rattle.atl_state.proofs.RemovedLaws.{none_passing}
 use Rattle.atl_state.proofs.TotalLaws.{total-with_unit}
@@ -178,12 +178,10 @@ module _ (w : WorldValue) (c : CampaignValue) (p : ℕ) (u : Unit) (is : get c.u
 pub marks-begun : (c : MarkedCampaign) (u : Unit) → MarksChanges c (record { value = with_unit_begun c.value u; marks = mark_unit_begun c })
 marks-begun c u =
     let n = c.value.next_unit in
+    let mid : MarkedCampaign = record { value = with_unit c.value n u; marks = mark_unit_added c n } in
     let next : MarkedCampaign = record { value = with_unit_begun c.value u; marks = mark_unit_begun c } in
-    part_by_part c next
-    (λ p. elim p as (Stays c.marks next.marks) [ Units ↦ put_stays c.marks.units n | Goods ↦ put_stays c.marks.goods n | Row ↦ λ k h. refl | _ ↦ λ k h. h ])
-    (λ p. elim p as (Tells next.marks c.value next.value) [
-      | Units ↦ λ k free. ap (option_map bare) (get-insert_other c.value.units n k u (apart_by c.marks.units n k free))
-      | Goods ↦ λ k free. ap goods_under (get-insert_other c.value.units n k u (apart_by c.marks.goods n k free))
-      | Row ↦ λ k free. absurd (true≢false free)
-      | _ ↦ λ k free. refl
-    ])
+    marks-trans c mid next
+    (marks-unit c (insert c.value.units n u) n (λ k apart. get-insert_other c.value.units n k u apart))
+    (part_by_part mid next
+    (λ p. elim p as (Stays mid.marks next.marks) [ Row ↦ λ k h. refl | _ ↦ λ k h. h ])
+    (λ p. elim p as (Tells next.marks mid.value next.value) [ Row ↦ λ k free. absurd (true≢false free) | _ ↦ λ k free. refl ]))

@@ -14,13 +14,14 @@ pub mod StayingLaws
 pub mod StepLaws
 pub mod OutcomeLaws
 pub mod AmountsForLaws
+pub mod MarkLaws
+pub mod ChangeLaws
 pub mod MovingLaws
 pub mod GiveLaws
 pub mod DaysLaws
 pub mod TransferLaws
 pub mod GuardingLaws
 pub mod HolderLaws
-pub mod MarkLaws
 pub mod FactionLaws
 pub mod StructureLaws
 pub mod RefitLaws

@@ -1,13 +1,16 @@
 -- Changes of a campaign that are marked.
-use Rattle.std.proofs.Common.{◌≡◌, ◌==◌, ℕ, Bool, true, false, Option, Some, None, refl, sym, ◌∙◌}
-use Rattle.std.specs.Prelude.{Result, Ok, Err, OnOk, if◌then◌else◌}
+use Rattle.std.proofs.Common.{◌≡◌, ◌==◌, ◌<◌, ℕ, Bool, true, false, Option, Some, None, refl, sym, ◌∙◌}
+use Rattle.std.specs.Prelude.{ℤ, Result, Ok, Err, OnOk, if◌then◌else◌}
 use Rattle.std.specs.FinMap.{get}
+use Rattle.atl_state.specs.Books.{IsGrid, thing_place}
 use Rattle.atl_state.specs.Covers.{MarksChanges}
+use Rattle.atl_state.specs.declared.books.Entry.{Entry}
+use Rattle.atl_state.specs.declared.books.Thing.{Thing}
 use Rattle.atl_state.specs.declared.records.Unit.{Unit}
-use Rattle.atl_state.specs.Marking.{handed_marked, place_marked, place_marked_at, put_marked}
+use Rattle.atl_state.specs.Marking.{handed_marked, mark_amount, place_marked, place_marked_at, put_marked}
 use Rattle.atl_state.specs.Owners.{heir, with_place}
-use Rattle.atl_state.specs.Campaign.{MarkedCampaign}
-use Rattle.atl_state.proofs.CoverLaws.{marks-refl, marks-trans}
+use Rattle.atl_state.specs.Campaign.{MarkedCampaign, with_amount}
+use Rattle.atl_state.proofs.CoverLaws.{marks-amount, marks-refl, marks-trans}
 use Rattle.atl_state.proofs.HoldingLaws.{marks-unit_row}
 use Rattle.atl_state.proofs.LeavingLaws.{marks-handed}
 use Rattle.atl_state.proofs.OwnerLaws.{place-what}
@@ -15,6 +18,12 @@ use Rattle.atl_state.proofs.OwnerLaws.{place-what}
 -- by what a call leaves, and what it marks
 pub marks_by : (a b m : MarkedCampaign) → b.value ≡ m.value → b.marks ≡ m.marks → MarksChanges a m → MarksChanges a b
 marks_by a b m what marks h = rw (what, marks) (record { stay = h.stay; covers = h.covers })
+
+-- what is booked behind a change
+pub booked_marks : (things : ℕ) (a b d : MarkedCampaign) (e : Entry) (t : Thing) (z : ℤ) → MarksChanges a b → IsGrid things b.value.books → thing_place t < things
+    → d.value ≡ with_amount b.value e t z → d.marks ≡ mark_amount b e t → MarksChanges a d
+booked_marks things a b d e t z before grid inside what marks =
+    marks-trans a b d before (marks_by b d (record { value = with_amount b.value e t z; marks = mark_amount b e t }) what marks (marks-amount things b e t z grid inside))
 
 -- a campaign that stays as it is
 pub marks_same : (a b : MarkedCampaign) → b ≡ a → MarksChanges a b

@@ -4,18 +4,16 @@ use Rattle.std.specs.Prelude.{pos}
 use Rattle.std.proofs.lemmas.Bool.{cases_eq}
 use Rattle.std.specs.FinMap.{get}
 use Rattle.atl_tables.specs.Worlds.{WorldValue}
-use Rattle.atl_state.specs.Covers.{MarksChanges}
 use Rattle.atl_state.specs.declared.books.Thing.{Thing}
 use Rattle.atl_state.specs.declared.records.Unit.{Unit}
 use Rattle.atl_state.specs.Books.{amount_in}
 use Rattle.atl_state.specs.Good.{IsEarly}
 use Rattle.atl_state.specs.Held.{Held}
-use Rattle.atl_state.specs.Lending.{lent, with_held}
-use Rattle.atl_state.specs.Marking.{mark_unit_row}
-use Rattle.atl_state.specs.Campaign.{MarkedCampaign, CampaignValue, with_money}
+use Rattle.atl_state.specs.Lending.{with_held}
+use Rattle.atl_state.specs.Campaign.{CampaignValue}
 use Rattle.atl_state.specs.Totals.{held, total}
 use Rattle.atl_state.proofs.EveryLaws.{get-insert_other}
-use Rattle.atl_state.proofs.HoldingLaws.{marks-lent, marks-unit_row, total-held}
+use Rattle.atl_state.proofs.HoldingLaws.{total-held}
 use Rattle.atl_state.proofs.RegionLaws.{get-insert_same}
 use Rattle.atl_instant.specs.Staying.{IsNoWorse}
 use Rattle.atl_instant.specs.Steps.{IsSpared, StepsWell}
@@ -68,16 +66,3 @@ module _ (c : CampaignValue) (from to : ℕ) (u v : Unit) (h k : Held) (giver : 
     | inr away ↦
         record { unit = x; there = get-insert_other between.units to n (record v { holding = k }) away ∙ get-insert_other c.units from n (record u { holding = h }) other ∙ there; spared = no_worse x }
   ]
-
--- ---- what is marked
-
-pub money_marks : (c d : MarkedCampaign) (n money : ℕ) → d.value ≡ with_money c.value n money → d.marks ≡ mark_unit_row c n → MarksChanges c d
-money_marks c d n money what marks =
-    let all = marks-unit_row (λ u. record u { holding = record u.holding { money = money } }) (λ u. refl) c n in
-    rw (what, marks) (record { stay = all.stay; covers = all.covers })
-
-pub lent_marks : (c d : MarkedCampaign) (n : ℕ) (h : Held) → d ≡ lent c n h → MarksChanges c d
-lent_marks c d n h is = subst (MarksChanges c) (sym is) (marks-lent c n h)
-
-pub lent_what : (c d : MarkedCampaign) (n : ℕ) (u : Unit) (h : Held) → get c.value.units n ≡ Some u → d ≡ lent c n h → d.value ≡ with_held c.value n h (Some u)
-lent_what c d n u h is e = ap (λ (m : MarkedCampaign). m.value) e ∙ ap (with_held c.value n h) is

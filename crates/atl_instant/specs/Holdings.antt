@@ -1,11 +1,27 @@
 -- What becomes of a campaign where one unit has other things.
-use Rattle.std.specs.Prelude.{◌≡◌, ℕ, Some}
-use Rattle.std.specs.FinMap.{get}
-use Rattle.atl_state.specs.declared.records.Unit.{Unit}
-use Rattle.atl_state.specs.Held.{Held}
-use Rattle.atl_state.specs.Lending.{lent}
-use Rattle.atl_state.specs.Campaign.{MarkedCampaign}
+use Rattle.std.specs.Prelude.{◌≡◌, ℕ, List, fold}
+use Rattle.std.specs.Ordering.{nat_cmp}
+use Rattle.std.specs.FinMap.{FinMap}
+use Rattle.atl_state.specs.Covers.{MarksChanges}
+use Rattle.atl_state.specs.Held.{Held, with_amount_of}
+use Rattle.atl_state.specs.Marks.{Marks}
+use Rattle.atl_state.specs.Campaign.{MarkedCampaign, unit_changed}
 
--- a unit that is there has what this makes of what it had, and is marked
-abbrev pub ChangesHolding : (before after : MarkedCampaign) → (n : ℕ) → (Held → Held) → Type 0
-ChangesHolding before after n change = (u : Unit) → get before.value.units n ≡ Some u → after ≡ lent before n (change u.holding)
+-- A unit that is there has what this makes of what it had, and nothing else is changed. What changed is marked, and of goods only single things.
+pub record ChangesHolding (before after : MarkedCampaign) (n : ℕ) (change : Held → Held) : Type 0 where
+  pub value : after.value ≡ unit_changed (λ u. record u { holding = change u.holding }) before.value n
+  pub marks : MarksChanges before after
+  pub goods : after.marks.goods ≡ before.marks.goods
+
+-- neither all goods of a unit nor an item is marked that was not
+pub record MarksNoItems (before after : Marks) : Type 0 where
+  pub goods : after.goods ≡ before.goods
+  pub items : after.items ≡ before.items
+
+-- and no skill
+abbrev pub MarksNoGoods : Marks → Marks → Type 0
+MarksNoGoods before after = MarksNoItems before after × (after.skills ≡ before.skills)
+
+-- days with those of some skills set, one by one
+abbrev pub with_days : FinMap nat_cmp ℕ → List (ℕ × ℕ) → FinMap nat_cmp ℕ
+with_days days list = fold (λ all e. with_amount_of all e.0 e.1) days list

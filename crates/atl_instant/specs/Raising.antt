@@ -1,17 +1,14 @@
 -- For proofs alone: how the code goes from skill to skill, as men go with their days.
-use Rattle.std.specs.Prelude.{ℕ, ◌+◌, ◌-◌, List, map, fold}
+use Rattle.std.specs.Prelude.{ℕ, ◌+◌, ◌-◌, List, map}
 use Rattle.std.specs.Ordering.{nat_cmp}
-use Rattle.std.specs.FinMap.{FinMap, empty, entries}
-use Rattle.atl_state.specs.Held.{amount_of, with_amount_of}
+use Rattle.std.specs.FinMap.{FinMap, entries}
+use Rattle.atl_state.specs.Held.{amount_of}
 use Rattle.atl_instant.specs.Transfer.{days_going}
 
--- the rest of each skill, set one by one
-abbrev pub rest_set : (n men : ℕ) → FinMap nat_cmp ℕ → FinMap nat_cmp ℕ
-rest_set n men days = fold (λ left e. with_amount_of left e.0 (e.1 - days_going n men e.1)) empty (entries days)
+-- the rest of each skill
+abbrev pub left_list : (n men : ℕ) → (days : FinMap nat_cmp ℕ) → List (ℕ × ℕ)
+left_list n men days = map (λ e. (e.0, e.1 - days_going n men e.1)) (entries days)
 
 -- what others then have of each of these skills, who had more
 abbrev pub raised_list : (n men : ℕ) → (days more : FinMap nat_cmp ℕ) → List (ℕ × ℕ)
 raised_list n men days more = map (λ e. (e.0, amount_of more e.0 + days_going n men e.1)) (entries days)
-
-abbrev pub with_days : FinMap nat_cmp ℕ → List (ℕ × ℕ) → FinMap nat_cmp ℕ
-with_days days list = fold (λ all e. with_amount_of all e.0 e.1) days list

@@ -4,8 +4,7 @@ ghost use Rattle.std.specs.FinMap as map;
 ghost use Rattle.std.specs.Option.{option_copied};
 ghost use Rattle.atl_state.specs.Covers.{MarksChanges};
 ghost use Rattle.atl_state.specs.Good.{Every, IsEarly};
-ghost use Rattle.atl_state.specs.Held.{IsHolding, with_amount_of};
-ghost use Rattle.atl_state.specs.Lending.{with_held};
+ghost use Rattle.atl_state.specs.Held.{IsHolding};
 ghost use Rattle.atl_state.specs.declared.records.Unit.{Unit};
 ghost use Rattle.atl_state.specs.Limits.{holding_limit};
 ghost use Rattle.atl_instant.specs.Holdings.{ChangesHolding};
@@ -75,32 +74,17 @@ fn give_fault(
     None
 }
 
-/// Sets how much of an item a unit holds that is there.
-fn set_item(campaign: &mut Campaign, number: u32, item: u32, amount: u32) -> Result<(), AllocError>
-    requires { amount ≤ holding_limit }
-    ensures { OnOk result (ChangesHolding campaign.old campaign.new number (λ h. record h { items = with_amount_of h.items item amount })) }
-{
-    match campaign.unit_mut(number) {
-        Some(holding) => holding.set_amount(item, amount),
-        None => Ok(()),
-    }
-}
-
-/// Sets how much of a gift a unit holds that is there.
+/// Sets how much of a gift a unit holds, where it is there.
 fn set_held(campaign: &mut Campaign, number: u32, gift: Gift, amount: u32) -> Result<(), AllocError>
     requires { amount ≤ holding_limit }
-    ensures what { OnOk result ((u : Unit) → map.get campaign.old.value.units number ≡ Some u → campaign.new.value ≡ with_held campaign.old.value number (with_held_of gift u.holding amount) (Some u)) }
-    ensures marks { OnOk result ((u : Unit) → map.get campaign.old.value.units number ≡ Some u → MarksChanges campaign.old campaign.new) }
+    ensures { OnOk result (ChangesHolding campaign.old campaign.new number (λ h. with_held_of gift h amount)) }
 {
     match gift {
         Gift::Money => {
             campaign.set_money(number, amount);
             Ok(())
         }
-        Gift::Item(item) => {
-            set_item(campaign, number, u32::from(item), amount)?;
-            Ok(())
-        }
+        Gift::Item(item) => campaign.set_item(number, u32::from(item), amount),
     }
 }
 
@@ -125,8 +109,7 @@ fn hand_over(
     let left = held_of(gift, &giver.holding) - amount;
     let more = held_of(gift, &receiver.holding) + amount;
     set_held(campaign, from, gift, left)?;
-    set_held(campaign, to, gift, more)?;
-    Ok(())
+    set_held(campaign, to, gift, more)
 }
 
 /// Gives so much, or nothing where a fault fits.

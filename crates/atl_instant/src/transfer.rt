@@ -4,14 +4,13 @@ ghost use Rattle.std.specs.FinMap as map;
 ghost use Rattle.std.specs.Option.{option_copied};
 ghost use Rattle.atl_state.specs.Covers.{MarksChanges};
 ghost use Rattle.atl_state.specs.Good.{AreDays, Every, IsEarly};
-ghost use Rattle.atl_state.specs.Held.{with_amount_of};
 ghost use Rattle.atl_state.specs.Limits.{men_limit, most_days};
 ghost use Rattle.atl_state.specs.declared.records.Unit.{Unit};
-ghost use Rattle.atl_instant.specs.Holdings.{ChangesHolding};
-ghost use Rattle.atl_instant.specs.Raising.{raised_list, rest_set, with_days};
+ghost use Rattle.atl_instant.specs.Raising.{left_list, raised_list};
 ghost use Rattle.atl_instant.specs.Transfer.{DaysGoWithMen, days_going, is_transferring, sent, transfer, transfer_fault, transfer_step};
 ghost use Rattle.atl_instant.specs.Steps.{carried};
 
+use crate::holdings::set_people;
 use crate::month::Month;
 use crate::orders::PhaseVerbs;
 use crate::outcome::failed;
@@ -19,7 +18,7 @@ use crate::steps::{OrderPhase, PlainPhase, own_unit};
 use crate::written::Written;
 use atl_orders::{Mailing, Order, Verb};
 use atl_state::{Campaign, EventFault, Holding, MEN_LIMIT, Outcome, Unit};
-use atl_tables::{Numbered, World};
+use atl_tables::World;
 use std::alloc::{AllocError, Global};
 
 /// Men go to units of their faction in their region, with their part of the days of study. See docs/RULES.md, "Transferring".
@@ -36,30 +35,18 @@ fn days_going(going: u32, men: u32, days: u32) -> u32
     (u64::from(days) * u64::from(going) / u64::from(men)) as u32
 }
 
-/// Sets the days of a skill. Where they are 0 the skill is listed no more.
-fn set_days(all: &mut Numbered<u32>, skill: u32, days: u32) -> Result<(), AllocError>
-    ensures { OnOk result (all.new ≡ with_amount_of all.old skill days) }
-{
-    if days == 0 {
-        all.remove(skill);
-        return Ok(());
-    }
-    all.insert(skill, days)
-}
-
 /// The days of each skill that stay as so many of a unit's men go.
-fn days_left(alloc: Global, going: u32, holding: &Holding) -> Result<Numbered<u32>, AllocError>
+fn days_left(alloc: Global, going: u32, holding: &Holding) -> Result<Vec<(u32, u32)>, AllocError>
     requires fewer { going ≤ holding.now.men }
     requires days { Every (λ s days. (1 ≤ days) × (days ≤ most_days * holding.now.men)) holding.now.days }
-    ensures { IfOk result (λ left. left ≡ rest_set going holding.now.men holding.now.days) }
+    ensures { IfOk result (λ list. list.items ≡ left_list going holding.now.men holding.now.days) }
 {
     let men = holding.men();
-    let mut left = Numbered::new(alloc);
+    let mut list = Vec::new(alloc);
     for (skill, days) in holding.days() {
-        let staying = *days - days_going(going, men, *days);
-        set_days(&mut left, skill, staying)?;
+        list.push((skill, *days - days_going(going, men, *days)))?;
     }
-    Ok(left)
+    Ok(list)
 }
 
 /// The days that a unit has, once so many men of another come to it, of each skill of these.
@@ -84,46 +71,6 @@ fn days_raised(
     Ok(list)
 }
 
-/// Sets the days of some skills.
-fn set_each(holding: &mut Holding, list: &[(u32, u32)]) -> Result<(), AllocError>
-    ensures { OnOk result (holding.new ≡ record holding.old { days = with_days holding.old.days list.now }) }
-{
-    for (skill, days) in list.iter() {
-        holding.set_days(*skill, *days)?;
-    }
-    Ok(())
-}
-
-/// Men go from a unit that is there, and the rest of the days stays.
-fn take_men(campaign: &mut Campaign, number: u32, men: u32, days: Numbered<u32>)
-    requires { men ≤ men_limit }
-    ensures { ChangesHolding campaign.old campaign.new number (λ h. record h { men = men; days = days }) }
-{
-    if let Some(holding) = campaign.unit_mut(number) {
-        holding.set_men(men);
-        holding.set_all_days(days);
-    }
-}
-
-/// Men come to a unit that is there, with days of some skills.
-fn add_men(
-    campaign: &mut Campaign,
-    number: u32,
-    men: u32,
-    list: &[(u32, u32)],
-) -> Result<(), AllocError>
-    requires { men ≤ men_limit }
-    ensures { OnOk result (ChangesHolding campaign.old campaign.new number (λ h. record h { men = men; days = with_days h.days list.now })) }
-{
-    match campaign.unit_mut(number) {
-        Some(holding) => {
-            holding.set_men(men);
-            set_each(holding, list)
-        }
-        None => Ok(()),
-    }
-}
-
 /// So many men go from one unit to another with their days.
 fn send(
     alloc: Global,
@@ -146,9 +93,8 @@ fn send(
     let raised = days_raised(alloc, going, &sender.holding, &receiver.holding)?;
     let staying = sender.holding.men() - going;
     let more = receiver.holding.men() + going;
-    take_men(campaign, from, staying, left);
-    add_men(campaign, to, more, &raised)?;
-    Ok(())
+    set_people(campaign, from, staying, &left)?;
+    set_people(campaign, to, more, &raised)
 }
 
 /// Why so many men can't go from a unit to another.

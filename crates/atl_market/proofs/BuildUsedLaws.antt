@@ -29,8 +29,8 @@ use Rattle.atl_state.proofs.HeldLaws.{alike, set_amount}
 use Rattle.atl_instant.proofs.MeaningLaws.{less_room, near_more}
 use Rattle.atl_instant.proofs.StepLaws.{drawn_near}
 use Rattle.atl_market.specs.Build.{CanBuild, build_reserve, usable}
-use Rattle.atl_market.specs.Goods.{used_by, with_item, with_used}
-use Rattle.atl_market.proofs.GoodsLaws.{either_way, used_is, used_up_to}
+use Rattle.atl_market.specs.Goods.{used_by, with_used}
+use Rattle.atl_market.proofs.GoodsLaws.{either_way, item_held, used_is, used_up_to}
 
 -- ---- what a unit holds less
 
@@ -98,7 +98,7 @@ module _ (w : WorldValue) (c : CampaignValue) (n item amount : ℕ) (u : Unit) (
   user = record u { holding = with_less u.holding item amount }
 
   abbrev pub used : CampaignValue
-  used = with_amount (with_item c n u item (amount_of u.holding.items item - amount)) Used (Item item) (neg_ℤ (pos amount))
+  used = with_amount (item_held c n u item (amount_of u.holding.items item - amount)) Used (Item item) (neg_ℤ (pos amount))
 
   -- the unit is there, and the others stay
   pub user_there : get used.units n ≡ Some user

@@ -12,27 +12,23 @@ use Rattle.atl_state.specs.declared.books.Entry.TheVariants as entries
 use Rattle.atl_state.specs.declared.books.Thing.{Thing}
 use Rattle.atl_state.specs.declared.books.Thing.TheVariants.{Item, Money, People}
 use Rattle.atl_state.specs.declared.records.Unit.{Unit}
-use Rattle.atl_state.specs.Books.{IsGrid, IsWithin}
-use Rattle.atl_state.specs.Covers.{MarksChanges}
+use Rattle.atl_state.specs.Books.{IsWithin}
 use Rattle.atl_state.specs.Founding.{things_of}
 use Rattle.atl_state.specs.Good.{IsSteady}
 use Rattle.atl_state.specs.Held.{Held, amount_of, with_amount_of}
-use Rattle.atl_state.specs.Lending.{lent, with_held}
+use Rattle.atl_state.specs.Lending.{with_held}
 use Rattle.atl_state.specs.Limits.{holding_limit}
-use Rattle.atl_state.specs.Marking.{mark_amount}
-use Rattle.atl_state.specs.Campaign.{MarkedCampaign, CampaignValue, with_amount}
+use Rattle.atl_state.specs.Campaign.{CampaignValue, with_amount, with_item}
 use Rattle.atl_state.specs.Totals.{held, total}
 use Rattle.atl_state.proofs.BookLaws.{booked-with_booked, share_of}
-use Rattle.atl_state.proofs.CoverLaws.{marks-amount, marks-trans}
-use Rattle.atl_state.proofs.EveryLaws.{get-insert_other}
 use Rattle.atl_state.proofs.HavingLaws.{MayHave, may_have}
-use Rattle.atl_state.proofs.HoldingLaws.{marks-lent, steady-held, total-held}
+use Rattle.atl_state.proofs.HoldingLaws.{steady-held, total-held}
 use Rattle.atl_state.proofs.RegionLaws.{get-insert_same, steady-amount, total-amount}
 use Rattle.atl_instant.specs.Meaning.{LeavesWell, moves_only}
 use Rattle.atl_state.proofs.HeldLaws.{alike, amount_within, every_amount, set_amount}
 use Rattle.atl_instant.proofs.BookingLaws.{booked-near, within-neg, within-pos}
-use Rattle.atl_instant.proofs.MarkLaws.{marks_by}
-use Rattle.atl_market.specs.Goods.{CanMake, CanUse, made_to, used_by, with_item, with_made, with_used}
+use Rattle.atl_instant.proofs.ChangeLaws.{changed_held, others_held}
+use Rattle.atl_market.specs.Goods.{CanMake, CanUse, made_to, used_by, with_made, with_used}
 
 moved : (x y t k a l : ℕ) (z : ℤ) → x ≡ y → y + k ≡ t + a → k ≡ l → pos a ≡ pos l +ℤ z → pos x ≡ pos t +ℤ z
 moved x y t k a l z e f g h = omega (arith, ints, e, f, g, h)
@@ -45,6 +41,13 @@ pub either_way : {A : Type 0} (of : Option Unit → A) (same : A) → of None �
 either_way of same without with None = without
 either_way of same without with (Some u) = with u
 
+-- a unit that is there holds so much of an item
+abbrev pub item_held : CampaignValue → ℕ → Unit → (item amount : ℕ) → CampaignValue
+item_held c n u i amount = with_held c n (record u.holding { items = with_amount_of u.holding.items i amount }) (Some u)
+
+item_is : (c : CampaignValue) (n : ℕ) (u : Unit) (i amount : ℕ) → get c.units n ≡ Some u → with_item c n i amount ≡ item_held c n u i amount
+item_is c n u i amount is = changed_held (λ h. record h { items = with_amount_of h.items i amount }) c (with_item c n i amount) n refl u is
+
 -- ---- a unit holds another amount of an item, which is booked
 
 module _ (w : WorldValue) (c : CampaignValue) (n : ℕ) (u : Unit) (i amount : ℕ) (is : get c.units n ≡ Some u) where
@@ -52,7 +55,7 @@ module _ (w : WorldValue) (c : CampaignValue) (n : ℕ) (u : Unit) (i amount : �
   more = record u.holding { items = with_amount_of u.holding.items i amount }
 
   abbrev with_set : CampaignValue
-  with_set = with_item c n u i amount
+  with_set = item_held c n u i amount
 
   may : i < length w.items → amount ≤ holding_limit → MayHave w u.holding → MayHave w more
   may known most old = record {
@@ -114,11 +117,11 @@ put_to : (a k : ℕ) → pos (a + k) ≡ pos a +ℤ pos k
 put_to a k = omega (arith, ints)
 
 module _ (w : WorldValue) (c : CampaignValue) (n i k : ℕ) where
-  pub used_is : (u : Unit) → get c.units n ≡ Some u → with_used c n i k ≡ with_amount (with_item c n u i (amount_of u.holding.items i - k)) entries.Used (Item i) (neg_ℤ (pos k))
-  used_is u is = ap (used_by c n i k) is
+  pub used_is : (u : Unit) → get c.units n ≡ Some u → with_used c n i k ≡ with_amount (item_held c n u i (amount_of u.holding.items i - k)) entries.Used (Item i) (neg_ℤ (pos k))
+  used_is u is = ap (used_by c n i k) is ∙ ap (λ d. with_amount d entries.Used (Item i) (neg_ℤ (pos k))) (item_is c n u i (amount_of u.holding.items i - k) is)
 
-  pub made_is : (u : Unit) → get c.units n ≡ Some u → with_made c n i k ≡ with_amount (with_item c n u i (amount_of u.holding.items i + k)) entries.Made (Item i) (pos k)
-  made_is u is = ap (made_to c n i k) is
+  pub made_is : (u : Unit) → get c.units n ≡ Some u → with_made c n i k ≡ with_amount (item_held c n u i (amount_of u.holding.items i + k)) entries.Made (Item i) (pos k)
+  made_is u is = ap (made_to c n i k) is ∙ ap (λ d. with_amount d entries.Made (Item i) (pos k)) (item_is c n u i (amount_of u.holding.items i + k) is)
 
   held_within : (u : Unit) → get c.units n ≡ Some u → IsSteady w c → amount_of u.holding.items i ≤ holding_limit
   held_within u is steady = amount_within u.holding i (steady.numbers.units n u is).1
@@ -151,19 +154,22 @@ module _ (w : WorldValue) (c : CampaignValue) (n i k : ℕ) where
   made_unit u is = ap (λ (d : CampaignValue). get d.units n) (made_is u is) ∙ get-insert_same c.units n (record u { holding = record u.holding { items = with_amount_of u.holding.items i (amount_of u.holding.items i + k) } })
 
   -- and others
+  item_others : (amount m : ℕ) → m ≢ n → get (with_item c n i amount).units m ≡ get c.units m
+  item_others amount m apart = others_held (λ u. record u { holding = record u.holding { items = with_amount_of u.holding.items i amount } }) c n m apart
+
   pub used_others : (m : ℕ) → m ≢ n → get (with_used c n i k).units m ≡ get c.units m
   used_others m apart = by_unit (get c.units n)
     where
       by_unit : (o : Option Unit) → get (used_by c n i k o).units m ≡ get c.units m
       by_unit None = refl
-      by_unit (Some u) = get-insert_other c.units n m (record u { holding = record u.holding { items = with_amount_of u.holding.items i (amount_of u.holding.items i - k) } }) apart
+      by_unit (Some u) = item_others (amount_of u.holding.items i - k) m apart
 
   pub made_others : (m : ℕ) → m ≢ n → get (with_made c n i k).units m ≡ get c.units m
   made_others m apart = by_unit (get c.units n)
     where
       by_unit : (o : Option Unit) → get (made_to c n i k o).units m ≡ get c.units m
       by_unit None = refl
-      by_unit (Some u) = get-insert_other c.units n m (record u { holding = record u.holding { items = with_amount_of u.holding.items i (amount_of u.holding.items i + k) } }) apart
+      by_unit (Some u) = item_others (amount_of u.holding.items i + k) m apart
 
 -- with less of one item a unit has no more of another
 pub no_more : (h : Held) (r i k : ℕ) → amount_of (with_amount_of h.items r (amount_of h.items r - k)) i ≤ amount_of h.items i
@@ -175,21 +181,3 @@ no_more h r i k = subst (λ a. a ≤ amount_of h.items i) (sym (set_amount h.ite
     by_test : (q : Bool) → eq_by_cmp nat_cmp i r ≡ q → cond q (amount_of h.items r - k) (amount_of h.items i) ≤ amount_of h.items i
     by_test true is = less (amount_of h.items r) (amount_of h.items i) k (ap (amount_of h.items) (alike r i is))
     by_test false is = omega arith
-
--- ---- what the code does
-
-module _ (c d e : MarkedCampaign) (n : ℕ) (u : Unit) (i amount : ℕ) (entry : Entry) (z : ℤ) (things : ℕ) (is : get c.value.units n ≡ Some u) (set : d ≡ lent c n (record u.holding { items = with_amount_of u.holding.items i amount })) where
-  pub lent_item : d.value ≡ with_item c.value n u i amount
-  lent_item = ap (λ (m : MarkedCampaign). m.value) set ∙ ap (with_held c.value n (record u.holding { items = with_amount_of u.holding.items i amount })) is
-
-  pub same_books : d.value.books ≡ c.value.books
-  same_books = ap (λ (s : CampaignValue). s.books) lent_item
-
-  pub goods_what : e.value ≡ with_amount d.value entry (Item i) z → e.value ≡ with_amount (with_item c.value n u i amount) entry (Item i) z
-  goods_what what = what ∙ ap (λ s. with_amount s entry (Item i) z) lent_item
-
-  pub goods_marks : e.value ≡ with_amount d.value entry (Item i) z → e.marks ≡ mark_amount d entry (Item i) → IsGrid things c.value.books → 2 + i < things → MarksChanges c e
-  goods_marks what marks grid known =
-      let d_grid : IsGrid things d.value.books = rw same_books grid in
-      marks-trans c d e (subst (MarksChanges c) (sym set) (marks-lent c n (record u.holding { items = with_amount_of u.holding.items i amount })))
-      (marks_by d e _ what marks (marks-amount things d entry (Item i) z d_grid (omega (arith, known))))

@@ -26,25 +26,27 @@ use Rattle.atl_state.specs.Covers.{MarksChanges}
 use Rattle.atl_state.specs.Founding.{things_of}
 use Rattle.atl_state.specs.Good.{Every, IsEarly}
 use Rattle.atl_state.specs.Held.{Held, IsHolding, amount_of, with_amount_of}
-use Rattle.atl_state.specs.Lending.{lent, with_held}
+use Rattle.atl_state.specs.Lending.{with_held, with_holding}
 use Rattle.atl_state.specs.Limits.{holding_limit, most_units}
-use Rattle.atl_state.specs.Marking.{mark_amount, mark_region}
+use Rattle.atl_state.specs.Marking.{mark_region}
 use Rattle.atl_state.specs.Stocks.{stock_limit, stock_of}
 use Rattle.atl_state.specs.Campaign.{MarkedCampaign, CampaignValue, region_changed, with_amount, with_stock}
 use Rattle.atl_state.specs.Totals.{held, kept, total}
 use Rattle.atl_state.proofs.BackLaws.{entries_rise}
 use Rattle.atl_state.proofs.BookLaws.{booked-with_booked, share_of}
-use Rattle.atl_state.proofs.CoverLaws.{marks-amount, marks-region, marks-trans}
+use Rattle.atl_state.proofs.CoverLaws.{marks-region, marks-trans}
 use Rattle.atl_state.proofs.EveryLaws.{each-from_every, get-insert_other, none_some}
 use Rattle.atl_state.proofs.HavingLaws.{MayHave, early-having, may_have}
 use Rattle.atl_state.proofs.HeldLaws.{alike, amount_within, every_amount, set_amount}
-use Rattle.atl_state.proofs.HoldingLaws.{marks-lent, total-held}
+use Rattle.atl_state.proofs.HoldingLaws.{total-held}
 use Rattle.atl_state.proofs.ListLaws.{other_number, same_number}
 use Rattle.atl_state.proofs.RegionLaws.{steady-amount, total-amount, total-region}
 use Rattle.atl_state.proofs.StockLaws.{restocked, steady-stock}
 use Rattle.atl_instant.specs.Meaning.{HasRoom, HaveRoom, LeavesWell, Moving, moved_times, moves_only, most_moved}
+use Rattle.atl_instant.specs.Holdings.{ChangesHolding}
 use Rattle.atl_instant.specs.declared.written.Written.{Written}
 use Rattle.atl_instant.proofs.BookingLaws.{booked-near, within-neg, within-pos}
+use Rattle.atl_instant.proofs.ChangeLaws.{changed_held}
 use Rattle.atl_instant.proofs.MarkLaws.{marks_by}
 use Rattle.atl_instant.proofs.MeaningLaws.{room_less, well_unchanged, well_within}
 use Rattle.atl_market.specs.AtOnce.{stands_in}
@@ -516,16 +518,13 @@ stock_most w c r i world early = by_region (get c.regions r) refl
         let limit = by_market q low (get w.regions r) refl in
         omega (arith, low, limit)
 
-module _ (c d e : MarkedCampaign) (n : ℕ) (u : Unit) (h : Held) (region item stock : ℕ) where
-  pub settled_books : get c.value.units n ≡ Some u → d ≡ lent c n h → e.value ≡ with_stock d.value region item stock → e.value.books ≡ c.value.books
-  settled_books there set put = ap (λ (s : CampaignValue). s.books) put ∙ ap (λ (m : MarkedCampaign). m.value.books) set ∙ ap (λ o. (with_held c.value n h o).books) there
+-- a unit with other goods, and then the stock of a region
+module _ (c d e : MarkedCampaign) (n region item stock : ℕ) (f : Held → Held) (set : ChangesHolding c d n f) (put : e.value ≡ with_stock d.value region item stock) where
+  pub settled_books : e.value.books ≡ c.value.books
+  settled_books = ap (λ (s : CampaignValue). s.books) put ∙ ap (λ (s : CampaignValue). s.books) set.value
 
--- what is marked
-pub settled_marks : (c d e f : MarkedCampaign) (n : ℕ) (u : Unit) (h : Held) (region item stock things : ℕ) (entry : Entry) (z : ℤ) → get c.value.units n ≡ Some u → d ≡ lent c n h
-    → e.value ≡ with_stock d.value region item stock → e.marks ≡ mark_region d region → f.value ≡ with_amount e.value entry Money z → f.marks ≡ mark_amount e entry Money
-    → IsGrid things c.value.books → 2 ≤ things → MarksChanges c f
-settled_marks c d e f n u h region item stock things entry z there set put put_marks booked booked_marks grid two =
-    let e_grid : IsGrid things e.value.books = rw (settled_books c d e n u h region item stock there set put) grid in
-    marks-trans c e f
-    (marks-trans c d e (subst (MarksChanges c) (sym set) (marks-lent c n h)) (marks_by d e _ put put_marks (marks-region (λ r. restocked r item stock) d region)))
-    (marks_by e f _ booked booked_marks (marks-amount things e entry Money z e_grid (omega arith)))
+  pub settled_marks : e.marks ≡ mark_region d region → MarksChanges c e
+  settled_marks put_marks = marks-trans c d e set.marks (marks_by d e _ put put_marks (marks-region (λ r. restocked r item stock) d region))
+
+  pub settled_what : (u : Unit) → get c.value.units n ≡ Some u → e.value ≡ with_stock (with_holding c.value n (f u.holding)) region item stock
+  settled_what u is = put ∙ ap (λ s. with_stock s region item stock) (changed_held f c.value d.value n set.value u is ∙ sym (ap (with_held c.value n (f u.holding)) is))

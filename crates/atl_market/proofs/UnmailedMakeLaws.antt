@@ -17,6 +17,7 @@ use Rattle.atl_state.specs.Owners.{with_place}
 use Rattle.atl_state.specs.Campaign.{CampaignValue}
 use Rattle.atl_instant.specs.Month.{MonthValue}
 use Rattle.atl_instant.specs.PhaseOrders.{orders_by_unit}
+use Rattle.atl_state.proofs.RegionLaws.{changed-known}
 use Rattle.atl_instant.proofs.TermsLaws.{Leaves}
 use Rattle.atl_instant.proofs.UnmailedLaws.{HaveTheirMen, OthersHaveMen, SparesMen, carried_leaves, items_of_no_worse, men_put, men_same, men_stay, men_twice, men_unless, others_men, own_faction, unmailed_spared}
 use Rattle.atl_instant.proofs.UnmailedStepLaws.{place_men}
@@ -30,15 +31,16 @@ use Rattle.atl_market.proofs.UnmailedPotLaws.{others_items, paid_men, shared_lea
 -- ---- what a unit uses
 
 -- a unit that is there has so much of an item
-abbrev with_item : (item amount : ℕ) → Unit → Unit
-with_item i amount u = record u { holding = record u.holding { items = with_amount_of u.holding.items i amount } }
+abbrev item_set : (item amount : ℕ) → Unit → Unit
+item_set i amount u = record u { holding = record u.holding { items = with_amount_of u.holding.items i amount } }
 
 used_men : (c : CampaignValue) (n i amount : ℕ) → HaveTheirMen c (with_used c n i amount)
 used_men c n i amount = by_unit (get c.units n) refl
   where
     by_unit : (o : Option Unit) → get c.units n ≡ o → HaveTheirMen c (used_by c n i amount o)
     by_unit None is = men_stay c
-    by_unit (Some u) is = men_put c (used_by c n i amount (Some u)) n u (with_item i (amount_of u.holding.items i - amount) u) is (record { faction = refl; men = refl }) refl
+    by_unit (Some u) is = men_put c (used_by c n i amount (Some u)) n u (item_set i (amount_of u.holding.items i - amount) u) is (record { faction = refl; men = refl })
+        (changed-known (item_set i (amount_of u.holding.items i - amount)) c.units n u is)
 
 -- ---- BUILD
 
@@ -90,7 +92,8 @@ made_men c n i amount = by_unit (get c.units n) refl
   where
     by_unit : (o : Option Unit) → get c.units n ≡ o → HaveTheirMen c (made_to c n i amount o)
     by_unit None is = men_stay c
-    by_unit (Some u) is = men_put c (made_to c n i amount (Some u)) n u (with_item i (amount_of u.holding.items i + amount) u) is (record { faction = refl; men = refl }) refl
+    by_unit (Some u) is = men_put c (made_to c n i amount (Some u)) n u (item_set i (amount_of u.holding.items i + amount) u) is (record { faction = refl; men = refl })
+        (changed-known (item_set i (amount_of u.holding.items i + amount)) c.units n u is)
 
 produced_men : (asked : FinMap nat_cmp ℕ) (w : WorldValue) (c : CampaignValue) (e : ℕ × ℕ) → HaveTheirMen c (produce.produced asked w c e)
 unfolding produce.produced

@@ -7,23 +7,18 @@ use Rattle.atl_state.specs.declared.books.Thing.TheVariants.{Item}
 use Rattle.atl_state.specs.declared.records.Unit.{Unit}
 use Rattle.atl_state.specs.Books.{amount_in}
 use Rattle.atl_state.specs.Good.{IsSteady}
-use Rattle.atl_state.specs.Held.{amount_of, with_amount_of}
-use Rattle.atl_state.specs.Lending.{with_held}
+use Rattle.atl_state.specs.Held.{amount_of}
 use Rattle.atl_state.specs.Limits.{holding_limit}
-use Rattle.atl_state.specs.Campaign.{CampaignValue, with_amount}
+use Rattle.atl_state.specs.Campaign.{CampaignValue, with_amount, with_item}
 use Rattle.atl_instant.specs.Meaning.{HasRoom}
-
--- a unit that is there holds so much of an item
-abbrev pub with_item : CampaignValue → ℕ → Unit → (item amount : ℕ) → CampaignValue
-with_item c n u i amount = with_held c n (record u.holding { items = with_amount_of u.holding.items i amount }) (Some u)
 
 abbrev pub used_by : CampaignValue → ℕ → (item amount : ℕ) → Option Unit → CampaignValue
 used_by c n i amount None = c
-used_by c n i amount (Some u) = with_amount (with_item c n u i (amount_of u.holding.items i - amount)) Used (Item i) (neg_ℤ (pos amount))
+used_by c n i amount (Some u) = with_amount (with_item c n i (amount_of u.holding.items i - amount)) Used (Item i) (neg_ℤ (pos amount))
 
 abbrev pub made_to : CampaignValue → ℕ → (item amount : ℕ) → Option Unit → CampaignValue
 made_to c n i amount None = c
-made_to c n i amount (Some u) = with_amount (with_item c n u i (amount_of u.holding.items i + amount)) Made (Item i) (pos amount)
+made_to c n i amount (Some u) = with_amount (with_item c n i (amount_of u.holding.items i + amount)) Made (Item i) (pos amount)
 
 -- a unit, by its number, uses so much of an item, and makes so much of one; both is booked
 abbrev pub with_used : CampaignValue → ℕ → (item amount : ℕ) → CampaignValue

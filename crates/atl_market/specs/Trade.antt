@@ -32,6 +32,11 @@ use Rattle.atl_market.specs.ItemPots.{item_shares}
 use Rattle.atl_market.specs.PotPhase.{PotMeaning, pots_meaning}
 use Rattle.atl_market.specs.Unordered.{spares_unordered}
 
+-- the trade of a phase
+abbrev pub trade_of : (sells : Bool) → Trade
+trade_of true = Sell
+trade_of false = Buy
+
 abbrev pub is_trade : Trade → Verb → Bool
 is_trade Sell verbs.Sell = true
 is_trade Buy verbs.Buy = true
@@ -145,12 +150,6 @@ trade_moves trade most = moves_only most (trade_entry trade) Money
 -- trading takes nothing from a unit whose own faction wrote no order of it
 abbrev pub trade_keeps : Trade → Keeping
 trade_keeps trade = spares_unordered (is_trade trade)
-
-abbrev pub is_sell : Verb → Bool
-is_sell = is_trade Sell
-
-abbrev pub is_buy : Verb → Bool
-is_buy = is_trade Buy
 
 abbrev pub sell_terms : PhaseTerms
 sell_terms = books_money Sold (trade_meaning Sell) (trade_keeps Sell)

@@ -1,11 +1,12 @@
 //! How the orders of a month are searched for what they ask for: the item that one names, or the number.
 ghost use Rattle.std.specs.Prelude.{◌≡◌, IfOk, OnOk};
 ghost use Rattle.atl_instant.specs.Month.{order_at};
-ghost use Rattle.atl_market.specs.Asking.{count_in, item_in};
+ghost use Rattle.atl_instant.specs.PhaseOrders.{orders_by_unit, written_by_unit};
+ghost use Rattle.atl_market.specs.Asking.{asked_of, count_in, item_in};
 ghost use Rattle.atl_market.specs.Finding.{found_by, found_in, found_of};
 ghost use Rattle.atl_market.specs.Puts.{with_each};
 
-use atl_instant::{Month, Written, is_of_faction};
+use atl_instant::{Month, PhaseVerbs, Written, is_of_faction};
 use atl_orders::Order;
 use atl_state::Campaign;
 use atl_tables::Numbered;
@@ -71,7 +72,7 @@ fn note_item(
 
 /// By unit, how many its own faction asks it for by these orders.
 #[tactic(auto, using(crate::proofs::WantLaws::appended_entries))]
-pub(crate) fn counts_found(
+fn counts_found(
     alloc: Global,
     campaign: &Campaign,
     month: &Month,
@@ -88,7 +89,7 @@ pub(crate) fn counts_found(
 
 /// By unit, the item that its own faction asks it for by these orders.
 #[tactic(auto, using(crate::proofs::WantLaws::appended_entries))]
-pub(crate) fn items_found(
+fn items_found(
     alloc: Global,
     campaign: &Campaign,
     month: &Month,
@@ -100,5 +101,35 @@ pub(crate) fn items_found(
     for order in orders {
         note_item(campaign, month, *order, &mut asked)?;
     }
+    Ok(asked)
+}
+
+/// By unit, how many its own faction asks it for by the orders of a month for a phase.
+pub(crate) fn counts_asked<P: PhaseVerbs>(
+    alloc: Global,
+    _: &P,
+    campaign: &Campaign,
+    month: &Month,
+    orders: &[Written],
+) -> Result<Numbered<u32>, AllocError>
+    requires { orders.now ≡ written_by_unit P.is_of month.now }
+    ensures { IfOk result (λ asked. asked ≡ asked_of count_in campaign.now.value (orders_by_unit P.is_of month.now)) }
+{
+    let asked = counts_found(alloc, campaign, month, orders)?;
+    Ok(asked)
+}
+
+/// By unit, the item that its own faction asks it for by the orders of a month for a phase.
+pub(crate) fn items_asked<P: PhaseVerbs>(
+    alloc: Global,
+    _: &P,
+    campaign: &Campaign,
+    month: &Month,
+    orders: &[Written],
+) -> Result<Numbered<u16>, AllocError>
+    requires { orders.now ≡ written_by_unit P.is_of month.now }
+    ensures { IfOk result (λ asked. asked ≡ asked_of item_in campaign.now.value (orders_by_unit P.is_of month.now)) }
+{
+    let asked = items_found(alloc, campaign, month, orders)?;
     Ok(asked)
 }

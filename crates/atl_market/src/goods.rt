@@ -1,11 +1,9 @@
 //! What units use of items, and what they make.
-ghost use Rattle.std.specs.Prelude.{◌≡◌, ◌≤◌, OnOk, Some};
+ghost use Rattle.std.specs.Prelude.{◌≡◌, OnOk, Some};
 ghost use Rattle.std.specs.FinMap as map;
 ghost use Rattle.atl_state.specs.Covers.{MarksChanges};
-ghost use Rattle.atl_state.specs.Held.{amount_of, with_amount_of};
-ghost use Rattle.atl_state.specs.Limits.{holding_limit};
+ghost use Rattle.atl_state.specs.Held.{amount_of};
 ghost use Rattle.atl_state.specs.declared.records.Unit.{Unit};
-ghost use Rattle.atl_instant.specs.Holdings.{ChangesHolding};
 ghost use Rattle.atl_market.specs.Goods.{CanMake, CanUse, with_made, with_used};
 
 use atl_instant::book_taken;
@@ -23,17 +21,6 @@ fn held_of(campaign: &Campaign, number: u32, item: u16) -> u32
     }
 }
 
-/// Sets how much of an item a unit holds that is there.
-fn set_item(campaign: &mut Campaign, number: u32, item: u16, amount: u32) -> Result<(), AllocError>
-    requires { amount ≤ holding_limit }
-    ensures { OnOk result (ChangesHolding campaign.old campaign.new number (λ h. record h { items = with_amount_of h.items item amount })) }
-{
-    match campaign.unit_mut(number) {
-        Some(holding) => holding.set_amount(u32::from(item), amount),
-        None => Ok(()),
-    }
-}
-
 /// A unit uses so much of an item, which is booked.
 pub(crate) fn use_item(
     world: &World,
@@ -47,7 +34,7 @@ pub(crate) fn use_item(
     ensures marks { OnOk result (MarksChanges campaign.old campaign.new) }
 {
     let left = held_of(campaign, number, item) - amount;
-    set_item(campaign, number, item, left)?;
+    campaign.set_item(number, u32::from(item), left)?;
     book_taken(campaign, Entry::Used, Thing::Item(item), amount);
     Ok(())
 }
@@ -65,7 +52,7 @@ pub(crate) fn make_item(
     ensures marks { OnOk result (MarksChanges campaign.old campaign.new) }
 {
     let more = held_of(campaign, number, item) + amount;
-    set_item(campaign, number, item, more)?;
+    campaign.set_item(number, u32::from(item), more)?;
     campaign.book(Entry::Made, Thing::Item(item), i64::from(amount));
     Ok(())
 }

@@ -1,15 +1,12 @@
 //! PRODUCE: units make items, of raw items or of what the terrain of their region gives.
-ghost use Rattle.std.specs.Prelude.{◌≡◌, IfOk};
 ghost use Rattle.atl_tables.specs.Worlds.{IsWorld};
 ghost use Rattle.atl_state.specs.Good.{IsSteady};
 ghost use Rattle.atl_instant.specs.Meaning.{most_moved};
-ghost use Rattle.atl_instant.specs.PhaseOrders.{orders_by_unit, written_by_unit};
 ghost use Rattle.atl_market.specs.Making.{CanProduce};
-ghost use Rattle.atl_market.specs.Asking.{asked_of, item_in};
 ghost use Rattle.atl_market.specs.Produce.{is_produce, produce_keeps, produce_meaning, produce_moves, produce_pots, produced};
 ghost use Rattle.atl_market.specs.Paid.{ProducesAtOnce};
 
-use crate::asking::items_found;
+use crate::asking::items_asked;
 use crate::making::{can_make, make, make_fault};
 use crate::outputs::makes;
 use crate::pot_phase::{PotPhase, share_out, tell_all};
@@ -81,20 +78,6 @@ impl<'a> PotPhase for MailedProducing<'a> {
     }
 }
 
-/// By unit, the item that its own faction tells it to make by the orders of a month.
-fn items_asked(
-    alloc: Global,
-    campaign: &Campaign,
-    month: &Month,
-    orders: &[Written],
-) -> Result<Numbered<u16>, AllocError>
-    requires { orders.now ≡ written_by_unit is_produce month.now }
-    ensures { IfOk result (λ asked. asked ≡ asked_of item_in campaign.now.value (orders_by_unit is_produce month.now)) }
-{
-    let asked = items_found(alloc, campaign, month, orders)?;
-    Ok(asked)
-}
-
 /// Does nothing. Its clause is what is so of every world.
 pub(crate) fn world_is_sound(world: &World)
     ensures { IsWorld world.now }
@@ -117,7 +100,7 @@ impl Phase for ProducePhase {
         mut month: Month,
     ) -> Result<(Campaign, Month), AllocError> {
         let orders = month.orders(alloc, self, Arrangement::ByUnit)?;
-        let asked = items_asked(alloc, &campaign, &month, &orders)?;
+        let asked = items_asked(alloc, self, &campaign, &month, &orders)?;
         world_is_sound(world);
         let producing = MailedProducing { asked: &asked };
         let events = share_out(alloc, &producing, world, &mut campaign, &orders)?;

@@ -1,5 +1,5 @@
 //! RECRUIT: peasants of a region join its units, at a price.
-ghost use Rattle.std.specs.Prelude.{ℕ, pos, neg_ℤ, ◌≡◌, ◌≤◌, ◌+◌, ◌*◌, IfOk, Some};
+ghost use Rattle.std.specs.Prelude.{ℕ, pos, neg_ℤ, ◌≡◌, ◌≤◌, ◌+◌, ◌*◌, Some};
 ghost use Rattle.std.specs.FinMap as finmap;
 ghost use Rattle.atl_state.specs.declared.books.Entry.TheVariants.{Recruiting};
 ghost use Rattle.atl_state.specs.declared.books.Thing.TheVariants.{Money};
@@ -9,14 +9,13 @@ ghost use Rattle.atl_state.specs.Good.{IsEarly};
 ghost use Rattle.atl_state.specs.Lending.{with_holding};
 ghost use Rattle.atl_state.specs.Limits.{holding_limit, men_limit};
 ghost use Rattle.atl_state.specs.Campaign.{with_amount, with_peasants};
+ghost use Rattle.atl_instant.specs.Holdings.{MarksNoGoods};
 ghost use Rattle.atl_instant.specs.Meaning.{HaveRoom, most_moved};
-ghost use Rattle.atl_instant.specs.PhaseOrders.{orders_by_unit, written_by_unit};
-ghost use Rattle.atl_market.specs.Asking.{asked_of, count_in};
 ghost use Rattle.atl_market.specs.Recruit.{is_recruit, recruit_keeps, recruit_meaning, recruit_moves, recruit_pots, recruited, recruits_at, with_men};
 ghost use Rattle.atl_market.specs.Payable.{CanRecruit};
 ghost use Rattle.atl_market.specs.Paid.{RecruitsAtOnce};
 
-use crate::asking::counts_found;
+use crate::asking::counts_asked;
 use crate::pot_phase::{PotPhase, share_out, tell_all};
 use crate::pots::{Pots, pot_shares};
 use atl_instant::{Arrangement, Month, Phase, PhaseVerbs, Written, book_taken};
@@ -69,6 +68,7 @@ fn join_unit(campaign: &mut Campaign, unit: u32, recruits: u32, cost: u32)
     requires payable { (u : Unit) → finmap.get campaign.old.value.units unit ≡ Some u → cost ≤ u.holding.money }
     ensures what { (u : Unit) → finmap.get campaign.old.value.units unit ≡ Some u → campaign.new.value ≡ with_holding campaign.old.value unit (with_men u.holding recruits cost) }
     ensures marks { MarksChanges campaign.old campaign.new }
+    ensures goods { MarksNoGoods campaign.old.marks campaign.new.marks }
 {
     if let Some(found) = campaign.unit(unit) {
         let men = found.holding.men() + recruits;
@@ -149,20 +149,6 @@ impl<'a> PotPhase for MailedRecruiting<'a> {
     }
 }
 
-/// By unit, how many its own faction tells it to recruit by the orders of a month.
-fn men_asked(
-    alloc: Global,
-    campaign: &Campaign,
-    month: &Month,
-    orders: &[Written],
-) -> Result<Numbered<u32>, AllocError>
-    requires { orders.now ≡ written_by_unit is_recruit month.now }
-    ensures { IfOk result (λ asked. asked ≡ asked_of count_in campaign.now.value (orders_by_unit is_recruit month.now)) }
-{
-    let asked = counts_found(alloc, campaign, month, orders)?;
-    Ok(asked)
-}
-
 impl Phase for RecruitPhase {
     ghost meaning = { recruit_meaning };
 
@@ -182,7 +168,7 @@ impl Phase for RecruitPhase {
         mut month: Month,
     ) -> Result<(Campaign, Month), AllocError> {
         let orders = month.orders(alloc, self, Arrangement::ByUnit)?;
-        let asked = men_asked(alloc, &campaign, &month, &orders)?;
+        let asked = counts_asked(alloc, self, &campaign, &month, &orders)?;
         let recruiting = MailedRecruiting { asked: &asked };
         let events = share_out(alloc, &recruiting, world, &mut campaign, &orders)?;
         tell_all(&mut month, &events)?;

@@ -5,6 +5,7 @@ ghost use Rattle.atl_state.specs.Covers.{MarksChanges};
 ghost use Rattle.atl_state.specs.Good.{IsEarly};
 ghost use Rattle.atl_state.specs.Limits.{holding_limit};
 ghost use Rattle.atl_state.specs.Campaign.{with_money, with_region_money};
+ghost use Rattle.atl_instant.specs.Holdings.{MarksNoGoods};
 ghost use Rattle.atl_instant.specs.Staying.{spares_all};
 ghost use Rattle.atl_market.specs.Tax.{is_tax, money_at, tax_meaning, tax_pots, taxed};
 ghost use Rattle.atl_market.specs.Payable.{CanTax};
@@ -54,6 +55,7 @@ fn hand_over(campaign: &mut Campaign, unit: u32, money: u32, region: u32, left: 
     requires { money ≤ holding_limit }
     ensures what { campaign.new.value ≡ with_region_money (with_money campaign.old.value unit money) region left }
     ensures marks { MarksChanges campaign.old campaign.new }
+    ensures goods { MarksNoGoods campaign.old.marks campaign.new.marks }
 {
     campaign.set_money(unit, money);
     campaign.set_region_money(region, left);

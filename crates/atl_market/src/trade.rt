@@ -1,5 +1,5 @@
 //! SELL and BUY: units trade items with the markets of their regions.
-ghost use Rattle.std.specs.Prelude.{◌≡◌, ◌≤◌, ◌+◌, ◌*◌, IfOk, IfSome, OnOk, Some};
+ghost use Rattle.std.specs.Prelude.{◌≡◌, ◌≤◌, ◌+◌, ◌*◌, IfSome, OnOk, Some};
 ghost use Rattle.std.specs.FinMap as finmap;
 ghost use Rattle.std.specs.Option.{option_copied};
 ghost use Rattle.atl_tables.specs.Limits.{most_amount};
@@ -9,14 +9,11 @@ ghost use Rattle.atl_state.specs.Held.{with_amount_of};
 ghost use Rattle.atl_state.specs.Limits.{holding_limit};
 ghost use Rattle.atl_state.specs.declared.records.Unit.{Unit};
 ghost use Rattle.atl_instant.specs.Holdings.{ChangesHolding};
-ghost use Rattle.atl_instant.specs.Meaning.{HaveRoom, LeavesWell, most_moved};
-ghost use Rattle.atl_instant.specs.PhaseOrders.{orders_by_unit, written_by_unit};
-ghost use Rattle.atl_market.specs.Asking.{asked_of, count_in, item_in};
-ghost use Rattle.atl_market.specs.Trade.{deal_of, dealt, has_too_little, is_buy, is_sell, is_trade, limit_of, market_for, most_traded, trade_entry, trade_fault, trade_keeps, trade_meaning, trade_moves, trade_pot, trade_pots, traded};
+ghost use Rattle.atl_instant.specs.Meaning.{most_moved};
+ghost use Rattle.atl_market.specs.Trade.{deal_of, dealt, has_too_little, is_trade, limit_of, market_for, most_traded, trade_entry, trade_fault, trade_keeps, trade_meaning, trade_moves, trade_of, trade_pot, trade_pots, traded};
 ghost use Rattle.atl_market.specs.Trading.{CanDeal, CanSettle, CanTrade, HasPot, IsPriced};
-ghost use Rattle.atl_market.specs.declared.trade.Trade.TheVariants as trades;
 
-use crate::asking::{counts_found, items_found};
+use crate::asking::{counts_asked, items_asked};
 use crate::item_pots::{ItemPots, item_shares};
 use crate::pot_phase::{PotPhase, share_out, tell_all};
 use crate::produce::world_is_sound;
@@ -26,13 +23,15 @@ use atl_state::{Campaign, Entry, EventFault, HOLDING_LIMIT, Holding, Thing, Unit
 use atl_tables::{Market, Numbered, World};
 use std::alloc::{AllocError, Global};
 
-/// Selling: units sell items to the markets of their regions.
+/// Trading: units sell items to the markets of their regions, or buy items of them.
 #[derive(Drop, Clone, Copy)]
-pub struct SellPhase;
+pub struct TradePhase<const SELLS: bool>;
 
-/// Buying: units buy items of the markets of their regions.
-#[derive(Drop, Clone, Copy)]
-pub struct BuyPhase;
+/// Selling.
+pub type SellPhase = TradePhase<true>;
+
+/// Buying.
+pub type BuyPhase = TradePhase<false>;
 
 /// What a unit does with the market of its region.
 #[derive(Drop, Clone, Copy, Debug)]
@@ -143,7 +142,7 @@ fn deal_of(trade: Trade, holding: &Holding, stock: u32, share: u32, market: &Mar
     }
 }
 
-/// Sets the money of a unit that is there, and how much of an item it has.
+/// Sets a unit's money, and how much of an item it has, where it is there.
 fn set_goods(
     campaign: &mut Campaign,
     number: u32,
@@ -155,13 +154,8 @@ fn set_goods(
     requires amount { amount ≤ holding_limit }
     ensures { OnOk result (ChangesHolding campaign.old campaign.new number (λ h. record h { money = money; items = with_amount_of h.items item amount })) }
 {
-    match campaign.unit_mut(number) {
-        Some(holding) => {
-            holding.set_money(money);
-            holding.set_amount(item, amount)
-        }
-        None => Ok(()),
-    }
+    campaign.set_money(number, money);
+    campaign.set_item(number, item, amount)
 }
 
 /// A unit of a region, the region's stock and the books become what a deal leaves of them. AllocError without memory; the
@@ -299,125 +293,54 @@ impl<'a> PotPhase for MailedTrading<'a> {
     }
 }
 
-/// By unit, the item that its own faction tells it to trade by these orders of a month.
-fn items_asked(
-    alloc: Global,
-    trade: Trade,
-    campaign: &Campaign,
-    month: &Month,
-    orders: &[Written],
-) -> Result<Numbered<u16>, AllocError>
-    requires { orders.now ≡ written_by_unit (is_trade trade) month.now }
-    ensures { IfOk result (λ asked. asked ≡ asked_of item_in campaign.now.value (orders_by_unit (is_trade trade) month.now)) }
+/// The trade of a phase.
+fn trade_of(sells: bool) -> Trade
+    ensures { result ≡ trade_of sells }
 {
-    let asked = items_found(alloc, campaign, month, orders)?;
-    Ok(asked)
+    if sells { Trade::Sell } else { Trade::Buy }
 }
 
-/// By unit, how many its own faction tells it to trade by these orders of a month.
-fn counts_asked(
-    alloc: Global,
-    trade: Trade,
-    campaign: &Campaign,
-    month: &Month,
-    orders: &[Written],
-) -> Result<Numbered<u32>, AllocError>
-    requires { orders.now ≡ written_by_unit (is_trade trade) month.now }
-    ensures { IfOk result (λ asked. asked ≡ asked_of count_in campaign.now.value (orders_by_unit (is_trade trade) month.now)) }
-{
-    let asked = counts_found(alloc, campaign, month, orders)?;
-    Ok(asked)
-}
-
-/// All units trade at once by the orders of a month for it.
-fn trade_all(
-    alloc: Global,
-    trade: Trade,
-    world: &World,
-    mut campaign: Campaign,
-    mut month: Month,
-    orders: &[Written],
-) -> Result<(Campaign, Month), AllocError>
-    requires orders { orders.now ≡ written_by_unit (is_trade trade) month }
-    requires early { IsEarly world.now campaign.value }
-    requires room { HaveRoom (trade_moves trade most_moved) campaign.value }
-    ensures meaning { IfOk result (λ r. (r.0.value, r.1) ≡ trade_meaning trade world.now campaign.value month) }
-    ensures leaves { IfOk result (λ r. LeavesWell IsEarly (trade_moves trade most_moved) world.now campaign.value r.0.value) }
-    ensures keeps { IfOk result (λ r. trade_keeps trade world.now month campaign.value r.0.value) }
-    ensures readings { IfOk result (λ r. r.1.readings ≡ month.readings) }
-    ensures marks { IfOk result (λ r. MarksChanges campaign r.0) }
-{
-    let items = items_asked(alloc, trade, &campaign, &month, orders)?;
-    let counts = counts_asked(alloc, trade, &campaign, &month, orders)?;
-    world_is_sound(world);
-    let trading = MailedTrading {
-        trade,
-        items: &items,
-        counts: &counts,
-    };
-    let events = share_out(alloc, &trading, world, &mut campaign, orders)?;
-    tell_all(&mut month, &events)?;
-    Ok((campaign, month))
-}
-
-impl PhaseVerbs for SellPhase {
-    ghost is_of = { is_sell };
+impl<const SELLS: bool> PhaseVerbs for TradePhase<SELLS> {
+    ghost is_of = { is_trade (trade_of SELLS) };
 
     fn has(&self, verb: Verb) -> bool {
-        matches!(verb, Verb::Sell)
+        match trade_of(SELLS) {
+            Trade::Sell => matches!(verb, Verb::Sell),
+            Trade::Buy => matches!(verb, Verb::Buy),
+        }
     }
 }
 
-impl Phase for SellPhase {
-    ghost meaning = { trade_meaning trades.Sell };
+impl<const SELLS: bool> Phase for TradePhase<SELLS> {
+    ghost meaning = { trade_meaning (trade_of SELLS) };
 
     ghost needs = { IsEarly };
 
     ghost leaves = { IsEarly };
 
-    ghost moving = { trade_moves trades.Sell most_moved };
+    ghost moving = { trade_moves (trade_of SELLS) most_moved };
 
-    ghost keeps = { trade_keeps trades.Sell };
-
-    fn run(
-        &self,
-        alloc: Global,
-        world: &World,
-        campaign: Campaign,
-        month: Month,
-    ) -> Result<(Campaign, Month), AllocError> {
-        let orders = month.orders(alloc, self, Arrangement::ByUnit)?;
-        trade_all(alloc, Trade::Sell, world, campaign, month, &orders)
-    }
-}
-
-impl PhaseVerbs for BuyPhase {
-    ghost is_of = { is_buy };
-
-    fn has(&self, verb: Verb) -> bool {
-        matches!(verb, Verb::Buy)
-    }
-}
-
-impl Phase for BuyPhase {
-    ghost meaning = { trade_meaning trades.Buy };
-
-    ghost needs = { IsEarly };
-
-    ghost leaves = { IsEarly };
-
-    ghost moving = { trade_moves trades.Buy most_moved };
-
-    ghost keeps = { trade_keeps trades.Buy };
+    ghost keeps = { trade_keeps (trade_of SELLS) };
 
     fn run(
         &self,
         alloc: Global,
         world: &World,
-        campaign: Campaign,
-        month: Month,
+        mut campaign: Campaign,
+        mut month: Month,
     ) -> Result<(Campaign, Month), AllocError> {
         let orders = month.orders(alloc, self, Arrangement::ByUnit)?;
-        trade_all(alloc, Trade::Buy, world, campaign, month, &orders)
+        let items = items_asked(alloc, self, &campaign, &month, &orders)?;
+        let counts = counts_asked(alloc, self, &campaign, &month, &orders)?;
+        world_is_sound(world);
+        let trade = trade_of(SELLS);
+        let trading = MailedTrading {
+            trade,
+            items: &items,
+            counts: &counts,
+        };
+        let events = share_out(alloc, &trading, world, &mut campaign, &orders)?;
+        tell_all(&mut month, &events)?;
+        Ok((campaign, month))
     }
 }

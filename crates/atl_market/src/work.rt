@@ -7,6 +7,7 @@ ghost use Rattle.atl_state.specs.Books.{IsGrid};
 ghost use Rattle.atl_state.specs.Covers.{MarksChanges};
 ghost use Rattle.atl_state.specs.Good.{IsSteady};
 ghost use Rattle.atl_state.specs.Limits.{holding_limit};
+ghost use Rattle.atl_instant.specs.Holdings.{MarksNoGoods};
 ghost use Rattle.atl_instant.specs.Meaning.{HaveRoom, most_moved};
 ghost use Rattle.atl_instant.specs.Staying.{spares_all};
 ghost use Rattle.atl_tables.specs.ByNumber.{terrain_of};
@@ -164,6 +165,7 @@ fn pay_wages(campaign: &mut Campaign, number: u32, held: u32, money: u32)
     requires room { HaveRoom (work_moves holding_limit) campaign.old.value }
     ensures what { campaign.new.value ≡ with_wages campaign.old.value number held money }
     ensures marks { MarksChanges campaign.old campaign.new }
+    ensures goods { MarksNoGoods campaign.old.marks campaign.new.marks }
 {
     campaign.set_money(number, held + money);
     campaign.book(Entry::Wages, Thing::Money, i64::from(money));

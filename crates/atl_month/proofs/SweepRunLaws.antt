@@ -1,5 +1,5 @@
 -- What the code of the sweep marks, and how far it may book.
-use Rattle.std.proofs.Common.{◌≡◌, ◌≢◌, ℕ, suc, ◌+◌, ◌≤◌, ◌<◌, List, ◌∷◌, length, Some, refl, sym, ap, subst, arith}
+use Rattle.std.proofs.Common.{◌≡◌, ◌≢◌, ℕ, suc, ◌+◌, ◌≤◌, ◌<◌, List, ◌∷◌, length, Some, refl, sym, ap, arith}
 use Rattle.std.specs.Prelude.{pos, neg_ℤ}
 use Rattle.std.specs.FinMap.{entries, get}
 use Rattle.atl_tables.specs.Worlds.{WorldValue}
@@ -12,12 +12,10 @@ use Rattle.atl_state.specs.declared.books.Thing.{Thing}
 use Rattle.atl_state.specs.declared.books.Thing.TheVariants.{Item, Money}
 use Rattle.atl_state.specs.declared.records.Unit.{Unit}
 use Rattle.atl_state.specs.Good.{IsSteady}
-use Rattle.atl_state.specs.Held.{Held}
-use Rattle.atl_state.specs.Lending.{lent}
 use Rattle.atl_state.specs.Marking.{mark_amount, mark_faction, mark_unit_row}
 use Rattle.atl_state.specs.Campaign.{MarkedCampaign, CampaignValue, with_gone, with_money}
 use Rattle.atl_state.proofs.CoverLaws.{marks-amount, marks-trans}
-use Rattle.atl_state.proofs.HoldingLaws.{marks-lent, marks-unit_row}
+use Rattle.atl_state.proofs.HoldingLaws.{marks-unit_row}
 use Rattle.atl_instant.specs.Meaning.{HaveRoom, IsNear, Moving, both_move, moves_only}
 use Rattle.atl_instant.proofs.MarkLaws.{marks_by}
 use Rattle.atl_instant.proofs.MeaningLaws.{near_room, room_less}
@@ -45,13 +43,6 @@ money_marks things money lost to c d e d_is d_marks e_is e_marks grid two =
     (marks_by c d (record { value = with_money c.value to money; marks = mark_unit_row c to }) d_is d_marks
     (marks-unit_row (λ u. record u { holding = record u.holding { money = money } }) (λ u. refl) c to))
     (lost_marks things lost d e Money (rw books grid) (omega (arith, two)) e_is e_marks)
-
-pub item_marks : (things lost to item : ℕ) (c d e : MarkedCampaign) (h : Held) → d ≡ lent c to h → d.value.books ≡ c.value.books
-    → e.value ≡ with_lost d.value (Item item) lost → e.marks ≡ mark_amount d Lost (Item item)
-    → IsGrid things c.value.books → 2 + item < things → MarksChanges c e
-item_marks things lost to item c d e h d_is books e_is e_marks grid inside =
-    marks-trans c d e (subst (MarksChanges c) (sym d_is) (marks-lent c to h))
-    (lost_marks things lost d e (Item item) (rw books grid) inside e_is e_marks)
 
 pub gone_marks : (c d : MarkedCampaign) (n : ℕ) → d.value ≡ with_gone c.value n → d.marks ≡ mark_faction c n → MarksChanges c d
 gone_marks c d n what marks = marks_by c d (record { value = with_gone c.value n; marks = mark_faction c n }) what marks (marks-gone_faction c n)

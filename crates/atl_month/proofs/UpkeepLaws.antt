@@ -4,7 +4,7 @@ use Rattle.std.specs.Prelude.{IsTrue, nat_lt, ◌&&◌, ℤ, pos, neg_ℤ, ◌+�
 use Rattle.std.specs.List.{AllByRecursion}
 use Rattle.std.specs.Ordering.{nat_cmp}
 use Rattle.std.specs.FinMap.{FinMap, empty, entries, get, len-entries}
-use Rattle.std.proofs.Math.Nat.{div-le_of_le-mul, mul-le-mul_right}
+use Rattle.std.proofs.Math.Nat.{div-le_of_le-mul, mul-le-mul_right, zero-div, zero-mul}
 use Rattle.std.proofs.lemmas.List.{length-map}
 use Rattle.std.proofs.lemmas.Int.{ints}
 use Rattle.std.proofs.lemmas.Bool.Decides.{nat_tests}
@@ -37,6 +37,8 @@ use Rattle.atl_state.proofs.EveryLaws.{each-from_every, every-empty, get-insert_
 use Rattle.atl_state.proofs.HoldingLaws.{MayHold, steady-held, total-held}
 use Rattle.atl_state.proofs.RegionLaws.{steady-amount, total-amount}
 use Rattle.atl_instant.specs.Meaning.{HaveRoom, IsNear, LeavesWell, Moving, moved_times, moves_only, most_moved}
+use Rattle.atl_instant.specs.Holdings.{with_days}
+use Rattle.atl_instant.proofs.DaysLaws.{set_again}
 use Rattle.atl_instant.proofs.MarkLaws.{marks_by}
 use Rattle.atl_instant.proofs.MeaningLaws.{MovesLess, near_twice, room_less, well_within}
 use Rattle.atl_state.proofs.HeldLaws.{every_amount}
@@ -46,7 +48,7 @@ use Rattle.atl_market.proofs.TurnLaws.{first_room, later_room, turns_leave_well}
 use Rattle.atl_month.specs.declared.settling.Purse.{Purse}
 use Rattle.atl_month.specs.declared.settling.Settled.{Settled}
 use Rattle.atl_month.specs.Settling.{CanSpare, settled_behind, settled_one}
-use Rattle.atl_month.specs.Sparing.{CanSettle}
+use Rattle.atl_month.specs.Sparing.{CanSettle, staying_list}
 use Rattle.atl_month.specs.Upkeep.{days_with, purse_of, purses_of, settlements, supplied, takes_up_to, upkeep, upkeep_at, upkeep_in, with_men_left}
 use Rattle.atl_month.proofs.SettlingLaws.{can_spare}
 
@@ -332,6 +334,21 @@ pub pays_nothing : (c : CampaignValue) (s : Settled) (u : Unit) → get c.units 
 pays_nothing c s u is fed none =
     let same : supplied s u.holding ≡ u.holding = paid_alone s u.holding fed ∙ ap (λ m. record u.holding { money = m }) (omega (arith, none)) in
     sym (ap (λ units. record c { units = units }) (put_same c.units s.unit u (record u { holding = supplied s u.holding }) is (ap (λ h. record u { holding = h }) same)))
+
+-- ---- where somebody starves
+
+-- fewer men stay, with their part of the days, each set where it stands
+pub starved_supplied : (s : Settled) (h : Held) → 1 ≤ s.starved → s.starved ≤ h.men → Every (λ k d. 1 ≤ d) h.days
+    → record h { men = h.men - s.starved; money = h.money - s.paid; days = with_days h.days (staying_list (h.men - s.starved) h.men h.days) } ≡ supplied s h
+starved_supplied s h some fewer listed = by_men ((h.men - s.starved) == h.men) refl
+  where
+    by_men : (b : Bool) → ((h.men - s.starved) == h.men) ≡ b
+        → record h { men = h.men - s.starved; money = h.money - s.paid; days = with_days h.days (staying_list (h.men - s.starved) h.men h.days) }
+        ≡ record (if b then h else record h { men = h.men - s.starved; days = days_with (h.men - s.starved) h.men h.days }) { money = h.money - s.paid }
+    by_men true is = let same : h.men - s.starved ≡ h.men = grind (arith, nat_tests) in absurd (omega (arith, same, some, fewer))
+    by_men false is =
+        ap (λ days. record h { men = h.men - s.starved; money = h.money - s.paid; days = days })
+        (set_again h.days (λ k d. d * (h.men - s.starved) / h.men) (λ k. ap (λ d. d / h.men) (zero-mul (h.men - s.starved)) ∙ zero-div h.men) listed)
 
 -- ---- what is marked
 

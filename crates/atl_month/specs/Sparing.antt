@@ -1,6 +1,7 @@
 -- For proofs alone: when a unit's upkeep can be taken, and that it was.
-use Rattle.std.specs.Prelude.{◌≡◌, Some}
-use Rattle.std.specs.FinMap.{get}
+use Rattle.std.specs.Prelude.{◌≡◌, ◌*◌, ◌/◌, ℕ, List, map, Some}
+use Rattle.std.specs.Ordering.{nat_cmp}
+use Rattle.std.specs.FinMap.{FinMap, entries, get}
 use Rattle.atl_tables.specs.Limits.{most_amount}
 use Rattle.atl_tables.specs.Worlds.{WorldValue}
 use Rattle.atl_state.specs.declared.records.Unit.{Unit}
@@ -23,3 +24,7 @@ pub record CanSettle (w : WorldValue) (c : CampaignValue) (s : Settled) : Type 0
 -- the unit, where it is there, holds what its upkeep leaves it, and nothing else is changed
 abbrev pub IsSupplied : CampaignValue → Settled → CampaignValue → Type 0
 IsSupplied before s after = (u : Unit) → get before.units s.unit ≡ Some u → after ≡ with_held before s.unit (supplied s u.holding) (Some u)
+
+-- the days that stay with so many men of these, as they are set one by one
+abbrev pub staying_list : (left men : ℕ) → FinMap nat_cmp ℕ → List (ℕ × ℕ)
+staying_list left men days = map (λ e. (e.0, e.1 * left / men)) (entries days)

@@ -32,7 +32,7 @@ impl Phase for OrderPhases {
         campaign: Campaign,
         month: Month,
     ) -> Result<(Campaign, Month), AllocError> {
-        let pots = (SellPhase, (BuyPhase, (TaxPhase, RecruitPhase)));
+        let pots = (SellPhase {}, (BuyPhase {}, (TaxPhase, RecruitPhase)));
         let goods = (GivePhase, (TransferPhase, pots));
         let early = (FormPhase, (NamePhase, (PlacePhase, goods)));
         let making = (BuildPhase, (LearnPhase, ProducePhase));

@@ -5,11 +5,9 @@ ghost use Rattle.atl_state.specs.Books.{IsGrid, amount_in, thing_place};
 ghost use Rattle.atl_state.specs.Covers.{MarksChanges};
 ghost use Rattle.atl_state.specs.Deciding.{EachOf};
 ghost use Rattle.atl_state.specs.Good.{IsSteady};
-ghost use Rattle.atl_state.specs.Held.{with_amount_of};
 ghost use Rattle.atl_state.specs.Marking.{mark_amount};
 ghost use Rattle.atl_state.specs.declared.books.Entry.TheVariants.{Lost};
 ghost use Rattle.atl_state.specs.declared.books.Thing.TheVariants.{Item, Money};
-ghost use Rattle.atl_instant.specs.Holdings.{ChangesHolding};
 ghost use Rattle.atl_instant.specs.Meaning.{HasRoom, HaveRoom, most_moved, moved_times};
 ghost use Rattle.atl_instant.specs.LostItems.{moving_items};
 ghost use Rattle.atl_month.specs.Sweep.{faction_swept, loses_by, menless, passed_item, passed_money, sweep_keeps, sweep_meaning, swept_at, taken_of, with_lost};
@@ -63,22 +61,6 @@ fn pass_money(campaign: &mut Campaign, to: u32, amount: u32)
     }
 }
 
-/// Sets how much of an item a unit holds that is there.
-fn set_amount(
-    campaign: &mut Campaign,
-    number: u32,
-    item: u32,
-    amount: u32,
-) -> Result<(), AllocError>
-    requires { amount ≤ most_amount }
-    ensures { OnOk result (ChangesHolding campaign.old campaign.new number (λ h. record h { items = with_amount_of h.items item amount })) }
-{
-    match campaign.unit_mut(number) {
-        Some(holding) => holding.set_amount(item, amount),
-        None => Ok(()),
-    }
-}
-
 /// So much of an item goes to a unit, up to its room, and the rest is lost.
 #[tactic(auto, unfolding(crate::specs::Sweep::passed_item))]
 fn pass_item(
@@ -99,7 +81,7 @@ fn pass_item(
         Some(unit) => {
             let have = unit.holding.amount(number);
             let taken = taken_of(amount, have);
-            set_amount(campaign, to, number, have + taken)?;
+            campaign.set_item(to, number, have + taken)?;
             lose(campaign, Thing::Item(item), amount - taken);
         }
         None => lose(campaign, Thing::Item(item), amount),

@@ -2,16 +2,17 @@
 ghost use Rattle.std.specs.Prelude.{◌≡◌, ◌≤◌, ◌++◌, All, IfOk, OnOk, Some, filter, map};
 ghost use Rattle.atl_tables.specs.Worlds.{WorldValue};
 ghost use Rattle.atl_state.specs.Covers.{MarksChanges};
+ghost use Rattle.atl_instant.specs.Holdings.{MarksNoGoods, MarksNoItems};
 ghost use Rattle.atl_instant.specs.Meaning.{most_moved};
 ghost use Rattle.atl_market.specs.PotPhase.{CanInTurn};
-ghost use Rattle.atl_month.specs.Settling.{CanSpare, IsPurse};
-ghost use Rattle.atl_month.specs.Sparing.{CanSettle, IsSupplied};
-ghost use Rattle.atl_month.specs.Upkeep.{days_with, purses_of, starved_event, starves, supplied, takes_up_to, upkeep, upkeep_at, upkeep_keeps, upkeep_meaning};
+ghost use Rattle.atl_month.specs.Settling.{IsPurse};
+ghost use Rattle.atl_month.specs.Sparing.{CanSettle, IsSupplied, staying_list};
+ghost use Rattle.atl_month.specs.Upkeep.{purses_of, starved_event, starves, takes_up_to, upkeep, upkeep_at, upkeep_keeps, upkeep_meaning};
 
 use crate::settling::{Purse, Settled, settle};
-use atl_instant::{Month, Phase, book_taken};
+use atl_instant::{Month, Phase, book_taken, set_people};
 use atl_state::{Campaign, Entry, Event, EventVerb, Holding, Outcome, Thing};
-use atl_tables::{Numbered, World};
+use atl_tables::World;
 use std::alloc::{AllocError, Global};
 
 /// The upkeep of all units: the units of one faction in one region pay for each other, and whom they can't keep starves. See
@@ -38,48 +39,30 @@ fn purses_of(alloc: Global, campaign: &Campaign) -> Result<Vec<Purse>, AllocErro
 }
 
 /// The days of each skill that stay with so many of a unit's men.
-fn days_with(alloc: Global, left: u32, holding: &Holding) -> Result<Numbered<u32>, AllocError>
+fn days_with(
+    alloc: Global,
+    left: u32,
+    holding: &Holding,
+) -> Result<Vec<(u32, u32)>, AllocError>
     requires some { 1 ≤ holding.now.men }
     requires fewer { left ≤ holding.now.men }
-    ensures { IfOk result (λ days. days ≡ days_with left holding.now.men holding.now.days) }
+    ensures { IfOk result (λ list. list.items ≡ staying_list left holding.now.men holding.now.days) }
 {
     let men = u64::from(holding.men());
-    let mut kept = Numbered::new(alloc);
+    let mut list = Vec::new(alloc);
     for (skill, days) in holding.days() {
-        let staying = (u64::from(*days) * u64::from(left) / men) as u32;
-        if staying == 0 {
-            kept.remove(skill);
-        } else {
-            kept.insert(skill, staying)?;
-        }
+        list.push((skill, (u64::from(*days) * u64::from(left) / men) as u32))?;
     }
-    Ok(kept)
+    Ok(list)
 }
 
-/// Takes from a unit's holding what upkeep takes from it.
-fn supply(alloc: Global, settled: &Settled, holding: &mut Holding) -> Result<(), AllocError>
-    requires { CanSpare settled.now holding.old.men holding.old.money }
-    ensures { OnOk result (holding.new ≡ supplied settled.now holding.old) }
-{
-    let men = holding.men();
-    let money = holding.money();
-    let left = men - settled.starved;
-    if left != men {
-        let days = days_with(alloc, left, holding)?;
-        holding.set_men(left);
-        holding.set_all_days(days);
-    }
-    holding.set_money(money - settled.paid);
-    Ok(())
-}
-
-/// Takes from a unit what it pays, where nobody of it starves. Its goods stay unmarked, and its row too where it pays nothing.
+/// Takes from a unit what it pays, where nobody of it starves. None of its goods is marked, nor its row where it pays nothing.
 fn pay(campaign: &mut Campaign, settled: &Settled)
     requires can { (w : WorldValue) × CanSettle w campaign.old.value settled.now }
     requires fed { settled.now.starved ≡ 0 }
     ensures what { IsSupplied campaign.old.value settled.now campaign.new.value }
     ensures marks { MarksChanges campaign.old campaign.new }
-    ensures goods { campaign.new.marks.goods ≡ campaign.old.marks.goods }
+    ensures goods { MarksNoGoods campaign.old.marks campaign.new.marks }
 {
     if settled.paid == 0 {
         return;
@@ -90,24 +73,31 @@ fn pay(campaign: &mut Campaign, settled: &Settled)
     }
 }
 
-/// Takes from a unit what it pays and whom it can't keep, with their days.
+/// Takes from a unit what it pays and those whom it can't keep, with their days. None of its items is marked.
 fn starve(alloc: Global, campaign: &mut Campaign, settled: &Settled) -> Result<(), AllocError>
-    requires { (w : WorldValue) × CanSettle w campaign.old.value settled.now }
+    requires can { (w : WorldValue) × CanSettle w campaign.old.value settled.now }
+    requires some { 1 ≤ settled.now.starved }
     ensures what { OnOk result (IsSupplied campaign.old.value settled.now campaign.new.value) }
     ensures marks { OnOk result (MarksChanges campaign.old campaign.new) }
+    ensures items { OnOk result (MarksNoItems campaign.old.marks campaign.new.marks) }
 {
-    match campaign.unit_mut(settled.unit) {
-        Some(holding) => supply(alloc, settled, holding),
-        None => Ok(()),
-    }
+    let Some(unit) = campaign.unit(settled.unit) else {
+        return Ok(());
+    };
+    let left = unit.holding.men() - settled.starved;
+    let money = unit.holding.money() - settled.paid;
+    let days = days_with(alloc, left, &unit.holding)?;
+    campaign.set_money(settled.unit, money);
+    set_people(campaign, settled.unit, left, &days)
 }
 
-/// Takes from a unit what upkeep takes from it. Its goods are marked only where somebody starves.
+/// Takes from a unit what upkeep takes from it. None of its items is marked, and none of its goods where nobody starves.
 fn supply_unit(alloc: Global, campaign: &mut Campaign, settled: &Settled) -> Result<(), AllocError>
     requires { (w : WorldValue) × CanSettle w campaign.old.value settled.now }
     ensures what { OnOk result (IsSupplied campaign.old.value settled.now campaign.new.value) }
     ensures marks { OnOk result (MarksChanges campaign.old campaign.new) }
-    ensures goods { OnOk result (settled.now.starved ≡ 0 → campaign.new.marks.goods ≡ campaign.old.marks.goods) }
+    ensures items { OnOk result (MarksNoItems campaign.old.marks campaign.new.marks) }
+    ensures goods { OnOk result (settled.now.starved ≡ 0 → MarksNoGoods campaign.old.marks campaign.new.marks) }
 {
     if settled.starved == 0 {
         pay(campaign, settled);
@@ -116,12 +106,13 @@ fn supply_unit(alloc: Global, campaign: &mut Campaign, settled: &Settled) -> Res
     starve(alloc, campaign, settled)
 }
 
-/// The upkeep of a unit, which is booked. Its goods are marked only where somebody starves.
+/// The upkeep of a unit, which is booked. None of its items is marked, and none of its goods where nobody starves.
 fn upkeep_of(alloc: Global, campaign: &mut Campaign, settled: &Settled) -> Result<(), AllocError>
     requires { (w : WorldValue) × CanSettle w campaign.old.value settled.now }
     ensures what { OnOk result (campaign.new.value ≡ upkeep_at campaign.old.value settled.now) }
     ensures marks { OnOk result (MarksChanges campaign.old campaign.new) }
-    ensures goods { OnOk result (settled.now.starved ≡ 0 → campaign.new.marks.goods ≡ campaign.old.marks.goods) }
+    ensures items { OnOk result (MarksNoItems campaign.old.marks campaign.new.marks) }
+    ensures goods { OnOk result (settled.now.starved ≡ 0 → MarksNoGoods campaign.old.marks campaign.new.marks) }
 {
     supply_unit(alloc, campaign, settled)?;
     book_taken(campaign, Entry::Upkeep, Thing::Money, settled.paid);

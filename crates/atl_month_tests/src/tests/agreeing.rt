@@ -126,7 +126,7 @@ fn run_sell(
     requires good { IsGood world.now campaign.value }
     requires read { AreFit world.now month.readings }
 {
-    SellPhase.run(alloc, world, campaign, month)
+    SellPhase {}.run(alloc, world, campaign, month)
 }
 
 fn run_buy(
@@ -138,7 +138,7 @@ fn run_buy(
     requires good { IsGood world.now campaign.value }
     requires read { AreFit world.now month.readings }
 {
-    BuyPhase.run(alloc, world, campaign, month)
+    BuyPhase {}.run(alloc, world, campaign, month)
 }
 
 fn run_tax(
@@ -232,8 +232,8 @@ fn reckon_trade(
     month: &Month,
 ) -> Result<(), AllocError> {
     let orders = match trade {
-        Trade::Sell => month.orders(alloc, &SellPhase, Arrangement::ByUnit)?,
-        Trade::Buy => month.orders(alloc, &BuyPhase, Arrangement::ByUnit)?,
+        Trade::Sell => month.orders(alloc, &SellPhase {}, Arrangement::ByUnit)?,
+        Trade::Buy => month.orders(alloc, &BuyPhase {}, Arrangement::ByUnit)?,
     };
     trade::play(alloc, trade, world, plain, month, &orders)
 }

@@ -1,13 +1,15 @@
-//! What a closing marks of units that take names, pay each other, recruit, work and pay their upkeep: their rows, and none
-//! of their goods.
+//! What a closing marks of units: the rows of those that take names, pay each other, recruit, work and pay their upkeep, and of
+//! their goods only what they use, make, give or study.
 ghost use Rattle.std.specs.Prelude.{◌≡◌, All, IfOk};
 ghost use Rattle.atl_state.specs.Good.{IsGood};
 
 use super::months::{own_mailings, small_world};
 use atl_month::close_month;
+use atl_state::parts::{Parts, StoredBooks, StoredHas};
 use atl_state::{Campaign, LAST_MONTH, check, founded};
-use atl_tables::{Text, World, name_ok};
-use std::alloc::Global;
+use atl_tables::{Entries, MarkedNumbers, Numbered, Text, World, name_ok, read_world};
+use atl_test_worlds::ISLE_WITH_MARKET;
+use std::alloc::{AllocError, Global};
 use std::process::Abort;
 use std::test::Fail;
 
@@ -67,7 +69,10 @@ fn has_a_recruit(campaign: &Campaign) -> bool {
 fn only_rows_are_marked(rt: &impl Abort, campaign: &Campaign) {
     is_so(rt, has_a_recruit(campaign));
     is_so(rt, campaign.marked_units().eq([1, 2]));
+    is_so(rt, campaign.marked_rows().eq([1, 2]));
     is_so(rt, campaign.marked_goods().next().is_none());
+    is_so(rt, campaign.marked_items().next().is_none());
+    is_so(rt, campaign.marked_skills().next().is_none());
 }
 
 #[test]
@@ -76,4 +81,130 @@ fn names_pay_recruits_and_upkeep_mark_no_goods(rt: HostRuntime) -> Result<(), Fa
     let campaign = paid(rt.alloc(), &world)?;
     only_rows_are_marked(&rt, &campaign);
     Ok(())
+}
+
+// ---- the goods of a unit, thing by thing
+
+/// So much wood, and so many days of carpentry.
+const WOOD: i64 = 20;
+
+const CARPENTRY: i64 = 30;
+
+/// The first unit has wood, booked under joining, and days of carpentry.
+fn equip(rows: &mut Parts) -> Result<(), AllocError> {
+    rows.has.push(StoredHas {
+        unit: 1,
+        sort: 0,
+        thing: 0,
+        amount: WOOD,
+    })?;
+    rows.has.push(StoredHas {
+        unit: 1,
+        sort: 1,
+        thing: 1,
+        amount: CARPENTRY,
+    })?;
+    rows.books.push(StoredBooks {
+        entry: 2,
+        thing: 2,
+        amount: WOOD,
+    })
+}
+
+/// Two factions with a unit each, on the shore of the island, where there is a market of wood; nothing is marked.
+fn equipped(alloc: Global, world: &World) -> Result<Campaign, Fail>
+    ensures { IfOk result (λ campaign. IsGood world.now campaign.value) }
+{
+    let campaign = two_factions(alloc, world)?;
+    let mut rows = campaign.parts()?;
+    equip(&mut rows)?;
+    Ok(check(alloc, world, rows)?)
+}
+
+/// The island's campaign behind a month of one mailing.
+fn island_behind(alloc: Global, world: &World, mailing: &str) -> Result<Campaign, Fail> {
+    let campaign = equipped(alloc, world)?;
+    let mailings = own_mailings(alloc, world, &[mailing])?;
+    if campaign.month() >= LAST_MONTH || world.regions().len() != 4 {
+        return Err(Fail::new("a first month of four regions"));
+    }
+    let (campaign, _) = close_month(alloc, world, campaign, mailings, &[0, 0, 0, 0])?;
+    Ok(campaign)
+}
+
+fn tell_numbers(
+    alloc: Global,
+    numbers: MarkedNumbers<'_>,
+    told: &mut String,
+) -> Result<(), AllocError> {
+    for number in numbers {
+        told.push_str(&format!(in alloc; "{number} ")?)?;
+    }
+    told.push_str("|")
+}
+
+/// The numbers of things, each behind that of its unit.
+fn tell_things_of(
+    alloc: Global,
+    unit: u32,
+    things: &Numbered<()>,
+    told: &mut String,
+) -> Result<(), AllocError> {
+    for (thing, _) in things.iter() {
+        told.push_str(&format!(in alloc; "{unit}:{thing} ")?)?;
+    }
+    Ok(())
+}
+
+fn tell_things(
+    alloc: Global,
+    units: Entries<'_, Numbered<()>>,
+    told: &mut String,
+) -> Result<(), AllocError> {
+    for (unit, things) in units {
+        tell_things_of(alloc, unit, things, told)?;
+    }
+    told.push_str("|")
+}
+
+/// The units whose rows are marked, those all of whose goods are, and the marked items and skills.
+fn marks_of(alloc: Global, campaign: &Campaign) -> Result<String, AllocError> {
+    let mut told = String::new(alloc);
+    tell_numbers(alloc, campaign.marked_rows(), &mut told)?;
+    tell_numbers(alloc, campaign.marked_goods(), &mut told)?;
+    tell_things(alloc, campaign.marked_items(), &mut told)?;
+    tell_things(alloc, campaign.marked_skills(), &mut told)?;
+    Ok(told)
+}
+
+/// Mailings, and what their month marks of the units. All pay their upkeep.
+const MARKED: [(&str, &str); 6] = [
+    ("#ATLANTIS 1\nUNIT 1\nWORK", "1 2 ||||"),
+    ("#ATLANTIS 1\nUNIT 1\nSTUDY lumberjack", "1 2 |||1:0 |"),
+    ("#ATLANTIS 1\nUNIT 1\nGIVE 2 3 wood", "1 2 ||1:0 2:0 ||"),
+    ("#ATLANTIS 1\nUNIT 1\nPRODUCE cart", "1 2 ||1:0 1:1 ||"),
+    ("#ATLANTIS 1\nUNIT 1\nSELL 3 wood", "1 2 ||1:0 ||"),
+    (
+        "#ATLANTIS 1\nUNIT 1\nGIVE 2 20 wood\nSTUDY carpentry",
+        "1 2 ||1:0 2:0 |1:1 |",
+    ),
+];
+
+fn told_is(rt: &impl Abort, row: usize, told: &str, wanted: &str) {
+    assert_eq!(rt; told, wanted, "at {row}");
+}
+
+fn months_mark(rt: &impl Abort, alloc: Global, world: &World) -> Result<(), Fail> {
+    for (row, (mailing, wanted)) in MARKED.iter().enumerate() {
+        let campaign = island_behind(alloc, world, mailing)?;
+        let told = marks_of(alloc, &campaign)?;
+        told_is(rt, row, told.as_str(), wanted);
+    }
+    Ok(())
+}
+
+#[test]
+fn months_mark_what_they_change(rt: HostRuntime) -> Result<(), Fail> {
+    let world = read_world(rt.alloc(), ISLE_WITH_MARKET)?;
+    months_mark(&rt, rt.alloc(), &world)
 }

@@ -1,10 +1,9 @@
-use Rattle.std.proofs.Common.{◌≡◌, ◌+◌, ◌-◌, Some, sym, ap, ◌∙◌, arith}
-use Rattle.std.specs.FinMap.{get}
-use Rattle.atl_state.specs.Campaign.{CampaignValue}
+use Rattle.std.proofs.Common.{◌+◌, ◌-◌, sym, ap, arith}
+use Rattle.std.proofs.lemmas.Result.{on_ok_weaker}
 use Rattle.atl_state.proofs.CoverLaws.{marks-trans}
 use Rattle.atl_instant.specs.Give.{with_held_of}
+use Rattle.atl_instant.proofs.ChangeLaws.{changed_held}
 use Rattle.atl_instant.proofs.GiveLaws.{given_is, held_within}
-use Rattle.atl_instant.proofs.MovingLaws.{receiver_still}
 use Rattle.atl_instant.proofs.give.hand_over.Goals as goal
 
 pub set_held-requires : goal.set_held-requires
@@ -22,15 +21,18 @@ returns c =
     let v = c.in-Some-Some.receiver.now in
     let giver = sym c.in-Some-Some.ensures in
     let receiver = sym c.in-Some-Some.ensures' in
-    let first = c.in_ok-set_held.ensures.what u giver in
-    let still : get between.value.units c.args.to ≡ Some v =
-    ap (λ (s : CampaignValue). get s.units c.args.to) first
-    ∙ receiver_still before.value c.args.from c.args.to u v (with_held_of c.args.gift u.holding (c.held_of.result - c.args.amount)) v.holding giver receiver c.requires.apart in
+    let left = c.held_of.result - c.args.amount in
+    let more = c.held_of-2.result + c.args.amount in
+    let one = c.in_ok-set_held.ensures in
+    let first = changed_held (λ h. with_held_of c.args.gift h left) before.value between.value c.args.from one.value u giver in
     record {
       what =
           rw (giver, receiver)
-          (given_is before.value between.value after.value c.args.from c.args.to c.args.gift c.args.amount (c.held_of.result - c.args.amount) (c.held_of-2.result + c.args.amount) u v c.requires.apart giver receiver
-          first c.in_ok-set_held-2.ensures.what
-          (ap (λ x. x - c.args.amount) c.held_of.ensures) (ap (λ x. x + c.args.amount) c.held_of-2.ensures));
-      marks = marks-trans before between after (c.in_ok-set_held.ensures.marks u giver) (c.in_ok-set_held-2.ensures.marks v still);
+          (on_ok_weaker c.set_held-2.result
+          (λ two.
+          given_is before.value between.value after.value c.args.from c.args.to c.args.gift c.args.amount left more u v c.requires.apart giver receiver
+          first (changed_held (λ h. with_held_of c.args.gift h more) between.value after.value c.args.to two.value)
+          (ap (λ x. x - c.args.amount) c.held_of.ensures) (ap (λ x. x + c.args.amount) c.held_of-2.ensures))
+          c.set_held-2.ensures);
+      marks = on_ok_weaker c.set_held-2.result (λ two. marks-trans before between after one.marks two.marks) c.set_held-2.ensures;
     }

@@ -2,39 +2,41 @@ use Rattle.std.proofs.Common.{◌≡◌, sym, ap, ◌∙◌, ◌+◌, arith, rul
 use Rattle.std.proofs.lemmas.Int.{to_z-of_z}
 use Rattle.atl_state.specs.Books.{amount_in}
 use Rattle.atl_state.specs.Founding.{things_of}
-use Rattle.atl_state.specs.Campaign.{with_amount}
+use Rattle.atl_state.specs.Campaign.{CampaignValue, with_amount, with_item}
 use Rattle.atl_state.specs.declared.books.Entry.TheVariants.{Made}
 use Rattle.atl_state.specs.declared.books.Thing.TheVariants.{Item}
 use Rattle.atl_instant.proofs.BookingLaws.{booking_fits, within-pos}
-use Rattle.atl_market.specs.Goods.{with_item}
-use Rattle.atl_market.proofs.GoodsLaws.{made_is, same_books, goods_marks, goods_what}
+use Rattle.atl_instant.proofs.ChangeLaws.{item_changes}
+use Rattle.atl_instant.proofs.MarkLaws.{booked_marks}
+use Rattle.atl_market.specs.Goods.{made_to}
 use Rattle.atl_market.proofs.goods.make_item.Goals as goal
 
 pub book-requires-clause-there : goal.book-requires-clause-there
 book-requires-clause-there c =
     let can = c.requires.can in
-    let books = same_books c.args.campaign.now c.set_item.new.campaign c.set_item.new.campaign c.args.number can.unit c.args.item (c.held_of.result + c.args.amount) Made (pos 0) (things_of c.args.world.now) can.there (c.in_ok-set_item.ensures can.unit can.there) in
-    rw books (omega (arith, can.steady.numbers.books.rows, can.known))
+    rw (ap (λ (d : CampaignValue). d.books) c.in_ok-set_item.ensures.ok) (omega (arith, can.steady.numbers.books.rows, can.known))
 
 pub book-requires-clause-fits : goal.book-requires-clause-fits
 book-requires-clause-fits c =
-    let can = c.requires.can in
-    let same : to_z w64 (of_z w64 c.from.result) ≡ c.from.result = search (rules, to_z-of_z) in
-    let books = same_books c.args.campaign.now c.set_item.new.campaign c.set_item.new.campaign c.args.number can.unit c.args.item (c.held_of.result + c.args.amount) Made (pos 0) (things_of c.args.world.now) can.there (c.in_ok-set_item.ensures can.unit can.there) in
-    rw (same, c.from.ensures, books)
-    (booking_fits (amount_in c.args.campaign.now.value.books Made (Item c.args.item)) (pos c.args.amount) c.args.amount (within-pos c.args.amount c.args.amount (omega arith)) can.room)
+    let same : to_z w64 (of_z w64 c.from-2.result) ≡ c.from-2.result = search (rules, to_z-of_z) in
+    rw (same, c.from-2.ensures, ap (λ (d : CampaignValue). d.books) c.in_ok-set_item.ensures.ok)
+    (booking_fits (amount_in c.args.campaign.now.value.books Made (Item c.args.item)) (pos c.args.amount) c.args.amount (within-pos c.args.amount c.args.amount (omega arith)) c.requires.can.room)
 
 pub returns-clause-what : goal.returns-clause-what
 returns-clause-what c =
     let can = c.requires.can in
-    let same : to_z w64 (of_z w64 c.from.result) ≡ pos c.args.amount = search (rules, c.from.ensures) in
-    goods_what c.args.campaign.now c.set_item.new.campaign c.book.new.self c.args.number can.unit c.args.item (c.held_of.result + c.args.amount) Made (pos c.args.amount) (things_of c.args.world.now) can.there (c.in_ok-set_item.ensures can.unit can.there) (rw same at c.book.ensures.what)
-    ∙ ap (λ a. with_amount (with_item c.args.campaign.now.value c.args.number can.unit c.args.item (a + c.args.amount)) Made (Item c.args.item) (pos c.args.amount)) (c.held_of.ensures can.unit can.there)
-    ∙ sym (made_is c.args.world.now c.args.campaign.now.value c.args.number c.args.item c.args.amount can.unit can.there)
+    let old = c.args.campaign.now.value in
+    let n = c.args.number in
+    let same : to_z w64 (of_z w64 c.from-2.result) ≡ pos c.args.amount = search (rules, c.from-2.ensures) in
+    (rw same at c.book.ensures.what)
+    ∙ ap (λ (d : CampaignValue). with_amount d Made (Item c.args.item) (pos c.args.amount))
+    (c.in_ok-set_item.ensures.ok ∙ ap (λ i. with_item old n i (c.held_of.result + c.args.amount)) c.from.ensures ∙ ap (λ a. with_item old n c.args.item (a + c.args.amount)) (c.held_of.ensures can.unit can.there))
+    ∙ sym (ap (made_to old n c.args.item c.args.amount) can.there)
 
 pub returns-clause-marks : goal.returns-clause-marks
 returns-clause-marks c =
     let can = c.requires.can in
-    let same : to_z w64 (of_z w64 c.from.result) ≡ pos c.args.amount = search (rules, c.from.ensures) in
-    goods_marks c.args.campaign.now c.set_item.new.campaign c.book.new.self c.args.number can.unit c.args.item (c.held_of.result + c.args.amount) Made (pos c.args.amount) (things_of c.args.world.now) can.there (c.in_ok-set_item.ensures can.unit can.there)
-    (rw same at c.book.ensures.what) c.book.ensures.marks can.steady.numbers.books (omega (arith, can.known))
+    let same : to_z w64 (of_z w64 c.from-2.result) ≡ pos c.args.amount = search (rules, c.from-2.ensures) in
+    let set = item_changes c.args.campaign.now c.set_item.new.self c.args.number c.from.result (c.held_of.result + c.args.amount) c.in_ok-set_item.ensures.ok c.in_ok-set_item.ensures.marks in
+    booked_marks (things_of c.args.world.now) c.args.campaign.now c.set_item.new.self c.book.new.self Made (Item c.args.item) (pos c.args.amount) set.marks
+    (rw (ap (λ (d : CampaignValue). d.books) set.value) can.steady.numbers.books) (omega (arith, can.known)) (rw same at c.book.ensures.what) c.book.ensures.marks

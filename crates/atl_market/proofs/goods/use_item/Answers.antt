@@ -1,35 +1,35 @@
 use Rattle.std.proofs.Common.{sym, ap, ◌∙◌, ◌-◌, arith}
 use Rattle.std.specs.Prelude.{neg_ℤ, pos}
 use Rattle.atl_state.specs.Founding.{things_of}
-use Rattle.atl_state.specs.Campaign.{with_amount}
+use Rattle.atl_state.specs.Campaign.{CampaignValue, with_amount, with_item}
 use Rattle.atl_state.specs.declared.books.Entry.TheVariants.{Used}
 use Rattle.atl_state.specs.declared.books.Thing.TheVariants.{Item}
-use Rattle.atl_market.specs.Goods.{with_item}
-use Rattle.atl_market.proofs.GoodsLaws.{same_books, goods_marks, goods_what, used_is}
+use Rattle.atl_instant.proofs.ChangeLaws.{item_changes}
+use Rattle.atl_instant.proofs.MarkLaws.{booked_marks}
+use Rattle.atl_market.specs.Goods.{used_by}
 use Rattle.atl_market.proofs.goods.use_item.Goals as goal
 
 pub book_taken-requires-clause-there : goal.book_taken-requires-clause-there
 book_taken-requires-clause-there c =
     let can = c.requires.can in
-    let books = same_books c.args.campaign.now c.set_item.new.campaign c.set_item.new.campaign c.args.number can.unit c.args.item (c.held_of.result - c.args.amount) Used (pos 0) (things_of c.args.world.now) can.there (c.in_ok-set_item.ensures can.unit can.there) in
-    rw books (omega (arith, can.steady.numbers.books.rows, can.known))
+    rw (ap (λ (d : CampaignValue). d.books) c.in_ok-set_item.ensures.ok) (omega (arith, can.steady.numbers.books.rows, can.known))
 
 pub book_taken-requires-clause-room : goal.book_taken-requires-clause-room
-book_taken-requires-clause-room c =
-    let can = c.requires.can in
-    let books = same_books c.args.campaign.now c.set_item.new.campaign c.set_item.new.campaign c.args.number can.unit c.args.item (c.held_of.result - c.args.amount) Used (pos 0) (things_of c.args.world.now) can.there (c.in_ok-set_item.ensures can.unit can.there) in
-    rw books can.room
+book_taken-requires-clause-room c = rw (ap (λ (d : CampaignValue). d.books) c.in_ok-set_item.ensures.ok) c.requires.can.room
 
 pub returns-clause-what : goal.returns-clause-what
 returns-clause-what c =
     let can = c.requires.can in
-    let z = neg_ℤ (pos c.args.amount) in
-    goods_what c.args.campaign.now c.set_item.new.campaign c.book_taken.new.campaign c.args.number can.unit c.args.item (c.held_of.result - c.args.amount) Used z (things_of c.args.world.now) can.there (c.in_ok-set_item.ensures can.unit can.there) c.book_taken.ensures.what
-    ∙ ap (λ a. with_amount (with_item c.args.campaign.now.value c.args.number can.unit c.args.item (a - c.args.amount)) Used (Item c.args.item) z) (c.held_of.ensures can.unit can.there)
-    ∙ sym (used_is c.args.world.now c.args.campaign.now.value c.args.number c.args.item c.args.amount can.unit can.there)
+    let old = c.args.campaign.now.value in
+    let n = c.args.number in
+    c.book_taken.ensures.what
+    ∙ ap (λ (d : CampaignValue). with_amount d Used (Item c.args.item) (neg_ℤ (pos c.args.amount)))
+    (c.in_ok-set_item.ensures.ok ∙ ap (λ i. with_item old n i (c.held_of.result - c.args.amount)) c.from.ensures ∙ ap (λ a. with_item old n c.args.item (a - c.args.amount)) (c.held_of.ensures can.unit can.there))
+    ∙ sym (ap (used_by old n c.args.item c.args.amount) can.there)
 
 pub returns-clause-marks : goal.returns-clause-marks
 returns-clause-marks c =
     let can = c.requires.can in
-    goods_marks c.args.campaign.now c.set_item.new.campaign c.book_taken.new.campaign c.args.number can.unit c.args.item (c.held_of.result - c.args.amount) Used (neg_ℤ (pos c.args.amount)) (things_of c.args.world.now) can.there (c.in_ok-set_item.ensures can.unit can.there)
-    c.book_taken.ensures.what c.book_taken.ensures.marks can.steady.numbers.books (omega (arith, can.known))
+    let set = item_changes c.args.campaign.now c.set_item.new.self c.args.number c.from.result (c.held_of.result - c.args.amount) c.in_ok-set_item.ensures.ok c.in_ok-set_item.ensures.marks in
+    booked_marks (things_of c.args.world.now) c.args.campaign.now c.set_item.new.self c.book_taken.new.campaign Used (Item c.args.item) (neg_ℤ (pos c.args.amount)) set.marks
+    (rw (ap (λ (d : CampaignValue). d.books) set.value) can.steady.numbers.books) (omega (arith, can.known)) c.book_taken.ensures.what c.book_taken.ensures.marks

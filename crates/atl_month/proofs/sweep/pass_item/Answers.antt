@@ -1,45 +1,44 @@
 use Rattle.std.proofs.Common.{◌+◌, ◌-◌, sym, ap, arith}
+use Rattle.std.specs.Prelude.{neg_ℤ, pos}
 use Rattle.atl_state.specs.declared.books.Entry.TheVariants.{Lost}
 use Rattle.atl_state.specs.declared.books.Thing.TheVariants.{Item}
 use Rattle.atl_state.specs.Books.{amount_in}
 use Rattle.atl_state.specs.Founding.{things_of}
-use Rattle.atl_state.specs.Held.{Held, with_amount_of}
+use Rattle.atl_state.specs.Held.{with_amount_of}
 use Rattle.atl_state.specs.Campaign.{CampaignValue}
+use Rattle.atl_instant.proofs.ChangeLaws.{changed_held, item_changes}
+use Rattle.atl_instant.proofs.MarkLaws.{booked_marks}
 use Rattle.atl_instant.proofs.MeaningLaws.{less_room}
-use Rattle.atl_instant.proofs.MovingLaws.{lent_what}
-use Rattle.atl_month.proofs.SweepRunLaws.{item_marks, lost_marks, passed_item_is}
+use Rattle.atl_month.proofs.SweepRunLaws.{lost_marks, passed_item_is}
 use Rattle.atl_month.proofs.sweep.pass_item.Goals as goal
 
 pub lose-requires : goal.lose-requires
 lose-requires c =
-    let u = c.in-Some.unit.now in
-    let there = sym c.in-Some.ensures in
-    let h : Held = record u.holding { items = with_amount_of u.holding.items c.from-number.result (c.amount-have.result + c.taken_of-taken.result) } in
-    let what = lent_what c.args.campaign.now c.set_amount.new.campaign c.args.to u h there (c.in_ok-set_amount-in-Some.ensures u there) in
+    let books = ap (λ (s : CampaignValue). s.books) c.in_ok-set_item-in-Some.ensures.ok in
     record {
-      there = rw (ap (λ (s : CampaignValue). s.books) what) (omega (arith, c.requires.steady.numbers.books.rows, c.requires.known));
+      there = rw books (omega (arith, c.requires.steady.numbers.books.rows, c.requires.known));
       room =
-          rw (ap (λ (s : CampaignValue). s.books) what)
+          rw books
           (less_room (c.args.amount - c.taken_of-taken.result) c.args.amount (amount_in c.args.campaign.now.value.books Lost (Item c.args.item))
           (omega arith) c.requires.room);
     }
 
-pub returns-in_ok-set_amount-in-Some : goal.returns-in_ok-set_amount-in-Some
-returns-in_ok-set_amount-in-Some c =
+pub returns-in_ok-set_item-in-Some : goal.returns-in_ok-set_item-in-Some
+returns-in_ok-set_item-in-Some c =
     let u = c.in-Some.unit.now in
     let there = sym c.in-Some.ensures in
-    let h : Held = record u.holding { items = with_amount_of u.holding.items c.from-number.result (c.amount-have.result + c.taken_of-taken.result) } in
-    let lent_is = c.in_ok-set_amount-in-Some.ensures u there in
-    let what = lent_what c.args.campaign.now c.set_amount.new.campaign c.args.to u h there lent_is in
+    let old = c.args.campaign.now in
+    let mid = c.set_item.new.self in
+    let have = c.amount-have.result + c.taken_of-taken.result in
+    let set = item_changes old mid c.args.to c.from-number.result have c.in_ok-set_item-in-Some.ensures.ok c.in_ok-set_item-in-Some.ensures.marks in
+    let what = changed_held (λ h. record h { items = with_amount_of h.items c.from-number.result have }) old.value mid.value c.args.to set.value u there in
     record {
       what =
           rw (c.lose.ensures.what, what, c.taken_of-taken.ensures, c.amount-have.ensures, c.from-number.ensures)
-          (passed_item_is c.args.campaign.now.value c.args.to c.args.item c.args.amount u there);
+          (passed_item_is old.value c.args.to c.args.item c.args.amount u there);
       marks =
-          item_marks (things_of c.args.world.now) (c.args.amount - c.taken_of-taken.result) c.args.to c.args.item
-          c.args.campaign.now c.set_amount.new.campaign c.lose.new.campaign h lent_is
-          (ap (λ (s : CampaignValue). s.books) what)
-          c.lose.ensures.what c.lose.ensures.marks c.requires.steady.numbers.books (omega (arith, c.requires.known));
+          booked_marks (things_of c.args.world.now) old mid c.lose.new.campaign Lost (Item c.args.item) (neg_ℤ (pos (c.args.amount - c.taken_of-taken.result))) set.marks
+          (rw (ap (λ (s : CampaignValue). s.books) set.value) c.requires.steady.numbers.books) (omega (arith, c.requires.known)) c.lose.ensures.what c.lose.ensures.marks;
     }
 
 pub returns-in-None-clause-marks : goal.returns-in-None-clause-marks

@@ -1,4 +1,4 @@
-use Rattle.atl_instant.proofs.MovingLaws.{money_marks}
+use Rattle.atl_instant.proofs.ChangeLaws.{money_changes}
 use Rattle.atl_month.proofs.UpkeepLaws.{pays_nothing}
 use Rattle.atl_month.proofs.upkeep.pay.Goals as goal
 
@@ -6,4 +6,4 @@ pub returns-then-settled-eq0-clause-what : goal.returns-then-settled-eq0-clause-
 returns-then-settled-eq0-clause-what c u is = pays_nothing c.args.campaign.now.value c.args.settled.now u is c.requires.fed c.if-settled-eq0.true
 
 pub returns-in-Some-clause-marks : goal.returns-in-Some-clause-marks
-returns-in-Some-clause-marks c = money_marks c.args.campaign.now c.set_money.new.self c.args.settled.now.unit _ c.set_money.ensures.what c.set_money.ensures.marks
+returns-in-Some-clause-marks c = (money_changes c.args.campaign.now c.set_money.new.self c.args.settled.now.unit _ c.set_money.ensures.what c.set_money.ensures.marks).marks

@@ -1,5 +1,4 @@
-use Rattle.std.proofs.Common.{ap, sym, arith, rules}
-use Rattle.std.proofs.lemmas.Grind.{common_steps}
+use Rattle.std.proofs.Common.{ap, sym, arith}
 use Rattle.std.specs.Prelude.{neg_ℤ, pos}
 use Rattle.atl_tables.specs.Limits.{most_amount}
 use Rattle.atl_state.specs.Books.{amount_in, with_booked}
@@ -47,18 +46,18 @@ book_taken-requires-2 c =
           (within-neg s.paid most_amount paid) (moves_only most_amount Starved People) can.room Starved People));
     }
 
-pub returns : goal.returns
-returns c =
+pub returns-clause-what : goal.returns-clause-what
+returns-clause-what c =
+    let (w, can) = c.requires in
+    let what = c.in_ok-supply_unit.ensures.what can.unit can.there in
+    rw (c.book_taken-2.ensures.what, c.book_taken.ensures.what, what) (sym (upkeep_at_is c.args.campaign.now.value c.args.settled.now can.unit can.there))
+
+pub returns-clause-marks : goal.returns-clause-marks
+returns-clause-marks c =
     let (w, can) = c.requires in
     let s = c.args.settled.now in
-    let before = c.args.campaign.now in
     let what = c.in_ok-supply_unit.ensures.what can.unit can.there in
-    record {
-      what = rw (c.book_taken-2.ensures.what, c.book_taken.ensures.what, what) (sym (upkeep_at_is before.value s can.unit can.there));
-      marks =
-          upkeep_marks (things_of w) before c.supply_unit.new.campaign c.book_taken.new.campaign c.book_taken-2.new.campaign s
-          (neg_ℤ (pos s.paid)) (neg_ℤ (pos s.starved))
-          c.in_ok-supply_unit.ensures.marks c.book_taken.ensures.what c.book_taken.ensures.marks c.book_taken-2.ensures.what c.book_taken-2.ensures.marks
-          (rw (ap (λ (d : CampaignValue). d.books) what) can.steady.numbers.books) (omega arith);
-      goods = first_of (search rules, grind (arith, common_steps));
-    }
+    upkeep_marks (things_of w) c.args.campaign.now c.supply_unit.new.campaign c.book_taken.new.campaign c.book_taken-2.new.campaign s
+    (neg_ℤ (pos s.paid)) (neg_ℤ (pos s.starved))
+    c.in_ok-supply_unit.ensures.marks c.book_taken.ensures.what c.book_taken.ensures.marks c.book_taken-2.ensures.what c.book_taken-2.ensures.marks
+    (rw (ap (λ (d : CampaignValue). d.books) what) can.steady.numbers.books) (omega arith)

@@ -1,13 +1,12 @@
 use Rattle.std.proofs.Common.{◌∙◌, ap}
 use Rattle.atl_instant.specs.declared.written.Arrangement.TheVariants.{ByUnit}
-use Rattle.atl_market.specs.Asking.{count_in}
+use Rattle.atl_market.specs.Asking.{item_in}
 use Rattle.atl_market.specs.Finding.{found_of}
-use Rattle.atl_market.specs.Recruit.{is_recruit}
 use Rattle.atl_market.proofs.FindingLaws.{found_orders}
-use Rattle.atl_market.proofs.recruit.men_asked.Goals as goal
+use Rattle.atl_market.proofs.asking.items_asked.Goals as goal
 
 pub returns : goal.returns
-returns c =
+returns g c =
     let campaign = c.args.campaign.now.value in
     let month = c.args.month.now in
-    c.in_ok-asked.ensures ∙ ap (found_of count_in month.readings campaign) c.requires ∙ found_orders count_in is_recruit ByUnit campaign month
+    c.in_ok-asked.ensures ∙ ap (found_of item_in month.readings campaign) c.requires ∙ found_orders item_in g.P.PhaseVerbs.is_of ByUnit campaign month

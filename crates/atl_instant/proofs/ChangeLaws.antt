@@ -1,0 +1,112 @@
+-- What becomes of a campaign where one unit has other things, and what is marked.
+use Rattle.std.proofs.Common.{◌≡◌, ◌≢◌, ℕ, Option, Some, None, refl, sym, ap, ◌∙◌}
+use Rattle.std.specs.Ordering.{nat_cmp}
+use Rattle.std.specs.FinMap.{FinMap, get, insert}
+use Rattle.atl_tables.specs.Sums.{changed_at}
+use Rattle.atl_tables.proofs.Maps.{insert_over}
+use Rattle.atl_tables.proofs.SumLaws.{put_same}
+use Rattle.atl_state.specs.declared.records.Unit.{Unit}
+use Rattle.atl_state.specs.Held.{Held, with_amount_of}
+use Rattle.atl_state.specs.Lending.{with_held}
+use Rattle.atl_state.specs.Marking.{mark_item, mark_skill, mark_unit_row}
+use Rattle.atl_state.specs.Marks.{Marks}
+use Rattle.atl_state.specs.Campaign.{MarkedCampaign, CampaignValue, unit_changed, with_item, with_men, with_money, with_skill}
+use Rattle.atl_state.proofs.CoverLaws.{marks-refl, marks-trans}
+use Rattle.atl_state.proofs.EveryLaws.{get-insert_other}
+use Rattle.atl_state.proofs.HoldingLaws.{marks-item, marks-skill, marks-unit_row}
+use Rattle.atl_state.proofs.RegionLaws.{get-insert_same}
+use Rattle.atl_instant.specs.Holdings.{ChangesHolding}
+use Rattle.atl_instant.proofs.MarkLaws.{marks_by}
+
+-- a unit changed twice
+pub changed_twice : (f g : Unit → Unit) (c : CampaignValue) (n : ℕ) → unit_changed g (unit_changed f c n) n ≡ unit_changed (λ u. g (f u)) c n
+changed_twice f g c n = by_unit (get c.units n) refl
+  where
+    by_unit : (o : Option Unit) → get c.units n ≡ o → unit_changed g (record c { units = changed_at f c.units n o }) n ≡ record c { units = changed_at (λ u. g (f u)) c.units n o }
+    by_unit None is = ap (λ o. record c { units = changed_at g c.units n o }) is
+    by_unit (Some u) is =
+        ap (λ o. record c { units = changed_at g (insert c.units n (f u)) n o }) (get-insert_same c.units n (f u)) ∙ ap (λ m. record c { units = m }) (insert_over c.units n (f u) (g (f u)))
+
+-- with what it had nothing is changed
+pub same_held : (c : CampaignValue) (n : ℕ) → unit_changed (λ u. u) c n ≡ c
+same_held c n = by_unit (get c.units n) refl
+  where
+    by_unit : (o : Option Unit) → get c.units n ≡ o → record c { units = changed_at (λ u. u) c.units n o } ≡ c
+    by_unit None is = refl
+    by_unit (Some u) is = ap (λ m. record c { units = m }) (put_same c.units n u u is refl)
+
+-- of a unit that is there
+pub changed_held : (f : Held → Held) (c d : CampaignValue) (n : ℕ) → d ≡ unit_changed (λ u. record u { holding = f u.holding }) c n → (u : Unit) → get c.units n ≡ Some u → d ≡ with_held c n (f u.holding) (Some u)
+changed_held f c d n what u is = what ∙ ap (λ o. record c { units = changed_at (λ (v : Unit). record v { holding = f v.holding }) c.units n o }) is
+
+-- another unit stays
+pub others_held : (f : Unit → Unit) (c : CampaignValue) (n k : ℕ) → k ≢ n → get (unit_changed f c n).units k ≡ get c.units k
+others_held f c n k apart = by_unit (get c.units n)
+  where
+    by_unit : (o : Option Unit) → get (changed_at f c.units n o) k ≡ get c.units k
+    by_unit None = refl
+    by_unit (Some u) = get-insert_other c.units n k (f u) apart
+
+-- ---- what calls leave
+
+-- nobody is there
+pub nobody_changes : (c : MarkedCampaign) (n : ℕ) (f : Held → Held) → get c.value.units n ≡ None → ChangesHolding c c n f
+nobody_changes c n f none = record {
+  value = sym (ap (λ o. record c.value { units = changed_at (λ (u : Unit). record u { holding = f u.holding }) c.value.units n o }) none);
+  marks = marks-refl c;
+  goods = refl;
+}
+
+-- what else makes the same of what the unit had
+pub changes_as : (c d : MarkedCampaign) (n : ℕ) (f g : Held → Held) (u : Unit) → get c.value.units n ≡ Some u → f u.holding ≡ g u.holding → ChangesHolding c d n f → ChangesHolding c d n g
+changes_as c d n f g u is same old = record {
+  value =
+      changed_held f c.value d.value n old.value u is ∙ ap (λ h. with_held c.value n h (Some u)) same
+      ∙ sym (changed_held g c.value (unit_changed (λ v. record v { holding = g v.holding }) c.value n) n refl u is);
+  marks = old.marks;
+  goods = old.goods;
+}
+
+-- one change behind another
+pub then_changes : (a b d : MarkedCampaign) (n : ℕ) (f g : Held → Held) → ChangesHolding a b n f → ChangesHolding b d n g → ChangesHolding a d n (λ h. g (f h))
+then_changes a b d n f g one two = record {
+  value =
+      two.value ∙ ap (λ c. unit_changed (λ u. record u { holding = g u.holding }) c n) one.value
+      ∙ changed_twice (λ u. record u { holding = f u.holding }) (λ u. record u { holding = g u.holding }) a.value n;
+  marks = marks-trans a b d one.marks two.marks;
+  goods = two.goods ∙ one.goods;
+}
+
+-- the setters
+abbrev goods_of : Held → FinMap nat_cmp ℕ × FinMap nat_cmp ℕ
+goods_of h = (h.items, h.days)
+
+row_changes : (f : Held → Held) → ((h : Held) → goods_of (f h) ≡ goods_of h) → (c d : MarkedCampaign) (n : ℕ)
+    → d.value ≡ unit_changed (λ u. record u { holding = f u.holding }) c.value n → d.marks ≡ mark_unit_row c n → ChangesHolding c d n f
+row_changes f same c d n what marks =
+    let with_other : Unit → Unit = λ u. record u { holding = f u.holding } in
+    record {
+      value = what;
+      marks = marks_by c d (record { value = unit_changed with_other c.value n; marks = mark_unit_row c n }) what marks (marks-unit_row with_other (λ u. same u.holding) c n);
+      goods = ap (λ (m : Marks). m.goods) marks;
+    }
+
+pub men_changes : (c d : MarkedCampaign) (n men : ℕ) → d.value ≡ with_men c.value n men → d.marks ≡ mark_unit_row c n → ChangesHolding c d n (λ h. record h { men = men })
+men_changes c d n men = row_changes (λ h. record h { men = men }) (λ h. refl) c d n
+
+pub money_changes : (c d : MarkedCampaign) (n money : ℕ) → d.value ≡ with_money c.value n money → d.marks ≡ mark_unit_row c n → ChangesHolding c d n (λ h. record h { money = money })
+money_changes c d n money = row_changes (λ h. record h { money = money }) (λ h. refl) c d n
+
+pub item_changes : (c d : MarkedCampaign) (n item amount : ℕ) → d.value ≡ with_item c.value n item amount → d.marks ≡ mark_item c n item → ChangesHolding c d n (λ h. record h { items = with_amount_of h.items item amount })
+item_changes c d n item amount what marks = record {
+  value = what;
+  marks = marks_by c d (record { value = with_item c.value n item amount; marks = mark_item c n item }) what marks (marks-item c n item amount);
+  goods = ap (λ (m : Marks). m.goods) marks;
+}
+
+pub skill_changes : (c d : MarkedCampaign) (n skill days : ℕ) → d.value ≡ with_skill c.value n skill days → d.marks ≡ mark_skill c n skill → ChangesHolding c d n (λ h. record h { days = with_amount_of h.days skill days })
+skill_changes c d n skill days what marks = record {
+  value = what;
+  marks = marks_by c d (record { value = with_skill c.value n skill days; marks = mark_skill c n skill }) what marks (marks-skill c n skill days);
+  goods = ap (λ (m : Marks). m.goods) marks;
+}
