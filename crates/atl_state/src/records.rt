@@ -1,6 +1,8 @@
 //! What a campaign consists of.
 use crate::holding::{Holding, amount_under};
-use atl_tables::{Numbered, Text, let_go, shown_by_name};
+use atl_tables::{Numbered, Text, let_go};
+use std::error::Error;
+use std::fmt;
 
 /// A player's faction. Names and pass texts keep their rules (docs/RULES.md, "Names and pass texts").
 pub struct Faction {
@@ -94,4 +96,11 @@ pub enum JoinFault {
     Memory,
 }
 
-shown_by_name!(JoinFault);
+/// Its name.
+impl fmt::Display for JoinFault {
+    fn fmt<W: fmt::Write>(&self, f: &mut fmt::Formatter<W>) -> fmt::Result {
+        write!(f, "{self:?}")
+    }
+}
+
+impl Error for JoinFault {}

@@ -3,7 +3,7 @@ ghost use Rattle.std.specs.Prelude.{◌≡◌};
 ghost use Rattle.atl_store.specs.Faults.{read_fault, value_fault, write_fault, create_fault, store_fault, reopening_fault, load_fault, judged_fault, second_fault, upgrade_fault, first_fault, new_world_fault, fault_number, upgrade_number};
 
 use atl_state::{CheckFault, Rule};
-use atl_tables::{WorldFault, shown_by_name};
+use atl_tables::WorldFault;
 use sqlite::{Error, ErrorCode};
 use sqlite_trees::error::StoreError;
 use std::alloc::{AllocError, AllocFailed};
@@ -95,7 +95,32 @@ pub enum UpgradeFault {
     Memory,
 }
 
-shown_by_name!(WriteFault CreateFault ReadFault);
+/// Its name.
+impl fmt::Display for WriteFault {
+    fn fmt<W: fmt::Write>(&self, f: &mut fmt::Formatter<W>) -> fmt::Result {
+        write!(f, "{self:?}")
+    }
+}
+
+impl std::error::Error for WriteFault {}
+
+/// Its name.
+impl fmt::Display for CreateFault {
+    fn fmt<W: fmt::Write>(&self, f: &mut fmt::Formatter<W>) -> fmt::Result {
+        write!(f, "{self:?}")
+    }
+}
+
+impl std::error::Error for CreateFault {}
+
+/// Its name.
+impl fmt::Display for ReadFault {
+    fn fmt<W: fmt::Write>(&self, f: &mut fmt::Formatter<W>) -> fmt::Result {
+        write!(f, "{self:?}")
+    }
+}
+
+impl std::error::Error for ReadFault {}
 
 /// Its name; of `Damaged` the rule's number, too, as `Damaged 11`.
 impl fmt::Display for StoreFault {

@@ -29,19 +29,3 @@ macro_rules! text_of {
         }
     };
 }
-
-/// Errors that are shown by the names of their variants: `shown_by_name!(WriteFault ReadFault)`.
-#[macro_export]
-macro_rules! shown_by_name {
-    ($($fault:ident)*) => {
-        $(
-            impl std::fmt::Display for $fault {
-                fn fmt<W: std::fmt::Write>(&self, f: &mut std::fmt::Formatter<W>) -> std::fmt::Result {
-                    write!(f, "{self:?}")
-                }
-            }
-
-            impl std::error::Error for $fault {}
-        )*
-    };
-}
