@@ -1,6 +1,6 @@
 -- STUDY leaves a campaign well, and every unit without an order of it as it is.
 use Rattle.std.proofs.Common.{◌≡◌, ◌≢◌, ◌==◌, ℕ, ◌+◌, ◌-◌, ◌*◌, ◌≤◌, ◌<◌, Bool, true, false, cond, [], ◌∷◌, length, Option, Some, None, refl, sym, ap, ◌∙◌, arith}
-use Rattle.std.specs.Prelude.{ℤ, pos, neg_ℤ, ◌+ℤ◌, IfSome, nat_lt, if◌then◌else◌}
+use Rattle.std.specs.Prelude.{pos, neg_ℤ, ◌+ℤ◌, IfSome, nat_lt, if◌then◌else◌}
 use Rattle.std.specs.FinMap.{get}
 use Rattle.std.proofs.lemmas.Int.{ints}
 use Rattle.std.proofs.lemmas.Bool.Decides.{nat_tests}
@@ -26,7 +26,7 @@ use Rattle.atl_state.specs.Held.{Held, amount_of}
 use Rattle.atl_state.specs.Lending.{with_held}
 use Rattle.atl_state.specs.Limits.{most_days}
 use Rattle.atl_state.specs.Marks.{amount_number}
-use Rattle.atl_state.specs.Campaign.{CampaignValue, with_amount}
+use Rattle.atl_state.specs.Campaign.{CampaignValue}
 use Rattle.atl_state.specs.Totals.{Balances, held, total}
 use Rattle.atl_state.proofs.BookLaws.{booked-with_booked}
 use Rattle.atl_state.proofs.EveryLaws.{get-insert_other}

@@ -1,6 +1,6 @@
 -- Trading leaves a campaign well.
 use Rattle.std.proofs.Common.{◌≡◌, ◌≢◌, ◌==◌, ◌&&◌, ℕ, ◌+◌, ◌-◌, ◌*◌, ◌/◌, ◌≤◌, ◌<◌, Bool, true, false, cond, Option, Some, None, List, [], ◌∷◌, length, refl, sym, ap, subst, ◌∙◌, arith}
-use Rattle.std.specs.Prelude.{ℤ, IsSome, fold, pos, neg_ℤ, ◌+ℤ◌, min, option_and_then, unwrap_or}
+use Rattle.std.specs.Prelude.{IsSome, fold, pos, neg_ℤ, ◌+ℤ◌, min, option_and_then, unwrap_or}
 use Rattle.std.specs.Option.{option_map_or}
 use Rattle.std.specs.Ordering.{nat_cmp, eq_by_cmp}
 use Rattle.std.specs.Cmp.{unsigned_ties}
@@ -21,7 +21,7 @@ use Rattle.atl_state.specs.declared.books.Thing.{Thing}
 use Rattle.atl_state.specs.declared.books.Thing.TheVariants.{Money, People, Item}
 use Rattle.atl_state.specs.declared.records.Region.{Region}
 use Rattle.atl_state.specs.declared.records.Unit.{Unit}
-use Rattle.atl_state.specs.Books.{IsGrid, IsWithin, amount_in}
+use Rattle.atl_state.specs.Books.{IsWithin, amount_in}
 use Rattle.atl_state.specs.Covers.{MarksChanges}
 use Rattle.atl_state.specs.Founding.{things_of}
 use Rattle.atl_state.specs.Good.{Every, IsEarly}

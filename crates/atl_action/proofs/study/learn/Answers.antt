@@ -8,8 +8,8 @@ use Rattle.atl_action.proofs.study.learn.Goals as goal
 pub returns-in_default : goal.returns-in_default
 returns-in_default c = nobody_changes c.args.campaign.now c.args.unit (λ h. with_study h c.args.skill c.args.cost c.args.days) (sym c.in_default.ensures)
 
-pub returns-in-Some : goal.returns-in-Some
-returns-in-Some c =
+pub returns : goal.returns
+returns c =
     let old = c.args.campaign.now in
     let mid = c.set_money.new.self in
     let after = c.set_days.new.self in

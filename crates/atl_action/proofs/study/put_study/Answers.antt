@@ -1,4 +1,4 @@
-use Rattle.std.proofs.Common.{◌≡◌, ap, ◌∙◌, arith}
+use Rattle.std.proofs.Common.{ap, ◌∙◌, arith}
 use Rattle.std.specs.Prelude.{neg_ℤ, pos}
 use Rattle.atl_state.specs.declared.books.Entry.TheVariants.{Study}
 use Rattle.atl_state.specs.declared.books.Thing.TheVariants.{Money}

@@ -2,7 +2,7 @@ use Rattle.std.proofs.Common.{◌≡◌, subst, sym, rules}
 use Rattle.atl_state.specs.Good.{IsEarly}
 use Rattle.atl_instant.specs.Meaning.{HaveRoom, LeavesWell, most_moved}
 use Rattle.atl_instant.specs.PhaseOrders.{written_by_unit}
-use Rattle.atl_market.specs.Trade.{is_trade, trade_moves, trade_of}
+use Rattle.atl_market.specs.Trade.{is_trade, trade_moves}
 use Rattle.atl_market.specs.Unordered.{OthersAreNoWorse}
 use Rattle.atl_market.proofs.TradeLaws.{all_trades_leave_well, can_share_out, trade_keeps_others}
 use Rattle.atl_market.proofs.trade.TradePhasePhase.run.Goals as goal
@@ -22,6 +22,8 @@ returns-clause-leaves g c =
 
 pub returns-clause-keeps : goal.returns-clause-keeps
 returns-clause-keeps g c =
-    let orders : c.deref-3.result.now ≡ written_by_unit (is_trade (trade_of g.row.SELLS)) c.args.month = search rules in
-    let kept = trade_keeps_others c.trade_of-trade.result c.in_ok-items.items c.in_ok-counts.counts c.args.world.now c.args.campaign.value c.deref-3.result.now in
-    subst (λ os. OthersAreNoWorse os c.args.campaign.value c.share_out.new.campaign.value) orders (subst (λ d. OthersAreNoWorse c.deref-3.result.now c.args.campaign.value d) (sym c.in_ok-events.ensures.what) kept)
+    let trade = c.trade_of-trade.result in
+    let orders : c.deref-3.result.now ≡ written_by_unit (is_trade trade) c.args.month = rw c.trade_of-trade.ensures (search rules) in
+    let kept = trade_keeps_others trade c.in_ok-items.items c.in_ok-counts.counts c.args.world.now c.args.campaign.value c.deref-3.result.now in
+    subst (λ t. OthersAreNoWorse (written_by_unit (is_trade t) c.args.month) c.args.campaign.value c.share_out.new.campaign.value) c.trade_of-trade.ensures
+    (subst (λ os. OthersAreNoWorse os c.args.campaign.value c.share_out.new.campaign.value) orders (subst (λ d. OthersAreNoWorse c.deref-3.result.now c.args.campaign.value d) (sym c.in_ok-events.ensures.what) kept))
