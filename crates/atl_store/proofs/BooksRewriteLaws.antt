@@ -1,5 +1,5 @@
 -- The rows of amounts of the books that are marked, one after another.
-use Rattle.std.proofs.Common.{◌≡◌, ◌≢◌, ◌⊎◌, ◌+◌, ◌*◌, ◌<◌, ◌≤◌, ◌&&◌, ◌||◌, nat_le, ℕ, zero, suc, pos, negsuc, Bool, true, false, List, [], ◌∷◌, map, take, get_or, refl, sym, ap, ◌∙◌, subst, inl, inr, true≢false, arith}
+use Rattle.std.proofs.Common.{◌≡◌, ◌≢◌, ◌+◌, ◌*◌, ◌<◌, ◌≤◌, ◌&&◌, ◌||◌, nat_le, ℕ, zero, suc, pos, Bool, true, false, List, [], ◌∷◌, map, take, get_or, refl, sym, ap, ◌∙◌, subst, inl, inr, true≢false, arith}
 use Rattle.std.specs.List.{range_with_len}
 use Rattle.std.specs.Ordering.{nat_cmp, int_eq, eq_by_cmp}
 use Rattle.std.specs.FinSet.{FinSet, contains}
@@ -10,7 +10,7 @@ use Rattle.sqlite.specs.Effect.{Database}
 use Rattle.sqlite.specs.Order.{Row}
 use Rattle.sqlite.specs.State.{State}
 use Rattle.sqlite_rules.specs.Lists.{Has}
-use Rattle.sqlite_value.specs.declared.value.Value.TheVariants.{Null, Int, Real, Text, Blob}
+use Rattle.sqlite_value.specs.declared.value.Value.TheVariants.{Int}
 use Rattle.atl_state.specs.Limits.{entry_count}
 use Rattle.atl_state.specs.Books.{all_entries, amount_in, entry_place, thing_place}
 use Rattle.atl_state.specs.Marks.{amount_number, AreOfThings}
@@ -32,37 +32,16 @@ use Rattle.atl_store.proofs.WholeLaws.{inside_weaker}
 
 -- ---- a row that begins with an entry and a thing
 
-account_cases : (r : Row)
-    → ((is_so : ℕ → ℕ → Bool) → accounts is_so r ≡ false) ⊎ ((entry thing : ℕ) × (row : Row) × (r ≡ int (suc entry) ∷ int thing ∷ row))
-account_cases [] = inl (λ is_so. refl)
-account_cases (Null ∷ row) = inl (λ is_so. refl)
-account_cases (Int (pos zero) ∷ row) = inl (λ is_so. refl)
-account_cases (Int (pos (suc entry)) ∷ []) = inl (λ is_so. refl)
-account_cases (Int (pos (suc entry)) ∷ Null ∷ row) = inl (λ is_so. refl)
-account_cases (Int (pos (suc entry)) ∷ Int (pos thing) ∷ row) = inr (entry, thing, row, refl)
-account_cases (Int (pos (suc entry)) ∷ Int (negsuc n) ∷ row) = inl (λ is_so. refl)
-account_cases (Int (pos (suc entry)) ∷ Real x ∷ row) = inl (λ is_so. refl)
-account_cases (Int (pos (suc entry)) ∷ Text x ∷ row) = inl (λ is_so. refl)
-account_cases (Int (pos (suc entry)) ∷ Blob x ∷ row) = inl (λ is_so. refl)
-account_cases (Int (negsuc n) ∷ row) = inl (λ is_so. refl)
-account_cases (Real x ∷ row) = inl (λ is_so. refl)
-account_cases (Text x ∷ row) = inl (λ is_so. refl)
-account_cases (Blob x ∷ row) = inl (λ is_so. refl)
-
 accounts_either : (f g : ℕ → ℕ → Bool) (r : Row) → accounts (λ e t. f e t || g e t) r ≡ (accounts f r || accounts g r)
-accounts_either f g r = elim (account_cases r) [
-  | inl none ↦ none (λ e t. f e t || g e t) ∙ sym (ap (λ b. b || accounts g r) (none f) ∙ none g)
-  | inr is ↦ subst (λ x. accounts (λ e t. f e t || g e t) x ≡ (accounts f x || accounts g x)) (sym is.3) refl
-]
+accounts_either f g (Int (pos (suc e)) ∷ Int (pos t) ∷ row) = refl
+accounts_either f g row = refl
 
 accounts_same : (f g : ℕ → ℕ → Bool) → ((e t : ℕ) → f e t ≡ g e t) → (r : Row) → accounts f r ≡ accounts g r
 accounts_same f g same r = ap (λ (h : ℕ → ℕ → Bool). accounts h r) (λ i e t. same e t i)
 
 accounts_none : (f : ℕ → ℕ → Bool) → ((e t : ℕ) → f e t ≡ false) → (r : Row) → accounts f r ≡ false
-accounts_none f never r = elim (account_cases r) [
-  | inl none ↦ none f
-  | inr is ↦ subst (λ x. accounts f x ≡ false) (sym is.3) (never is.0 is.1)
-]
+accounts_none f never (Int (pos (suc e)) ∷ Int (pos t) ∷ row) = never e t
+accounts_none f never row = refl
 
 -- ---- tests of entries and of things
 
@@ -169,18 +148,14 @@ module _ (c : MarkedCampaign) (e : Entry) (t : Thing) where
       true≢false (sym two.1 ∙ ap (λ x. contains c.marks.books (entry_count * x + k)) (tied j (thing_place t) two.0) ∙ ap (λ x. contains c.marks.books (entry_count * thing_place t + x)) (tied k (entry_place e) one.0) ∙ unmarked))) r
 
   key_of : (r : Row) → is_here r ≡ true → take 2 r ≡ books_key (entry_place e + 1) (thing_place t)
-  key_of r is = elim (account_cases r) [
-    | inl none ↦ absurd (true≢false (sym is ∙ none _))
-    | inr row ↦
-        let one = and_parts _ _ (ap is_here (sym row.3) ∙ is) in
-        let two = and_parts _ _ one.1 in
-        let place : row.0 ≡ entry_place e = tied row.0 (entry_place e) one.0 in
-        let entry : suc row.0 ≡ entry_place e + 1 = next row.0 (entry_place e) place in
-        ap (take 2) row.3 ∙ ap (λ k. books_key k row.1) entry ∙ ap (books_key (entry_place e + 1)) (tied row.1 (thing_place t) two.0)
-  ]
+  key_of (Int (pos (suc place)) ∷ Int (pos thing) ∷ row) is =
+      let one = and_parts _ _ is in
+      let two = and_parts _ _ one.1 in
+      ap (λ k. books_key k thing) (next place (entry_place e) (tied place (entry_place e) one.0)) ∙ ap (books_key (entry_place e + 1)) (tied thing (thing_place t) two.0)
     where
       next : (a b : ℕ) → a ≡ b → suc a ≡ b + 1
       next a b same = omega (arith, same)
+  key_of row is = absurd (true≢false (sym is))
 
   module _ (marked : contains c.marks.books (amount_number e t) ≡ true) where
     of_key : (r : Row) → take 2 r ≡ books_key (entry_place e + 1) (thing_place t) → is_here r ≡ true

@@ -10,12 +10,11 @@ use Rattle.sqlite_sql.specs.declared.ops.CompareOp.TheVariants.{Eq}
 use Rattle.sqlite_value.specs.Keys.{first_key}
 use Rattle.atl_store.specs.Tables.{Books, books_table, books_unique}
 use Rattle.atl_store.specs.Shown.{books_key, books_row}
-use Rattle.atl_store.specs.Inside.{Puts, Drops}
 use Rattle.atl_store.specs.Statements.{deletion, upsert}
 use Rattle.atl_store.proofs.KeyedRowLaws.{HasKey, IsPutUnder, IsTakeOut, puts_keyed, drops_keyed}
 use Rattle.atl_store.proofs.PairRowLaws.{pair_terms, pair_project, pair_ints, makes_pair}
 use Rattle.atl_store.proofs.PartLaws.{listed}
-use Rattle.atl_store.proofs.StatementLaws.{AlwaysPlain, DoneBy}
+use Rattle.atl_store.proofs.StatementLaws.{AlwaysPlain, PutsRow, DropsKey}
 
 has_key : HasKey books_table 8 books_unique
 unfolding first_key
@@ -39,7 +38,7 @@ put_plain : AlwaysPlain (upsert books_table 2)
 unfolding understood everything
 put_plain more indexes = (refl, refl)
 
-pub puts_books : (entry thing : ℕ) (amount : ℤ) → DoneBy (upsert books_table 2) (books_row entry thing amount) (Puts books_table 2 (books_row entry thing amount))
+pub puts_books : (entry thing : ℕ) (amount : ℤ) → PutsRow books_table 2 (books_row entry thing amount)
 puts_books entry thing amount = puts_keyed books_table.tree _ _ books_unique 8 has_key (upsert books_table 2) 4 3 pair_terms pair_project put_is put_plain (books_row entry thing amount) (makes_pair 10 (codes "books") (codes "entry") (codes "thing") (codes "amount") entry thing amount)
 
 -- ---- the row of a key is taken out
@@ -55,5 +54,5 @@ drop_plain : AlwaysPlain (deletion books_table 2)
 unfolding understood everything
 drop_plain more indexes = (refl, refl)
 
-pub drops_books : (entry thing : ℕ) → DoneBy (deletion books_table 2) (books_key entry thing) (Drops books_table 2 (books_key entry thing))
+pub drops_books : (entry thing : ℕ) → DropsKey books_table 2 (books_key entry thing)
 drops_books entry thing = drops_keyed books_table.tree _ _ books_unique 8 has_key (deletion books_table 2) of_key drop_is drop_plain books_unique (λ x ints. ints) (λ x. refl) (books_key entry thing) (refl, (refl, tt)) refl (λ x. refl)

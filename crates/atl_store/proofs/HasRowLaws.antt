@@ -15,12 +15,11 @@ use Rattle.sqlite_schema.specs.declared.schema.Constraint.TheVariants.{Datatype,
 use Rattle.sqlite_schema.specs.Rules.{passes}
 use Rattle.atl_store.specs.Tables.{Goods, has_table, has_unique}
 use Rattle.atl_store.specs.Shown.{int, has_key, has_row}
-use Rattle.atl_store.specs.Inside.{Puts, Drops}
 use Rattle.atl_store.specs.Statements.{deletion, upsert}
 use Rattle.atl_store.proofs.KeyLaws.{int_by, cons_is}
 use Rattle.atl_store.proofs.KeyedRowLaws.{AreInts, HasKey, IsPutUnder, IsTakeOut, MakesValues, puts_keyed, drops_keyed}
 use Rattle.atl_store.proofs.PartLaws.{listed}
-use Rattle.atl_store.proofs.StatementLaws.{AlwaysPlain, DoneBy}
+use Rattle.atl_store.proofs.StatementLaws.{AlwaysPlain, PutsRow, DropsKey}
 use Rattle.atl_store.proofs.Terms.{cast_null, cast_int}
 
 -- ---- its key: unit, sort and thing
@@ -83,7 +82,7 @@ makes_row unit sort thing amount = record {
       rw (one.0, two.0, three.0, cast_int (pos unit), cast_int (pos sort), cast_int (pos thing), cast_int (pos amount)) refl;
 }
 
-pub puts_has : (unit sort thing amount : ℕ) → DoneBy (upsert has_table 3) (has_row unit sort thing amount) (Puts has_table 3 (has_row unit sort thing amount))
+pub puts_has : (unit sort thing amount : ℕ) → PutsRow has_table 3 (has_row unit sort thing amount)
 puts_has unit sort thing amount = puts_keyed has_table.tree _ _ has_unique 4 keyed (upsert has_table 3) 5 4 terms project put_is put_plain (has_row unit sort thing amount) (makes_row unit sort thing amount)
 
 -- ---- all rows of a unit are taken out
@@ -99,7 +98,7 @@ goods_plain : AlwaysPlain (deletion has_table 1)
 unfolding understood everything
 goods_plain more indexes = (refl, refl)
 
-pub drops_goods : (unit : ℕ) → DoneBy (deletion has_table 1) (int unit ∷ []) (Drops has_table 1 (int unit ∷ []))
+pub drops_goods : (unit : ℕ) → DropsKey has_table 1 (int unit ∷ [])
 drops_goods unit = drops_keyed has_table.tree _ _ has_unique 4 keyed (deletion has_table 1) of_unit goods_is goods_plain (1 ∷ []) (λ x ints. (ints.0, tt)) (λ x. refl) (int unit ∷ []) (refl, tt) refl (λ x. refl)
 
 -- ---- the row of a key is taken out
@@ -115,5 +114,5 @@ drop_plain : AlwaysPlain (deletion has_table 3)
 unfolding understood everything
 drop_plain more indexes = (refl, refl)
 
-pub drops_has : (unit sort thing : ℕ) → DoneBy (deletion has_table 3) (has_key unit sort thing) (Drops has_table 3 (has_key unit sort thing))
+pub drops_has : (unit sort thing : ℕ) → DropsKey has_table 3 (has_key unit sort thing)
 drops_has unit sort thing = drops_keyed has_table.tree _ _ has_unique 4 keyed (deletion has_table 3) of_key drop_is drop_plain has_unique (λ x ints. ints) (λ x. refl) (has_key unit sort thing) (refl, (refl, (refl, tt))) refl (λ x. refl)

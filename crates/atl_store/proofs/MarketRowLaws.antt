@@ -10,12 +10,11 @@ use Rattle.sqlite_sql.specs.declared.ops.CompareOp.TheVariants.{Eq}
 use Rattle.sqlite_value.specs.Keys.{first_key}
 use Rattle.atl_store.specs.Tables.{Markets, market_table, market_unique}
 use Rattle.atl_store.specs.Shown.{int, market_row}
-use Rattle.atl_store.specs.Inside.{Puts, Drops}
 use Rattle.atl_store.specs.Statements.{deletion, upsert}
 use Rattle.atl_store.proofs.KeyedRowLaws.{HasKey, IsPutUnder, IsTakeOut, puts_keyed, drops_keyed}
 use Rattle.atl_store.proofs.PairRowLaws.{pair_terms, pair_project, pair_ints, makes_pair}
 use Rattle.atl_store.proofs.PartLaws.{listed}
-use Rattle.atl_store.proofs.StatementLaws.{AlwaysPlain, DoneBy}
+use Rattle.atl_store.proofs.StatementLaws.{AlwaysPlain, PutsRow, DropsKey}
 
 has_key : HasKey market_table 9 market_unique
 unfolding first_key
@@ -39,7 +38,7 @@ put_plain : AlwaysPlain (upsert market_table 2)
 unfolding understood everything
 put_plain more indexes = (refl, refl)
 
-pub puts_market : (region item stock : ℕ) → DoneBy (upsert market_table 2) (market_row region item stock) (Puts market_table 2 (market_row region item stock))
+pub puts_market : (region item stock : ℕ) → PutsRow market_table 2 (market_row region item stock)
 puts_market region item stock = puts_keyed market_table.tree _ _ market_unique 9 has_key (upsert market_table 2) 4 3 pair_terms pair_project put_is put_plain (market_row region item stock) (makes_pair 12 (codes "market") (codes "region") (codes "item") (codes "stock") region item (pos stock))
 
 -- ---- all rows of a region are taken out
@@ -55,5 +54,5 @@ drop_plain : AlwaysPlain (deletion market_table 1)
 unfolding understood everything
 drop_plain more indexes = (refl, refl)
 
-pub drops_stocks : (region : ℕ) → DoneBy (deletion market_table 1) (int region ∷ []) (Drops market_table 1 (int region ∷ []))
+pub drops_stocks : (region : ℕ) → DropsKey market_table 1 (int region ∷ [])
 drops_stocks region = drops_keyed market_table.tree _ _ market_unique 9 has_key (deletion market_table 1) of_region drop_is drop_plain (1 ∷ []) (λ x ints. (ints.0, tt)) (λ x. refl) (int region ∷ []) (refl, tt) refl (λ x. refl)

@@ -32,8 +32,9 @@ use Rattle.atl_store.specs.Sets.{table, visible}
 use Rattle.atl_store.specs.Tables.{all_tables, all_indexes, all_and}
 use Rattle.atl_store.specs.Shown.{int}
 use Rattle.atl_store.specs.Inside.{Inside, HasTables, Puts, Drops}
+use Rattle.atl_store.specs.Statements.{deletion, upsert}
 use Rattle.atl_store.proofs.UpsertLaws.{Upserted, update_query, clause_on}
-use Rattle.atl_store.proofs.StatementLaws.{AlwaysPlain, DoneBy, upserting, removes, done_by}
+use Rattle.atl_store.proofs.StatementLaws.{AlwaysPlain, PutsRow, DropsKey, upserting, removes, done_by}
 use Rattle.atl_store.proofs.CarryLaws.{among_all, unlinked, none_share, sound_under, done_with}
 use Rattle.atl_store.proofs.MakeLaws.{did, upserts_make, loses_make}
 use Rattle.atl_store.proofs.EditLaws.{delete_query, found_by}
@@ -50,18 +51,18 @@ given_row width = col 0 0 ∷ lit Null ∷ map (col 0) (range_with_len 1 width)
 abbrev changed_row : ℕ → List Term
 changed_row width = col 1 0 ∷ lit Null ∷ map (col 0) (range_with_len 1 width)
 
--- A table at this place, whose rows have so many values behind their number, and what the texts of its two statements mean, whatever came behind the tables of a campaign:
+-- A table at this place, whose rows have so many values behind their number, and what its two statements mean, whatever came behind the tables of a campaign:
 -- an INSERT of the given row with an update of the one that has its number, and a DELETE of the one that has the number.
-pub record IsNumbered (t : Table) (at width : ℕ) (put drop : List ℕ) : Type 0 where
+pub record IsNumbered (t : Table) (at width : ℕ) : Type 0 where
   pub ours : Has all_tables t
   pub place : (more : List Table) → slice_get (all_tables ++ more) at ≡ Some t
   pub plain : (db : Trees) → overlay db [] t.tree ≡ db t.tree
   pub puts : (more : List Table) (indexes : List Index)
-      → command_of (understood (all_and more indexes) put) ≡ InsertOr at Abort (Values (given_row width) (width + 2)) (clause_on (0 ∷ []) (record { lets = []; body = update_query t.tree (width + 1) (changed_row width) }) ∷ [])
-  pub puts_plain : AlwaysPlain put
+      → command_of (understood (all_and more indexes) (upsert t 1)) ≡ InsertOr at Abort (Values (given_row width) (width + 2)) (clause_on (0 ∷ []) (record { lets = []; body = update_query t.tree (width + 1) (changed_row width) }) ∷ [])
+  pub puts_plain : AlwaysPlain (upsert t 1)
   pub drops : (more : List Table) (indexes : List Index)
-      → command_of (understood (all_and more indexes) drop) ≡ Delete at (record { lets = []; body = delete_query t.tree has_number })
-  pub drops_plain : AlwaysPlain drop
+      → command_of (understood (all_and more indexes) (deletion t 1)) ≡ Delete at (record { lets = []; body = delete_query t.tree has_number })
+  pub drops_plain : AlwaysPlain (deletion t 1)
 
 -- the row of this number and these values is what the terms make of them, whether it is put or changed
 pub record MakesRow (t : Table) (width number : ℕ) (values : Row) : Type 0 where
@@ -73,11 +74,17 @@ pub record MakesRow (t : Table) (width number : ℕ) (values : Row) : Type 0 whe
   pub spared : (x : Row) → list_any (shares (Some (0 ∷ [])) t (int number ∷ Null ∷ values) x) all_indexes ≡ false
 
 -- one of the tables of a campaign, whose first column is the row's number
-module _ (tree : ℕ) (name : List ℕ) (number_column : Column) (columns : List Column) (uniques : List (List ℕ)) (at width : ℕ) (put drop : List ℕ) where
+module _ (tree : ℕ) (name : List ℕ) (number_column : Column) (columns : List Column) (uniques : List (List ℕ)) (at width : ℕ) where
   abbrev t : Table
   t = table tree name (number_column ∷ columns) (Some 0) (0 ∷ []) uniques []
 
-  module _ (is : IsNumbered t at width put drop) where
+  abbrev put : List ℕ
+  put = upsert t 1
+
+  abbrev drop : List ℕ
+  drop = deletion t 1
+
+  module _ (is : IsNumbered t at width) where
     -- ---- taking out
 
     drops : (number : ℕ) (old new : State) (count : ℕ) → IsTrue old.in_transaction → ExecutesInside 0 drop (int number ∷ []) old new (Ok count)
@@ -98,7 +105,7 @@ module _ (tree : ℕ) (name : List ℕ) (number_column : Column) (columns : List
           done_with t old.now new.now has is.ours _ _ (λ did. did) makes,
     )
 
-    pub drops_numbered : (number : ℕ) → DoneBy drop (int number ∷ []) (Drops t 1 (int number ∷ []))
+    pub drops_numbered : (number : ℕ) → DropsKey t 1 (int number ∷ [])
     drops_numbered number = done_by drop (int number ∷ []) (Drops t 1 (int number ∷ [])) (drops number)
 
     -- ---- putting
@@ -134,6 +141,5 @@ module _ (tree : ℕ) (name : List ℕ) (number_column : Column) (columns : List
           done_with t old.now new.now has is.ours _ _ (λ did. did) makes,
     )
 
-    pub puts_numbered : (number : ℕ) (values : Row) → MakesRow t width number values
-        → DoneBy put (int number ∷ values) (Puts t 1 (int number ∷ values))
+    pub puts_numbered : (number : ℕ) (values : Row) → MakesRow t width number values → PutsRow t 1 (int number ∷ values)
     puts_numbered number values writes = done_by put (int number ∷ values) (Puts t 1 (int number ∷ values)) (puts number values writes)

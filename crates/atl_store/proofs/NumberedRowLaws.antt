@@ -1,21 +1,17 @@
 -- What the statements on the six tables under a number mean, and what they do.
-use Rattle.std.proofs.Common.{ℕ, pos, Bool, if◌then◌else◌, List, [], ◌∷◌, refl}
+use Rattle.std.proofs.Common.{ℕ, pos, Bool, if◌then◌else◌, List, [], ◌∷◌, drop, refl}
 use Rattle.sqlite_tied.specs.Compute.{everything}
-use Rattle.sqlite.specs.declared.types.Value.TheVariants.{Text, Blob}
 use Rattle.sqlite.specs.Listing.{understood}
-use Rattle.sqlite.specs.Order.{Row}
 use Rattle.atl_store.specs.Tables.{Factions, Regions, Units, Structures, Mail, Reports, faction_table, region_table, unit_table, structure_table, mail_table, report_table}
-use Rattle.atl_store.specs.Shown.{int, flag, faction_row, region_row, unit_row, structure_row, mail_row, report_row}
-use Rattle.atl_store.specs.Inside.{Puts, Drops}
-use Rattle.atl_store.specs.Statements.{deletion, upsert}
+use Rattle.atl_store.specs.Shown.{int, faction_row, region_row, unit_row, structure_row, mail_row, report_row}
 use Rattle.atl_store.proofs.NumberedLaws.{IsNumbered, MakesRow, puts_numbered, drops_numbered}
 use Rattle.atl_store.proofs.PartLaws.{listed}
-use Rattle.atl_store.proofs.StatementLaws.{DoneBy}
+use Rattle.atl_store.proofs.StatementLaws.{PutsRow, DropsKey}
 use Rattle.atl_store.proofs.Terms.{cast_null, cast_int}
 
 -- ---- faction
 
-faction_statements : IsNumbered faction_table 1 4 (upsert faction_table 1) (deletion faction_table 1)
+faction_statements : IsNumbered faction_table 1 4
 unfolding understood everything
 faction_statements = record {
   ours = listed Factions;
@@ -27,10 +23,7 @@ faction_statements = record {
   drops_plain = λ more indexes. (refl, refl);
 }
 
-abbrev faction_values : List ℕ → List ℕ → List ℕ → Bool → Row
-faction_values joined_as name pass gone = Text joined_as ∷ Text name ∷ Text pass ∷ flag gone ∷ []
-
-faction_made : (number : ℕ) (joined_as name pass : List ℕ) (gone : Bool) → MakesRow faction_table 4 number (faction_values joined_as name pass gone)
+faction_made : (number : ℕ) (joined_as name pass : List ℕ) (gone : Bool) → MakesRow faction_table 4 number (drop 1 (faction_row number joined_as name pass gone))
 faction_made number joined_as name pass gone = record {
   source = refl;
   changed = λ more r. refl;
@@ -40,16 +33,15 @@ faction_made number joined_as name pass gone = record {
   spared = λ x. refl;
 }
 
-pub puts_faction : (number : ℕ) (joined_as name pass : List ℕ) (gone : Bool)
-    → DoneBy (upsert faction_table 1) (faction_row number joined_as name pass gone) (Puts faction_table 1 (faction_row number joined_as name pass gone))
-puts_faction number joined_as name pass gone = puts_numbered faction_table.tree _ _ _ _ 1 4 (upsert faction_table 1) (deletion faction_table 1) faction_statements number (faction_values joined_as name pass gone) (faction_made number joined_as name pass gone)
+pub puts_faction : (number : ℕ) (joined_as name pass : List ℕ) (gone : Bool) → PutsRow faction_table 1 (faction_row number joined_as name pass gone)
+puts_faction number joined_as name pass gone = puts_numbered faction_table.tree _ _ _ _ 1 4 faction_statements number _ (faction_made number joined_as name pass gone)
 
-pub drops_faction : (number : ℕ) → DoneBy (deletion faction_table 1) (int number ∷ []) (Drops faction_table 1 (int number ∷ []))
-drops_faction = drops_numbered faction_table.tree _ _ _ _ 1 4 (upsert faction_table 1) (deletion faction_table 1) faction_statements
+pub drops_faction : (number : ℕ) → DropsKey faction_table 1 (int number ∷ [])
+drops_faction = drops_numbered faction_table.tree _ _ _ _ 1 4 faction_statements
 
 -- ---- region
 
-region_statements : IsNumbered region_table 2 2 (upsert region_table 1) (deletion region_table 1)
+region_statements : IsNumbered region_table 2 2
 unfolding understood everything
 region_statements = record {
   ours = listed Regions;
@@ -61,10 +53,7 @@ region_statements = record {
   drops_plain = λ more indexes. (refl, refl);
 }
 
-abbrev region_values : ℕ → ℕ → Row
-region_values peasants money = int peasants ∷ int money ∷ []
-
-region_made : (number peasants money : ℕ) → MakesRow region_table 2 number (region_values peasants money)
+region_made : (number peasants money : ℕ) → MakesRow region_table 2 number (drop 1 (region_row number peasants money))
 region_made number peasants money = record {
   source = refl;
   changed = λ more r. refl;
@@ -74,16 +63,15 @@ region_made number peasants money = record {
   spared = λ x. refl;
 }
 
-pub puts_region : (number peasants money : ℕ)
-    → DoneBy (upsert region_table 1) (region_row number peasants money) (Puts region_table 1 (region_row number peasants money))
-puts_region number peasants money = puts_numbered region_table.tree _ _ _ _ 2 2 (upsert region_table 1) (deletion region_table 1) region_statements number (region_values peasants money) (region_made number peasants money)
+pub puts_region : (number peasants money : ℕ) → PutsRow region_table 1 (region_row number peasants money)
+puts_region number peasants money = puts_numbered region_table.tree _ _ _ _ 2 2 region_statements number _ (region_made number peasants money)
 
-pub drops_region : (number : ℕ) → DoneBy (deletion region_table 1) (int number ∷ []) (Drops region_table 1 (int number ∷ []))
-drops_region = drops_numbered region_table.tree _ _ _ _ 2 2 (upsert region_table 1) (deletion region_table 1) region_statements
+pub drops_region : (number : ℕ) → DropsKey region_table 1 (int number ∷ [])
+drops_region = drops_numbered region_table.tree _ _ _ _ 2 2 region_statements
 
 -- ---- unit
 
-unit_statements : IsNumbered unit_table 3 7 (upsert unit_table 1) (deletion unit_table 1)
+unit_statements : IsNumbered unit_table 3 7
 unfolding understood everything
 unit_statements = record {
   ours = listed Units;
@@ -95,11 +83,7 @@ unit_statements = record {
   drops_plain = λ more indexes. (refl, refl);
 }
 
-abbrev unit_values : ℕ → List ℕ → ℕ → ℕ → ℕ → ℕ → Bool → Row
-unit_values faction name region structure men money guard = int faction ∷ Text name ∷ int region ∷ int structure ∷ int men ∷ int money ∷ flag guard ∷ []
-
-unit_made : (number faction : ℕ) (name : List ℕ) (region structure men money : ℕ) (guard : Bool)
-    → MakesRow unit_table 7 number (unit_values faction name region structure men money guard)
+unit_made : (number faction : ℕ) (name : List ℕ) (region structure men money : ℕ) (guard : Bool) → MakesRow unit_table 7 number (drop 1 (unit_row number faction name region structure men money guard))
 unit_made number faction name region structure men money guard = record {
   source = refl;
   changed = λ more r. refl;
@@ -109,16 +93,15 @@ unit_made number faction name region structure men money guard = record {
   spared = λ x. refl;
 }
 
-pub puts_unit : (number faction : ℕ) (name : List ℕ) (region structure men money : ℕ) (guard : Bool)
-    → DoneBy (upsert unit_table 1) (unit_row number faction name region structure men money guard) (Puts unit_table 1 (unit_row number faction name region structure men money guard))
-puts_unit number faction name region structure men money guard = puts_numbered unit_table.tree _ _ _ _ 3 7 (upsert unit_table 1) (deletion unit_table 1) unit_statements number (unit_values faction name region structure men money guard) (unit_made number faction name region structure men money guard)
+pub puts_unit : (number faction : ℕ) (name : List ℕ) (region structure men money : ℕ) (guard : Bool) → PutsRow unit_table 1 (unit_row number faction name region structure men money guard)
+puts_unit number faction name region structure men money guard = puts_numbered unit_table.tree _ _ _ _ 3 7 unit_statements number _ (unit_made number faction name region structure men money guard)
 
-pub drops_unit : (number : ℕ) → DoneBy (deletion unit_table 1) (int number ∷ []) (Drops unit_table 1 (int number ∷ []))
-drops_unit = drops_numbered unit_table.tree _ _ _ _ 3 7 (upsert unit_table 1) (deletion unit_table 1) unit_statements
+pub drops_unit : (number : ℕ) → DropsKey unit_table 1 (int number ∷ [])
+drops_unit = drops_numbered unit_table.tree _ _ _ _ 3 7 unit_statements
 
 -- ---- structure
 
-structure_statements : IsNumbered structure_table 5 5 (upsert structure_table 1) (deletion structure_table 1)
+structure_statements : IsNumbered structure_table 5 5
 unfolding understood everything
 structure_statements = record {
   ours = listed Structures;
@@ -130,11 +113,7 @@ structure_statements = record {
   drops_plain = λ more indexes. (refl, refl);
 }
 
-abbrev structure_values : ℕ → List ℕ → ℕ → ℕ → ℕ → Row
-structure_values kind name region done owner = int kind ∷ Text name ∷ int region ∷ int done ∷ int owner ∷ []
-
-structure_made : (number kind : ℕ) (name : List ℕ) (region done owner : ℕ)
-    → MakesRow structure_table 5 number (structure_values kind name region done owner)
+structure_made : (number kind : ℕ) (name : List ℕ) (region done owner : ℕ) → MakesRow structure_table 5 number (drop 1 (structure_row number kind name region done owner))
 structure_made number kind name region done owner = record {
   source = refl;
   changed = λ more r. refl;
@@ -144,16 +123,15 @@ structure_made number kind name region done owner = record {
   spared = λ x. refl;
 }
 
-pub puts_structure : (number kind : ℕ) (name : List ℕ) (region done owner : ℕ)
-    → DoneBy (upsert structure_table 1) (structure_row number kind name region done owner) (Puts structure_table 1 (structure_row number kind name region done owner))
-puts_structure number kind name region done owner = puts_numbered structure_table.tree _ _ _ _ 5 5 (upsert structure_table 1) (deletion structure_table 1) structure_statements number (structure_values kind name region done owner) (structure_made number kind name region done owner)
+pub puts_structure : (number kind : ℕ) (name : List ℕ) (region done owner : ℕ) → PutsRow structure_table 1 (structure_row number kind name region done owner)
+puts_structure number kind name region done owner = puts_numbered structure_table.tree _ _ _ _ 5 5 structure_statements number _ (structure_made number kind name region done owner)
 
-pub drops_structure : (number : ℕ) → DoneBy (deletion structure_table 1) (int number ∷ []) (Drops structure_table 1 (int number ∷ []))
-drops_structure = drops_numbered structure_table.tree _ _ _ _ 5 5 (upsert structure_table 1) (deletion structure_table 1) structure_statements
+pub drops_structure : (number : ℕ) → DropsKey structure_table 1 (int number ∷ [])
+drops_structure = drops_numbered structure_table.tree _ _ _ _ 5 5 structure_statements
 
 -- ---- mail
 
-mail_statements : IsNumbered mail_table 6 1 (upsert mail_table 1) (deletion mail_table 1)
+mail_statements : IsNumbered mail_table 6 1
 unfolding understood everything
 mail_statements = record {
   ours = listed Mail;
@@ -165,10 +143,7 @@ mail_statements = record {
   drops_plain = λ more indexes. (refl, refl);
 }
 
-abbrev mail_values : List ℕ → Row
-mail_values text = Blob text ∷ []
-
-mail_made : (faction : ℕ) (text : List ℕ) → MakesRow mail_table 1 faction (mail_values text)
+mail_made : (faction : ℕ) (text : List ℕ) → MakesRow mail_table 1 faction (drop 1 (mail_row faction text))
 mail_made faction text = record {
   source = refl;
   changed = λ more r. refl;
@@ -178,15 +153,15 @@ mail_made faction text = record {
   spared = λ x. refl;
 }
 
-pub puts_mail : (faction : ℕ) (text : List ℕ) → DoneBy (upsert mail_table 1) (mail_row faction text) (Puts mail_table 1 (mail_row faction text))
-puts_mail faction text = puts_numbered mail_table.tree _ _ _ _ 6 1 (upsert mail_table 1) (deletion mail_table 1) mail_statements faction (mail_values text) (mail_made faction text)
+pub puts_mail : (faction : ℕ) (text : List ℕ) → PutsRow mail_table 1 (mail_row faction text)
+puts_mail faction text = puts_numbered mail_table.tree _ _ _ _ 6 1 mail_statements faction _ (mail_made faction text)
 
-pub drops_mail : (faction : ℕ) → DoneBy (deletion mail_table 1) (int faction ∷ []) (Drops mail_table 1 (int faction ∷ []))
-drops_mail = drops_numbered mail_table.tree _ _ _ _ 6 1 (upsert mail_table 1) (deletion mail_table 1) mail_statements
+pub drops_mail : (faction : ℕ) → DropsKey mail_table 1 (int faction ∷ [])
+drops_mail = drops_numbered mail_table.tree _ _ _ _ 6 1 mail_statements
 
 -- ---- report
 
-report_statements : IsNumbered report_table 7 1 (upsert report_table 1) (deletion report_table 1)
+report_statements : IsNumbered report_table 7 1
 unfolding understood everything
 report_statements = record {
   ours = listed Reports;
@@ -198,10 +173,7 @@ report_statements = record {
   drops_plain = λ more indexes. (refl, refl);
 }
 
-abbrev report_values : List ℕ → Row
-report_values text = Text text ∷ []
-
-report_made : (faction : ℕ) (text : List ℕ) → MakesRow report_table 1 faction (report_values text)
+report_made : (faction : ℕ) (text : List ℕ) → MakesRow report_table 1 faction (drop 1 (report_row faction text))
 report_made faction text = record {
   source = refl;
   changed = λ more r. refl;
@@ -211,8 +183,8 @@ report_made faction text = record {
   spared = λ x. refl;
 }
 
-pub puts_report : (faction : ℕ) (text : List ℕ) → DoneBy (upsert report_table 1) (report_row faction text) (Puts report_table 1 (report_row faction text))
-puts_report faction text = puts_numbered report_table.tree _ _ _ _ 7 1 (upsert report_table 1) (deletion report_table 1) report_statements faction (report_values text) (report_made faction text)
+pub puts_report : (faction : ℕ) (text : List ℕ) → PutsRow report_table 1 (report_row faction text)
+puts_report faction text = puts_numbered report_table.tree _ _ _ _ 7 1 report_statements faction _ (report_made faction text)
 
-pub drops_report : (faction : ℕ) → DoneBy (deletion report_table 1) (int faction ∷ []) (Drops report_table 1 (int faction ∷ []))
-drops_report = drops_numbered report_table.tree _ _ _ _ 7 1 (upsert report_table 1) (deletion report_table 1) report_statements
+pub drops_report : (faction : ℕ) → DropsKey report_table 1 (int faction ∷ [])
+drops_report = drops_numbered report_table.tree _ _ _ _ 7 1 report_statements

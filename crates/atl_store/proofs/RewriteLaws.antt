@@ -1,5 +1,5 @@
 -- Rows of a table that are rewritten where a test holds, one step after another.
-use Rattle.std.proofs.Common.{◌≡◌, ◌≢◌, ◌⊎◌, ◌↔◌, ◌||◌, ℕ, pos, negsuc, Bool, true, false, List, [], ◌∷◌, take, Some, None, Less, Equal, Greater, refl, sym, ap, ◌∙◌, subst, inl, inr, true≢false}
+use Rattle.std.proofs.Common.{◌≡◌, ◌≢◌, ◌⊎◌, ◌↔◌, ◌||◌, ℕ, pos, Bool, true, false, List, [], ◌∷◌, take, Some, None, Less, Equal, Greater, refl, sym, ap, ◌∙◌, subst, inl, inr, true≢false}
 use Rattle.std.specs.Ordering.{nat_cmp, is_eq, eq_by_cmp}
 use Rattle.std.specs.Cmp.{nat_cmp_total}
 use Rattle.std.specs.FinMap.{FinMap, get, nat_cmp-IsAntisymmetric}
@@ -12,7 +12,7 @@ use Rattle.sqlite.specs.Order.{Row}
 use Rattle.sqlite.specs.State.{State}
 use Rattle.sqlite.specs.Table.{Table}
 use Rattle.sqlite_rules.specs.Lists.{Has}
-use Rattle.sqlite_value.specs.declared.value.Value.TheVariants.{Null, Int, Real, Text, Blob}
+use Rattle.sqlite_value.specs.declared.value.Value.TheVariants.{Int}
 use Rattle.atl_store.specs.Sets.{Set, rows_in}
 use Rattle.atl_store.specs.Tables.{all_tables}
 use Rattle.atl_store.specs.Shown.{int}
@@ -122,32 +122,17 @@ is_itself n = ap is_eq (tied_itself nat_cmp_total n)
 
 -- ---- a row that begins with a number
 
-begins_cases : (r : Row) → ((is_so : ℕ → Bool) → begins is_so r ≡ false) ⊎ ((n : ℕ) × (row : Row) × (r ≡ int n ∷ row))
-begins_cases [] = inl (λ is_so. refl)
-begins_cases (Null ∷ row) = inl (λ is_so. refl)
-begins_cases (Int (pos n) ∷ row) = inr (n, row, refl)
-begins_cases (Int (negsuc n) ∷ row) = inl (λ is_so. refl)
-begins_cases (Real x ∷ row) = inl (λ is_so. refl)
-begins_cases (Text x ∷ row) = inl (λ is_so. refl)
-begins_cases (Blob x ∷ row) = inl (λ is_so. refl)
-
 begins_either : (f g : ℕ → Bool) (r : Row) → begins (λ n. f n || g n) r ≡ (begins f r || begins g r)
-begins_either f g r = elim (begins_cases r) [
-  | inl none ↦ none (λ n. f n || g n) ∙ sym (ap (λ b. b || begins g r) (none f) ∙ none g)
-  | inr is ↦ subst (λ x. begins (λ n. f n || g n) x ≡ (begins f x || begins g x)) (sym is.2) refl
-]
+begins_either f g (Int (pos n) ∷ row) = refl
+begins_either f g row = refl
 
 begins_none : (r : Row) → begins (λ n. false) r ≡ false
-begins_none r = elim (begins_cases r) [
-  | inl none ↦ none (λ n. false)
-  | inr is ↦ subst (λ x. begins (λ n. false) x ≡ false) (sym is.2) refl
-]
+begins_none (Int (pos n) ∷ row) = refl
+begins_none row = refl
 
 pub begins_key : (n : ℕ) (r : Row) → begins (is_number n) r ≡ true → take 1 r ≡ int n ∷ []
-begins_key n r is = elim (begins_cases r) [
-  | inl none ↦ absurd (true≢false (sym is ∙ none (is_number n)))
-  | inr row ↦ ap (take 1) row.2 ∙ ap (λ k. int k ∷ []) (tied row.0 n (ap (begins (is_number n)) (sym row.2) ∙ is))
-]
+begins_key n (Int (pos k) ∷ row) is = ap (λ k. int k ∷ []) (tied k n is)
+begins_key n row is = absurd (true≢false (sym is))
 
 pub key_begins : (n : ℕ) (r : Row) → take 1 r ≡ int n ∷ [] → begins (is_number n) r ≡ true
 key_begins n [] key = absurd cc

@@ -1,7 +1,6 @@
 -- What the SELECTs mean where the schema begins with the tables of a campaign: each shows all rows of its table, each once.
 use Rattle.std.proofs.Common.{◌≡◌, ◌++◌, ℕ, false, List, [], ◌∷◌, codes, length, map, take, refl, sym, subst}
 use Rattle.std.specs.List.{range_with_len}
-use Rattle.std.specs.List.Sorted.{IsPermutation}
 use Rattle.sqlite_tied.specs.Compute.{everything}
 use Rattle.sqlite.specs.Command.TheVariants.{Select}
 use Rattle.sqlite.specs.declared.types.Value.TheVariants.{Null}
@@ -16,7 +15,6 @@ use Rattle.sqlite_catalog.specs.Listing.{automatic}
 use Rattle.sqlite_rules.proofs.ListLemmas.{all_has}
 use Rattle.sqlite_schema.specs.Rules.{guards}
 use Rattle.sqlite_schema.specs.declared.schema.Index.{Index}
-use Rattle.sqlite.specs.State.{State, Shown}
 use Rattle.sqlite.proofs.Callers.{IsPlain, command_of, reads_as}
 use Rattle.sqlite_value.specs.Keys.{ascending}
 use Rattle.sqlite_schema.specs.Names.{place_of}
@@ -30,6 +28,7 @@ use Rattle.atl_store.specs.Reading.{placed_rows_in}
 use Rattle.atl_store.specs.Statements.{column_names, placed_selection, selection}
 use Rattle.atl_store.specs.Stored.{first_columns}
 use Rattle.atl_store.proofs.ReadLaws.{all_query, all_shown}
+use Rattle.atl_store.proofs.RowsLaws.{Reads}
 use Rattle.atl_store.proofs.SchemaLaws.{begins_with_fewer}
 use Rattle.atl_store.proofs.ShownLaws.{whole_shown}
 
@@ -70,7 +69,7 @@ IsPlaced f sql t key = IsAll f sql t key (column_names t ++ codes "rowid" ∷ []
 
 -- shown is the row that those columns make, and they are so many
 reads_all : (f : Format) (sql : List ℕ) (t : Table) (key : ℕ) (names : List (List ℕ)) (columns : List Term) → IsAll f sql t key names columns → ((db : Trees) → overlay db [] t.tree ≡ db t.tree) → (count : ℕ) → ((r : Row) → first_columns count (eval_all columns ([] ∷ r ∷ [])) ≡ eval_all columns ([] ∷ r ∷ []))
-    → (old new : State) (rows : List Row) → Shown sql [] old new rows → HasTablesOf f old.now.schema → IsPermutation (map (λ r. eval_all columns ([] ∷ r ∷ [])) (old.now.trees t.tree)) (map (first_columns count) rows)
+    → Reads f sql (λ db. map (λ r. eval_all columns ([] ∷ r ∷ [])) (db t.tree)) count
 reads_all f sql t key names columns all same count whole old new rows h has =
     let got = reads_as sql [] old new (first_and (tables_in f) (indexes_in f) has.tables has.indexes) has.is _ (all.command has.tables has.indexes) (all.plain has.tables has.indexes) (all.unlisted has.tables has.indexes) rows h in
     whole_shown (λ r. eval_all columns ([] ∷ r ∷ [])) (first_columns count) whole (old.now.trees t.tree) rows (all_shown t.tree columns _ old.now.trees (overlay old.now.trees []) [] rows (same old.now.trees) (got.answer Null))
@@ -85,68 +84,68 @@ campaign_all = record { command = λ more indexes. refl; plain = λ more indexes
 pub campaign_plain : (schema : Schema) → HasTablesOf First schema → IsPlain (understood schema (selection campaign_table 1))
 campaign_plain schema has = subst (λ s. IsPlain (understood s (selection campaign_table 1))) (sym has.is) (campaign_all.plain has.tables has.indexes)
 
-pub reads_campaign : (old new : State) (rows : List Row) → Shown (selection campaign_table 1) [] old new rows → HasTablesOf First old.now.schema → IsPermutation (rows_in campaign_table old.now.trees) (map (first_columns 8) rows)
+pub reads_campaign : Reads First (selection campaign_table 1) (rows_in campaign_table) 8
 reads_campaign = reads_all First (selection campaign_table 1) campaign_table 1 _ _ campaign_all (λ db. refl) 8 (λ r. refl)
 
 faction_all : IsWhole (selection faction_table 1) faction_table 1
 unfolding understood everything
 faction_all = record { command = λ more indexes. refl; plain = λ more indexes. (refl, refl); unlisted = λ more indexes. refl }
 
-pub reads_faction : (old new : State) (rows : List Row) → Shown (selection faction_table 1) [] old new rows → HasTablesOf First old.now.schema → IsPermutation (rows_in faction_table old.now.trees) (map (first_columns 5) rows)
+pub reads_faction : Reads First (selection faction_table 1) (rows_in faction_table) 5
 reads_faction = reads_all First (selection faction_table 1) faction_table 1 _ _ faction_all (λ db. refl) 5 (λ r. refl)
 
 region_all : IsWhole (selection region_table 1) region_table 1
 unfolding understood everything
 region_all = record { command = λ more indexes. refl; plain = λ more indexes. (refl, refl); unlisted = λ more indexes. refl }
 
-pub reads_region : (old new : State) (rows : List Row) → Shown (selection region_table 1) [] old new rows → HasTablesOf First old.now.schema → IsPermutation (rows_in region_table old.now.trees) (map (first_columns 3) rows)
+pub reads_region : Reads First (selection region_table 1) (rows_in region_table) 3
 reads_region = reads_all First (selection region_table 1) region_table 1 _ _ region_all (λ db. refl) 3 (λ r. refl)
 
 unit_all : IsWhole (selection unit_table 1) unit_table 1
 unfolding understood everything
 unit_all = record { command = λ more indexes. refl; plain = λ more indexes. (refl, refl); unlisted = λ more indexes. refl }
 
-pub reads_unit : (old new : State) (rows : List Row) → Shown (selection unit_table 1) [] old new rows → HasTablesOf First old.now.schema → IsPermutation (rows_in unit_table old.now.trees) (map (first_columns 8) rows)
+pub reads_unit : Reads First (selection unit_table 1) (rows_in unit_table) 8
 reads_unit = reads_all First (selection unit_table 1) unit_table 1 _ _ unit_all (λ db. refl) 8 (λ r. refl)
 
 has_all : IsPlaced First (placed_selection has_table 3) has_table 3
 unfolding understood everything
 has_all = record { command = λ more indexes. refl; plain = λ more indexes. (refl, refl); unlisted = λ more indexes. refl }
 
-pub reads_has : (old new : State) (rows : List Row) → Shown (placed_selection has_table 3) [] old new rows → HasTablesOf First old.now.schema → IsPermutation (placed_rows_in has_table old.now.trees) (map (first_columns 5) rows)
+pub reads_has : Reads First (placed_selection has_table 3) (placed_rows_in has_table) 5
 reads_has = reads_all First (placed_selection has_table 3) has_table 3 _ _ has_all (λ db. refl) 5 (λ r. refl)
 
 structure_all : IsWhole (selection structure_table 1) structure_table 1
 unfolding understood everything
 structure_all = record { command = λ more indexes. refl; plain = λ more indexes. (refl, refl); unlisted = λ more indexes. refl }
 
-pub reads_structure : (old new : State) (rows : List Row) → Shown (selection structure_table 1) [] old new rows → HasTablesOf First old.now.schema → IsPermutation (rows_in structure_table old.now.trees) (map (first_columns 6) rows)
+pub reads_structure : Reads First (selection structure_table 1) (rows_in structure_table) 6
 reads_structure = reads_all First (selection structure_table 1) structure_table 1 _ _ structure_all (λ db. refl) 6 (λ r. refl)
 
 mail_all : IsWhole (selection mail_table 1) mail_table 1
 unfolding understood everything
 mail_all = record { command = λ more indexes. refl; plain = λ more indexes. (refl, refl); unlisted = λ more indexes. refl }
 
-pub reads_mail : (old new : State) (rows : List Row) → Shown (selection mail_table 1) [] old new rows → HasTablesOf First old.now.schema → IsPermutation (rows_in mail_table old.now.trees) (map (first_columns 2) rows)
+pub reads_mail : Reads First (selection mail_table 1) (rows_in mail_table) 2
 reads_mail = reads_all First (selection mail_table 1) mail_table 1 _ _ mail_all (λ db. refl) 2 (λ r. refl)
 
 report_all : IsWhole (selection report_table 1) report_table 1
 unfolding understood everything
 report_all = record { command = λ more indexes. refl; plain = λ more indexes. (refl, refl); unlisted = λ more indexes. refl }
 
-pub reads_report : (old new : State) (rows : List Row) → Shown (selection report_table 1) [] old new rows → HasTablesOf First old.now.schema → IsPermutation (rows_in report_table old.now.trees) (map (first_columns 2) rows)
+pub reads_report : Reads First (selection report_table 1) (rows_in report_table) 2
 reads_report = reads_all First (selection report_table 1) report_table 1 _ _ report_all (λ db. refl) 2 (λ r. refl)
 
 books_all : IsPlaced First (placed_selection books_table 2) books_table 2
 unfolding understood everything
 books_all = record { command = λ more indexes. refl; plain = λ more indexes. (refl, refl); unlisted = λ more indexes. refl }
 
-pub reads_books : (old new : State) (rows : List Row) → Shown (placed_selection books_table 2) [] old new rows → HasTablesOf First old.now.schema → IsPermutation (placed_rows_in books_table old.now.trees) (map (first_columns 4) rows)
+pub reads_books : Reads First (placed_selection books_table 2) (placed_rows_in books_table) 4
 reads_books = reads_all First (placed_selection books_table 2) books_table 2 _ _ books_all (λ db. refl) 4 (λ r. refl)
 
 market_all : IsPlaced Second (placed_selection market_table 2) market_table 2
 unfolding understood everything
 market_all = record { command = λ more indexes. refl; plain = λ more indexes. (refl, refl); unlisted = λ more indexes. refl }
 
-pub reads_market : (old new : State) (rows : List Row) → Shown (placed_selection market_table 2) [] old new rows → HasTablesOf Second old.now.schema → IsPermutation (placed_rows_in market_table old.now.trees) (map (first_columns 4) rows)
+pub reads_market : Reads Second (placed_selection market_table 2) (placed_rows_in market_table) 4
 reads_market = reads_all Second (placed_selection market_table 2) market_table 2 _ _ market_all (λ db. refl) 4 (λ r. refl)

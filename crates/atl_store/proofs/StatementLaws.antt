@@ -21,7 +21,8 @@ use Rattle.sqlite.specs.Listing.{understood}
 use Rattle.sqlite.specs.State.{State, ExecutesInside}
 use Rattle.sqlite.proofs.Callers.{IsPlain}
 use Rattle.sqlite_schema.specs.declared.schema.Index.{Index}
-use Rattle.atl_store.specs.Inside.{Inside, HasTables}
+use Rattle.atl_store.specs.Inside.{Inside, HasTables, Puts, Drops}
+use Rattle.atl_store.specs.Statements.{deletion, upsert}
 use Rattle.atl_store.specs.Tables.{all_and}
 use Rattle.sqlite.specs.Effect.{Database, Answers, value_rows}
 use Rattle.sqlite.specs.Rows.{Written, Task, Then, Gives, TriesEach, Counts, InsertsOr, count_of, nothing, mended, shown}
@@ -131,6 +132,13 @@ AlwaysPlain sql = (more : List Table) (indexes : List Index) → IsPlain (unders
 -- inside a transaction this is done by the statement of this text with these parameters
 abbrev pub DoneBy : List ℕ → Row → (Database → Database → Type 0) → Type 1
 DoneBy sql values What = (old new : State) (count : ℕ) (params : Row) → IsTrue old.in_transaction → ExecutesInside 0 sql params old new (Ok count) → params ≡ values → Inside HasTables What old new
+
+-- the upsert of a table, whose key is so many columns, puts a row, and the deletion takes out what has the key
+abbrev pub PutsRow : Table → ℕ → Row → Type 1
+PutsRow t key row = DoneBy (upsert t key) row (Puts t key row)
+
+abbrev pub DropsKey : Table → ℕ → Row → Type 1
+DropsKey t key k = DoneBy (deletion t key) k (Drops t key k)
 
 pub done_by : (sql : List ℕ) (values : Row) (What : Database → Database → Type 0)
     → ((old new : State) (count : ℕ) → IsTrue old.in_transaction → ExecutesInside 0 sql values old new (Ok count) → Inside HasTables What old new)

@@ -1,5 +1,5 @@
 -- The rows of single items and skills of units, one after another.
-use Rattle.std.proofs.Common.{◌≡◌, ◌≢◌, ◌⊎◌, ◌==◌, ◌&&◌, ◌||◌, ℕ, pos, Bool, true, false, cond, List, [], ◌∷◌, map, take, is_some, unwrap_or, Some, Less, Equal, Greater, refl, sym, ap, ◌∙◌, subst, inl, inr, true≢false, arith}
+use Rattle.std.proofs.Common.{◌≡◌, ◌≢◌, ◌==◌, ◌&&◌, ◌||◌, ℕ, pos, Bool, true, false, cond, List, [], ◌∷◌, map, take, is_some, unwrap_or, Some, Less, Equal, Greater, refl, sym, ap, ◌∙◌, subst, inl, inr, true≢false, arith}
 use Rattle.std.specs.List.{list_any}
 use Rattle.std.specs.Ordering.{nat_cmp, is_eq, is_lt, eq_by_cmp}
 use Rattle.std.specs.FinMap.{FinMap, get, empty, entries, find, is_sorted, get-empty, get-entries}
@@ -29,26 +29,17 @@ use Rattle.atl_store.proofs.WholeLaws.{inside_weaker}
 
 -- ---- a row that begins with a unit, the number of a sort and a thing
 
-sort_cases : (r : Row)
-    → ((sort : Sort) (is_so : ℕ → ℕ → Bool) → of_sort sort is_so r ≡ false) ⊎ ((unit number thing : ℕ) × (row : Row) × (r ≡ int unit ∷ int number ∷ int thing ∷ row))
-sort_cases (Int (pos unit) ∷ Int (pos number) ∷ Int (pos thing) ∷ row) = inr (unit, number, thing, row, refl)
-sort_cases row = inl (λ sort is_so. refl)
-
 module _ (sort : Sort) where
   of_sort_same : (f g : ℕ → ℕ → Bool) → ((n t : ℕ) → f n t ≡ g n t) → (r : Row) → of_sort sort f r ≡ of_sort sort g r
   of_sort_same f g same r = ap (λ (h : ℕ → ℕ → Bool). of_sort sort h r) (λ i n t. same n t i)
 
   of_sort_either : (f g : ℕ → ℕ → Bool) (r : Row) → of_sort sort (λ n t. f n t || g n t) r ≡ (of_sort sort f r || of_sort sort g r)
-  of_sort_either f g r = elim (sort_cases r) [
-    | inl none ↦ none sort (λ n t. f n t || g n t) ∙ sym (ap (λ b. b || of_sort sort g r) (none sort f) ∙ none sort g)
-    | inr is ↦ subst (λ x. of_sort sort (λ n t. f n t || g n t) x ≡ (of_sort sort f x || of_sort sort g x)) (sym is.4) (and-or_distrib_left (is.1 == sort_number sort) (f is.0 is.2) (g is.0 is.2))
-  ]
+  of_sort_either f g (Int (pos unit) ∷ Int (pos number) ∷ Int (pos thing) ∷ row) = and-or_distrib_left (number == sort_number sort) (f unit thing) (g unit thing)
+  of_sort_either f g row = refl
 
   of_sort_none : (f : ℕ → ℕ → Bool) → ((n t : ℕ) → f n t ≡ false) → (r : Row) → of_sort sort f r ≡ false
-  of_sort_none f never r = elim (sort_cases r) [
-    | inl none ↦ none sort f
-    | inr is ↦ subst (λ x. of_sort sort f x ≡ false) (sym is.4) (ap (λ b. is.1 == sort_number sort && b) (never is.0 is.2) ∙ and-false (is.1 == sort_number sort))
-  ]
+  of_sort_none f never (Int (pos unit) ∷ Int (pos number) ∷ Int (pos thing) ∷ row) = ap (λ b. number == sort_number sort && b) (never unit thing) ∙ and-false (number == sort_number sort)
+  of_sort_none f never row = refl
 
 -- ---- one thing
 
@@ -63,16 +54,14 @@ module _ (unit : ℕ) (sort : Sort) (thing : ℕ) where
   is_here r = of_sort sort (is_thing unit thing) r
 
   key_of : (r : Row) → is_here r ≡ true → take 3 r ≡ has_key unit (sort_number sort) thing
-  key_of r is = elim (sort_cases r) [
-    | inl none ↦ absurd (true≢false (sym is ∙ none sort _))
-    | inr row ↦
-        let one = and_parts _ _ (ap is_here (sym row.4) ∙ is) in
-        let two = and_parts _ _ one.1 in
-        ap (take 3) row.4 ∙ ap (λ k. has_key k row.1 row.2) (tied row.0 unit two.0) ∙ ap (λ k. has_key unit k row.2) (equals row.1 (sort_number sort) one.0) ∙ ap (has_key unit (sort_number sort)) (tied row.2 thing two.1)
-  ]
+  key_of (Int (pos n) ∷ Int (pos number) ∷ Int (pos t) ∷ row) is =
+      let one = and_parts _ _ is in
+      let two = and_parts _ _ one.1 in
+      ap (λ k. has_key k number t) (tied n unit two.0) ∙ ap (λ k. has_key unit k t) (equals number (sort_number sort) one.0) ∙ ap (has_key unit (sort_number sort)) (tied t thing two.1)
     where
       equals : (a b : ℕ) → (a == b) ≡ true → a ≡ b
       equals a b is = grind (arith, nat_tests)
+  key_of row is = absurd (true≢false (sym is))
 
   of_key : (r : Row) → take 3 r ≡ has_key unit (sort_number sort) thing → is_here r ≡ true
   of_key [] key = absurd cc
