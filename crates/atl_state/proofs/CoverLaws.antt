@@ -19,7 +19,7 @@ use Rattle.atl_state.specs.declared.records.Structure.{Structure}
 use Rattle.atl_state.specs.declared.records.Unit.{Unit}
 use Rattle.atl_state.specs.Books.{IsGrid, amount_in, thing_place}
 use Rattle.atl_state.specs.Covers.{Covers, ThingsStayMarked, StaysMarked, StayMarked, MarksChanges, bare, days_under, items_under, own_row}
-use Rattle.atl_state.specs.Marking.{mark_amount, mark_faction, mark_region}
+use Rattle.atl_state.specs.Marking.{mark_amount, mark_faction, mark_region, mark_unit_added}
 use Rattle.atl_state.specs.Marks.{Marks, Things, amount_number, is_thing_marked, with_thing}
 use Rattle.atl_state.specs.Campaign.{CampaignValue, MarkedCampaign, faction_changed, region_changed, with_amount}
 use Rattle.atl_state.proofs.EveryLaws.{get-insert_other}
@@ -283,9 +283,9 @@ marks-region f c n =
 
 -- units that are as they were but for one number, which is marked with its goods
 pub marks-unit : (c : MarkedCampaign) (units : FinMap nat_cmp Unit) (n : ℕ) → ((k : ℕ) → k ≢ n → get units k ≡ get c.value.units k)
-    → MarksChanges c (record { value = record c.value { units = units }; marks = record c.marks { units = insert c.marks.units n; rows = insert c.marks.rows n; goods = insert c.marks.goods n } })
+    → MarksChanges c (record { value = record c.value { units = units }; marks = mark_unit_added c n })
 marks-unit c units n others =
-    let next : MarkedCampaign = record { value = record c.value { units = units }; marks = record c.marks { units = insert c.marks.units n; rows = insert c.marks.rows n; goods = insert c.marks.goods n } } in
+    let next : MarkedCampaign = record { value = record c.value { units = units }; marks = mark_unit_added c n } in
     part_by_part c next
     (λ p. elim p as (Stays c.marks next.marks) [
       | Units ↦ put_stays c.marks.units n

@@ -19,7 +19,7 @@ use Rattle.atl_state.specs.declared.records.Unit.{Unit}
 use Rattle.atl_state.specs.Good.{AreAfloat, AreInRange, AreKnown, AreNumbered, AreOfOneFaction, AreOwned, Every, GoneHaveNone, IsPlaced, IsSteady, guards}
 use Rattle.atl_state.specs.Held.{Held, IsHolding, with_amount_of}
 use Rattle.atl_state.specs.Lending.{lent, with_held}
-use Rattle.atl_state.specs.Marking.{mark_item, mark_skill, mark_unit_row}
+use Rattle.atl_state.specs.Marking.{mark_item, mark_skill, mark_unit_row, whole_marked}
 use Rattle.atl_state.specs.Marks.{thing_marked}
 use Rattle.atl_state.specs.Campaign.{MarkedCampaign, CampaignValue, unit_changed, with_item, with_skill}
 use Rattle.atl_state.specs.Totals.{held, kept, total}
@@ -235,6 +235,6 @@ marks-skill c n skill days =
 pub marks-lent : (c : MarkedCampaign) (n : ℕ) (h : Held) → MarksChanges c (lent c n h)
 marks-lent c n h = by_unit (get c.value.units n)
   where
-    by_unit : (o : Option Unit) → MarksChanges c (record { value = with_held c.value n h o; marks = record c.marks { units = marked_with c.marks.units n o; rows = marked_with c.marks.rows n o; goods = marked_with c.marks.goods n o } })
+    by_unit : (o : Option Unit) → MarksChanges c (record { value = with_held c.value n h o; marks = whole_marked c.marks n o })
     by_unit None = marks-refl c
     by_unit (Some u) = let v = record u { holding = h } in marks-unit c (insert c.value.units n v) n (λ k apart. get-insert_other c.value.units n k v apart)

@@ -16,7 +16,7 @@ use Rattle.atl_state.specs.declared.records.Region.{Region}
 use Rattle.atl_state.specs.declared.records.Structure.{Structure}
 use Rattle.atl_state.specs.declared.records.Unit.{Unit}
 use Rattle.atl_state.specs.Good.{AreAfloat, AreInRange, AreKnown, AreNumbered, AreOwned, Every, GoneHaveNone, IsBuilt, IsOwned, IsPlaced, IsSteady, is_ship}
-use Rattle.atl_state.specs.Marking.{gone_marked, gone_marked_at, handed_marked, mark_structure, taken_marked}
+use Rattle.atl_state.specs.Marking.{gone_marked, gone_marked_at, handed_marked, mark_structure, taken_marked, whole_marked}
 use Rattle.atl_state.specs.Owners.{handed, heir, is_owned_by, without_unit, without_unit_at}
 use Rattle.atl_state.specs.Campaign.{MarkedCampaign, CampaignValue, numbers_inside, structure_changed, with_owner}
 use Rattle.atl_state.specs.Totals.{held, total}
@@ -328,7 +328,7 @@ marks-taken c n = by_unit (get c.value.units n) refl
     by_unit : (o : Option Unit) → get c.value.units n ≡ o → MarksChanges c (taken_marked c n)
     by_unit None is = subst (MarksChanges c) (taken_none c n is) (marks-refl c)
     by_unit (Some u) is =
-        subst (λ (o : Option Unit). MarksChanges c (record { value = record c.value { units = remove c.value.units n }; marks = record c.marks { units = marked_with c.marks.units n o; rows = marked_with c.marks.rows n o; goods = marked_with c.marks.goods n o } })) (sym is)
+        subst (λ (o : Option Unit). MarksChanges c (record { value = record c.value { units = remove c.value.units n }; marks = whole_marked c.marks n o })) (sym is)
         (marks-unit c (remove c.value.units n) n (λ k apart. get-remove_other c.value.units n k apart))
 
 marks_gone : (c : MarkedCampaign) (n : ℕ) (o : Option Unit) → MarksChanges c (gone_marked_at c n o)

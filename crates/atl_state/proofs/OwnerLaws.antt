@@ -3,16 +3,15 @@ use Rattle.std.proofs.Common.{◌≡◌, ◌==◌, ℕ, Bool, true, false, Optio
 use Rattle.std.specs.Prelude.{if◌then◌else◌}
 use Rattle.std.specs.FinMap.{FinMap, get}
 use Rattle.std.specs.Ordering.{nat_cmp}
-use Rattle.atl_tables.specs.Tracking.{marked_with}
 use Rattle.atl_tables.proofs.TrackLaws.{remove_none}
 use Rattle.atl_state.specs.declared.records.Unit.{Unit}
-use Rattle.atl_state.specs.Marking.{mark_structure, handed_marked, put_marked, place_marked, place_marked_at, taken_marked, gone_marked, gone_marked_at}
+use Rattle.atl_state.specs.Marking.{mark_structure, handed_marked, put_marked, place_marked, place_marked_at, taken_marked, gone_marked, gone_marked_at, whole_marked}
 use Rattle.atl_state.specs.Owners.{heir, is_owned_by, handed, placed, with_place, with_place_at, without_unit, without_unit_at}
 use Rattle.atl_state.specs.Campaign.{MarkedCampaign, with_owner}
 
 -- the campaign with these units, and the marks of a unit that went, if it was there
 abbrev without : MarkedCampaign → ℕ → FinMap nat_cmp Unit → Option Unit → MarkedCampaign
-without c n units o = record { value = record c.value { units = units }; marks = record c.marks { units = marked_with c.marks.units n o; rows = marked_with c.marks.rows n o; goods = marked_with c.marks.goods n o } }
+without c n units o = record { value = record c.value { units = units }; marks = whole_marked c.marks n o }
 
 -- a unit that isn't there can't be taken out
 pub taken_none : (c : MarkedCampaign) (n : ℕ) → get c.value.units n ≡ None → c ≡ taken_marked c n

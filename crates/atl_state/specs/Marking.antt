@@ -12,13 +12,13 @@ use Rattle.atl_state.specs.Marks.{Marks, amount_marked, thing_marked}
 use Rattle.atl_state.specs.Owners.{heir, is_owned_by, placed}
 use Rattle.atl_state.specs.Campaign.{MarkedCampaign, with_owner}
 
+-- the marks with those of a unit that is there, of its row and of all its goods
+abbrev pub whole_marked : Marks → ℕ → Option Unit → Marks
+whole_marked m n u = record m { units = marked_with m.units n u; rows = marked_with m.rows n u; goods = marked_with m.goods n u }
+
 -- a unit that was lent, with its goods, where it is there
 abbrev pub mark_unit : MarkedCampaign → ℕ → Marks
-mark_unit c n = record c.marks {
-  units = marked_with c.marks.units n (get c.value.units n);
-  rows = marked_with c.marks.rows n (get c.value.units n);
-  goods = marked_with c.marks.goods n (get c.value.units n);
-}
+mark_unit c n = whole_marked c.marks n (get c.value.units n)
 
 -- a unit that came, with its goods
 abbrev pub mark_unit_added : MarkedCampaign → ℕ → Marks

@@ -8,27 +8,27 @@ use std::alloc::Global;
 use std::process::Abort;
 use std::test::Fail;
 
-/// The marked numbers of the tables by their places: factions, regions, units, goods, structures, mail, reports.
-const JOINED: [&[u32]; 7] = [&[1], &[], &[1], &[1], &[], &[], &[]];
+/// The marked numbers by their places: factions, regions, units, their rows, all their goods, structures, mail, reports.
+const JOINED: [&[u32]; 8] = [&[1], &[], &[1], &[1], &[1], &[], &[], &[]];
 
 /// Once the money of region 3 and of unit 1 changed.
-const PAID: [&[u32]; 7] = [&[], &[3], &[1], &[], &[], &[], &[]];
+const PAID: [&[u32]; 8] = [&[], &[3], &[1], &[1], &[], &[], &[], &[]];
 
 /// Once unit 1 is gone, too: what it had is marked.
-const REMOVED: [&[u32]; 7] = [&[], &[3], &[1], &[1], &[], &[], &[]];
+const REMOVED: [&[u32]; 8] = [&[], &[3], &[1], &[1], &[1], &[], &[], &[]];
 
 /// Once all marks are gone, of what is gone too.
-const NONE: [&[u32]; 7] = [&[], &[], &[], &[], &[], &[], &[]];
+const NONE: [&[u32]; 8] = [&[], &[], &[], &[], &[], &[], &[], &[]];
 
 fn are_marked(
     rt: &impl Abort,
     alloc: Global,
     place: usize,
     told: MarkedNumbers<'_>,
-    wanted: &[&[u32]; 7],
+    wanted: &[&[u32]; 8],
 ) -> Result<(), Fail> {
     let told: Vec<u32> = told.collect(alloc)?;
-    are_numbers(rt, place, told.as_slice(), wanted[place % 7]);
+    are_numbers(rt, place, told.as_slice(), wanted[place % 8]);
     Ok(())
 }
 
@@ -36,24 +36,25 @@ fn people_are_marked(
     rt: &impl Abort,
     alloc: Global,
     campaign: &Campaign,
-    wanted: &[&[u32]; 7],
+    wanted: &[&[u32]; 8],
 ) -> Result<(), Fail> {
     are_marked(rt, alloc, 0, campaign.marked_factions(), wanted)?;
     are_marked(rt, alloc, 2, campaign.marked_units(), wanted)?;
-    are_marked(rt, alloc, 3, campaign.marked_goods(), wanted)
+    are_marked(rt, alloc, 3, campaign.marked_rows(), wanted)?;
+    are_marked(rt, alloc, 4, campaign.marked_goods(), wanted)
 }
 
 fn all_are_marked(
     rt: &impl Abort,
     alloc: Global,
     campaign: &Campaign,
-    wanted: &[&[u32]; 7],
+    wanted: &[&[u32]; 8],
 ) -> Result<(), Fail> {
     people_are_marked(rt, alloc, campaign, wanted)?;
     are_marked(rt, alloc, 1, campaign.marked_regions(), wanted)?;
-    are_marked(rt, alloc, 4, campaign.marked_structures(), wanted)?;
-    are_marked(rt, alloc, 5, campaign.marked_mail(), wanted)?;
-    are_marked(rt, alloc, 6, campaign.marked_reports(), wanted)
+    are_marked(rt, alloc, 5, campaign.marked_structures(), wanted)?;
+    are_marked(rt, alloc, 6, campaign.marked_mail(), wanted)?;
+    are_marked(rt, alloc, 7, campaign.marked_reports(), wanted)
 }
 
 fn joining_is_marked(rt: &impl Abort, campaign: &Campaign) -> Result<(), Fail> {

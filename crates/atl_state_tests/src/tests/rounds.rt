@@ -64,11 +64,11 @@ fn are_marked(
     rt: &impl Abort,
     alloc: Global,
     campaign: &Campaign,
-    rows: &[u32],
+    units: &[u32],
     goods: &[u32],
 ) -> Result<(), Fail> {
     let told: Vec<u32> = campaign.marked_units().collect(alloc)?;
-    are_numbers(rt, 1, told.as_slice(), rows);
+    are_numbers(rt, 1, told.as_slice(), units);
     let told: Vec<u32> = campaign.marked_goods().collect(alloc)?;
     are_numbers(rt, 2, told.as_slice(), goods);
     Ok(())

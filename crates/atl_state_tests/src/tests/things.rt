@@ -10,6 +10,7 @@ use std::test::Fail;
 
 /// A unit that there is, and one that there is not.
 const UNIT: u32 = 1;
+
 const NOBODY: u32 = 9;
 
 /// What is marked of units: the units, their rows, all their goods, and single items and skills, each behind its unit.
