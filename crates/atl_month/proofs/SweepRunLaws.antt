@@ -1,5 +1,5 @@
 -- What the code of the sweep marks, and how far it may book.
-use Rattle.std.proofs.Common.{◌≡◌, ◌≢◌, ℕ, suc, ◌+◌, ◌≤◌, ◌<◌, List, ◌∷◌, length, Some, refl, sym, ap, arith}
+use Rattle.std.proofs.Common.{◌≡◌, ◌≢◌, ℕ, suc, ◌≤◌, ◌<◌, List, ◌∷◌, length, Some, refl, sym, ap, arith}
 use Rattle.std.specs.Prelude.{pos, neg_ℤ}
 use Rattle.std.specs.FinMap.{entries, get}
 use Rattle.atl_tables.specs.Worlds.{WorldValue}

@@ -39,11 +39,7 @@ fn purses_of(alloc: Global, campaign: &Campaign) -> Result<Vec<Purse>, AllocErro
 }
 
 /// The days of each skill that stay with so many of a unit's men.
-fn days_with(
-    alloc: Global,
-    left: u32,
-    holding: &Holding,
-) -> Result<Vec<(u32, u32)>, AllocError>
+fn days_with(alloc: Global, left: u32, holding: &Holding) -> Result<Vec<(u32, u32)>, AllocError>
     requires some { 1 ≤ holding.now.men }
     requires fewer { left ≤ holding.now.men }
     ensures { IfOk result (λ list. list.items ≡ staying_list left holding.now.men holding.now.days) }
