@@ -1,9 +1,14 @@
+use Rattle.std.proofs.Common.{arith}
 use Rattle.atl_state.proofs.GoodLaws.{IsEarly-good}
 use Rattle.atl_month_tests.proofs.RoomLaws.{room_for_selling}
 use Rattle.atl_month_tests.proofs.tests.agreeing.run_sell.Goals as goal
 
-pub run-requires-clause-needs : goal.run-requires-clause-needs
-run-requires-clause-needs c = IsEarly-good c.args.world.now c.args.campaign.value c.requires.good
-
-pub run-requires-clause-room : goal.run-requires-clause-room
-run-requires-clause-room c = room_for_selling c.args.world.now c.args.campaign.value c.requires.good
+-- behind a bound on the size of the phase, which has none
+pub run-requires : goal.run-requires
+run-requires c = (
+  omega arith,
+  (
+    IsEarly-good c.args.world.now c.args.campaign.value c.requires.good,
+    (room_for_selling c.args.world.now c.args.campaign.value c.requires.good, c.requires.read),
+  ),
+)
