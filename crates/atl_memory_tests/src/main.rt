@@ -15,9 +15,15 @@ use crate::shortage::{Limit, Shortage};
 use crate::trials::{Outcome, tried};
 use std::{env, io};
 
-/// Tries a call with a block more left each time, until it is done.
+/// Tries a call with ample memory, and then with a block more left each time, until it is done. What it needs of the stack is there from
+/// the first trial on: a drought takes all that the stack could grow into.
 fn with_blocks(rt: &HostRuntime, case: &Case, shortage: &mut Shortage) -> io::Result<()> {
     let call = case.call;
+    shortage.limit = Limit::Ample;
+    let outcome = tried(rt.alloc(), case, shortage);
+    if outcome != Outcome::Done {
+        return println!(rt; "{call:?} with ample memory: {outcome:?}");
+    }
     for blocks in 0..2_000u32 {
         shortage.limit = Limit::Blocks(blocks);
         match tried(rt.alloc(), case, shortage) {
