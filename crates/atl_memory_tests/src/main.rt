@@ -15,15 +15,20 @@ use crate::shortage::{Limit, Shortage};
 use crate::trials::{Outcome, tried};
 use std::{env, io};
 
-/// Tries a call with ample memory, and then with a block more left each time, until it is done. What it needs of the stack is there from
-/// the first trial on: a drought takes all that the stack could grow into.
+/// So many calls of `deepen` lie upon each other where the stack has more room than any call that is tried needs.
+const DEPTH: u32 = 16_384;
+
+/// Calls itself so many times, and tells how many they were. The stack has room for them from then on.
+fn deepen(times: u32) -> u32 {
+    if times == 0 {
+        return 0;
+    }
+    deepen(times - 1).saturating_add(1)
+}
+
+/// Tries a call with a block more left each time, until it is done.
 fn with_blocks(rt: &HostRuntime, case: &Case, shortage: &mut Shortage) -> io::Result<()> {
     let call = case.call;
-    shortage.limit = Limit::Ample;
-    let outcome = tried(rt.alloc(), case, shortage);
-    if outcome != Outcome::Done {
-        return println!(rt; "{call:?} with ample memory: {outcome:?}");
-    }
     for blocks in 0..2_000u32 {
         shortage.limit = Limit::Blocks(blocks);
         match tried(rt.alloc(), case, shortage) {
@@ -90,6 +95,10 @@ fn main(rt: HostRuntime) -> io::Result<()> {
     let Some(mut shortage) = Shortage::new(rt.alloc()) else {
         return println!(rt; "no room");
     };
+    // A drought takes all that the stack could grow into.
+    if deepen(DEPTH) != DEPTH {
+        return println!(rt; "no stack");
+    }
     for call in CALLS.iter() {
         try_call(&rt, *call, &mut shortage, None)?;
     }

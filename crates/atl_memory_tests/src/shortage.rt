@@ -7,8 +7,6 @@ use std::alloc::Global;
 /// How memory is to be short.
 #[derive(Clone, Copy, Debug, PartialEq, Eq)]
 pub enum Limit {
-    /// It is ample.
-    Ample,
     /// The heap that counts refuses the growth of this number.
     Growth(u32),
     /// Nothing is left but so many blocks.
@@ -42,7 +40,6 @@ impl Shortage {
     /// From here on memory is short.
     pub fn begin(&mut self, alloc: Global) {
         match self.limit {
-            Limit::Ample => {}
             Limit::Growth(growth) => {
                 fuse::arm(alloc, growth);
             }
@@ -53,7 +50,6 @@ impl Shortage {
     /// From here on memory is ample.
     pub fn end(&mut self, alloc: Global) {
         self.was_refused = match self.limit {
-            Limit::Ample => None,
             Limit::Growth(_) => Some(fuse::has_refused(alloc)),
             Limit::Blocks(_) => {
                 self.drought.end();
