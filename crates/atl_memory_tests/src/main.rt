@@ -13,17 +13,21 @@ mod trials;
 use crate::cases::{CALLS, Call, Case};
 use crate::shortage::{Limit, Shortage};
 use crate::trials::{Outcome, tried};
+use std::alloc::{AllocError, Global};
 use std::{env, io};
 
 /// So many calls of `deepen` lie upon each other where the stack has more room than any call that is tried needs.
-const DEPTH: u32 = 16_384;
+const DEPTH: u32 = 8_192;
 
-/// Calls itself so many times, and tells how many they were. The stack has room for them from then on.
-fn deepen(times: u32) -> u32 {
+/// Calls itself so many times, with a block held in each call. The stack has room for them from then on. Whether all blocks
+/// were had.
+fn deepen(alloc: Global, times: u32) -> bool {
     if times == 0 {
-        return 0;
+        return true;
     }
-    deepen(times - 1).saturating_add(1)
+    let held: Result<Vec<u8>, AllocError> = Vec::with_capacity(alloc, 1);
+    let is_deep = deepen(alloc, times - 1);
+    held.is_ok() && is_deep
 }
 
 /// Tries a call with a block more left each time, until it is done.
@@ -96,7 +100,7 @@ fn main(rt: HostRuntime) -> io::Result<()> {
         return println!(rt; "no room");
     };
     // A drought takes all that the stack could grow into.
-    if deepen(DEPTH) != DEPTH {
+    if !deepen(rt.alloc(), DEPTH) {
         return println!(rt; "no stack");
     }
     for call in CALLS.iter() {
