@@ -1,6 +1,6 @@
 -- A campaign as it is made of rows, one after another.
 use Rattle.std.proofs.Common.{◌≡◌, ◌≢◌, ◌==◌, ℕ, zero, suc, ◌≤◌, ◌<◌, ◌&&◌, ◌||◌, List, [], ◌∷◌, Bool, true, false, cond, filter, length, get_or, Some, None, nat_le, refl, sym, ap, subst, ◌∙◌, arith, inl, inr}
-use Rattle.std.specs.Prelude.{ℤ, pos, negsuc, unwrap_or, min, Result, Ok, Err, IfOk, IsUtf8}
+use Rattle.std.specs.Prelude.{ℤ, pos, negsuc, min, Result, Ok, Err, IfOk, IsUtf8}
 use Rattle.std.specs.List.{list_all}
 use Rattle.std.specs.declared.cmp.Ordering.TheVariants.{Less, Equal, Greater}
 use Rattle.std.specs.Ordering.{nat_cmp, is_eq, eq_by_cmp}
@@ -9,8 +9,7 @@ use Rattle.std.specs.FinMap.{FinMap, get, insert, empty, get-insert, get-empty, 
 use Rattle.std.proofs.lemmas.Bool.{cases_eq, and_parts, false≢true}
 use Rattle.std.proofs.lemmas.Bool.Decides.{nat_tests}
 use Rattle.atl_state.specs.declared.parts.StoredHas.{StoredHas}
-use Rattle.atl_tables.specs.Groups.{group_of}
-use Rattle.atl_state.specs.FromRows.{as_u32, is_of, put_rows, by_number, things_had}
+use Rattle.atl_state.specs.FromRows.{as_u32, is_of, put_rows, things_had}
 use Rattle.atl_state.specs.Held.{AreAmounts}
 use Rattle.atl_state.specs.Limits.{holding_limit, most_u32}
 use Rattle.atl_state.specs.RowRules.{is_from, has_in_range}
@@ -33,54 +32,9 @@ get_other m k n v h = get-insert nat_cmp_total m k v n ∙ ap (λ b. cond b (Som
 -- ---- what units have, and regions in stock
 
 module _ {R : Type 0} (thing amount : R → ℕ) (test : R → Bool) where
-  taken_or_not : (r : R) (rows : List R) (b : Bool) (m : FinMap nat_cmp ℕ) → test r ≡ b → put_rows thing amount (filter test (r ∷ rows)) m ≡ put_rows thing amount (filter test rows) (cond b (insert m (thing r) (amount r)) m)
+  pub taken_or_not : (r : R) (rows : List R) (b : Bool) (m : FinMap nat_cmp ℕ) → test r ≡ b → put_rows thing amount (filter test (r ∷ rows)) m ≡ put_rows thing amount (filter test rows) (cond b (insert m (thing r) (amount r)) m)
   taken_or_not r rows true m h = ap (λ b. put_rows thing amount (cond b (r ∷ filter test rows) (filter test rows)) m) h
   taken_or_not r rows false m h = ap (λ b. put_rows thing amount (cond b (r ∷ filter test rows) (filter test rows)) m) h
-
-never : (b : Bool) → (b && false) ≡ false
-never true = refl
-never false = refl
-
-module _ {R : Type 0} (owner sort_of thing amount : R → ℕ) where
-  -- of one owner, and of one sort
-  abbrev is_good : ℕ → ℕ → R → Bool
-  is_good n sort r = (owner r == n) && (sort_of r == sort)
-
-  -- what is left to put
-  abbrev pub left : ℕ → ℕ → List R → FinMap nat_cmp (FinMap nat_cmp ℕ) → FinMap nat_cmp ℕ
-  left n sort rows groups = put_rows thing amount (filter (is_good n sort) rows) (group_of groups n)
-
-  pub left_none : (n sort : ℕ) (rows : List R) → left n sort rows empty ≡ by_number thing amount (filter (is_good n sort) rows)
-  left_none n sort rows = ap (λ o. put_rows thing amount (filter (is_good n sort) rows) (unwrap_or o empty)) (get-empty nat_cmp n)
-
-  -- a row of another sort
-  pub left_other : (n sort : ℕ) (r : R) (rows : List R) (groups : FinMap nat_cmp (FinMap nat_cmp ℕ)) → (sort_of r == sort) ≡ false → left n sort rows groups ≡ left n sort (r ∷ rows) groups
-  left_other n sort r rows groups not_it =
-      sym (taken_or_not thing amount (is_good n sort) r rows false (group_of groups n) (ap (λ b. (owner r == n) && b) not_it ∙ never (owner r == n)))
-
-  -- a row of this sort, put beside what its owner has
-  pub left_more : (n sort : ℕ) (r : R) (rows : List R) (groups : FinMap nat_cmp (FinMap nat_cmp ℕ)) → (sort_of r == sort) ≡ true
-      → left n sort rows (insert groups (owner r) (insert (group_of groups (owner r)) (thing r) (amount r))) ≡ left n sort (r ∷ rows) groups
-  left_more n sort r rows groups it =
-      let own = owner r in
-      let put = λ (m : FinMap nat_cmp ℕ). put_rows thing amount (filter (is_good n sort) rows) m in
-      let group = insert (group_of groups own) (thing r) (amount r) in
-      elim (cases_eq own n) [
-        | inl same ↦
-            let mine : (own == n) ≡ true = grind (arith, nat_tests) in
-            let has : group_of (insert groups own group) n ≡ insert (group_of groups n) (thing r) (amount r) =
-            ap (λ k. unwrap_or (get (insert groups own group) k) empty) (sym same) ∙ ap (λ o. unwrap_or o empty) (get_same groups own group) ∙ ap (λ k. insert (group_of groups k) (thing r) (amount r)) same in
-            ap put has ∙ sym (taken_or_not thing amount (is_good n sort) r rows true (group_of groups n) (ap (λ b. b && (sort_of r == sort)) mine ∙ it))
-        | inr apart ↦
-            let other : (own == n) ≡ false = grind (arith, nat_tests) in
-            let has : group_of (insert groups own group) n ≡ group_of groups n = ap (λ o. unwrap_or o empty) (get_other groups own n group (λ e. apart (sym e))) in
-            ap put has ∙ sym (taken_or_not thing amount (is_good n sort) r rows false (group_of groups n) (ap (λ b. b && (sort_of r == sort)) other))
-      ]
-
--- each is an item
-pub all_items : (b : Bool) → (b && true) ≡ b
-all_items true = refl
-all_items false = refl
 
 -- ---- what is said of rows in their ranges
 
@@ -115,12 +69,14 @@ or_right false c h e = e
 pub is_same : (m n : ℕ) → (m == n) ≡ true → m ≡ n
 is_same m n h = grind (arith, nat_tests)
 
-good_amount : (n : ℕ) (r : StoredHas) → has_in_range r ≡ true → is_of n 0 r ≡ true → (1 ≤ amount_of r) × (amount_of r ≤ holding_limit)
-good_amount n r h of =
-    let sort = is_same (as_u32 r.sort) 0 (and_parts (as_u32 r.unit == n) (as_u32 r.sort == 0) of).1 in
+pub item_amount : (r : StoredHas) → has_in_range r ≡ true → as_u32 r.sort ≡ 0 → (1 ≤ amount_of r) × (amount_of r ≤ holding_limit)
+item_amount r h sort =
     let item = or_right (is_from 1 1 r.sort) (is_from 0 0 r.sort && is_from 1 holding_limit r.amount) (is_skill r.sort sort) h in
     let range = from_range 1 holding_limit r.amount (omega arith) (and_parts (is_from 0 0 r.sort) (is_from 1 holding_limit r.amount) item).1 in
     (range.1, range.2)
+
+good_amount : (n : ℕ) (r : StoredHas) → has_in_range r ≡ true → is_of n 0 r ≡ true → (1 ≤ amount_of r) × (amount_of r ≤ holding_limit)
+good_amount n r h of = item_amount r h (is_same (as_u32 r.sort) 0 (and_parts (as_u32 r.unit == n) (as_u32 r.sort == 0) of).1)
 
 some_same : (a b : ℕ) → Some a ≡ Some b → a ≡ b
 some_same a b e = cc
@@ -147,7 +103,8 @@ put_good n (r ∷ rows) m h old =
 no_some : (x : ℕ) → None ≡ Some x → ⊥
 no_some x e = cc
 
-none_held : (item amount : ℕ) → get (empty {X = ℕ} {R = nat_cmp}) item ≡ Some amount → (1 ≤ amount) × (amount ≤ holding_limit)
+-- nothing is within the limits
+pub none_held : (item amount : ℕ) → get (empty {X = ℕ} {R = nat_cmp}) item ≡ Some amount → (1 ≤ amount) × (amount ≤ holding_limit)
 none_held item amount e = absurd (no_some amount (sym (get-empty nat_cmp item) ∙ e))
 
 -- what units hold is within the limits

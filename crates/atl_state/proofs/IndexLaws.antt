@@ -1,7 +1,7 @@
 -- Places whose numbers rise, as the map from their numbers to their slots.
-use Rattle.std.proofs.Common.{◌≡◌, ℕ, zero, suc, ◌+◌, ◌<◌, Bool, true, false, cond, not, ◌&&◌, List, [], ◌∷◌, length, map, get_or, Option, Some, None, refl, sym, ap, ◌∙◌, arith}
+use Rattle.std.proofs.Common.{◌≡◌, ℕ, zero, suc, ◌+◌, ◌-◌, ◌<◌, ◌⊎◌, inl, inr, Bool, true, false, cond, not, ◌&&◌, List, [], ◌∷◌, length, map, get_or, Option, Some, None, refl, sym, ap, ◌∙◌, arith}
 use Rattle.std.specs.Prelude.{Result, Ok, Err, IfOk, IfErr, is_some}
-use Rattle.std.specs.List.{list_any, insert, remove}
+use Rattle.std.specs.List.{list_any, insert, remove, slice_get}
 use Rattle.std.specs.List.Sorted.{IsStrictlySortedBy, IsBinarySearchResult, IsSearchInRange, IsNonDecreasingBy}
 use Rattle.std.specs.declared.cmp.Ordering.TheVariants.{Less, Greater}
 use Rattle.std.specs.Ordering.{nat_cmp, eq_by_cmp, is_lt, ordering_index, ordering_reverse}
@@ -11,10 +11,11 @@ use Rattle.std.specs.FinMap as finmap
 use Rattle.std.specs.FinMap.{from_entries, find, nat_cmp-IsAntisymmetric}
 use Rattle.std.specs.FinMap.Entries.{is_some-find}
 use Rattle.std.specs.FinSet as set
-use Rattle.std.proofs.lemmas.Bool.{false≢true}
+use Rattle.std.proofs.lemmas.Bool.{false≢true, cases_order}
 use Rattle.std.proofs.lemmas.List.{length-map, get_or-map, get_or_default}
 use Rattle.std.proofs.lemmas.List.Sorted.{searchable_from_sorted}
 use Rattle.std.proofs.lemmas.Map.Keys.{Less-from_sorted}
+use Rattle.std.proofs.lemmas.Option.{get_or_from_slice_get, slice_get_within}
 use Rattle.atl_tables.specs.Rising.{Stands, Belongs}
 use Rattle.atl_tables.proofs.GeneralLaws.{key_itself, same_key}
 use Rattle.atl_tables.proofs.MarkLaws.{rising-empty, rising-insert, rising-remove, contains-belongs, from_list-remove}
@@ -182,3 +183,34 @@ missing-by_search ps n (Err i) s l h =
       before = λ k m. let less = ranked (get_or ps k d).number n Less (sym (parts.0 k d (omega arith) m)) in let same = at k (omega (arith, m, l)) in omega (arith, less, same);
       behind = λ k m w. let more = ranked (get_or ps k d).number n Greater (sym (parts.1 k d m (omega (arith, w, size)))) in let same = at k (omega (arith, w, size)) in omega (arith, more, same);
     }
+
+-- a number that is above the last one is above all
+pub Belongs-above : (ps : List Place) (p : Place) (n : ℕ) → IsRising ps → slice_get ps (length ps - 1) ≡ Some p → p.number < n → Belongs (numbers_of ps) n (length ps)
+Belongs-above ps p n s is above =
+    record {
+      within = omega (arith, size);
+      before = λ k m. by_order k (cases_order k last) m;
+      behind = λ k m w. absurd (omega (arith, size, m, w));
+    }
+  where
+    ns : List ℕ
+    ns = numbers_of ps
+
+    size : length ns ≡ length ps
+    size = length-map ps (λ (p : Place). p.number)
+
+    last : ℕ
+    last = length ps - 1
+
+    some : last < length ps
+    some = slice_get_within ps last p is
+
+    end : get_or ns last 0 ≡ p.number
+    end = get_or-map (λ (p : Place). p.number) ps last p 0 some ∙ ap (λ (q : Place). q.number) (get_or_from_slice_get ps last p p is)
+
+    by_order : (k : ℕ) → (k ≡ last) ⊎ ((k < last) ⊎ (last < k)) → k < length ps → get_or ns k 0 < n
+    by_order k (inl e) m = let same : get_or ns k 0 ≡ p.number = ap (λ i. get_or ns i 0) e ∙ end in omega (arith, same, above)
+    by_order k (inr (inl before)) m =
+        let less = ranked (get_or ns k 0) (get_or ns last 0) Less (sym (Less-from_sorted nat_cmp ns k last 0 s before (omega (arith, size, some)))) in
+        omega (arith, less, end, above)
+    by_order k (inr (inr behind)) m = absurd (omega (arith, behind, m))

@@ -8,6 +8,7 @@ pub mod BackGroupLaws
 pub mod BackBooksLaws
 pub mod BackHasLaws
 pub mod GroupLaws
+pub mod GivingLaws
 pub mod GoodRowLaws
 pub mod GoodRuleLaws
 pub mod EveryEntryLaws

@@ -1,11 +1,19 @@
--- For proofs alone: the maps of a campaign as they are made of rows, with nothing marked.
+-- For proofs alone: how a campaign is made of rows: its maps, with nothing marked, and what units have and regions have in stock, put there row by row.
+use Rattle.std.specs.Prelude.{ℕ, ◌==◌, List, [], ◌∷◌, if◌then◌else◌}
 use Rattle.std.specs.Ordering.{nat_cmp}
-use Rattle.std.specs.FinMap.{FinMap}
+use Rattle.std.specs.FinMap.{FinMap, empty, insert}
 use Rattle.std.specs.FinSet as set
 use Rattle.atl_tables.specs.Changing.{Changing}
+use Rattle.atl_tables.specs.Sums.{changed}
 use Rattle.atl_state.specs.declared.assembly.maps.Tables.{Tables}
 use Rattle.atl_state.specs.declared.parts.Parts.{Parts}
-use Rattle.atl_state.specs.FromRows.{as_u32, by_number, faction_of, region_of, structure_of}
+use Rattle.atl_state.specs.declared.parts.StoredHas.{StoredHas}
+use Rattle.atl_state.specs.declared.parts.StoredMarket.{StoredMarket}
+use Rattle.atl_state.specs.declared.parts.StoredRegion.{StoredRegion}
+use Rattle.atl_state.specs.declared.parts.StoredUnit.{StoredUnit}
+use Rattle.atl_state.specs.declared.records.Region.{Region}
+use Rattle.atl_state.specs.declared.records.Unit.{Unit}
+use Rattle.atl_state.specs.FromRows.{as_u32, by_number, faction_of, region_of, region_with, structure_of, unit_with}
 
 abbrev pub unmarked : {V : Type 0} → FinMap nat_cmp V → Changing V
 unmarked m = record { values = m; marks = set.empty }
@@ -18,3 +26,31 @@ tables_of p = record {
   mail = unmarked (by_number (λ r. as_u32 r.faction) (λ r. r.text) p.mail);
   reports = unmarked (by_number (λ r. as_u32 r.faction) (λ r. r.text) p.reports);
 }
+
+-- ---- what has nothing as yet
+
+abbrev pub bare_unit : StoredUnit → Unit
+bare_unit r = unit_with r empty empty
+
+abbrev pub bare_region : StoredRegion → Region
+bare_region r = region_with r empty
+
+-- ---- row by row
+
+-- a unit with what a row says: an item, or days of a skill
+abbrev pub holding_more : StoredHas → Unit → Unit
+holding_more r u =
+    if as_u32 r.sort == 0
+    then record u { holding = record u.holding { items = insert u.holding.items (as_u32 r.thing) (as_u32 r.amount) } }
+    else if as_u32 r.sort == 1
+    then record u { holding = record u.holding { days = insert u.holding.days (as_u32 r.thing) (as_u32 r.amount) } }
+    else u
+
+-- a region with the stock of a row
+abbrev pub stocking_more : StoredMarket → Region → Region
+stocking_more r x = record x { stocks = insert x.stocks (as_u32 r.item) (as_u32 r.stock) }
+
+-- the values with what each row makes of its owner, where there is one
+abbrev pub give : {R V : Type 0} → (R → ℕ) → (R → V → V) → List R → FinMap nat_cmp V → FinMap nat_cmp V
+give owner more [] m = m
+give owner more (r ∷ rows) m = give owner more rows (changed (more r) m (owner r))

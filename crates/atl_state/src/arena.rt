@@ -1,5 +1,5 @@
 //! Values under numbers, in slots that are used again.
-ghost use Rattle.std.specs.Prelude.{◌≡◌, ◌<◌, ◌^◌, OnOk, OnErr, None, option_copied};
+ghost use Rattle.std.specs.Prelude.{◌≡◌, ◌<◌, ◌^◌, IfOk, OnOk, OnErr, None, option_copied};
 ghost use Rattle.std.specs.FinMap as map;
 
 use crate::index::{Index, Place};
@@ -49,6 +49,15 @@ impl<V: Drop> Arena<V> {
             index: Index::new(alloc),
             slots: Slab::new(alloc),
         }
+    }
+
+    /// A map of nothing, and room for so many values.
+    pub(crate) fn with_room(alloc: Global, room: usize) -> Result<Self, AllocError>
+        ensures { IfOk result (λ arena. arena ≡ map.empty) }
+    {
+        let index = Index::with_room(alloc, room)?;
+        let slots = Slab::with_capacity(alloc, room)?;
+        Ok(Self { index, slots })
     }
 
     /// The value under a number, where there is one.

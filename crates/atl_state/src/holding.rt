@@ -188,6 +188,23 @@ impl Holding {
         put_amount(&mut self.days, skill, days)
     }
 
+    /// Puts pieces of an item in the place of those held, as rows say them. Without memory nothing changes.
+    pub(crate) fn put_item(&mut self, item: u32, amount: u32) -> Result<(), AllocError>
+        requires { (1 ≤ amount) × (amount ≤ holding_limit) }
+        ensures ok { OnOk result (self.new ≡ record self.old { items = map.insert self.old.items item amount }) }
+        ensures err { OnErr result (self.new ≡ self.old) }
+    {
+        self.items.insert(item, amount)
+    }
+
+    /// Puts days of a skill over all men in the place of those studied, as rows say them, 0 too. Without memory nothing changes.
+    pub(crate) fn put_days(&mut self, skill: u32, days: u32) -> Result<(), AllocError>
+        ensures ok { OnOk result (self.new ≡ record self.old { days = map.insert self.old.days skill days }) }
+        ensures err { OnErr result (self.new ≡ self.old) }
+    {
+        self.days.insert(skill, days)
+    }
+
     /// Sets the money, at most HOLDING_LIMIT. It takes no memory.
     pub fn set_money(&mut self, money: u32)
         requires { money ≤ holding_limit }

@@ -1,5 +1,5 @@
 //! Which slot each number leads to.
-ghost use Rattle.std.specs.Prelude.{◌≡◌, ◌<◌, ◌^◌, IfOk, IfErr, OnOk, OnErr, None};
+ghost use Rattle.std.specs.Prelude.{◌≡◌, ◌<◌, ◌^◌, true, length, IfOk, IfErr, IfSome, OnOk, OnErr, None};
 ghost use Rattle.std.specs.Ordering.{nat_cmp};
 ghost use Rattle.std.specs.List.Sorted.{IsStrictlySortedBy};
 ghost use Rattle.std.specs.Slice.Iter.{iter_rest};
@@ -51,6 +51,15 @@ impl Index {
         Index {
             places: Shelf::new(alloc),
         }
+    }
+
+    /// An index of nothing, and room for so many numbers.
+    pub(crate) fn with_room(alloc: Global, room: usize) -> Result<Index, AllocError>
+        ensures { IfOk result (λ index. index ≡ map.empty) }
+    {
+        Ok(Index {
+            places: Shelf::with_room(alloc, room)?,
+        })
     }
 
     /// The slot that a number leads to, where it leads to one.
@@ -109,11 +118,41 @@ impl Index {
     }
 }
 
-/// Where a number stands in places whose numbers rise, or else where it belongs.
+/// The place of a number that comes so far behind the first as its place says, which it does where none between is missing.
+fn guessed(places: &[Place], number: u32) -> Option<usize>
+    ensures { IfSome result (λ place. Stands (numbers_of places.now) number place) }
+{
+    let first = places.first()?;
+    let place = number.checked_sub(first.number)? as usize;
+    match places.get(place) {
+        Some(found) if found.number == number => Some(place),
+        _ => None,
+    }
+}
+
+/// Whether a number is above all of places whose numbers rise.
+fn is_above(places: &[Place], number: u32) -> bool
+    requires { IsStrictlySortedBy nat_cmp (numbers_of places.now) }
+    ensures { result ≡ true → Belongs (numbers_of places.now) number (length places.now) }
+{
+    match places.last() {
+        Some(last) => last.number < number,
+        None => true,
+    }
+}
+
+/// Where a number stands in places whose numbers rise, or else where it belongs. It is searched for only where it is among
+/// them and some before it are missing.
 fn place_of(places: &[Place], number: u32) -> Result<usize, usize>
     requires { IsStrictlySortedBy nat_cmp (numbers_of places.now) }
     ensures found { IfOk result (λ place. Stands (numbers_of places.now) number place) }
     ensures missing { IfErr result (λ place. Belongs (numbers_of places.now) number place) }
 {
+    if let Some(place) = guessed(places, number) {
+        return Ok(place);
+    }
+    if is_above(places, number) {
+        return Err(places.len());
+    }
     places.binary_search_by_key(&number, |place| place.number)
 }

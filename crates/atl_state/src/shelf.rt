@@ -116,6 +116,16 @@ impl<T: Copy + Drop> Shelf<T> {
         }
     }
 
+    /// Nothing, and room for so many things.
+    pub(crate) fn with_room(alloc: Global, room: usize) -> Result<Self, AllocError>
+        ensures { IfOk result (λ shelf. shelf ≡ []) }
+    {
+        Ok(Self {
+            items: Vec::with_capacity(alloc, room)?,
+            free: 0,
+        })
+    }
+
     /// Puts a thing at a place. Without memory nothing changes.
     pub(crate) fn insert(&mut self, place: usize, thing: T) -> Result<(), AllocError>
         requires { place ≤ length self.old }

@@ -208,6 +208,16 @@ impl<T: Drop> From<AllocFailed<T>> for ReadFault {
     }
 }
 
+impl From<AllocError> for ReadFault {
+    ghost use Rattle.atl_store.specs.declared.fault.ReadFault.TheVariants.{Memory};
+
+    ghost from_gives = { λ _ fault. fault ≡ Memory };
+
+    fn from(_e: AllocError) -> ReadFault {
+        ReadFault::Memory
+    }
+}
+
 impl From<Error> for StoreFault {
     ghost from_gives = { λ error fault. fault ≡ store_fault error };
 

@@ -1,171 +1,65 @@
-//! What units have and regions have in stock, by unit or region and by thing.
-ghost use Rattle.std.specs.Prelude.{◌≡◌, ◌==◌, ◌&&◌, IfOk, OnOk, ℕ, filter};
-ghost use Rattle.std.specs.FinMap as map;
-ghost use Rattle.atl_tables.specs.Groups.{group_of};
-ghost use Rattle.atl_state.specs.FromRows.{as_u32, by_number, things_had, stocks_of};
+//! What rows say that units have and regions have in stock, put where it belongs.
+ghost use Rattle.std.specs.Prelude.{◌≡◌, OnOk, true};
+ghost use Rattle.std.specs.List.{list_all};
+ghost use Rattle.atl_tables.specs.Sums.{changed};
+ghost use Rattle.atl_state.specs.Assembling.{holding_more, stocking_more, give};
+ghost use Rattle.atl_state.specs.FromRows.{as_u32};
+ghost use Rattle.atl_state.specs.RowRules.{has_in_range};
 
+use crate::arena::Arena;
 use crate::parts::{StoredHas, StoredMarket};
+use crate::records::{Region, Unit};
 use crate::row_rules::as_u32;
-use crate::rows::ITEM_SORT;
+use crate::rows::{ITEM_SORT, SKILL_SORT};
 use atl_tables::Numbered;
-use std::alloc::{AllocError, Global};
+use std::alloc::AllocError;
 
-/// How much of a thing a unit has, or a region has in stock.
-pub(super) trait Good {
-    ghost owner_of: { Self → ℕ };
-
-    ghost sort_of: { Self → ℕ };
-
-    ghost thing_of: { Self → ℕ };
-
-    ghost amount_of: { Self → ℕ };
-
-    /// The number of the unit or of the region.
-    fn owner(&self) -> u32
-        ensures { result ≡ owner_of self.now };
-
-    /// The sort of the thing: ITEM_SORT or SKILL_SORT.
-    fn sort(&self) -> u32
-        ensures { result ≡ sort_of self.now };
-
-    /// The number of the item or of the skill.
-    fn thing(&self) -> u32
-        ensures { result ≡ thing_of self.now };
-
-    fn amount(&self) -> u32
-        ensures { result ≡ amount_of self.now };
-}
-
-impl Good for StoredHas {
-    ghost owner_of = { λ r. as_u32 r.unit };
-
-    ghost sort_of = { λ r. as_u32 r.sort };
-
-    ghost thing_of = { λ r. as_u32 r.thing };
-
-    ghost amount_of = { λ r. as_u32 r.amount };
-
-    fn owner(&self) -> u32 {
-        as_u32(self.unit)
-    }
-
-    fn sort(&self) -> u32 {
-        as_u32(self.sort)
-    }
-
-    fn thing(&self) -> u32 {
-        as_u32(self.thing)
-    }
-
-    fn amount(&self) -> u32 {
-        as_u32(self.amount)
-    }
-}
-
-impl Good for StoredMarket {
-    ghost owner_of = { λ r. as_u32 r.region };
-
-    ghost sort_of = { λ r. 0 };
-
-    ghost thing_of = { λ r. as_u32 r.item };
-
-    ghost amount_of = { λ r. as_u32 r.stock };
-
-    fn owner(&self) -> u32 {
-        as_u32(self.region)
-    }
-
-    fn sort(&self) -> u32 {
-        ITEM_SORT
-    }
-
-    fn thing(&self) -> u32 {
-        as_u32(self.item)
-    }
-
-    fn amount(&self) -> u32 {
-        as_u32(self.stock)
-    }
-}
-
-/// Puts a thing beside those that its owner has.
-fn put_thing<R: Good>(
-    alloc: Global,
-    groups: &mut Numbered<Numbered<u32>>,
-    row: &R,
-) -> Result<(), AllocError>
-    ensures { OnOk result (groups.new ≡ map.insert groups.old (R.owner_of row.now) (map.insert (group_of groups.old (R.owner_of row.now)) (R.thing_of row.now) (R.amount_of row.now))) }
+/// Puts an item or the days of a skill beside what its unit has, where there is such a unit.
+fn put_thing(units: &mut Arena<Unit>, row: &StoredHas) -> Result<(), AllocError>
+    requires { has_in_range row.now ≡ true }
+    ensures { OnOk result (units.new ≡ changed (holding_more row.now) units.old (as_u32 row.now.unit)) }
 {
-    let owner = row.owner();
-    let thing = row.thing();
-    groups.insert_under(alloc, owner, thing, row.amount())
+    let Some(unit) = units.get_mut(as_u32(row.unit)) else {
+        return Ok(());
+    };
+    let (thing, amount) = (as_u32(row.thing), as_u32(row.amount));
+    match as_u32(row.sort) {
+        ITEM_SORT => unit.holding.put_item(thing, amount),
+        SKILL_SORT => unit.holding.put_days(thing, amount),
+        _ => Ok(()),
+    }
 }
 
-fn is_of_sort<R: Good>(row: &R, sort: u32) -> bool
-    ensures { result ≡ (R.sort_of row.now == sort) }
+/// Puts what rows in their ranges say beside what units have.
+pub(super) fn put_things(units: &mut Arena<Unit>, rows: &[StoredHas]) -> Result<(), AllocError>
+    requires { list_all has_in_range rows.now ≡ true }
+    ensures { OnOk result (units.new ≡ give (λ r. as_u32 r.unit) holding_more rows.now units.old) }
 {
-    row.sort() == sort
-}
-
-/// What the rows say of one sort, by owner and thing.
-fn groups_of<R: Good>(
-    alloc: Global,
-    sort: u32,
-    rows: &[R],
-) -> Result<Numbered<Numbered<u32>>, AllocError>
-    ensures { IfOk result (λ groups. (n : ℕ) → group_of groups n ≡ by_number R.thing_of R.amount_of (filter (λ r. (R.owner_of r == n) && (R.sort_of r == sort)) rows.now)) }
-{
-    let mut groups = Numbered::new(alloc);
     for row in rows {
-        if is_of_sort(row, sort) {
-            put_thing(alloc, &mut groups, row)?;
-        }
+        put_thing(units, row)?;
     }
-    Ok(groups)
+    Ok(())
 }
 
-/// What units have of one sort, by unit and thing.
-pub(super) fn things_had(
-    alloc: Global,
-    sort: u32,
-    rows: &[StoredHas],
-) -> Result<Numbered<Numbered<u32>>, AllocError>
-    ensures { IfOk result (λ groups. (n : ℕ) → group_of groups n ≡ things_had n sort rows.now) }
+/// Puts a stock beside those of its region, where there is such a region.
+fn put_stock(regions: &mut Numbered<Region>, row: &StoredMarket) -> Result<(), AllocError>
+    ensures { OnOk result (regions.new ≡ changed (stocking_more row.now) regions.old (as_u32 row.now.region)) }
 {
-    groups_of(alloc, sort, rows)
+    match regions.get_mut(as_u32(row.region)) {
+        Some(region) => region.stocks.insert(as_u32(row.item), as_u32(row.stock)),
+        None => Ok(()),
+    }
 }
 
-/// What regions have in stock, by region and item.
-pub(super) fn stocks_of(
-    alloc: Global,
+/// Puts what rows say beside what regions have in stock.
+pub(super) fn put_stocks(
+    regions: &mut Numbered<Region>,
     rows: &[StoredMarket],
-) -> Result<Numbered<Numbered<u32>>, AllocError>
-    ensures { IfOk result (λ groups. (n : ℕ) → group_of groups n ≡ stocks_of n rows.now) }
+) -> Result<(), AllocError>
+    ensures { OnOk result (regions.new ≡ give (λ r. as_u32 r.region) stocking_more rows.now regions.old) }
 {
-    let groups = groups_of(alloc, ITEM_SORT, rows)?;
-    Ok(groups)
-}
-
-fn copied(alloc: Global, things: &Numbered<u32>) -> Result<Numbered<u32>, AllocError>
-    ensures { IfOk result (λ copy. copy ≡ things.now) }
-{
-    let mut copy = Numbered::new(alloc);
-    for (thing, amount) in things.iter() {
-        copy.insert(thing, *amount)?;
+    for row in rows {
+        put_stock(regions, row)?;
     }
-    Ok(copy)
-}
-
-/// What one of them has.
-pub(super) fn things_of(
-    alloc: Global,
-    groups: &Numbered<Numbered<u32>>,
-    owner: u32,
-) -> Result<Numbered<u32>, AllocError>
-    ensures { IfOk result (λ things. things ≡ group_of groups.now owner) }
-{
-    match groups.get(owner) {
-        Some(things) => copied(alloc, things),
-        None => Ok(Numbered::new(alloc)),
-    }
+    Ok(())
 }

@@ -2,13 +2,12 @@
 ghost use Rattle.std.specs.Prelude.{◌≡◌, IfOk, true};
 ghost use Rattle.std.specs.List.{list_all};
 ghost use Rattle.atl_tables.specs.Names.{name_ok};
-ghost use Rattle.atl_state.specs.Assembling.{unmarked, tables_of};
-ghost use Rattle.atl_tables.specs.Groups.{group_of};
-ghost use Rattle.atl_state.specs.FromRows.{as_u32, faction_of, region_of, region_with, structure_of, by_number};
+ghost use Rattle.atl_state.specs.Assembling.{unmarked, bare_region, tables_of};
+ghost use Rattle.atl_state.specs.FromRows.{as_u32, faction_of, region_of, structure_of, by_number};
 ghost use Rattle.atl_state.specs.RowRules.{faction_named};
 
-use super::goods::stocks_of;
-use super::records::{faction_of, region_of, structure_of};
+use super::goods::put_stocks;
+use super::records::{bare_region, faction_of, structure_of};
 use crate::parts::{
     Parts, StoredFaction, StoredMail, StoredMarket, StoredRegion, StoredReport, StoredStructure,
 };
@@ -33,17 +32,12 @@ pub(crate) fn factions_of(
     Ok(factions)
 }
 
-fn regions_with(
-    alloc: Global,
-    rows: &[StoredRegion],
-    stocks: &Numbered<Numbered<u32>>,
-) -> Result<Numbered<Region>, AllocError>
-    ensures { IfOk result (λ regions. regions ≡ by_number (λ r. as_u32 r.number) (λ r. region_with r (group_of stocks.now (as_u32 r.number))) rows.now) }
+fn bare_regions(alloc: Global, rows: &[StoredRegion]) -> Result<Numbered<Region>, AllocError>
+    ensures { IfOk result (λ regions. regions ≡ by_number (λ r. as_u32 r.number) bare_region rows.now) }
 {
     let mut regions = Numbered::new(alloc);
     for row in rows {
-        let region = region_of(alloc, row, stocks)?;
-        regions.insert(as_u32(row.number), region)?;
+        regions.insert(as_u32(row.number), bare_region(alloc, row))?;
     }
     Ok(regions)
 }
@@ -56,8 +50,9 @@ pub(crate) fn regions_of(
 ) -> Result<Numbered<Region>, AllocError>
     ensures { IfOk result (λ regions. regions ≡ by_number (λ r. as_u32 r.number) (region_of markets.now) rows.now) }
 {
-    let stocks = stocks_of(alloc, markets)?;
-    regions_with(alloc, rows, &stocks)
+    let mut regions = bare_regions(alloc, rows)?;
+    put_stocks(&mut regions, markets)?;
+    Ok(regions)
 }
 
 /// The structures of rows with good names.

@@ -1,11 +1,10 @@
 //! The factions, regions and structures of single rows.
 ghost use Rattle.std.specs.Prelude.{◌≡◌, IfOk, true};
 ghost use Rattle.atl_tables.specs.Names.{name_ok, pass_ok};
-ghost use Rattle.atl_tables.specs.Groups.{group_of};
-ghost use Rattle.atl_state.specs.FromRows.{as_u32, faction_of, region_with, structure_of};
+ghost use Rattle.atl_state.specs.Assembling.{bare_region};
+ghost use Rattle.atl_state.specs.FromRows.{as_u32, faction_of, structure_of};
 ghost use Rattle.atl_state.specs.RowRules.{faction_named};
 
-use super::goods::things_of;
 use crate::parts::{StoredFaction, StoredRegion, StoredStructure};
 use crate::records::{Faction, Region, Structure};
 use crate::row_rules::{as_u16, as_u32, is_set};
@@ -43,19 +42,15 @@ pub(super) fn faction_of(alloc: Global, row: &StoredFaction) -> Result<Faction, 
     })
 }
 
-pub(super) fn region_of(
-    alloc: Global,
-    row: &StoredRegion,
-    stocks: &Numbered<Numbered<u32>>,
-) -> Result<Region, AllocError>
-    ensures { IfOk result (λ region. region ≡ region_with row.now (group_of stocks.now (as_u32 row.now.number))) }
+/// The region of a row, with nothing in stock.
+pub(super) fn bare_region(alloc: Global, row: &StoredRegion) -> Region
+    ensures { result ≡ bare_region row.now }
 {
-    let stocks = things_of(alloc, stocks, as_u32(row.number))?;
-    Ok(Region {
+    Region {
         peasants: as_u32(row.peasants),
         money: as_u32(row.money),
-        stocks,
-    })
+        stocks: Numbered::new(alloc),
+    }
 }
 
 pub(super) fn structure_of(alloc: Global, row: &StoredStructure) -> Result<Structure, AllocError>

@@ -1,15 +1,14 @@
 //! The units, with what they have, and the lists of them.
-ghost use Rattle.std.specs.Prelude.{◌≡◌, IfOk, ℕ, true};
+ghost use Rattle.std.specs.Prelude.{◌≡◌, IfOk, true};
 ghost use Rattle.std.specs.List.{list_all};
-ghost use Rattle.atl_tables.specs.Groups.{group_of};
 ghost use Rattle.atl_tables.specs.Names.{name_ok};
 ghost use Rattle.atl_state.specs.Kept.{AreUnitLists};
-ghost use Rattle.atl_state.specs.FromRows.{as_u32, by_number, unit_with, unit_of};
-ghost use Rattle.atl_state.specs.Held.{AreAmounts};
+ghost use Rattle.atl_state.specs.Assembling.{bare_unit};
+ghost use Rattle.atl_state.specs.FromRows.{as_u32, by_number, unit_of};
 ghost use Rattle.atl_state.specs.Roster.{unmarked_units};
 ghost use Rattle.atl_state.specs.RowRules.{unit_in_range, has_in_range};
 
-use super::goods::{things_had, things_of};
+use super::goods::put_things;
 use super::records::name_of;
 use crate::arena::Arena;
 use crate::holding::Holding;
@@ -17,26 +16,19 @@ use crate::lists::{UnitLists, listing_of};
 use crate::parts::{Parts, StoredHas, StoredUnit};
 use crate::records::Unit;
 use crate::row_rules::{as_u32, is_set};
-use crate::rows::{ITEM_SORT, SKILL_SORT};
 use crate::units::Units;
 use atl_tables::Numbered;
 use std::alloc::{AllocError, Global};
 
-fn unit_of(
-    alloc: Global,
-    row: &StoredUnit,
-    items: &Numbered<Numbered<u32>>,
-    days: &Numbered<Numbered<u32>>,
-) -> Result<Unit, AllocError>
+/// The unit of a row, with nothing.
+fn bare_unit(alloc: Global, row: &StoredUnit) -> Result<Unit, AllocError>
     requires named { name_ok row.now.name ≡ true }
     requires range { unit_in_range row.now ≡ true }
-    requires amounts { (n : ℕ) → AreAmounts (group_of items.now n) }
-    ensures { IfOk result (λ unit. unit ≡ unit_with row.now (group_of items.now (as_u32 row.now.number)) (group_of days.now (as_u32 row.now.number))) }
+    ensures { IfOk result (λ unit. unit ≡ bare_unit row.now) }
 {
-    let number = as_u32(row.number);
     let name = name_of(alloc, &row.name)?;
-    let items = things_of(alloc, items, number)?;
-    let days = things_of(alloc, days, number)?;
+    let items = Numbered::new(alloc);
+    let days = Numbered::new(alloc);
     let mut holding = Holding::new(name, as_u32(row.men), as_u32(row.money), items, days);
     holding.set_guard(is_set(row.guard));
     Ok(Unit {
@@ -47,20 +39,14 @@ fn unit_of(
     })
 }
 
-fn units_with(
-    alloc: Global,
-    rows: &[StoredUnit],
-    items: &Numbered<Numbered<u32>>,
-    days: &Numbered<Numbered<u32>>,
-) -> Result<Arena<Unit>, AllocError>
+fn bare_units(alloc: Global, rows: &[StoredUnit]) -> Result<Arena<Unit>, AllocError>
     requires named { list_all (λ r. name_ok r.name) rows.now ≡ true }
     requires range { list_all unit_in_range rows.now ≡ true }
-    requires amounts { (n : ℕ) → AreAmounts (group_of items.now n) }
-    ensures { IfOk result (λ units. units ≡ by_number (λ r. as_u32 r.number) (λ r. unit_with r (group_of items.now (as_u32 r.number)) (group_of days.now (as_u32 r.number))) rows.now) }
+    ensures { IfOk result (λ units. units ≡ by_number (λ r. as_u32 r.number) bare_unit rows.now) }
 {
-    let mut units = Arena::new(alloc);
+    let mut units = Arena::with_room(alloc, rows.len())?;
     for row in rows {
-        let unit = unit_of(alloc, row, items, days)?;
+        let unit = bare_unit(alloc, row)?;
         units.put(as_u32(row.number), unit)?;
     }
     Ok(units)
@@ -77,9 +63,9 @@ pub(crate) fn units_of(
     requires amounts { list_all has_in_range has.now ≡ true }
     ensures { IfOk result (λ units. units ≡ by_number (λ r. as_u32 r.number) (unit_of has.now) rows.now) }
 {
-    let items = things_had(alloc, ITEM_SORT, has)?;
-    let days = things_had(alloc, SKILL_SORT, has)?;
-    units_with(alloc, rows, &items, &days)
+    let mut units = bare_units(alloc, rows)?;
+    put_things(&mut units, has)?;
+    Ok(units)
 }
 
 /// The units of rows with good names and numbers in their ranges, with nothing marked.

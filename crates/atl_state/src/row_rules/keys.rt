@@ -97,7 +97,7 @@ impl Keyed for StoredMarket {
 fn keys_of<R: Keyed>(alloc: Global, rows: &[R]) -> Result<Vec<(i64, i64, i64)>, AllocError>
     ensures { IfOk result (λ keys. keys.items ≡ map R.key_of rows.now) }
 {
-    let mut keys = Vec::new(alloc);
+    let mut keys = Vec::with_capacity(alloc, rows.len())?;
     for row in rows {
         keys.push(row.key())?;
     }

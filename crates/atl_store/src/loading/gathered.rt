@@ -16,7 +16,7 @@ use std::alloc::{AllocError, Global};
 fn rowids_of<T>(alloc: Global, placed: &[Placed<T>]) -> Result<Vec<i64>, AllocError>
     ensures { IfOk result (λ rowids. rowids.items ≡ map (λ s. s.rowid) placed.now) }
 {
-    let mut rowids = Vec::new(alloc);
+    let mut rowids = Vec::with_capacity(alloc, placed.len())?;
     for row in placed {
         rowids.push(row.rowid)?;
     }
@@ -35,11 +35,11 @@ fn are_apart<T>(alloc: Global, placed: &[Placed<T>]) -> Result<bool, AllocError>
 fn unplaced<T: Drop>(alloc: Global, placed: Vec<Placed<T>>) -> Result<Sequence<T>, AllocError>
     ensures { IfOk result (λ rows. rows ≡ map (λ s. s.row) placed.items) }
 {
-    let mut rows = Sequence::new(alloc);
+    let mut rows = Vec::with_capacity(alloc, placed.len())?;
     for Placed { row, rowid: _ } in placed {
         rows.push(row)?;
     }
-    Ok(rows)
+    Ok(Sequence::from_vec(rows))
 }
 
 /// Store, where two rows are kept at one place.

@@ -59,7 +59,7 @@ pub(crate) fn parse_rows<T: Stored>(alloc: Global, rows: &[Row]) -> Result<Vec<T
     ensures other { IfErr result (λ fault. fault ≡ OtherType → ¬ AreTyped T.forms rows.now) }
     ensures which { IfErr result (λ fault. fault ≢ OtherType → fault ≡ Memory) }
 {
-    let mut all = Vec::new(alloc);
+    let mut all = Vec::with_capacity(alloc, rows.len())?;
     for row in rows {
         match T::from_row(alloc, row) {
             Ok(stored) => all.push(stored)?,

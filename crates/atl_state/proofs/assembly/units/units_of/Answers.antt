@@ -1,7 +1,8 @@
-use Rattle.std.proofs.Common.{sym, subst}
-use Rattle.atl_state.specs.Held.{AreAmounts}
-use Rattle.atl_state.proofs.AssemblyLaws.{AreAmounts-had}
+use Rattle.std.proofs.Common.{ap, ◌∙◌}
+use Rattle.atl_state.specs.Assembling.{give, holding_more}
+use Rattle.atl_state.specs.FromRows.{as_u32}
+use Rattle.atl_state.proofs.GivingLaws.{units_given}
 use Rattle.atl_state.proofs.assembly.units.units_of.Goals as goal
 
-pub units_with-requires-clause-amounts : goal.units_with-requires-clause-amounts
-units_with-requires-clause-amounts c n = subst AreAmounts (sym (c.in_ok-items.ensures n)) (AreAmounts-had n c.args.has.now c.requires.amounts)
+pub returns : goal.returns
+returns c = c.in_ok-put_things.ensures ∙ ap (give (λ r. as_u32 r.unit) holding_more c.args.has.now) c.in_ok-units.ensures ∙ units_given c.args.has.now c.args.rows.now
