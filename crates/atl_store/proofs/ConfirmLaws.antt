@@ -13,10 +13,14 @@ use Rattle.atl_tables.specs.declared.format.Format.{Format}
 use Rattle.atl_store.specs.Gathering.{IsSettled, FailsToConfirm}
 use Rattle.atl_store.specs.Faults.{is_memory, load_fault}
 use Rattle.atl_store.specs.Loading.{Stays}
+use Rattle.atl_store.specs.Reading.{Rests}
 use Rattle.atl_store.specs.Statements.{selection}
 use Rattle.atl_store.specs.Tables.{HasTablesOf, campaign_table}
 use Rattle.atl_store.specs.declared.fault.LoadFault.{LoadFault}
 use Rattle.atl_store.specs.declared.fault.LoadFault.TheVariants as load
+
+pub rests_unchanged : (old new : State) → IsUnchanged old new → Rests old new
+rests_unchanged old new h = record { was_open = λ _. h.0.was_open; same = λ _. (inr h.0.now_is, h.0.committed_is) }
 
 module _ (sql : List ℕ) (old new : State) (plain : IsPlain (understood old.now.schema sql)) where
   pub commits_none : Survives old new (CommitsShowing sql [] old) → Survives old new (λ _. ⊥)
@@ -45,6 +49,13 @@ module _ (sql : List ℕ) (old new : State) (plain : IsPlain (understood old.now
   refused_stays settled clean e (inl (inl h)) = unchanged_stays h.1
   refused_stays settled clean e (inl (inr h)) = rolled_stays settled clean h.3
   refused_stays settled clean e (inr h) = unchanged_stays (fails_stay h.0 _ e h.0.returning (subst IsPlain h.1.is plain).0 h.2)
+
+  -- nor does what is refused, but that a transaction may be rolled back
+  pub refused_rests : (e : Error) → FailsToQuery sql [] old new e → Rests old new
+  unfolding FailsToQuery IsNotRun
+  refused_rests e (inl (inl h)) = rests_unchanged old new h.1
+  refused_rests e (inl (inr h)) = record { was_open = h.3.was_open; same = λ up. let back = h.3.undone up in (inl back.0, back.1) }
+  refused_rests e (inr h) = rests_unchanged old new (fails_stay h.0 _ e h.0.returning (subst IsPlain h.1.is plain).0 h.2)
 
 -- the campaign's own row can't be asked for once more
 module _ (f : Format) {S : Type 0} (g : Ghosts S) (old during : Held S) (begins : HasTablesOf f old.schema) (e : Error) (failed : FailsToQuery (selection campaign_table 1) [] (state g old) (state g during) e) where

@@ -1,5 +1,5 @@
 -- Readings one after another, each of the tables as they were before the first.
-use Rattle.std.proofs.Common.{◌≡◌, ◌≢◌, ◌⊎◌, ◌++◌, ℕ, List, [], ◌∷◌, true, false, IsTrue, Option, Some, None, Result, Ok, Err, IfOk, IfErr, IsErrAnd, IsPermutation, map, refl, sym, ap, ◌∙◌, subst, inl, inr, arith}
+use Rattle.std.proofs.Common.{◌≡◌, ◌≢◌, ◌⊎◌, ◌++◌, ℕ, List, [], ◌∷◌, false, IsTrue, Option, Some, None, Result, Ok, Err, IfOk, IfErr, IsErrAnd, IsPermutation, map, refl, sym, ap, ◌∙◌, subst, inl, inr, arith}
 use Rattle.std.specs.Option.{option_zip}
 use Rattle.std.specs.declared.vec.Vec.{Vec}
 use Rattle.sqlite_trees.specs.declared.store.Store.{Ghosts}
@@ -99,7 +99,7 @@ module _ {S : Type 0} (g : Ghosts S) where
   rests_stays : (old new : State) → IsSettled old → HasCleanDisk old → Rests old new → Stays old new
   rests_stays old new settled clean rests = record {
     was_open = rests.was_open;
-    same = λ up. let back = rests.same up in (back.0 ∙ sym (settled clean (rests.was_open up)), back.1);
+    same = λ up. let back = rests.same up in (elim back.0 [ inl last ↦ last ∙ sym (settled clean (rests.was_open up)) | inr same ↦ same ], back.1);
   }
 
   -- ---- one table
@@ -109,10 +109,10 @@ module _ {S : Type 0} (g : Ghosts S) where
     this_select = (sql, forms) ∷ []
 
     tells : (rows : List Row) → Selects g sql old rows → Tells g old sql rows
-    tells rows told = record { before = record old { in_transaction = true }; during = told.0; same = refl; shown = told.1 }
+    tells rows told = record { before = told.0; during = told.1; same = told.2.same; shown = told.3 }
 
     selects_open : (rows : List Row) → Selects g sql old rows → IsTrue (state g old).is_open
-    selects_open rows told = shown_open sql _ _ rows told.1
+    selects_open rows told = told.2.was_open (shown_open sql _ _ rows told.3)
 
     found_one : {Z : Type 0} (r : Result (Vec A Z) ReadFault) → ReadsRows g sql old forms shown r new → GivesTable g since in_table shown r old new → HasCleanDisk (state g new) → IfOk (kept_of r) (Found g old this_select (λ all. AreRows g old since in_table shown all.items))
     found_one (Ok all) reads gives clean =

@@ -40,6 +40,7 @@ pub mod CheckTerms
 pub mod SchemaLaws
 pub mod SelectLaws
 pub mod SelectingLaws
+pub mod StreamLaws
 pub mod RowsLaws
 pub mod PutsLaws
 mod PuttingLaws

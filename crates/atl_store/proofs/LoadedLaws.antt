@@ -205,7 +205,7 @@ module _ (f : Format) {S : Type 0} (g : Ghosts S) where
   -- the tables are not confirmed
   module _ (old mid : Held S) (kept : KeepsOneRow f g old) (first : Leaves g old mid) (clean : HasCleanDisk (state g mid)) where
     was_open : IsTrue (state g old).is_open
-    was_open = shown_open (selection campaign_table 1) _ _ kept.rows kept.selects.1
+    was_open = kept.selects.2.was_open (shown_open (selection campaign_table 1) _ _ kept.rows kept.selects.3)
 
     shut_failed : (state g mid).is_open ≡ false → FailedMeanwhile g old
     shut_failed shut = record {

@@ -3,13 +3,14 @@ use Rattle.std.proofs.Common.{ℕ, List, [], length, map, IsPermutation, Result,
 use Rattle.std.specs.declared.vec.Vec.{Vec}
 use Rattle.sqlite_trees.specs.declared.store.Store.{Ghosts}
 use Rattle.sqlite_trees.specs.Tree.{Trees}
+use Rattle.sqlite.specs.Effect.{Database}
 use Rattle.sqlite.specs.Held.{Held, state}
 use Rattle.sqlite.specs.Order.{Row}
 use Rattle.sqlite.specs.State.{State, Shown}
 use Rattle.atl_tables.specs.declared.format.Format.{Format}
 use Rattle.atl_store.specs.Tables.{HasTablesOf}
 use Rattle.atl_store.specs.Stored.{Form, first_columns}
-use Rattle.atl_store.specs.Reading.{ReadsRows, GivesTable}
+use Rattle.atl_store.specs.Reading.{IsAsked, ReadsRows, GivesTable}
 use Rattle.atl_store.specs.declared.fault.ReadFault.{ReadFault}
 use Rattle.atl_store.proofs.KeepLaws.{if_ok}
 
@@ -17,6 +18,17 @@ use Rattle.atl_store.proofs.KeepLaws.{if_ok}
 abbrev pub Reads : Format → List ℕ → (Trees → List Row) → ℕ → Type 1
 Reads f sql in_table count = (old new : State) (rows : List Row) → Shown sql [] old new rows → HasTablesOf f old.now.schema → IsPermutation (in_table old.now.trees) (map (first_columns count) rows)
 
+-- the tables are those of a format as the SELECT is asked, where they were so before
+pub asked_begins : (f : Format) (old before : State) → IsAsked old before → HasTablesOf f old.now.schema → HasTablesOf f before.now.schema
+asked_begins f old before asked has = subst (λ (d : Database). HasTablesOf f d.schema) (sym asked.same) has
+
+-- and their rows are those before
+pub asked_rows : (f : Format) (sql : List ℕ) (in_table : Trees → List Row) (count : ℕ) → Reads f sql in_table count → (old before during : State) (rows : List Row) → IsAsked old before → Shown sql [] before during rows → HasTablesOf f old.now.schema
+    → IsPermutation (in_table old.now.trees) (map (first_columns count) rows)
+asked_rows f sql in_table count means old before during rows asked shown has =
+    subst (λ (d : Database). IsPermutation (in_table d.trees) (map (first_columns count) rows)) asked.same (means before during rows shown (asked_begins f old before asked has))
+
 module _ {S A Z : Type 0} (g : Ghosts S) (sql : List ℕ) (old new : Held S) (forms : List Form) (shown : A → Row) (r : Result (Vec A Z) ReadFault) where
   pub gives_table : (since : Format) (in_table : Trees → List Row) → Reads since sql in_table (length forms) → ReadsRows g sql old forms shown r new → GivesTable g since in_table shown r old new
-  gives_table since in_table means read clean has = if_ok r (λ all did. subst (IsPermutation (in_table (state g old).now.trees)) (sym did.2) (means _ _ did.0 did.1.1 has)) (read.rows clean)
+  gives_table since in_table means read clean has =
+      if_ok r (λ all did. subst (IsPermutation (in_table (state g old).now.trees)) (sym did.2) (asked_rows since sql in_table (length forms) means (state g old) (state g did.1.0) (state g did.1.1) did.0 did.1.2 did.1.3 has)) (read.rows clean)

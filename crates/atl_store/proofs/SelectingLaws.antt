@@ -1,5 +1,5 @@
 -- What a SELECT inside a transaction leaves, whatever it means, and what is left once the transaction is rolled back.
-use Rattle.std.proofs.Common.{◌≡◌, ◌≢◌, ◌⊎◌, ℕ, Bool, List, [], true, false, cond, IsTrue, Option, Some, None, Result, Ok, Err, IsErrAnd, IfOk, IfErr, map, length, sym, ap, ◌∙◌, subst, inl, inr, arith}
+use Rattle.std.proofs.Common.{◌≡◌, ◌≢◌, ◌⊎◌, ℕ, Bool, List, [], true, false, cond, IsTrue, Option, Some, None, Result, Ok, Err, IsErrAnd, IfOk, IfErr, map, length, refl, sym, ap, ◌∙◌, subst, inl, inr, arith}
 use Rattle.std.specs.declared.vec.Vec.{Vec}
 use Rattle.sqlite_trees.specs.declared.store.Store.{Ghosts}
 use Rattle.sqlite_schema.specs.declared.command.Returning.{Returning}
@@ -10,7 +10,7 @@ use Rattle.sqlite.specs.State.{State, HasCleanDisk, Survives, KeepsCommit, IsRol
 use Rattle.sqlite.proofs.InsideLemmas.{unchanged_keeps}
 use Rattle.sqlite.proofs.Callers.{survives_begin}
 use Rattle.atl_store.specs.Faults.{is_memory, is_failure, read_fault}
-use Rattle.atl_store.specs.Reading.{Rests, Asks, ReadsRows, RefusesToSelect}
+use Rattle.atl_store.specs.Reading.{Rests, IsAsked, Asks, ReadsRows, RefusesToSelect}
 use Rattle.atl_store.specs.Stored.{Form, first_columns, AreTyped}
 use Rattle.atl_store.specs.declared.fault.ReadFault.{ReadFault}
 use Rattle.atl_store.specs.declared.fault.ReadFault.TheVariants.{Store, Refused, Memory, OtherType}
@@ -59,13 +59,17 @@ module _ {S : Type 0} (g : Ghosts S) (sql : List ℕ) (old begun mid end : Held 
       let rolled = back clean in
       record {
         was_open = λ up. kept.was_open (rolled.was_open up);
-        same = λ up. let was = rolled.undone up in let same = kept.committed (rolled.was_open up) in (was.0 ∙ same, was.1 ∙ same);
+        same = λ up. let was = rolled.undone up in let same = kept.committed (rolled.was_open up) in (inl (was.0 ∙ same), was.1 ∙ same);
       }
+
+  -- it is asked of the tables as they were
+  asked : IsAsked (state g old) (state g begun)
+  asked = subst (λ h. IsAsked (state g old) (state g h)) (sym begins) (record { was_open = λ up. up; same = refl })
 
   -- it showed rows
   pub showed : {Z : Type 0} (rows : Vec Row Z) → (HasCleanDisk (state g mid) → Shown sql [] (state g begun) (state g mid) rows.items) → Asks g sql old {Z = Z} (Ok rows) end
   showed rows ok = record {
-    rows = λ clean. (mid, subst (λ h. Shown sql [] (state g h) (state g mid) rows.items) begins (ok (omega (arith, two.clean))));
+    rows = λ clean. (begun, mid, asked, ok (omega (arith, two.clean)));
     refused = λ _. tt;
     rests = rests (λ before. shown_keeps _ _ begun_inside sql [] rows.items (ok before));
     survives = survived;
@@ -80,7 +84,7 @@ module _ {S : Type 0} (g : Ghosts S) (sql : List ℕ) (old begun mid end : Held 
   was_refused : {Z : Type 0} (e : Error) (fault : ReadFault) → fault ≡ read_fault e → (HasCleanDisk (state g mid) → FailsToQuery sql [] (state g begun) (state g mid) e ⊎ IsTooLate sql [] (state g begun) (state g mid) e) → Asks g sql old {Z = Z} (Err fault) end
   was_refused e fault is err = record {
     rows = λ _. tt;
-    refused = λ clean. (mid, e, subst (λ h. FailsToQuery sql [] (state g h) (state g mid) e) begins (not_late e (err (omega (arith, two.clean)))), is);
+    refused = λ clean. (begun, mid, e, asked, not_late e (err (omega (arith, two.clean))), is);
     rests = rests (λ before. refused_keeps _ _ begun_inside sql [] e (err before));
     survives = survived;
     idle = ended;
@@ -102,7 +106,7 @@ not_other e same = by_memory (is_memory e) (is_failure e) same
     by_memory false false is = cc
 
 pub never_other : {S : Type 0} (g : Ghosts S) (sql : List ℕ) (old : Held S) (fault : ReadFault) → RefusesToSelect g sql old fault → fault ≡ OtherType → ⊥
-never_other g sql old fault told same = not_other told.1 (sym told.3 ∙ same)
+never_other g sql old fault told same = not_other told.2 (sym told.5 ∙ same)
 
 if_both : {A E : Type 0} (P Q : A → Type 0) (r : Result A E) → IfOk r P → IfOk r Q → IfOk r (λ a. P a × Q a)
 if_both P Q (Ok a) p q = (p, q)

@@ -38,6 +38,14 @@ pub told_as : {A F : Type 0} (P : F → Type 0) (r : Result A F) (fault : F) →
 told_as P (Ok a) fault told p = tt
 told_as P (Err f) fault told p = subst P (sym told) p
 
+-- what keeps the old campaign from being loaded is the first check that fails
+pub unloaded : {S : Type 0} (g : Ghosts S) (text : List ℕ) (old mid : Held S) (fault : LoadFault) → RefusesToLoadIn First g old fault → FailsCheck g text old mid (first_fault fault)
+unloaded g text old mid load.Store refused = inl refused
+unloaded g text old mid (load.Damaged rule) refused = refused
+unloaded g text old mid load.NotACampaign refused = refused
+unloaded g text old mid load.OtherFormat refused = refused
+unloaded g text old mid load.Memory refused = inl refused
+
 -- ---- what was loaded is what the tables held
 
 module _ {S : Type 0} (g : Ghosts S) (text : List ℕ) (old mid : Held S) (alone : LeavesAlone g old mid) (clean : HasCleanDisk (state g mid)) where

@@ -1,5 +1,5 @@
 -- What reading all rows of a table gives.
-use Rattle.std.specs.Prelude.{◌≡◌, ◌≢◌, ◌⊎◌, ◌++◌, ℕ, List, [], ◌∷◌, length, map, IsTrue, IsPermutation, true, false, Result, IfOk, IfErr}
+use Rattle.std.specs.Prelude.{◌≡◌, ◌≢◌, ◌⊎◌, ◌++◌, ℕ, List, [], ◌∷◌, length, map, IsTrue, IsPermutation, false, Option, Result, IfOk, IfErr, IfSome, OnOk}
 use Rattle.std.specs.declared.vec.Vec.{Vec}
 use Rattle.sqlite_trees.specs.declared.store.Store.{Ghosts}
 use Rattle.sqlite_trees.specs.Tree.{Trees, rowid}
@@ -12,27 +12,28 @@ use Rattle.atl_store.specs.Sets.{visible}
 use Rattle.atl_tables.specs.declared.format.Format.{Format}
 use Rattle.atl_store.specs.Tables.{HasTablesOf}
 use Rattle.atl_store.specs.Faults.{read_fault}
-use Rattle.atl_store.specs.Stored.{Form, first_columns, AreTyped}
+use Rattle.atl_store.specs.Stored.{Form, first_columns, AreTyped, IsTyped}
 use Rattle.atl_store.specs.declared.fault.ReadFault.{ReadFault}
 use Rattle.atl_store.specs.declared.fault.ReadFault.TheVariants.{OtherType, Memory}
 
--- Nothing is changed: while the connection is open its tables are those of the last commit.
+-- Nothing is changed: while the connection is open its tables are as they were, or those of the last commit.
 pub record Rests (old new : State) : Type 0 where
   pub was_open : IsTrue new.is_open → IsTrue old.is_open
-  pub same : IsTrue new.is_open → (new.now ≡ old.committed) × (new.committed ≡ old.committed)
+  pub same : IsTrue new.is_open → ((new.now ≡ old.committed) ⊎ (new.now ≡ old.now)) × (new.committed ≡ old.committed)
+
+-- the connection as a SELECT is asked, of the same tables
+pub record IsAsked (old before : State) : Type 0 where
+  pub was_open : IsTrue before.is_open → IsTrue old.is_open
+  pub same : before.now ≡ old.now
 
 module _ {S : Type 0} (g : Ghosts S) (sql : List ℕ) (old : Held S) where
-  -- the connection once a transaction is begun for the SELECT
-  abbrev begun : State
-  begun = state g (record old { in_transaction = true })
-
   -- what the SELECT shows
   abbrev pub Selects : List Row → Type 0
-  Selects rows = (during : Held S) × Shown sql [] begun (state g during) rows
+  Selects rows = (before during : Held S) × IsAsked (state g old) (state g before) × Shown sql [] (state g before) (state g during) rows
 
   -- the SELECT was refused, and this is told of it
   abbrev pub RefusesToSelect : ReadFault → Type 0
-  RefusesToSelect fault = (during : Held S) × (e : Error) × FailsToQuery sql [] begun (state g during) e × (fault ≡ read_fault e)
+  RefusesToSelect fault = (before during : Held S) × (e : Error) × IsAsked (state g old) (state g before) × FailsToQuery sql [] (state g before) (state g during) e × (fault ≡ read_fault e)
 
   -- The SELECT is asked, whatever schema the database has. It runs in a transaction of its own, which is rolled back.
   pub record Asks {Z : Type 0} (result : Result (Vec Row Z) ReadFault) (new : Held S) : Type 0 where
@@ -55,6 +56,19 @@ module _ {S : Type 0} (g : Ghosts S) (sql : List ℕ) (old : Held S) where
     pub rests : HasCleanDisk (state g new) → Rests (state g old) (state g new)
     pub survives : Survives (state g old) (state g new) (λ _. ⊥)
     pub idle : new.in_transaction ≡ false
+
+  -- All rows that a query shows are read as they come, or there is none where one of them couldn't be read or kept.
+  pub record Streams {A Z : Type 0} (forms : List Form) (shown : A → Row) (result : Result (Option (Vec A Z)) ReadFault) (new : Held S) : Type 0 where
+    pub rows : HasCleanDisk (state g new) → IfOk result (λ read. IfSome read (λ all. (rows : List Row) × Selects rows × (map shown all.items ≡ map (first_columns (length forms)) rows) × AreTyped forms rows))
+    pub refused : HasCleanDisk (state g new) → IfErr result RefusesToSelect
+    pub same : HasCleanDisk (state g new) → OnOk result (IsAsked (state g old) (state g new))
+    pub rests : HasCleanDisk (state g new) → Rests (state g old) (state g new)
+    pub survives : Survives (state g old) (state g new) (λ _. ⊥)
+    pub idle : new.in_transaction ≡ false
+
+-- a row is read and put behind others
+abbrev pub AddsRow : {A : Type 0} → List Form → (A → Row) → List A → Row → List A → Type 0
+AddsRow forms shown old row new = (one : _) × (new ≡ old ++ one ∷ []) × (shown one ≡ first_columns (length forms) row) × IsTyped forms row
 
 -- these are all rows of the table, each once, where the schema begins with the tables of the format since which it is there
 abbrev pub GivesTable : {S A Z : Type 0} → Ghosts S → Format → (Trees → List Row) → (A → Row) → Result (Vec A Z) ReadFault → Held S → Held S → Type 0

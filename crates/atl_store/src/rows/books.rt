@@ -14,6 +14,7 @@ use crate::rows::columns::two_integers;
 use crate::rows::stored::{Listed, Placed, Stored, read_all};
 use crate::statement::run;
 use atl_state::parts::StoredBooks;
+use atl_tables::Format;
 use sqlite::{Alter, Connection, Error, Row, Transaction, params};
 use std::alloc::Global;
 
@@ -85,6 +86,7 @@ impl Listed for Placed<StoredBooks> {
         read_all(
             alloc,
             conn,
+            Format::First,
             "SELECT entry, thing, amount, rowid FROM books ORDER BY entry, thing",
         )
     }

@@ -21,6 +21,7 @@ use crate::rows::columns::{letters, three_integers, words};
 use crate::rows::stored::{Listed, Stored, read_all, select};
 use crate::statement::run;
 use atl_state::parts::StoredHead;
+use atl_tables::Format;
 use sqlite::{Alter, Connection, Error, Row, Transaction, params};
 use std::alloc::Global;
 
@@ -163,6 +164,6 @@ impl Listed for StoredCampaign {
         alloc: Global,
         conn: &mut Connection<S>,
     ) -> Result<Vec<StoredCampaign>, ReadFault> {
-        read_all(alloc, conn, ALL)
+        read_all(alloc, conn, Format::First, ALL)
     }
 }

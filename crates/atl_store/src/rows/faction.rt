@@ -15,7 +15,7 @@ use crate::rows::stored::{Listed, Stored, read_all};
 use crate::statement::run;
 use atl_state::parts::StoredFaction;
 use atl_state::{Campaign, Faction};
-use atl_tables::MarkedNumbers;
+use atl_tables::{Format, MarkedNumbers};
 use sqlite::{Alter, Connection, Error, Row, Transaction, params};
 use std::alloc::Global;
 
@@ -96,6 +96,7 @@ impl Listed for StoredFaction {
         read_all(
             alloc,
             conn,
+            Format::First,
             "SELECT number, joined_as, name, pass, gone FROM faction ORDER BY number",
         )
     }

@@ -14,6 +14,7 @@ use crate::rows::columns::{three_integers, two_integers};
 use crate::rows::stored::{Listed, Placed, Stored, read_all};
 use crate::statement::run;
 use atl_state::parts::StoredHas;
+use atl_tables::Format;
 use sqlite::{Alter, Connection, Error, Row, Transaction, params};
 use std::alloc::Global;
 
@@ -117,6 +118,7 @@ impl Listed for Placed<StoredHas> {
         read_all(
             alloc,
             conn,
+            Format::First,
             "SELECT unit, sort, thing, amount, rowid FROM has ORDER BY unit, sort, thing",
         )
     }

@@ -16,7 +16,7 @@ use crate::rows::stored::{Listed, Stored, read_all};
 use crate::statement::run;
 use atl_state::Campaign;
 use atl_state::parts::StoredMail;
-use atl_tables::{MarkedNumbers, Sequence};
+use atl_tables::{Format, MarkedNumbers, Sequence};
 use sqlite::{Alter, Connection, Error, Row, Transaction, params};
 use std::alloc::Global;
 
@@ -94,6 +94,7 @@ impl Listed for StoredMail {
         read_all(
             alloc,
             conn,
+            Format::First,
             "SELECT faction, text FROM mail ORDER BY faction",
         )
     }

@@ -13,6 +13,7 @@ use crate::rows::columns::two_integers;
 use crate::rows::stored::{Listed, Placed, Stored, read_all};
 use crate::statement::run;
 use atl_state::parts::StoredMarket;
+use atl_tables::Format;
 use sqlite::{Alter, Connection, Error, Row, Transaction, params};
 use std::alloc::Global;
 
@@ -70,6 +71,7 @@ impl Listed for Placed<StoredMarket> {
         read_all(
             alloc,
             conn,
+            Format::Second,
             "SELECT region, item, stock, rowid FROM market ORDER BY region, item",
         )
     }

@@ -15,7 +15,7 @@ use crate::rows::stored::{Listed, Stored, read_all};
 use crate::statement::run;
 use atl_state::parts::StoredRegion;
 use atl_state::{Campaign, Region};
-use atl_tables::MarkedNumbers;
+use atl_tables::{Format, MarkedNumbers};
 use sqlite::{Alter, Connection, Error, Row, Transaction, params};
 use std::alloc::Global;
 
@@ -84,6 +84,7 @@ impl Listed for StoredRegion {
         read_all(
             alloc,
             conn,
+            Format::First,
             "SELECT number, peasants, money FROM region ORDER BY number",
         )
     }

@@ -15,7 +15,7 @@ use crate::rows::stored::{Listed, Stored, read_all};
 use crate::statement::run;
 use atl_state::Campaign;
 use atl_state::parts::StoredReport;
-use atl_tables::{MarkedNumbers, Text};
+use atl_tables::{Format, MarkedNumbers, Text};
 use sqlite::{Alter, Connection, Error, Row, Transaction, params};
 use std::alloc::Global;
 
@@ -85,6 +85,7 @@ impl Listed for StoredReport {
         read_all(
             alloc,
             conn,
+            Format::First,
             "SELECT faction, text FROM report ORDER BY faction",
         )
     }

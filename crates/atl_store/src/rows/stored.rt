@@ -1,14 +1,19 @@
 //! Rows as they are read.
-ghost use Rattle.std.specs.Prelude.{◌≡◌, ◌≢◌, ℕ, List, map, length, false, not, IsTrue, IfOk, IfErr};
+ghost use Rattle.std.specs.Prelude.{◌≡◌, ◌≢◌, ℕ, List, map, length, false, true, not, IsTrue, IfOk, IfErr};
+ghost use Rattle.sqlite.specs.Given.{IsPlain};
+ghost use Rattle.sqlite.specs.Listing.{understood};
 ghost use Rattle.sqlite.specs.Order.{Row as SqlRow};
 ghost use Rattle.sqlite_trees.specs.Tree.{Trees};
 ghost use Rattle.atl_tables.specs.declared.format.Format.{Format};
 ghost use Rattle.atl_store.specs.Faults.{is_memory};
-ghost use Rattle.atl_store.specs.Reading.{Asks, GivesTable, ReadsRows};
+ghost use Rattle.atl_store.specs.Reading.{AddsRow, Asks, GivesTable, ReadsRows, Streams};
 ghost use Rattle.atl_store.specs.Stored.{Form, first_columns, IsTyped, AreTyped};
+ghost use Rattle.atl_store.specs.Tables.{HasTablesOf};
 ghost use Rattle.atl_store.specs.declared.fault.ReadFault.TheVariants.{Memory, OtherType};
 
 use crate::fault::{ReadFault, unread};
+use crate::schema::has_tables_of;
+use atl_tables::Format;
 use sqlite::{Alter, Connection, Error, Row};
 use std::alloc::Global;
 
@@ -81,8 +86,42 @@ pub(crate) fn select<S: Alter>(conn: &mut Connection<S>, sql: &str) -> Result<Ve
     Ok(rows)
 }
 
-/// All rows that a SELECT shows, each read.
-pub(crate) fn read_all<T: Stored, S: Alter>(
+/// Reads a row and puts it behind others. Tells whether that could be done: a value may be of another type, or memory be wanting.
+fn push_row<T: Stored>(alloc: Global, all: &mut Vec<T>, row: &Row) -> bool
+    ensures { result ≡ true → AddsRow T.forms T.shown all.old.items row.now all.new.items }
+{
+    match T::from_row(alloc, row) {
+        Ok(stored) => all.push(stored).is_ok(),
+        Err(_) => false,
+    }
+}
+
+/// All rows that a query shows, each read as it comes. There is none where one of them couldn't be read or kept. Nothing is
+/// changed.
+fn stream<T: Stored, S: Alter>(
+    alloc: Global,
+    conn: &mut Connection<S>,
+    sql: &str,
+) -> Result<Option<Vec<T>>, ReadFault>
+    requires idle { conn.old.in_transaction ≡ false }
+    requires plain { IsPlain (understood conn.old.schema sql.now) }
+    ensures { Streams S.Store sql.now conn.old T.Stored.forms T.Stored.shown result conn.new }
+{
+    let mut all = Vec::new(alloc);
+    let mut rows = conn.query(sql, &[])?;
+    'rows: for _ in 0..u64::MAX {
+        let Some(row) = rows.next()? else {
+            return Ok(Some(all));
+        };
+        if !push_row(alloc, &mut all, row) {
+            return Ok(None);
+        }
+    }
+    Ok(None)
+}
+
+/// All rows that a SELECT shows, whatever it means, each read.
+fn read_inside<T: Stored, S: Alter>(
     alloc: Global,
     conn: &mut Connection<S>,
     sql: &str,
@@ -92,4 +131,25 @@ pub(crate) fn read_all<T: Stored, S: Alter>(
 {
     let rows = select(conn, sql)?;
     parse_rows(alloc, rows.as_slice())
+}
+
+/// All rows that a SELECT shows, each read. Where the tables are those of a format under which it is a mere query, they are
+/// read as they come, and else after all have come, so that the fault is told that comes first.
+pub(crate) fn read_all<T: Stored, S: Alter>(
+    alloc: Global,
+    conn: &mut Connection<S>,
+    since: Format,
+    sql: &str,
+) -> Result<Vec<T>, ReadFault>
+    requires idle { conn.old.in_transaction ≡ false }
+    requires plain { HasTablesOf since conn.old.schema → IsPlain (understood conn.old.schema sql.now) }
+    ensures { ReadsRows S.Store sql.now conn.old T.Stored.forms T.Stored.shown result conn.new }
+{
+    if !has_tables_of(conn.schema(), since) {
+        return read_inside(alloc, conn, sql);
+    }
+    match stream(alloc, conn, sql)? {
+        Some(all) => Ok(all),
+        None => read_inside(alloc, conn, sql),
+    }
 }

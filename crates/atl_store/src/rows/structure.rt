@@ -15,7 +15,7 @@ use crate::rows::stored::{Listed, Stored, read_all};
 use crate::statement::run;
 use atl_state::parts::StoredStructure;
 use atl_state::{Campaign, Structure};
-use atl_tables::MarkedNumbers;
+use atl_tables::{Format, MarkedNumbers};
 use sqlite::{Alter, Connection, Error, Row, Transaction, params};
 use std::alloc::Global;
 
@@ -100,6 +100,7 @@ impl Listed for StoredStructure {
         read_all(
             alloc,
             conn,
+            Format::First,
             "SELECT number, kind, name, region, done, owner FROM structure ORDER BY number",
         )
     }

@@ -16,7 +16,7 @@ use crate::rows::stored::{Listed, Stored, read_all};
 use crate::statement::run;
 use atl_state::parts::StoredUnit;
 use atl_state::{Campaign, SlotEntries, Unit};
-use atl_tables::MarkedNumbers;
+use atl_tables::{Format, MarkedNumbers};
 use sqlite::{Alter, Connection, Error, Row, Transaction, params};
 use std::alloc::Global;
 
@@ -115,6 +115,7 @@ impl Listed for StoredUnit {
         read_all(
             alloc,
             conn,
+            Format::First,
             "SELECT number, faction, name, region, structure, men, money, guard FROM unit ORDER BY number",
         )
     }

@@ -1,8 +1,16 @@
 use Rattle.std.proofs.Common.{sym, ◌∙◌, true≢false}
-use Rattle.atl_store.specs.Faults.{new_world_fault}
+use Rattle.atl_store.specs.Faults.{first_fault, new_world_fault}
 use Rattle.atl_store.specs.Upgrading.{FailsCheck}
-use Rattle.atl_store.proofs.UpgradedLaws.{fails_to_read, loaded_old, other_world, told_as}
+use Rattle.atl_store.proofs.UpgradedLaws.{fails_to_read, loaded_old, other_world, told_as, unloaded}
 use Rattle.atl_store.proofs.upgrading.prepared.Goals as goal
+
+pub returns-in_err-old_world-clause-err : goal.returns-in_err-old_world-clause-err
+returns-in_err-old_world-clause-err g c clean =
+    let old = c.args.conn.now in
+    let mid = c.load_as.new.conn in
+    let text = c.args.new_world.now in
+    let fault = c.in_err-old_world.field-0.0 in
+    told_as (FailsCheck g.S.Store text old mid) c.from_residual.result (first_fault fault) c.from_residual.ensures.1 (unloaded g.S.Store text old mid fault (c.in_err-old_world.ensures.err clean))
 
 pub returns-in_err-world-clause-err : goal.returns-in_err-world-clause-err
 returns-in_err-world-clause-err g c clean =

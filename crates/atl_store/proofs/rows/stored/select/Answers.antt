@@ -1,4 +1,5 @@
-use Rattle.std.proofs.Common.{rules}
+use Rattle.std.proofs.Common.{Ok, subst, rules}
+use Rattle.atl_store.specs.Reading.{Asks}
 use Rattle.sqlite_trees.specs.View.{doubt}
 use Rattle.sqlite.specs.State.{Shown}
 use Rattle.atl_store.proofs.SelectingLaws.{showed, told}
@@ -9,7 +10,7 @@ unfolding doubt Shown
 returns g c =
     let whole = showed g.S.Store c.args.sql.now c.args.conn.now c.transaction-tx.result.conn.now c.query_all.new.self.conn.now c.rollback.new.self.0 c.transaction-tx.ensures.begun c.rollback.ensures.ended
     c.query_all.ensures.survives c.rollback.ensures.undone c.rollback.ensures.survives c.in_ok-rows.rows c.in_ok-rows.ensures.ok in
-    search (rules, whole)
+    subst (Asks g.S.Store c.args.sql.now c.args.conn.now (Ok c.in_ok-rows.rows)) (search rules) whole
 
 pub returns-in_err-rows : goal.returns-in_err-rows
 returns-in_err-rows g c =

@@ -3,8 +3,11 @@ use Rattle.atl_store.specs.Tables.{campaign_table}
 use Rattle.atl_store.specs.Sets.{rows_in}
 use Rattle.atl_store.specs.StoredRows.{campaign_forms}
 use Rattle.atl_store.proofs.RowsLaws.{gives_table}
-use Rattle.atl_store.proofs.SelectLaws.{reads_campaign}
+use Rattle.atl_store.proofs.SelectLaws.{reads_campaign, campaign_plain}
 use Rattle.atl_store.proofs.rows.campaign.StoredCampaignListed.read.Goals as goal
 
 pub returns-clause-table : goal.returns-clause-table
 returns-clause-table g c = gives_table g.S.Store _ _ _ campaign_forms _ _ First (rows_in campaign_table) reads_campaign c.read_all.ensures
+
+pub read_all-requires-clause-plain : goal.read_all-requires-clause-plain
+read_all-requires-clause-plain g c = campaign_plain c.args.conn.now.schema

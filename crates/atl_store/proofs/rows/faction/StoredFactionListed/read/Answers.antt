@@ -3,8 +3,11 @@ use Rattle.atl_store.specs.Tables.{faction_table}
 use Rattle.atl_store.specs.Sets.{rows_in}
 use Rattle.atl_store.specs.StoredRows.{faction_forms}
 use Rattle.atl_store.proofs.RowsLaws.{gives_table}
-use Rattle.atl_store.proofs.SelectLaws.{reads_faction}
+use Rattle.atl_store.proofs.SelectLaws.{reads_faction, faction_plain}
 use Rattle.atl_store.proofs.rows.faction.StoredFactionListed.read.Goals as goal
 
 pub returns-clause-table : goal.returns-clause-table
 returns-clause-table g c = gives_table g.S.Store _ _ _ faction_forms _ _ First (rows_in faction_table) reads_faction c.read_all.ensures
+
+pub read_all-requires-clause-plain : goal.read_all-requires-clause-plain
+read_all-requires-clause-plain g c = faction_plain c.args.conn.now.schema

@@ -3,8 +3,11 @@ use Rattle.atl_store.specs.Tables.{mail_table}
 use Rattle.atl_store.specs.Sets.{rows_in}
 use Rattle.atl_store.specs.StoredRows.{mail_forms}
 use Rattle.atl_store.proofs.RowsLaws.{gives_table}
-use Rattle.atl_store.proofs.SelectLaws.{reads_mail}
+use Rattle.atl_store.proofs.SelectLaws.{reads_mail, mail_plain}
 use Rattle.atl_store.proofs.rows.mail.StoredMailListed.read.Goals as goal
 
 pub returns-clause-table : goal.returns-clause-table
 returns-clause-table g c = gives_table g.S.Store _ _ _ mail_forms _ _ First (rows_in mail_table) reads_mail c.read_all.ensures
+
+pub read_all-requires-clause-plain : goal.read_all-requires-clause-plain
+read_all-requires-clause-plain g c = mail_plain c.args.conn.now.schema

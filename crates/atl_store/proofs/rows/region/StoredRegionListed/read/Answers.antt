@@ -3,8 +3,11 @@ use Rattle.atl_store.specs.Tables.{region_table}
 use Rattle.atl_store.specs.Sets.{rows_in}
 use Rattle.atl_store.specs.StoredRows.{region_forms}
 use Rattle.atl_store.proofs.RowsLaws.{gives_table}
-use Rattle.atl_store.proofs.SelectLaws.{reads_region}
+use Rattle.atl_store.proofs.SelectLaws.{reads_region, region_plain}
 use Rattle.atl_store.proofs.rows.region.StoredRegionListed.read.Goals as goal
 
 pub returns-clause-table : goal.returns-clause-table
 returns-clause-table g c = gives_table g.S.Store _ _ _ region_forms _ _ First (rows_in region_table) reads_region c.read_all.ensures
+
+pub read_all-requires-clause-plain : goal.read_all-requires-clause-plain
+read_all-requires-clause-plain g c = region_plain c.args.conn.now.schema

@@ -3,8 +3,11 @@ use Rattle.atl_store.specs.Tables.{structure_table}
 use Rattle.atl_store.specs.Sets.{rows_in}
 use Rattle.atl_store.specs.StoredRows.{structure_forms}
 use Rattle.atl_store.proofs.RowsLaws.{gives_table}
-use Rattle.atl_store.proofs.SelectLaws.{reads_structure}
+use Rattle.atl_store.proofs.SelectLaws.{reads_structure, structure_plain}
 use Rattle.atl_store.proofs.rows.structure.StoredStructureListed.read.Goals as goal
 
 pub returns-clause-table : goal.returns-clause-table
 returns-clause-table g c = gives_table g.S.Store _ _ _ structure_forms _ _ First (rows_in structure_table) reads_structure c.read_all.ensures
+
+pub read_all-requires-clause-plain : goal.read_all-requires-clause-plain
+read_all-requires-clause-plain g c = structure_plain c.args.conn.now.schema
