@@ -64,7 +64,7 @@ module _ {S : Type 0} (g : Ghosts S) (sql : List ℕ) (old begun mid end : Held 
 
   -- it is asked of the tables as they were
   asked : IsAsked (state g old) (state g begun)
-  asked = subst (λ h. IsAsked (state g old) (state g h)) (sym begins) (record { was_open = λ up. up; same = refl })
+  asked = subst (λ h. IsAsked (state g old) (state g h)) (sym begins) (record { was_open = λ up. up; same = refl; limit = refl })
 
   -- it showed rows
   pub showed : {Z : Type 0} (rows : Vec Row Z) → (HasCleanDisk (state g mid) → Shown sql [] (state g begun) (state g mid) rows.items) → Asks g sql old {Z = Z} (Ok rows) end

@@ -21,8 +21,8 @@ use Rattle.atl_store.proofs.ConfirmLaws.{refused_rests, rests_unchanged}
 use Rattle.atl_store.proofs.KeepLaws.{survives_more, if_ok, if_err}
 use Rattle.atl_store.proofs.SelectingLaws.{never_other}
 
-pub asked_unchanged : (old now : State) → IsUnchanged old now → IsAsked old now
-asked_unchanged old now h = record { was_open = λ _. h.0.was_open; same = h.0.now_is }
+asked_unchanged : (old now : State) → IsUnchanged old now → Survives old now (λ _. ⊥) → IsAsked old now
+asked_unchanged old now h survives = record { was_open = λ _. h.0.was_open; same = h.0.now_is; limit = survives.limit }
 
 -- what came before changed nothing
 pub rests_then : (old mid new : State) → IsUnchanged old mid → Rests mid new → Rests old new
@@ -46,7 +46,7 @@ rests_both old mid new one two = record {
 }
 
 asked_then : (old mid new : State) → IsAsked old mid → IsAsked mid new → IsAsked old new
-asked_then old mid new one two = record { was_open = λ up. one.was_open (two.was_open up); same = two.same ∙ one.same }
+asked_then old mid new one two = record { was_open = λ up. one.was_open (two.was_open up); same = two.same ∙ one.same; limit = two.limit ∙ one.limit }
 
 pub commits_nothing : (sql : List ℕ) (old new : State) → IsPlain (understood old.now.schema sql) → Survives old new (CommitsShowing sql [] old) → Survives old new (λ _. ⊥)
 commits_nothing sql old new plain = survives_weaker old new _ _ (λ _ db. never_commits sql [] old db plain)
@@ -83,11 +83,22 @@ module _ {S : Type 0} (g : Ghosts S) (sql : List ℕ) (old : Held S) where
     not_begun now e (Ok read) plain told err idle survives = absurd told
     not_begun now e (Err fault) plain told err idle survives = record {
       rows = λ _. tt;
-      refused = λ clean. (old, now, e, record { was_open = λ up. up; same = refl }, err clean, told);
+      refused = λ clean. (old, now, e, record { was_open = λ up. up; same = refl; limit = refl }, err clean, told);
       same = λ _. tt;
       rests = λ clean. refused_rests sql (state g old) (state g now) plain e (err clean);
       survives = commits_nothing sql (state g old) (state g now) plain survives;
       idle = idle;
+    }
+
+    -- it is given up
+    pub given_up : {Z : Type 0} (given : List Row) (now : Held S) → IsGiving g sql old given now → Streams g sql old {Z = Z} forms shown (Ok None) now
+    given_up given now giving = record {
+      rows = λ _. tt;
+      refused = λ _. tt;
+      same = λ clean. asked_unchanged (state g old) (state g now) (giving.given_so clean).1 giving.survives;
+      rests = λ clean. rests_unchanged (state g old) (state g now) (giving.given_so clean).1;
+      survives = giving.survives;
+      idle = giving.idle;
     }
 
   module _ (given : List Row) (mid now : Held S) (giving : IsGiving g sql old given mid) (survives : Survives (state g mid) (state g now) (λ _. ⊥)) (idle : mid.in_transaction ≡ false → now.in_transaction ≡ false) where
@@ -106,7 +117,7 @@ module _ {S : Type 0} (g : Ghosts S) (sql : List ℕ) (old : Held S) where
       not_advanced e (Ok read) plain told err = absurd told
       not_advanced e (Err fault) plain told err = record {
         rows = λ _. tt;
-        refused = λ clean. (mid, now, e, asked_unchanged (state g old) (state g mid) (same_before clean), err clean sql [] given (giving.given_so (clean_before clean)).0, told);
+        refused = λ clean. (mid, now, e, asked_unchanged (state g old) (state g mid) (same_before clean) giving.survives, err clean sql [] given (giving.given_so (clean_before clean)).0, told);
         same = λ _. tt;
         rests = λ clean.
             let same = same_before clean in
@@ -120,9 +131,9 @@ module _ {S : Type 0} (g : Ghosts S) (sql : List ℕ) (old : Held S) where
       pub ended : {Z : Type 0} (all : Vec A Z) → map shown all.items ≡ map (first_columns (length forms)) given → AreTyped forms given → (HasCleanDisk (state g now) → Advances g mid now None) → (HasCleanDisk (state g now) → IsUnchanged (state g mid) (state g now))
           → Streams g sql old forms shown (Ok (Some all)) now
       ended all read typed done same = record {
-        rows = λ clean. (given, (mid, now, asked_unchanged (state g old) (state g mid) (same_before clean), done clean sql [] given (giving.given_so (clean_before clean)).0), read, typed);
+        rows = λ clean. (given, (mid, now, asked_unchanged (state g old) (state g mid) (same_before clean) giving.survives, done clean sql [] given (giving.given_so (clean_before clean)).0), read, typed);
         refused = λ _. tt;
-        same = λ clean. asked_unchanged (state g old) (state g now) (unchanged_then (state g old) (state g mid) (state g now) (same_before clean) (same clean));
+        same = λ clean. asked_unchanged (state g old) (state g now) (unchanged_then (state g old) (state g mid) (state g now) (same_before clean) (same clean)) survived;
         rests = λ clean. rests_unchanged (state g old) (state g now) (unchanged_then (state g old) (state g mid) (state g now) (same_before clean) (same clean));
         survives = survived;
         idle = idle giving.idle;

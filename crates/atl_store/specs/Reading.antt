@@ -21,10 +21,11 @@ pub record Rests (old new : State) : Type 0 where
   pub was_open : IsTrue new.is_open → IsTrue old.is_open
   pub same : IsTrue new.is_open → ((new.now ≡ old.committed) ⊎ (new.now ≡ old.now)) × (new.committed ≡ old.committed)
 
--- the connection as a SELECT is asked, of the same tables
+-- the connection as a SELECT is asked: of the same tables, with as many steps
 pub record IsAsked (old before : State) : Type 0 where
   pub was_open : IsTrue before.is_open → IsTrue old.is_open
   pub same : before.now ≡ old.now
+  pub limit : before.step_limit ≡ old.step_limit
 
 module _ {S : Type 0} (g : Ghosts S) (sql : List ℕ) (old : Held S) where
   -- what the SELECT shows
@@ -35,7 +36,7 @@ module _ {S : Type 0} (g : Ghosts S) (sql : List ℕ) (old : Held S) where
   abbrev pub RefusesToSelect : ReadFault → Type 0
   RefusesToSelect fault = (before during : Held S) × (e : Error) × IsAsked (state g old) (state g before) × FailsToQuery sql [] (state g before) (state g during) e × (fault ≡ read_fault e)
 
-  -- The SELECT is asked, whatever schema the database has. It runs in a transaction of its own, which is rolled back.
+  -- The SELECT is asked, whatever schema the database has, and nothing is changed.
   pub record Asks {Z : Type 0} (result : Result (Vec Row Z) ReadFault) (new : Held S) : Type 0 where
     pub rows : HasCleanDisk (state g new) → IfOk result (λ rows. Selects rows.items)
     pub refused : HasCleanDisk (state g new) → IfErr result RefusesToSelect

@@ -1,6 +1,6 @@
-use Rattle.std.proofs.Common.{Ok, Some, ◌++◌, ◌∷◌, [], subst, rules}
+use Rattle.std.proofs.Common.{Ok, Some, None, ◌++◌, ◌∷◌, [], subst, rules}
 use Rattle.atl_store.specs.Reading.{Streams}
-use Rattle.atl_store.proofs.StreamLaws.{not_begun, not_advanced, ended, giving_more, read_more, typed_more}
+use Rattle.atl_store.proofs.StreamLaws.{not_begun, not_advanced, ended, given_up, giving_more, read_more, typed_more}
 use Rattle.atl_store.proofs.rows.stored.stream.Goals as goal
 
 pub returns-in_err-rows : goal.returns-in_err-rows
@@ -26,6 +26,20 @@ returns-in_default g c =
     subst (Streams g.S.Store c.args.sql.now c.args.conn.now g.T.Stored.forms g.T.Stored.shown (Ok (Some c.rows.all))) (search rules)
     (ended g.S.Store c.args.sql.now c.args.conn.now before.given c.rows.rows.conn.now now before.giving moved.survives moved.mode g.T.Stored.forms g.T.Stored.shown c.rows.all before.read before.typed
     (rw (c.in_ok-row.was, c.in_default.is) at moved.ok) (rw c.in_ok-row.was at moved.same))
+
+pub returns-then-not-push_row : goal.returns-then-not-push_row
+returns-then-not-push_row g c =
+    let moved = c.next.follows.holds-at-none in
+    let now = c.next.follows.lender-at-none.conn.now in
+    let before = c.rows.invariant in
+    let row = c.in-Some.row.now in
+    let giving = giving_more g.S.Store c.args.sql.now c.args.conn.now before.given c.rows.rows.conn.now now before.giving moved.survives moved.mode row (rw (c.in_ok-row.was, c.in-Some.is) at moved.ok) (rw c.in_ok-row.was at moved.same) in
+    subst (Streams g.S.Store c.args.sql.now c.args.conn.now g.T.Stored.forms g.T.Stored.shown (Ok None)) (search rules) (given_up g.S.Store c.args.sql.now c.args.conn.now g.T.Stored.forms g.T.Stored.shown (before.given ++ row ∷ []) now giving)
+
+pub returns : goal.returns
+returns g c =
+    let before = c.rows.invariant in
+    subst (Streams g.S.Store c.args.sql.now c.args.conn.now g.T.Stored.forms g.T.Stored.shown (Ok None)) (search rules) (given_up g.S.Store c.args.sql.now c.args.conn.now g.T.Stored.forms g.T.Stored.shown before.given c.rows.rows.conn.now before.giving)
 
 pub rows-preserved : goal.rows-preserved
 rows-preserved g c =
