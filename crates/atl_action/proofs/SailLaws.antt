@@ -39,6 +39,7 @@ use Rattle.atl_instant.specs.Outcomes.{first_fault, unless}
 use Rattle.atl_instant.specs.PhaseOrders.{Task, orders_of}
 use Rattle.atl_instant.specs.Steps.{IsOrderly, IsSpared, IsSparing, StepsWell, carried, carried_out, done_for, of_faction, one_order, ordered, spares_others}
 use Rattle.atl_instant.specs.Unbooked.{books_nothing, moves_nothing}
+use Rattle.atl_instant.proofs.MeaningLaws.{same_month_by}
 use Rattle.atl_instant.proofs.OutcomeLaws.{false_true, none_fits}
 use Rattle.atl_instant.proofs.RefitLaws.{under}
 use Rattle.atl_instant.proofs.StructureLaws.{at_number, changed_else, equal, get-changed, len-changed}
@@ -266,7 +267,7 @@ module _ (w : WorldValue) (c : CampaignValue) (ship to : ℕ) (steady : IsSteady
     sailed_well =
         subst (StepsWell IsSteady books_nothing w c) (sym sailed_is)
         (stays_well IsSteady w c behind (steady-travelled w c units structures f g are steady)
-        (record { month = refl; reports = refl; count = refl; factions = λ k there. there }) refl (total_people c behind (all_people ship to c.units ns) refl))
+        (same_month_by refl) refl (total_people c behind (all_people ship to c.units ns) refl))
 
   -- ---- what stays of each unit
 

@@ -37,6 +37,7 @@ use Rattle.atl_instant.specs.Meaning.{HasRoom, HaveRoom, moves_only}
 use Rattle.atl_instant.specs.Outcomes.{unless}
 use Rattle.atl_instant.specs.Steps.{IsDrawn, IsOrderly, IsOwnOrder, IsSpared, IsSparing, StepsWell}
 use Rattle.atl_state.proofs.HeldLaws.{every_amount}
+use Rattle.atl_instant.proofs.MeaningLaws.{same_month_by}
 use Rattle.atl_instant.proofs.BookingLaws.{booked-near, within-neg}
 use Rattle.atl_instant.proofs.OutcomeLaws.{none_fits, not_less}
 use Rattle.atl_instant.proofs.QuitLaws.{quit_orderly}
@@ -118,7 +119,7 @@ module _ (w : WorldValue) (c : CampaignValue) (n : ℕ) (u : Unit) (s cost days 
   studied_well : s < length w.skills → days ≤ most_days * u.holding.men → StepsWell IsSteady study_reserve w c behind
   studied_well known most = record {
     holds_still = steady_behind known most;
-    same_month = record { month = refl; reports = refl; count = refl; factions = λ k there. there };
+    same_month = same_month_by refl;
     balances = balanced;
     drawn = drawn;
   }

@@ -30,6 +30,7 @@ use Rattle.atl_instant.specs.Outcomes.{unless}
 use Rattle.atl_instant.specs.Staying.{IsNoWorse}
 use Rattle.atl_instant.specs.Steps.{IsOrderly, IsOwnOrder, StepsWell}
 use Rattle.atl_instant.specs.Unbooked.{books_nothing, moves_nothing}
+use Rattle.atl_instant.proofs.MeaningLaws.{same_month_by}
 use Rattle.atl_instant.proofs.OutcomeLaws.{false_true, none_fits}
 use Rattle.atl_instant.proofs.PlacingLaws.{owns_no_other, place_stays}
 use Rattle.atl_instant.proofs.StructureLaws.{changed_else, equal, get-handed, handed_is, handed_on, len-handed}
@@ -165,7 +166,7 @@ module _ (w : WorldValue) (c : CampaignValue) (n : ℕ) (u : Unit) (to : ℕ) (i
       behind_well : StepsWell IsSteady books_nothing w c behind
       behind_well =
           stays_well IsSteady w c behind (steady-travelled w c units structures f g are steady)
-          (record { month = refl; reports = refl; count = refl; factions = λ k there. there }) refl (total_people c behind same_people refl)
+          (same_month_by refl) refl (total_people c behind same_people refl)
 
   -- ---- a unit that was inside no structure
 

@@ -5,10 +5,10 @@ ghost use Rattle.atl_action.specs.StudyAlone.{UnitsStudyAsBegun};
 use crate::learners::learners;
 use crate::study::Studying;
 use crate::teach::teach_all;
-use atl_instant::{Month, Phase, carry_out_orders};
+use atl_instant::{Month, Phase, Ran, carry_out_orders};
 use atl_state::Campaign;
 use atl_tables::World;
-use std::alloc::{AllocError, Global};
+use std::alloc::Global;
 
 /// People study skills for a fee, and others teach them. All teach before anybody studies. See docs/RULES.md, "Learning".
 #[derive(Drop, Clone, Copy)]
@@ -21,13 +21,7 @@ impl Phase for LearnPhase {
 
     ghost keeps = { learn_keeps };
 
-    fn run(
-        &self,
-        alloc: Global,
-        world: &World,
-        mut campaign: Campaign,
-        mut month: Month,
-    ) -> Result<(Campaign, Month), AllocError> {
+    fn run(&self, alloc: Global, world: &World, mut campaign: Campaign, mut month: Month) -> Ran {
         let learning = learners(alloc, world, &campaign, &month)?;
         let taught = teach_all(alloc, &campaign, &mut month, &learning)?;
         let studying = Studying { taught };

@@ -12,7 +12,7 @@ ghost use Rattle.atl_action.specs.Sail.{IsCarried, capacity, concerns_nobody, cr
 
 use crate::ways::is_region;
 use atl_instant::{
-    Month, OrderPhase, Phase, PhaseVerbs, Written, carry_out_orders, failed, own_unit,
+    Month, OrderPhase, Phase, PhaseVerbs, Ran, Written, carry_out_orders, failed, own_unit,
 };
 use atl_orders::{Direction, Mailing, Order, Verb};
 use atl_state::{Campaign, EventFault, Holding, Outcome, Structure, Unit, level_in_any, load};
@@ -275,13 +275,7 @@ impl Phase for SailPhase {
 
     ghost keeps = { sail_keeps };
 
-    fn run(
-        &self,
-        alloc: Global,
-        world: &World,
-        mut campaign: Campaign,
-        mut month: Month,
-    ) -> Result<(Campaign, Month), AllocError> {
+    fn run(&self, alloc: Global, world: &World, mut campaign: Campaign, mut month: Month) -> Ran {
         carry_out_orders(alloc, self, world, &mut campaign, &mut month)?;
         Ok((campaign, month))
     }

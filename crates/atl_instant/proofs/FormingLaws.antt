@@ -27,6 +27,7 @@ use Rattle.atl_state.proofs.TotalLaws.{total-with_unit}
 use Rattle.atl_instant.specs.Form.{is_unit_limit, new_unit}
 use Rattle.atl_instant.specs.Steps.{StepsWell}
 use Rattle.atl_instant.specs.Unbooked.{books_nothing}
+use Rattle.atl_instant.proofs.MeaningLaws.{same_month_by}
 use Rattle.atl_instant.proofs.UnbookedLaws.{unbooked_well}
 use Rattle.atl_state.proofs.NumberedNameLaws.{unit_name_ok}
 
@@ -168,7 +169,7 @@ module _ (w : WorldValue) (c : CampaignValue) (p : ℕ) (u : Unit) (is : get c.u
   same_total t = none_more (total begun t) (total c t) (held t child.holding) (total-with_unit c c.next_unit child t free) (nothing_held t)
 
   pub begun_well : is_unit_limit c ≡ false → StepsWell IsEarly books_nothing w c begun
-  begun_well limit = unbooked_well w c begun (early_begun limit) (record { month = refl; reports = refl; count = refl; factions = λ k there. there }) refl same_total
+  begun_well limit = unbooked_well w c begun (early_begun limit) (same_month_by refl) refl same_total
 
   pub begun_stays : Every (λ n v. get begun.units n ≡ Some v) c.units
   begun_stays = unit_stays

@@ -29,6 +29,7 @@ use Rattle.atl_instant.specs.Staying.{IsNoWorse}
 use Rattle.atl_instant.specs.PhaseOrders.{Task}
 use Rattle.atl_instant.specs.Steps.{IsOrderly, IsSpared, IsUnitOf, StepsWell}
 use Rattle.atl_state.proofs.HavingLaws.{may_have, steady-having}
+use Rattle.atl_instant.proofs.MeaningLaws.{same_month_by}
 use Rattle.atl_instant.proofs.OutcomeLaws.{none_fits, not_apart}
 use Rattle.atl_instant.proofs.StayingLaws.{no_worse}
 use Rattle.atl_instant.proofs.StepLaws.{drawn_same, no_worse_spares, well_same}
@@ -107,7 +108,7 @@ module _ (c : CampaignValue) (n : ℕ) (u : Unit) (is : get c.units n ≡ Some u
     flag_steps_well none steady =
         subst (λ d. StepsWell IsSteady (λ d e t. 0) w c d) (sym flagged_is) (record {
           holds_still = steady-flagged none steady;
-          same_month = record { month = refl; reports = refl; count = refl; factions = λ k there. there };
+          same_month = same_month_by refl;
           balances = λ old t. ap pos (total_same t) ∙ old t;
           drawn = λ e t. drawn_same 0 (amount_in c.books e t);
         })

@@ -1,6 +1,8 @@
 -- What several steps leave, each of which leaves a campaign well.
-use Rattle.std.proofs.Common.{◌≡◌, ℕ, ◌+◌, ◌*◌, ◌≤◌, List, [], ◌∷◌, length, refl, sym, ◌∙◌, arith}
+use Rattle.std.proofs.Common.{◌≡◌, ℕ, ◌+◌, ◌*◌, ◌≤◌, List, [], ◌∷◌, length, refl, sym, ap, subst, ◌∙◌, arith}
 use Rattle.std.specs.Prelude.{ℤ, fold}
+use Rattle.std.specs.Ordering.{nat_cmp}
+use Rattle.std.specs.FinMap.{FinMap, len}
 use Rattle.std.proofs.lemmas.Int.{ints}
 use Rattle.std.proofs.Math.Nat.{suc-mul}
 use Rattle.atl_tables.specs.Worlds.{WorldValue}
@@ -8,7 +10,8 @@ use Rattle.atl_state.specs.Campaign.{CampaignValue}
 use Rattle.atl_state.specs.declared.books.Entry.{Entry}
 use Rattle.atl_state.specs.declared.books.Thing.{Thing}
 use Rattle.atl_state.specs.Books.{IsWithin, amount_in}
-use Rattle.atl_state.specs.Good.{IsSound, amount_bound}
+use Rattle.atl_state.specs.declared.records.Faction.{Faction}
+use Rattle.atl_state.specs.Good.{IsSound, IsThere, amount_bound}
 use Rattle.atl_instant.specs.Month.{MonthValue}
 use Rattle.atl_instant.specs.Meaning.{Condition, HasRoom, HaveRoom, IsNear, IsSameMonth, Keeping, LeavesWell, Meaning, Moving, both_keep, both_move, moved_times}
 
@@ -48,10 +51,35 @@ room_when_sound w c moving l sound e t =
 pub room_behind : {leaves : Condition} (j k : Moving) (w : WorldValue) (c d : CampaignValue) → LeavesWell leaves j w c d → HaveRoom (both_move j k) c → HaveRoom k d
 room_behind j k w c d well room e t = near_room (j e t) (k e t) (amount_in c.books e t) (amount_in d.books e t) (well.near e t) (room e t)
 
-pub same_month : (c : CampaignValue) → IsSameMonth c c
-same_month c = record { month = refl; reports = refl; count = refl; factions = λ n there. there }
+-- ---- the same month
 
-same_month_twice : (a b c : CampaignValue) → IsSameMonth a b → IsSameMonth b c → IsSameMonth a c
+-- the month that is counted, and the reports
+abbrev pub counted_month : CampaignValue → ℕ × FinMap nat_cmp (List ℕ)
+counted_month c = (c.month, c.reports)
+
+-- where none of these changes, and of the factions as many are there, and no others
+pub same_month_among : {c d : CampaignValue} → counted_month d ≡ counted_month c → len d.factions ≡ len c.factions → ((n : ℕ) → IsThere d.factions n → IsThere c.factions n) → IsSameMonth c d
+same_month_among {c} {d} same count factions = record {
+  month = ap (λ (p : ℕ × FinMap nat_cmp (List ℕ)). p.0) same;
+  reports = ap (λ (p : ℕ × FinMap nat_cmp (List ℕ)). p.1) same;
+  count = count;
+  factions = factions;
+}
+
+-- all that a month keeps
+abbrev pub kept_in_month : CampaignValue → (ℕ × FinMap nat_cmp (List ℕ)) × FinMap nat_cmp Faction
+kept_in_month c = (counted_month c, c.factions)
+
+-- so where all of it stays as it is
+pub same_month_by : {c d : CampaignValue} → kept_in_month d ≡ kept_in_month c → IsSameMonth c d
+same_month_by {c} {d} same =
+    let factions : d.factions ≡ c.factions = ap (λ (p : (ℕ × FinMap nat_cmp (List ℕ)) × FinMap nat_cmp Faction). p.1) same in
+    same_month_among (ap (λ (p : (ℕ × FinMap nat_cmp (List ℕ)) × FinMap nat_cmp Faction). p.0) same) (ap len factions) (λ n there. subst (λ (m : FinMap nat_cmp Faction). IsThere m n) factions there)
+
+pub same_month : (c : CampaignValue) → IsSameMonth c c
+same_month c = same_month_by refl
+
+pub same_month_twice : (a b c : CampaignValue) → IsSameMonth a b → IsSameMonth b c → IsSameMonth a c
 same_month_twice a b c one two = record {
   month = two.month ∙ one.month;
   reports = two.reports ∙ one.reports;

@@ -18,6 +18,7 @@ use Rattle.atl_state.proofs.RegionLaws.{get-insert_same}
 use Rattle.atl_instant.specs.Staying.{IsNoWorse}
 use Rattle.atl_instant.specs.Steps.{IsSpared, StepsWell}
 use Rattle.atl_state.proofs.HavingLaws.{MayHave, early-having}
+use Rattle.atl_instant.proofs.MeaningLaws.{same_month_by}
 use Rattle.atl_instant.proofs.StayingLaws.{no_worse}
 use Rattle.atl_instant.proofs.StepLaws.{drawn_same}
 
@@ -51,7 +52,7 @@ module _ (c : CampaignValue) (from to : ℕ) (u v : Unit) (h k : Held) (giver : 
   pub steps-moved : (w : WorldValue) → IsEarly w moved → BothHold → StepsWell IsEarly (λ d e t. 0) w c moved
   steps-moved w early both = record {
     holds_still = early;
-    same_month = record { month = refl; reports = refl; count = refl; factions = λ n there. there };
+    same_month = same_month_by refl;
     balances = λ old t. ap pos (total-moved w both t) ∙ old t;
     drawn = λ e t. drawn_same 0 (amount_in c.books e t);
   }

@@ -29,6 +29,7 @@ use Rattle.atl_instant.specs.PhaseOrders.{Task}
 use Rattle.atl_instant.specs.Staying.{IsNoWorse}
 use Rattle.atl_instant.specs.Steps.{IsOrderly, IsOwnOrder, IsSpared, IsUnitOf, StepsWell}
 use Rattle.atl_instant.specs.Unbooked.{books_nothing, moves_nothing}
+use Rattle.atl_instant.proofs.MeaningLaws.{same_month_among, same_month_by}
 use Rattle.atl_instant.proofs.FactionLaws.{count-faction_name, known-faction_name, steady-faction_name}
 use Rattle.atl_instant.proofs.OutcomeLaws.{false_true}
 use Rattle.atl_instant.proofs.RefitLaws.{IsRelabelled, early-relabelled}
@@ -57,7 +58,7 @@ module _ (w : WorldValue) (c : CampaignValue) (n : ℕ) (u : Unit) (is : get c.u
   held_well : (h : Held) → MayHold w u h → (h.guard ≡ true → u.holding.guard ≡ true) → ((t : Thing) → held t h ≡ held t u.holding) → Well (with_hold h)
   held_well h may flag same = unbooked_well w c (with_hold h)
       (record { steady = steady-held w c n u h is may early.steady; flags = of_one_faction_kept w c n u h is (λ x. x.holding.guard) flag early.flags })
-      (record { month = refl; reports = refl; count = refl; factions = λ k there. there }) refl
+      (same_month_by refl) refl
       (λ t. same_total (total (with_hold h) t) (total c t) (held t u.holding) (total-held w c n u h is t ∙ ap (λ k. total c t + k) (same t)))
 
   may_hold : (h : Held) → IsTrue (name_ok h.name) → h.men ≡ u.holding.men → h.money ≡ u.holding.money → h.items ≡ u.holding.items → h.days ≡ u.holding.days → (guards (record u { holding = h }) ≡ true → guards u ≡ true) → MayHold w u h
@@ -102,7 +103,7 @@ module _ (w : WorldValue) (c : CampaignValue) (n : ℕ) (u : Unit) (is : get c.u
       let (x, there) = (early.steady.known.units n u is).faction in
       unbooked_well w c (with_faction_name c u.faction name)
       (record { steady = steady-faction_name c u.faction x name there w ok early.steady; flags = early.flags })
-      (record { month = refl; reports = refl; count = count-faction_name c u.faction x name there; factions = known-faction_name c u.faction x name there }) refl (same_total_of c (with_faction_name c u.faction name) refl refl)
+      (same_month_among refl (count-faction_name c u.faction x name there) (known-faction_name c u.faction x name there)) refl (same_total_of c (with_faction_name c u.faction name) refl refl)
 
   abbrev titled : List ℕ → Structure → Structure
   titled name s = record s { name = name }
@@ -112,7 +113,7 @@ module _ (w : WorldValue) (c : CampaignValue) (n : ℕ) (u : Unit) (is : get c.u
       unbooked_well w c (with_structure_name c k name)
       (early-relabelled w c n u is _ (at_number (titled name) c.structures k) (get-changed (titled name) c.structures k) (len-changed (titled name) c.structures k)
       (λ q y there. relabelled y (q == k)) (λ q y there. owned q y (q == k) (early.steady.owners q y there)) early)
-      (record { month = refl; reports = refl; count = refl; factions = λ j there. there }) refl (same_total_of c (with_structure_name c k name) refl refl)
+      (same_month_by refl) refl (same_total_of c (with_structure_name c k name) refl refl)
     where
       relabelled : (y : Structure) (b : Bool) → IsRelabelled y (if b then titled name y else y)
       relabelled y true = record { kind = refl; region = refl; done = refl; name = λ old. ok }

@@ -29,6 +29,7 @@ use Rattle.atl_instant.specs.PhaseOrders.{unit_of}
 use Rattle.atl_instant.specs.Staying.{IsNoWorse}
 use Rattle.atl_instant.specs.Steps.{IsOrderly, IsOwnOrder, StepsWell}
 use Rattle.atl_instant.specs.Unbooked.{books_nothing, moves_nothing}
+use Rattle.atl_instant.proofs.MeaningLaws.{same_month_by}
 use Rattle.atl_instant.proofs.PlacingLaws.{place_stays, place_well}
 use Rattle.atl_instant.proofs.RefitLaws.{IsRelabelled, early-relabelled}
 use Rattle.atl_instant.proofs.StructureLaws.{at_number, get-changed, len-changed}
@@ -99,7 +100,7 @@ module _ (w : WorldValue) (c : CampaignValue) (n : ℕ) (u : Unit) (is : get c.u
         unbooked_well w c (with_owner c u.structure to)
         (early-relabelled w c n u is _ (at_number (owned_by to) c.structures u.structure) (get-changed (owned_by to) c.structures u.structure) (len-changed (owned_by to) c.structures u.structure)
         (λ q y there. relabelled y (q == u.structure)) (λ q y there. owned q y (q == u.structure) refl (early.steady.owners q y there)) early)
-        (record { month = refl; reports = refl; count = refl; factions = λ j there. there }) refl (same_total_of c (with_owner c u.structure to) refl refl)
+        (same_month_by refl) refl (same_total_of c (with_owner c u.structure to) refl refl)
       where
         relabelled : (y : Structure) (b : Bool) → IsRelabelled y (if b then owned_by to y else y)
         relabelled y true = record { kind = refl; region = refl; done = refl; name = λ old. old }

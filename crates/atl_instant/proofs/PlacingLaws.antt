@@ -21,6 +21,7 @@ use Rattle.atl_state.proofs.RemovedLaws.{IsListed, every-insert_other, first_of}
 use Rattle.atl_state.proofs.ListLaws.{other_number}
 use Rattle.atl_instant.specs.Steps.{StepsWell}
 use Rattle.atl_instant.specs.Unbooked.{books_nothing}
+use Rattle.atl_instant.proofs.MeaningLaws.{same_month_by}
 use Rattle.atl_instant.proofs.RefitLaws.{IsRefit, IsRelabelled, early-refitted, refitted, steady-refitted, total-refitted}
 use Rattle.atl_instant.proofs.StructureLaws.{changed_else, equal, get-handed, handed_is, handed_on, len-handed}
 use Rattle.atl_instant.proofs.UnbookedLaws.{unbooked_well}
@@ -171,7 +172,7 @@ module _ (w : WorldValue) (c : CampaignValue) (n : ℕ) (u : Unit) (s : ℕ) (is
       let steady = early.steady in
       subst (StepsWell IsEarly books_nothing w c) (sym (place_is w c n u s is steady apart))
       (unbooked_well w c (behind w c n u s is steady apart) (placed_early w c n u s is steady apart inside afloat early)
-      (record { month = refl; reports = refl; count = refl; factions = λ k there. there }) refl (placed_total w c n u s is steady apart inside afloat))
+      (same_month_by refl) refl (placed_total w c n u s is steady apart inside afloat))
 
 -- ---- other units stay
 

@@ -12,7 +12,7 @@ use crate::inside::{region_of, structure_of};
 use crate::month::Month;
 use crate::orders::PhaseVerbs;
 use crate::outcome::failed;
-use crate::phase::Phase;
+use crate::phase::{Phase, Ran};
 use crate::steps::is_of_faction;
 use crate::written::{Arrangement, Written};
 use atl_orders::{Order, Verb};
@@ -153,13 +153,7 @@ impl Phase for FormPhase {
 
     ghost keeps = { form_keeps };
 
-    fn run(
-        &self,
-        alloc: Global,
-        _world: &World,
-        mut campaign: Campaign,
-        mut month: Month,
-    ) -> Result<(Campaign, Month), AllocError> {
+    fn run(&self, alloc: Global, _world: &World, mut campaign: Campaign, mut month: Month) -> Ran {
         let orders = month.orders(alloc, self, Arrangement::ByFaction)?;
         for order in &orders {
             form_one(alloc, &mut campaign, &mut month, *order)?;

@@ -13,7 +13,7 @@ use crate::holders::Holders;
 use crate::month::Month;
 use crate::orders::PhaseVerbs;
 use crate::outcome::failed;
-use crate::phase::Phase;
+use crate::phase::{Phase, Ran};
 use crate::steps::own_unit;
 use crate::written::{Arrangement, Written};
 use atl_orders::{Order, Verb};
@@ -114,13 +114,7 @@ impl Phase for GuardPhase {
 
     ghost keeps = { guard_terms.keeps };
 
-    fn run(
-        &self,
-        alloc: Global,
-        _world: &World,
-        mut campaign: Campaign,
-        mut month: Month,
-    ) -> Result<(Campaign, Month), AllocError> {
+    fn run(&self, alloc: Global, _world: &World, mut campaign: Campaign, mut month: Month) -> Ran {
         let mut holders = Holders::of(alloc, &campaign)?;
         let orders = month.orders(alloc, self, Arrangement::ByUnit)?;
         for order in &orders {

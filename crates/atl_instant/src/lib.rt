@@ -32,7 +32,7 @@ pub use month::{Month, mailings_have_no_order};
 pub use name::NamePhase;
 pub use orders::{MonthLongVerbs, PhaseVerbs, one_order_stands, orders_are_in_mailings};
 pub use outcome::failed;
-pub use phase::Phase;
+pub use phase::{Phase, Ran};
 pub use place::PlacePhase;
 pub use quit::QuitPhase;
 pub use steps::{OrderPhase, PlainPhase, carry_out_orders, is_of_faction, own_unit};

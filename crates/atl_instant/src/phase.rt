@@ -11,6 +11,9 @@ use atl_state::Campaign;
 use atl_tables::World;
 use std::alloc::{AllocError, Global};
 
+/// The campaign and the month that a phase leaves, or AllocError where memory ran out.
+pub type Ran = Result<(Campaign, Month), AllocError>;
+
 /// A phase of the month, or some phases one after the other: `(first, second)` is a phase too.
 pub trait Phase {
     // What it makes of a campaign and of what the month carries.
@@ -30,13 +33,7 @@ pub trait Phase {
 
     /// Runs the phase, with orders as they can be read with the world. AllocError without memory; the campaign and the
     /// month are then given up.
-    fn run(
-        &self,
-        alloc: Global,
-        world: &World,
-        campaign: Campaign,
-        month: Month,
-    ) -> Result<(Campaign, Month), AllocError>
+    fn run(&self, alloc: Global, world: &World, campaign: Campaign, month: Month) -> Ran
         requires needs { needs world.now campaign.value }
         requires room { HaveRoom moving campaign.value }
         requires read { AreFit world.now month.readings }
@@ -58,13 +55,7 @@ impl<P: Phase, Q: Phase> Phase for (P, Q) {
 
     ghost keeps = { both_keep P.meaning P.keeps Q.keeps };
 
-    fn run(
-        &self,
-        alloc: Global,
-        world: &World,
-        campaign: Campaign,
-        month: Month,
-    ) -> Result<(Campaign, Month), AllocError> {
+    fn run(&self, alloc: Global, world: &World, campaign: Campaign, month: Month) -> Ran {
         let (campaign, month) = self.0.run(alloc, world, campaign, month)?;
         let (campaign, month) = self.1.run(alloc, world, campaign, month)?;
         Ok((campaign, month))

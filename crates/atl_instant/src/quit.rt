@@ -18,7 +18,7 @@ use crate::items::items_of;
 use crate::month::Month;
 use crate::orders::PhaseVerbs;
 use crate::outcome::failed;
-use crate::phase::Phase;
+use crate::phase::{Phase, Ran};
 use crate::steps::{OrderPhase, carry_out_orders, own_unit};
 use crate::written::Written;
 use atl_orders::{Mailing, Order, Verb};
@@ -198,13 +198,7 @@ impl Phase for QuitPhase {
 
     ghost keeps = { quit_keeps };
 
-    fn run(
-        &self,
-        alloc: Global,
-        world: &World,
-        mut campaign: Campaign,
-        mut month: Month,
-    ) -> Result<(Campaign, Month), AllocError> {
+    fn run(&self, alloc: Global, world: &World, mut campaign: Campaign, mut month: Month) -> Ran {
         carry_out_orders(alloc, self, world, &mut campaign, &mut month)?;
         Ok((campaign, month))
     }

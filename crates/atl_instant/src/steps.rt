@@ -14,7 +14,7 @@ ghost use Rattle.atl_instant.specs.Carrying.{found_written, task_of};
 
 use crate::month::Month;
 use crate::orders::PhaseVerbs;
-use crate::phase::Phase;
+use crate::phase::{Phase, Ran};
 use crate::written::{Arrangement, Written};
 use atl_orders::{Mailing, Order};
 use atl_state::{Campaign, Outcome, Unit};
@@ -158,13 +158,7 @@ impl<P: PlainPhase> Phase for P {
 
     ghost keeps = { spares_others P.concerns P.spares P.is_of };
 
-    fn run(
-        &self,
-        alloc: Global,
-        world: &World,
-        mut campaign: Campaign,
-        mut month: Month,
-    ) -> Result<(Campaign, Month), AllocError> {
+    fn run(&self, alloc: Global, world: &World, mut campaign: Campaign, mut month: Month) -> Ran {
         self.is_plain();
         carry_out_orders(alloc, self, world, &mut campaign, &mut month)?;
         Ok((campaign, month))

@@ -18,6 +18,7 @@ use Rattle.atl_state.proofs.NumberedNameLaws.{numbered_name_ok}
 use Rattle.atl_instant.specs.Meaning.{IsSameMonth}
 use Rattle.atl_instant.specs.Steps.{StepsWell}
 use Rattle.atl_market.specs.Build.{CanBuild, build_reserve, sort_of}
+use Rattle.atl_instant.proofs.MeaningLaws.{same_month_by}
 use Rattle.atl_instant.proofs.StepLaws.{not_drawn}
 
 -- ---- where units hold what they held, and nothing is booked
@@ -42,11 +43,11 @@ sort_name_ok k number l = by_sort k.ship
 pub raised_well : (w : WorldValue) (c : CampaignValue) (s : Structure) (fresh : IsFresh w c s) (room : c.next_structure ≤ most_structures) (can : CanBuild w c) → StepsWell CanBuild build_reserve w c (raised w c s fresh room can.steady)
 raised_well w c s fresh room can =
     still_well w c (raised w c s fresh room can.steady) (record { steady = steady_raised w c s fresh room can.steady; kinds = can.kinds })
-    (record { month = refl; reports = refl; count = refl; factions = λ k there. there }) refl (total_raised w c s fresh room can.steady) (λ e t. refl)
+    (same_month_by refl) refl (total_raised w c s fresh room can.steady) (λ e t. refl)
 
 -- ---- more of a structure is done
 
 pub built_well : (w : WorldValue) (c : CampaignValue) (k : ℕ) (s : Structure) (done : ℕ) (is : get c.structures k ≡ Some s) (more : s.done ≤ done) (most : done ≤ size_of w s.kind) (can : CanBuild w c) → StepsWell CanBuild build_reserve w c (built w c k s done is)
 built_well w c k s done is more most can =
     still_well w c (built w c k s done is) (record { steady = steady_built w c k s done is more most can.steady; kinds = can.kinds })
-    (record { month = refl; reports = refl; count = refl; factions = λ j there. there }) refl (total_built w c k s done is more most can.steady) (λ e t. refl)
+    (same_month_by refl) refl (total_built w c k s done is more most can.steady) (λ e t. refl)

@@ -12,6 +12,7 @@ use Rattle.atl_state.specs.Good.{is_ship}
 use Rattle.atl_state.specs.Owners.{with_place}
 use Rattle.atl_state.specs.Campaign.{CampaignValue}
 use Rattle.atl_instant.specs.Steps.{StepsWell}
+use Rattle.atl_instant.proofs.MeaningLaws.{same_month_by}
 use Rattle.atl_instant.proofs.PlacingLaws.{behind, place_is, placed_steady, placed_total}
 use Rattle.atl_market.specs.Build.{CanBuild, build_reserve, usable}
 use Rattle.atl_market.proofs.BuildBegunLaws.{still_well}
@@ -33,4 +34,4 @@ module _ (w : WorldValue) (c : CampaignValue) (n : ℕ) (u : Unit) (s : ℕ) (is
   place_well inside afloat =
       subst (StepsWell CanBuild build_reserve w c) (sym (place_is w c n u s is can.steady apart))
       (still_well w c then (record { steady = placed_steady w c n u s is can.steady apart inside afloat; kinds = can.kinds })
-      (record { month = refl; reports = refl; count = refl; factions = λ k there. there }) refl (placed_total w c n u s is can.steady apart inside afloat) reserve_stays)
+      (same_month_by refl) refl (placed_total w c n u s is can.steady apart inside afloat) reserve_stays)

@@ -26,6 +26,7 @@ use Rattle.atl_state.proofs.HoldingLaws.{steady-held, total-held}
 use Rattle.atl_state.proofs.RegionLaws.{get-insert_same, steady-amount, total-amount}
 use Rattle.atl_instant.specs.Meaning.{LeavesWell, moves_only}
 use Rattle.atl_state.proofs.HeldLaws.{alike, amount_within, every_amount, set_amount}
+use Rattle.atl_instant.proofs.MeaningLaws.{same_month_by}
 use Rattle.atl_instant.proofs.BookingLaws.{booked-near, within-neg, within-pos}
 use Rattle.atl_instant.proofs.ChangeLaws.{changed_held, others_held}
 use Rattle.atl_market.specs.Goods.{CanMake, CanUse, made_to, used_by, with_made, with_used}
@@ -101,7 +102,7 @@ module _ (w : WorldValue) (c : CampaignValue) (n : ℕ) (u : Unit) (i amount : �
             leaves_it =
                 steady-amount w with_set e (Item i) z
                 (steady-held w c n u more is (record { limits = has.limits; name = has.name; items = has.items; skills = has.skills; days = has.days; guard = λ g. g }) steady);
-            same_month = record { month = refl; reports = refl; count = refl; factions = λ k there. there };
+            same_month = same_month_by refl;
             balances = λ old t.
                 total_of t (total-amount with_set e (Item i) t z) (total-held w c n u more is t)
                 ∙ ap (λ y. y +ℤ share_of t (Item i) z) (old t) ∙ sym (booked-with_booked (things_of w) c.books e (Item i) z grid (omega (arith, known)) t);

@@ -36,7 +36,7 @@ use Rattle.atl_instant.specs.Meaning.{HaveRoom, LeavesWell, Moving, moved_times,
 use Rattle.atl_instant.specs.declared.written.Written.{Written}
 use Rattle.atl_instant.proofs.BookingLaws.{booked-near, within-neg}
 use Rattle.atl_instant.proofs.MarkLaws.{marks_by}
-use Rattle.atl_instant.proofs.MeaningLaws.{room_less, well_within}
+use Rattle.atl_instant.proofs.MeaningLaws.{room_less, same_month_by, well_within}
 use Rattle.atl_market.specs.PotPhase.{CanInTurn, given_by, shared_out}
 use Rattle.atl_market.specs.Recruit.{recruit_moves, recruit_pots, recruited, recruited_by, recruited_from, recruits_at, recruits_in, with_men, with_recruits}
 use Rattle.atl_market.specs.Unordered.{OthersAreNoWorse}
@@ -121,7 +121,7 @@ module _ (w : WorldValue) (c : CampaignValue) (n : ℕ) (u : Unit) (q : Region) 
         let price = neg_ℤ (pos cost) in
         record {
           leaves_it = still_early;
-          same_month = record { month = refl; reports = refl; count = refl; factions = λ k there. there };
+          same_month = same_month_by refl;
           balances = λ old t.
               total_of t (total-amount left Recruiting Money t price) (total-region (leave q recruits) peopled u.region q around t) (total-held w c n u more is t)
               ∙ ap (λ z. z +ℤ share_of t Money price) (old t) ∙ sym (booked-with_booked (things_of w) c.books Recruiting Money price grid (omega arith) t);

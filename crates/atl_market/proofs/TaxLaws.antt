@@ -27,7 +27,7 @@ use Rattle.atl_instant.specs.Staying.{AreNoWorse}
 use Rattle.atl_instant.specs.Unbooked.{moves_nothing}
 use Rattle.atl_instant.specs.declared.written.Written.{Written}
 use Rattle.atl_instant.proofs.MarkLaws.{marks_by}
-use Rattle.atl_instant.proofs.MeaningLaws.{near_same, well_within}
+use Rattle.atl_instant.proofs.MeaningLaws.{near_same, same_month_by, well_within}
 use Rattle.atl_instant.proofs.StayingLaws.{are_no_worse, are_no_worse_twice}
 use Rattle.atl_market.specs.PotPhase.{CanInTurn, given_by, shared_out}
 use Rattle.atl_market.specs.Tax.{money_at, tax_pots, taxed, taxed_by, taxed_from, with_tax}
@@ -76,7 +76,7 @@ module _ (w : WorldValue) (c : CampaignValue) (n : ℕ) (u : Unit) (q : Region) 
                 (steady-held w c n u (paid c n u share) is (may_hold_money w c n (u.holding.money + share) u is fits steady) steady);
             flags = of_one_faction_kept w c n u (paid c n u share) is (λ v. v.holding.guard) (λ g. g) early.flags;
           };
-          same_month = record { month = refl; reports = refl; count = refl; factions = λ k there. there };
+          same_month = same_month_by refl;
           balances = λ old t. ap pos (same_total t (total-region (drain q share) (richer c n u share) u.region q around t) (total-held w c n u (paid c n u share) is t)) ∙ old t;
           near = λ e t. near_same 0 (amount_in c.books e t);
         }

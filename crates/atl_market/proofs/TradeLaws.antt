@@ -48,7 +48,7 @@ use Rattle.atl_instant.specs.declared.written.Written.{Written}
 use Rattle.atl_instant.proofs.BookingLaws.{booked-near, within-neg, within-pos}
 use Rattle.atl_instant.proofs.ChangeLaws.{changed_held}
 use Rattle.atl_instant.proofs.MarkLaws.{marks_by}
-use Rattle.atl_instant.proofs.MeaningLaws.{room_less, well_unchanged, well_within}
+use Rattle.atl_instant.proofs.MeaningLaws.{room_less, same_month_by, well_unchanged, well_within}
 use Rattle.atl_market.specs.AtOnce.{stands_in}
 use Rattle.atl_market.specs.ItemPots.{is_for, share_for, wants_for}
 use Rattle.atl_market.specs.PotPhase.{CanInTurn, given_by, shared_out, wants_by}
@@ -149,7 +149,7 @@ module _ (w : WorldValue) (c : CampaignValue) (n : ℕ) (u : Unit) (q : Region) 
         let grid = early.steady.numbers.books in
         record {
           leaves_it = still_early;
-          same_month = record { month = refl; reports = refl; count = refl; factions = λ k there. there };
+          same_month = same_month_by refl;
           balances = λ old t.
               total_of t (total-amount left entry Money t d.booked) (total-region (λ r. restocked r i d.stock) paid u.region q around t) (total-held w c n u more is t)
               ∙ ap (λ z. z +ℤ share_of t Money d.booked) (old t) ∙ sym (booked-with_booked (things_of w) c.books entry Money d.booked grid (omega arith) t);

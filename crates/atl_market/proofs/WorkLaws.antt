@@ -35,7 +35,7 @@ use Rattle.atl_instant.specs.Staying.{AreNoWorse}
 use Rattle.atl_instant.specs.declared.written.Written.{Written}
 use Rattle.atl_instant.proofs.BookingLaws.{booked-near, within-pos}
 use Rattle.atl_instant.proofs.MarkLaws.{marks_by}
-use Rattle.atl_instant.proofs.MeaningLaws.{room_less, well_within}
+use Rattle.atl_instant.proofs.MeaningLaws.{room_less, same_month_by, well_within}
 use Rattle.atl_instant.proofs.StayingLaws.{are_no_worse, are_no_worse_twice}
 use Rattle.atl_market.specs.PotPhase.{CanInTurn, given_by, shared_out}
 use Rattle.atl_market.specs.Work.{earned, places_at, places_wanted, with_wages, work_moves, work_pots, worked, worked_by}
@@ -81,7 +81,7 @@ module _ (w : WorldValue) (c : CampaignValue) (n : ℕ) (u : Unit) (money : ℕ)
   pub wages_leave_well : u.holding.money + money ≤ holding_limit → IsSteady w c → LeavesWell IsSteady (work_moves holding_limit) w c wages_paid
   wages_leave_well fits steady = record {
     leaves_it = steady-amount w given Wages Money (pos money) (steady-held w c n u more is (may_hold_money w c n (u.holding.money + money) u is fits steady) steady);
-    same_month = record { month = refl; reports = refl; count = refl; factions = λ k there. there };
+    same_month = same_month_by refl;
     balances = λ old t.
         total_paid t ∙ ap (λ z. z +ℤ share_of t Money (pos money)) (old t)
         ∙ sym (booked-with_booked (things_of w) c.books Wages Money (pos money) steady.numbers.books (omega arith) t);

@@ -15,7 +15,7 @@ ghost use Rattle.atl_market.specs.Goods.{CanUse};
 
 use crate::goods::use_item;
 use atl_instant::{
-    Month, OrderPhase, Phase, PhaseVerbs, Written, carry_out_orders, failed, own_unit,
+    Month, OrderPhase, Phase, PhaseVerbs, Ran, Written, carry_out_orders, failed, own_unit,
 };
 use atl_orders::{Mailing, Order, Verb};
 use atl_state::{
@@ -293,13 +293,7 @@ impl Phase for BuildPhase {
 
     ghost keeps = { build_terms.keeps };
 
-    fn run(
-        &self,
-        alloc: Global,
-        world: &World,
-        mut campaign: Campaign,
-        mut month: Month,
-    ) -> Result<(Campaign, Month), AllocError> {
+    fn run(&self, alloc: Global, world: &World, mut campaign: Campaign, mut month: Month) -> Ran {
         let _kinds = world.kinds();
         carry_out_orders(alloc, self, world, &mut campaign, &mut month)?;
         Ok((campaign, month))

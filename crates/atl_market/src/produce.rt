@@ -10,7 +10,7 @@ use crate::asking::items_asked;
 use crate::making::{can_make, make, make_fault};
 use crate::outputs::makes;
 use crate::pot_phase::{PotPhase, share_out, tell_all};
-use atl_instant::{Arrangement, Month, Phase, PhaseVerbs, Written};
+use atl_instant::{Arrangement, Month, Phase, PhaseVerbs, Ran, Written};
 use atl_orders::Verb;
 use atl_state::{Campaign, EventFault, Unit};
 use atl_tables::{Numbered, World};
@@ -92,13 +92,7 @@ impl Phase for ProducePhase {
 
     ghost keeps = { produce_keeps };
 
-    fn run(
-        &self,
-        alloc: Global,
-        world: &World,
-        mut campaign: Campaign,
-        mut month: Month,
-    ) -> Result<(Campaign, Month), AllocError> {
+    fn run(&self, alloc: Global, world: &World, mut campaign: Campaign, mut month: Month) -> Ran {
         let orders = month.orders(alloc, self, Arrangement::ByUnit)?;
         let asked = items_asked(alloc, self, &campaign, &month, &orders)?;
         world_is_sound(world);

@@ -18,7 +18,7 @@ ghost use Rattle.atl_market.specs.Paid.{RecruitsAtOnce};
 use crate::asking::counts_asked;
 use crate::pot_phase::{PotPhase, share_out, tell_all};
 use crate::pots::{Pots, pot_shares};
-use atl_instant::{Arrangement, Month, Phase, PhaseVerbs, Written, book_taken};
+use atl_instant::{Arrangement, Month, Phase, PhaseVerbs, Ran, Written, book_taken};
 use atl_orders::Verb;
 use atl_state::{Campaign, Entry, EventFault, MEN_LIMIT, Thing, Unit};
 use atl_tables::{Numbered, World};
@@ -160,13 +160,7 @@ impl Phase for RecruitPhase {
 
     ghost keeps = { recruit_keeps };
 
-    fn run(
-        &self,
-        alloc: Global,
-        world: &World,
-        mut campaign: Campaign,
-        mut month: Month,
-    ) -> Result<(Campaign, Month), AllocError> {
+    fn run(&self, alloc: Global, world: &World, mut campaign: Campaign, mut month: Month) -> Ran {
         let orders = month.orders(alloc, self, Arrangement::ByUnit)?;
         let asked = counts_asked(alloc, self, &campaign, &month, &orders)?;
         let recruiting = MailedRecruiting { asked: &asked };

@@ -13,7 +13,7 @@ ghost use Rattle.atl_market.specs.Paid.{TaxesAtOnce};
 
 use crate::pot_phase::{PotPhase, share_out, tell_all};
 use crate::pots::{Pots, pot_shares};
-use atl_instant::{Arrangement, Month, Phase, PhaseVerbs, Written};
+use atl_instant::{Arrangement, Month, Phase, PhaseVerbs, Ran, Written};
 use atl_orders::Verb;
 use atl_state::{Campaign, EventFault, HOLDING_LIMIT, Unit};
 use atl_tables::{Numbered, World};
@@ -127,13 +127,7 @@ impl Phase for TaxPhase {
 
     ghost keeps = { spares_all };
 
-    fn run(
-        &self,
-        alloc: Global,
-        world: &World,
-        mut campaign: Campaign,
-        mut month: Month,
-    ) -> Result<(Campaign, Month), AllocError> {
+    fn run(&self, alloc: Global, world: &World, mut campaign: Campaign, mut month: Month) -> Ran {
         let orders = month.orders(alloc, self, Arrangement::ByUnit)?;
         let events = share_out(alloc, self, world, &mut campaign, &orders)?;
         tell_all(&mut month, &events)?;

@@ -17,7 +17,7 @@ use crate::asking::{counts_asked, items_asked};
 use crate::item_pots::{ItemPots, item_shares};
 use crate::pot_phase::{PotPhase, share_out, tell_all};
 use crate::produce::world_is_sound;
-use atl_instant::{Arrangement, Month, Phase, PhaseVerbs, Written};
+use atl_instant::{Arrangement, Month, Phase, PhaseVerbs, Ran, Written};
 use atl_orders::Verb;
 use atl_state::{Campaign, Entry, EventFault, HOLDING_LIMIT, Holding, Thing, Unit};
 use atl_tables::{Market, Numbered, World};
@@ -322,13 +322,7 @@ impl<const SELLS: bool> Phase for TradePhase<SELLS> {
 
     ghost keeps = { trade_keeps (trade_of SELLS) };
 
-    fn run(
-        &self,
-        alloc: Global,
-        world: &World,
-        mut campaign: Campaign,
-        mut month: Month,
-    ) -> Result<(Campaign, Month), AllocError> {
+    fn run(&self, alloc: Global, world: &World, mut campaign: Campaign, mut month: Month) -> Ran {
         let orders = month.orders(alloc, self, Arrangement::ByUnit)?;
         let items = items_asked(alloc, self, &campaign, &month, &orders)?;
         let counts = counts_asked(alloc, self, &campaign, &month, &orders)?;

@@ -18,7 +18,7 @@ ghost use Rattle.atl_market.specs.Payable.{CanWork};
 
 use crate::pot_phase::{PotPhase, share_out, tell_all};
 use crate::pots::{Pots, pot_shares};
-use atl_instant::{Arrangement, Month, MonthLongVerbs, Phase, Written, is_of_faction};
+use atl_instant::{Arrangement, Month, MonthLongVerbs, Phase, Ran, Written, is_of_faction};
 use atl_orders::Verb;
 use atl_state::{Campaign, Entry, EventFault, HOLDING_LIMIT, Thing, Unit};
 use atl_tables::{Numbered, World};
@@ -235,13 +235,7 @@ impl Phase for WorkPhase {
 
     ghost keeps = { spares_all };
 
-    fn run(
-        &self,
-        alloc: Global,
-        world: &World,
-        mut campaign: Campaign,
-        mut month: Month,
-    ) -> Result<(Campaign, Month), AllocError> {
+    fn run(&self, alloc: Global, world: &World, mut campaign: Campaign, mut month: Month) -> Ran {
         let orders = work_orders(alloc, &campaign, &month)?;
         let events = share_out(alloc, self, world, &mut campaign, &orders)?;
         tell_all(&mut month, &events)?;

@@ -28,7 +28,7 @@ use Rattle.atl_state.proofs.EveryLaws.{every-insert, get-insert_other}
 use Rattle.atl_state.proofs.HoldingLaws.{MayHold, may_hold_money, steady-held, total-held}
 use Rattle.atl_state.proofs.RegionLaws.{changed-known, get-insert_same, steady-amount, total-amount}
 use Rattle.atl_instant.specs.Meaning.{IsNear, IsSameMonth, Moving, both_move, moves_only}
-use Rattle.atl_instant.proofs.MeaningLaws.{near_same, near_twice}
+use Rattle.atl_instant.proofs.MeaningLaws.{near_same, near_twice, same_month_by, same_month_twice}
 use Rattle.atl_state.proofs.HeldLaws.{amount_within, every_amount, set_amount}
 use Rattle.atl_instant.proofs.BookingLaws.{booked-near, within-neg}
 use Rattle.atl_instant.proofs.QuitLaws.{owing_items, part_of}
@@ -77,7 +77,7 @@ passes-refl w n c steady = record {
   steady = steady;
   owes = λ s x h. subst (Owes c s) (plain x) h;
   near = λ e s. near_same 0 (amount_in c.books e s);
-  same = record { month = refl; reports = refl; count = refl; factions = λ k h. h };
+  same = same_month_by refl;
   unit = refl;
   forth = λ m u is. (u, is, kept-refl u);
   back = λ m v is. (v, is, kept-refl v);
@@ -92,12 +92,7 @@ passes-trans {o} {p} {i} {j} w n a b c one two = record {
   steady = two.steady;
   owes = λ s x h. subst (Owes c s) (grouped x (o s) (p s)) (two.owes s (x + o s) (one.owes s x h));
   near = λ e s. near_twice (i e s) (j e s) (amount_in a.books e s) (amount_in b.books e s) (amount_in c.books e s) (one.near e s) (two.near e s);
-  same = record {
-    month = two.same.month ∙ one.same.month;
-    reports = two.same.reports ∙ one.same.reports;
-    count = two.same.count ∙ one.same.count;
-    factions = λ k h. one.same.factions k (two.same.factions k h);
-  };
+  same = same_month_twice a b c one.same two.same;
   unit = two.unit ∙ one.unit;
   forth = λ m u is. let (v, there, kept) = one.forth m u is in let (x, behind, more) = two.forth m v there in (x, behind, kept-trans u v x kept more);
   back = λ m x is. let (v, there, more) = two.back m x is in let (u, before, kept) = one.back m v there in (u, before, kept-trans u v x kept more);
@@ -127,7 +122,7 @@ module _ (w : WorldValue) (c : CampaignValue) (n : ℕ) (t : Thing) (inside : th
         ∙ ap (λ z. z +ℤ pos (x + part_of s t amount))
         (sym (booked-with_booked (things_of w) c.books Lost t (neg_ℤ (pos amount)) steady.numbers.books inside s));
     near = booked-near (things_of w) c.books Lost t (neg_ℤ (pos amount)) amount steady.numbers.books inside (within-neg amount amount (omega arith));
-    same = record { month = refl; reports = refl; count = refl; factions = λ k h. h };
+    same = same_month_by refl;
     unit = refl;
     forth = λ m u is. (u, is, kept-refl u);
     back = λ m v is. (v, is, kept-refl v);
@@ -157,7 +152,7 @@ module _ (w : WorldValue) (c : CampaignValue) (n : ℕ) (t : Thing) (inside : th
       near =
           booked-near (things_of w) c.books Lost t (neg_ℤ (pos lost)) (taken + lost) steady.numbers.books inside
           (within-neg lost (taken + lost) (omega arith));
-      same = record { month = refl; reports = refl; count = refl; factions = λ m h. h };
+      same = same_month_by refl;
       unit = get-insert_other c.units k n (record v { holding = h }) apart;
       forth = λ m u there. new_unit m u there;
       back =

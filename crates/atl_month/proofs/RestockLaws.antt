@@ -40,7 +40,7 @@ use Rattle.atl_state.proofs.StockLaws.{steady-stock, total-stock, total-stock_ot
 use Rattle.atl_instant.specs.Meaning.{HasRoom, HaveRoom, LeavesWell, Moving, moves_only}
 use Rattle.atl_instant.proofs.BookingLaws.{booked-near, within-pos}
 use Rattle.atl_instant.proofs.MarkLaws.{marks_by}
-use Rattle.atl_instant.proofs.MeaningLaws.{both_leave_well, room_behind, room_less, well_unchanged, well_within}
+use Rattle.atl_instant.proofs.MeaningLaws.{both_leave_well, room_behind, room_less, same_month_by, well_unchanged, well_within}
 use Rattle.atl_month.specs.Restock.{market_restocked, markets_of, restock, restocked, stocks_by, with_more_stock}
 
 -- ---- how far new goods move the books
@@ -215,7 +215,7 @@ module _ (w : WorldValue) (c : CampaignValue) (n i : ℕ) (m : Market) (r : Regi
       subst (λ s. LeavesWell IsSteady (moves_only most_amount Stocked (Item i)) w c (with_more_stock c n i s (restock m s))) (sym stock_is)
       (record {
         leaves_it = steady-amount w filled Stocked (Item i) (pos more) filled_steady;
-        same_month = record { month = refl; reports = refl; count = refl; factions = λ k there. there };
+        same_month = same_month_by refl;
         balances = balanced;
         near = booked-near (things_of w) c.books Stocked (Item i) (pos more) most_amount steady.numbers.books inside (within-pos more most_amount (omega (arith, stock_fits, known.limit)));
       })

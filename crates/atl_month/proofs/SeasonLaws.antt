@@ -31,7 +31,7 @@ use Rattle.atl_state.proofs.RegionLaws.{IsRegion-money, IsRegion-peasants, regio
 use Rattle.atl_state.proofs.EveryLaws.{none_some}
 use Rattle.atl_instant.specs.Meaning.{HaveRoom, IsNear, LeavesWell, both_move, most_moved, moved_times, moves_only}
 use Rattle.atl_instant.proofs.MarkLaws.{marks_by}
-use Rattle.atl_instant.proofs.MeaningLaws.{both_leave_well, fold_leaves_well, near_more, near_twice, room_behind_one, room_for_one, room_less, well_unchanged, well_within}
+use Rattle.atl_instant.proofs.MeaningLaws.{both_leave_well, fold_leaves_well, near_more, near_twice, room_behind_one, room_for_one, room_less, same_month_by, well_unchanged, well_within}
 use Rattle.atl_instant.proofs.BookingLaws.{booked-near, within-pos}
 use Rattle.atl_month.specs.Restock.{is_item, markets_of, restocked, stocks_by}
 use Rattle.atl_month.specs.Season.{births, grows_by, income, season, season_at, season_in, season_moves, with_growth}
@@ -125,7 +125,7 @@ module _ (w : WorldValue) (c : CampaignValue) (n : ℕ) (r : Region) (born earne
   pub growth_leaves_well : r.peasants + born ≤ most_amount → r.money + earned ≤ most_amount → IsSteady w c → LeavesWell IsSteady (grows_by most_amount) w c (with_growth c n r.peasants r.money born earned)
   growth_leaves_well p m steady = record {
     leaves_it = growth_steady p m steady;
-    same_month = record { month = refl; reports = refl; count = refl; factions = λ k there. there };
+    same_month = same_month_by refl;
     balances = growth_balances steady.numbers.books;
     near = growth_near steady.numbers.books (omega arith) (omega arith);
   }

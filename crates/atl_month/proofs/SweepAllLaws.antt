@@ -22,7 +22,7 @@ use Rattle.atl_state.specs.Owners.{without_unit}
 use Rattle.atl_state.specs.Campaign.{CampaignValue, active, numbers_of, with_gone}
 use Rattle.atl_state.proofs.EveryLaws.{none_some}
 use Rattle.atl_instant.specs.Meaning.{LeavesWell, Moving, both_move, moved_times, most_moved}
-use Rattle.atl_instant.proofs.MeaningLaws.{both_leave_well, fold_leaves_well, near_same, well_unchanged, well_within}
+use Rattle.atl_instant.proofs.MeaningLaws.{both_leave_well, fold_leaves_well, near_same, same_month_among, well_unchanged, well_within}
 use Rattle.atl_month.specs.Sweep.{IsKept, faction_swept, is_empty, loses_by, menless, passed_on, receiver, sweep, swept_at, swept_in}
 use Rattle.atl_month.specs.Swept.{IsSwept}
 use Rattle.atl_state.proofs.RemovedLaws.{IsListed, passing_listed}
@@ -159,7 +159,7 @@ module _ (c : CampaignValue) (n : ℕ) where
       by_faction none None is = subst (LeavesWell IsSteady nothing_moves w c) (sym (none-gone c n is)) (well_unchanged nothing_moves w c steady)
       by_faction none (Some f) is = record {
         leaves_it = steady-gone c n f is w none steady;
-        same_month = record { month = refl; reports = refl; count = count-gone c n f is; factions = known-gone c n f is };
+        same_month = same_month_among refl (count-gone c n f is) (known-gone c n f is);
         balances = λ old t. ap pos (total-gone c n t) ∙ old t;
         near = λ e t. near_same 0 (amount_in c.books e t);
       }

@@ -40,7 +40,7 @@ use Rattle.atl_instant.specs.Meaning.{HaveRoom, IsNear, LeavesWell, Moving, move
 use Rattle.atl_instant.specs.Holdings.{with_days}
 use Rattle.atl_instant.proofs.DaysLaws.{set_again}
 use Rattle.atl_instant.proofs.MarkLaws.{marks_by}
-use Rattle.atl_instant.proofs.MeaningLaws.{MovesLess, near_twice, room_less, well_within}
+use Rattle.atl_instant.proofs.MeaningLaws.{MovesLess, near_twice, room_less, same_month_by, well_within}
 use Rattle.atl_state.proofs.HeldLaws.{every_amount}
 use Rattle.atl_instant.proofs.BookingLaws.{booked-near, within-neg}
 use Rattle.atl_market.specs.PotPhase.{CanInTurn}
@@ -220,7 +220,7 @@ module _ (w : WorldValue) (c : CampaignValue) (s : Settled) (u : Unit) (is : get
   unit_leaves_well : LeavesWell IsSteady (takes_up_to most_amount) w c after
   unit_leaves_well = record {
     leaves_it = after_steady;
-    same_month = record { month = refl; reports = refl; count = refl; factions = λ k there. there };
+    same_month = same_month_by refl;
     balances = upkeep_balances;
     near = upkeep_near;
   }

@@ -16,7 +16,7 @@ use crate::orders::OrderPhases;
 use crate::season::SeasonPhase;
 use crate::sweep::SweepPhase;
 use crate::upkeep::UpkeepPhase;
-use atl_instant::{Month, Phase};
+use atl_instant::{Month, Phase, Ran};
 use atl_market::WorkPhase;
 use atl_orders::Mailing;
 use atl_state::{Campaign, Event};
@@ -24,12 +24,7 @@ use atl_tables::World;
 use std::alloc::{AllocError, Global};
 
 /// Runs the phases of a month, one after the other.
-fn run_phases(
-    alloc: Global,
-    world: &World,
-    campaign: Campaign,
-    month: Month,
-) -> Result<(Campaign, Month), AllocError>
+fn run_phases(alloc: Global, world: &World, campaign: Campaign, month: Month) -> Ran
     requires sound { IsSound world.now campaign.value }
     requires read { AreFit world.now month.readings }
     ensures meaning { IfOk result (λ r. (r.0.value, r.1) ≡ month_meaning world.now campaign.value month) }

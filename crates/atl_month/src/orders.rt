@@ -4,12 +4,13 @@ ghost use Rattle.atl_month.specs.Month.{orders_keep, orders_meaning, orders_movi
 
 use atl_action::{LearnPhase, MovePhase, SailPhase};
 use atl_instant::{
-    FormPhase, GivePhase, GuardPhase, Month, NamePhase, Phase, PlacePhase, QuitPhase, TransferPhase,
+    FormPhase, GivePhase, GuardPhase, Month, NamePhase, Phase, PlacePhase, QuitPhase, Ran,
+    TransferPhase,
 };
 use atl_market::{BuildPhase, BuyPhase, ProducePhase, RecruitPhase, SellPhase, TaxPhase};
 use atl_state::Campaign;
 use atl_tables::World;
-use std::alloc::{AllocError, Global};
+use std::alloc::Global;
 
 /// All phases that carry out orders, in their order, but for WORK, which units do without an order as well. See
 /// docs/RULES.md, "Closing a month".
@@ -25,13 +26,7 @@ impl Phase for OrderPhases {
 
     ghost keeps = { orders_keep };
 
-    fn run(
-        &self,
-        alloc: Global,
-        world: &World,
-        campaign: Campaign,
-        month: Month,
-    ) -> Result<(Campaign, Month), AllocError> {
+    fn run(&self, alloc: Global, world: &World, campaign: Campaign, month: Month) -> Ran {
         let pots = (SellPhase {}, (BuyPhase {}, (TaxPhase, RecruitPhase)));
         let goods = (GivePhase, (TransferPhase, pots));
         let early = (FormPhase, (NamePhase, (PlacePhase, goods)));

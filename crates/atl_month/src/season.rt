@@ -10,7 +10,7 @@ ghost use Rattle.atl_month.specs.Season.{births, grows_by, income, season, seaso
 
 use crate::limits::PER_HUNDRED;
 use crate::restock::restock_region;
-use atl_instant::{Month, Phase};
+use atl_instant::{Month, Phase, Ran};
 use atl_state::{Campaign, Entry, Thing};
 use atl_tables::World;
 use std::alloc::{AllocError, Global};
@@ -107,13 +107,7 @@ impl Phase for SeasonPhase {
 
     ghost keeps = { season_keeps };
 
-    fn run(
-        &self,
-        _alloc: Global,
-        world: &World,
-        mut campaign: Campaign,
-        month: Month,
-    ) -> Result<(Campaign, Month), AllocError> {
+    fn run(&self, _alloc: Global, world: &World, mut campaign: Campaign, month: Month) -> Ran {
         turn_regions(world, &mut campaign, month.words())?;
         Ok((campaign, month))
     }

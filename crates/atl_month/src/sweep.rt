@@ -15,7 +15,7 @@ ghost use Rattle.atl_month.specs.Receivers.{AreReceivers};
 ghost use Rattle.atl_month.specs.Swept.{IsSwept};
 
 use crate::receivers::{Receivers, receiver_in, receivers_of};
-use atl_instant::{Month, Phase, book_taken, items_of};
+use atl_instant::{Month, Phase, Ran, book_taken, items_of};
 use atl_state::{Campaign, Entry, HOLDING_LIMIT, Thing};
 use atl_tables::World;
 use std::alloc::{AllocError, Global};
@@ -200,13 +200,7 @@ impl Phase for SweepPhase {
 
     ghost keeps = { sweep_keeps };
 
-    fn run(
-        &self,
-        alloc: Global,
-        world: &World,
-        mut campaign: Campaign,
-        month: Month,
-    ) -> Result<(Campaign, Month), AllocError> {
+    fn run(&self, alloc: Global, world: &World, mut campaign: Campaign, month: Month) -> Ran {
         let receivers = receivers_of(alloc, &campaign)?;
         let numbers = menless(alloc, &campaign)?;
         sweep_units(alloc, world, &receivers, &mut campaign, &numbers)?;

@@ -10,7 +10,7 @@ ghost use Rattle.atl_month.specs.Sparing.{CanSettle, IsSupplied, staying_list};
 ghost use Rattle.atl_month.specs.Upkeep.{purses_of, starved_event, starves, takes_up_to, upkeep, upkeep_at, upkeep_keeps, upkeep_meaning};
 
 use crate::settling::{Purse, Settled, settle};
-use atl_instant::{Month, Phase, book_taken, set_people};
+use atl_instant::{Month, Phase, Ran, book_taken, set_people};
 use atl_state::{Campaign, Entry, Event, EventVerb, Holding, Outcome, Thing};
 use atl_tables::World;
 use std::alloc::{AllocError, Global};
@@ -153,13 +153,7 @@ impl Phase for UpkeepPhase {
 
     ghost keeps = { upkeep_keeps };
 
-    fn run(
-        &self,
-        alloc: Global,
-        world: &World,
-        mut campaign: Campaign,
-        mut month: Month,
-    ) -> Result<(Campaign, Month), AllocError> {
+    fn run(&self, alloc: Global, world: &World, mut campaign: Campaign, mut month: Month) -> Ran {
         let purses = purses_of(alloc, &campaign)?;
         let list = settle(alloc, world.rules().maintenance, &purses)?;
         upkeep_of_all(alloc, &mut campaign, &list)?;
