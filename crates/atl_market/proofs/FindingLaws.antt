@@ -17,7 +17,7 @@ use Rattle.atl_instant.proofs.WrittenLaws.{orders_are_in_mailings}
 use Rattle.atl_market.specs.Asking.{asked_by, asked_of, entry_of}
 use Rattle.atl_market.specs.Finding.{found_by, found_in, found_of}
 
-module _ (asks : Said → Option ℕ) (c : CampaignValue) (aliases : Aliases) (readings : FinMap nat_cmp Reading) where
+module _ {V : Type 0} (asks : Said → Option V) (c : CampaignValue) (aliases : Aliases) (readings : FinMap nat_cmp Reading) where
   found_one : (t : Task) → IsInMailing aliases readings t → found_by asks readings c (written t) ≡ asked_by asks c t
   found_one t h =
       let at : order_at readings t.faction t.place ≡ Some t.said =
@@ -31,7 +31,7 @@ module _ (asks : Said → Option ℕ) (c : CampaignValue) (aliases : Aliases) (r
       ∙ ap (λ es. asked_by asks c t ++ es) (found_each ts all.1)
 
 -- of the orders of a phase
-pub found_orders : (asks : Said → Option ℕ) (is_of : Verb → Bool) (arrangement : Arrangement) (c : CampaignValue) (m : MonthValue)
+pub found_orders : {V : Type 0} (asks : Said → Option V) (is_of : Verb → Bool) (arrangement : Arrangement) (c : CampaignValue) (m : MonthValue)
     → found_of asks m.readings c (map written (values (orders_of is_of arrangement m.aliases m.readings))) ≡ asked_of asks c (values (orders_of is_of arrangement m.aliases m.readings))
 found_orders asks is_of arrangement c m =
     let ts = values (orders_of is_of arrangement m.aliases m.readings) in

@@ -66,7 +66,7 @@ is_there (Some x) h = (x, refl)
 
 -- ---- what is found under a number
 
-pub found_first : (n : ℕ) (es fs : Entries) (s : ℕ) → find nat_cmp n es ≡ Some s → find nat_cmp n (es ++ fs) ≡ Some s
+pub found_first : {V : Type 0} (n : ℕ) (es fs : List (ℕ × V)) (s : V) → find nat_cmp n es ≡ Some s → find nat_cmp n (es ++ fs) ≡ Some s
 found_first n [] fs s h = none_some s h
 found_first n (e ∷ es) fs s h =
     elim (is_eq (nat_cmp n e.0)) as (λ b. cond b (Some e.1) (find nat_cmp n es) ≡ Some s → cond b (Some e.1) (find nat_cmp n (es ++ fs)) ≡ Some s) [
@@ -74,7 +74,7 @@ found_first n (e ∷ es) fs s h =
       | false ↦ found_first n es fs s
     ] h
 
-pub found_later : (n : ℕ) (es fs : Entries) → find nat_cmp n es ≡ None → find nat_cmp n (es ++ fs) ≡ find nat_cmp n fs
+pub found_later : {V : Type 0} (n : ℕ) (es fs : List (ℕ × V)) → find nat_cmp n es ≡ None → find nat_cmp n (es ++ fs) ≡ find nat_cmp n fs
 found_later n [] fs h = refl
 found_later n (e ∷ es) fs h =
     elim (is_eq (nat_cmp n e.0)) as (λ b. cond b (Some e.1) (find nat_cmp n es) ≡ None → cond b (Some e.1) (find nat_cmp n (es ++ fs)) ≡ find nat_cmp n fs) [
@@ -152,15 +152,15 @@ pub risen_put : (es : Entries) → Rise es → with_each empty es ≡ from_entri
 risen_put es rise = same_map nat_cmp_total nat_cmp-IsAntisymmetric _ _ (λ n. found_put es (rise_apart es rise) n ∙ sym (get-from_entries nat_cmp_total es n))
 
 -- whatever the numbers: of two entries with one number the later stands
-abbrev or_else : Option ℕ → Option ℕ → Option ℕ
+abbrev or_else : {V : Type 0} → Option V → Option V → Option V
 or_else None old = old
 or_else (Some s) old = Some s
 
-last_put : (m : FinMap nat_cmp ℕ) (es : Entries) (n : ℕ) → get (with_each m es) n ≡ or_else (find nat_cmp n (reverse es)) (get m n)
+last_put : {V : Type 0} (m : FinMap nat_cmp V) (es : List (ℕ × V)) (n : ℕ) → get (with_each m es) n ≡ or_else (find nat_cmp n (reverse es)) (get m n)
 last_put m [] n = refl
-last_put m (e ∷ es) n = last_put (insert m e.0 e.1) es n ∙ by_find (find nat_cmp n (reverse es)) refl ∙ sym (ap (λ fs. or_else (find nat_cmp n fs) (get m n)) (reverse-append (e ∷ []) es))
+last_put {V} m (e ∷ es) n = last_put (insert m e.0 e.1) es n ∙ by_find (find nat_cmp n (reverse es)) refl ∙ sym (ap (λ fs. or_else (find nat_cmp n fs) (get m n)) (reverse-append (e ∷ []) es))
   where
-    by_find : (o : Option ℕ) → find nat_cmp n (reverse es) ≡ o → or_else o (get (insert m e.0 e.1) n) ≡ or_else (find nat_cmp n (reverse es ++ e ∷ [])) (get m n)
+    by_find : (o : Option V) → find nat_cmp n (reverse es) ≡ o → or_else o (get (insert m e.0 e.1) n) ≡ or_else (find nat_cmp n (reverse es ++ e ∷ [])) (get m n)
     by_find (Some s) is = ap (λ o. or_else o (get m n)) (sym (found_first n (reverse es) (e ∷ []) s is))
     by_find None is =
         get-insert nat_cmp_total m e.0 e.1 n ∙ by_test (is_eq (nat_cmp n e.0)) ∙ ap (λ o. or_else o (get m n)) (sym (found_later n (reverse es) (e ∷ []) is))
@@ -169,11 +169,11 @@ last_put m (e ∷ es) n = last_put (insert m e.0 e.1) es n ∙ by_find (find nat
         by_test true = refl
         by_test false = refl
 
-pub put_in_turn : (es : Entries) → with_each empty es ≡ from_entries (reverse es)
-put_in_turn es = same_map nat_cmp_total nat_cmp-IsAntisymmetric _ _ (λ n.
+pub put_in_turn : {V : Type 0} (es : List (ℕ × V)) → with_each empty es ≡ from_entries (reverse es)
+put_in_turn {V} es = same_map nat_cmp_total nat_cmp-IsAntisymmetric _ _ (λ n.
     last_put empty es n ∙ ap (or_else (find nat_cmp n (reverse es))) (get-empty nat_cmp n) ∙ or_none (find nat_cmp n (reverse es)) ∙ sym (get-from_entries nat_cmp_total (reverse es) n))
   where
-    or_none : (o : Option ℕ) → or_else o None ≡ o
+    or_none : (o : Option V) → or_else o None ≡ o
     or_none None = refl
     or_none (Some s) = refl
 

@@ -32,7 +32,7 @@ GivesToWants p w c =
     → (want : ℕ) × (get wants n ≡ Some want) × (share ≤ want)
 
 -- entries put one list behind the other
-pub appended_entries : (m : FinMap nat_cmp ℕ) (es fs : List (ℕ × ℕ)) → with_each m (es ++ fs) ≡ with_each (with_each m es) fs
+pub appended_entries : {V : Type 0} (m : FinMap nat_cmp V) (es fs : List (ℕ × V)) → with_each m (es ++ fs) ≡ with_each (with_each m es) fs
 appended_entries m es fs = fold-append (λ so_far entry. insert so_far entry.0 entry.1) m es fs
 
 pub every-with_each : (P : ℕ → ℕ → Type 0) (m : FinMap nat_cmp ℕ) (es : List (ℕ × ℕ)) → AllByRecursion (λ e. P e.0 e.1) es → Every P m → Every P (with_each m es)

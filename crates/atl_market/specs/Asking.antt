@@ -27,16 +27,16 @@ count_in (orders.Sell n i) = Some n
 count_in (orders.Buy n i) = Some n
 count_in other = None
 
-abbrev pub entry_of : (n : ℕ) → Option ℕ → List (ℕ × ℕ)
+abbrev pub entry_of : {V : Type 0} (n : ℕ) → Option V → List (ℕ × V)
 entry_of n None = []
 entry_of n (Some what) = (n, what) ∷ []
 
 -- the unit of an order of its own faction, with what the order asks it for
-abbrev pub asked_by : (Said → Option ℕ) → CampaignValue → Task → List (ℕ × ℕ)
+abbrev pub asked_by : {V : Type 0} → (Said → Option V) → CampaignValue → Task → List (ℕ × V)
 asked_by asks c t = if is_own c t then entry_of t.unit (asks t.said) else []
 
 -- By unit, what its own faction asks it for by these orders: by the last, if there were more than one.
-abbrev pub asked_of : (Said → Option ℕ) → CampaignValue → List Task → FinMap nat_cmp ℕ
+abbrev pub asked_of : {V : Type 0} → (Said → Option V) → CampaignValue → List Task → FinMap nat_cmp V
 asked_of asks c ts = from_entries (reverse (flat_map (asked_by asks c) ts))
 
 -- the pots of a phase, by what its orders ask each unit for

@@ -12,13 +12,13 @@ use Rattle.atl_instant.specs.declared.written.Written.{Written}
 use Rattle.atl_market.specs.Asking.{entry_of}
 
 -- what the order that stands there asks for, if one does
-abbrev pub found_in : (Said → Option ℕ) → Option Said → Option ℕ
+abbrev pub found_in : {V : Type 0} → (Said → Option V) → Option Said → Option V
 found_in asks None = None
 found_in asks (Some what) = asks what
 
-abbrev pub found_by : (Said → Option ℕ) → FinMap nat_cmp Reading → CampaignValue → Written → List (ℕ × ℕ)
+abbrev pub found_by : {V : Type 0} → (Said → Option V) → FinMap nat_cmp Reading → CampaignValue → Written → List (ℕ × V)
 found_by asks readings c o =
     if is_of_faction o.faction (get c.units o.unit) then entry_of o.unit (found_in asks (order_at readings o.faction o.place)) else []
 
-abbrev pub found_of : (Said → Option ℕ) → FinMap nat_cmp Reading → CampaignValue → List Written → FinMap nat_cmp ℕ
+abbrev pub found_of : {V : Type 0} → (Said → Option V) → FinMap nat_cmp Reading → CampaignValue → List Written → FinMap nat_cmp V
 found_of asks readings c os = from_entries (reverse (flat_map (found_by asks readings c) os))

@@ -4,5 +4,5 @@ use Rattle.std.specs.List.{fold}
 use Rattle.std.specs.Ordering.{nat_cmp}
 use Rattle.std.specs.FinMap.{FinMap, insert}
 
-abbrev pub with_each : FinMap nat_cmp ℕ → List (ℕ × ℕ) → FinMap nat_cmp ℕ
+abbrev pub with_each : {V : Type 0} → FinMap nat_cmp V → List (ℕ × V) → FinMap nat_cmp V
 with_each m entries = fold (λ so_far entry. insert so_far entry.0 entry.1) m entries

@@ -12,124 +12,102 @@ use atl_state::Campaign;
 use atl_tables::Numbered;
 use std::alloc::{AllocError, Global};
 
-/// How many an order asks for, where it names a number.
-fn count_named(month: &Month, order: Written) -> Option<u32>
-    ensures { result ≡ found_in count_in (order_at month.now.readings order.faction order.place) }
-{
-    match month.order(order.faction, order.place) {
-        Some((_, Order::Recruit(men))) => Some(*men),
-        Some((_, Order::Sell { amount, .. })) => Some(*amount),
-        Some((_, Order::Buy { amount, .. })) => Some(*amount),
-        _ => None,
+/// What orders are searched for.
+pub(crate) trait Asking {
+    ghost use Rattle.std.specs.Prelude.{Option};
+    ghost use Rattle.atl_orders.specs.Orders.{Said};
+
+    /// What an order names.
+    type Named: Copy + Drop;
+
+    // What an order names, where it names one.
+    ghost asks: { Said → Option Self.Named };
+
+    /// What the order that stands there names, where it names one.
+    fn named(month: &Month, order: Written) -> Option<Self::Named>
+        ensures { result ≡ found_in asks (order_at month.now.readings order.faction order.place) };
+}
+
+/// How many an order asks for.
+pub(crate) struct Counts;
+
+impl Asking for Counts {
+    type Named = u32;
+
+    ghost asks = { count_in };
+
+    fn named(month: &Month, order: Written) -> Option<u32> {
+        match month.order(order.faction, order.place) {
+            Some((_, Order::Recruit(men))) => Some(*men),
+            Some((_, Order::Sell { amount, .. })) => Some(*amount),
+            Some((_, Order::Buy { amount, .. })) => Some(*amount),
+            _ => None,
+        }
     }
 }
 
-/// The item that an order names, where it names one.
-fn item_named(month: &Month, order: Written) -> Option<u16>
-    ensures { result ≡ found_in item_in (order_at month.now.readings order.faction order.place) }
-{
-    match month.order(order.faction, order.place) {
-        Some((_, Order::Produce(item))) => Some(*item),
-        Some((_, Order::Sell { item, .. })) => Some(*item),
-        Some((_, Order::Buy { item, .. })) => Some(*item),
-        _ => None,
+/// The item that an order asks for.
+pub(crate) struct Items;
+
+impl Asking for Items {
+    type Named = u16;
+
+    ghost asks = { item_in };
+
+    fn named(month: &Month, order: Written) -> Option<u16> {
+        match month.order(order.faction, order.place) {
+            Some((_, Order::Produce(item))) => Some(*item),
+            Some((_, Order::Sell { item, .. })) => Some(*item),
+            Some((_, Order::Buy { item, .. })) => Some(*item),
+            _ => None,
+        }
     }
 }
 
-/// Notes how many an order asks for, where the unit's own faction wrote it.
-fn note_count(
+/// Notes what an order asks for, where the unit's own faction wrote it.
+fn note<A: Asking>(
     campaign: &Campaign,
     month: &Month,
     order: Written,
-    asked: &mut Numbered<u32>,
+    asked: &mut Numbered<A::Named>,
 ) -> Result<(), AllocError>
-    ensures { OnOk result (asked.new ≡ with_each asked.old (found_by count_in month.now.readings campaign.now.value order)) }
+    ensures { OnOk result (asked.new ≡ with_each asked.old (found_by A.asks month.now.readings campaign.now.value order)) }
 {
     if is_of_faction(campaign, order.unit, order.faction)
-        && let Some(count) = count_named(month, order)
+        && let Some(what) = A::named(month, order)
     {
-        asked.insert(order.unit, count)?;
+        asked.insert(order.unit, what)?;
     }
     Ok(())
 }
 
-/// Notes the item of an order, where the unit's own faction wrote it.
-fn note_item(
-    campaign: &Campaign,
-    month: &Month,
-    order: Written,
-    asked: &mut Numbered<u16>,
-) -> Result<(), AllocError>
-    ensures { OnOk result (asked.new ≡ with_each asked.old (found_by item_in month.now.readings campaign.now.value order)) }
-{
-    if is_of_faction(campaign, order.unit, order.faction)
-        && let Some(item) = item_named(month, order)
-    {
-        asked.insert(order.unit, item)?;
-    }
-    Ok(())
-}
-
-/// By unit, how many its own faction asks it for by these orders.
+/// By unit, what its own faction asks it for by these orders.
 #[tactic(auto, using(crate::proofs::WantLaws::appended_entries))]
-fn counts_found(
+fn found<A: Asking>(
     alloc: Global,
     campaign: &Campaign,
     month: &Month,
     orders: &[Written],
-) -> Result<Numbered<u32>, AllocError>
-    ensures { IfOk result (λ asked. asked ≡ found_of count_in month.now.readings campaign.now.value orders.now) }
+) -> Result<Numbered<A::Named>, AllocError>
+    ensures { IfOk result (λ asked. asked ≡ found_of A.asks month.now.readings campaign.now.value orders.now) }
 {
     let mut asked = Numbered::new(alloc);
     for order in orders {
-        note_count(campaign, month, *order, &mut asked)?;
+        note::<A>(campaign, month, *order, &mut asked)?;
     }
     Ok(asked)
 }
 
-/// By unit, the item that its own faction asks it for by these orders.
-#[tactic(auto, using(crate::proofs::WantLaws::appended_entries))]
-fn items_found(
+/// By unit, what its own faction asks it for by the orders of a month for a phase.
+pub(crate) fn asked<A: Asking, P: PhaseVerbs>(
     alloc: Global,
     campaign: &Campaign,
     month: &Month,
     orders: &[Written],
-) -> Result<Numbered<u16>, AllocError>
-    ensures { IfOk result (λ asked. asked ≡ found_of item_in month.now.readings campaign.now.value orders.now) }
-{
-    let mut asked = Numbered::new(alloc);
-    for order in orders {
-        note_item(campaign, month, *order, &mut asked)?;
-    }
-    Ok(asked)
-}
-
-/// By unit, how many its own faction asks it for by the orders of a month for a phase.
-pub(crate) fn counts_asked<P: PhaseVerbs>(
-    alloc: Global,
-    _: &P,
-    campaign: &Campaign,
-    month: &Month,
-    orders: &[Written],
-) -> Result<Numbered<u32>, AllocError>
+) -> Result<Numbered<A::Named>, AllocError>
     requires { orders.now ≡ written_by_unit P.is_of month.now }
-    ensures { IfOk result (λ asked. asked ≡ asked_of count_in campaign.now.value (orders_by_unit P.is_of month.now)) }
+    ensures { IfOk result (λ asked. asked ≡ asked_of A.asks campaign.now.value (orders_by_unit P.is_of month.now)) }
 {
-    let asked = counts_found(alloc, campaign, month, orders)?;
-    Ok(asked)
-}
-
-/// By unit, the item that its own faction asks it for by the orders of a month for a phase.
-pub(crate) fn items_asked<P: PhaseVerbs>(
-    alloc: Global,
-    _: &P,
-    campaign: &Campaign,
-    month: &Month,
-    orders: &[Written],
-) -> Result<Numbered<u16>, AllocError>
-    requires { orders.now ≡ written_by_unit P.is_of month.now }
-    ensures { IfOk result (λ asked. asked ≡ asked_of item_in campaign.now.value (orders_by_unit P.is_of month.now)) }
-{
-    let asked = items_found(alloc, campaign, month, orders)?;
+    let asked = found::<A>(alloc, campaign, month, orders)?;
     Ok(asked)
 }

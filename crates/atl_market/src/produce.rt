@@ -6,7 +6,7 @@ ghost use Rattle.atl_market.specs.Making.{CanProduce};
 ghost use Rattle.atl_market.specs.Produce.{is_produce, produce_keeps, produce_meaning, produce_moves, produce_pots, produced};
 ghost use Rattle.atl_market.specs.Paid.{ProducesAtOnce};
 
-use crate::asking::items_asked;
+use crate::asking::{Items, asked};
 use crate::making::{can_make, make, make_fault};
 use crate::outputs::makes;
 use crate::pot_phase::{PotPhase, share_out, tell_all};
@@ -94,7 +94,7 @@ impl Phase for ProducePhase {
 
     fn run(&self, alloc: Global, world: &World, mut campaign: Campaign, mut month: Month) -> Ran {
         let orders = month.orders(alloc, self, Arrangement::ByUnit)?;
-        let asked = items_asked(alloc, self, &campaign, &month, &orders)?;
+        let asked = asked::<Items, Self>(alloc, &campaign, &month, &orders)?;
         world_is_sound(world);
         let producing = MailedProducing { asked: &asked };
         let events = share_out(alloc, &producing, world, &mut campaign, &orders)?;

@@ -15,7 +15,7 @@ ghost use Rattle.atl_market.specs.Recruit.{is_recruit, recruit_keeps, recruit_me
 ghost use Rattle.atl_market.specs.Payable.{CanRecruit};
 ghost use Rattle.atl_market.specs.Paid.{RecruitsAtOnce};
 
-use crate::asking::counts_asked;
+use crate::asking::{Counts, asked};
 use crate::pot_phase::{PotPhase, share_out, tell_all};
 use crate::pots::{Pots, pot_shares};
 use atl_instant::{Arrangement, Month, Phase, PhaseVerbs, Ran, Written, book_taken};
@@ -162,7 +162,7 @@ impl Phase for RecruitPhase {
 
     fn run(&self, alloc: Global, world: &World, mut campaign: Campaign, mut month: Month) -> Ran {
         let orders = month.orders(alloc, self, Arrangement::ByUnit)?;
-        let asked = counts_asked(alloc, self, &campaign, &month, &orders)?;
+        let asked = asked::<Counts, Self>(alloc, &campaign, &month, &orders)?;
         let recruiting = MailedRecruiting { asked: &asked };
         let events = share_out(alloc, &recruiting, world, &mut campaign, &orders)?;
         tell_all(&mut month, &events)?;

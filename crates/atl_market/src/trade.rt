@@ -13,7 +13,7 @@ ghost use Rattle.atl_instant.specs.Meaning.{most_moved};
 ghost use Rattle.atl_market.specs.Trade.{deal_of, dealt, has_too_little, is_trade, limit_of, market_for, most_traded, trade_entry, trade_fault, trade_keeps, trade_meaning, trade_moves, trade_of, trade_pot, trade_pots, traded};
 ghost use Rattle.atl_market.specs.Trading.{CanDeal, CanSettle, CanTrade, HasPot, IsPriced};
 
-use crate::asking::{counts_asked, items_asked};
+use crate::asking::{Counts, Items, asked};
 use crate::item_pots::{ItemPots, item_shares};
 use crate::pot_phase::{PotPhase, share_out, tell_all};
 use crate::produce::world_is_sound;
@@ -324,8 +324,8 @@ impl<const SELLS: bool> Phase for TradePhase<SELLS> {
 
     fn run(&self, alloc: Global, world: &World, mut campaign: Campaign, mut month: Month) -> Ran {
         let orders = month.orders(alloc, self, Arrangement::ByUnit)?;
-        let items = items_asked(alloc, self, &campaign, &month, &orders)?;
-        let counts = counts_asked(alloc, self, &campaign, &month, &orders)?;
+        let items = asked::<Items, Self>(alloc, &campaign, &month, &orders)?;
+        let counts = asked::<Counts, Self>(alloc, &campaign, &month, &orders)?;
         world_is_sound(world);
         let trade = trade_of(SELLS);
         let trading = MailedTrading {
