@@ -1,10 +1,11 @@
 -- MOVE leaves a campaign well, and spares who doesn't order it.
-use Rattle.std.proofs.Common.{◌≡◌, ◌≢◌, ◌==◌, ◌&&◌, ℕ, ◌≤◌, Bool, true, false, not, [], ◌∷◌, Option, Some, None, refl, sym, ap, subst, ◌∙◌, inl, inr, arith}
+use Rattle.std.proofs.Common.{◌≡◌, ◌≢◌, ◌==◌, ◌&&◌, ℕ, ◌≤◌, Bool, true, false, not, [], ◌∷◌, Option, Some, None, refl, sym, ap, subst, ◌∙◌, arith}
 use Rattle.std.specs.Prelude.{IfSome, nat_lt, option_map, unwrap_or, if◌then◌else◌}
 use Rattle.std.specs.Option.{option_map_or}
 use Rattle.std.specs.Ordering.{nat_cmp}
 use Rattle.std.specs.FinMap.{FinMap, get, len}
-use Rattle.std.proofs.lemmas.Bool.{cases_eq, not-true, not-false, true≢false}
+use Rattle.std.proofs.lemmas.Bool.{not-false, true≢false}
+use Rattle.std.proofs.lemmas.Option.{same_Some}
 use Rattle.atl_tables.specs.Worlds.{WorldValue, is_land}
 use Rattle.atl_tables.specs.declared.world.RegionPlan.{RegionPlan}
 use Rattle.atl_tables.specs.declared.direction.Direction.{Direction}
@@ -20,11 +21,9 @@ use Rattle.atl_state.specs.declared.records.Unit.{Unit}
 use Rattle.atl_state.specs.Good.{Every, IsOwned, IsSteady, IsThere, is_ship}
 use Rattle.atl_state.specs.Levels.{carried_by, goods_of}
 use Rattle.atl_state.specs.Owners.{handed, heir, placed, with_place, with_place_at}
-use Rattle.atl_state.specs.Campaign.{CampaignValue, numbers_inside, with_guard}
+use Rattle.atl_state.specs.Campaign.{CampaignValue, with_guard}
 use Rattle.atl_state.proofs.EveryLaws.{none_some}
-use Rattle.atl_state.proofs.InsideLaws.{inside_is_listed, listed_is_inside}
 use Rattle.atl_state.proofs.LeavingLaws.{owned_by}
-use Rattle.atl_state.proofs.RemovedLaws.{IsListed, first_of}
 use Rattle.atl_state.proofs.ListLaws.{other_number}
 use Rattle.atl_instant.specs.Outcomes.{unless}
 use Rattle.atl_instant.specs.Staying.{IsNoWorse}
@@ -32,17 +31,14 @@ use Rattle.atl_instant.specs.Steps.{IsOrderly, IsOwnOrder, StepsWell}
 use Rattle.atl_instant.specs.Unbooked.{books_nothing, moves_nothing}
 use Rattle.atl_instant.proofs.MeaningLaws.{same_month_by}
 use Rattle.atl_instant.proofs.OutcomeLaws.{false_true, none_fits}
-use Rattle.atl_instant.proofs.PlacingLaws.{owns_no_other, place_stays}
+use Rattle.atl_instant.proofs.OwnerLaws.{heir_owns, owner_stays}
+use Rattle.atl_instant.proofs.PlacingLaws.{mapped_twice, owns_no_other, place_stays}
 use Rattle.atl_instant.proofs.StructureLaws.{changed_else, equal, get-handed, handed_is, handed_on, len-handed}
 use Rattle.atl_instant.proofs.StepLaws.{no_worse_spares, well_same}
 use Rattle.atl_instant.proofs.UnbookedLaws.{stays_spared, stays_well}
 use Rattle.atl_action.specs.Walk.{is_land_there, walk, walk_fault, walk_said, walk_step, walked}
 use Rattle.atl_action.proofs.PeopleLaws.{AreSamePeople, elsewhere, elsewhere_at, elsewhere_people, gone, gone_if, gone_same, guards_stay, total_people}
 use Rattle.atl_action.proofs.TravelLaws.{AreTravelled, IsPut, IsSameStructure, steady-travelled, travelled}
-
-mapped_twice : {A : Type 0} (f g : A → A) (o : Option A) → option_map f (option_map g o) ≡ option_map (λ y. f (g y)) o
-mapped_twice f g None = refl
-mapped_twice f g (Some y) = refl
 
 mapped_itself : {A : Type 0} (o : Option A) → o ≡ option_map (λ y. y) o
 mapped_itself None = refl
@@ -83,14 +79,8 @@ module _ (w : WorldValue) (c : CampaignValue) (n : ℕ) (u : Unit) (to : ℕ) (i
   away : (k : ℕ) → k ≢ n → get units k ≡ get c.units k
   away k apart = units_at k ∙ ap (λ b. option_map (gone_if 0 to b) (get c.units k)) (other_number k n apart) ∙ sym (mapped_itself (get c.units k))
 
-  every_away : (P : ℕ → Unit → Type 0) → P n (gone 0 to u) → ((k : ℕ) (x : Unit) → k ≢ n → get c.units k ≡ Some x → P k x) → Every P units
-  every_away P mine others k x there = elim (cases_eq k n) [
-    | inl same ↦
-        let one : Some (gone 0 to u) ≡ Some x = sym here ∙ ap (get units) (sym same) ∙ there in
-        let unit : gone 0 to u ≡ x = cc in
-        subst (λ y. P k y) unit (subst (λ j. P j (gone 0 to u)) (sym same) mine)
-    | inr apart ↦ others k x apart (sym (away k apart) ∙ there)
-  ]
+  outside : (v : Unit) → get units n ≡ Some v → v.structure ≡ 0
+  outside v there = sym (ap (λ (x : Unit). x.structure) (same_Some (gone 0 to u) v (sym here ∙ there)))
 
   -- ---- the structures
 
@@ -105,27 +95,10 @@ module _ (w : WorldValue) (c : CampaignValue) (n : ℕ) (u : Unit) (to : ℕ) (i
     behind = travelled w c units structures f (λ q y. y)
 
     still_owned : (q : ℕ) (y : Structure) → get c.structures q ≡ Some y → y.owner ≢ n → IsOwned behind q y
-    still_owned q y there other =
-        let o = steady.owners q y there in
-        record {
-          owned = λ some. let (v, at, inside) = o.owned some in (v, away y.owner other ∙ at, inside);
-          ownerless = λ none. every_away (λ m v. v.structure ≢ q) (λ zero. not_first q y there (sym zero)) (λ m v apart at. o.ownerless none m v at);
-        }
+    still_owned q y there other = owner_stays c behind n away q y (steady.owners q y there) other (λ none v at inside. not_first q y there (sym inside ∙ outside v at))
 
-    listed_low : (k : ℕ) → IsListed k (numbers_inside old_place c.units) → 1 ≤ k
-    listed_low k h = let (v, at, inside) = listed_is_inside old_place c.units k h in low k v at
-
-    heir_owns : old_place ≢ 0 → (y : Structure) → IsOwned behind old_place (owned_by next y)
-    heir_owns some_place y =
-        let first = first_of (λ k. not (k == n)) (numbers_inside old_place c.units) listed_low in
-        record {
-          owned = λ some.
-              let (listed, other) = first.0 some in
-              let (v, at, inside) = listed_is_inside old_place c.units next listed in
-              (v, away next (is_unequal next n (not-true (next == n) other)) ∙ at, inside);
-          ownerless = λ none. every_away (λ m v. v.structure ≢ old_place) (λ zero. some_place (sym zero))
-              (λ m v other at inside. other (is_equal m n (not-false (m == n) (first.1 none m (inside_is_listed old_place c.units some_place m v at inside)))));
-        }
+    left_owned : old_place ≢ 0 → (y : Structure) → IsOwned behind old_place (owned_by next y)
+    left_owned some = heir_owns c behind n away old_place some low (λ v at inside. some (sym inside ∙ outside v at))
 
     -- g gives the structures, which are where they were
     module _ (g : ℕ → Structure → Structure) (at : (k : ℕ) → get structures k ≡ option_map (g k) (get c.structures k)) (count : len structures ≡ len c.structures)
@@ -198,7 +171,7 @@ module _ (w : WorldValue) (c : CampaignValue) (n : ℕ) (u : Unit) (to : ℕ) (i
   given_same false e b y high = rw high (record { kind = refl; done = refl; name = refl }, refl)
 
   given_owned : old_place ≢ 0 → (q : ℕ) (y : Structure) → get c.structures q ≡ Some y → (a e b : Bool) → (q == old_place) ≡ a → (y.owner == n) ≡ e → b ≡ false → IsOwned (behind gone_off.structures) q (given a e b y)
-  given_owned some q y there true true b p r high = rw high (subst (λ k. IsOwned (behind gone_off.structures) k (owned_by next y)) (sym (is_equal q old_place p)) (heir_owns gone_off.structures some y))
+  given_owned some q y there true true b p r high = rw high (subst (λ k. IsOwned (behind gone_off.structures) k (owned_by next y)) (sym (is_equal q old_place p)) (left_owned gone_off.structures some y))
   given_owned some q y there true false b p r high = rw high (still_owned gone_off.structures q y there (is_unequal y.owner n r))
   given_owned some q y there false e b p r high = rw high (still_owned gone_off.structures q y there (owns_no_other w c n u is steady q y there (is_unequal q old_place p)))
 

@@ -25,6 +25,7 @@ pub mod HolderLaws
 pub mod FactionLaws
 pub mod StructureLaws
 pub mod RefitLaws
+pub mod OwnerLaws
 pub mod PlacingLaws
 pub mod UnbookedLaws
 pub mod NameLaws

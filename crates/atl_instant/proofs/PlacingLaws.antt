@@ -1,6 +1,7 @@
 -- How a campaign changes as a unit leaves a structure for another of its region, or for none.
-use Rattle.std.proofs.Common.{◌≡◌, ◌≢◌, ◌==◌, ◌&&◌, ℕ, ◌≤◌, Bool, true, false, not, Option, Some, None, refl, sym, ap, subst, ◌∙◌, arith}
-use Rattle.std.proofs.lemmas.Bool.{not-true, not-false, true≢false}
+use Rattle.std.proofs.Common.{◌≡◌, ◌≢◌, ◌==◌, ◌&&◌, ℕ, ◌≤◌, Bool, true, false, Option, Some, None, refl, sym, ap, subst, ◌∙◌, arith}
+use Rattle.std.proofs.lemmas.Bool.{true≢false}
+use Rattle.std.proofs.lemmas.Option.{same_Some}
 use Rattle.std.specs.Prelude.{option_map, if◌then◌else◌}
 use Rattle.std.specs.FinMap.{get}
 use Rattle.atl_tables.specs.Worlds.{WorldValue}
@@ -11,22 +12,22 @@ use Rattle.atl_state.specs.declared.records.Unit.{Unit}
 use Rattle.atl_state.specs.Good.{Every, IsEarly, IsOwned, IsSteady, is_ship}
 use Rattle.atl_state.specs.declared.books.Thing.{Thing}
 use Rattle.atl_state.specs.Owners.{handed, heir, is_owned_by, placed, with_place, with_place_at}
-use Rattle.atl_state.specs.Campaign.{CampaignValue, numbers_inside, with_owner}
+use Rattle.atl_state.specs.Campaign.{CampaignValue, with_owner}
 use Rattle.atl_state.specs.Totals.{total}
-use Rattle.atl_state.proofs.EveryLaws.{every-insert, get-insert_other}
-use Rattle.atl_state.proofs.InsideLaws.{inside_is_listed, is_no_zero, listed_is_inside}
+use Rattle.atl_state.proofs.EveryLaws.{get-insert_other}
+use Rattle.atl_state.proofs.InsideLaws.{is_no_zero}
 use Rattle.atl_state.proofs.LeavingLaws.{owned_by}
 use Rattle.atl_state.proofs.RegionLaws.{changed-known, get-insert_same}
-use Rattle.atl_state.proofs.RemovedLaws.{IsListed, every-insert_other, first_of}
 use Rattle.atl_state.proofs.ListLaws.{other_number}
 use Rattle.atl_instant.specs.Steps.{StepsWell}
 use Rattle.atl_instant.specs.Unbooked.{books_nothing}
 use Rattle.atl_instant.proofs.MeaningLaws.{same_month_by}
+use Rattle.atl_instant.proofs.OwnerLaws.{heir_owns, owner_stays}
 use Rattle.atl_instant.proofs.RefitLaws.{IsRefit, IsRelabelled, early-refitted, refitted, steady-refitted, total-refitted}
 use Rattle.atl_instant.proofs.StructureLaws.{changed_else, equal, get-handed, handed_is, handed_on, len-handed}
 use Rattle.atl_instant.proofs.UnbookedLaws.{unbooked_well}
 
-mapped_twice : (f g : Structure → Structure) (o : Option Structure) → option_map f (option_map g o) ≡ option_map (λ y. f (g y)) o
+pub mapped_twice : {A : Type 0} (f g : A → A) (o : Option A) → option_map f (option_map g o) ≡ option_map (λ y. f (g y)) o
 mapped_twice f g None = refl
 mapped_twice f g (Some y) = refl
 
@@ -99,29 +100,15 @@ module _ (w : WorldValue) (c : CampaignValue) (n : ℕ) (u : Unit) (s : ℕ) (is
   low : Every (λ k v. 1 ≤ k) c.units
   low k v there = (steady.numbers.units k v there).0
 
-  listed_low : (k : ℕ) → IsListed k (numbers_inside old_place c.units) → 1 ≤ k
-  listed_low k h = let (v, there, inside) = listed_is_inside old_place c.units k h in low k v there
+  away : (k : ℕ) → k ≢ n → get behind.units k ≡ get c.units k
+  away k other = get-insert_other c.units n k moved other
 
-  heir_owns : old_place ≢ 0 → (y : Structure) → IsOwned behind old_place (owned_by next y)
-  heir_owns some_place y =
-      let first = first_of (λ k. not (k == n)) (numbers_inside old_place c.units) listed_low in
-      record {
-        owned = λ some.
-            let (listed, other) = first.0 some in
-            let (v, there, inside) = listed_is_inside old_place c.units next listed in
-            (v, get-insert_other c.units n next moved (is_unequal next n (not-true (next == n) other)) ∙ there, inside);
-        ownerless = λ none. every-insert_other (λ m v. v.structure ≢ old_place) c.units n moved (λ back. apart (sym back))
-            (λ m v other there here. other (is_equal m n (not-false (m == n) (first.1 none m (inside_is_listed old_place c.units some_place m v there here)))));
-      }
+  stands : (v : Unit) → get behind.units n ≡ Some v → v.structure ≡ s
+  stands v there = sym (ap (λ (x : Unit). x.structure) (same_Some moved v (sym (get-insert_same c.units n moved) ∙ there)))
 
   -- a structure that keeps its owner
   still_owned : (q : ℕ) (y : Structure) → get c.structures q ≡ Some y → y.owner ≢ n → (y.owner ≡ 0 → s ≢ q) → IsOwned behind q y
-  still_owned q y there other free =
-      let o = steady.owners q y there in
-      record {
-        owned = λ some. let (v, here, inside) = o.owned some in (v, get-insert_other c.units n y.owner moved other ∙ here, inside);
-        ownerless = λ none. every-insert (λ m v. v.structure ≢ q) c.units n moved (free none) (o.ownerless none);
-      }
+  still_owned q y there other free = owner_stays c behind n away q y (steady.owners q y there) other (λ none v here inside. free none (sym (stands v here) ∙ inside))
 
   structure_in : Option Unit → Unit → ℕ
   structure_in (Some x) v = x.structure
@@ -139,7 +126,7 @@ module _ (w : WorldValue) (c : CampaignValue) (n : ℕ) (u : Unit) (s : ℕ) (is
 
   by_tests : (q : ℕ) (y : Structure) → get c.structures q ≡ Some y → (a e b : Bool) → (q == old_place) ≡ a → (y.owner == n) ≡ e → (q == s) ≡ b → IsOwned behind q (given a e b y)
   by_tests q y there true e true p r t = absurd (apart (sym (is_equal q old_place p) ∙ is_equal q s t))
-  by_tests q y there true true false p r t = subst (λ k. IsOwned behind k (owned_by next y)) (sym (is_equal q old_place p)) (heir_owns (λ zero. is_no_zero c.structures c.next_structure steady.next.structures q y there (is_equal q old_place p ∙ zero)) y)
+  by_tests q y there true true false p r t = subst (λ k. IsOwned behind k (owned_by next y)) (sym (is_equal q old_place p)) (heir_owns c behind n away old_place (λ zero. is_no_zero c.structures c.next_structure steady.next.structures q y there (is_equal q old_place p ∙ zero)) low (λ v here inside. apart (sym inside ∙ stands v here)) y)
   by_tests q y there true false false p r t = still_owned q y there (is_unequal y.owner n r) (λ none here. is_unequal q s t (sym here))
   by_tests q y there false e true p r t = entered_owned q y there (is_unequal q old_place p) (is_equal q s t) (y.owner == 0) refl
   by_tests q y there false e false p r t = still_owned q y there (owns_no_other w c n u is steady q y there (is_unequal q old_place p)) (λ none here. is_unequal q s t (sym here))

@@ -1,0 +1,46 @@
+-- Who owns the structures once a unit stands elsewhere, and the others where they were.
+use Rattle.std.proofs.Common.{◌≡◌, ◌≢◌, ◌==◌, ℕ, ◌≤◌, not, Some, sym, ap, subst, ◌∙◌, inl, inr}
+use Rattle.std.proofs.lemmas.Bool.{cases_eq, not-true, not-false}
+use Rattle.std.specs.FinMap.{get}
+use Rattle.atl_tables.proofs.GeneralLaws.{is_equal, is_unequal}
+use Rattle.atl_state.specs.declared.records.Structure.{Structure}
+use Rattle.atl_state.specs.declared.records.Unit.{Unit}
+use Rattle.atl_state.specs.Good.{Every, IsOwned}
+use Rattle.atl_state.specs.Owners.{heir}
+use Rattle.atl_state.specs.Campaign.{CampaignValue, numbers_inside}
+use Rattle.atl_state.proofs.InsideLaws.{inside_is_listed, listed_is_inside}
+use Rattle.atl_state.proofs.LeavingLaws.{owned_by}
+use Rattle.atl_state.proofs.RemovedLaws.{IsListed, first_of}
+
+-- the units of one campaign are those of the other but for one
+module _ (c d : CampaignValue) (n : ℕ) (away : (k : ℕ) → k ≢ n → get d.units k ≡ get c.units k) where
+  -- what is so of that one, and was of each other
+  every_away : (P : ℕ → Unit → Type 0) → ((v : Unit) → get d.units n ≡ Some v → P n v) → ((k : ℕ) (v : Unit) → k ≢ n → get c.units k ≡ Some v → P k v) → Every P d.units
+  every_away P mine others k v there = elim (cases_eq k n) [
+    | inl same ↦ subst (λ j. P j v) (sym same) (mine v (ap (get d.units) (sym same) ∙ there))
+    | inr apart ↦ others k v apart (sym (away k apart) ∙ there)
+  ]
+
+  -- a structure that another unit owns, or that nobody owns and the unit isn't inside
+  pub owner_stays : (q : ℕ) (y : Structure) → IsOwned c q y → y.owner ≢ n → (y.owner ≡ 0 → (v : Unit) → get d.units n ≡ Some v → v.structure ≢ q) → IsOwned d q y
+  owner_stays q y old other outside = record {
+    owned = λ some. let (v, there, inside) = old.owned some in (v, away y.owner other ∙ there, inside);
+    ownerless = λ none. every_away (λ k v. v.structure ≢ q) (outside none) (λ k v apart there. old.ownerless none k v there);
+  }
+
+  -- a structure that the unit isn't inside any more, by the first of the others inside
+  pub heir_owns : (place : ℕ) → place ≢ 0 → Every (λ k v. 1 ≤ k) c.units → ((v : Unit) → get d.units n ≡ Some v → v.structure ≢ place) → (y : Structure) → IsOwned d place (owned_by (heir c place n) y)
+  heir_owns place some low outside y =
+      let next = heir c place n in
+      let first = first_of (λ k. not (k == n)) (numbers_inside place c.units) listed_low in
+      record {
+        owned = λ is_one.
+            let (listed, other) = first.0 is_one in
+            let (v, there, inside) = listed_is_inside place c.units next listed in
+            (v, away next (is_unequal next n (not-true (next == n) other)) ∙ there, inside);
+        ownerless = λ none. every_away (λ k v. v.structure ≢ place) outside
+            (λ k v apart there inside. apart (is_equal k n (not-false (k == n) (first.1 none k (inside_is_listed place c.units some k v there inside)))));
+      }
+    where
+      listed_low : (k : ℕ) → IsListed k (numbers_inside place c.units) → 1 ≤ k
+      listed_low k h = let (v, there, inside) = listed_is_inside place c.units k h in low k v there
