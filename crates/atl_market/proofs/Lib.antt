@@ -8,6 +8,7 @@ pub mod FindingLaws
 pub mod AtOnceLaws
 pub mod PurseLaws
 pub mod TaxLaws
+pub mod ExchangeLaws
 pub mod RecruitLaws
 pub mod WorkLaws
 pub mod WorkOrderLaws

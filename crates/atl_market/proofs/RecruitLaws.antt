@@ -1,10 +1,9 @@
 -- Recruiting leaves a campaign well.
-use Rattle.std.proofs.Common.{◌≡◌, ◌≢◌, ◌==◌, ℕ, ◌+◌, ◌-◌, ◌*◌, ◌/◌, ◌≤◌, false, cond, Option, Some, None, List, [], ◌∷◌, length, refl, sym, ap, subst, ◌∙◌, arith}
-use Rattle.std.specs.Prelude.{ℤ, fold, pos, neg_ℤ, ◌+ℤ◌, min}
+use Rattle.std.proofs.Common.{◌≡◌, ◌≢◌, ℕ, ◌+◌, ◌-◌, ◌*◌, ◌/◌, ◌≤◌, Option, Some, None, List, [], ◌∷◌, length, refl, sym, ap, subst, ◌∙◌, arith}
+use Rattle.std.specs.Prelude.{ℤ, fold, pos, neg_ℤ, min}
 use Rattle.std.specs.Ordering.{nat_cmp}
 use Rattle.std.specs.FinMap.{FinMap, entries, get, insert}
 use Rattle.std.proofs.lemmas.Int.{ints}
-use Rattle.std.proofs.lemmas.Bool.Decides.{nat_tests}
 use Rattle.std.proofs.Math.Nat.{div-le_self, mul-div-le, mul-le-mul_right, mul_comm}
 use Rattle.atl_tables.specs.Worlds.{WorldValue}
 use Rattle.atl_tables.specs.Sums.{changed, changed_at}
@@ -12,36 +11,34 @@ use Rattle.atl_tables.proofs.Maps.{insert_over}
 use Rattle.atl_state.specs.declared.books.Entry.{Entry}
 use Rattle.atl_state.specs.declared.books.Entry.TheVariants.{Recruiting}
 use Rattle.atl_state.specs.declared.books.Thing.{Thing}
-use Rattle.atl_state.specs.declared.books.Thing.TheVariants.{Money, People, Item}
+use Rattle.atl_state.specs.declared.books.Thing.TheVariants.{Money}
 use Rattle.atl_state.specs.declared.records.Region.{Region}
 use Rattle.atl_state.specs.declared.records.Unit.{Unit}
 use Rattle.atl_state.specs.Books.{IsGrid}
 use Rattle.atl_state.specs.Covers.{MarksChanges}
-use Rattle.atl_state.specs.Founding.{things_of}
 use Rattle.atl_state.specs.Good.{Every, IsEarly}
-use Rattle.atl_state.specs.Held.{Held, amount_of}
+use Rattle.atl_state.specs.Held.{Held}
 use Rattle.atl_state.specs.Lending.{with_held, with_holding}
 use Rattle.atl_state.specs.Limits.{holding_limit, men_limit, most_units}
 use Rattle.atl_state.specs.Marking.{mark_amount, mark_region, mark_unit_row}
 use Rattle.atl_state.specs.Campaign.{MarkedCampaign, CampaignValue, region_changed, with_amount, with_money, with_peasants}
 use Rattle.atl_state.specs.Campaign as state
-use Rattle.atl_state.specs.Totals.{held, kept, total}
 use Rattle.atl_state.proofs.BackLaws.{entries_rise}
-use Rattle.atl_state.proofs.BookLaws.{booked-with_booked, share_of}
 use Rattle.atl_state.proofs.CoverLaws.{marks-amount, marks-region, marks-trans}
 use Rattle.atl_state.proofs.EveryLaws.{each-from_every, get-insert_other}
-use Rattle.atl_state.proofs.HoldingLaws.{marks-unit_row, total-held}
-use Rattle.atl_state.proofs.RegionLaws.{IsRegion-peasants, get-insert_same, steady-amount, steady-region, total-amount, total-region}
+use Rattle.atl_state.proofs.HoldingLaws.{marks-unit_row}
+use Rattle.atl_state.proofs.RegionLaws.{IsRegion-peasants, get-insert_same, steady-region}
 use Rattle.atl_instant.specs.Meaning.{HaveRoom, LeavesWell, Moving, moved_times, most_moved}
 use Rattle.atl_instant.specs.declared.written.Written.{Written}
-use Rattle.atl_instant.proofs.BookingLaws.{booked-near, within-neg}
+use Rattle.atl_instant.proofs.BookingLaws.{within-neg}
 use Rattle.atl_instant.proofs.MarkLaws.{marks_by}
-use Rattle.atl_instant.proofs.MeaningLaws.{room_less, same_month_by, well_within}
+use Rattle.atl_instant.proofs.MeaningLaws.{room_less, well_within}
 use Rattle.atl_market.specs.PotPhase.{CanInTurn, given_by, shared_out}
 use Rattle.atl_market.specs.Recruit.{recruit_moves, recruit_pots, recruited, recruited_by, recruited_from, recruits_at, recruits_in, with_men, with_recruits}
 use Rattle.atl_market.specs.Unordered.{OthersAreNoWorse}
 use Rattle.atl_market.proofs.DrawLaws.{AreReady, Drains, DrawnPots, HaveEnough, all_pairs, drawn, one_drains, one_draws, pot_is_enough, ready_behind, region_pots, untouched, who_stand}
-use Rattle.atl_state.proofs.HavingLaws.{MayHave, early-having, may_have}
+use Rattle.atl_state.proofs.HavingLaws.{MayHave, may_have}
+use Rattle.atl_market.proofs.ExchangeLaws.{KeepsTogether, exchange_well}
 use Rattle.atl_market.proofs.OrderedLaws.{others_no_worse}
 use Rattle.atl_market.proofs.TurnLaws.{few_holdings, first_room, later_room, turns_leave_well}
 use Rattle.atl_market.proofs.PotLaws.{pots_give}
@@ -91,42 +88,15 @@ module _ (w : WorldValue) (c : CampaignValue) (n : ℕ) (u : Unit) (q : Region) 
           days = λ s days there. let (some, most) = old.days s days there in (some, omega (arith, most));
         }
 
-    still_early : IsEarly w after
-    still_early =
-        let before = early-having w c n u more is may (λ g. g) early in
-        let within = early.steady.numbers.regions u.region q around in
-        record {
-          steady = steady-amount w left Recruiting Money (neg_ℤ (pos cost)) (steady-region (leave q recruits) peopled u.region q around w (IsRegion-peasants q (q.peasants - recruits) (omega (arith, within.peasants)) within) (early.steady.known.markets u.region q around) before.steady);
-          flags = before.flags;
-        }
-
-    total_of : (t : Thing) → total after t ≡ total left t → total left t + kept t q ≡ total peopled t + kept t (leave q recruits q)
-        → total peopled t + held t u.holding ≡ total c t + held t more → pos (total after t) ≡ pos (total c t) +ℤ share_of t Money (neg_ℤ (pos cost))
-    total_of Money s a b = omega (arith, ints, s, a, b, payable)
-    total_of People s a b = omega (arith, ints, s, a, b, enough)
-    total_of (Item i) s a b =
-        let other : (2 + i == 0) ≡ false = grind (arith, nat_tests) in
-        ap pos (same (total after (Item i)) (total left (Item i)) (total peopled (Item i)) (total c (Item i)) (amount_of q.stocks i) (amount_of u.holding.items i) s a b)
-        ∙ sym (ap (λ b. pos (total c (Item i)) +ℤ cond b (neg_ℤ (pos cost)) (pos 0)) other ∙ zero_more (total c (Item i)))
-      where
-        same : (v x y z j k : ℕ) → v ≡ x → x + j ≡ y + j → y + k ≡ z + k → v ≡ z
-        same v x y z j k s a b = omega (arith, s, a, b)
-
-        zero_more : (x : ℕ) → pos x +ℤ pos 0 ≡ pos x
-        zero_more x = omega (arith, ints)
+    together : KeepsTogether u q (leave q recruits) more (neg_ℤ (pos cost))
+    together = record { money = omega (arith, ints, payable); people = omega (arith, enough); items = λ i. refl }
 
     recruits_leave_well : LeavesWell IsEarly (recruit_moves holding_limit) w c after
     recruits_leave_well =
-        let grid = early.steady.numbers.books in
-        let price = neg_ℤ (pos cost) in
-        record {
-          leaves_it = still_early;
-          same_month = same_month_by refl;
-          balances = λ old t.
-              total_of t (total-amount left Recruiting Money t price) (total-region (leave q recruits) peopled u.region q around t) (total-held w c n u more is t)
-              ∙ ap (λ z. z +ℤ share_of t Money price) (old t) ∙ sym (booked-with_booked (things_of w) c.books Recruiting Money price grid (omega arith) t);
-          near = booked-near (things_of w) c.books Recruiting Money price holding_limit grid (omega arith) (within-neg cost holding_limit (omega (arith, payable, (may_have w c n u is early.steady).limits.money)));
-        }
+        let within = early.steady.numbers.regions u.region q around in
+        exchange_well w c n u q (leave q recruits) more Recruiting (neg_ℤ (pos cost)) is around holding_limit may (λ g. g)
+        (steady-region (leave q recruits) peopled u.region q around w (IsRegion-peasants q (q.peasants - recruits) (omega (arith, within.peasants)) within) (early.steady.known.markets u.region q around))
+        together (within-neg cost holding_limit (omega (arith, payable, (may_have w c n u is early.steady).limits.money))) early
 
 -- ---- what is marked
 

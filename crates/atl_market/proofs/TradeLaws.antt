@@ -7,7 +7,6 @@ use Rattle.std.specs.Cmp.{unsigned_ties}
 use Rattle.std.specs.FinMap.{FinMap, entries, get, insert}
 use Rattle.std.proofs.lemmas.Int.{ints}
 use Rattle.std.proofs.lemmas.Bool.{and_parts, eqb-true}
-use Rattle.std.proofs.lemmas.Bool.Decides.{nat_tests}
 use Rattle.std.proofs.lemmas.Option.{same_Some}
 use Rattle.std.proofs.Math.Nat.{mul-div-le, mul-le-mul_right, mul_comm}
 use Rattle.atl_tables.proofs.GeneralLaws.{is_unequal}
@@ -18,7 +17,7 @@ use Rattle.atl_tables.specs.declared.world.Market.{Market}
 use Rattle.atl_tables.specs.declared.world.RegionPlan.{RegionPlan}
 use Rattle.atl_state.specs.declared.books.Entry.{Entry}
 use Rattle.atl_state.specs.declared.books.Thing.{Thing}
-use Rattle.atl_state.specs.declared.books.Thing.TheVariants.{Money, People, Item}
+use Rattle.atl_state.specs.declared.books.Thing.TheVariants.{Money}
 use Rattle.atl_state.specs.declared.records.Region.{Region}
 use Rattle.atl_state.specs.declared.records.Unit.{Unit}
 use Rattle.atl_state.specs.Books.{IsWithin, amount_in}
@@ -31,24 +30,20 @@ use Rattle.atl_state.specs.Limits.{holding_limit, most_units}
 use Rattle.atl_state.specs.Marking.{mark_region}
 use Rattle.atl_state.specs.Stocks.{stock_limit, stock_of}
 use Rattle.atl_state.specs.Campaign.{MarkedCampaign, CampaignValue, region_changed, with_amount, with_stock}
-use Rattle.atl_state.specs.Totals.{held, kept, total}
 use Rattle.atl_state.proofs.BackLaws.{entries_rise}
-use Rattle.atl_state.proofs.BookLaws.{booked-with_booked, share_of}
 use Rattle.atl_state.proofs.CoverLaws.{marks-region, marks-trans}
 use Rattle.atl_state.proofs.EveryLaws.{each-from_every, get-insert_other, none_some}
-use Rattle.atl_state.proofs.HavingLaws.{MayHave, early-having, may_have}
+use Rattle.atl_state.proofs.HavingLaws.{MayHave, may_have}
 use Rattle.atl_state.proofs.HeldLaws.{alike, amount_within, every_amount, set_amount}
-use Rattle.atl_state.proofs.HoldingLaws.{total-held}
 use Rattle.atl_state.proofs.ListLaws.{other_number, same_number}
-use Rattle.atl_state.proofs.RegionLaws.{steady-amount, total-amount, total-region}
 use Rattle.atl_state.proofs.StockLaws.{restocked, steady-stock}
 use Rattle.atl_instant.specs.Meaning.{HasRoom, HaveRoom, LeavesWell, Moving, moved_times, moves_only, most_moved}
 use Rattle.atl_instant.specs.Holdings.{ChangesHolding}
 use Rattle.atl_instant.specs.declared.written.Written.{Written}
-use Rattle.atl_instant.proofs.BookingLaws.{booked-near, within-neg, within-pos}
+use Rattle.atl_instant.proofs.BookingLaws.{within-neg, within-pos}
 use Rattle.atl_instant.proofs.ChangeLaws.{changed_held}
 use Rattle.atl_instant.proofs.MarkLaws.{marks_by}
-use Rattle.atl_instant.proofs.MeaningLaws.{room_less, same_month_by, well_unchanged, well_within}
+use Rattle.atl_instant.proofs.MeaningLaws.{room_less, well_unchanged, well_within}
 use Rattle.atl_market.specs.AtOnce.{stands_in}
 use Rattle.atl_market.specs.ItemPots.{is_for, share_for, wants_for}
 use Rattle.atl_market.specs.PotPhase.{CanInTurn, given_by, shared_out, wants_by}
@@ -59,6 +54,7 @@ use Rattle.atl_market.specs.declared.trade.Deal.{Deal}
 use Rattle.atl_market.specs.declared.trade.Trade.{Trade}
 use Rattle.atl_market.specs.declared.trade.Trade.TheVariants.{Sell, Buy}
 use Rattle.atl_market.proofs.DrawLaws.{AreReady, Drains, DrawnPots, HaveEnough, all_pairs, drawn, first_draws, nothing_drains, ready_behind, region_drains, shares_are_enough, untouched}
+use Rattle.atl_market.proofs.ExchangeLaws.{KeepsTogether, exchange_well}
 use Rattle.atl_market.proofs.ItemPotLaws.{items_give, shares_at}
 use Rattle.atl_market.proofs.OrderedLaws.{others_no_worse}
 use Rattle.atl_market.proofs.ProduceLaws.{only_room}
@@ -109,52 +105,23 @@ module _ (w : WorldValue) (c : CampaignValue) (n : ℕ) (u : Unit) (q : Region) 
           days = old.days;
         }
 
-    still_early : IsEarly w after
-    still_early =
-        let before = early-having w c n u more is may (λ g. g) early in
-        record {
-          steady = steady-amount w left entry Money d.booked (steady-stock paid u.region i d.stock q around w market fits.stock before.steady);
-          flags = before.flags;
-        }
-
-    total_of : (t : Thing) → total after t ≡ total left t → total left t + kept t q ≡ total paid t + kept t (restocked q i d.stock)
-        → total paid t + held t u.holding ≡ total c t + held t more → pos (total after t) ≡ pos (total c t) +ℤ share_of t Money d.booked
-    total_of Money s a b = omega (arith, ints, s, a, b, fits.paid)
-    total_of People s a b = omega (arith, ints, s, a, b)
-    total_of (Item j) s a b =
-        let other : (2 + j == 0) ≡ false = grind (arith, nat_tests) in
-        ap pos (by_test (eq_by_cmp nat_cmp j i) refl (total after (Item j)) (total left (Item j)) (total paid (Item j)) (total c (Item j)) s
-        (a ∙ ap (λ k. total paid (Item j) + k) (set_amount q.stocks i d.stock j)) (b ∙ ap (λ k. total c (Item j) + k) (set_amount u.holding.items i d.amount j)))
-        ∙ sym (ap (λ b. pos (total c (Item j)) +ℤ cond b d.booked (pos 0)) other ∙ zero_more (total c (Item j)))
+    together : KeepsTogether u q (λ r. restocked r i d.stock) more d.booked
+    together = record { money = omega (arith, ints, fits.paid); people = refl; items = items }
       where
-        zero_more : (x : ℕ) → pos x +ℤ pos 0 ≡ pos x
-        zero_more x = omega (arith, ints)
+        by_test : (j : ℕ) (b : Bool) → eq_by_cmp nat_cmp j i ≡ b
+            → cond b d.amount (amount_of u.holding.items j) + cond b d.stock (amount_of q.stocks j) ≡ amount_of u.holding.items j + amount_of q.stocks j
+        by_test j true is_i = fits.goods ∙ ap (λ k. amount_of u.holding.items k + amount_of q.stocks k) (sym (alike i j is_i))
+        by_test j false is_other = refl
 
-        moved : (v x y z st am st2 am2 : ℕ) → v ≡ x → x + st ≡ y + st2 → y + am ≡ z + am2 → am2 + st2 ≡ am + st → v ≡ z
-        moved v x y z st am st2 am2 s a b g = omega (arith, s, a, b, g)
-
-        unmoved : (v x y z st am : ℕ) → v ≡ x → x + st ≡ y + st → y + am ≡ z + am → v ≡ z
-        unmoved v x y z st am s a b = omega (arith, s, a, b)
-
-        by_test : (k : Bool) → eq_by_cmp nat_cmp j i ≡ k → (v x y z : ℕ) → v ≡ x → x + amount_of q.stocks j ≡ y + cond k d.stock (amount_of q.stocks j)
-            → y + amount_of u.holding.items j ≡ z + cond k d.amount (amount_of u.holding.items j) → v ≡ z
-        by_test true is_i v x y z s a b =
-            let j_is : j ≡ i = alike i j is_i in
-            moved v x y z (amount_of q.stocks j) (amount_of u.holding.items j) d.stock d.amount s a b
-            (fits.goods ∙ ap (λ k. amount_of u.holding.items k + amount_of q.stocks k) (sym j_is))
-        by_test false is_other v x y z s a b = unmoved v x y z (amount_of q.stocks j) (amount_of u.holding.items j) s a b
+        items : (j : ℕ) → amount_of more.items j + amount_of (restocked q i d.stock).stocks j ≡ amount_of u.holding.items j + amount_of q.stocks j
+        items j =
+            ap (λ k. k + amount_of (restocked q i d.stock).stocks j) (set_amount u.holding.items i d.amount j)
+            ∙ ap (λ k. cond (eq_by_cmp nat_cmp j i) d.amount (amount_of u.holding.items j) + k) (set_amount q.stocks i d.stock j) ∙ by_test j (eq_by_cmp nat_cmp j i) refl
 
     pub deal_well : LeavesWell IsEarly (moves_only holding_limit entry Money) w c after
     deal_well =
-        let grid = early.steady.numbers.books in
-        record {
-          leaves_it = still_early;
-          same_month = same_month_by refl;
-          balances = λ old t.
-              total_of t (total-amount left entry Money t d.booked) (total-region (λ r. restocked r i d.stock) paid u.region q around t) (total-held w c n u more is t)
-              ∙ ap (λ z. z +ℤ share_of t Money d.booked) (old t) ∙ sym (booked-with_booked (things_of w) c.books entry Money d.booked grid (omega arith) t);
-          near = booked-near (things_of w) c.books entry Money d.booked holding_limit grid (omega arith) fits.small;
-        }
+        exchange_well w c n u q (λ r. restocked r i d.stock) more entry d.booked is around holding_limit may (λ g. g)
+        (steady-stock paid u.region i d.stock q around w market fits.stock) together fits.small early
 
 -- ---- the market that a unit trades with
 

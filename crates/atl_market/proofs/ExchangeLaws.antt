@@ -1,0 +1,75 @@
+-- A unit and its region exchange what they have, and money that comes or goes is booked.
+use Rattle.std.proofs.Common.{◌≡◌, ◌==◌, ℕ, ◌+◌, true, false, cond, Some, refl, sym, ap, ◌∙◌, arith}
+use Rattle.std.specs.Prelude.{ℤ, pos, ◌+ℤ◌}
+use Rattle.std.specs.FinMap.{get, insert}
+use Rattle.std.proofs.lemmas.Int.{ints}
+use Rattle.std.proofs.lemmas.Bool.Decides.{nat_tests}
+use Rattle.atl_tables.specs.Worlds.{WorldValue}
+use Rattle.atl_state.specs.declared.books.Entry.{Entry}
+use Rattle.atl_state.specs.declared.books.Thing.{Thing}
+use Rattle.atl_state.specs.declared.books.Thing.TheVariants.{Money, People, Item}
+use Rattle.atl_state.specs.declared.records.Region.{Region}
+use Rattle.atl_state.specs.declared.records.Unit.{Unit}
+use Rattle.atl_state.specs.Books.{IsWithin}
+use Rattle.atl_state.specs.Founding.{things_of}
+use Rattle.atl_state.specs.Good.{IsEarly, IsSteady}
+use Rattle.atl_state.specs.Held.{Held, amount_of}
+use Rattle.atl_state.specs.Campaign.{CampaignValue, region_changed, with_amount}
+use Rattle.atl_state.specs.Totals.{held, kept, total}
+use Rattle.atl_state.proofs.BookLaws.{booked-with_booked, share_of}
+use Rattle.atl_state.proofs.HavingLaws.{MayHave, early-having}
+use Rattle.atl_state.proofs.HoldingLaws.{total-held}
+use Rattle.atl_state.proofs.RegionLaws.{steady-amount, total-amount, total-region}
+use Rattle.atl_instant.specs.Meaning.{LeavesWell, moves_only}
+use Rattle.atl_instant.proofs.BookingLaws.{booked-near}
+use Rattle.atl_instant.proofs.MeaningLaws.{same_month_by}
+
+-- both have together what they had, but for the money that is booked
+pub record KeepsTogether (u : Unit) (q : Region) (f : Region → Region) (more : Held) (z : ℤ) : Type 0 where
+  pub money : pos (more.money + (f q).money) ≡ pos (u.holding.money + q.money) +ℤ z
+  pub people : more.men + (f q).peasants ≡ u.holding.men + q.peasants
+  pub items : (i : ℕ) → amount_of more.items i + amount_of (f q).stocks i ≡ amount_of u.holding.items i + amount_of q.stocks i
+
+module _ (w : WorldValue) (c : CampaignValue) (n : ℕ) (u : Unit) (q : Region) (f : Region → Region) (more : Held) (entry : Entry) (z : ℤ)
+    (is : get c.units n ≡ Some u) (around : get c.regions u.region ≡ Some q) where
+  abbrev supplied : CampaignValue
+  supplied = record c { units = insert c.units n (record u { holding = more }) }
+
+  abbrev left : CampaignValue
+  left = region_changed f supplied u.region
+
+  abbrev exchanged : CampaignValue
+  exchanged = with_amount left entry Money z
+
+  total_of : KeepsTogether u q f more z → (t : Thing) → pos (total exchanged t) ≡ pos (total c t) +ℤ share_of t Money z
+  total_of keeps t = by_thing t (total-amount left entry Money t z) (total-region f supplied u.region q around t) (total-held w c n u more is t)
+    where
+      same : (a b d e g h i j : ℕ) → a ≡ b → b + g ≡ d + h → d + i ≡ e + j → j + h ≡ i + g → a ≡ e
+      same a b d e g h i j s k l m = omega (arith, s, k, l, m)
+
+      none_booked : (x i : ℕ) → pos x +ℤ share_of (Item i) Money z ≡ pos x
+      none_booked x i =
+          let other : (2 + i == 0) ≡ false = grind (arith, nat_tests) in
+          ap (λ b. pos x +ℤ cond b z (pos 0)) other ∙ zero_more
+        where
+          zero_more : pos x +ℤ pos 0 ≡ pos x
+          zero_more = omega (arith, ints)
+
+      by_thing : (t : Thing) → total exchanged t ≡ total left t → total left t + kept t q ≡ total supplied t + kept t (f q)
+          → total supplied t + held t u.holding ≡ total c t + held t more → pos (total exchanged t) ≡ pos (total c t) +ℤ share_of t Money z
+      by_thing Money s a b = omega (arith, ints, s, a, b, keeps.money)
+      by_thing People s a b = omega (arith, ints, s, a, b, keeps.people)
+      by_thing (Item i) s a b =
+          ap pos (same (total exchanged (Item i)) (total left (Item i)) (total supplied (Item i)) (total c (Item i)) (amount_of q.stocks i) (amount_of (f q).stocks i) (amount_of u.holding.items i) (amount_of more.items i) s a b (keeps.items i))
+          ∙ sym (none_booked (total c (Item i)) i)
+
+  pub exchange_well : (limit : ℕ) → MayHave w more → (more.guard ≡ true → u.holding.guard ≡ true) → (IsSteady w supplied → IsSteady w left) → KeepsTogether u q f more z → IsWithin limit z → IsEarly w c → LeavesWell IsEarly (moves_only limit entry Money) w c exchanged
+  exchange_well limit may flag region keeps small early =
+      let before = early-having w c n u more is may flag early in
+      let grid = early.steady.numbers.books in
+      record {
+        leaves_it = record { steady = steady-amount w left entry Money z (region before.steady); flags = before.flags };
+        same_month = same_month_by refl;
+        balances = λ old t. total_of keeps t ∙ ap (λ y. y +ℤ share_of t Money z) (old t) ∙ sym (booked-with_booked (things_of w) c.books entry Money z grid (omega arith) t);
+        near = booked-near (things_of w) c.books entry Money z limit grid (omega arith) small;
+      }
