@@ -1,6 +1,7 @@
 //! The moderator's program.
 #![tactic(auto)]
 
+mod answering;
 mod books;
 mod close;
 mod database;

@@ -1,20 +1,16 @@
 //! A faction's report.
-use crate::database::{Opening, work_on};
+use crate::answering::tell_answer;
 use crate::failure::Failure;
 use crate::options;
 use crate::subcommand::Subcommand;
-use crate::told::tell;
-use atl_tables::Sequence;
 use clap::{Arg, ArgMatches};
 use std::alloc::{AllocError, Global};
 
 /// The command that asks for the report.
 fn request(rt: &HostRuntime, options: &ArgMatches<'_>) -> Result<atl_service::Command, Failure> {
-    let faction = options::number_of(options, options::FACTION)?;
-    let pass = options::text_of(options, options::PASS)?;
     Ok(atl_service::Command::Report {
-        faction,
-        pass: Sequence::from_slice(rt.alloc(), pass.as_bytes())?,
+        faction: options::number_of(options, options::FACTION)?,
+        pass: options::bytes_of(rt.alloc(), options, options::PASS)?,
     })
 }
 
@@ -35,9 +31,6 @@ impl Subcommand for Report {
     }
 
     fn run(rt: &HostRuntime, options: &ArgMatches<'_>) -> Result<(), Failure> {
-        let path = options::text_of(options, options::DB)?;
-        let request = request(rt, options)?;
-        let answer = work_on(rt, path, Opening::Kept, &request)?;
-        tell(rt, &answer)
+        tell_answer(rt, options, request(rt, options)?)
     }
 }
