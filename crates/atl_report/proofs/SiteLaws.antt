@@ -1,13 +1,12 @@
 -- The structures of each region, listed one after another.
-use Rattle.std.proofs.Common.{◌≡◌, ◌==◌, ◌++◌, ℕ, Bool, true, false, cond, List, [], ◌∷◌, Option, Some, unwrap_or, refl, sym, ap, ◌∙◌, arith}
+use Rattle.std.proofs.Common.{◌≡◌, ◌==◌, ◌++◌, ℕ, Bool, true, false, cond, List, [], ◌∷◌, Option, Some, unwrap_or, refl, sym, ap, ◌∙◌}
 use Rattle.std.specs.Ordering.{nat_cmp}
 use Rattle.std.specs.Cmp.{nat_cmp_total}
 use Rattle.std.specs.FinMap.{FinMap, get, get-insert, get-empty, empty}
-use Rattle.std.proofs.lemmas.Bool.Decides.{nat_tests}
 use Rattle.std.proofs.lemmas.List.{append_assoc}
 use Rattle.atl_tables.specs.Sums.{numbers_among}
 use Rattle.atl_tables.proofs.SumLaws.{chosen-cons}
-use Rattle.atl_tables.proofs.GeneralLaws.{key_turned}
+use Rattle.atl_tables.proofs.GeneralLaws.{is_equal, key_turned}
 use Rattle.atl_state.specs.declared.records.Structure.{Structure}
 use Rattle.atl_state.specs.Kept.{list_of}
 use Rattle.atl_report.specs.Sites.{with_site}
@@ -19,10 +18,7 @@ by_region true o listed rest n h = ap (λ l. (l ++ (n ∷ [])) ++ rest) (h refl)
 by_region false o listed rest n h = refl
 
 same_list : (sites : FinMap nat_cmp (List ℕ)) (q r : ℕ) → (r == q) ≡ true → list_of sites r ≡ list_of sites q
-same_list sites q r h = ap (list_of sites) (equal q r h)
-  where
-    equal : (q r : ℕ) → (r == q) ≡ true → r ≡ q
-    equal q r h = grind (arith, nat_tests)
+same_list sites q r h = ap (list_of sites) (is_equal r q h)
 
 pub site_goes_on : (sites : FinMap nat_cmp (List ℕ)) (n : ℕ) (s : Structure) (es : List (ℕ × Structure)) (region : ℕ)
     → list_of (with_site sites s.region n) region ++ numbers_among (λ (t : Structure). t.region == region) es

@@ -1,5 +1,5 @@
 -- The text of the books, line by line. See docs/FORMATS.md, "Books".
-use Rattle.std.specs.Prelude.{◌<◌, ℕ, zero, suc, ℤ, pos, List, [], ◌∷◌, codes, length, if◌then◌else◌, Option, Some, None}
+use Rattle.std.specs.Prelude.{◌<◌, ℕ, zero, suc, ℤ, pos, List, [], codes, length, if◌then◌else◌, Option, Some, None}
 use Rattle.std.specs.Fmt.{decimal, signed_decimal}
 use Rattle.std.specs.List.{slice_get}
 use Rattle.std.specs.Ordering.{int_eq}
@@ -13,6 +13,7 @@ use Rattle.atl_state.specs.declared.books.Thing.TheVariants.{Money, People, Item
 use Rattle.atl_state.specs.Books.{all_entries, amount_in, thing_place}
 use Rattle.atl_state.specs.Campaign.{CampaignValue}
 use Rattle.atl_state.specs.Totals.{total}
+use Rattle.atl_report.specs.Each.{each_text}
 
 abbrev pub entry_name : Entry → List ℕ
 entry_name Founding = codes "founding"
@@ -51,8 +52,7 @@ unfoldable pub amount_line : WorldValue → Thing → Entry → ℤ → List ℕ
 amount_line w t e amount = if int_eq amount (pos 0) then [] else thing_name w t ▸ amount_text e amount
 
 abbrev pub amount_lines : WorldValue → List (List ℤ) → Thing → List Entry → List ℕ
-amount_lines w books t [] = []
-amount_lines w books t (e ∷ es) = amount_line w t e (amount_in books e t) ▸ amount_lines w books t es
+amount_lines w books t = each_text (λ e. amount_line w t e (amount_in books e t))
 
 -- the line of how much all units and regions hold
 unfoldable pub total_line : WorldValue → CampaignValue → Thing → List ℕ

@@ -1,5 +1,5 @@
 -- The lines of a report on faulty lines and on events.
-use Rattle.std.specs.Prelude.{◌==◌, ℕ, List, [], ◌∷◌, codes, find, filter, Option, Some, None}
+use Rattle.std.specs.Prelude.{◌==◌, ℕ, List, [], codes, find, filter, Option, Some, None}
 use Rattle.std.specs.Fmt.{decimal}
 use Rattle.atl_tables.specs.Texts.{◌▸◌}
 use Rattle.atl_orders.specs.Faulting.{fault_number, fault_name}
@@ -9,6 +9,7 @@ use Rattle.atl_state.specs.declared.event.EventFault.{EventFault}
 use Rattle.atl_state.specs.declared.event.Outcome.{Outcome}
 use Rattle.atl_state.specs.declared.event.Outcome.TheVariants.{Done, Fault, Starved}
 use Rattle.atl_state.specs.Events.{event_keyword, event_fault_number, event_fault_name, event_faults}
+use Rattle.atl_report.specs.Each.{each_text}
 
 -- ---- a line of the mailing that isn't read
 
@@ -16,8 +17,7 @@ unfoldable pub faulty_line : FaultyLine → List ℕ
 faulty_line f = codes "Line " ▸ decimal f.line ▸ codes ": " ▸ decimal (fault_number f.fault) ▸ codes " " ▸ fault_name f.fault ▸ codes ".\n"
 
 abbrev pub faulty_lines : List FaultyLine → List ℕ
-faulty_lines [] = []
-faulty_lines (f ∷ fs) = faulty_line f ▸ faulty_lines fs
+faulty_lines = each_text faulty_line
 
 -- ---- an event
 
@@ -38,8 +38,7 @@ unfoldable pub event_line : Event → List ℕ
 event_line e = event_text e e.outcome
 
 abbrev pub event_lines : List Event → List ℕ
-event_lines [] = []
-event_lines (e ∷ es) = event_line e ▸ event_lines es
+event_lines = each_text event_line
 
 -- ---- what a faction is told
 

@@ -1,5 +1,5 @@
 -- The text of a report, line by line. See docs/FORMATS.md, "Reports".
-use Rattle.std.specs.Prelude.{◌≡◌, ℕ, Bool, true, false, ◌&&◌, ◌==◌, is_none, if◌then◌else◌, List, [], ◌∷◌, codes, Option, Some, None}
+use Rattle.std.specs.Prelude.{◌≡◌, ℕ, Bool, true, false, ◌&&◌, ◌==◌, is_none, if◌then◌else◌, List, [], codes, Option, Some, None}
 use Rattle.std.specs.Fmt.{decimal}
 use Rattle.std.specs.FinMap.{get}
 use Rattle.std.specs.List.{slice_get}
@@ -15,6 +15,7 @@ use Rattle.atl_tables.specs.declared.world.Kind.{Kind}
 use Rattle.atl_orders.specs.declared.fault.FaultyLine.{FaultyLine}
 use Rattle.atl_state.specs.declared.event.Event.{Event}
 use Rattle.atl_state.specs.Campaign.{CampaignValue}
+use Rattle.atl_report.specs.Each.{each_text}
 use Rattle.atl_report.specs.Events.{own_events, orders_part}
 use Rattle.atl_report.specs.Sight.{view_of}
 use Rattle.atl_report.specs.declared.views.View.{View}
@@ -52,8 +53,7 @@ unfoldable pub item_text : WorldValue → ItemView → List ℕ
 item_text w e = item_named e (slice_get w.items e.item)
 
 abbrev pub item_texts : WorldValue → List ItemView → List ℕ
-item_texts w [] = []
-item_texts w (e ∷ es) = item_text w e ▸ item_texts w es
+item_texts w = each_text (item_text w)
 
 -- a skill with its level and days, by the name that the world gives it
 abbrev pub skill_named : SkillView → Option Skill → List ℕ
@@ -64,8 +64,7 @@ unfoldable pub skill_text : WorldValue → SkillView → List ℕ
 skill_text w e = skill_named e (slice_get w.skills e.skill)
 
 abbrev pub skill_texts : WorldValue → List SkillView → List ℕ
-skill_texts w [] = []
-skill_texts w (e ∷ es) = skill_text w e ▸ skill_texts w es
+skill_texts w = each_text (skill_text w)
 
 -- what an own unit has and knows
 abbrev pub goods_text : WorldValue → Side → List ℕ
@@ -76,8 +75,7 @@ unfoldable pub unit_line : WorldValue → UnitView → List ℕ
 unit_line w u = unit_head u u.side ▸ guard_text u.guard ▸ inside_text u.structure ▸ goods_text w u.side ▸ codes ".\n"
 
 abbrev pub unit_lines : WorldValue → List UnitView → List ℕ
-unit_lines w [] = []
-unit_lines w (u ∷ us) = unit_line w u ▸ unit_lines w us
+unit_lines w = each_text (unit_line w)
 
 -- ---- a structure that is seen
 
@@ -91,8 +89,7 @@ unfoldable pub structure_line : WorldValue → StructureView → List ℕ
 structure_line w s = structure_text s (slice_get w.kinds s.kind)
 
 abbrev pub structure_lines : WorldValue → List StructureView → List ℕ
-structure_lines w [] = []
-structure_lines w (s ∷ ss) = structure_line w s ▸ structure_lines w ss
+structure_lines w = each_text (structure_line w)
 
 -- ---- a region that is seen
 
@@ -146,15 +143,13 @@ unfoldable pub market_line : WorldValue → ℕ → MarketView → List ℕ
 market_line w region e = market_text w e (market_of w region e.item)
 
 abbrev pub market_lines : WorldValue → ℕ → List MarketView → List ℕ
-market_lines w region [] = []
-market_lines w region (e ∷ es) = market_line w region e ▸ market_lines w region es
+market_lines w region = each_text (market_line w region)
 
 unfoldable pub region_part : WorldValue → RegionView → List ℕ
 region_part w r = region_line w r ▸ exits_line w r ▸ market_lines w r.number r.markets ▸ structure_lines w r.structures ▸ unit_lines w r.units
 
 abbrev pub region_parts : WorldValue → List RegionView → List ℕ
-region_parts w [] = []
-region_parts w (r ∷ rs) = region_part w r ▸ region_parts w rs
+region_parts w = each_text (region_part w)
 
 -- ---- the whole
 

@@ -1,6 +1,7 @@
 //! The text of a report.
 ghost use Rattle.std.specs.Prelude.{◌≡◌, ◌++◌, IfOk, OnOk, Some, string_bytes};
-ghost use Rattle.atl_report.specs.Report.{header_line, unit_head, guard_text, inside_text, item_text, item_texts, skill_text, skill_texts, goods_text, unit_line, unit_lines, structure_text, structure_line, structure_lines, region_line, exit_text, directions, has_no_exit, exits_text, exits_line, market_named, market_line, market_lines, region_part, region_parts, report_of, OthersEventsAreNotTold, OnlyWhatIsSeenIsTold};
+ghost use Rattle.atl_report.specs.Each.{each_text};
+ghost use Rattle.atl_report.specs.Report.{header_line, unit_head, guard_text, inside_text, item_text, skill_text, goods_text, unit_line, structure_text, structure_line, region_line, exit_text, directions, has_no_exit, exits_text, exits_line, market_named, market_line, market_lines, region_part, report_of, OthersEventsAreNotTold, OnlyWhatIsSeenIsTold};
 
 use crate::events::write_orders;
 use crate::views::{
@@ -11,6 +12,26 @@ use atl_state::Event;
 use atl_tables::{Item, Kind, Market, RegionPlan, World};
 use std::alloc::{AllocError, Global};
 use std::fmt::Write;
+
+/// What a report has a text of, by the world.
+trait InReport {
+    ghost use Rattle.std.specs.Prelude.{List, ℕ};
+    ghost use Rattle.atl_tables.specs.Worlds.{WorldValue};
+
+    ghost text: { WorldValue → Self → List ℕ };
+
+    fn write(&self, out: &mut String, world: &World) -> Result<(), AllocError>
+        ensures { OnOk result (string_bytes out.new ≡ string_bytes out.old ++ text world.now self.now) };
+}
+
+fn write_each<T: InReport>(out: &mut String, world: &World, list: &[T]) -> Result<(), AllocError>
+    ensures { OnOk result (string_bytes out.new ≡ string_bytes out.old ++ each_text (T.text world.now) list.now) }
+{
+    for one in list {
+        one.write(out, world)?;
+    }
+    Ok(())
+}
 
 #[tactic(auto, unfolding(crate::specs::Report::header_line))]
 fn write_header(out: &mut String, view: &View) -> Result<(), AllocError>
@@ -70,47 +91,33 @@ fn write_inside(out: &mut String, structure: u32) -> Result<(), AllocError>
     write!(out, ", in {structure}")
 }
 
-#[tactic(auto, unfolding(crate::specs::Report::item_text))]
-fn write_item(out: &mut String, world: &World, held: ItemView) -> Result<(), AllocError>
-    ensures { OnOk result (string_bytes out.new ≡ string_bytes out.old ++ item_text world.now held) }
-{
-    let Some(item) = world.items().get(held.item as usize) else {
-        return Ok(());
-    };
-    let amount = held.amount;
-    let name = item.name.as_str();
-    write!(out, ", {amount} {name}")
-}
+impl InReport for ItemView {
+    ghost text = { item_text };
 
-fn write_items(out: &mut String, world: &World, items: &[ItemView]) -> Result<(), AllocError>
-    ensures { OnOk result (string_bytes out.new ≡ string_bytes out.old ++ item_texts world.now items.now) }
-{
-    for held in items {
-        write_item(out, world, *held)?;
+    #[tactic(auto, unfolding(crate::specs::Report::item_text))]
+    fn write(&self, out: &mut String, world: &World) -> Result<(), AllocError> {
+        let Some(item) = world.items().get(self.item as usize) else {
+            return Ok(());
+        };
+        let amount = self.amount;
+        let name = item.name.as_str();
+        write!(out, ", {amount} {name}")
     }
-    Ok(())
 }
 
-#[tactic(auto, unfolding(crate::specs::Report::skill_text))]
-fn write_skill(out: &mut String, world: &World, known: SkillView) -> Result<(), AllocError>
-    ensures { OnOk result (string_bytes out.new ≡ string_bytes out.old ++ skill_text world.now known) }
-{
-    let Some(skill) = world.skills().get(known.skill as usize) else {
-        return Ok(());
-    };
-    let name = skill.name.as_str();
-    let level = known.level;
-    let days = known.days;
-    write!(out, ", {name} {level} ({days})")
-}
+impl InReport for SkillView {
+    ghost text = { skill_text };
 
-fn write_skills(out: &mut String, world: &World, skills: &[SkillView]) -> Result<(), AllocError>
-    ensures { OnOk result (string_bytes out.new ≡ string_bytes out.old ++ skill_texts world.now skills.now) }
-{
-    for known in skills {
-        write_skill(out, world, *known)?;
+    #[tactic(auto, unfolding(crate::specs::Report::skill_text))]
+    fn write(&self, out: &mut String, world: &World) -> Result<(), AllocError> {
+        let Some(skill) = world.skills().get(self.skill as usize) else {
+            return Ok(());
+        };
+        let name = skill.name.as_str();
+        let level = self.level;
+        let days = self.days;
+        write!(out, ", {name} {level} ({days})")
     }
-    Ok(())
 }
 
 /// What an own unit has and knows.
@@ -123,8 +130,8 @@ fn write_goods(out: &mut String, world: &World, side: &Side) -> Result<(), Alloc
             items,
             skills,
         } => {
-            write_items(out, world, items.as_slice())?;
-            write_skills(out, world, skills.as_slice())
+            write_each(out, world, items.as_slice())?;
+            write_each(out, world, skills.as_slice())
         }
         Side::Other {
             faction: _,
@@ -133,25 +140,18 @@ fn write_goods(out: &mut String, world: &World, side: &Side) -> Result<(), Alloc
     }
 }
 
-#[tactic(auto, unfolding(crate::specs::Report::unit_line))]
-fn write_unit(out: &mut String, world: &World, unit: &UnitView) -> Result<(), AllocError>
-    ensures { OnOk result (string_bytes out.new ≡ string_bytes out.old ++ unit_line world.now unit.now) }
-{
-    write_head(out, unit)?;
-    write_guard(out, unit.guard)?;
-    write_inside(out, unit.structure)?;
-    write_goods(out, world, &unit.side)?;
-    out.push_str(".\n")?;
-    Ok(())
-}
+impl InReport for UnitView {
+    ghost text = { unit_line };
 
-fn write_units(out: &mut String, world: &World, units: &[UnitView]) -> Result<(), AllocError>
-    ensures { OnOk result (string_bytes out.new ≡ string_bytes out.old ++ unit_lines world.now units.now) }
-{
-    for unit in units {
-        write_unit(out, world, unit)?;
+    #[tactic(auto, unfolding(crate::specs::Report::unit_line))]
+    fn write(&self, out: &mut String, world: &World) -> Result<(), AllocError> {
+        write_head(out, self)?;
+        write_guard(out, self.guard)?;
+        write_inside(out, self.structure)?;
+        write_goods(out, world, &self.side)?;
+        out.push_str(".\n")?;
+        Ok(())
     }
-    Ok(())
 }
 
 /// A structure of a kind.
@@ -170,31 +170,16 @@ fn write_built(out: &mut String, structure: &StructureView, kind: &Kind) -> Resu
     )
 }
 
-#[tactic(auto, unfolding(crate::specs::Report::structure_line))]
-fn write_structure(
-    out: &mut String,
-    world: &World,
-    structure: &StructureView,
-) -> Result<(), AllocError>
-    ensures { OnOk result (string_bytes out.new ≡ string_bytes out.old ++ structure_line world.now structure.now) }
-{
-    match world.kind(structure.kind) {
-        Some(kind) => write_built(out, structure, kind),
-        None => Ok(()),
-    }
-}
+impl InReport for StructureView {
+    ghost text = { structure_line };
 
-fn write_structures(
-    out: &mut String,
-    world: &World,
-    structures: &[StructureView],
-) -> Result<(), AllocError>
-    ensures { OnOk result (string_bytes out.new ≡ string_bytes out.old ++ structure_lines world.now structures.now) }
-{
-    for structure in structures {
-        write_structure(out, world, structure)?;
+    #[tactic(auto, unfolding(crate::specs::Report::structure_line))]
+    fn write(&self, out: &mut String, world: &World) -> Result<(), AllocError> {
+        match world.kind(self.kind) {
+            Some(kind) => write_built(out, self, kind),
+            None => Ok(()),
+        }
     }
-    Ok(())
 }
 
 #[tactic(auto, unfolding(crate::specs::Report::region_line))]
@@ -334,25 +319,18 @@ fn write_markets(
 }
 
 /// All that is seen of a region and in it.
-#[tactic(auto, unfolding(crate::specs::Report::region_part))]
-fn write_region_part(out: &mut String, world: &World, region: &RegionView) -> Result<(), AllocError>
-    ensures { OnOk result (string_bytes out.new ≡ string_bytes out.old ++ region_part world.now region.now) }
-{
-    write_region(out, world, region)?;
-    write_exits(out, world, region)?;
-    write_markets(out, world, region.number, region.markets.as_slice())?;
-    write_structures(out, world, region.structures.as_slice())?;
-    write_units(out, world, region.units.as_slice())?;
-    Ok(())
-}
+impl InReport for RegionView {
+    ghost text = { region_part };
 
-fn write_regions(out: &mut String, world: &World, regions: &[RegionView]) -> Result<(), AllocError>
-    ensures { OnOk result (string_bytes out.new ≡ string_bytes out.old ++ region_parts world.now regions.now) }
-{
-    for region in regions {
-        write_region_part(out, world, region)?;
+    #[tactic(auto, unfolding(crate::specs::Report::region_part))]
+    fn write(&self, out: &mut String, world: &World) -> Result<(), AllocError> {
+        write_region(out, world, self)?;
+        write_exits(out, world, self)?;
+        write_markets(out, world, self.number, self.markets.as_slice())?;
+        write_each(out, world, self.structures.as_slice())?;
+        write_each(out, world, self.units.as_slice())?;
+        Ok(())
     }
-    Ok(())
 }
 
 /// The text of a report on what a faction sees, of a world with which the view was made, with the faulty lines of its mailing
@@ -370,7 +348,7 @@ pub fn report_text(
     let mut out = String::new(alloc);
     write_header(&mut out, view)?;
     write_orders(&mut out, view.faction, faults, events)?;
-    write_regions(&mut out, world, view.regions.as_slice())?;
+    write_each(&mut out, world, view.regions.as_slice())?;
     Ok(out)
 }
 
