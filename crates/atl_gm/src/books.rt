@@ -10,13 +10,12 @@ use sqlite::Alter;
 use std::alloc::{AllocError, Global};
 
 /// Asks for the text of the books. A service that is closed has none, as after a failure of the database.
-#[derive(Drop, Clone, Copy)]
 struct Asking;
 
 impl Work for Asking {
     type Done = String;
 
-    fn run<S: Alter>(self, service: &mut Service<S>) -> Result<String, Failure> {
+    fn run<S: Alter>(&self, service: &mut Service<S>) -> Result<String, Failure> {
         match service.books() {
             Some(text) => Ok(text?),
             None => Err(Failure::Store),
@@ -39,7 +38,7 @@ impl Subcommand for Books {
 
     fn run(rt: &HostRuntime, options: &ArgMatches<'_>) -> Result<(), Failure> {
         let path = options::text_of(options, options::DB)?;
-        let text = work_on(rt, path, Opening::Kept, Asking)?;
+        let text = work_on(rt, path, Opening::Kept, &Asking)?;
         printed(rt.print(text.as_str()))
     }
 }

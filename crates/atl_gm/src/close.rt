@@ -1,24 +1,35 @@
 //! The moderator closes a month of the campaign of a file.
-use crate::answering::{Cast, tell_answer};
+use crate::database::{Opening, Work, work_on};
 use crate::failure::Failure;
 use crate::options;
 use crate::subcommand::Subcommand;
-use atl_http::Request;
+use crate::told::tell;
+use atl_http::{Dice, Request, run_request};
+use atl_service::{Answer, Service};
+use atl_tables::Sequence;
 use clap::{Arg, ArgMatches};
+use sqlite::Alter;
 use std::alloc::{AllocError, Global};
 
-/// The month to close, with the moderator's pass text, and the dice whose words it is closed with.
-fn closing(alloc: Global, options: &ArgMatches<'_>) -> Result<Cast, Failure> {
-    let dice = options::dice_of(options)?;
-    let request = Request::Close {
-        month: options::number_of(options, options::MONTH)?,
-        pass: options::bytes_of(alloc, options, options::PASS)?,
-    };
-    Ok(Cast {
-        alloc,
-        request,
-        dice,
-    })
+/// A month to close, with the moderator's pass text, and the dice whose words it is closed with.
+#[derive(Clone, Copy)]
+struct Closing<'a> {
+    alloc: Global,
+    month: u32,
+    pass: &'a str,
+    dice: Dice,
+}
+
+impl<'a> Work for Closing<'a> {
+    type Done = Answer;
+
+    fn run<S: Alter>(&self, service: &mut Service<S>) -> Result<Answer, Failure> {
+        let request = Request::Close {
+            month: self.month,
+            pass: Sequence::from_slice(self.alloc, self.pass.as_bytes())?,
+        };
+        Ok(run_request(self.alloc, service, self.dice, request)?)
+    }
 }
 
 /// Closes a month, and prints its number.
@@ -44,6 +55,14 @@ impl Subcommand for Close {
     }
 
     fn run(rt: &HostRuntime, options: &ArgMatches<'_>) -> Result<(), Failure> {
-        tell_answer(rt, options, closing(rt.alloc(), options)?)
+        let path = options::text_of(options, options::DB)?;
+        let closing = Closing {
+            alloc: rt.alloc(),
+            month: options::number_of(options, options::MONTH)?,
+            pass: options::text_of(options, options::PASS)?,
+            dice: options::dice_of(options)?,
+        };
+        let answer = work_on(rt, path, Opening::Kept, &closing)?;
+        tell(rt, &answer)
     }
 }

@@ -7,19 +7,19 @@ use std::alloc::Global;
 use std::fs;
 
 /// What a subcommand does with a campaign, over any store.
-pub trait Work: Drop {
+pub trait Work {
     /// What the work gives to be told.
     type Done: Drop;
 
-    fn run<S: Alter>(self, service: &mut Service<S>) -> Result<Self::Done, Failure>;
+    fn run<S: Alter>(&self, service: &mut Service<S>) -> Result<Self::Done, Failure>;
 }
 
 /// The answer to the command.
 impl Work for Command {
     type Done = Answer;
 
-    fn run<S: Alter>(self, service: &mut Service<S>) -> Result<Answer, Failure> {
-        Ok(service.run(&self))
+    fn run<S: Alter>(&self, service: &mut Service<S>) -> Result<Answer, Failure> {
+        Ok(service.run(self))
     }
 }
 
@@ -93,7 +93,7 @@ fn worked<S: Alter + Drop, W: Work>(
     alloc: Global,
     conn: Connection<S>,
     opening: Opening<'_>,
-    work: W,
+    work: &W,
 ) -> (Result<W::Done, Failure>, Connection<S>) {
     match opened(alloc, conn, opening) {
         Ok(mut service) => {
@@ -129,7 +129,7 @@ pub fn work_on<W: Work>(
     rt: &HostRuntime,
     path: &str,
     opening: Opening<'_>,
-    work: W,
+    work: &W,
 ) -> Result<W::Done, Failure> {
     if !matches!(&opening, Opening::Founded { .. }) {
         confirm_file(rt, path)?;

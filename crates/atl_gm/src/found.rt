@@ -11,13 +11,12 @@ use sqlite::Alter;
 use std::alloc::{AllocError, Global};
 
 /// Counts the regions of the world.
-#[derive(Drop, Clone, Copy)]
 struct CountRegions;
 
 impl Work for CountRegions {
     type Done = usize;
 
-    fn run<S: Alter>(self, service: &mut Service<S>) -> Result<usize, Failure> {
+    fn run<S: Alter>(&self, service: &mut Service<S>) -> Result<usize, Failure> {
         Ok(service.world().regions().len())
     }
 }
@@ -56,7 +55,7 @@ impl Subcommand for Found {
             rt,
             options::text_of(options, options::DB)?,
             opening,
-            CountRegions,
+            &CountRegions,
         )?;
         printed(println!(rt; "founded, {regions} regions"))
     }

@@ -1,22 +1,35 @@
 //! A faction joins the campaign of a file.
-use crate::answering::{Cast, tell_answer};
+use crate::database::{Opening, Work, work_on};
 use crate::failure::Failure;
 use crate::options;
 use crate::subcommand::Subcommand;
-use atl_http::Request;
+use crate::told::tell;
+use atl_http::{Dice, Request, run_request};
+use atl_service::{Answer, Service};
+use atl_tables::Sequence;
 use clap::{Arg, ArgMatches};
+use sqlite::Alter;
 use std::alloc::{AllocError, Global};
 
-/// The faction to join under the name, with the pass text, and the dice that say where.
-fn joining(alloc: Global, options: &ArgMatches<'_>) -> Result<Cast, Failure> {
-    let dice = options::dice_of(options)?;
-    let name = options::bytes_of(alloc, options, options::NAME)?;
-    let pass = options::bytes_of(alloc, options, options::PASS)?;
-    Ok(Cast {
-        alloc,
-        request: Request::Join { name, pass },
-        dice,
-    })
+/// A faction to join under the name, with the pass text, and the dice that say where.
+#[derive(Clone, Copy)]
+struct Joining<'a> {
+    alloc: Global,
+    name: &'a str,
+    pass: &'a str,
+    dice: Dice,
+}
+
+impl<'a> Work for Joining<'a> {
+    type Done = Answer;
+
+    fn run<S: Alter>(&self, service: &mut Service<S>) -> Result<Answer, Failure> {
+        let request = Request::Join {
+            name: Sequence::from_slice(self.alloc, self.name.as_bytes())?,
+            pass: Sequence::from_slice(self.alloc, self.pass.as_bytes())?,
+        };
+        Ok(run_request(self.alloc, service, self.dice, request)?)
+    }
 }
 
 /// Has a faction join, and prints its number and that of its unit.
@@ -41,6 +54,14 @@ impl Subcommand for Join {
     }
 
     fn run(rt: &HostRuntime, options: &ArgMatches<'_>) -> Result<(), Failure> {
-        tell_answer(rt, options, joining(rt.alloc(), options)?)
+        let path = options::text_of(options, options::DB)?;
+        let joining = Joining {
+            alloc: rt.alloc(),
+            name: options::text_of(options, options::NAME)?,
+            pass: options::text_of(options, options::PASS)?,
+            dice: options::dice_of(options)?,
+        };
+        let answer = work_on(rt, path, Opening::Kept, &joining)?;
+        tell(rt, &answer)
     }
 }

@@ -1,9 +1,10 @@
 //! A faction sends its orders for the month to come.
-use crate::answering::tell_answer;
+use crate::database::{Opening, work_on};
 use crate::failure::Failure;
 use crate::files::bytes_at;
 use crate::options;
 use crate::subcommand::Subcommand;
+use crate::told::tell;
 use atl_tables::Sequence;
 use clap::{Arg, ArgMatches};
 use std::alloc::{AllocError, Global};
@@ -11,11 +12,11 @@ use std::alloc::{AllocError, Global};
 /// The command that hands in the mailing of the file.
 fn mailing(rt: &HostRuntime, options: &ArgMatches<'_>) -> Result<atl_service::Command, Failure> {
     let faction = options::number_of(options, options::FACTION)?;
-    let pass = options::bytes_of(rt.alloc(), options, options::PASS)?;
+    let pass = options::text_of(options, options::PASS)?;
     let text = bytes_at(rt, options::text_of(options, options::FILE)?)?;
     Ok(atl_service::Command::Mail {
         faction,
-        pass,
+        pass: Sequence::from_slice(rt.alloc(), pass.as_bytes())?,
         text: Sequence::from_vec(text),
     })
 }
@@ -38,6 +39,9 @@ impl Subcommand for Mail {
     }
 
     fn run(rt: &HostRuntime, options: &ArgMatches<'_>) -> Result<(), Failure> {
-        tell_answer(rt, options, mailing(rt, options)?)
+        let path = options::text_of(options, options::DB)?;
+        let mail = mailing(rt, options)?;
+        let answer = work_on(rt, path, Opening::Kept, &mail)?;
+        tell(rt, &answer)
     }
 }

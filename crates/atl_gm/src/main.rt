@@ -1,7 +1,6 @@
 //! The moderator's program.
 #![tactic(auto)]
 
-mod answering;
 mod books;
 mod close;
 mod database;

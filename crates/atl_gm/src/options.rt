@@ -1,7 +1,6 @@
 //! The options of a subcommand: each takes a value and has to be given.
 use crate::failure::Failure;
 use atl_http::Dice;
-use atl_tables::Sequence;
 use clap::{Arg, ArgMatches, value_parser};
 use std::alloc::Global;
 
@@ -85,16 +84,6 @@ pub fn long_number<'a>(alloc: Global, name: &'a str, help: &'a str) -> Arg<'a> {
 /// The text that was given.
 pub fn text_of<'a>(options: &ArgMatches<'a>, name: &str) -> Result<&'a str, Failure> {
     options.get_str(name).ok_or(Failure::NoValue)
-}
-
-/// The bytes of the text that was given.
-pub fn bytes_of(
-    alloc: Global,
-    options: &ArgMatches<'_>,
-    name: &str,
-) -> Result<Sequence<u8>, Failure> {
-    let text = text_of(options, name)?;
-    Ok(Sequence::from_slice(alloc, text.as_bytes())?)
 }
 
 /// The number that was given.

@@ -1,16 +1,20 @@
 //! A faction's report.
-use crate::answering::tell_answer;
+use crate::database::{Opening, work_on};
 use crate::failure::Failure;
 use crate::options;
 use crate::subcommand::Subcommand;
+use crate::told::tell;
+use atl_tables::Sequence;
 use clap::{Arg, ArgMatches};
 use std::alloc::{AllocError, Global};
 
 /// The command that asks for the report.
 fn request(rt: &HostRuntime, options: &ArgMatches<'_>) -> Result<atl_service::Command, Failure> {
+    let faction = options::number_of(options, options::FACTION)?;
+    let pass = options::text_of(options, options::PASS)?;
     Ok(atl_service::Command::Report {
-        faction: options::number_of(options, options::FACTION)?,
-        pass: options::bytes_of(rt.alloc(), options, options::PASS)?,
+        faction,
+        pass: Sequence::from_slice(rt.alloc(), pass.as_bytes())?,
     })
 }
 
@@ -31,6 +35,9 @@ impl Subcommand for Report {
     }
 
     fn run(rt: &HostRuntime, options: &ArgMatches<'_>) -> Result<(), Failure> {
-        tell_answer(rt, options, request(rt, options)?)
+        let path = options::text_of(options, options::DB)?;
+        let request = request(rt, options)?;
+        let answer = work_on(rt, path, Opening::Kept, &request)?;
+        tell(rt, &answer)
     }
 }

@@ -13,7 +13,7 @@ use std::io;
 use std::net::{Ipv4Addr, TcpListener};
 
 /// So many connections to a port of this machine, with the dice of a seed.
-#[derive(Drop, Clone, Copy)]
+#[derive(Clone, Copy)]
 struct Serving<'a> {
     rt: &'a HostRuntime,
     port: u16,
@@ -29,7 +29,7 @@ fn unbound(error: io::Error) -> Failure {
 impl<'a> Work for Serving<'a> {
     type Done = ();
 
-    fn run<S: Alter>(self, service: &mut Service<S>) -> Result<(), Failure> {
+    fn run<S: Alter>(&self, service: &mut Service<S>) -> Result<(), Failure> {
         let address = (Ipv4Addr::LOCALHOST, self.port);
         let listener = TcpListener::bind(self.rt, address).map_err(unbound)?;
         match serve_each(self.rt.alloc(), &listener, service, self.count, self.dice) {
@@ -70,6 +70,6 @@ impl Subcommand for Serve {
             count: options::number_of(options, options::COUNT)?,
             dice: options::dice_of(options)?,
         };
-        work_on(rt, path, Opening::Kept, serving)
+        work_on(rt, path, Opening::Kept, &serving)
     }
 }

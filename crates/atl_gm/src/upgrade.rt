@@ -11,13 +11,12 @@ use sqlite::Alter;
 use std::alloc::{AllocError, Global};
 
 /// Counts the markets of all regions of the world.
-#[derive(Drop, Clone, Copy)]
 struct CountMarkets;
 
 impl Work for CountMarkets {
     type Done = usize;
 
-    fn run<S: Alter>(self, service: &mut Service<S>) -> Result<usize, Failure> {
+    fn run<S: Alter>(&self, service: &mut Service<S>) -> Result<usize, Failure> {
         let mut markets: usize = 0;
         for (_, region) in service.world().regions().iter() {
             markets = markets.saturating_add(region.markets.len());
@@ -52,7 +51,7 @@ impl Subcommand for Upgrade {
         let opening = Opening::Upgraded {
             world: world.as_str(),
         };
-        let markets = work_on(rt, path, opening, CountMarkets)?;
+        let markets = work_on(rt, path, opening, &CountMarkets)?;
         printed(println!(rt; "upgraded, {markets} markets"))
     }
 }
