@@ -115,7 +115,6 @@ fn head(alloc: Global, row: &Row) -> Result<StoredHead, Error>
 {
     let (id, format, month) = three_integers(row, 0)?;
     let (next_faction, next_unit, next_structure) = three_integers(row, 3)?;
-    let pass = letters(alloc, row, 6)?;
     Ok(StoredHead {
         id,
         format,
@@ -123,7 +122,7 @@ fn head(alloc: Global, row: &Row) -> Result<StoredHead, Error>
         next_faction,
         next_unit,
         next_structure,
-        pass,
+        pass: letters(alloc, row, 6)?,
     })
 }
 

@@ -70,11 +70,10 @@ impl Stored for StoredStructure {
     fn from_row(alloc: Global, row: &Row) -> Result<StoredStructure, Error> {
         let (number, kind) = two_integers(row, 0)?;
         let (region, done, owner) = three_integers(row, 3)?;
-        let name = letters(alloc, row, 2)?;
         Ok(StoredStructure {
             number,
             kind,
-            name,
+            name: letters(alloc, row, 2)?,
             region,
             done,
             owner,

@@ -83,11 +83,10 @@ impl Stored for StoredUnit {
         let (number, faction) = two_integers(row, 0)?;
         let (region, structure) = two_integers(row, 3)?;
         let (men, money, guard) = three_integers(row, 5)?;
-        let name = letters(alloc, row, 2)?;
         Ok(StoredUnit {
             number,
             faction,
-            name,
+            name: letters(alloc, row, 2)?,
             region,
             structure,
             men,
