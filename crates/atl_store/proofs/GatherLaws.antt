@@ -3,7 +3,6 @@ use Rattle.std.proofs.Common.{◌≡◌, ◌≢◌, ◌⊎◌, ◌++◌, ℕ, Li
 use Rattle.std.specs.Option.{option_zip}
 use Rattle.std.specs.declared.vec.Vec.{Vec}
 use Rattle.sqlite_trees.specs.declared.store.Store.{Ghosts}
-use Rattle.sqlite_trees.specs.Tree.{Trees}
 use Rattle.sqlite_schema.specs.declared.command.Returning.{Returning}
 use Rattle.sqlite.specs.Effect.{Database}
 use Rattle.sqlite.specs.Held.{Held, state}
@@ -17,11 +16,10 @@ use Rattle.atl_state.specs.declared.parts.StoredMarket.{StoredMarket}
 use Rattle.atl_store.specs.declared.rows.stored.Placed.{Placed}
 use Rattle.atl_store.specs.Gathering.{IsSettled, kept_of, Found, AnswersOne, FailsToRead, AreRows, AreTwo, AreThree, EightRead, AreEight, AreMarkets, OthersRead, AreOthers, ReadsSome}
 use Rattle.atl_store.specs.Loading.{Stays, Leaves, Tells, AreTold, AreToldTyped, HasOtherType, RefusesOne}
-use Rattle.atl_store.specs.Reading.{ReadsRows, GivesTable, Rests, Selects, RefusesToSelect, placed_rows_in}
-use Rattle.atl_store.specs.Sets.{rows_in}
+use Rattle.atl_store.specs.Reading.{ReadsRows, GivesTable, Rests, Selects, RefusesToSelect, listing_of}
 use Rattle.atl_store.specs.StoredRows.{faction_stored, region_stored, unit_stored, structure_stored, mail_stored, report_stored, has_stored, books_stored, market_stored}
 use Rattle.atl_store.specs.Stored.{Form, AreTyped}
-use Rattle.atl_store.specs.Tables.{faction_table, region_table, unit_table, has_table, structure_table, mail_table, report_table, books_table, market_table, HasTablesOf}
+use Rattle.atl_store.specs.Tables.{Part, Factions, Regions, Units, Goods, Structures, Mail, Reports, Books, Markets, HasTablesOf}
 use Rattle.atl_store.specs.declared.fault.ReadFault.{ReadFault}
 use Rattle.atl_store.specs.declared.fault.ReadFault.TheVariants as read
 use Rattle.atl_store.specs.declared.fault.LoadFault.{LoadFault}
@@ -104,7 +102,7 @@ module _ {S : Type 0} (g : Ghosts S) where
 
   -- ---- one table
 
-  module _ {A : Type 0} (sql : List ℕ) (forms : List Form) (shown : A → Row) (since : Format) (in_table : Trees → List Row) (old new : Held S) (settled : IsSettled (state g old)) (idle : old.in_transaction ≡ false) where
+  module _ {A : Type 0} (sql : List ℕ) (forms : List Form) (shown : A → Row) (part : Part) (old new : Held S) (settled : IsSettled (state g old)) (idle : old.in_transaction ≡ false) where
     abbrev this_select : List (List ℕ × List Form)
     this_select = (sql, forms) ∷ []
 
@@ -114,7 +112,7 @@ module _ {S : Type 0} (g : Ghosts S) where
     selects_open : (rows : List Row) → Selects g sql old rows → IsTrue (state g old).is_open
     selects_open rows told = told.2.was_open (shown_open sql _ _ rows told.3)
 
-    found_one : {Z : Type 0} (r : Result (Vec A Z) ReadFault) → ReadsRows g sql old forms shown r new → GivesTable g since in_table shown r old new → HasCleanDisk (state g new) → IfOk (kept_of r) (Found g old this_select (λ all. AreRows g old since in_table shown all.items))
+    found_one : {Z : Type 0} (r : Result (Vec A Z) ReadFault) → ReadsRows g sql old forms shown r new → GivesTable g (listing_of part).since (listing_of part).in_table shown r old new → HasCleanDisk (state g new) → IfOk (kept_of r) (Found g old this_select (λ all. AreRows g old part shown all.items))
     found_one (Ok all) reads gives clean =
         let told = reads.rows clean in
         (each_of_one (λ s. (rows : List Row) × Tells g old s.0 rows × AreTyped s.1 rows) (sql, forms) (told.0, tells told.0 told.1, told.3), gives clean)
@@ -154,11 +152,11 @@ module _ {S : Type 0} (g : Ghosts S) where
     fails_one (Err read.Refused) reads clean = inr (refuses read.Refused (reads.refused clean not_refused refused_no_memory))
 
     -- what was kept of its reading
-    pub reads_one : {Z : Type 0} (r : Result (Vec A Z) ReadFault) → ReadsRows g sql old forms shown r new → GivesTable g since in_table shown r old new → (kept : Result (Option (Vec A Z)) LoadFault) → kept ≡ kept_of r
-        → ReadsSome g old this_select (λ all. AreRows g old since in_table shown all.items) kept new
+    pub reads_one : {Z : Type 0} (r : Result (Vec A Z) ReadFault) → ReadsRows g sql old forms shown r new → GivesTable g (listing_of part).since (listing_of part).in_table shown r old new → (kept : Result (Option (Vec A Z)) LoadFault) → kept ≡ kept_of r
+        → ReadsSome g old this_select (λ all. AreRows g old part shown all.items) kept new
     reads_one r reads gives kept is = record {
       was_open = λ clean. subst (λ k. IfOk k (λ _. IsTrue (state g old).is_open)) (sym is) (open_one r reads clean);
-      found = λ clean. subst (λ k. IfOk k (Found g old this_select (λ all. AreRows g old since in_table shown all.items))) (sym is) (found_one r reads gives clean);
+      found = λ clean. subst (λ k. IfOk k (Found g old this_select (λ all. AreRows g old part shown all.items))) (sym is) (found_one r reads gives clean);
       fails = λ clean. subst (λ k. IfErr k (FailsToRead g old this_select)) (sym is) (fails_one r reads clean);
       leaves = record {
         stays = λ clean. rests_stays (state g old) (state g new) settled (omega (arith, reads.survives.clean, clean)) (reads.rests clean);
@@ -187,29 +185,28 @@ module _ {S : Type 0} (g : Ghosts S) where
       other = found.other;
     }
 
-    pub rows_behind : {A : Type 0} (since : Format) (in_table : Trees → List Row) (shown : A → Row) (rows : List A) → AreRows g mid since in_table shown rows → AreRows g old since in_table shown rows
-    rows_behind since in_table shown rows are begins =
-        subst (λ (d : Database). IsPermutation (in_table d.trees) (map shown rows)) same (are (subst (HasTablesOf since) (sym (ap (λ (d : Database). d.schema) same)) begins))
+    pub rows_behind : {A : Type 0} (part : Part) (shown : A → Row) (rows : List A) → AreRows g mid part shown rows → AreRows g old part shown rows
+    rows_behind part shown rows are begins =
+        subst (λ (d : Database). IsPermutation ((listing_of part).in_table d.trees) (map shown rows)) same (are (subst (HasTablesOf (listing_of part).since) (sym (ap (λ (d : Database). d.schema) same)) begins))
 
-    pub two_behind : {A B Z : Type 0} (one : Format) (first : Trees → List Row) (a : A → Row) (two : Format) (second : Trees → List Row) (b : B → Row) (read : Vec A Z × Vec B Z) → AreTwo g mid one first a two second b read → AreTwo g old one first a two second b read
-    two_behind one first a two second b read are = (rows_behind one first a read.0.items are.0, rows_behind two second b read.1.items are.1)
+    pub two_behind : {A B Z : Type 0} (one : Part) (a : A → Row) (two : Part) (b : B → Row) (read : Vec A Z × Vec B Z) → AreTwo g mid one a two b read → AreTwo g old one a two b read
+    two_behind one a two b read are = (rows_behind one a read.0.items are.0, rows_behind two b read.1.items are.1)
 
-    pub three_behind : {A B C Z : Type 0} (one : Format) (first : Trees → List Row) (a : A → Row) (two : Format) (second : Trees → List Row) (b : B → Row) (three : Format) (third : Trees → List Row) (c : C → Row) (read : (Vec A Z × Vec B Z) × Vec C Z)
-        → AreThree g mid one first a two second b three third c read → AreThree g old one first a two second b three third c read
-    three_behind one first a two second b three third c read are = (two_behind one first a two second b read.0 are.0, rows_behind three third c read.1.items are.1)
+    pub three_behind : {A B C Z : Type 0} (one : Part) (a : A → Row) (two : Part) (b : B → Row) (three : Part) (c : C → Row) (read : (Vec A Z × Vec B Z) × Vec C Z) → AreThree g mid one a two b three c read → AreThree g old one a two b three c read
+    three_behind one a two b three c read are = (two_behind one a two b read.0 are.0, rows_behind three c read.1.items are.1)
 
     eight_behind : {Z : Type 0} (read : EightRead Z) → AreEight g mid read → AreEight g old read
     eight_behind read are = (
       (
-        three_behind First (rows_in faction_table) faction_stored First (rows_in region_table) region_stored First (rows_in report_table) report_stored read.0.0 are.0.0,
-        two_behind First (rows_in unit_table) unit_stored First (placed_rows_in has_table) has_stored read.0.1 are.0.1,
+        three_behind Factions faction_stored Regions region_stored Reports report_stored read.0.0 are.0.0,
+        two_behind Units unit_stored Goods has_stored read.0.1 are.0.1,
       ),
-      three_behind First (rows_in structure_table) structure_stored First (rows_in mail_table) mail_stored First (placed_rows_in books_table) books_stored read.1 are.1,
+      three_behind Structures structure_stored Mail mail_stored Books books_stored read.1 are.1,
     )
 
     markets_behind : (f : Format) (rows : List (Placed StoredMarket)) → AreMarkets g mid f rows → AreMarkets g old f rows
     markets_behind First rows are = are
-    markets_behind Second rows are = rows_behind Second (placed_rows_in market_table) market_stored rows are
+    markets_behind Second rows are = rows_behind Markets market_stored rows are
 
     pub others_behind : (f : Format) {Z : Type 0} (read : OthersRead Z) → AreOthers g mid f read → AreOthers g old f read
     others_behind f read are = (eight_behind read.0 are.0, markets_behind f read.1.items are.1)

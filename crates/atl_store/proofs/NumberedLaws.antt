@@ -1,15 +1,13 @@
 -- What the statements do on a table under the numbers of its rows.
-use Rattle.std.proofs.Common.{IsTrue, ◌≡◌, ◌++◌, ◌+◌, ◌/◌, ℕ, false, List, [], ◌∷◌, length, map, slice_get, Some, Ok, sym, ap, ◌∙◌, subst}
-use Rattle.std.specs.List.{list_any, list_all, range_with_len}
+use Rattle.std.proofs.Common.{IsTrue, ◌≡◌, ◌++◌, ◌+◌, ℕ, false, List, [], ◌∷◌, length, slice_get, Some, Ok, sym, ap, ◌∙◌, subst}
+use Rattle.std.specs.List.{list_any, list_all}
 use Rattle.std.proofs.lemmas.List.Folds.{list_any-append}
-use Rattle.sqlite.specs.declared.types.Value.{Value}
 use Rattle.sqlite.specs.declared.types.Value.TheVariants.{Null}
 use Rattle.sqlite.specs.Command.TheVariants.{InsertOr, Delete}
-use Rattle.sqlite.specs.Effect.{value_rows}
-use Rattle.sqlite.specs.Term.{Term, lit, col, op2, eval_all, holds}
+use Rattle.sqlite.specs.Term.{Term, col, op2, holds}
 use Rattle.sqlite.specs.Source.TheVariants.{Values}
 use Rattle.sqlite.specs.Listing.{understood}
-use Rattle.sqlite.specs.Order.{Row, column}
+use Rattle.sqlite.specs.Order.{Row}
 use Rattle.sqlite.specs.Program.{overlay}
 use Rattle.sqlite.specs.State.{State, ExecutesInside}
 use Rattle.sqlite.specs.Table.{Table}
@@ -29,7 +27,7 @@ use Rattle.sqlite_sql.specs.declared.ops.BinaryOp.TheVariants.{Compare}
 use Rattle.sqlite_sql.specs.declared.ops.CompareOp.TheVariants.{Eq}
 use Rattle.sqlite.specs.Collation.TheVariants.{Binary}
 use Rattle.atl_store.specs.Sets.{table, visible}
-use Rattle.atl_store.specs.Tables.{all_tables, all_indexes, all_and}
+use Rattle.atl_store.specs.Tables.{number, all_tables, all_indexes, all_and}
 use Rattle.atl_store.specs.Shown.{int}
 use Rattle.atl_store.specs.Inside.{Inside, HasTables, Puts, Drops}
 use Rattle.atl_store.specs.Statements.{deletion, upsert}
@@ -37,19 +35,13 @@ use Rattle.atl_store.proofs.UpsertLaws.{Upserted, update_query, clause_on}
 use Rattle.atl_store.proofs.StatementLaws.{AlwaysPlain, PutsRow, DropsKey, upserting, removes, done_by}
 use Rattle.atl_store.proofs.CarryLaws.{among_all, unlinked, none_share, sound_under, done_with}
 use Rattle.atl_store.proofs.MakeLaws.{did, upserts_make, loses_make}
+use Rattle.atl_store.proofs.FitLaws.{Fits, given_row, changed_row, makes_row}
 use Rattle.atl_store.proofs.EditLaws.{delete_query, found_by}
 use Rattle.atl_store.proofs.Terms.{head_is, by_number, one_number, at_number}
 
 -- of a row: the number is the parameter
 abbrev has_number : List Term
 has_number = op2 (Compare Eq Binary) (col 1 0) (col 0 0) ∷ []
-
--- a row of the parameters, which are the number and so many values, and the row that is there with these values
-abbrev given_row : ℕ → List Term
-given_row width = col 0 0 ∷ lit Null ∷ map (col 0) (range_with_len 1 width)
-
-abbrev changed_row : ℕ → List Term
-changed_row width = col 1 0 ∷ lit Null ∷ map (col 0) (range_with_len 1 width)
 
 -- A table at this place, whose rows have so many values behind their number, and what its two statements mean, whatever came behind the tables of a campaign:
 -- an INSERT of the given row with an update of the one that has its number, and a DELETE of the one that has the number.
@@ -63,20 +55,16 @@ pub record IsNumbered (t : Table) (at width : ℕ) : Type 0 where
   pub drops : (more : List Table) (indexes : List Index)
       → command_of (understood (all_and more indexes) (deletion t 1)) ≡ Delete at (record { lets = []; body = delete_query t.tree has_number })
   pub drops_plain : AlwaysPlain (deletion t 1)
-
--- the row of this number and these values is what the terms make of them, whether it is put or changed
-pub record MakesRow (t : Table) (width number : ℕ) (values : Row) : Type 0 where
-  pub source : value_rows ((int number ∷ values) ++ []) (width + 2) (length (given_row width) / (width + 2)) (given_row width) ≡ (int number ∷ Null ∷ values) ∷ []
-  pub changed : (more r : Row) → eval_all (changed_row width) (((int number ∷ values) ++ more) ∷ r ∷ []) ≡ column r 0 ∷ Null ∷ values
-  pub casted : cast_row t (int number ∷ Null ∷ values) ≡ int number ∷ Null ∷ values
-  pub shown : visible t (int number ∷ Null ∷ values) ≡ int number ∷ values
-  pub aimed : (x : Value) (more : Row) → column ((int number ∷ values) ++ x ∷ more) (width + 1) ≡ x
-  pub spared : (x : Row) → list_any (shares (Some (0 ∷ [])) t (int number ∷ Null ∷ values) x) all_indexes ≡ false
+  -- no index makes the number unique
+  pub spared : (new x : Row) → list_any (shares (Some (0 ∷ [])) t new x) all_indexes ≡ false
 
 -- one of the tables of a campaign, whose first column is the row's number
-module _ (tree : ℕ) (name : List ℕ) (number_column : Column) (columns : List Column) (uniques : List (List ℕ)) (at width : ℕ) where
+module _ (tree : ℕ) (name key_name : List ℕ) (columns : List Column) (uniques : List (List ℕ)) (at : ℕ) where
+  abbrev width : ℕ
+  width = length columns
+
   abbrev t : Table
-  t = table tree name (number_column ∷ columns) (Some 0) (0 ∷ []) uniques []
+  t = table tree name (number key_name ∷ columns) (Some 0) (0 ∷ []) uniques []
 
   abbrev put : List ℕ
   put = upsert t 1
@@ -87,59 +75,60 @@ module _ (tree : ℕ) (name : List ℕ) (number_column : Column) (columns : List
   module _ (is : IsNumbered t at width) where
     -- ---- taking out
 
-    drops : (number : ℕ) (old new : State) (count : ℕ) → IsTrue old.in_transaction → ExecutesInside 0 drop (int number ∷ []) old new (Ok count)
-        → Inside HasTables (Drops t 1 (int number ∷ [])) old new
-    drops number old new count inside ran = (
+    drops : (n : ℕ) (old new : State) (count : ℕ) → IsTrue old.in_transaction → ExecutesInside 0 drop (int n ∷ []) old new (Ok count)
+        → Inside HasTables (Drops t 1 (int n ∷ [])) old new
+    drops n old new count inside ran = (
       ran.1.mode ∙ sym inside,
       λ has.
           let schema = all_and has.begins.tables has.begins.indexes in
           let sound = sound_under old.now has in
           let none = unlinked has.begins.tables has.begins.indexes tree has.begins.free in
-          let k = int number ∷ [] in
+          let k = int n ∷ [] in
           let db = old.now.trees in
           let w = runs_as drop k old new schema has.begins.is _ (is.drops has.begins.tables has.begins.indexes) (is.drops_plain has.begins.tables has.begins.indexes) count ran.0 in
           let keyed = sound.keyed t is.ours in
-          let out = removes schema tree name (number_column ∷ columns) (Some 0) (0 ∷ []) uniques [] at (is.place has.begins.tables) none old.step_limit k (statement_of drop (understood schema drop)) (record { lets = []; body = delete_query tree has_number }) (λ r. list_all (holds (k ∷ r ∷ [])) has_number) db _ keyed
+          let out = removes schema tree name (number key_name ∷ columns) (Some 0) (0 ∷ []) uniques [] at (is.place has.begins.tables) none old.step_limit k (statement_of drop (understood schema drop)) (record { lets = []; body = delete_query tree has_number }) (λ r. list_all (holds (k ∷ r ∷ [])) has_number) db _ keyed
           (λ rows answers. found_by tree has_number db (overlay db []) k rows (is.plain db) (answers.answer Null)) (did schema old new _ _ k count has.begins.is w) in
-          let makes = loses_make schema (among_all has.begins.tables) t 1 (λ r. list_all (holds (k ∷ r ∷ [])) has_number) k old.now new.now out.0 (λ x there. at_number (rowid x) number (all_has _ (db tree) x keyed.ints there)) sound w.sound out.1 in
+          let makes = loses_make schema (among_all has.begins.tables) t 1 (λ r. list_all (holds (k ∷ r ∷ [])) has_number) k old.now new.now out.0 (λ x there. at_number (rowid x) n (all_has _ (db tree) x keyed.ints there)) sound w.sound out.1 in
           done_with t old.now new.now has is.ours _ _ (λ did. did) makes,
     )
 
-    pub drops_numbered : (number : ℕ) → DropsKey t 1 (int number ∷ [])
-    drops_numbered number = done_by drop (int number ∷ []) (Drops t 1 (int number ∷ [])) (drops number)
+    pub drops_numbered : (n : ℕ) → DropsKey t 1 (int n ∷ [])
+    drops_numbered n = done_by drop (int n ∷ []) (Drops t 1 (int n ∷ [])) (drops n)
 
     -- ---- putting
 
-    puts : (number : ℕ) (values : Row) → MakesRow t width number values → (old new : State) (count : ℕ) → IsTrue old.in_transaction
-        → ExecutesInside 0 put (int number ∷ values) old new (Ok count) → Inside HasTables (Puts t 1 (int number ∷ values)) old new
+    puts : (n : ℕ) (values : Row) → Fits columns values → (old new : State) (count : ℕ) → IsTrue old.in_transaction
+        → ExecutesInside 0 put (int n ∷ values) old new (Ok count) → Inside HasTables (Puts t 1 (int n ∷ values)) old new
     unfolding first_key
-    puts number values writes old new count inside ran = (
+    puts n values fits old new count inside ran = (
       ran.1.mode ∙ sym inside,
       λ has.
           let schema = all_and has.begins.tables has.begins.indexes in
           let sound = sound_under old.now has in
           let none = unlinked has.begins.tables has.begins.indexes tree has.begins.free in
-          let v = int number ∷ values in
-          let src = int number ∷ Null ∷ values in
+          let writes = makes_row tree name key_name columns uniques n values fits in
+          let v = int n ∷ values in
+          let src = int n ∷ Null ∷ values in
           let project = changed_row width in
           let w = runs_as put v old new schema has.begins.is _ (is.puts has.begins.tables has.begins.indexes) (is.puts_plain has.begins.tables has.begins.indexes) count ran.0 in
           let keyed = sound.keyed t is.ours in
-          let up = upserting schema tree name (number_column ∷ columns) (Some 0) (0 ∷ []) uniques [] at (is.place has.begins.tables) none old.step_limit v (0 ∷ []) (width + 1) project is.plain (statement_of put (understood schema put)) (given_row width) (width + 2) src
+          let up = upserting schema tree name (number key_name ∷ columns) (Some 0) (0 ∷ []) uniques [] at (is.place has.begins.tables) none old.step_limit v (0 ∷ []) (width + 1) project is.plain (statement_of put (understood schema put)) (given_row width) (width + 2) src
           old.now.trees _ keyed (λ r there. writes.aimed (rowid r) _) writes.source (did schema old new _ _ v count has.begins.is w) in
           let made : with_rowid Chosen (old.now.trees tree) (cast_row t src) ≡ src = ap (with_rowid Chosen (old.now.trees tree)) writes.casted in
           let shown : visible t (cast_row t src) ≡ v = ap (visible t) writes.casted ∙ writes.shown in
           let others : (x : Row) → list_any (shares (Some (0 ∷ [])) t src x) (all_indexes ++ has.begins.indexes) ≡ false = λ x. (
-          list_any-append (shares (Some (0 ∷ [])) t src x) all_indexes has.begins.indexes ∙ rw (writes.spared x) (none_share t (Some (0 ∷ [])) src x has.begins.indexes (λ i there. has.begins.plain i there t is.ours))
+          list_any-append (shares (Some (0 ∷ [])) t src x) all_indexes has.begins.indexes ∙ rw (is.spared src x) (none_share t (Some (0 ∷ [])) src x has.begins.indexes (λ i there. has.begins.plain i there t is.ours))
           ) in
           let makes = upserts_make schema (among_all has.begins.tables) t 1 none old.step_limit v (0 ∷ []) (width + 1) project is.plain src v old.now new.now
           (subst (λ k. Upserted schema t none old.step_limit v (0 ∷ []) (width + 1) project is.plain k old.now.trees new.now.trees) made up.0)
           shown
-          (λ r there same. ap (λ (k : Row). visible t (cast_row t k)) (writes.changed _ r ∙ ap (λ n. n ∷ Null ∷ values) (head_is _ _ _ _ same)) ∙ shown)
-          (λ x there. by_number (rowid x) number _ (others x) (all_has _ (old.now.trees tree) x keyed.ints there))
+          (λ r there same. ap (λ (k : Row). visible t (cast_row t k)) (writes.changed _ r ∙ ap (λ first. first ∷ Null ∷ values) (head_is _ _ _ _ same)) ∙ shown)
+          (λ x there. by_number (rowid x) n _ (others x) (all_has _ (old.now.trees tree) x keyed.ints there))
           (λ x r one two same. one_number _ _ same)
           is.ours sound w.sound up.1 in
           done_with t old.now new.now has is.ours _ _ (λ did. did) makes,
     )
 
-    pub puts_numbered : (number : ℕ) (values : Row) → MakesRow t width number values → PutsRow t 1 (int number ∷ values)
-    puts_numbered number values writes = done_by put (int number ∷ values) (Puts t 1 (int number ∷ values)) (puts number values writes)
+    pub puts_numbered : (n : ℕ) (values : Row) → Fits columns values → PutsRow t 1 (int n ∷ values)
+    puts_numbered n values fits = done_by put (int n ∷ values) (Puts t 1 (int n ∷ values)) (puts n values fits)

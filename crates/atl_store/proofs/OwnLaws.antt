@@ -21,11 +21,11 @@ use Rattle.atl_store.specs.declared.fault.ReadFault.{ReadFault}
 use Rattle.atl_store.specs.declared.fault.ReadFault.TheVariants as read
 use Rattle.atl_store.specs.declared.fault.LoadFault.{LoadFault}
 use Rattle.atl_store.specs.declared.fault.LoadFault.TheVariants.{Store, Damaged, NotACampaign, OtherFormat, Memory}
-use Rattle.atl_store.specs.Tables.{campaign_table}
+use Rattle.atl_store.specs.Tables.{Own, campaign_table}
 use Rattle.atl_store.specs.declared.rows.campaign.StoredCampaign.{StoredCampaign}
 use Rattle.atl_tables.specs.declared.format.Format.TheVariants.{First}
 use Rattle.atl_store.proofs.RowsLaws.{asked_rows}
-use Rattle.atl_store.proofs.SelectLaws.{reads_campaign}
+use Rattle.atl_store.proofs.SelectLaws.{reads_part}
 use Rattle.atl_store.proofs.SelectingLaws.{never_other}
 
 -- a list whose image is one element has one
@@ -130,7 +130,7 @@ module _ (f : Format) {S : Type 0} (g : Ghosts S) (old : Held S) where
 
   rows_own : (rows : List Row) (r : Result (StoredCampaign × WorldValue) LoadFault) → JudgesRows f rows r → Selects g (selection campaign_table 1) old rows → IfOk r (λ both. OwnRead g old f both.0 both.1)
   rows_own rows (Err fault) judged told = tt
-  rows_own rows (Ok both) judged told = record { rows = rows; selects = told; row = judged; table = λ begins. subst (IsPermutation (rows_in campaign_table (state g old).now.trees)) judged.is (asked_rows First (selection campaign_table 1) (rows_in campaign_table) 8 reads_campaign (state g old) (state g told.0) (state g told.1) rows told.2 told.3 begins) }
+  rows_own rows (Ok both) judged told = record { rows = rows; selects = told; row = judged; table = λ begins. subst (IsPermutation (rows_in campaign_table (state g old).now.trees)) judged.is (asked_rows First (selection campaign_table 1) (rows_in campaign_table) 8 (reads_part Own 8 refl) (state g old) (state g told.0) (state g told.1) rows told.2 told.3 begins) }
 
   -- they are the campaign's own row and its world
   pub own_is : (rows : List Row) (r : Result (StoredCampaign × WorldValue) LoadFault) → JudgesFormat f rows r → Selects g (selection campaign_table 1) old rows

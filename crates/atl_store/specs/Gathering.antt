@@ -10,7 +10,6 @@ use Rattle.sqlite.specs.State.{State, HasCleanDisk, FailsToQuery}
 use Rattle.sqlite.specs.Table.{Table}
 use Rattle.sqlite_rules.specs.Lists.{Has}
 use Rattle.sqlite_catalog.specs.Listing.{IsSound}
-use Rattle.sqlite_trees.specs.Tree.{Trees}
 use Rattle.sqlite_trees.specs.declared.store.Store.{Ghosts}
 use Rattle.atl_tables.specs.Worlds.{WorldValue}
 use Rattle.atl_tables.specs.Formats.{format_number}
@@ -34,12 +33,12 @@ use Rattle.atl_state.specs.declared.parts.StoredStructure.{StoredStructure}
 use Rattle.atl_state.specs.declared.parts.StoredUnit.{StoredUnit}
 use Rattle.atl_store.specs.Faults.{is_memory}
 use Rattle.atl_store.specs.Loading.{HaveRows, AreOwnRow, IsOther, HasOtherType, KeepsOneRow, other_selects, placed_tables, Leaves, AreToldTyped, RefusesOne}
-use Rattle.atl_store.specs.Reading.{Selects, placed_rows_in}
+use Rattle.atl_store.specs.Reading.{Selects, listing_of}
 use Rattle.atl_store.specs.Statements.{placed_selection, selection}
 use Rattle.atl_store.specs.Sets.{IsKeyed, rows_in}
 use Rattle.atl_store.specs.StoredRows.{campaign_stored, faction_stored, region_stored, unit_stored, structure_stored, mail_stored, report_stored, has_stored, books_stored, market_stored, faction_forms, region_forms, unit_forms, structure_forms, mail_forms, report_forms, has_forms, books_forms}
 use Rattle.atl_store.specs.Stored.{Form}
-use Rattle.atl_store.specs.Tables.{campaign_table, faction_table, region_table, unit_table, has_table, structure_table, mail_table, report_table, books_table, market_table, HasTablesOf}
+use Rattle.atl_store.specs.Tables.{Part, Factions, Regions, Units, Goods, Structures, Mail, Reports, Books, Markets, campaign_table, faction_table, region_table, unit_table, has_table, structure_table, mail_table, report_table, books_table, HasTablesOf}
 use Rattle.atl_store.specs.declared.fault.ReadFault.{ReadFault}
 use Rattle.atl_store.specs.declared.fault.ReadFault.TheVariants as read
 use Rattle.atl_store.specs.declared.fault.LoadFault.{LoadFault}
@@ -165,27 +164,26 @@ module _ {S : Type 0} (g : Ghosts S) (old : Held S) where
   FailsToRead selects Memory = RefusesOne g old selects read.Memory ⊎ AnswersOne selects
 
   -- these are all rows of a table, where the schema has the tables of the format since which it is there
-  abbrev pub AreRows : {A : Type 0} → Format → (Trees → List Row) → (A → Row) → List A → Type 0
-  AreRows since in_table shown rows = HasTablesOf since old.schema → IsPermutation (in_table (state g old).now.trees) (map shown rows)
+  abbrev pub AreRows : {A : Type 0} → Part → (A → Row) → List A → Type 0
+  AreRows part shown rows = HasTablesOf (listing_of part).since old.schema → IsPermutation ((listing_of part).in_table (state g old).now.trees) (map shown rows)
 
   -- these are all rows of two tables, or of three
-  abbrev pub AreTwo : {A B Z : Type 0} → Format → (Trees → List Row) → (A → Row) → Format → (Trees → List Row) → (B → Row) → Vec A Z × Vec B Z → Type 0
-  AreTwo one first a two second b read = AreRows one first a read.0.items × AreRows two second b read.1.items
+  abbrev pub AreTwo : {A B Z : Type 0} → Part → (A → Row) → Part → (B → Row) → Vec A Z × Vec B Z → Type 0
+  AreTwo one a two b read = AreRows one a read.0.items × AreRows two b read.1.items
 
-  abbrev pub AreThree : {A B C Z : Type 0} → Format → (Trees → List Row) → (A → Row) → Format → (Trees → List Row) → (B → Row) → Format → (Trees → List Row) → (C → Row) → (Vec A Z × Vec B Z) × Vec C Z → Type 0
-  AreThree one first a two second b three third c read = AreTwo one first a two second b read.0 × AreRows three third c read.1.items
+  abbrev pub AreThree : {A B C Z : Type 0} → Part → (A → Row) → Part → (B → Row) → Part → (C → Row) → (Vec A Z × Vec B Z) × Vec C Z → Type 0
+  AreThree one a two b three c read = AreTwo one a two b read.0 × AreRows three c read.1.items
 
   -- these are all rows of the eight tables
   abbrev pub AreEight : {Z : Type 0} → EightRead Z → Type 0
   AreEight read =
-      (AreThree First (rows_in faction_table) faction_stored First (rows_in region_table) region_stored First (rows_in report_table) report_stored read.0.0
-      × AreTwo First (rows_in unit_table) unit_stored First (placed_rows_in has_table) has_stored read.0.1)
-      × AreThree First (rows_in structure_table) structure_stored First (rows_in mail_table) mail_stored First (placed_rows_in books_table) books_stored read.1
+      (AreThree Factions faction_stored Regions region_stored Reports report_stored read.0.0 × AreTwo Units unit_stored Goods has_stored read.0.1)
+      × AreThree Structures structure_stored Mail mail_stored Books books_stored read.1
 
   -- these are all rows of the table of markets, which the first format doesn't have
   abbrev pub AreMarkets : Format → List (Placed StoredMarket) → Type 0
   AreMarkets First rows = rows ≡ []
-  AreMarkets Second rows = AreRows Second (placed_rows_in market_table) market_stored rows
+  AreMarkets Second rows = AreRows Markets market_stored rows
 
   abbrev pub AreOthers : Format → {Z : Type 0} → OthersRead Z → Type 0
   AreOthers f read = AreEight read.0 × AreMarkets f read.1.items

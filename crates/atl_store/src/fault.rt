@@ -1,6 +1,6 @@
 //! Why the store gives up.
-ghost use Rattle.std.specs.Prelude.{◌≡◌};
-ghost use Rattle.atl_store.specs.Faults.{read_fault, value_fault, write_fault, create_fault, store_fault, reopening_fault, load_fault, judged_fault, second_fault, upgrade_fault, first_fault, new_world_fault, fault_number, upgrade_number};
+ghost use Rattle.std.specs.Prelude.{◌≡◌, if◌then◌else◌};
+ghost use Rattle.atl_store.specs.Faults.{is_memory, read_fault, value_fault, write_fault, create_fault, store_fault, reopening_fault, load_fault, judged_fault, second_fault, upgrade_fault, first_fault, new_world_fault, fault_number, upgrade_number};
 
 use atl_state::{CheckFault, Rule};
 use atl_tables::WorldFault;
@@ -147,24 +147,21 @@ impl fmt::Display for UpgradeFault {
 
 impl std::error::Error for UpgradeFault {}
 
+/// Of two faults the one for want of memory, or the one for any other cause.
+fn by_cause<F: Drop>(error: Error, memory: F, other: F) -> F
+    ensures { result ≡ (if is_memory error then memory else other) }
+{
+    match error {
+        Error::SqliteFailure(ErrorCode::OutOfMemory) => memory,
+        _ => other,
+    }
+}
+
 impl From<Error> for WriteFault {
     ghost from_gives = { λ error fault. fault ≡ write_fault error };
 
     fn from(error: Error) -> WriteFault {
-        match error {
-            Error::SqliteFailure(ErrorCode::OutOfMemory) => WriteFault::Memory,
-            _ => WriteFault::Store,
-        }
-    }
-}
-
-impl From<AllocError> for WriteFault {
-    ghost use Rattle.atl_store.specs.declared.fault.WriteFault.TheVariants.{Memory};
-
-    ghost from_gives = { λ _ fault. fault ≡ Memory };
-
-    fn from(_e: AllocError) -> WriteFault {
-        WriteFault::Memory
+        by_cause(error, WriteFault::Memory, WriteFault::Store)
     }
 }
 
@@ -172,10 +169,7 @@ impl From<Error> for CreateFault {
     ghost from_gives = { λ error fault. fault ≡ create_fault error };
 
     fn from(error: Error) -> CreateFault {
-        match error {
-            Error::SqliteFailure(ErrorCode::OutOfMemory) => CreateFault::Memory,
-            _ => CreateFault::Store,
-        }
+        by_cause(error, CreateFault::Memory, CreateFault::Store)
     }
 }
 
@@ -195,6 +189,40 @@ impl From<Error> for ReadFault {
             ) => ReadFault::Store,
             _ => ReadFault::Refused,
         }
+    }
+}
+
+impl From<Error> for StoreFault {
+    ghost from_gives = { λ error fault. fault ≡ store_fault error };
+
+    fn from(error: Error) -> StoreFault {
+        by_cause(error, StoreFault::Memory, StoreFault::Store)
+    }
+}
+
+impl From<Error> for LoadFault {
+    ghost from_gives = { λ error fault. fault ≡ load_fault error };
+
+    fn from(error: Error) -> LoadFault {
+        by_cause(error, LoadFault::Memory, LoadFault::Store)
+    }
+}
+
+impl From<Error> for UpgradeFault {
+    ghost from_gives = { λ error fault. fault ≡ upgrade_fault error };
+
+    fn from(error: Error) -> UpgradeFault {
+        by_cause(error, UpgradeFault::Memory, UpgradeFault::Store)
+    }
+}
+
+impl From<AllocError> for WriteFault {
+    ghost use Rattle.atl_store.specs.declared.fault.WriteFault.TheVariants.{Memory};
+
+    ghost from_gives = { λ _ fault. fault ≡ Memory };
+
+    fn from(_e: AllocError) -> WriteFault {
+        WriteFault::Memory
     }
 }
 
@@ -218,14 +246,23 @@ impl From<AllocError> for ReadFault {
     }
 }
 
-impl From<Error> for StoreFault {
-    ghost from_gives = { λ error fault. fault ≡ store_fault error };
+impl From<AllocError> for LoadFault {
+    ghost use Rattle.atl_store.specs.declared.fault.LoadFault.TheVariants.{Memory};
 
-    fn from(error: Error) -> StoreFault {
-        match error {
-            Error::SqliteFailure(ErrorCode::OutOfMemory) => StoreFault::Memory,
-            _ => StoreFault::Store,
-        }
+    ghost from_gives = { λ _ fault. fault ≡ Memory };
+
+    fn from(_e: AllocError) -> LoadFault {
+        LoadFault::Memory
+    }
+}
+
+impl From<AllocError> for UpgradeFault {
+    ghost use Rattle.atl_store.specs.declared.fault.UpgradeFault.TheVariants.{Memory};
+
+    ghost from_gives = { λ _ fault. fault ≡ Memory };
+
+    fn from(_e: AllocError) -> UpgradeFault {
+        UpgradeFault::Memory
     }
 }
 
@@ -251,27 +288,6 @@ impl From<LoadFault> for StoreFault {
             LoadFault::OtherFormat => StoreFault::OldFormat,
             LoadFault::Memory => StoreFault::Memory,
         }
-    }
-}
-
-impl From<Error> for LoadFault {
-    ghost from_gives = { λ error fault. fault ≡ load_fault error };
-
-    fn from(error: Error) -> LoadFault {
-        match error {
-            Error::SqliteFailure(ErrorCode::OutOfMemory) => LoadFault::Memory,
-            _ => LoadFault::Store,
-        }
-    }
-}
-
-impl From<AllocError> for LoadFault {
-    ghost use Rattle.atl_store.specs.declared.fault.LoadFault.TheVariants.{Memory};
-
-    ghost from_gives = { λ _ fault. fault ≡ Memory };
-
-    fn from(_e: AllocError) -> LoadFault {
-        LoadFault::Memory
     }
 }
 
@@ -311,27 +327,6 @@ impl From<WorldFault> for UpgradeFault {
     }
 }
 
-impl From<Error> for UpgradeFault {
-    ghost from_gives = { λ error fault. fault ≡ upgrade_fault error };
-
-    fn from(error: Error) -> UpgradeFault {
-        match error {
-            Error::SqliteFailure(ErrorCode::OutOfMemory) => UpgradeFault::Memory,
-            _ => UpgradeFault::Store,
-        }
-    }
-}
-
-impl From<AllocError> for UpgradeFault {
-    ghost use Rattle.atl_store.specs.declared.fault.UpgradeFault.TheVariants.{Memory};
-
-    ghost from_gives = { λ _ fault. fault ≡ Memory };
-
-    fn from(_e: AllocError) -> UpgradeFault {
-        UpgradeFault::Memory
-    }
-}
-
 impl StoreFault {
     /// The fault's number, from 1; `Memory` has none.
     pub fn number(self) -> Option<u8>
@@ -368,8 +363,5 @@ impl UpgradeFault {
 pub(crate) fn unread(error: Error) -> ReadFault
     ensures { result ≡ value_fault error }
 {
-    match error {
-        Error::SqliteFailure(ErrorCode::OutOfMemory) => ReadFault::Memory,
-        _ => ReadFault::OtherType,
-    }
+    by_cause(error, ReadFault::Memory, ReadFault::OtherType)
 }

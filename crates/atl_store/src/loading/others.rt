@@ -4,6 +4,7 @@ ghost use Rattle.std.specs.Prelude.{◌≡◌, false, [], ◌∷◌};
 ghost use Rattle.sqlite.specs.Held.{state};
 ghost use Rattle.atl_store.specs.Gathering.{IsSettled, kept_of, AreRows, AreTwo, AreThree, AreEight, AreOthers, ReadsSome};
 ghost use Rattle.atl_store.specs.Loading.{eight_selects, other_selects};
+ghost use Rattle.atl_store.specs.Reading.{listing_of};
 
 use crate::fault::{LoadFault, ReadFault};
 use crate::rows::{Listed, Placed};
@@ -52,7 +53,7 @@ fn read_one<A: Listed, S: Alter>(
 ) -> Result<Option<Vec<A>>, LoadFault>
     requires idle { conn.old.in_transaction ≡ false }
     requires settled { IsSettled (state S.Store conn.old) }
-    ensures { ReadsSome S.Store conn.old ((A.Listed.select, A.Stored.forms) ∷ []) (λ all. AreRows S.Store conn.old A.Listed.since A.Listed.in_table A.Stored.shown all.items) result conn.new }
+    ensures { ReadsSome S.Store conn.old (((listing_of A.Listed.part).select, A.Stored.forms) ∷ []) (λ all. AreRows S.Store conn.old A.Listed.part A.Stored.shown all.items) result conn.new }
 {
     kept(A::read(alloc, conn))
 }
@@ -64,7 +65,7 @@ fn read_two<A: Listed, B: Listed, S: Alter>(
 ) -> Result<Option<(Vec<A>, Vec<B>)>, LoadFault>
     requires idle { conn.old.in_transaction ≡ false }
     requires settled { IsSettled (state S.Store conn.old) }
-    ensures { ReadsSome S.Store conn.old ((A.Listed.select, A.Stored.forms) ∷ (B.Listed.select, B.Stored.forms) ∷ []) (AreTwo S.Store conn.old A.Listed.since A.Listed.in_table A.Stored.shown B.Listed.since B.Listed.in_table B.Stored.shown) result conn.new }
+    ensures { ReadsSome S.Store conn.old (((listing_of A.Listed.part).select, A.Stored.forms) ∷ ((listing_of B.Listed.part).select, B.Stored.forms) ∷ []) (AreTwo S.Store conn.old A.Listed.part A.Stored.shown B.Listed.part B.Stored.shown) result conn.new }
 {
     let first = read_one::<A, S>(alloc, conn)?;
     let second = read_one::<B, S>(alloc, conn)?;
@@ -78,7 +79,7 @@ fn read_three<A: Listed, B: Listed, C: Listed, S: Alter>(
 ) -> Result<Option<((Vec<A>, Vec<B>), Vec<C>)>, LoadFault>
     requires idle { conn.old.in_transaction ≡ false }
     requires settled { IsSettled (state S.Store conn.old) }
-    ensures { ReadsSome S.Store conn.old ((A.Listed.select, A.Stored.forms) ∷ (B.Listed.select, B.Stored.forms) ∷ (C.Listed.select, C.Stored.forms) ∷ []) (AreThree S.Store conn.old A.Listed.since A.Listed.in_table A.Stored.shown B.Listed.since B.Listed.in_table B.Stored.shown C.Listed.since C.Listed.in_table C.Stored.shown) result conn.new }
+    ensures { ReadsSome S.Store conn.old (((listing_of A.Listed.part).select, A.Stored.forms) ∷ ((listing_of B.Listed.part).select, B.Stored.forms) ∷ ((listing_of C.Listed.part).select, C.Stored.forms) ∷ []) (AreThree S.Store conn.old A.Listed.part A.Stored.shown B.Listed.part B.Stored.shown C.Listed.part C.Stored.shown) result conn.new }
 {
     let two = read_two::<A, B, S>(alloc, conn)?;
     let third = read_one::<C, S>(alloc, conn)?;

@@ -1,21 +1,17 @@
 //! The table of the books: signed amounts by entry and thing.
-ghost use Rattle.std.specs.Prelude.{◌≡◌, false};
-ghost use Rattle.atl_tables.specs.declared.format.Format.TheVariants.{First};
-ghost use Rattle.atl_store.specs.Tables.{books_table};
+ghost use Rattle.std.specs.Prelude.{refl};
+ghost use Rattle.atl_store.specs.Tables.{Books, books_table};
 ghost use Rattle.atl_store.specs.Shown.{books_key};
 ghost use Rattle.atl_store.specs.Written.{books_shown};
-ghost use Rattle.atl_store.specs.Statements.{placed_selection};
 ghost use Rattle.atl_store.specs.Writes.{WritesRow, TakesOut};
 ghost use Rattle.atl_store.specs.StoredRows.{books_stored, books_forms};
-ghost use Rattle.atl_store.specs.Reading.{placed_rows_in};
 
-use crate::fault::ReadFault;
 use crate::rows::columns::two_integers;
-use crate::rows::stored::{Listed, Placed, Stored, read_all};
+use crate::rows::stored::{Listed, Placed, Stored};
 use crate::statement::run;
 use atl_state::parts::StoredBooks;
 use atl_tables::Format;
-use sqlite::{Alter, Connection, Error, Row, Transaction, params};
+use sqlite::{Alter, Error, Row, Transaction, params};
 use std::alloc::Global;
 
 /// What is booked of a thing under an entry, which is not 0.
@@ -73,19 +69,12 @@ impl Stored for Placed<StoredBooks> {
 }
 
 impl Listed for Placed<StoredBooks> {
-    ghost since = { First };
+    ghost part = { Books };
 
-    ghost select = { placed_selection books_table 2 };
+    ghost columns = { refl };
 
-    ghost in_table = { placed_rows_in books_table };
-
-    fn read<S: Alter>(
-        alloc: Global,
-        conn: &mut Connection<S>,
-    ) -> Result<Vec<Placed<StoredBooks>>, ReadFault> {
-        read_all(
-            alloc,
-            conn,
+    fn asked() -> (Format, &'static str) {
+        (
             Format::First,
             "SELECT entry, thing, amount, rowid FROM books ORDER BY entry, thing",
         )

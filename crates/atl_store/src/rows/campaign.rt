@@ -1,9 +1,8 @@
 //! The table of the campaign's own row.
-ghost use Rattle.std.specs.Prelude.{◌≡◌, false, not, IsTrue, IfOk, IfErr};
-ghost use Rattle.atl_tables.specs.declared.format.Format.TheVariants.{First};
+ghost use Rattle.std.specs.Prelude.{◌≡◌, false, not, IsTrue, IfOk, IfErr, refl};
 ghost use Rattle.atl_store.specs.Faults.{is_memory};
 ghost use Rattle.atl_store.specs.Stored.{first_columns, IsTyped};
-ghost use Rattle.atl_store.specs.Tables.{campaign_table};
+ghost use Rattle.atl_store.specs.Tables.{Own, campaign_table};
 ghost use Rattle.atl_store.specs.Written.{head_shown};
 ghost use Rattle.atl_store.specs.PutsHead.{PutsHead};
 ghost use Rattle.atl_store.specs.Shown.{head_values};
@@ -12,13 +11,12 @@ ghost use Rattle.atl_store.specs.OwnStatements.{Only};
 ghost use Rattle.atl_store.specs.Writes.{Writes};
 ghost use Rattle.atl_store.specs.Inside.{Inside, HasTables};
 ghost use Rattle.atl_store.specs.StoredRows.{head_stored, head_forms, campaign_stored, campaign_forms};
-ghost use Rattle.atl_store.specs.Sets.{rows_in};
 ghost use Rattle.atl_store.specs.Reading.{Asks};
 ghost use Rattle.atl_store.specs.UpgradeSteps.{UpgradesHead};
 
 use crate::fault::ReadFault;
 use crate::rows::columns::{letters, three_integers, words};
-use crate::rows::stored::{Listed, Stored, read_all, select};
+use crate::rows::stored::{Listed, Stored, select};
 use crate::statement::run;
 use atl_state::parts::StoredHead;
 use atl_tables::Format;
@@ -117,7 +115,6 @@ fn head(alloc: Global, row: &Row) -> Result<StoredHead, Error>
 {
     let (id, format, month) = three_integers(row, 0)?;
     let (next_faction, next_unit, next_structure) = three_integers(row, 3)?;
-    let pass = letters(alloc, row, 6)?;
     Ok(StoredHead {
         id,
         format,
@@ -125,7 +122,7 @@ fn head(alloc: Global, row: &Row) -> Result<StoredHead, Error>
         next_faction,
         next_unit,
         next_structure,
-        pass,
+        pass: letters(alloc, row, 6)?,
     })
 }
 
@@ -154,16 +151,11 @@ pub(crate) fn select_campaign<S: Alter>(conn: &mut Connection<S>) -> Result<Vec<
 }
 
 impl Listed for StoredCampaign {
-    ghost since = { First };
+    ghost part = { Own };
 
-    ghost select = { selection campaign_table 1 };
+    ghost columns = { refl };
 
-    ghost in_table = { rows_in campaign_table };
-
-    fn read<S: Alter>(
-        alloc: Global,
-        conn: &mut Connection<S>,
-    ) -> Result<Vec<StoredCampaign>, ReadFault> {
-        read_all(alloc, conn, Format::First, ALL)
+    fn asked() -> (Format, &'static str) {
+        (Format::First, ALL)
     }
 }

@@ -1,22 +1,18 @@
 //! The table of factions.
-ghost use Rattle.std.specs.Prelude.{◌≡◌, false, refl};
-ghost use Rattle.atl_tables.specs.declared.format.Format.TheVariants.{First};
-ghost use Rattle.atl_store.specs.Tables.{faction_table};
-ghost use Rattle.atl_store.specs.Statements.{selection};
+ghost use Rattle.std.specs.Prelude.{refl};
+ghost use Rattle.atl_store.specs.Tables.{Factions, faction_table};
 ghost use Rattle.atl_store.specs.OwnStatements.{puts_faction, drops_faction};
 ghost use Rattle.atl_store.specs.Rows.{faction_line};
 ghost use Rattle.atl_store.specs.StoredRows.{faction_stored, faction_forms};
-ghost use Rattle.atl_store.specs.Sets.{rows_in};
 
-use crate::fault::ReadFault;
 use crate::kept::Kept;
 use crate::rows::columns::{integer, letters};
-use crate::rows::stored::{Listed, Stored, read_all};
+use crate::rows::stored::{Listed, Stored};
 use crate::statement::run;
 use atl_state::parts::StoredFaction;
 use atl_state::{Campaign, Faction};
 use atl_tables::{Format, MarkedNumbers};
-use sqlite::{Alter, Connection, Error, Row, Transaction, params};
+use sqlite::{Alter, Error, Row, Transaction, params};
 use std::alloc::Global;
 
 impl Kept for Faction {
@@ -83,19 +79,12 @@ impl Stored for StoredFaction {
 }
 
 impl Listed for StoredFaction {
-    ghost since = { First };
+    ghost part = { Factions };
 
-    ghost select = { selection faction_table 1 };
+    ghost columns = { refl };
 
-    ghost in_table = { rows_in faction_table };
-
-    fn read<S: Alter>(
-        alloc: Global,
-        conn: &mut Connection<S>,
-    ) -> Result<Vec<StoredFaction>, ReadFault> {
-        read_all(
-            alloc,
-            conn,
+    fn asked() -> (Format, &'static str) {
+        (
             Format::First,
             "SELECT number, joined_as, name, pass, gone FROM faction ORDER BY number",
         )

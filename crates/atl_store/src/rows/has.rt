@@ -1,21 +1,17 @@
 //! The table of what units have: an amount of an item, or days of a skill.
-ghost use Rattle.std.specs.Prelude.{◌≡◌, false, [], ◌∷◌};
-ghost use Rattle.atl_tables.specs.declared.format.Format.TheVariants.{First};
-ghost use Rattle.atl_store.specs.Tables.{has_table};
+ghost use Rattle.std.specs.Prelude.{◌≡◌, [], ◌∷◌, refl};
+ghost use Rattle.atl_store.specs.Tables.{Goods, has_table};
 ghost use Rattle.atl_store.specs.Shown.{int, has_key};
 ghost use Rattle.atl_store.specs.Written.{has_shown, sort_number};
-ghost use Rattle.atl_store.specs.Statements.{placed_selection};
 ghost use Rattle.atl_store.specs.Writes.{WritesRow, TakesOut};
 ghost use Rattle.atl_store.specs.StoredRows.{has_stored, has_forms};
-ghost use Rattle.atl_store.specs.Reading.{placed_rows_in};
 
-use crate::fault::ReadFault;
 use crate::rows::columns::{three_integers, two_integers};
-use crate::rows::stored::{Listed, Placed, Stored, read_all};
+use crate::rows::stored::{Listed, Placed, Stored};
 use crate::statement::run;
 use atl_state::parts::StoredHas;
 use atl_tables::Format;
-use sqlite::{Alter, Connection, Error, Row, Transaction, params};
+use sqlite::{Alter, Error, Row, Transaction, params};
 use std::alloc::Global;
 
 /// What a row of the table is of: an amount of an item, or days of a skill.
@@ -105,19 +101,12 @@ impl Stored for Placed<StoredHas> {
 }
 
 impl Listed for Placed<StoredHas> {
-    ghost since = { First };
+    ghost part = { Goods };
 
-    ghost select = { placed_selection has_table 3 };
+    ghost columns = { refl };
 
-    ghost in_table = { placed_rows_in has_table };
-
-    fn read<S: Alter>(
-        alloc: Global,
-        conn: &mut Connection<S>,
-    ) -> Result<Vec<Placed<StoredHas>>, ReadFault> {
-        read_all(
-            alloc,
-            conn,
+    fn asked() -> (Format, &'static str) {
+        (
             Format::First,
             "SELECT unit, sort, thing, amount, rowid FROM has ORDER BY unit, sort, thing",
         )

@@ -1,23 +1,19 @@
 //! The table of mail.
-ghost use Rattle.std.specs.Prelude.{◌≡◌, false, refl};
-ghost use Rattle.atl_tables.specs.declared.format.Format.TheVariants.{First};
-ghost use Rattle.atl_store.specs.Tables.{mail_table};
-ghost use Rattle.atl_store.specs.Statements.{selection};
+ghost use Rattle.std.specs.Prelude.{refl};
+ghost use Rattle.atl_store.specs.Tables.{Mail, mail_table};
 ghost use Rattle.atl_store.specs.OwnStatements.{puts_mail, drops_mail};
 ghost use Rattle.atl_store.specs.Shown.{mail_row};
 ghost use Rattle.atl_store.specs.Writes.{WritesRow};
 ghost use Rattle.atl_store.specs.StoredRows.{mail_stored, mail_forms};
-ghost use Rattle.atl_store.specs.Sets.{rows_in};
 
-use crate::fault::ReadFault;
 use crate::kept::Kept;
 use crate::rows::columns::{bytes, integer};
-use crate::rows::stored::{Listed, Stored, read_all};
+use crate::rows::stored::{Listed, Stored};
 use crate::statement::run;
 use atl_state::Campaign;
 use atl_state::parts::StoredMail;
 use atl_tables::{Format, MarkedNumbers, Sequence};
-use sqlite::{Alter, Connection, Error, Row, Transaction, params};
+use sqlite::{Alter, Error, Row, Transaction, params};
 use std::alloc::Global;
 
 /// Inserts the mail of a faction, or puts it in the place of the one that it has.
@@ -81,19 +77,12 @@ impl Stored for StoredMail {
 }
 
 impl Listed for StoredMail {
-    ghost since = { First };
+    ghost part = { Mail };
 
-    ghost select = { selection mail_table 1 };
+    ghost columns = { refl };
 
-    ghost in_table = { rows_in mail_table };
-
-    fn read<S: Alter>(
-        alloc: Global,
-        conn: &mut Connection<S>,
-    ) -> Result<Vec<StoredMail>, ReadFault> {
-        read_all(
-            alloc,
-            conn,
+    fn asked() -> (Format, &'static str) {
+        (
             Format::First,
             "SELECT faction, text FROM mail ORDER BY faction",
         )

@@ -1,20 +1,16 @@
 //! The table of the stocks of markets.
-ghost use Rattle.std.specs.Prelude.{◌≡◌, false, [], ◌∷◌};
-ghost use Rattle.atl_tables.specs.declared.format.Format.TheVariants.{Second};
-ghost use Rattle.atl_store.specs.Tables.{market_table};
+ghost use Rattle.std.specs.Prelude.{[], ◌∷◌, refl};
+ghost use Rattle.atl_store.specs.Tables.{Markets, market_table};
 ghost use Rattle.atl_store.specs.Shown.{int, market_row};
-ghost use Rattle.atl_store.specs.Statements.{placed_selection};
 ghost use Rattle.atl_store.specs.Writes.{WritesRow, TakesOut};
 ghost use Rattle.atl_store.specs.StoredRows.{market_stored, market_forms};
-ghost use Rattle.atl_store.specs.Reading.{placed_rows_in};
 
-use crate::fault::ReadFault;
 use crate::rows::columns::two_integers;
-use crate::rows::stored::{Listed, Placed, Stored, read_all};
+use crate::rows::stored::{Listed, Placed, Stored};
 use crate::statement::run;
 use atl_state::parts::StoredMarket;
 use atl_tables::Format;
-use sqlite::{Alter, Connection, Error, Row, Transaction, params};
+use sqlite::{Alter, Error, Row, Transaction, params};
 use std::alloc::Global;
 
 /// Inserts the row of a stock, or changes the one that has its region and item.
@@ -58,19 +54,12 @@ impl Stored for Placed<StoredMarket> {
 }
 
 impl Listed for Placed<StoredMarket> {
-    ghost since = { Second };
+    ghost part = { Markets };
 
-    ghost select = { placed_selection market_table 2 };
+    ghost columns = { refl };
 
-    ghost in_table = { placed_rows_in market_table };
-
-    fn read<S: Alter>(
-        alloc: Global,
-        conn: &mut Connection<S>,
-    ) -> Result<Vec<Placed<StoredMarket>>, ReadFault> {
-        read_all(
-            alloc,
-            conn,
+    fn asked() -> (Format, &'static str) {
+        (
             Format::Second,
             "SELECT region, item, stock, rowid FROM market ORDER BY region, item",
         )

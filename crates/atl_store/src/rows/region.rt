@@ -1,22 +1,18 @@
 //! The table of regions.
-ghost use Rattle.std.specs.Prelude.{◌≡◌, false, refl};
-ghost use Rattle.atl_tables.specs.declared.format.Format.TheVariants.{First};
-ghost use Rattle.atl_store.specs.Tables.{region_table};
-ghost use Rattle.atl_store.specs.Statements.{selection};
+ghost use Rattle.std.specs.Prelude.{refl};
+ghost use Rattle.atl_store.specs.Tables.{Regions, region_table};
 ghost use Rattle.atl_store.specs.OwnStatements.{puts_region, drops_region};
 ghost use Rattle.atl_store.specs.Rows.{region_line};
 ghost use Rattle.atl_store.specs.StoredRows.{region_stored, region_forms};
-ghost use Rattle.atl_store.specs.Sets.{rows_in};
 
-use crate::fault::ReadFault;
 use crate::kept::Kept;
 use crate::rows::columns::three_integers;
-use crate::rows::stored::{Listed, Stored, read_all};
+use crate::rows::stored::{Listed, Stored};
 use crate::statement::run;
 use atl_state::parts::StoredRegion;
 use atl_state::{Campaign, Region};
 use atl_tables::{Format, MarkedNumbers};
-use sqlite::{Alter, Connection, Error, Row, Transaction, params};
+use sqlite::{Alter, Error, Row, Transaction, params};
 use std::alloc::Global;
 
 impl Kept for Region {
@@ -71,19 +67,12 @@ impl Stored for StoredRegion {
 }
 
 impl Listed for StoredRegion {
-    ghost since = { First };
+    ghost part = { Regions };
 
-    ghost select = { selection region_table 1 };
+    ghost columns = { refl };
 
-    ghost in_table = { rows_in region_table };
-
-    fn read<S: Alter>(
-        alloc: Global,
-        conn: &mut Connection<S>,
-    ) -> Result<Vec<StoredRegion>, ReadFault> {
-        read_all(
-            alloc,
-            conn,
+    fn asked() -> (Format, &'static str) {
+        (
             Format::First,
             "SELECT number, peasants, money FROM region ORDER BY number",
         )

@@ -1,22 +1,18 @@
 //! The table of reports.
-ghost use Rattle.std.specs.Prelude.{◌≡◌, false, refl};
-ghost use Rattle.atl_tables.specs.declared.format.Format.TheVariants.{First};
-ghost use Rattle.atl_store.specs.Tables.{report_table};
-ghost use Rattle.atl_store.specs.Statements.{selection};
+ghost use Rattle.std.specs.Prelude.{refl};
+ghost use Rattle.atl_store.specs.Tables.{Reports, report_table};
 ghost use Rattle.atl_store.specs.OwnStatements.{puts_report, drops_report};
 ghost use Rattle.atl_store.specs.Shown.{report_row};
 ghost use Rattle.atl_store.specs.StoredRows.{report_stored, report_forms};
-ghost use Rattle.atl_store.specs.Sets.{rows_in};
 
-use crate::fault::ReadFault;
 use crate::kept::Kept;
 use crate::rows::columns::{integer, words};
-use crate::rows::stored::{Listed, Stored, read_all};
+use crate::rows::stored::{Listed, Stored};
 use crate::statement::run;
 use atl_state::Campaign;
 use atl_state::parts::StoredReport;
 use atl_tables::{Format, MarkedNumbers, Text};
-use sqlite::{Alter, Connection, Error, Row, Transaction, params};
+use sqlite::{Alter, Error, Row, Transaction, params};
 use std::alloc::Global;
 
 /// The report of a faction.
@@ -72,19 +68,12 @@ impl Stored for StoredReport {
 }
 
 impl Listed for StoredReport {
-    ghost since = { First };
+    ghost part = { Reports };
 
-    ghost select = { selection report_table 1 };
+    ghost columns = { refl };
 
-    ghost in_table = { rows_in report_table };
-
-    fn read<S: Alter>(
-        alloc: Global,
-        conn: &mut Connection<S>,
-    ) -> Result<Vec<StoredReport>, ReadFault> {
-        read_all(
-            alloc,
-            conn,
+    fn asked() -> (Format, &'static str) {
+        (
             Format::First,
             "SELECT faction, text FROM report ORDER BY faction",
         )

@@ -1,14 +1,12 @@
 //! Rows as they are read.
-ghost use Rattle.std.specs.Prelude.{◌≡◌, ◌≢◌, ℕ, List, map, length, false, true, not, IsTrue, IfOk, IfErr};
+ghost use Rattle.std.specs.Prelude.{◌≡◌, ◌≢◌, List, map, length, false, true, not, IsTrue, IfOk, IfErr};
 ghost use Rattle.sqlite.specs.Given.{IsPlain};
 ghost use Rattle.sqlite.specs.Listing.{understood};
 ghost use Rattle.sqlite.specs.Order.{Row as SqlRow};
-ghost use Rattle.sqlite_trees.specs.Tree.{Trees};
-ghost use Rattle.atl_tables.specs.declared.format.Format.{Format};
 ghost use Rattle.atl_store.specs.Faults.{is_memory};
-ghost use Rattle.atl_store.specs.Reading.{AddsRow, Asks, GivesTable, ReadsRows, Streams};
+ghost use Rattle.atl_store.specs.Reading.{AddsRow, Asks, GivesTable, ReadsRows, Streams, listing_of};
 ghost use Rattle.atl_store.specs.Stored.{Form, first_columns, IsTyped, AreTyped};
-ghost use Rattle.atl_store.specs.Tables.{HasTablesOf};
+ghost use Rattle.atl_store.specs.Tables.{Part, HasTablesOf};
 ghost use Rattle.atl_store.specs.declared.fault.ReadFault.TheVariants.{Memory, OtherType};
 
 use crate::fault::{ReadFault, unread};
@@ -33,20 +31,28 @@ pub trait Stored: Drop + Sized {
 
 /// A row of a table of which all rows are read at once.
 pub trait Listed: Stored {
-    // The format since which there is the table, the SELECT of all its columns, and what the table has.
-    ghost since: { Format };
+    // The part of a campaign that the table is of.
+    ghost part: { Part };
 
-    ghost select: { List ℕ };
-
-    ghost in_table: { Trees → List SqlRow };
+    /// The format since which there is the table, and the SELECT of all its columns.
+    fn asked() -> (Format, &'static str)
+        ensures since { result.0 ≡ (listing_of part).since }
+        ensures select { result.1.now ≡ (listing_of part).select };
 
     /// All rows of the table, in the order of its key; those of what units have and of the books with the places that they
     /// are kept at, and units without their goods. Each fault is told as `ReadFault` says, OtherType also of a report or a
     /// world text that isn't UTF-8; whatever is answered, nothing is changed.
-    fn read<S: Alter>(alloc: Global, conn: &mut Connection<S>) -> Result<Vec<Self>, ReadFault>
+    final fn read<S: Alter>(alloc: Global, conn: &mut Connection<S>) -> Result<Vec<Self>, ReadFault>
         requires { conn.old.in_transaction ≡ false }
-        ensures select { ReadsRows S.Store select conn.old Self.forms Self.shown result conn.new }
-        ensures table { GivesTable S.Store since in_table Self.shown result conn.old conn.new };
+        ensures select { ReadsRows S.Store (listing_of part).select conn.old Self.forms Self.shown result conn.new }
+        ensures table { GivesTable S.Store (listing_of part).since (listing_of part).in_table Self.shown result conn.old conn.new }
+    {
+        let (since, select) = Self::asked();
+        read_all(alloc, conn, since, select)
+    }
+
+    // Each column that is shown has its form.
+    ghost columns: { length Self.forms ≡ length (listing_of part).names };
 }
 
 /// A row of a table that has no number for its rows, with the place that the database keeps it at.

@@ -1,22 +1,18 @@
 //! The table of structures.
-ghost use Rattle.std.specs.Prelude.{◌≡◌, false, refl};
-ghost use Rattle.atl_tables.specs.declared.format.Format.TheVariants.{First};
-ghost use Rattle.atl_store.specs.Tables.{structure_table};
-ghost use Rattle.atl_store.specs.Statements.{selection};
+ghost use Rattle.std.specs.Prelude.{refl};
+ghost use Rattle.atl_store.specs.Tables.{Structures, structure_table};
 ghost use Rattle.atl_store.specs.OwnStatements.{puts_structure, drops_structure};
 ghost use Rattle.atl_store.specs.Rows.{structure_line};
 ghost use Rattle.atl_store.specs.StoredRows.{structure_stored, structure_forms};
-ghost use Rattle.atl_store.specs.Sets.{rows_in};
 
-use crate::fault::ReadFault;
 use crate::kept::Kept;
 use crate::rows::columns::{letters, three_integers, two_integers};
-use crate::rows::stored::{Listed, Stored, read_all};
+use crate::rows::stored::{Listed, Stored};
 use crate::statement::run;
 use atl_state::parts::StoredStructure;
 use atl_state::{Campaign, Structure};
 use atl_tables::{Format, MarkedNumbers};
-use sqlite::{Alter, Connection, Error, Row, Transaction, params};
+use sqlite::{Alter, Error, Row, Transaction, params};
 use std::alloc::Global;
 
 impl Kept for Structure {
@@ -74,11 +70,10 @@ impl Stored for StoredStructure {
     fn from_row(alloc: Global, row: &Row) -> Result<StoredStructure, Error> {
         let (number, kind) = two_integers(row, 0)?;
         let (region, done, owner) = three_integers(row, 3)?;
-        let name = letters(alloc, row, 2)?;
         Ok(StoredStructure {
             number,
             kind,
-            name,
+            name: letters(alloc, row, 2)?,
             region,
             done,
             owner,
@@ -87,19 +82,12 @@ impl Stored for StoredStructure {
 }
 
 impl Listed for StoredStructure {
-    ghost since = { First };
+    ghost part = { Structures };
 
-    ghost select = { selection structure_table 1 };
+    ghost columns = { refl };
 
-    ghost in_table = { rows_in structure_table };
-
-    fn read<S: Alter>(
-        alloc: Global,
-        conn: &mut Connection<S>,
-    ) -> Result<Vec<StoredStructure>, ReadFault> {
-        read_all(
-            alloc,
-            conn,
+    fn asked() -> (Format, &'static str) {
+        (
             Format::First,
             "SELECT number, kind, name, region, done, owner FROM structure ORDER BY number",
         )

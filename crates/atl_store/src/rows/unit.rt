@@ -1,23 +1,19 @@
 //! The table of units.
-ghost use Rattle.std.specs.Prelude.{◌≡◌, false, refl};
-ghost use Rattle.atl_tables.specs.declared.format.Format.TheVariants.{First};
-ghost use Rattle.atl_store.specs.Tables.{unit_table};
-ghost use Rattle.atl_store.specs.Statements.{selection};
+ghost use Rattle.std.specs.Prelude.{refl};
+ghost use Rattle.atl_store.specs.Tables.{Units, unit_table};
 ghost use Rattle.atl_store.specs.OwnStatements.{puts_unit, drops_unit};
 ghost use Rattle.atl_store.specs.Rows.{lines_of, unit_line};
 ghost use Rattle.atl_store.specs.StoredRows.{unit_stored, unit_forms};
-ghost use Rattle.atl_store.specs.Sets.{rows_in};
 ghost use Rattle.atl_store.specs.Writes.{WritesRows};
 
-use crate::fault::ReadFault;
 use crate::kept::Kept;
 use crate::rows::columns::{letters, three_integers, two_integers};
-use crate::rows::stored::{Listed, Stored, read_all};
+use crate::rows::stored::{Listed, Stored};
 use crate::statement::run;
 use atl_state::parts::StoredUnit;
 use atl_state::{Campaign, SlotEntries, Unit};
 use atl_tables::{Format, MarkedNumbers};
-use sqlite::{Alter, Connection, Error, Row, Transaction, params};
+use sqlite::{Alter, Error, Row, Transaction, params};
 use std::alloc::Global;
 
 impl Kept for Unit {
@@ -87,11 +83,10 @@ impl Stored for StoredUnit {
         let (number, faction) = two_integers(row, 0)?;
         let (region, structure) = two_integers(row, 3)?;
         let (men, money, guard) = three_integers(row, 5)?;
-        let name = letters(alloc, row, 2)?;
         Ok(StoredUnit {
             number,
             faction,
-            name,
+            name: letters(alloc, row, 2)?,
             region,
             structure,
             men,
@@ -102,19 +97,12 @@ impl Stored for StoredUnit {
 }
 
 impl Listed for StoredUnit {
-    ghost since = { First };
+    ghost part = { Units };
 
-    ghost select = { selection unit_table 1 };
+    ghost columns = { refl };
 
-    ghost in_table = { rows_in unit_table };
-
-    fn read<S: Alter>(
-        alloc: Global,
-        conn: &mut Connection<S>,
-    ) -> Result<Vec<StoredUnit>, ReadFault> {
-        read_all(
-            alloc,
-            conn,
+    fn asked() -> (Format, &'static str) {
+        (
             Format::First,
             "SELECT number, faction, name, region, structure, men, money, guard FROM unit ORDER BY number",
         )

@@ -1,11 +1,14 @@
 //! The tables of a campaign, one by one.
 ghost use Rattle.std.specs.Prelude.{◌≡◌, ◌≤◌, length, slice_get, take};
 ghost use Rattle.std.specs.Bool.{Decides};
-ghost use Rattle.atl_store.specs.Tables.{campaign_table, faction_table, region_table, unit_table, has_table, structure_table, mail_table, report_table, books_table, market_table, all_tables};
+ghost use Rattle.atl_store.specs.Tables.{campaign_table, faction_table, all_tables};
 
 use crate::schema::checks::is_own_row;
 use crate::schema::keys::{has_no_unique, is_numbered, is_unique};
-use crate::schema::places;
+use crate::schema::places::{
+    BOOKS, BOOKS_UNIQUE, CAMPAIGN, FACTION, FACTION_UNIQUE, HAS, HAS_UNIQUE, MAIL, MARKET,
+    MARKET_UNIQUE, REGION, REPORT, STRUCTURE, UNIT,
+};
 use crate::schema::shapes::{is_keyed, is_simple, is_strict};
 use sqlite_schema::schema::{Kind, Table};
 
@@ -16,13 +19,23 @@ macro_rules! columns {
     };
 }
 
+/// Whether a table is made so: its tree, its name, its columns, and the places of its key where that is not the row's number.
+macro_rules! made {
+    ($found:ident: $tree:ident $name:literal ($($columns:tt)*)) => {
+        is_simple($found, $tree, $name, columns!($($columns)*))
+    };
+    ($found:ident: $tree:ident $name:literal ($($columns:tt)*) $key:ident) => {
+        is_keyed($found, $tree, $name, columns!($($columns)*), &$key)
+    };
+}
+
 /// The table of the campaign's own row, which has a check.
 fn is_campaign(found: &Table) -> bool
     ensures { Decides result (found.now ≡ campaign_table) }
 {
     is_strict(
         found,
-        places::CAMPAIGN,
+        CAMPAIGN,
         b"campaign",
         columns!(
             Integer: b"id" b"format" b"month" b"next_faction" b"next_unit" b"next_structure";
@@ -39,107 +52,12 @@ fn is_faction(found: &Table) -> bool
 {
     is_strict(
         found,
-        places::FACTION,
+        FACTION,
         b"faction",
         columns!(Integer: b"number"; Text: b"joined_as" b"name" b"pass"; Integer: b"gone"),
     ) && is_numbered(found)
-        && is_unique(found, &places::FACTION_UNIQUE)
+        && is_unique(found, &FACTION_UNIQUE)
         && found.checks.roots.is_empty()
-}
-
-fn is_region(found: &Table) -> bool
-    ensures { Decides result (found.now ≡ region_table) }
-{
-    is_simple(
-        found,
-        places::REGION,
-        b"region",
-        columns!(Integer: b"number" b"peasants" b"money"),
-    )
-}
-
-fn is_unit(found: &Table) -> bool
-    ensures { Decides result (found.now ≡ unit_table) }
-{
-    is_simple(
-        found,
-        places::UNIT,
-        b"unit",
-        columns!(
-            Integer: b"number" b"faction";
-            Text: b"name";
-            Integer: b"region" b"structure" b"men" b"money" b"guard"
-        ),
-    )
-}
-
-fn is_has(found: &Table) -> bool
-    ensures { Decides result (found.now ≡ has_table) }
-{
-    is_keyed(
-        found,
-        places::HAS,
-        b"has",
-        columns!(Integer: b"unit" b"sort" b"thing" b"amount"),
-        &places::HAS_UNIQUE,
-    )
-}
-
-fn is_structure(found: &Table) -> bool
-    ensures { Decides result (found.now ≡ structure_table) }
-{
-    is_simple(
-        found,
-        places::STRUCTURE,
-        b"structure",
-        columns!(Integer: b"number" b"kind"; Text: b"name"; Integer: b"region" b"done" b"owner"),
-    )
-}
-
-fn is_mail(found: &Table) -> bool
-    ensures { Decides result (found.now ≡ mail_table) }
-{
-    is_simple(
-        found,
-        places::MAIL,
-        b"mail",
-        columns!(Integer: b"faction"; Blob: b"text"),
-    )
-}
-
-fn is_report(found: &Table) -> bool
-    ensures { Decides result (found.now ≡ report_table) }
-{
-    is_simple(
-        found,
-        places::REPORT,
-        b"report",
-        columns!(Integer: b"faction"; Text: b"text"),
-    )
-}
-
-fn is_books(found: &Table) -> bool
-    ensures { Decides result (found.now ≡ books_table) }
-{
-    is_keyed(
-        found,
-        places::BOOKS,
-        b"books",
-        columns!(Integer: b"entry" b"thing" b"amount"),
-        &places::BOOKS_UNIQUE,
-    )
-}
-
-fn is_market(found: &Table) -> bool
-    ensures { Decides result (found.now ≡ market_table) }
-{
-    is_keyed(
-        found,
-        places::MARKET,
-        b"market",
-        columns!(Integer: b"region" b"item" b"stock"),
-        &places::MARKET_UNIQUE,
-    )
 }
 
 /// Whether this is the table with this place among those of a campaign, in the order in which they are made.
@@ -149,14 +67,18 @@ fn is_table(found: &Table, place: usize) -> bool
     match place {
         0 => is_campaign(found),
         1 => is_faction(found),
-        2 => is_region(found),
-        3 => is_unit(found),
-        4 => is_has(found),
-        5 => is_structure(found),
-        6 => is_mail(found),
-        7 => is_report(found),
-        8 => is_books(found),
-        9 => is_market(found),
+        2 => made!(found: REGION b"region" (Integer: b"number" b"peasants" b"money")),
+        3 => made!(found: UNIT b"unit" (
+            Integer: b"number" b"faction"; Text: b"name"; Integer: b"region" b"structure" b"men" b"money" b"guard"
+        )),
+        4 => made!(found: HAS b"has" (Integer: b"unit" b"sort" b"thing" b"amount") HAS_UNIQUE),
+        5 => made!(found: STRUCTURE b"structure" (
+            Integer: b"number" b"kind"; Text: b"name"; Integer: b"region" b"done" b"owner"
+        )),
+        6 => made!(found: MAIL b"mail" (Integer: b"faction"; Blob: b"text")),
+        7 => made!(found: REPORT b"report" (Integer: b"faction"; Text: b"text")),
+        8 => made!(found: BOOKS b"books" (Integer: b"entry" b"thing" b"amount") BOOKS_UNIQUE),
+        9 => made!(found: MARKET b"market" (Integer: b"region" b"item" b"stock") MARKET_UNIQUE),
         _ => false,
     }
 }

@@ -3,9 +3,8 @@ use Rattle.atl_tables.specs.declared.format.Format.{Format}
 use Rattle.atl_tables.specs.declared.format.Format.TheVariants.{Second}
 use Rattle.atl_store.specs.Gathering.{AreMarkets, AreOthers, ReadsSome}
 use Rattle.atl_store.specs.Loading.{eight_selects, market_selects, other_selects}
-use Rattle.atl_store.specs.Reading.{placed_rows_in}
 use Rattle.atl_store.specs.StoredRows.{market_stored}
-use Rattle.atl_store.specs.Tables.{market_table}
+use Rattle.atl_store.specs.Tables.{Markets}
 use Rattle.atl_store.proofs.GatherLaws.{first_fails, second_fails, reads_both, rows_behind}
 use Rattle.atl_store.proofs.loading.others.read_others.Goals as goal
 
@@ -27,4 +26,4 @@ returns-in_ok-markets-in-Second g c =
     let new = c.read_one.new.conn in
     subst (λ (f : Format). ReadsSome g.S.Store old (other_selects f) (AreOthers g.S.Store old f) (Ok c.zip-in-Second.result) new) (sym c.in-Second.is)
     (reads_both g.S.Store eight_selects (market_selects Second) _ _ (λ rows. AreMarkets g.S.Store old Second rows.items) old mid new c.read_eight.result c.read_one.result c.read_eight.ensures c.read_one.ensures c.in_ok-eight.eight c.in_ok-eight.was c.in_ok-markets-in-Second.markets c.in_ok-markets-in-Second.was
-    (λ same rows are. rows_behind g.S.Store old mid same Second (placed_rows_in market_table) market_stored rows.items are) c.zip-in-Second.result c.zip-in-Second.ensures)
+    (λ same rows are. rows_behind g.S.Store old mid same Markets market_stored rows.items are) c.zip-in-Second.result c.zip-in-Second.ensures)

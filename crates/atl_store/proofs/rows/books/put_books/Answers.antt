@@ -1,5 +1,5 @@
 use Rattle.std.proofs.Common.{rules}
-use Rattle.atl_store.proofs.BooksRowLaws.{puts_books}
+use Rattle.atl_store.proofs.KeyedTableLaws.{puts_books}
 use Rattle.atl_store.proofs.StatementLaws.{runs_with}
 use Rattle.atl_store.proofs.rows.books.put_books.Goals as goal
 

@@ -1,5 +1,5 @@
 use Rattle.std.proofs.Common.{rules}
-use Rattle.atl_store.proofs.HasRowLaws.{drops_goods}
+use Rattle.atl_store.proofs.KeyedTableLaws.{drops_goods}
 use Rattle.atl_store.proofs.StatementLaws.{runs_with}
 use Rattle.atl_store.proofs.rows.has.drop_goods.Goals as goal
 

@@ -1,6 +1,6 @@
 use Rattle.std.proofs.Common.{rules}
 use Rattle.atl_store.specs.Written.{sort_number}
-use Rattle.atl_store.proofs.HasRowLaws.{drops_has}
+use Rattle.atl_store.proofs.KeyedTableLaws.{drops_has}
 use Rattle.atl_store.proofs.StatementLaws.{runs_with}
 use Rattle.atl_store.proofs.rows.has.drop_has.Goals as goal
 

@@ -1,5 +1,5 @@
 use Rattle.std.proofs.Common.{rules}
-use Rattle.atl_store.proofs.HasRowLaws.{puts_has}
+use Rattle.atl_store.proofs.KeyedTableLaws.{puts_has}
 use Rattle.atl_store.specs.Written.{sort_number}
 use Rattle.atl_store.proofs.StatementLaws.{runs_with}
 use Rattle.atl_store.proofs.rows.has.put_has.Goals as goal

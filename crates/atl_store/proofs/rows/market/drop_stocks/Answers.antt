@@ -1,5 +1,5 @@
 use Rattle.std.proofs.Common.{rules}
-use Rattle.atl_store.proofs.MarketRowLaws.{drops_stocks}
+use Rattle.atl_store.proofs.KeyedTableLaws.{drops_stocks}
 use Rattle.atl_store.proofs.StatementLaws.{runs_with}
 use Rattle.atl_store.proofs.rows.market.drop_stocks.Goals as goal
 

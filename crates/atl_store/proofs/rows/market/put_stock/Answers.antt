@@ -1,5 +1,5 @@
 use Rattle.std.proofs.Common.{rules}
-use Rattle.atl_store.proofs.MarketRowLaws.{puts_market}
+use Rattle.atl_store.proofs.KeyedTableLaws.{puts_market}
 use Rattle.atl_store.proofs.StatementLaws.{runs_with}
 use Rattle.atl_store.proofs.rows.market.put_stock.Goals as goal
 

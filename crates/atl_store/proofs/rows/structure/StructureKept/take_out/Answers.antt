@@ -1,7 +1,8 @@
 use Rattle.std.proofs.Common.{rules}
-use Rattle.atl_store.proofs.NumberedRowLaws.{drops_structure}
+use Rattle.atl_store.specs.Tables.{Structures}
+use Rattle.atl_store.proofs.NumberedRowLaws.{drops_part}
 use Rattle.atl_store.proofs.StatementLaws.{runs_with}
 use Rattle.atl_store.proofs.rows.structure.StructureKept.take_out.Goals as goal
 
 pub returns : goal.returns
-returns g c = runs_with g.S.Store _ _ _ _ (drops_structure c.args.number) (search rules) c.run.ensures
+returns g c = runs_with g.S.Store _ _ _ _ (drops_part Structures tt c.args.number) (search rules) c.run.ensures
