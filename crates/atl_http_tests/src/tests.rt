@@ -9,4 +9,5 @@ mod listening;
 mod making;
 mod moving;
 mod requests;
+mod serving;
 mod stopping;

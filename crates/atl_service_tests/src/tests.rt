@@ -18,6 +18,7 @@ mod orders;
 mod refusals;
 mod remade;
 mod script;
+mod serving;
 mod state;
 mod tables;
 mod upgrading;

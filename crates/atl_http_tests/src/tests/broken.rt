@@ -1,34 +1,33 @@
 //! Replies that can't be written to their end: the faction has joined all the same.
 use super::compare::{is_count, is_fault, is_number, is_true};
 use super::ends::Narrow;
-use super::making::{begun, next_faction};
+use super::making::begun;
 use super::requests::{JOIN, JOINED};
-use atl_http::{Dice, HttpFault, serve_one};
-use atl_service::Service;
-use sqlite::{Alter, Connection};
+use super::serving::Served;
+use atl_http::HttpFault;
 use std::alloc::Global;
 use std::process::Abort;
 use std::test::Fail;
 
 /// A faction joins, and of its reply so many bytes are taken.
-pub(crate) fn breaks_off<S: Alter>(
+pub(crate) fn breaks_off(
     rt: &impl Abort,
     alloc: Global,
-    service: &mut Service<S>,
+    service: &mut impl Served,
     writer: &mut Narrow,
     taken: usize,
 ) {
     let mut reader = JOIN.as_bytes();
-    let served = serve_one(alloc, &mut reader, writer, service, Dice { seed: 1 });
+    let served = service.serve(alloc, &mut reader, writer);
     is_fault(rt, served, HttpFault::WriteFault);
     is_count(rt, writer.taken.len(), taken);
     is_true(rt, JOINED.as_bytes().starts_with(&writer.taken));
-    is_number(rt, next_faction(service), 2);
+    is_number(rt, service.next_faction(), 2);
 }
 
 /// The same in a new campaign, where no more is taken than so many bytes.
 fn is_broken(rt: &impl Abort, alloc: Global, most: usize, fails: bool) -> Result<(), Fail> {
-    let mut service = begun(alloc, Connection::open_in_memory(alloc)?)?;
+    let mut service = begun(alloc)?;
     let mut writer = Narrow::of(alloc, most, fails);
     breaks_off(rt, alloc, &mut service, &mut writer, most);
     let _conn = service.end();

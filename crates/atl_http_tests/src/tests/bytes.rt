@@ -1,8 +1,7 @@
 //! Requests that are no text.
 use super::making::{begun, tells};
 use super::requests::{BAD_JSON, BAD_REQUEST, JOIN, JOINED};
-use atl_service::Service;
-use sqlite::{Alter, Connection};
+use super::serving::Served;
 use std::alloc::Global;
 use std::process::Abort;
 use std::test::Fail;
@@ -30,7 +29,7 @@ const CASES: [(&[u8], &str); 6] = [
     ),
 ];
 
-fn no_texts<S: Alter>(rt: &impl Abort, alloc: Global, service: &mut Service<S>) {
+fn no_texts(rt: &impl Abort, alloc: Global, service: &mut impl Served) {
     tells(rt, alloc, service, &mut JOIN.as_bytes(), JOINED);
     for (request, wanted) in CASES.iter() {
         let mut reader = *request;
@@ -40,7 +39,7 @@ fn no_texts<S: Alter>(rt: &impl Abort, alloc: Global, service: &mut Service<S>) 
 
 #[test]
 fn no_text(rt: HostRuntime) -> Result<(), Fail> {
-    let mut service = begun(rt.alloc(), Connection::open_in_memory(rt.alloc())?)?;
+    let mut service = begun(rt.alloc())?;
     no_texts(&rt, rt.alloc(), &mut service);
     let _conn = service.end();
     Ok(())

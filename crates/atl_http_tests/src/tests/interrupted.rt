@@ -4,9 +4,7 @@ use super::compare::{is_count, is_text};
 use super::ends::{Narrow, Pieces};
 use super::making::{begun, tells, told};
 use super::requests::{JOIN, JOINED};
-use atl_http::{Dice, serve_one};
-use atl_service::Service;
-use sqlite::{Alter, Connection};
+use super::serving::Served;
 use std::alloc::Global;
 use std::process::Abort;
 use std::test::Fail;
@@ -29,10 +27,10 @@ const TOO_MANY_READS: [(usize, usize); 4] = [
 ];
 
 /// Serves a joining from a reader, and asserts what is told and how often was read.
-fn joins_by<S: Alter>(
+fn joins_by(
     rt: &impl Abort,
     alloc: Global,
-    service: &mut Service<S>,
+    service: &mut impl Served,
     reader: &mut Pieces,
     words: &str,
     reads: usize,
@@ -43,7 +41,7 @@ fn joins_by<S: Alter>(
 
 fn are_read(rt: &impl Abort, alloc: Global) -> Result<(), Fail> {
     for (piece, interruptions, reads) in READS.iter() {
-        let mut service = begun(alloc, Connection::open_in_memory(alloc)?)?;
+        let mut service = begun(alloc)?;
         let mut reader = Pieces::of(JOIN.as_bytes(), *piece);
         reader.interruptions = *interruptions;
         joins_by(rt, alloc, &mut service, &mut reader, JOINED, *reads);
@@ -58,7 +56,7 @@ fn reads_within_the_bound(rt: HostRuntime) -> Result<(), Fail> {
 }
 
 /// No command is run: the faction that joins then is the first.
-fn are_too_many<S: Alter>(rt: &impl Abort, alloc: Global, service: &mut Service<S>) {
+fn are_too_many(rt: &impl Abort, alloc: Global, service: &mut impl Served) {
     for (piece, interruptions) in TOO_MANY_READS.iter() {
         let mut reader = Pieces::of(JOIN.as_bytes(), *piece);
         reader.interruptions = *interruptions;
@@ -69,7 +67,7 @@ fn are_too_many<S: Alter>(rt: &impl Abort, alloc: Global, service: &mut Service<
 
 #[test]
 fn reads_beyond_the_bound(rt: HostRuntime) -> Result<(), Fail> {
-    let mut service = begun(rt.alloc(), Connection::open_in_memory(rt.alloc())?)?;
+    let mut service = begun(rt.alloc())?;
     are_too_many(&rt, rt.alloc(), &mut service);
     let _conn = service.end();
     Ok(())
@@ -88,20 +86,15 @@ const TOO_MANY_WRITES: [(usize, usize, usize, usize); 4] = [
     (1, usize::MAX, 0, 1_000_000),
 ];
 
-fn joins_over<S: Alter>(
-    rt: &impl Abort,
-    alloc: Global,
-    service: &mut Service<S>,
-    writer: &mut Narrow,
-) {
+fn joins_over(rt: &impl Abort, alloc: Global, service: &mut impl Served, writer: &mut Narrow) {
     let mut reader = JOIN.as_bytes();
-    let served = serve_one(alloc, &mut reader, writer, service, Dice { seed: 1 });
+    let served = service.serve(alloc, &mut reader, writer);
     is_text(rt, told(served, &writer.taken), JOINED);
 }
 
 fn are_written(rt: &impl Abort, alloc: Global) -> Result<(), Fail> {
     for (piece, interruptions) in WRITES.iter() {
-        let mut service = begun(alloc, Connection::open_in_memory(alloc)?)?;
+        let mut service = begun(alloc)?;
         let mut writer = Narrow::of(alloc, usize::MAX, true);
         writer.piece = *piece;
         writer.interruptions = *interruptions;
@@ -118,7 +111,7 @@ fn writes_within_the_bound(rt: HostRuntime) -> Result<(), Fail> {
 
 fn break_off(rt: &impl Abort, alloc: Global) -> Result<(), Fail> {
     for (piece, interruptions, taken, writes) in TOO_MANY_WRITES.iter() {
-        let mut service = begun(alloc, Connection::open_in_memory(alloc)?)?;
+        let mut service = begun(alloc)?;
         let mut writer = Narrow::of(alloc, usize::MAX, true);
         writer.piece = *piece;
         writer.interruptions = *interruptions;

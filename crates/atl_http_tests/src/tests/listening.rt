@@ -2,69 +2,81 @@
 use super::compare::{is_text, is_true};
 use super::making::{begun, tells};
 use super::requests::{JOIN, JOINED, REPORT, REPORTED, TOO_LONG};
-use atl_http::Dice;
-use atl_http::listening::{ListenFault, serve_each};
-use atl_service::Service;
-use sqlite::{Alter, Connection};
+use super::serving::Served;
+use atl_http::listening::ListenFault;
 use std::alloc::Global;
 use std::io::{self, Read, Write};
 use std::net::{Ipv4Addr, Net, Shutdown, SocketAddr, TcpListener, TcpStream};
 use std::process::Abort;
 use std::test::Fail;
 
-/// A peer that has sent a request and may send more.
-fn peer<R: Net<Stream = TcpStream>>(
-    net: &R,
-    to: SocketAddr,
-    request: &str,
-) -> io::Result<TcpStream> {
-    let mut stream = TcpStream::connect(net, to)?;
-    stream.write_all(request.as_bytes())?;
-    Ok(stream)
-}
-
-/// A peer that has sent a request and sends no more.
-fn ended_peer<R: Net<Stream = TcpStream>>(
-    net: &R,
-    to: SocketAddr,
-    request: &str,
-) -> io::Result<TcpStream> {
-    let stream = peer(net, to, request)?;
-    stream.shutdown(Shutdown::Write)?;
-    Ok(stream)
-}
-
-/// All that a peer is told.
-fn told_to(alloc: Global, mut stream: TcpStream) -> io::Result<String> {
-    let mut told = String::new(alloc);
-    stream.read_to_string(&mut told)?;
-    Ok(told)
-}
-
 /// A body that is too long, of which nothing has come.
 const LONG_BODY: &str =
     "POST /orders/1 HTTP/1.1\r\nHost: x\r\nAtlantis-Pass: pw\r\nContent-Length: 65537\r\n\r\n";
 
-/// One joins, one ends within its request, which counts as served, one is told that its body is too long before it comes, and one asks
-/// for a report. All but the second keep their side open.
-fn four_are_served<R: Net<Stream = TcpStream> + Abort, S: Alter>(
+/// What each peer sends, whether it sends no more, and what it is told. One joins, one ends within its request, which counts as
+/// served, one is told that its body is too long before it comes, and one asks for a report.
+const PEERS: [(&str, bool, &str); 4] = [
+    (JOIN, false, JOINED),
+    ("GET /report/1", true, ""),
+    (LONG_BODY, false, TOO_LONG),
+    (REPORT, false, REPORTED),
+];
+
+/// A peer that has sent a request, and may send more if it hasn't ended.
+fn peer<R: Net<Stream = TcpStream>>(
+    net: &R,
+    to: SocketAddr,
+    request: &str,
+    ends: bool,
+) -> io::Result<TcpStream> {
+    let mut stream = TcpStream::connect(net, to)?;
+    stream.write_all(request.as_bytes())?;
+    if ends {
+        stream.shutdown(Shutdown::Write)?;
+    }
+    Ok(stream)
+}
+
+fn peers<R: Net<Stream = TcpStream>>(
+    net: &R,
+    alloc: Global,
+    to: SocketAddr,
+) -> io::Result<Vec<TcpStream>> {
+    let mut streams = Vec::new(alloc);
+    for (request, ends, _) in PEERS.iter() {
+        streams.push(peer(net, to, request, *ends)?)?;
+    }
+    Ok(streams)
+}
+
+/// Asserts all that a peer is told.
+fn is_told(rt: &impl Abort, alloc: Global, stream: &TcpStream, wanted: &str) -> io::Result<()> {
+    let mut reader = stream;
+    let mut told = String::new(alloc);
+    reader.read_to_string(&mut told)?;
+    is_text(rt, told.as_str(), wanted);
+    Ok(())
+}
+
+fn are_told(rt: &impl Abort, alloc: Global, streams: &[TcpStream]) -> io::Result<()> {
+    for (stream, (_, _, wanted)) in streams.iter().zip(PEERS.iter()) {
+        is_told(rt, alloc, stream, wanted)?;
+    }
+    Ok(())
+}
+
+/// All peers have sent their requests before the first is served.
+fn four_are_served<R: Net<Stream = TcpStream> + Abort>(
     rt: &R,
     alloc: Global,
     listener: &TcpListener,
-    service: &mut Service<S>,
+    service: &mut impl Served,
 ) -> io::Result<()> {
-    let to = listener.local_addr()?;
-    let joining = peer(rt, to, JOIN)?;
-    let cut = ended_peer(rt, to, "GET /report/1")?;
-    let long = peer(rt, to, LONG_BODY)?;
-    let reporting = peer(rt, to, REPORT)?;
-    let done = serve_each(alloc, listener, service, 4, Dice { seed: 1 });
+    let streams = peers(rt, alloc, listener.local_addr()?)?;
+    let done = service.serve_each(alloc, listener, 4);
     is_true(rt, done.is_ok());
-    is_text(rt, told_to(alloc, joining)?.as_str(), JOINED);
-    is_text(rt, told_to(alloc, cut)?.as_str(), "");
-    is_text(rt, told_to(alloc, long)?.as_str(), TOO_LONG);
-    is_text(rt, told_to(alloc, reporting)?.as_str(), REPORTED);
-    Ok(())
+    are_told(rt, alloc, &streams)
 }
 
 #[test]
@@ -72,7 +84,7 @@ fn over_a_socket(rt: HostRuntime) -> Result<(), Fail> {
     let Ok(listener) = TcpListener::bind(&rt, (Ipv4Addr::LOCALHOST, 0)) else {
         return Err(Fail::new("bind"));
     };
-    let mut service = begun(rt.alloc(), Connection::open_in_memory(rt.alloc())?)?;
+    let mut service = begun(rt.alloc())?;
     let done = four_are_served(&rt, rt.alloc(), &listener, &mut service);
     let _conn = service.end();
     match done {
@@ -83,14 +95,14 @@ fn over_a_socket(rt: HostRuntime) -> Result<(), Fail> {
 
 /// Nobody is there at a listener that doesn't wait, so no connection can be taken. No command is run: the faction that joins then is the
 /// first.
-fn nobody_is_served<S: Alter>(
+fn nobody_is_served(
     rt: &impl Abort,
     alloc: Global,
     listener: &TcpListener,
-    service: &mut Service<S>,
+    service: &mut impl Served,
 ) -> io::Result<()> {
     listener.set_nonblocking(true)?;
-    let done = serve_each(alloc, listener, service, 4, Dice { seed: 1 });
+    let done = service.serve_each(alloc, listener, 4);
     is_true(rt, done == Err(ListenFault::Net));
     tells(rt, alloc, service, &mut JOIN.as_bytes(), JOINED);
     Ok(())
@@ -101,7 +113,7 @@ fn no_connection_is_taken(rt: HostRuntime) -> Result<(), Fail> {
     let Ok(listener) = TcpListener::bind(&rt, (Ipv4Addr::LOCALHOST, 0)) else {
         return Err(Fail::new("bind"));
     };
-    let mut service = begun(rt.alloc(), Connection::open_in_memory(rt.alloc())?)?;
+    let mut service = begun(rt.alloc())?;
     let done = nobody_is_served(&rt, rt.alloc(), &listener, &mut service);
     let _conn = service.end();
     match done {

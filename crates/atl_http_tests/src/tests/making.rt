@@ -1,11 +1,12 @@
-//! Services, requests and what is told of them. What works on a service takes any store.
+//! Services, requests and what is told of them.
 use super::compare::{is_text, is_true};
-use atl_http::{Dice, HttpFault, serve_one};
+use super::serving::Served;
+use atl_http::HttpFault;
 use atl_service::{Service, found};
 use atl_test_worlds::SMALL;
-use sqlite::{Alter, Connection};
+use sqlite::{Connection, MemStore};
 use std::alloc::Global;
-use std::io::{Read, Write};
+use std::io::Read;
 use std::process::Abort;
 use std::str;
 use std::test::Fail;
@@ -13,12 +14,9 @@ use std::test::Fail;
 /// A request and what is told of it: its reply, or the fault.
 pub(crate) type Case = (&'static str, &'static str);
 
-/// A campaign of the small world, in this database.
-pub(crate) fn begun<S: Alter + Drop>(
-    alloc: Global,
-    conn: Connection<S>,
-) -> Result<Service<S>, Fail> {
-    match found(alloc, conn, SMALL, b"gm") {
+/// A campaign of the small world, in a database of its own in memory.
+pub(crate) fn begun(alloc: Global) -> Result<Service<MemStore>, Fail> {
+    match found(alloc, Connection::open_in_memory(alloc)?, SMALL, b"gm") {
         Ok(service) => Ok(service),
         Err(_) => Err(Fail::new("found")),
     }
@@ -52,19 +50,7 @@ pub(crate) fn told(served: Result<u16, HttpFault>, written: &[u8]) -> &str {
     }
 }
 
-/// The number of the faction that comes next; 0 where the service is closed.
-pub(crate) fn next_faction<S: Alter>(service: &Service<S>) -> u32 {
-    match service.campaign() {
-        Some(campaign) => campaign.next_faction(),
-        None => 0,
-    }
-}
-
-pub(crate) fn has_books<S: Alter>(
-    rt: &impl Abort,
-    service: &Service<S>,
-    wanted: &str,
-) -> Result<(), Fail> {
+pub(crate) fn has_books(rt: &impl Abort, service: &impl Served, wanted: &str) -> Result<(), Fail> {
     match service.books() {
         Some(text) => is_text(rt, text?.as_str(), wanted),
         None => is_true(rt, false),
@@ -73,25 +59,20 @@ pub(crate) fn has_books<S: Alter>(
 }
 
 /// Serves what comes from a reader, and asserts what is told of it.
-pub(crate) fn tells<R: Read, S: Alter>(
+pub(crate) fn tells(
     rt: &impl Abort,
     alloc: Global,
-    service: &mut Service<S>,
-    reader: &mut R,
+    service: &mut impl Served,
+    reader: &mut impl Read,
     wanted: &str,
 ) {
     let mut written = Vec::new(alloc);
-    let served = serve_one(alloc, reader, &mut written, service, Dice { seed: 1 });
+    let served = service.serve(alloc, reader, &mut written);
     is_text(rt, told(served, &written), wanted);
 }
 
 /// Serves requests one after another, each from all its bytes at once.
-pub(crate) fn tell_each<S: Alter>(
-    rt: &impl Abort,
-    alloc: Global,
-    service: &mut Service<S>,
-    cases: &[Case],
-) {
+pub(crate) fn tell_each(rt: &impl Abort, alloc: Global, service: &mut impl Served, cases: &[Case]) {
     for (request, wanted) in cases.iter() {
         let mut reader = request.as_bytes();
         tells(rt, alloc, service, &mut reader, wanted);
@@ -100,8 +81,7 @@ pub(crate) fn tell_each<S: Alter>(
 
 /// Plays requests on a new campaign of the small world.
 pub(crate) fn plays(rt: &impl Abort, alloc: Global, cases: &[Case]) -> Result<(), Fail> {
-    let conn = Connection::open_in_memory(alloc)?;
-    let mut service = begun(alloc, conn)?;
+    let mut service = begun(alloc)?;
     tell_each(rt, alloc, &mut service, cases);
     let _conn = service.end();
     Ok(())

@@ -1,11 +1,9 @@
 //! Requests that come in pieces, or not whole, and replies that can't be written.
 use super::compare::{is_count, is_number, is_text};
 use super::ends::{Narrow, Pieces};
-use super::making::{begun, has_books, next_faction, tells, told};
+use super::making::{begun, has_books, tells, told};
 use super::requests::{BAD_REQUEST, JOIN, JOINED, NO_ROUTE, REPORT, REPORTED, TOO_LONG};
-use atl_http::{Dice, serve_one};
-use atl_service::Service;
-use sqlite::{Alter, Connection};
+use super::serving::Served;
 use std::alloc::Global;
 use std::process::Abort;
 use std::test::Fail;
@@ -18,11 +16,7 @@ people total 1000
 ";
 
 /// The first 10 bytes of the body and then the end change nothing; the whole in two pieces is a joining.
-fn cut_and_whole<S: Alter>(
-    rt: &impl Abort,
-    alloc: Global,
-    service: &mut Service<S>,
-) -> Result<(), Fail> {
+fn cut_and_whole(rt: &impl Abort, alloc: Global, service: &mut impl Served) -> Result<(), Fail> {
     tells(
         rt,
         alloc,
@@ -31,7 +25,7 @@ fn cut_and_whole<S: Alter>(
         "cut",
     );
     has_books(rt, service, FOUNDED)?;
-    is_number(rt, next_faction(service), 1);
+    is_number(rt, service.next_faction(), 1);
     tells(
         rt,
         alloc,
@@ -46,7 +40,7 @@ fn cut_and_whole<S: Alter>(
 const BY_PIECES: [(usize, usize); 3] = [(1, JOIN.len()), (8, 11), (JOIN.len(), 1)];
 
 /// A read that fails before the request is whole runs no command, whichever read it is: who joins next is the first.
-fn fails_at_each_read<S: Alter>(rt: &impl Abort, alloc: Global, service: &mut Service<S>) {
+fn fails_at_each_read(rt: &impl Abort, alloc: Global, service: &mut impl Served) {
     for (piece, reads) in BY_PIECES.iter() {
         for done in 0..*reads {
             let mut reader = Pieces::of(JOIN.as_bytes(), *piece);
@@ -56,7 +50,7 @@ fn fails_at_each_read<S: Alter>(rt: &impl Abort, alloc: Global, service: &mut Se
     }
 }
 
-fn joins_in_pieces<S: Alter>(rt: &impl Abort, alloc: Global, service: &mut Service<S>) {
+fn joins_in_pieces(rt: &impl Abort, alloc: Global, service: &mut impl Served) {
     fails_at_each_read(rt, alloc, service);
     let mut reader = Pieces::of(JOIN.as_bytes(), 1);
     reader.interruptions = 1;
@@ -65,18 +59,18 @@ fn joins_in_pieces<S: Alter>(rt: &impl Abort, alloc: Global, service: &mut Servi
     writes_in_pieces(rt, alloc, service);
 }
 
-fn no_front_is_enough<S: Alter>(rt: &impl Abort, alloc: Global, service: &mut Service<S>) {
+fn no_front_is_enough(rt: &impl Abort, alloc: Global, service: &mut impl Served) {
     for len in 0..JOIN.len() {
         tells(rt, alloc, service, &mut &JOIN.as_bytes()[..len], "cut");
     }
     tells(rt, alloc, service, &mut JOIN.as_bytes(), JOINED);
 }
 
-fn writes_in_pieces<S: Alter>(rt: &impl Abort, alloc: Global, service: &mut Service<S>) {
+fn writes_in_pieces(rt: &impl Abort, alloc: Global, service: &mut impl Served) {
     let mut writer = Narrow::of(alloc, REPORTED.len(), true);
     writer.interruptions = 1;
     let mut reader = REPORT.as_bytes();
-    let served = serve_one(alloc, &mut reader, &mut writer, service, Dice { seed: 1 });
+    let served = service.serve(alloc, &mut reader, &mut writer);
     is_text(rt, told(served, &writer.taken), REPORTED);
 }
 
@@ -100,7 +94,7 @@ const NO_FURTHER: [(&str, usize, &str); 4] = [
     ("GET /joins HTTP/1.0\r\n\r\nGET", 23, NO_ROUTE),
 ];
 
-fn reads_no_further<S: Alter>(rt: &impl Abort, alloc: Global, service: &mut Service<S>) {
+fn reads_no_further(rt: &impl Abort, alloc: Global, service: &mut impl Served) {
     for (request, reads, wanted) in NO_FURTHER.iter() {
         let mut reader = Pieces::of(request.as_bytes(), 1);
         tells(rt, alloc, service, &mut reader, wanted);
@@ -123,10 +117,10 @@ fn longest_request(alloc: Global) -> Result<Vec<u8>, Fail> {
 }
 
 /// The longest mailing comes byte by byte.
-fn mails_byte_by_byte<S: Alter>(
+fn mails_byte_by_byte(
     rt: &impl Abort,
     alloc: Global,
-    service: &mut Service<S>,
+    service: &mut impl Served,
 ) -> Result<(), Fail> {
     tells(rt, alloc, service, &mut JOIN.as_bytes(), JOINED);
     let request = longest_request(alloc)?;
@@ -145,47 +139,39 @@ fn head(alloc: Global, long: usize, fields: usize) -> Result<Vec<u8>, Fail> {
     Ok(head)
 }
 
-fn long_heads<S: Alter>(
+/// How many bytes the long field has, how many short ones stand behind it, and what is told. 45 bytes stand before what the long
+/// field says, and 4 behind it.
+const LONG_HEADS: [(usize, usize, &str); 4] = [
+    (8_143, 0, REPORTED),
+    (8_144, 0, BAD_REQUEST),
+    (1, 30, REPORTED),
+    (1, 31, BAD_REQUEST),
+];
+
+fn long_head(
     rt: &impl Abort,
     alloc: Global,
-    service: &mut Service<S>,
+    service: &mut impl Served,
+    long: usize,
+    fields: usize,
+    wanted: &str,
 ) -> Result<(), Fail> {
+    let request = head(alloc, long, fields)?;
+    tells(rt, alloc, service, &mut request.as_slice(), wanted);
+    Ok(())
+}
+
+fn long_heads(rt: &impl Abort, alloc: Global, service: &mut impl Served) -> Result<(), Fail> {
     tells(rt, alloc, service, &mut JOIN.as_bytes(), JOINED);
-    // 45 bytes stand before what the long field says, and 4 behind it
-    tells(
-        rt,
-        alloc,
-        service,
-        &mut head(alloc, 8_143, 0)?.as_slice(),
-        REPORTED,
-    );
-    tells(
-        rt,
-        alloc,
-        service,
-        &mut head(alloc, 8_144, 0)?.as_slice(),
-        BAD_REQUEST,
-    );
-    tells(
-        rt,
-        alloc,
-        service,
-        &mut head(alloc, 1, 30)?.as_slice(),
-        REPORTED,
-    );
-    tells(
-        rt,
-        alloc,
-        service,
-        &mut head(alloc, 1, 31)?.as_slice(),
-        BAD_REQUEST,
-    );
+    for (long, fields, wanted) in LONG_HEADS.iter() {
+        long_head(rt, alloc, service, *long, *fields, wanted)?;
+    }
     Ok(())
 }
 
 #[test]
 fn in_pieces(rt: HostRuntime) -> Result<(), Fail> {
-    let mut service = begun(rt.alloc(), Connection::open_in_memory(rt.alloc())?)?;
+    let mut service = begun(rt.alloc())?;
     joins_in_pieces(&rt, rt.alloc(), &mut service);
     let _conn = service.end();
     Ok(())
@@ -193,7 +179,7 @@ fn in_pieces(rt: HostRuntime) -> Result<(), Fail> {
 
 #[test]
 fn fronts(rt: HostRuntime) -> Result<(), Fail> {
-    let mut service = begun(rt.alloc(), Connection::open_in_memory(rt.alloc())?)?;
+    let mut service = begun(rt.alloc())?;
     no_front_is_enough(&rt, rt.alloc(), &mut service);
     let _conn = service.end();
     Ok(())
@@ -201,7 +187,7 @@ fn fronts(rt: HostRuntime) -> Result<(), Fail> {
 
 #[test]
 fn in_two_pieces(rt: HostRuntime) -> Result<(), Fail> {
-    let mut service = begun(rt.alloc(), Connection::open_in_memory(rt.alloc())?)?;
+    let mut service = begun(rt.alloc())?;
     let done = cut_and_whole(&rt, rt.alloc(), &mut service);
     let _conn = service.end();
     done
@@ -209,7 +195,7 @@ fn in_two_pieces(rt: HostRuntime) -> Result<(), Fail> {
 
 #[test]
 fn no_further(rt: HostRuntime) -> Result<(), Fail> {
-    let mut service = begun(rt.alloc(), Connection::open_in_memory(rt.alloc())?)?;
+    let mut service = begun(rt.alloc())?;
     reads_no_further(&rt, rt.alloc(), &mut service);
     let _conn = service.end();
     Ok(())
@@ -217,7 +203,7 @@ fn no_further(rt: HostRuntime) -> Result<(), Fail> {
 
 #[test]
 fn heads_at_the_limit(rt: HostRuntime) -> Result<(), Fail> {
-    let mut service = begun(rt.alloc(), Connection::open_in_memory(rt.alloc())?)?;
+    let mut service = begun(rt.alloc())?;
     let done = long_heads(&rt, rt.alloc(), &mut service);
     let _conn = service.end();
     done
@@ -225,7 +211,7 @@ fn heads_at_the_limit(rt: HostRuntime) -> Result<(), Fail> {
 
 #[test]
 fn the_longest_mailing(rt: HostRuntime) -> Result<(), Fail> {
-    let mut service = begun(rt.alloc(), Connection::open_in_memory(rt.alloc())?)?;
+    let mut service = begun(rt.alloc())?;
     let done = mails_byte_by_byte(&rt, rt.alloc(), &mut service);
     let _conn = service.end();
     done

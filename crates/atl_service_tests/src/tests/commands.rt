@@ -1,14 +1,14 @@
 //! Joinings, reports, and lists of commands.
 use super::closing::{AFTER_MONTH_ONE, AFTER_WORK, MONTH_ONE};
-use super::compare::{is_count, is_text};
-use super::making::{begun, told};
-use super::script::{Asked, Step, commands_of, plays};
+use super::compare::is_count;
+use super::making::begun_in_memory;
+use super::script::{Asked, Step, commands_of, is_wanted, plays};
+use super::serving::Served;
 use super::tables::{
     AFTER_JOINING, BOOKED, FACTIONS, MAIL_BYTES, MAILINGS, MONEY, NEXT, REPORT_BYTES, UNITS, holds,
 };
-use atl_service::{Answer, Command, Service};
+use atl_service::{Answer, Command};
 use atl_test_worlds::{ISLE, SMALL};
-use sqlite::{Alter, Connection};
 use std::alloc::Global;
 use std::process::Abort;
 use std::test::Fail;
@@ -113,26 +113,14 @@ const AFTER_CLUB: [(&str, Option<i64>); 8] = [
     (MAIL_BYTES, Some(19)),
 ];
 
-fn is_told(rt: &impl Abort, answer: &Answer, step: &Step) {
-    match step {
-        Step::Told(_, words) => is_text(rt, told(answer), words),
-        _ => assert!(rt; false),
-    }
-}
-
 fn are_told(rt: &impl Abort, answers: &[Answer], steps: &[Step]) {
     is_count(rt, answers.len(), steps.len());
     for (answer, step) in answers.iter().zip(steps.iter()) {
-        is_told(rt, answer, step);
+        is_wanted(rt, answer, step);
     }
 }
 
-fn runs_all<S: Alter>(
-    rt: &impl Abort,
-    service: &mut Service<S>,
-    commands: &[Command],
-    steps: &[Step],
-) {
+fn runs_all(rt: &impl Abort, service: &mut impl Served, commands: &[Command], steps: &[Step]) {
     match service.run_all(commands) {
         Ok(answers) => are_told(rt, &answers, steps),
         Err(_) => assert!(rt; false),
@@ -145,23 +133,16 @@ struct AtOnce {
     after: &'static [(&'static str, Option<i64>)],
 }
 
-fn is_run<S: Alter + Drop>(
-    rt: &impl Abort,
-    alloc: Global,
-    conn: Connection<S>,
-    commands: &[Command],
-    list: &AtOnce,
-) -> Result<(), Fail> {
-    let mut service = begun(alloc, conn, SMALL)?;
+fn is_run(rt: &impl Abort, alloc: Global, commands: &[Command], list: &AtOnce) -> Result<(), Fail> {
+    let mut service = begun_in_memory(alloc, SMALL)?;
     runs_all(rt, &mut service, commands, list.steps);
     holds(rt, &mut service.end(), list.after);
     Ok(())
 }
 
 fn at_once(rt: &impl Abort, alloc: Global, list: &AtOnce) -> Result<(), Fail> {
-    let conn = Connection::open_in_memory(alloc)?;
     let commands = commands_of(alloc, list.steps)?;
-    is_run(rt, alloc, conn, &commands, list)
+    is_run(rt, alloc, &commands, list)
 }
 
 /// A month is closed; the same commands one by one stand with the closings.

@@ -4,12 +4,13 @@ use super::compare::is_text;
 use super::courses::COURSES;
 use super::files::connected;
 use super::founding::told as cause_of;
-use super::making::{begun, filled, told};
+use super::making::{begun_in_memory, filled, told};
 use super::opening::rows_in;
 use super::script::{Course, commands_of};
+use super::serving::Served;
 use atl_service::{Answer, Command, Refused, Service, found, open};
 use atl_tables::let_go;
-use sqlite::{Alter, Connection, Options};
+use sqlite::{Alter, Connection, MemStore, Options};
 use sqlite_disk::{Crash, Files, Fuse, Memory};
 use std::alloc::Global;
 use std::process::Abort;
@@ -28,14 +29,13 @@ impl Drop for Plan {
     }
 }
 
-/// The campaign before its commands; its rows are noted behind each writing.
-fn set_up<S: Alter + Drop>(
+/// The campaign in memory before its commands; its rows are noted behind each writing.
+fn set_up(
     alloc: Global,
-    conn: Connection<S>,
     course: &Course,
     stages: &mut Vec<String>,
-) -> Result<Service<S>, Fail> {
-    let service = begun(alloc, conn, course.world)?;
+) -> Result<Service<MemStore>, Fail> {
+    let service = begun_in_memory(alloc, course.world)?;
     stages.push(rows_in(alloc, &service)?)?;
     if course.rows.is_empty() {
         return Ok(service);
@@ -46,9 +46,9 @@ fn set_up<S: Alter + Drop>(
 }
 
 /// Runs the commands, and notes the rows behind each.
-fn run_noted<S: Alter>(
+fn run_noted(
     alloc: Global,
-    service: &mut Service<S>,
+    service: &mut impl Served,
     commands: &[Command],
     stages: &mut Vec<String>,
 ) -> Result<(), Fail> {
@@ -60,32 +60,26 @@ fn run_noted<S: Alter>(
 }
 
 /// The rows behind each writing where no disk stops.
-fn stages<S: Alter + Drop>(
+fn note_stages(
     alloc: Global,
-    conn: Connection<S>,
     course: &Course,
     commands: &[Command],
-) -> Result<Vec<String>, Fail> {
-    let mut stages = Vec::new(alloc);
+    stages: &mut Vec<String>,
+) -> Result<(), Fail> {
     stages.push(String::new(alloc))?;
-    let mut service = set_up(alloc, conn, course, &mut stages)?;
-    run_noted(alloc, &mut service, commands, &mut stages)?;
-    Ok(stages)
+    let mut service = set_up(alloc, course, stages)?;
+    run_noted(alloc, &mut service, commands, stages)
 }
 
 /// What a course comes to where no disk stops.
-fn planned<S: Alter + Drop>(
-    alloc: Global,
-    conn: Connection<S>,
-    course: &Course,
-) -> Result<Plan, Fail> {
-    let commands = commands_of(alloc, course.steps)?;
-    let stages = stages(alloc, conn, course, &commands)?;
-    Ok(Plan {
+fn planned(alloc: Global, course: &Course) -> Result<Plan, Fail> {
+    let mut plan = Plan {
         course: *course,
-        commands,
-        stages,
-    })
+        commands: commands_of(alloc, course.steps)?,
+        stages: Vec::new(alloc),
+    };
+    note_stages(alloc, course, &plan.commands, &mut plan.stages)?;
+    Ok(plan)
 }
 
 fn is_done(answer: &Answer) -> bool {
@@ -94,7 +88,7 @@ fn is_done(answer: &Answer) -> bool {
 
 /// Runs the commands, and tells how many are done. The one at which a disk stops is answered Store, and those behind it Closed; then there
 /// is no campaign, and there are no books.
-fn run_each<S: Alter>(rt: &impl Abort, service: &mut Service<S>, commands: &[Command]) -> usize {
+fn run_each(rt: &impl Abort, service: &mut impl Served, commands: &[Command]) -> usize {
     let mut done = 0usize;
     let mut stopped = false;
     for command in commands {
@@ -233,7 +227,7 @@ fn stopped<D: Crash + Drop>(
 }
 
 /// Which of the two disks stops.
-#[derive(Clone, Copy, PartialEq, Eq, Debug)]
+#[derive(Clone, Copy)]
 enum WhichDisk {
     Log,
     Database,
@@ -269,7 +263,7 @@ fn stops(rt: &impl Abort, alloc: Global, plan: &Plan, which: WhichDisk) -> Resul
 /// A disk stops in each course.
 fn stops_each(rt: &impl Abort, alloc: Global, which: WhichDisk) -> Result<(), Fail> {
     for course in COURSES.iter() {
-        let plan = planned(alloc, Connection::open_in_memory(alloc)?, course)?;
+        let plan = planned(alloc, course)?;
         stops(rt, alloc, &plan, which)?;
     }
     Ok(())

@@ -2,15 +2,17 @@
 use super::files::{connected, new_files};
 use super::making::begun;
 use super::script::{Asked, Step, follow};
+use super::serving::Tables;
 use atl_service::{Cause, Refused, open};
 use atl_test_worlds::ISLE_WITH_MARKET;
 use sqlite::{Alter, Connection};
+use sqlite_disk::{Disk, Files};
 use std::alloc::Global;
 use std::process::Abort;
 use std::test::Fail;
 
 /// What an opening is answered.
-#[derive(Clone, Copy, PartialEq, Eq, Debug)]
+#[derive(Clone, Copy, PartialEq, Debug)]
 enum Told {
     Opens,
     /// The number of the rule that is broken.
@@ -243,34 +245,29 @@ const BOTH_JOIN: [Step; 2] = [
     Step::Joined(Asked::Join("Bree", "pb", 1), 2, 2),
 ];
 
-/// The database of the campaign of an island with a market, in which both have joined.
-fn island<S: Alter + Drop>(
-    rt: &impl Abort,
-    alloc: Global,
-    conn: Connection<S>,
-) -> Result<Connection<S>, Fail> {
-    let mut service = begun(alloc, conn, ISLE_WITH_MARKET)?;
-    let done = follow(rt, alloc, &mut service, &BOTH_JOIN);
-    let conn = service.end();
-    done?;
-    Ok(conn)
-}
-
-/// The island's database, changed by hand.
+/// The database of the campaign of an island with a market, in which both have joined, changed by hand.
 fn changed<S: Alter + Drop>(
     rt: &impl Abort,
     alloc: Global,
     conn: Connection<S>,
     sql: &str,
 ) -> Result<Connection<S>, Fail> {
-    let mut conn = island(rt, alloc, conn)?;
-    conn.execute_batch(sql)?;
+    let mut service = begun(alloc, conn, ISLE_WITH_MARKET)?;
+    follow(rt, alloc, &mut service, &BOTH_JOIN)?;
+    let mut conn = service.end();
+    conn.change(sql)?;
     Ok(conn)
 }
 
 /// Asserts what opening is answered once the files were closed and opened.
-fn is_judged(rt: &impl Abort, alloc: Global, sql: &str, wanted: Told) -> Result<(), Fail> {
-    let conn = changed(rt, alloc, connected(alloc, new_files(alloc))?, sql)?;
+fn is_judged<D: Disk + Drop>(
+    rt: &impl Abort,
+    alloc: Global,
+    files: Files<D>,
+    sql: &str,
+    wanted: Told,
+) -> Result<(), Fail> {
+    let conn = changed(rt, alloc, connected(alloc, files)?, sql)?;
     let conn = connected(alloc, conn.into_store().close())?;
     is_told(rt, asked(alloc, conn), wanted, sql);
     Ok(())
@@ -278,7 +275,7 @@ fn is_judged(rt: &impl Abort, alloc: Global, sql: &str, wanted: Told) -> Result<
 
 fn are_judged(rt: &impl Abort, alloc: Global, cases: &[(&str, Told)]) -> Result<(), Fail> {
     for (sql, wanted) in cases {
-        is_judged(rt, alloc, sql, *wanted)?;
+        is_judged(rt, alloc, new_files(alloc), sql, *wanted)?;
     }
     Ok(())
 }
@@ -320,20 +317,15 @@ const BEGUN: [&str; 5] = [
 ];
 
 /// Asserts that nothing is opened in the midst of a transaction.
-fn waits_for_the_end<S: Alter + Drop>(
-    rt: &impl Abort,
-    alloc: Global,
-    conn: Connection<S>,
-    sql: &str,
-) -> Result<(), Fail> {
-    let conn = changed(rt, alloc, conn, sql)?;
+fn waits_for_the_end(rt: &impl Abort, alloc: Global, sql: &str) -> Result<(), Fail> {
+    let conn = changed(rt, alloc, Connection::open_in_memory(alloc)?, sql)?;
     is_told(rt, asked(alloc, conn), Told::Store, sql);
     Ok(())
 }
 
 fn wait_for_the_end(rt: &impl Abort, alloc: Global) -> Result<(), Fail> {
     for sql in BEGUN.iter() {
-        waits_for_the_end(rt, alloc, Connection::open_in_memory(alloc)?, sql)?;
+        waits_for_the_end(rt, alloc, sql)?;
     }
     Ok(())
 }

@@ -1,8 +1,11 @@
 //! Why no campaign is founded.
+use super::commands::AVALON;
 use super::compare::is_text;
-use super::making::{begun, join, told as answered};
-use super::tables::{MONEY, holds};
-use atl_service::{Cause, Refused, found};
+use super::making::begun_in_memory;
+use super::script::{Step, plays};
+use super::serving::Tables;
+use super::tables::MONEY;
+use atl_service::{Cause, Refused, Service, found};
 use atl_test_worlds::{POOR, SMALL};
 use sqlite::{Alter, Connection};
 use std::alloc::Global;
@@ -25,16 +28,13 @@ pub(crate) fn told(cause: &Cause) -> &'static str {
     }
 }
 
-/// Asserts why no campaign is founded in a database, which comes back.
-pub(crate) fn is_refused<S: Alter + Drop>(
+/// Asserts why there is no campaign, and hands the database back.
+pub(crate) fn is_refused<S: Alter>(
     rt: &impl Abort,
-    alloc: Global,
-    conn: Connection<S>,
-    world: &str,
-    pass: &str,
+    tried: Result<Service<S>, Refused<S>>,
     words: &str,
 ) -> Connection<S> {
-    match found(alloc, conn, world, pass.as_bytes()) {
+    match tried {
         Ok(service) => {
             assert!(rt; false);
             service.end()
@@ -73,23 +73,21 @@ const REFUSED: [(&str, &str, &str, &str); 8] = [
     ("BEGIN", SMALL, "gm", "store"),
 ];
 
-fn is_refused_after<S: Alter + Drop>(
+fn is_refused_after(
     rt: &impl Abort,
     alloc: Global,
-    conn: Connection<S>,
     refused: &(&str, &str, &str, &str),
 ) -> Result<(), Fail> {
     let (sql, world, pass, words) = *refused;
-    let mut conn = conn;
-    conn.execute_batch(sql)?;
-    is_refused(rt, alloc, conn, world, pass, words);
+    let mut conn = Connection::open_in_memory(alloc)?;
+    conn.change(sql)?;
+    is_refused(rt, found(alloc, conn, world, pass.as_bytes()), words);
     Ok(())
 }
 
 fn are_refused(rt: &impl Abort, alloc: Global) -> Result<(), Fail> {
     for refused in REFUSED.iter() {
-        let conn = Connection::open_in_memory(alloc)?;
-        is_refused_after(rt, alloc, conn, refused)?;
+        is_refused_after(rt, alloc, refused)?;
     }
     Ok(())
 }
@@ -100,51 +98,31 @@ fn the_first_check_that_fails_is_told(rt: HostRuntime) -> Result<(), Fail> {
 }
 
 /// Asserts that no campaign is founded where one is.
-fn refuses_another<S: Alter + Drop>(
-    rt: &impl Abort,
-    alloc: Global,
-    conn: Connection<S>,
-) -> Result<(), Fail> {
-    let service = begun(alloc, conn, SMALL)?;
-    is_refused(rt, alloc, service.end(), SMALL, "gm", "not empty");
+fn refuses_another(rt: &impl Abort, alloc: Global) -> Result<(), Fail> {
+    let conn = begun_in_memory(alloc, SMALL)?.end();
+    is_refused(rt, found(alloc, conn, SMALL, b"gm"), "not empty");
     Ok(())
 }
 
 #[test]
 fn a_campaign_is_founded_once(rt: HostRuntime) -> Result<(), Fail> {
-    let conn = Connection::open_in_memory(rt.alloc())?;
-    refuses_another(&rt, rt.alloc(), conn)
+    refuses_another(&rt, rt.alloc())
 }
 
 const JOINING_MONEY: &str = "SELECT count(*) FROM books WHERE entry = 2 AND thing = 0";
 
 const JOINING_PEOPLE: &str = "SELECT sum(amount) FROM books WHERE entry = 2 AND thing = 1";
 
-/// Asserts that a faction joins without money, and that no money is booked under joining.
-fn joins_without_money<S: Alter + Drop>(
-    rt: &impl Abort,
-    alloc: Global,
-    conn: Connection<S>,
-) -> Result<(), Fail> {
-    let join = join(alloc, "Avalon", "pw", 0)?;
-    let mut service = begun(alloc, conn, POOR)?;
-    let answer = service.run(&join);
-    is_text(rt, answered(&answer), "joined");
-    let mut conn = service.end();
-    holds(
-        rt,
-        &mut conn,
-        &[
-            (JOINING_MONEY, Some(0)),
-            (JOINING_PEOPLE, Some(1)),
-            (MONEY, Some(0)),
-        ],
-    );
-    Ok(())
-}
+const AVALON_JOINS: [Step; 1] = [Step::Told(AVALON, "joined")];
+
+/// A faction has joined without money, and no money is booked under joining.
+const AFTER_NO_MONEY: [(&str, Option<i64>); 3] = [
+    (JOINING_MONEY, Some(0)),
+    (JOINING_PEOPLE, Some(1)),
+    (MONEY, Some(0)),
+];
 
 #[test]
 fn nothing_is_booked_of_no_money(rt: HostRuntime) -> Result<(), Fail> {
-    let conn = Connection::open_in_memory(rt.alloc())?;
-    joins_without_money(&rt, rt.alloc(), conn)
+    plays(&rt, rt.alloc(), POOR, &AVALON_JOINS, &AFTER_NO_MONEY)
 }

@@ -1,10 +1,11 @@
 //! Joinings of campaigns with many units and factions: of one with room, and where no faction or no unit more can come.
 use super::commands::AVALON;
-use super::making::{begun, opened};
+use super::making::{begun_in_memory, opened};
 use super::script::{Asked, Step, follow};
+use super::serving::Tables;
 use super::tables::{FACTIONS, NEXT, UNITS, holds};
 use atl_test_worlds::SMALL;
-use sqlite::{Alter, Connection, params};
+use sqlite::{Connection, MemStore, params};
 use std::alloc::Global;
 use std::process::Abort;
 use std::test::Fail;
@@ -37,12 +38,18 @@ UPDATE campaign SET next_faction = 10000";
 
 const NUMBERS_ARE_FULL: &str = "UPDATE campaign SET next_unit = 1000000000";
 
-/// A campaign that is filled by hand: what doubles its rows, up to which number, what makes it good again, what a joining is
-/// then answered, and what the tables hold behind it.
+const BREE: Asked = Asked::Join("Bree", "pb", 0);
+
+const BREE_JOINS: [Step; 1] = [Step::Told(BREE, "joined")];
+
+const NOBODY_JOINS: [Step; 1] = [Step::Told(BREE, "full")];
+
+/// A campaign that is filled by hand: what doubles its rows, up to which number, what makes it good again, a joining then, and
+/// what the tables hold behind it.
 struct Filled {
     more: Option<(&'static str, i64)>,
     then: &'static str,
-    told: &'static str,
+    steps: &'static [Step],
     rows: [(&'static str, Option<i64>); 3],
 }
 
@@ -51,7 +58,7 @@ const FILLED: [Filled; 4] = [
     Filled {
         more: Some((MORE_UNITS, 10_000)),
         then: MANY_ARE_BOOKED,
-        told: "joined",
+        steps: &BREE_JOINS,
         rows: [
             (NEXT, Some(310002)),
             (FACTIONS, Some(2)),
@@ -61,7 +68,7 @@ const FILLED: [Filled; 4] = [
     Filled {
         more: Some((MORE_UNITS, 100_000)),
         then: UNITS_ARE_FULL,
-        told: "full",
+        steps: &NOBODY_JOINS,
         rows: [
             (NEXT, Some(300001)),
             (FACTIONS, Some(1)),
@@ -71,7 +78,7 @@ const FILLED: [Filled; 4] = [
     Filled {
         more: Some((MORE_FACTIONS, 9_999)),
         then: FACTIONS_ARE_FULL,
-        told: "full",
+        steps: &NOBODY_JOINS,
         rows: [
             (NEXT, Some(1000000002)),
             (FACTIONS, Some(9999)),
@@ -81,7 +88,7 @@ const FILLED: [Filled; 4] = [
     Filled {
         more: None,
         then: NUMBERS_ARE_FULL,
-        told: "full",
+        steps: &NOBODY_JOINS,
         rows: [
             (NEXT, Some(1000200000)),
             (FACTIONS, Some(1)),
@@ -92,23 +99,15 @@ const FILLED: [Filled; 4] = [
 
 const AVALON_JOINS: [Step; 1] = [Step::Told(AVALON, "joined")];
 
-const BREE: Asked = Asked::Join("Bree", "pb", 0);
-
 /// The small world's campaign, with Avalon in it.
-fn joined<S: Alter + Drop>(
-    rt: &impl Abort,
-    alloc: Global,
-    conn: Connection<S>,
-) -> Result<Connection<S>, Fail> {
-    let mut service = begun(alloc, conn, SMALL)?;
-    let done = follow(rt, alloc, &mut service, &AVALON_JOINS);
-    let conn = service.end();
-    done?;
-    Ok(conn)
+fn joined(rt: &impl Abort, alloc: Global) -> Result<Connection<MemStore>, Fail> {
+    let mut service = begun_in_memory(alloc, SMALL)?;
+    follow(rt, alloc, &mut service, &AVALON_JOINS)?;
+    Ok(service.end())
 }
 
 /// Doubles the rows of a table, up to a number.
-fn doubled<S: Alter>(conn: &mut Connection<S>, sql: &str, last: i64) -> Result<(), Fail> {
+fn doubled(conn: &mut Connection<MemStore>, sql: &str, last: i64) -> Result<(), Fail> {
     for step in STEPS.iter() {
         conn.execute(sql, params![*step, last])?;
     }
@@ -116,37 +115,40 @@ fn doubled<S: Alter>(conn: &mut Connection<S>, sql: &str, last: i64) -> Result<(
 }
 
 /// Fills a campaign by hand.
-fn fill<S: Alter>(conn: &mut Connection<S>, filled: &Filled) -> Result<(), Fail> {
+fn fill(conn: &mut Connection<MemStore>, filled: &Filled) -> Result<(), Fail> {
     if let Some((sql, last)) = filled.more {
         doubled(conn, sql, last)?;
     }
-    conn.execute_batch(filled.then)?;
-    Ok(())
+    conn.change(filled.then)
 }
 
 /// Asserts what a joining is answered, and what the tables hold behind it.
-fn answers<S: Alter + Drop>(
+fn answers(
     rt: &impl Abort,
     alloc: Global,
-    conn: Connection<S>,
+    conn: Connection<MemStore>,
     filled: &Filled,
 ) -> Result<(), Fail> {
     let mut service = opened(alloc, conn)?;
-    let done = follow(rt, alloc, &mut service, &[Step::Told(BREE, filled.told)]);
+    let done = follow(rt, alloc, &mut service, filled.steps);
     holds(rt, &mut service.end(), &filled.rows);
     done
 }
 
-fn all_answer(rt: &impl Abort, alloc: Global) -> Result<(), Fail> {
+fn is_filled(rt: &impl Abort, alloc: Global, filled: &Filled) -> Result<(), Fail> {
+    let mut conn = joined(rt, alloc)?;
+    fill(&mut conn, filled)?;
+    answers(rt, alloc, conn, filled)
+}
+
+fn are_filled(rt: &impl Abort, alloc: Global) -> Result<(), Fail> {
     for filled in FILLED.iter() {
-        let mut conn = joined(rt, alloc, Connection::open_in_memory(alloc)?)?;
-        fill(&mut conn, filled)?;
-        answers(rt, alloc, conn, filled)?;
+        is_filled(rt, alloc, filled)?;
     }
     Ok(())
 }
 
 #[test]
 fn nobody_joins_a_full_campaign(rt: HostRuntime) -> Result<(), Fail> {
-    all_answer(&rt, rt.alloc())
+    are_filled(&rt, rt.alloc())
 }

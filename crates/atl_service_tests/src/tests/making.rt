@@ -1,11 +1,9 @@
-//! Commands and services. Of what is large (a service, a connection, a command) each function holds one and lends it, and
-//! one that works on a service takes any store.
-use super::compare::is_text;
+//! Commands and services. Of what is large (a service, a connection, a command) each function holds one and lends it.
+use super::serving::Tables;
 use atl_service::{Answer, Command, Fault, Refusal, Service, found, open};
 use atl_tables::Sequence;
-use sqlite::{Alter, Connection};
+use sqlite::{Alter, Connection, MemStore};
 use std::alloc::Global;
-use std::process::Abort;
 use std::test::Fail;
 
 fn bytes(alloc: Global, text: &str) -> Result<Sequence<u8>, Fail> {
@@ -70,6 +68,11 @@ pub(crate) fn begun<S: Alter + Drop>(
     }
 }
 
+/// A campaign of a world, in a database of its own in memory.
+pub(crate) fn begun_in_memory(alloc: Global, world: &str) -> Result<Service<MemStore>, Fail> {
+    begun(alloc, Connection::open_in_memory(alloc)?, world)
+}
+
 /// The campaign that a database holds.
 pub(crate) fn opened<S: Alter + Drop>(
     alloc: Global,
@@ -88,7 +91,7 @@ pub(crate) fn filled<S: Alter + Drop>(
     rows: &str,
 ) -> Result<Service<S>, Fail> {
     let mut conn = conn;
-    conn.execute_batch(rows)?;
+    conn.change(rows)?;
     opened(alloc, conn)
 }
 
@@ -117,15 +120,4 @@ pub(crate) fn told(answer: &Answer) -> &str {
         Answer::Fault(Fault::Store) => "store",
         Answer::Fault(Fault::Closed) => "closed",
     }
-}
-
-/// Runs a command, and asserts its answer.
-pub(crate) fn tells<S: Alter>(
-    rt: &impl Abort,
-    service: &mut Service<S>,
-    command: &Command,
-    words: &str,
-) {
-    let answer = service.run(command);
-    is_text(rt, told(&answer), words);
 }

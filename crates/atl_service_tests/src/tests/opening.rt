@@ -6,13 +6,14 @@ use super::files::{connected, new_files};
 use super::founding::is_refused;
 use super::making::{begun, opened};
 use super::script::{Asked, Step, follow};
+use super::serving::{Served, Tables};
 use super::tables::holds;
-use atl_service::Service;
+use atl_service::{Service, found};
 use atl_state::{Campaign, check};
 use atl_tables::World;
 use atl_test_worlds::SMALL;
-use sqlite::{Alter, Connection};
-use sqlite_disk::{Files, Memory};
+use sqlite::{Alter, Connection, MemStore};
+use sqlite_disk::{Disk, Files};
 use std::alloc::Global;
 use std::process::Abort;
 use std::test::Fail;
@@ -64,25 +65,25 @@ fn rows_of(alloc: Global, campaign: &Campaign) -> Result<String, Fail> {
     Ok(format!(in alloc; "{parts:?}")?)
 }
 
-pub(crate) fn rows_in<S: Alter>(alloc: Global, service: &Service<S>) -> Result<String, Fail> {
+pub(crate) fn rows_in(alloc: Global, service: &impl Served) -> Result<String, Fail> {
     rows_of(alloc, service.campaign().ok_or("closed")?)
 }
 
 /// Takes the steps, and gives the rows then.
-fn rows_after<S: Alter>(
+fn rows_after(
     rt: &impl Abort,
     alloc: Global,
-    service: &mut Service<S>,
+    service: &mut impl Served,
     steps: &[Step],
 ) -> Result<String, Fail> {
     follow(rt, alloc, service, steps)?;
     rows_in(alloc, service)
 }
 
-pub(crate) fn has_rows<S: Alter>(
+pub(crate) fn has_rows(
     rt: &impl Abort,
     alloc: Global,
-    service: &Service<S>,
+    service: &impl Served,
     rows: &str,
 ) -> Result<(), Fail> {
     let told = rows_in(alloc, service)?;
@@ -117,19 +118,18 @@ fn played<S: Alter + Drop>(
     let rows = rows_after(rt, alloc, &mut service, session.steps);
     let mut conn = service.end();
     let rows = rows?;
-    conn.execute_batch(session.by_hand)?;
+    conn.change(session.by_hand)?;
     holds(rt, &mut conn, session.after);
     Ok((rows, conn))
 }
 
 /// Sessions on one connection.
-fn on_connection<S: Alter + Drop>(
+fn on_connection(
     rt: &impl Abort,
     alloc: Global,
-    conn: Connection<S>,
     sessions: &[Session],
-) -> Result<(String, Connection<S>), Fail> {
-    let mut conn = conn;
+) -> Result<(String, Connection<MemStore>), Fail> {
+    let mut conn = Connection::open_in_memory(alloc)?;
     let mut rows = String::new(alloc);
     for session in sessions {
         (rows, conn) = played(rt, alloc, conn, session, rows.as_str())?;
@@ -138,10 +138,10 @@ fn on_connection<S: Alter + Drop>(
 }
 
 /// The same, where the files are closed and opened in between.
-pub(crate) fn in_files(
+pub(crate) fn in_files<D: Disk + Drop>(
     rt: &impl Abort,
     alloc: Global,
-    files: Files<Memory>,
+    files: Files<D>,
     sessions: &[Session],
 ) -> Result<(), Fail> {
     let mut files = files;
@@ -178,10 +178,10 @@ fn is_made_of(
 }
 
 /// Opens the campaign, and asserts that it has these rows and is made of them again.
-fn stands<S: Alter + Drop>(
+fn stands(
     rt: &impl Abort,
     alloc: Global,
-    conn: Connection<S>,
+    conn: Connection<MemStore>,
     rows: &str,
 ) -> Result<(), Fail> {
     let service = opened(alloc, conn)?;
@@ -205,20 +205,15 @@ const MONTH_STANDS: [Session; 2] = [
 ];
 
 /// A month is closed, and neither a second closing nor another founding changes a row of the tables.
-fn a_month_stands<S: Alter + Drop>(
-    rt: &impl Abort,
-    alloc: Global,
-    conn: Connection<S>,
-) -> Result<(), Fail> {
-    let (rows, conn) = on_connection(rt, alloc, conn, &MONTH_STANDS)?;
-    let conn = is_refused(rt, alloc, conn, SMALL, "gm", "not empty");
+fn a_month_stands(rt: &impl Abort, alloc: Global) -> Result<(), Fail> {
+    let (rows, conn) = on_connection(rt, alloc, &MONTH_STANDS)?;
+    let conn = is_refused(rt, found(alloc, conn, SMALL, b"gm"), "not empty");
     stands(rt, alloc, conn, rows.as_str())
 }
 
 #[test]
 fn a_closed_month_is_opened_again(rt: HostRuntime) -> Result<(), Fail> {
-    let conn = Connection::open_in_memory(rt.alloc())?;
-    a_month_stands(&rt, rt.alloc(), conn)
+    a_month_stands(&rt, rt.alloc())
 }
 
 const COMES_BACK: [Session; 3] = [
@@ -243,20 +238,15 @@ const COMES_BACK: [Session; 3] = [
 ];
 
 /// Opens a campaign twice on its connection, where no other is founded then.
-fn comes_back<S: Alter + Drop>(
-    rt: &impl Abort,
-    alloc: Global,
-    conn: Connection<S>,
-) -> Result<(), Fail> {
-    let (_, conn) = on_connection(rt, alloc, conn, &COMES_BACK)?;
-    is_refused(rt, alloc, conn, SMALL, "gm", "not empty");
+fn comes_back(rt: &impl Abort, alloc: Global) -> Result<(), Fail> {
+    let (_, conn) = on_connection(rt, alloc, &COMES_BACK)?;
+    is_refused(rt, found(alloc, conn, SMALL, b"gm"), "not empty");
     Ok(())
 }
 
 #[test]
 fn a_campaign_is_opened_on_its_connection(rt: HostRuntime) -> Result<(), Fail> {
-    let conn = Connection::open_in_memory(rt.alloc())?;
-    comes_back(&rt, rt.alloc(), conn)
+    comes_back(&rt, rt.alloc())
 }
 
 #[test]

@@ -1,15 +1,14 @@
 //! A test as a table of steps: what is asked of a service, and what is wanted of it.
 use super::compare::{is_count, is_number, is_text};
-use super::making::{begun, close, filled, join, long_mail, mail, report, tells};
+use super::making::{begun_in_memory, close, filled, join, long_mail, mail, report, told};
+use super::serving::Served;
 use super::tables::holds;
-use atl_service::{Answer, Command, Service};
-use sqlite::{Alter, Connection};
+use atl_service::{Answer, Command};
 use std::alloc::Global;
 use std::process::Abort;
 use std::test::Fail;
 
 /// A command.
-#[derive(Clone, Copy)]
 pub(crate) enum Asked {
     /// A name, a pass text and a dice word.
     Join(&'static str, &'static str, u32),
@@ -24,7 +23,6 @@ pub(crate) enum Asked {
 }
 
 /// What is asked and what is wanted.
-#[derive(Clone, Copy)]
 pub(crate) enum Step {
     /// A command, and its answer in words.
     Told(Asked, &'static str),
@@ -81,16 +79,10 @@ pub(crate) fn commands_of(alloc: Global, steps: &[Step]) -> Result<Vec<Command>,
     Ok(commands)
 }
 
-fn asks<S: Alter>(
-    rt: &impl Abort,
-    alloc: Global,
-    service: &mut Service<S>,
-    asked: &Asked,
-    words: &str,
-) -> Result<(), Fail> {
+/// The answer to a command.
+fn answered(alloc: Global, service: &mut impl Served, asked: &Asked) -> Result<Answer, Fail> {
     let command = command_of(alloc, asked)?;
-    tells(rt, service, &command, words);
-    Ok(())
+    Ok(service.run(&command))
 }
 
 fn has_joined(rt: &impl Abort, answer: &Answer, first: u32, member: u32) {
@@ -101,30 +93,6 @@ fn has_joined(rt: &impl Abort, answer: &Answer, first: u32, member: u32) {
         }
         _ => assert!(rt; false),
     }
-}
-
-fn joins<S: Alter>(
-    rt: &impl Abort,
-    service: &mut Service<S>,
-    command: &Command,
-    faction: u32,
-    unit: u32,
-) {
-    let answer = service.run(command);
-    has_joined(rt, &answer, faction, unit);
-}
-
-fn asks_to_join<S: Alter>(
-    rt: &impl Abort,
-    alloc: Global,
-    service: &mut Service<S>,
-    asked: &Asked,
-    faction: u32,
-    unit: u32,
-) -> Result<(), Fail> {
-    let command = command_of(alloc, asked)?;
-    joins(rt, service, &command, faction, unit);
-    Ok(())
 }
 
 fn is_kept(rt: &impl Abort, answer: &Answer, wanted: usize, faulty: &[(u32, u32)]) {
@@ -141,30 +109,6 @@ fn is_kept(rt: &impl Abort, answer: &Answer, wanted: usize, faulty: &[(u32, u32)
     }
 }
 
-fn mails<S: Alter>(
-    rt: &impl Abort,
-    service: &mut Service<S>,
-    command: &Command,
-    orders: usize,
-    faulty: &[(u32, u32)],
-) {
-    let answer = service.run(command);
-    is_kept(rt, &answer, orders, faulty);
-}
-
-fn asks_to_mail<S: Alter>(
-    rt: &impl Abort,
-    alloc: Global,
-    service: &mut Service<S>,
-    asked: &Asked,
-    orders: usize,
-    faulty: &[(u32, u32)],
-) -> Result<(), Fail> {
-    let command = command_of(alloc, asked)?;
-    mails(rt, service, &command, orders, faulty);
-    Ok(())
-}
-
 fn is_closed(rt: &impl Abort, answer: &Answer, wanted: u32) {
     match answer {
         Answer::MonthDone { month } => is_number(rt, i64::from(*month), i64::from(wanted)),
@@ -172,38 +116,14 @@ fn is_closed(rt: &impl Abort, answer: &Answer, wanted: u32) {
     }
 }
 
-fn has_month<S: Alter>(rt: &impl Abort, service: &Service<S>, month: u32) {
+fn has_month(rt: &impl Abort, service: &impl Served, month: u32) {
     match service.campaign() {
         Some(campaign) => is_number(rt, i64::from(campaign.month()), i64::from(month)),
         None => assert!(rt; false),
     }
 }
 
-fn closes<S: Alter>(rt: &impl Abort, service: &mut Service<S>, command: &Command, month: u32) {
-    let answer = service.run(command);
-    is_closed(rt, &answer, month);
-    has_month(rt, service, month);
-}
-
-fn asks_to_close<S: Alter>(
-    rt: &impl Abort,
-    alloc: Global,
-    service: &mut Service<S>,
-    asked: &Asked,
-    month: u32,
-) -> Result<(), Fail> {
-    let command = command_of(alloc, asked)?;
-    closes(rt, service, &command, month);
-    Ok(())
-}
-
-fn has_numbers<S: Alter>(
-    rt: &impl Abort,
-    service: &Service<S>,
-    faction: u32,
-    unit: u32,
-    units: usize,
-) {
+fn has_numbers(rt: &impl Abort, service: &impl Served, faction: u32, unit: u32, units: usize) {
     match service.campaign() {
         Some(campaign) => {
             is_number(rt, i64::from(campaign.next_faction()), i64::from(faction));
@@ -214,7 +134,7 @@ fn has_numbers<S: Alter>(
     }
 }
 
-fn keeps<S: Alter>(rt: &impl Abort, service: &Service<S>, text: &Option<&str>) {
+fn keeps(rt: &impl Abort, service: &impl Served, text: &Option<&str>) {
     match service.campaign() {
         Some(campaign) => match (campaign.mail_of(1), text) {
             (Some(kept), Some(text)) => assert!(rt; kept.as_slice() == text.as_bytes()),
@@ -225,7 +145,7 @@ fn keeps<S: Alter>(rt: &impl Abort, service: &Service<S>, text: &Option<&str>) {
     }
 }
 
-fn has_books<S: Alter>(rt: &impl Abort, service: &Service<S>, wanted: &str) -> Result<(), Fail> {
+fn has_books(rt: &impl Abort, service: &impl Served, wanted: &str) -> Result<(), Fail> {
     match service.books() {
         Some(text) => is_text(rt, text?.as_str(), wanted),
         None => assert!(rt; false),
@@ -233,34 +153,47 @@ fn has_books<S: Alter>(rt: &impl Abort, service: &Service<S>, wanted: &str) -> R
     Ok(())
 }
 
-fn take<S: Alter>(
-    rt: &impl Abort,
-    alloc: Global,
-    service: &mut Service<S>,
-    step: &Step,
-) -> Result<(), Fail> {
+/// Asserts what a step wants of the answer to its command.
+pub(crate) fn is_wanted(rt: &impl Abort, answer: &Answer, step: &Step) {
     match step {
-        Step::Told(asked, words) => return asks(rt, alloc, service, asked, words),
-        Step::Joined(asked, faction, unit) => return asks_to_join(
-            rt, alloc, service, asked, *faction, *unit,
-        ),
-        Step::Mailed(asked, orders, faulty) => return asks_to_mail(
-            rt, alloc, service, asked, *orders, faulty,
-        ),
-        Step::Closed(asked, month) => return asks_to_close(rt, alloc, service, asked, *month),
-        Step::Month(month) => has_month(rt, service, *month),
+        Step::Told(_, words) => is_text(rt, told(answer), words),
+        Step::Joined(_, faction, unit) => has_joined(rt, answer, *faction, *unit),
+        Step::Mailed(_, orders, faulty) => is_kept(rt, answer, *orders, faulty),
+        Step::Closed(_, month) => is_closed(rt, answer, *month),
+        _ => assert!(rt; false),
+    }
+}
+
+/// Asserts what a step wants of the campaign.
+fn stands(rt: &impl Abort, service: &impl Served, step: &Step) -> Result<(), Fail> {
+    match step {
+        Step::Closed(_, month) | Step::Month(month) => has_month(rt, service, *month),
         Step::Numbers(faction, unit, units) => has_numbers(rt, service, *faction, *unit, *units),
         Step::Keeps(text) => keeps(rt, service, text),
         Step::Books(wanted) => return has_books(rt, service, wanted),
+        _ => {}
     }
     Ok(())
 }
 
-/// Takes the steps one after another.
-pub(crate) fn follow<S: Alter>(
+fn take(
     rt: &impl Abort,
     alloc: Global,
-    service: &mut Service<S>,
+    service: &mut impl Served,
+    step: &Step,
+) -> Result<(), Fail> {
+    if let Some(asked) = asked_by(step) {
+        let answer = answered(alloc, service, asked)?;
+        is_wanted(rt, &answer, step);
+    }
+    stands(rt, service, step)
+}
+
+/// Takes the steps one after another.
+pub(crate) fn follow(
+    rt: &impl Abort,
+    alloc: Global,
+    service: &mut impl Served,
     steps: &[Step],
 ) -> Result<(), Fail> {
     for step in steps {
@@ -269,22 +202,7 @@ pub(crate) fn follow<S: Alter>(
     Ok(())
 }
 
-/// Founds a campaign, takes the steps, and asserts what the tables hold then.
-fn play<S: Alter + Drop>(
-    rt: &impl Abort,
-    alloc: Global,
-    conn: Connection<S>,
-    world: &str,
-    steps: &[Step],
-    rows: &[(&str, Option<i64>)],
-) -> Result<(), Fail> {
-    let mut service = begun(alloc, conn, world)?;
-    let done = follow(rt, alloc, &mut service, steps);
-    holds(rt, &mut service.end(), rows);
-    done
-}
-
-/// The same in memory.
+/// Founds a campaign in memory, takes the steps, and asserts what the tables hold then.
 pub(crate) fn plays(
     rt: &impl Abort,
     alloc: Global,
@@ -292,8 +210,10 @@ pub(crate) fn plays(
     steps: &[Step],
     rows: &[(&str, Option<i64>)],
 ) -> Result<(), Fail> {
-    let conn = Connection::open_in_memory(alloc)?;
-    play(rt, alloc, conn, world, steps, rows)
+    let mut service = begun_in_memory(alloc, world)?;
+    let done = follow(rt, alloc, &mut service, steps);
+    holds(rt, &mut service.end(), rows);
+    done
 }
 
 /// A campaign of a world: statements that put rows in by hand once it is founded, the steps behind them, and what the tables hold then.
@@ -305,21 +225,11 @@ pub(crate) struct Course {
     pub(crate) after: &'static [(&'static str, Option<i64>)],
 }
 
-fn play_course<S: Alter + Drop>(
-    rt: &impl Abort,
-    alloc: Global,
-    conn: Connection<S>,
-    course: &Course,
-) -> Result<(), Fail> {
-    let conn = begun(alloc, conn, course.world)?.end();
+/// Plays the campaign in memory. It is opened again once the rows are in.
+pub(crate) fn plays_course(rt: &impl Abort, alloc: Global, course: &Course) -> Result<(), Fail> {
+    let conn = begun_in_memory(alloc, course.world)?.end();
     let mut service = filled(alloc, conn, course.rows)?;
     let done = follow(rt, alloc, &mut service, course.steps);
     holds(rt, &mut service.end(), course.after);
     done
-}
-
-/// The campaign in memory. It is opened again once the rows are in.
-pub(crate) fn plays_course(rt: &impl Abort, alloc: Global, course: &Course) -> Result<(), Fail> {
-    let conn = Connection::open_in_memory(alloc)?;
-    play_course(rt, alloc, conn, course)
 }

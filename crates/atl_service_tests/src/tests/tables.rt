@@ -1,6 +1,6 @@
 //! What the tables of a campaign hold, told in numbers.
 use super::compare::is_amount;
-use sqlite::{Alter, Connection};
+use super::serving::Tables;
 use std::process::Abort;
 
 /// The faction and the unit that come next.
@@ -49,22 +49,10 @@ pub(crate) const STOCKED: &str = "SELECT count(*) FROM market";
 
 pub(crate) const STOCK: &str = "SELECT sum(stock) FROM market";
 
-/// A number that a query answers.
-pub(crate) fn number<S: Alter>(conn: &mut Connection<S>, sql: &str) -> Option<i64> {
-    match conn.query_row(sql, &[]) {
-        Ok(row) => row.get(0).ok(),
-        Err(_) => None,
-    }
-}
-
 /// Asserts what queries answer.
-pub(crate) fn holds<S: Alter>(
-    rt: &impl Abort,
-    conn: &mut Connection<S>,
-    wanted: &[(&str, Option<i64>)],
-) {
+pub(crate) fn holds(rt: &impl Abort, tables: &mut impl Tables, wanted: &[(&str, Option<i64>)]) {
     for (sql, amount) in wanted {
-        is_amount(rt, number(conn, sql), *amount);
+        is_amount(rt, tables.number(sql), *amount);
     }
 }
 

@@ -1,15 +1,15 @@
 //! Files of the first format: they aren't opened, and are upgraded once.
 use super::commands::{AVALON, FAR_REPORT};
-use super::compare::is_text;
-use super::founding::told;
-use super::making::{begun, opened};
+use super::founding::is_refused;
+use super::making::{begun_in_memory, filled, opened};
 use super::opening::{has_rows, rows_in};
 use super::script::{Asked, Step, follow};
+use super::serving::{Served, Tables};
 use super::tables::{FORMAT, STOCK, STOCKED, holds};
-use atl_service::{Refused, Service, open, upgrade};
+use atl_service::{open, upgrade};
 use atl_test_files::old_file;
 use atl_test_worlds::{ISLE, ISLE_WITH_MARKET, SMALL};
-use sqlite::{Alter, Connection};
+use sqlite::{Connection, MemStore};
 use std::alloc::Global;
 use std::process::Abort;
 use std::test::Fail;
@@ -22,86 +22,60 @@ struct Story {
     after: &'static [(&'static str, Option<i64>)],
 }
 
-fn write_old<S: Alter, T: Alter>(
-    conn: &mut Connection<T>,
-    service: &Service<S>,
-) -> Result<(), Fail> {
-    match service.campaign() {
-        Some(campaign) => old_file(conn, ISLE, campaign)?,
-        None => return Err(Fail::new("closed")),
-    }
-    Ok(())
+/// A file of the first format with the rows of a campaign, changed by hand.
+fn written_old(
+    alloc: Global,
+    service: &impl Served,
+    by_hand: &str,
+) -> Result<Connection<MemStore>, Fail> {
+    let mut conn = Connection::open_in_memory(alloc)?;
+    old_file(&mut conn, ISLE, service.campaign().ok_or("closed")?)?;
+    conn.change(by_hand)?;
+    Ok(conn)
 }
 
-/// Makes the file by a campaign that is played in a database of its own.
-fn make_old<S: Alter>(
-    rt: &impl Abort,
-    alloc: Global,
-    conn: &mut Connection<S>,
-    story: &Story,
-) -> Result<(), Fail> {
-    let mut service = begun(alloc, Connection::open_in_memory(alloc)?, ISLE)?;
+/// The file of a story, made by a campaign that is played in a database of its own.
+fn old(rt: &impl Abort, alloc: Global, story: &Story) -> Result<Connection<MemStore>, Fail> {
+    let mut service = begun_in_memory(alloc, ISLE)?;
     follow(rt, alloc, &mut service, story.before)?;
-    write_old(conn, &service)?;
-    conn.execute_batch(story.by_hand)?;
-    Ok(())
+    written_old(alloc, &service, story.by_hand)
 }
 
 /// The rows of the same campaign in the second format.
 fn rows_wanted(rt: &impl Abort, alloc: Global, story: &Story) -> Result<String, Fail> {
-    let mut service = begun(alloc, Connection::open_in_memory(alloc)?, ISLE)?;
+    let mut service = begun_in_memory(alloc, ISLE)?;
     follow(rt, alloc, &mut service, story.before)?;
-    let mut conn = service.end();
-    conn.execute_batch(story.by_hand)?;
-    rows_in(alloc, &opened(alloc, conn)?)
+    rows_in(alloc, &filled(alloc, service.end(), story.by_hand)?)
 }
 
 /// Asserts why a database isn't opened, and hands it back.
-fn stays_shut<S: Alter + Drop>(
+fn stays_shut(
     rt: &impl Abort,
     alloc: Global,
-    conn: Connection<S>,
+    conn: Connection<MemStore>,
     words: &str,
-) -> Connection<S> {
-    match open(alloc, conn) {
-        Ok(service) => {
-            assert!(rt; false);
-            service.end()
-        }
-        Err(Refused { why, conn }) => {
-            is_text(rt, told(&why), words);
-            conn
-        }
-    }
+) -> Connection<MemStore> {
+    is_refused(rt, open(alloc, conn), words)
 }
 
 /// Asserts why a file isn't upgraded, and hands it back.
-fn refuses<S: Alter + Drop>(
+fn refuses(
     rt: &impl Abort,
     alloc: Global,
-    conn: Connection<S>,
+    conn: Connection<MemStore>,
     world: &str,
     words: &str,
-) -> Connection<S> {
-    match upgrade(alloc, conn, world) {
-        Ok(service) => {
-            assert!(rt; false);
-            service.end()
-        }
-        Err(Refused { why, conn }) => {
-            is_text(rt, told(&why), words);
-            conn
-        }
-    }
+) -> Connection<MemStore> {
+    is_refused(rt, upgrade(alloc, conn, world), words)
 }
 
 /// Upgrades a file that was refused before, and asserts that the campaign has these rows.
-fn upgraded<S: Alter + Drop>(
+fn upgraded(
     rt: &impl Abort,
     alloc: Global,
-    conn: Connection<S>,
+    conn: Connection<MemStore>,
     rows: &str,
-) -> Result<Connection<S>, Fail> {
+) -> Result<Connection<MemStore>, Fail> {
     let conn = stays_shut(rt, alloc, conn, "old format");
     let conn = refuses(rt, alloc, conn, SMALL, "differs");
     let conn = refuses(rt, alloc, conn, "a = = b", "world");
@@ -115,10 +89,10 @@ fn upgraded<S: Alter + Drop>(
 }
 
 /// Opens the upgraded file, asserts that the campaign has these rows, and plays on.
-fn goes_on<S: Alter + Drop>(
+fn goes_on(
     rt: &impl Abort,
     alloc: Global,
-    conn: Connection<S>,
+    conn: Connection<MemStore>,
     story: &Story,
     rows: &str,
 ) -> Result<(), Fail> {
@@ -130,13 +104,8 @@ fn goes_on<S: Alter + Drop>(
     done
 }
 
-fn is_upgraded<S: Alter + Drop>(
-    rt: &impl Abort,
-    alloc: Global,
-    mut conn: Connection<S>,
-    story: &Story,
-) -> Result<(), Fail> {
-    make_old(rt, alloc, &mut conn, story)?;
+fn is_upgraded(rt: &impl Abort, alloc: Global, story: &Story) -> Result<(), Fail> {
+    let conn = old(rt, alloc, story)?;
     let rows = rows_wanted(rt, alloc, story)?;
     let conn = upgraded(rt, alloc, conn, rows.as_str())?;
     goes_on(rt, alloc, conn, story, rows.as_str())
@@ -236,14 +205,12 @@ const WITH_EARLY_MAIL: Story = Story {
 
 #[test]
 fn a_file_is_upgraded_once(rt: HostRuntime) -> Result<(), Fail> {
-    let conn = Connection::open_in_memory(rt.alloc())?;
-    is_upgraded(&rt, rt.alloc(), conn, &FAR_FROM_MARKET)
+    is_upgraded(&rt, rt.alloc(), &FAR_FROM_MARKET)
 }
 
 #[test]
 fn early_mail_is_carried_out(rt: HostRuntime) -> Result<(), Fail> {
-    let conn = Connection::open_in_memory(rt.alloc())?;
-    is_upgraded(&rt, rt.alloc(), conn, &WITH_EARLY_MAIL)
+    is_upgraded(&rt, rt.alloc(), &WITH_EARLY_MAIL)
 }
 
 /// Statements on the file, why it isn't opened then, and why it isn't upgraded.
@@ -258,29 +225,24 @@ const REFUSED: [(&str, &str, &str); 8] = [
     ("BEGIN", "store", "store"),
 ];
 
-fn is_refused<S: Alter + Drop>(
-    rt: &impl Abort,
-    alloc: Global,
-    mut conn: Connection<S>,
-    refused: &(&str, &str, &str),
-) -> Result<(), Fail> {
+fn is_shut(rt: &impl Abort, alloc: Global, refused: &(&str, &str, &str)) -> Result<(), Fail> {
     let (sql, opening, upgrade) = *refused;
-    make_old(rt, alloc, &mut conn, &FAR_FROM_MARKET)?;
-    conn.execute_batch(sql)?;
+    let mut conn = old(rt, alloc, &FAR_FROM_MARKET)?;
+    conn.change(sql)?;
     let conn = stays_shut(rt, alloc, conn, opening);
     let conn = refuses(rt, alloc, conn, ISLE_WITH_MARKET, upgrade);
     stays_shut(rt, alloc, conn, opening);
     Ok(())
 }
 
-fn are_refused(rt: &impl Abort, alloc: Global) -> Result<(), Fail> {
+fn are_shut(rt: &impl Abort, alloc: Global) -> Result<(), Fail> {
     for refused in REFUSED.iter() {
-        is_refused(rt, alloc, Connection::open_in_memory(alloc)?, refused)?;
+        is_shut(rt, alloc, refused)?;
     }
     Ok(())
 }
 
 #[test]
 fn the_first_check_of_an_old_file_is_told(rt: HostRuntime) -> Result<(), Fail> {
-    are_refused(&rt, rt.alloc())
+    are_shut(&rt, rt.alloc())
 }

@@ -1,0 +1,67 @@
+//! What tests ask of a service over HTTP, whatever store its campaign stands in. What takes it by these calls is proved
+//! without what a contract knows of a store.
+use atl_http::listening::{ListenFault, serve_each};
+use atl_http::{Dice, HttpFault, serve_one};
+use atl_service::Service;
+use sqlite::Alter;
+use std::alloc::{AllocError, Global};
+use std::io::{Read, Write};
+use std::net::TcpListener;
+
+/// The dice of all tests.
+const DICE: Dice = Dice { seed: 1 };
+
+/// The calls of a service.
+pub(crate) trait Served {
+    /// Serves one request.
+    fn serve<R: Read, W: Write>(
+        &mut self,
+        alloc: Global,
+        reader: &mut R,
+        writer: &mut W,
+    ) -> Result<u16, HttpFault>;
+
+    /// Serves so many connections.
+    fn serve_each(
+        &mut self,
+        alloc: Global,
+        listener: &TcpListener,
+        count: u32,
+    ) -> Result<(), ListenFault>;
+
+    /// The number of the faction that comes next; 0 where the service is closed.
+    fn next_faction(&self) -> u32;
+
+    fn books(&self) -> Option<Result<String, AllocError>>;
+}
+
+impl<S: Alter> Served for Service<S> {
+    fn serve<R: Read, W: Write>(
+        &mut self,
+        alloc: Global,
+        reader: &mut R,
+        writer: &mut W,
+    ) -> Result<u16, HttpFault> {
+        serve_one(alloc, reader, writer, self, DICE)
+    }
+
+    fn serve_each(
+        &mut self,
+        alloc: Global,
+        listener: &TcpListener,
+        count: u32,
+    ) -> Result<(), ListenFault> {
+        serve_each(alloc, listener, self, count, DICE)
+    }
+
+    fn next_faction(&self) -> u32 {
+        match self.campaign() {
+            Some(campaign) => campaign.next_faction(),
+            None => 0,
+        }
+    }
+
+    fn books(&self) -> Option<Result<String, AllocError>> {
+        Service::books(self)
+    }
+}
