@@ -1,6 +1,7 @@
 //! The calls on campaigns and on holdings, with answers worked out by hand. Of what is large (a world, a campaign) each
 //! function holds one and lends it.
 mod books;
+mod by_hand;
 mod checks;
 mod coming;
 mod compare;

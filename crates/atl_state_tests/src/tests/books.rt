@@ -1,10 +1,8 @@
 //! Books by themselves, and those of a campaign.
 use super::compare::{is_count, is_number};
-use super::making::founded_in;
+use super::making::founded_by;
 use atl_state::{Books, Campaign, Entry, Thing};
-use atl_tables::{World, read_world};
 use atl_test_worlds::ISLE;
-use std::alloc::Global;
 use std::process::Abort;
 use std::test::Fail;
 
@@ -81,14 +79,9 @@ fn has_all(rt: &impl Abort, campaign: &Campaign) -> Result<(), Fail> {
     Ok(())
 }
 
-fn books(rt: &impl Abort, alloc: Global, world: &World) -> Result<(), Fail> {
-    let mut campaign = founded_in(alloc, world)?;
-    books_all(&mut campaign)?;
-    has_all(rt, &campaign)
-}
-
 #[test]
 fn booking_in_a_campaign(rt: HostRuntime) -> Result<(), Fail> {
-    let world = read_world(rt.alloc(), ISLE)?;
-    books(&rt, rt.alloc(), &world)
+    let mut campaign = founded_by(rt.alloc(), ISLE)?;
+    books_all(&mut campaign)?;
+    has_all(&rt, &campaign)
 }

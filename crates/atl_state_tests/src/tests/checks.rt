@@ -1,10 +1,10 @@
 //! Rows that are checked: those of a good campaign, in any order, and rows that break one of the twelve rules.
+use super::by_hand::{accepted, add_books, add_head, add_regions, no_rows, rule_of};
 use super::compare::{is_count, row_is};
 use atl_state::parts::{
-    Parts, StoredBooks, StoredFaction, StoredHas, StoredHead, StoredRegion, StoredReport,
-    StoredStructure, StoredUnit,
+    Parts, StoredFaction, StoredHas, StoredReport, StoredStructure, StoredUnit,
 };
-use atl_state::{Campaign, CheckFault, check};
+use atl_state::{Campaign, check};
 use atl_tables::{Sequence, Text, World, read_world};
 use atl_test_worlds::ISLE;
 use std::alloc::Global;
@@ -97,20 +97,6 @@ const CASES: [(Rows, u64); 15] = [
     (Rows { reports: 1, ..GOOD }, 12),
 ];
 
-fn heads(alloc: Global, rows: &Rows) -> Result<Sequence<StoredHead>, Fail> {
-    let mut all = Sequence::new(alloc);
-    all.push(StoredHead {
-        id: 1,
-        format: rows.format,
-        month: 0,
-        next_faction: 3,
-        next_unit: rows.next_unit,
-        next_structure: if rows.lodge == 0 { 1 } else { 2 },
-        pass: Sequence::from_slice(alloc, rows.pass.as_bytes())?,
-    })?;
-    Ok(all)
-}
-
 fn faction(alloc: Global, number: i64, name: &str, gone: i64) -> Result<StoredFaction, Fail> {
     Ok(StoredFaction {
         number,
@@ -122,33 +108,18 @@ fn faction(alloc: Global, number: i64, name: &str, gone: i64) -> Result<StoredFa
 }
 
 /// The second faction's row comes first, as in any order.
-fn factions(alloc: Global, rows: &Rows) -> Result<Sequence<StoredFaction>, Fail> {
-    let mut all = Sequence::new(alloc);
-    all.push(faction(alloc, 2, "Bree", rows.gone)?)?;
-    all.push(faction(alloc, 1, "Avalon", 0)?)?;
-    Ok(all)
+fn add_factions(
+    alloc: Global,
+    factions: &mut Sequence<StoredFaction>,
+    rows: &Rows,
+) -> Result<(), Fail> {
+    factions.push(faction(alloc, 2, "Bree", rows.gone)?)?;
+    factions.push(faction(alloc, 1, "Avalon", 0)?)?;
+    Ok(())
 }
 
-fn region(number: i64, peasants: i64, money: i64) -> StoredRegion {
-    StoredRegion {
-        number,
-        peasants,
-        money,
-    }
-}
-
-fn regions(alloc: Global, rows: &Rows) -> Result<Sequence<StoredRegion>, Fail> {
-    let mut all = Sequence::new(alloc);
-    all.push(region(4, 100, 50))?;
-    all.push(region(3, 200, 100))?;
-    all.push(region(2, 0, 0))?;
-    all.push(region(1, rows.peasants, 500))?;
-    Ok(all)
-}
-
-fn units(alloc: Global, rows: &Rows) -> Result<Sequence<StoredUnit>, Fail> {
-    let mut all = Sequence::new(alloc);
-    all.push(StoredUnit {
+fn add_units(alloc: Global, units: &mut Sequence<StoredUnit>, rows: &Rows) -> Result<(), Fail> {
+    units.push(StoredUnit {
         number: 2,
         faction: rows.faction,
         name: Sequence::from_slice(alloc, b"Unit 2")?,
@@ -158,7 +129,7 @@ fn units(alloc: Global, rows: &Rows) -> Result<Sequence<StoredUnit>, Fail> {
         money: rows.money,
         guard: rows.guard,
     })?;
-    all.push(StoredUnit {
+    units.push(StoredUnit {
         number: 1,
         faction: 1,
         name: Sequence::from_slice(alloc, b"Unit 1")?,
@@ -168,26 +139,28 @@ fn units(alloc: Global, rows: &Rows) -> Result<Sequence<StoredUnit>, Fail> {
         money: 1000,
         guard: rows.guard,
     })?;
-    Ok(all)
+    Ok(())
 }
 
-fn has(alloc: Global, rows: &Rows) -> Result<Sequence<StoredHas>, Fail> {
-    let mut all = Sequence::new(alloc);
+fn add_days(has: &mut Sequence<StoredHas>, rows: &Rows) -> Result<(), Fail> {
     if rows.days != 0 {
-        all.push(StoredHas {
+        has.push(StoredHas {
             unit: 1,
             sort: 1,
             thing: 0,
             amount: rows.days,
         })?;
     }
-    Ok(all)
+    Ok(())
 }
 
-fn structures(alloc: Global, rows: &Rows) -> Result<Sequence<StoredStructure>, Fail> {
-    let mut all = Sequence::new(alloc);
+fn add_lodge(
+    alloc: Global,
+    structures: &mut Sequence<StoredStructure>,
+    rows: &Rows,
+) -> Result<(), Fail> {
     if rows.lodge != 0 {
-        all.push(StoredStructure {
+        structures.push(StoredStructure {
             number: 1,
             kind: 1,
             name: Sequence::from_slice(alloc, b"Building 1")?,
@@ -196,64 +169,70 @@ fn structures(alloc: Global, rows: &Rows) -> Result<Sequence<StoredStructure>, F
             owner: rows.lodge,
         })?;
     }
-    Ok(all)
+    Ok(())
 }
 
-fn reports(alloc: Global, rows: &Rows) -> Result<Sequence<StoredReport>, Fail> {
-    let mut all = Sequence::new(alloc);
+fn add_reports(
+    alloc: Global,
+    reports: &mut Sequence<StoredReport>,
+    rows: &Rows,
+) -> Result<(), Fail> {
     for faction in 1..=rows.reports {
-        all.push(StoredReport {
+        reports.push(StoredReport {
             faction,
             text: Text::from_str(alloc, "A report.\n")?,
         })?;
     }
-    Ok(all)
+    Ok(())
 }
 
-fn booked(entry: i64, thing: i64, amount: i64) -> StoredBooks {
-    StoredBooks {
-        entry,
-        thing,
-        amount,
-    }
+fn add_people(alloc: Global, parts: &mut Parts, rows: &Rows) -> Result<(), Fail> {
+    add_factions(alloc, &mut parts.factions, rows)?;
+    add_units(alloc, &mut parts.units, rows)?;
+    add_days(&mut parts.has, rows)?;
+    add_reports(alloc, &mut parts.reports, rows)
 }
 
-fn books(alloc: Global, rows: &Rows) -> Result<Sequence<StoredBooks>, Fail> {
-    let mut all = Sequence::new(alloc);
-    all.push(booked(2, 1, 2))?;
-    all.push(booked(rows.entry, 0, 2000))?;
-    all.push(booked(1, 1, 1300))?;
-    all.push(booked(1, 0, 650))?;
-    Ok(all)
+fn add_places(alloc: Global, parts: &mut Parts, rows: &Rows) -> Result<(), Fail> {
+    add_regions(
+        &mut parts.regions,
+        &[
+            [4, 100, 50],
+            [3, 200, 100],
+            [2, 0, 0],
+            [1, rows.peasants, 500],
+        ],
+    )?;
+    add_lodge(alloc, &mut parts.structures, rows)?;
+    add_books(
+        &mut parts.books,
+        &[[2, 1, 2], [rows.entry, 0, 2000], [1, 1, 1300], [1, 0, 650]],
+    )
+}
+
+fn add_all(alloc: Global, parts: &mut Parts, rows: &Rows) -> Result<(), Fail> {
+    let next_structure = if rows.lodge == 0 { 1 } else { 2 };
+    add_head(
+        alloc,
+        &mut parts.campaign,
+        rows.format,
+        (3, rows.next_unit, next_structure),
+        rows.pass,
+    )?;
+    add_people(alloc, parts, rows)?;
+    add_places(alloc, parts, rows)
 }
 
 fn parts(alloc: Global, rows: &Rows) -> Result<Parts, Fail> {
-    Ok(Parts {
-        campaign: heads(alloc, rows)?,
-        factions: factions(alloc, rows)?,
-        regions: regions(alloc, rows)?,
-        units: units(alloc, rows)?,
-        has: has(alloc, rows)?,
-        structures: structures(alloc, rows)?,
-        mail: Sequence::new(alloc),
-        reports: reports(alloc, rows)?,
-        books: books(alloc, rows)?,
-        markets: Sequence::new(alloc),
-    })
-}
-
-/// The number of the rule that is told, or 0. Want of memory is no rule.
-fn told(alloc: Global, world: &World, rows: Parts) -> u64 {
-    match check(alloc, world, rows) {
-        Ok(_) => 0,
-        Err(CheckFault::Damaged(rule)) => u64::from(rule.number()),
-        Err(CheckFault::Memory) => 99,
-    }
+    let mut parts = no_rows(alloc);
+    add_all(alloc, &mut parts, rows)?;
+    Ok(parts)
 }
 
 fn tells(rt: &impl Abort, alloc: Global, world: &World) -> Result<(), Fail> {
     for (at, (rows, wanted)) in CASES.iter().enumerate() {
-        row_is(rt, at, told(alloc, world, parts(alloc, rows)?), *wanted);
+        let told = rule_of(check(alloc, world, parts(alloc, rows)?));
+        row_is(rt, at, told, *wanted);
     }
     Ok(())
 }
@@ -265,10 +244,7 @@ fn the_first_broken_rule_is_told(rt: HostRuntime) -> Result<(), Fail> {
 }
 
 pub(crate) fn checked(alloc: Global, world: &World, rows: Parts) -> Result<Campaign, Fail> {
-    match check(alloc, world, rows) {
-        Ok(campaign) => Ok(campaign),
-        Err(_) => Err(Fail::new("the rows are those of a good campaign")),
-    }
+    accepted(check(alloc, world, rows))
 }
 
 fn is_the_island(rt: &impl Abort, campaign: &Campaign) {

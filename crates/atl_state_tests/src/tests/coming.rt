@@ -1,6 +1,6 @@
 //! How units and structures come, and how a faction joins: what of it is marked.
 use super::compare::{is_amount, is_count};
-use super::making::{BOAT, avalon_joins, founded_in, is_begun, joined_in, man_comes};
+use super::making::{BOAT, avalon_joins, founded_in, is_begun, joined_by, man_comes};
 use atl_state::Campaign;
 use atl_tables::{World, read_world};
 use atl_test_worlds::ISLE;
@@ -56,17 +56,16 @@ fn structure_comes(rt: &impl Abort, alloc: Global, campaign: &mut Campaign) -> R
     Ok(())
 }
 
-fn come(rt: &impl Abort, alloc: Global, world: &World) -> Result<(), Fail> {
-    let mut campaign = joined_in(alloc, world)?;
-    is_there(rt, &campaign);
-    unit_comes(rt, alloc, &mut campaign)?;
-    structure_comes(rt, alloc, &mut campaign)
+fn come(rt: &impl Abort, alloc: Global, campaign: &mut Campaign) -> Result<(), Fail> {
+    is_there(rt, campaign);
+    unit_comes(rt, alloc, campaign)?;
+    structure_comes(rt, alloc, campaign)
 }
 
 #[test]
 fn units_and_structures_come(rt: HostRuntime) -> Result<(), Fail> {
-    let world = read_world(rt.alloc(), ISLE)?;
-    come(&rt, rt.alloc(), &world)
+    let mut campaign = joined_by(rt.alloc(), ISLE)?;
+    come(&rt, rt.alloc(), &mut campaign)
 }
 
 /// A unit that is lent is marked, once; one that is not there is neither lent nor marked.
@@ -90,14 +89,9 @@ fn lends(rt: &impl Abort, campaign: &mut Campaign, unit: u32) {
     }
 }
 
-fn lends_marked(rt: &impl Abort, alloc: Global, world: &World) -> Result<(), Fail> {
-    let mut campaign = joined_in(alloc, world)?;
-    is_lent(rt, &mut campaign);
-    Ok(())
-}
-
 #[test]
 fn lending_is_marked(rt: HostRuntime) -> Result<(), Fail> {
-    let world = read_world(rt.alloc(), ISLE)?;
-    lends_marked(&rt, rt.alloc(), &world)
+    let mut campaign = joined_by(rt.alloc(), ISLE)?;
+    is_lent(&rt, &mut campaign);
+    Ok(())
 }

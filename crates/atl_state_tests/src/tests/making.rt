@@ -3,7 +3,7 @@ ghost use Rattle.std.specs.Prelude.{IfOk};
 ghost use Rattle.atl_state.specs.Good.{IsGood};
 
 use atl_state::{Campaign, Holding, LAST_UNIT, MOST_STRUCTURES, Structure, Unit, founded};
-use atl_tables::{Numbered, Text, World};
+use atl_tables::{Numbered, Text, World, read_world};
 use std::alloc::Global;
 use std::test::Fail;
 
@@ -37,6 +37,18 @@ pub(crate) fn joined_in(alloc: Global, world: &World) -> Result<Campaign, Fail> 
     Ok(campaign)
 }
 
+/// The campaign of a world text as it is founded.
+pub(crate) fn founded_by(alloc: Global, text: &str) -> Result<Campaign, Fail> {
+    let world = read_world(alloc, text)?;
+    founded_in(alloc, &world)
+}
+
+/// The campaign of a world text once Avalon has joined.
+pub(crate) fn joined_by(alloc: Global, text: &str) -> Result<Campaign, Fail> {
+    let world = read_world(alloc, text)?;
+    joined_in(alloc, &world)
+}
+
 /// One man with nothing.
 pub(crate) fn one_man(alloc: Global) -> Result<Holding, Fail> {
     let name = Text::from_str(alloc, "A man")?;
@@ -45,10 +57,10 @@ pub(crate) fn one_man(alloc: Global) -> Result<Holding, Fail> {
 
 /// One man of a faction comes, in the forest by the sea and inside no structure.
 pub(crate) fn man_comes(alloc: Global, campaign: &mut Campaign, faction: u32) -> Result<u32, Fail> {
-    let holding = one_man(alloc)?;
     if campaign.next_unit() > LAST_UNIT || campaign.unit(campaign.next_unit()).is_some() {
         return Err(Fail::new("a free number"));
     }
+    let holding = one_man(alloc)?;
     Ok(campaign.begin_unit(Unit {
         faction,
         region: FAR,
@@ -64,12 +76,12 @@ pub(crate) fn is_begun(
     kind: u16,
     owner: u32,
 ) -> Result<u32, Fail> {
-    let name = Text::from_str(alloc, "A structure")?;
     if campaign.next_structure() > MOST_STRUCTURES
         || campaign.structure(campaign.next_structure()).is_some()
     {
         return Err(Fail::new("a free number"));
     }
+    let name = Text::from_str(alloc, "A structure")?;
     Ok(campaign.begin_structure(Structure {
         kind,
         name,

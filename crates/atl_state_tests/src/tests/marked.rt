@@ -1,8 +1,8 @@
 //! Which parts of a campaign are marked, shown one by one.
 use super::compare::{are_numbers, is_so};
-use super::making::joined_in;
+use super::making::joined_by;
 use atl_state::{Campaign, Entry, Thing};
-use atl_tables::{MarkedNumbers, World, read_world};
+use atl_tables::MarkedNumbers;
 use atl_test_worlds::ISLE;
 use std::alloc::Global;
 use std::process::Abort;
@@ -20,28 +20,18 @@ const REMOVED: [&[u32]; 8] = [&[], &[3], &[1], &[1], &[1], &[], &[], &[]];
 /// Once all marks are gone, of what is gone too.
 const NONE: [&[u32]; 8] = [&[], &[], &[], &[], &[], &[], &[], &[]];
 
-fn are_marked(
-    rt: &impl Abort,
-    alloc: Global,
-    place: usize,
-    told: MarkedNumbers<'_>,
-    wanted: &[&[u32]; 8],
-) -> Result<(), Fail> {
-    let told: Vec<u32> = told.collect(alloc)?;
-    are_numbers(rt, place, told.as_slice(), wanted[place % 8]);
-    Ok(())
-}
-
-fn people_are_marked(
-    rt: &impl Abort,
-    alloc: Global,
-    campaign: &Campaign,
-    wanted: &[&[u32]; 8],
-) -> Result<(), Fail> {
-    are_marked(rt, alloc, 0, campaign.marked_factions(), wanted)?;
-    are_marked(rt, alloc, 2, campaign.marked_units(), wanted)?;
-    are_marked(rt, alloc, 3, campaign.marked_rows(), wanted)?;
-    are_marked(rt, alloc, 4, campaign.marked_goods(), wanted)
+/// What is marked, by its place.
+fn marked(campaign: &Campaign, place: usize) -> MarkedNumbers<'_> {
+    match place {
+        0 => campaign.marked_factions(),
+        1 => campaign.marked_regions(),
+        2 => campaign.marked_units(),
+        3 => campaign.marked_rows(),
+        4 => campaign.marked_goods(),
+        5 => campaign.marked_structures(),
+        6 => campaign.marked_mail(),
+        _ => campaign.marked_reports(),
+    }
 }
 
 fn all_are_marked(
@@ -50,11 +40,11 @@ fn all_are_marked(
     campaign: &Campaign,
     wanted: &[&[u32]; 8],
 ) -> Result<(), Fail> {
-    people_are_marked(rt, alloc, campaign, wanted)?;
-    are_marked(rt, alloc, 1, campaign.marked_regions(), wanted)?;
-    are_marked(rt, alloc, 5, campaign.marked_structures(), wanted)?;
-    are_marked(rt, alloc, 6, campaign.marked_mail(), wanted)?;
-    are_marked(rt, alloc, 7, campaign.marked_reports(), wanted)
+    for (place, numbers) in wanted.iter().enumerate() {
+        let told: Vec<u32> = marked(campaign, place).collect(alloc)?;
+        are_numbers(rt, place, told.as_slice(), numbers);
+    }
+    Ok(())
 }
 
 fn joining_is_marked(rt: &impl Abort, campaign: &Campaign) -> Result<(), Fail> {
@@ -90,18 +80,17 @@ fn goes(rt: &impl Abort, alloc: Global, campaign: &mut Campaign) -> Result<(), F
     all_are_marked(rt, alloc, campaign, &NONE)
 }
 
-fn shows_marks(rt: &impl Abort, alloc: Global, world: &World) -> Result<(), Fail> {
-    let mut campaign = joined_in(alloc, world)?;
-    joining_is_marked(rt, &campaign)?;
-    all_are_marked(rt, alloc, &campaign, &JOINED)?;
-    pays(&mut campaign);
-    nothing_is_booked(rt, &campaign)?;
-    all_are_marked(rt, alloc, &campaign, &PAID)?;
-    goes(rt, alloc, &mut campaign)
+fn shows_marks(rt: &impl Abort, alloc: Global, campaign: &mut Campaign) -> Result<(), Fail> {
+    joining_is_marked(rt, campaign)?;
+    all_are_marked(rt, alloc, campaign, &JOINED)?;
+    pays(campaign);
+    nothing_is_booked(rt, campaign)?;
+    all_are_marked(rt, alloc, campaign, &PAID)?;
+    goes(rt, alloc, campaign)
 }
 
 #[test]
 fn marks_are_shown(rt: HostRuntime) -> Result<(), Fail> {
-    let world = read_world(rt.alloc(), ISLE)?;
-    shows_marks(&rt, rt.alloc(), &world)
+    let mut campaign = joined_by(rt.alloc(), ISLE)?;
+    shows_marks(&rt, rt.alloc(), &mut campaign)
 }

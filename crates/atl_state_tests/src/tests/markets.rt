@@ -1,7 +1,8 @@
 //! Rows of markets: there and back, and rows of either format that break a rule.
+use super::by_hand::{accepted, add_books, add_head, add_regions, no_rows, rule_of};
 use super::compare::{are_amounts, is_amount, is_count, row_is};
-use atl_state::parts::{Parts, StoredBooks, StoredHead, StoredMarket, StoredRegion};
-use atl_state::{Campaign, CheckFault, check_as};
+use atl_state::parts::{Parts, StoredBooks, StoredMarket};
+use atl_state::{Campaign, check_as};
 use atl_tables::{Format, Sequence, World, read_world};
 use atl_test_worlds::MART;
 use std::alloc::Global;
@@ -84,90 +85,45 @@ const CASES: [(Rows, u64); 14] = [
     ),
 ];
 
-fn heads(alloc: Global, rows: &Rows) -> Result<Sequence<StoredHead>, Fail> {
-    let mut all = Sequence::new(alloc);
-    all.push(StoredHead {
-        id: 1,
-        format: rows.format,
-        month: 0,
-        next_faction: 1,
-        next_unit: 1,
-        next_structure: 1,
-        pass: Sequence::from_slice(alloc, b"gm")?,
-    })?;
-    Ok(all)
-}
-
-fn regions(alloc: Global, rows: &Rows) -> Result<Sequence<StoredRegion>, Fail> {
-    let mut all = Sequence::new(alloc);
-    all.push(StoredRegion {
-        number: 1,
-        peasants: 1000,
-        money: rows.money,
-    })?;
-    Ok(all)
-}
-
-fn markets(alloc: Global, rows: &Rows) -> Result<Sequence<StoredMarket>, Fail> {
-    let mut all = Sequence::new(alloc);
+fn add_markets(markets: &mut Sequence<StoredMarket>, rows: &Rows) -> Result<(), Fail> {
     for _ in 0..rows.times {
-        all.push(StoredMarket {
+        markets.push(StoredMarket {
             region: rows.region,
             item: rows.item,
             stock: rows.stock,
         })?;
     }
-    Ok(all)
+    Ok(())
 }
 
-fn booked(entry: i64, thing: i64, amount: i64) -> StoredBooks {
-    StoredBooks {
-        entry,
-        thing,
-        amount,
-    }
-}
-
-fn books(alloc: Global, rows: &Rows) -> Result<Sequence<StoredBooks>, Fail> {
-    let mut all = Sequence::new(alloc);
+/// What is booked beside the founding.
+fn add_trade(books: &mut Sequence<StoredBooks>, rows: &Rows) -> Result<(), Fail> {
     if rows.times != 0 {
-        all.push(booked(rows.stocked, 2, 20))?;
+        add_books(books, &[[rows.stocked, 2, 20]])?;
     }
     if rows.bought != 0 {
-        all.push(booked(14, 0, rows.bought))?;
+        add_books(books, &[[14, 0, rows.bought]])?;
     }
-    all.push(booked(1, 1, 1000))?;
-    all.push(booked(1, 0, 500))?;
-    Ok(all)
+    Ok(())
+}
+
+fn add_all(alloc: Global, parts: &mut Parts, rows: &Rows) -> Result<(), Fail> {
+    add_head(alloc, &mut parts.campaign, rows.format, (1, 1, 1), "gm")?;
+    add_regions(&mut parts.regions, &[[1, 1000, rows.money]])?;
+    add_markets(&mut parts.markets, rows)?;
+    add_trade(&mut parts.books, rows)?;
+    add_books(&mut parts.books, &[[1, 1, 1000], [1, 0, 500]])
 }
 
 fn parts(alloc: Global, rows: &Rows) -> Result<Parts, Fail> {
-    Ok(Parts {
-        campaign: heads(alloc, rows)?,
-        factions: Sequence::new(alloc),
-        regions: regions(alloc, rows)?,
-        units: Sequence::new(alloc),
-        has: Sequence::new(alloc),
-        structures: Sequence::new(alloc),
-        mail: Sequence::new(alloc),
-        reports: Sequence::new(alloc),
-        books: books(alloc, rows)?,
-        markets: markets(alloc, rows)?,
-    })
-}
-
-/// The number of the rule that is told, or 0. Want of memory is no rule.
-fn told(alloc: Global, world: &World, rows: Parts, format: Format) -> u64 {
-    match check_as(alloc, world, rows, format) {
-        Ok(_) => 0,
-        Err(CheckFault::Damaged(rule)) => u64::from(rule.number()),
-        Err(CheckFault::Memory) => 99,
-    }
+    let mut parts = no_rows(alloc);
+    add_all(alloc, &mut parts, rows)?;
+    Ok(parts)
 }
 
 fn tells(rt: &impl Abort, alloc: Global, world: &World) -> Result<(), Fail> {
     for (at, (rows, wanted)) in CASES.iter().enumerate() {
-        let told = told(alloc, world, parts(alloc, rows)?, rows.asked);
+        let told = rule_of(check_as(alloc, world, parts(alloc, rows)?, rows.asked));
         row_is(rt, at, told, *wanted);
     }
     Ok(())
@@ -180,10 +136,7 @@ fn the_first_broken_rule_is_told(rt: HostRuntime) -> Result<(), Fail> {
 }
 
 fn checked(alloc: Global, world: &World, rows: Parts) -> Result<Campaign, Fail> {
-    match check_as(alloc, world, rows, Format::Second) {
-        Ok(campaign) => Ok(campaign),
-        Err(_) => Err(Fail::new("the rows are those of a good campaign")),
-    }
+    accepted(check_as(alloc, world, rows, Format::Second))
 }
 
 fn shows_market(rt: &impl Abort, rows: &[StoredMarket]) -> Result<(), Fail> {

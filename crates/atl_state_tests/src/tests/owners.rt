@@ -1,8 +1,7 @@
 //! Where units are, and who owns the structures that they enter and leave, step by step.
 use super::compare::{are_numbers, row_is};
-use super::making::{BOAT, LODGE, founded_in, is_begun, man_comes};
+use super::making::{BOAT, LODGE, founded_by, is_begun, man_comes};
 use atl_state::Campaign;
-use atl_tables::{World, read_world};
 use atl_test_worlds::ISLE;
 use std::alloc::Global;
 use std::process::Abort;
@@ -190,16 +189,17 @@ fn come(alloc: Global, campaign: &mut Campaign) -> Result<(), Fail> {
     Ok(())
 }
 
-fn places(rt: &impl Abort, alloc: Global, world: &World) -> Result<(), Fail> {
-    let mut campaign = founded_in(alloc, world)?;
+/// The campaign once they have come.
+fn peopled(alloc: Global) -> Result<Campaign, Fail> {
+    let mut campaign = founded_by(alloc, ISLE)?;
     come(alloc, &mut campaign)?;
-    goes_all(rt, &mut campaign)
+    Ok(campaign)
 }
 
 #[test]
 fn placing_and_removing(rt: HostRuntime) -> Result<(), Fail> {
-    let world = read_world(rt.alloc(), ISLE)?;
-    places(&rt, rt.alloc(), &world)
+    let mut campaign = peopled(rt.alloc())?;
+    goes_all(&rt, &mut campaign)
 }
 
 /// Structure, who leaves it, and who owns it then, where unit 2 owns the boat with units 1 and 3 inside.
@@ -219,18 +219,12 @@ fn enter(campaign: &mut Campaign) -> Result<(), Fail> {
     Ok(())
 }
 
-fn tells_owners(rt: &impl Abort, alloc: Global, world: &World) -> Result<(), Fail> {
-    let mut campaign = founded_in(alloc, world)?;
-    come(alloc, &mut campaign)?;
-    enter(&mut campaign)?;
-    knows_owners(rt, &campaign);
-    Ok(())
-}
-
 #[test]
 fn owners_after_a_leaving(rt: HostRuntime) -> Result<(), Fail> {
-    let world = read_world(rt.alloc(), ISLE)?;
-    tells_owners(&rt, rt.alloc(), &world)
+    let mut campaign = peopled(rt.alloc())?;
+    enter(&mut campaign)?;
+    knows_owners(&rt, &campaign);
+    Ok(())
 }
 
 /// The boat goes to another region with the units inside: their owner stays.
@@ -251,17 +245,15 @@ fn has_sailed(rt: &impl Abort, campaign: &Campaign) {
     row_is(rt, 0, campaign.marks() as u64, 4);
 }
 
-fn sails(rt: &impl Abort, alloc: Global, world: &World) -> Result<(), Fail> {
-    let mut campaign = founded_in(alloc, world)?;
-    come(alloc, &mut campaign)?;
-    enter(&mut campaign)?;
-    sail(&mut campaign)?;
-    has_sailed(rt, &campaign);
+fn sails(rt: &impl Abort, campaign: &mut Campaign) -> Result<(), Fail> {
+    enter(campaign)?;
+    sail(campaign)?;
+    has_sailed(rt, campaign);
     Ok(())
 }
 
 #[test]
 fn going_inside_a_structure(rt: HostRuntime) -> Result<(), Fail> {
-    let world = read_world(rt.alloc(), ISLE)?;
-    sails(&rt, rt.alloc(), &world)
+    let mut campaign = peopled(rt.alloc())?;
+    sails(&rt, &mut campaign)
 }

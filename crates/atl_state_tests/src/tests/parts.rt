@@ -1,14 +1,14 @@
 //! The rows of a campaign, one by one.
 use super::compare::{are_amounts, is_bytes, is_count, is_text};
-use super::making::{LODGE, is_begun, joined_in};
+use super::making::{LODGE, is_begun, joined_by};
 use atl_state::Campaign;
 use atl_state::parts::{
-    Parts, StoredBooks, StoredFaction, StoredHas, StoredHead, StoredMail, StoredRegion,
-    StoredReport, StoredStructure, StoredUnit,
+    Parts, StoredFaction, StoredHead, StoredMail, StoredReport, StoredStructure, StoredUnit,
 };
-use atl_tables::{Sequence, Text, World, read_world};
+use atl_tables::{Sequence, Text};
 use atl_test_worlds::ISLE;
 use std::alloc::Global;
+use std::fmt::Debug;
 use std::process::Abort;
 use std::test::Fail;
 
@@ -28,18 +28,18 @@ fn writes(alloc: Global, campaign: &mut Campaign) -> Result<(), Fail> {
     Ok(())
 }
 
-/// Avalon has joined, and its unit owns a lodge.
-fn settled(alloc: Global, world: &World) -> Result<Campaign, Fail> {
-    let mut campaign = joined_in(alloc, world)?;
-    is_begun(alloc, &mut campaign, LODGE, 1)?;
-    equips(&mut campaign)?;
-    writes(alloc, &mut campaign)?;
-    Ok(campaign)
+/// The unit of Avalon owns a lodge.
+fn settles(alloc: Global, campaign: &mut Campaign) -> Result<Parts, Fail> {
+    is_begun(alloc, campaign, LODGE, 1)?;
+    equips(campaign)?;
+    writes(alloc, campaign)?;
+    Ok(campaign.parts()?)
 }
 
-fn rows(alloc: Global, world: &World) -> Result<Parts, Fail> {
-    let campaign = settled(alloc, world)?;
-    Ok(campaign.parts()?)
+/// The rows once Avalon has joined and settled.
+fn rows(alloc: Global) -> Result<Parts, Fail> {
+    let mut campaign = joined_by(alloc, ISLE)?;
+    settles(alloc, &mut campaign)
 }
 
 fn shows_head(rt: &impl Abort, rows: &[StoredHead]) -> Result<(), Fail> {
@@ -65,15 +65,22 @@ fn shows_factions(rt: &impl Abort, rows: &[StoredFaction]) -> Result<(), Fail> {
     Ok(())
 }
 
-/// Number, peasants and money of each region.
-const REGIONS: [[i64; 3]; 4] = [[1, 1000, 500], [2, 0, 0], [3, 200, 100], [4, 100, 50]];
-
-fn shows_regions(rt: &impl Abort, rows: &[StoredRegion]) {
-    is_count(rt, rows.len(), REGIONS.len());
-    for (row, wanted) in rows.iter().zip(REGIONS.iter()) {
-        are_amounts(rt, &[row.number, row.peasants, row.money], wanted);
-    }
+/// Asserts that rows are these, as they are printed.
+fn are_rows<T: Debug>(
+    rt: &impl Abort,
+    alloc: Global,
+    rows: &[T],
+    wanted: &str,
+) -> Result<(), Fail> {
+    let told = format!(in alloc; "{rows:?}")?;
+    is_text(rt, told.as_str(), wanted);
+    Ok(())
 }
+
+const REGIONS: &str = "[StoredRegion { number: 1, peasants: 1000, money: 500 }, \
+    StoredRegion { number: 2, peasants: 0, money: 0 }, \
+    StoredRegion { number: 3, peasants: 200, money: 100 }, \
+    StoredRegion { number: 4, peasants: 100, money: 50 }]";
 
 fn shows_units(rt: &impl Abort, rows: &[StoredUnit]) -> Result<(), Fail> {
     is_count(rt, rows.len(), 1);
@@ -88,15 +95,9 @@ fn shows_units(rt: &impl Abort, rows: &[StoredUnit]) -> Result<(), Fail> {
     Ok(())
 }
 
-/// Unit, sort, thing and amount: 12 wood, and 60 days of sailing.
-const HAS: [[i64; 4]; 2] = [[1, 0, 0, 12], [1, 1, 3, 60]];
-
-fn shows_has(rt: &impl Abort, rows: &[StoredHas]) {
-    is_count(rt, rows.len(), HAS.len());
-    for (row, wanted) in rows.iter().zip(HAS.iter()) {
-        are_amounts(rt, &[row.unit, row.sort, row.thing, row.amount], wanted);
-    }
-}
+/// 12 wood, and 60 days of sailing.
+const HAS: &str = "[StoredHas { unit: 1, sort: 0, thing: 0, amount: 12 }, \
+    StoredHas { unit: 1, sort: 1, thing: 3, amount: 60 }]";
 
 fn shows_structures(rt: &impl Abort, rows: &[StoredStructure]) -> Result<(), Fail> {
     is_count(rt, rows.len(), 1);
@@ -123,42 +124,35 @@ fn shows_reports(rt: &impl Abort, rows: &[StoredReport]) -> Result<(), Fail> {
     Ok(())
 }
 
-/// Entry, thing and amount: what the regions held at founding, and what joining brought.
-const BOOKS: [[i64; 3]; 4] = [[1, 0, 650], [1, 1, 1300], [2, 0, 1000], [2, 1, 1]];
-
-fn shows_books(rt: &impl Abort, rows: &[StoredBooks]) {
-    is_count(rt, rows.len(), BOOKS.len());
-    for (row, wanted) in rows.iter().zip(BOOKS.iter()) {
-        are_amounts(rt, &[row.entry, row.thing, row.amount], wanted);
-    }
-}
+/// What the regions held at founding, and what joining brought.
+const BOOKS: &str = "[StoredBooks { entry: 1, thing: 0, amount: 650 }, \
+    StoredBooks { entry: 1, thing: 1, amount: 1300 }, \
+    StoredBooks { entry: 2, thing: 0, amount: 1000 }, \
+    StoredBooks { entry: 2, thing: 1, amount: 1 }]";
 
 fn shows_people(rt: &impl Abort, parts: &Parts) -> Result<(), Fail> {
     shows_head(rt, parts.campaign.as_slice())?;
     shows_factions(rt, parts.factions.as_slice())?;
     shows_units(rt, parts.units.as_slice())?;
-    shows_has(rt, parts.has.as_slice());
-    Ok(())
+    shows_structures(rt, parts.structures.as_slice())
 }
 
-fn shows_places(rt: &impl Abort, parts: &Parts) -> Result<(), Fail> {
-    shows_regions(rt, parts.regions.as_slice());
-    shows_structures(rt, parts.structures.as_slice())?;
+fn shows_texts(rt: &impl Abort, parts: &Parts) -> Result<(), Fail> {
     shows_mail(rt, parts.mail.as_slice())?;
-    shows_reports(rt, parts.reports.as_slice())?;
-    shows_books(rt, parts.books.as_slice());
-    is_count(rt, parts.markets.as_slice().len(), 0);
-    Ok(())
+    shows_reports(rt, parts.reports.as_slice())
 }
 
-fn shows_all(rt: &impl Abort, alloc: Global, world: &World) -> Result<(), Fail> {
-    let parts = rows(alloc, world)?;
-    shows_people(rt, &parts)?;
-    shows_places(rt, &parts)
+fn shows_amounts(rt: &impl Abort, alloc: Global, parts: &Parts) -> Result<(), Fail> {
+    are_rows(rt, alloc, parts.regions.as_slice(), REGIONS)?;
+    are_rows(rt, alloc, parts.has.as_slice(), HAS)?;
+    are_rows(rt, alloc, parts.books.as_slice(), BOOKS)?;
+    are_rows(rt, alloc, parts.markets.as_slice(), "[]")
 }
 
 #[test]
 fn rows_of_a_campaign(rt: HostRuntime) -> Result<(), Fail> {
-    let world = read_world(rt.alloc(), ISLE)?;
-    shows_all(&rt, rt.alloc(), &world)
+    let parts = rows(rt.alloc())?;
+    shows_people(&rt, &parts)?;
+    shows_texts(&rt, &parts)?;
+    shows_amounts(&rt, rt.alloc(), &parts)
 }

@@ -1,8 +1,8 @@
 //! The calls that set one entry of a campaign, each on its own: what it sets, and that it marks one thing.
 use super::compare::{is_amount, is_bytes, is_count, is_so, is_text};
-use super::making::{FAR, LODGE, is_begun, joined_in};
+use super::making::{FAR, LODGE, is_begun, joined_by};
 use atl_state::{Campaign, Faction, Region, Structure, Unit};
-use atl_tables::{Sequence, Text, World, read_world};
+use atl_tables::{Sequence, Text};
 use atl_test_worlds::ISLE;
 use std::alloc::Global;
 use std::process::Abort;
@@ -231,25 +231,24 @@ fn sets_of_structures(rt: &impl Abort, alloc: Global, campaign: &mut Campaign) -
     sets_owner(rt, campaign)
 }
 
-/// A campaign that Avalon has joined, with a lodge, and nothing marked.
-fn begun(alloc: Global, world: &World) -> Result<Campaign, Fail> {
-    let mut campaign = joined_in(alloc, world)?;
-    is_begun(alloc, &mut campaign, LODGE, 0)?;
+/// A lodge is begun, and nothing is marked.
+fn begins(alloc: Global, campaign: &mut Campaign) -> Result<(), Fail> {
+    is_begun(alloc, campaign, LODGE, 0)?;
     campaign.unmark();
-    Ok(campaign)
+    Ok(())
 }
 
-fn sets_all(rt: &impl Abort, alloc: Global, world: &World) -> Result<(), Fail> {
-    let mut campaign = begun(alloc, world)?;
-    sets_of_factions(rt, alloc, &mut campaign)?;
-    sets_of_regions(rt, &mut campaign)?;
-    sets_of_units(rt, alloc, &mut campaign)?;
-    sets_of_structures(rt, alloc, &mut campaign)?;
-    sets_nobody(rt, alloc, &mut campaign)
+fn sets_all(rt: &impl Abort, alloc: Global, campaign: &mut Campaign) -> Result<(), Fail> {
+    begins(alloc, campaign)?;
+    sets_of_factions(rt, alloc, campaign)?;
+    sets_of_regions(rt, campaign)?;
+    sets_of_units(rt, alloc, campaign)?;
+    sets_of_structures(rt, alloc, campaign)?;
+    sets_nobody(rt, alloc, campaign)
 }
 
 #[test]
 fn setting_entries(rt: HostRuntime) -> Result<(), Fail> {
-    let world = read_world(rt.alloc(), ISLE)?;
-    sets_all(&rt, rt.alloc(), &world)
+    let mut campaign = joined_by(rt.alloc(), ISLE)?;
+    sets_all(&rt, rt.alloc(), &mut campaign)
 }

@@ -1,8 +1,7 @@
 //! The stocks of a region's market.
 use super::compare::{are_numbers, is_amount, is_count, is_so};
-use super::making::joined_in;
+use super::making::joined_by;
 use atl_state::{Campaign, Thing};
-use atl_tables::{World, read_world};
 use atl_test_worlds::MART;
 use std::alloc::Global;
 use std::process::Abort;
@@ -84,15 +83,14 @@ fn sets_stock_nowhere(rt: &impl Abort, alloc: Global, campaign: &mut Campaign) -
     stock_is(rt, alloc, campaign, 0, 0, &[])
 }
 
-fn shows_stocks(rt: &impl Abort, alloc: Global, world: &World) -> Result<(), Fail> {
-    let mut campaign = joined_in(alloc, world)?;
-    counts_stocks(rt, &mut campaign)?;
-    sets_stock(rt, alloc, &mut campaign)?;
-    sets_stock_nowhere(rt, alloc, &mut campaign)
+fn shows_stocks(rt: &impl Abort, alloc: Global, campaign: &mut Campaign) -> Result<(), Fail> {
+    counts_stocks(rt, campaign)?;
+    sets_stock(rt, alloc, campaign)?;
+    sets_stock_nowhere(rt, alloc, campaign)
 }
 
 #[test]
 fn stocks_are_counted(rt: HostRuntime) -> Result<(), Fail> {
-    let world = read_world(rt.alloc(), MART)?;
-    shows_stocks(&rt, rt.alloc(), &world)
+    let mut campaign = joined_by(rt.alloc(), MART)?;
+    shows_stocks(&rt, rt.alloc(), &mut campaign)
 }

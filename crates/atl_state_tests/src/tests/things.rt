@@ -1,8 +1,8 @@
 //! Single goods of units, that are set and marked one by one.
 use super::compare::{are_numbers, is_amount, is_count};
-use super::making::joined_in;
+use super::making::joined_by;
 use atl_state::Campaign;
-use atl_tables::{Entries, MarkedNumbers, Numbered, World, read_world};
+use atl_tables::{Entries, MarkedNumbers, Numbered};
 use atl_test_worlds::ISLE;
 use std::alloc::{AllocError, Global};
 use std::process::Abort;
@@ -165,18 +165,17 @@ fn nobody_gets(rt: &impl Abort, alloc: Global, campaign: &mut Campaign) -> Resul
     is_marked(rt, alloc, campaign, &NOTHING)
 }
 
-fn has_single_things(rt: &impl Abort, alloc: Global, world: &World) -> Result<(), Fail> {
-    let mut campaign = joined_in(alloc, world)?;
-    learns(rt, alloc, &mut campaign)?;
-    gets(rt, alloc, &mut campaign)?;
-    gives_away(rt, alloc, &mut campaign)?;
-    nobody_gets(rt, alloc, &mut campaign)
+fn has_single_things(rt: &impl Abort, alloc: Global, campaign: &mut Campaign) -> Result<(), Fail> {
+    learns(rt, alloc, campaign)?;
+    gets(rt, alloc, campaign)?;
+    gives_away(rt, alloc, campaign)?;
+    nobody_gets(rt, alloc, campaign)
 }
 
 #[test]
 fn things_are_marked_one_by_one(rt: HostRuntime) -> Result<(), Fail> {
-    let world = read_world(rt.alloc(), ISLE)?;
-    has_single_things(&rt, rt.alloc(), &world)
+    let mut campaign = joined_by(rt.alloc(), ISLE)?;
+    has_single_things(&rt, rt.alloc(), &mut campaign)
 }
 
 fn sets_two(campaign: &mut Campaign) -> Result<(), Fail> {
@@ -187,22 +186,21 @@ fn sets_two(campaign: &mut Campaign) -> Result<(), Fail> {
 }
 
 /// A unit that is lent, and one that goes, is marked whole beside what was marked of it.
-fn is_whole(rt: &impl Abort, alloc: Global, world: &World) -> Result<(), Fail> {
-    let mut campaign = joined_in(alloc, world)?;
-    sets_two(&mut campaign)?;
+fn is_whole(rt: &impl Abort, alloc: Global, campaign: &mut Campaign) -> Result<(), Fail> {
+    sets_two(campaign)?;
     if campaign.unit_mut(UNIT).is_none() {
         return Err(Fail::new("a unit"));
     }
-    is_marked(rt, alloc, &campaign, &WHOLE)?;
-    sets_two(&mut campaign)?;
+    is_marked(rt, alloc, campaign, &WHOLE)?;
+    sets_two(campaign)?;
     campaign.remove_unit(UNIT);
-    is_marked(rt, alloc, &campaign, &WHOLE)?;
+    is_marked(rt, alloc, campaign, &WHOLE)?;
     campaign.unmark();
-    is_marked(rt, alloc, &campaign, &NOTHING)
+    is_marked(rt, alloc, campaign, &NOTHING)
 }
 
 #[test]
 fn units_are_marked_whole(rt: HostRuntime) -> Result<(), Fail> {
-    let world = read_world(rt.alloc(), ISLE)?;
-    is_whole(&rt, rt.alloc(), &world)
+    let mut campaign = joined_by(rt.alloc(), ISLE)?;
+    is_whole(&rt, rt.alloc(), &mut campaign)
 }

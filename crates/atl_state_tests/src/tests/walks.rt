@@ -1,9 +1,8 @@
 //! Walks over all factions, regions, units and structures of a campaign, and its totals.
 use super::compare::{is_amount, is_count, is_number, is_text, row_is};
-use super::making::{FAR, LODGE, is_begun, joined_in};
+use super::making::{FAR, LODGE, is_begun, joined_by};
 use atl_state::{Campaign, MOST_UNITS, Thing};
 use atl_tables::limits::MOST_REGIONS;
-use atl_tables::{World, read_world};
 use atl_test_worlds::ISLE;
 use std::alloc::Global;
 use std::process::Abort;
@@ -74,34 +73,28 @@ fn gets_wood(campaign: &mut Campaign) -> Result<(), Fail> {
 }
 
 /// A campaign that Avalon has joined, with a lodge, and 12 wood.
-fn made(alloc: Global, world: &World) -> Result<Campaign, Fail> {
-    let mut campaign = joined_in(alloc, world)?;
+fn made(alloc: Global) -> Result<Campaign, Fail> {
+    let mut campaign = joined_by(alloc, ISLE)?;
     is_begun(alloc, &mut campaign, LODGE, 0)?;
     gets_wood(&mut campaign)?;
     Ok(campaign)
 }
 
-fn walks(rt: &impl Abort, alloc: Global, world: &World) -> Result<(), Fail> {
-    let campaign = made(alloc, world)?;
-    walks_factions(rt, &campaign)?;
-    walks_regions(rt, &campaign)?;
-    walks_units(rt, &campaign)?;
-    walks_structures(rt, &campaign)
+fn walks(rt: &impl Abort, campaign: &Campaign) -> Result<(), Fail> {
+    walks_factions(rt, campaign)?;
+    walks_regions(rt, campaign)?;
+    walks_units(rt, campaign)?;
+    walks_structures(rt, campaign)
 }
 
 #[test]
 fn walking_over_a_campaign(rt: HostRuntime) -> Result<(), Fail> {
-    let world = read_world(rt.alloc(), ISLE)?;
-    walks(&rt, rt.alloc(), &world)
-}
-
-fn totals(rt: &impl Abort, alloc: Global, world: &World) -> Result<(), Fail> {
-    let campaign = made(alloc, world)?;
-    has_totals(rt, &campaign)
+    let campaign = made(rt.alloc())?;
+    walks(&rt, &campaign)
 }
 
 #[test]
 fn totals_of_a_campaign(rt: HostRuntime) -> Result<(), Fail> {
-    let world = read_world(rt.alloc(), ISLE)?;
-    totals(&rt, rt.alloc(), &world)
+    let campaign = made(rt.alloc())?;
+    has_totals(&rt, &campaign)
 }
