@@ -1,14 +1,15 @@
 //! The cases of a file, one after the other.
 use crate::changes::tell_changes;
+use crate::failed::Failed;
 use crate::months::read_all;
 use crate::runs::{Run, played};
 use crate::script::{Case, take_case, take_setting};
 use crate::settings::{Setting, campaign_of};
-use anyhow::{Context, Result, bail};
-use atl_state::{Event, Outcome};
+use atl_state::{Campaign, Event, Outcome};
 use atl_tables::{World, let_go, read_world};
 use std::alloc::{AllocError, Global};
 use std::fs;
+use std::str::Lines;
 
 /// Tells what came of an order.
 fn tell_event(alloc: Global, event: &Event, told: &mut String) -> Result<(), AllocError> {
@@ -25,6 +26,22 @@ fn tell_event(alloc: Global, event: &Event, told: &mut String) -> Result<(), All
     told.push_str(line.as_str())
 }
 
+/// What has changed from one campaign to another, and what came of orders.
+fn told_between(
+    alloc: Global,
+    world: &World,
+    before: &Campaign,
+    after: &Campaign,
+    events: &[Event],
+) -> Result<String, AllocError> {
+    let mut told = String::new(alloc);
+    tell_changes(alloc, world, before, after, &mut told)?;
+    for event in events {
+        tell_event(alloc, event, &mut told)?;
+    }
+    Ok(told)
+}
+
 /// What comes of a case: what changes, and what is told of its orders.
 fn told_of(
     alloc: Global,
@@ -32,16 +49,11 @@ fn told_of(
     setting: &Setting,
     run: Run,
     case: &Case,
-) -> Result<String> {
+) -> Result<String, Failed> {
     let before = campaign_of(alloc, world, setting)?;
     let mailings = read_all(alloc, world, &case.mailings)?;
     let (after, events) = played(alloc, world, run, setting, mailings, &case.words)?;
-    let mut told = String::new(alloc);
-    tell_changes(alloc, world, &before, &after, &mut told)?;
-    for event in events.iter() {
-        tell_event(alloc, event, &mut told)?;
-    }
-    Ok(told)
+    Ok(told_between(alloc, world, &before, &after, &events)?)
 }
 
 /// A file of cases as far as it was read: the campaign and the phases of the cases to come, how many were played, and what is told of
@@ -73,12 +85,9 @@ impl Player {
         }
     }
 
-    /// Plays the case that was read last, if there is one.
-    fn finish(&mut self, alloc: Global) -> Result<()> {
-        let Some(case) = self.case.take() else {
-            return Ok(());
-        };
-        let told = told_of(alloc, &self.world, &self.setting, self.run, &case)?;
+    /// Plays a case.
+    fn play(&mut self, alloc: Global, case: &Case) -> Result<(), Failed> {
+        let told = told_of(alloc, &self.world, &self.setting, self.run, case)?;
         self.played = self.played.wrapping_add(1);
         if told.as_str() != case.wanted.as_str() {
             let lines = format!(in alloc; "{}:\n{}", case.title.as_str(), told.as_str())?;
@@ -87,72 +96,120 @@ impl Player {
         Ok(())
     }
 
-    /// Adds a line to the campaign of the cases to come, so many times.
-    fn set(&mut self, count: u32, line: &str) -> Result<()> {
-        let (word, rest) = line.split_once(' ').context("no words")?;
-        for _ in 0..count {
-            if !take_setting(&self.world, &mut self.setting, word, rest)? {
-                bail!("what is {word}?");
-            }
+    /// Plays the case that was read last, if there is one.
+    fn finish(&mut self, alloc: Global) -> Result<(), Failed> {
+        match self.case.take() {
+            Some(case) => self.play(alloc, &case),
+            None => Ok(()),
         }
-        Ok(())
+    }
+
+    /// Adds a line to the campaign of the cases to come, so many times.
+    fn set(&mut self, count: u32, line: &str) -> Option<()> {
+        let (word, rest) = line.split_once(' ')?;
+        for _ in 0..count {
+            take_setting(&self.world, &mut self.setting, word, rest)?;
+        }
+        Some(())
+    }
+
+    /// Adds a line to the campaign of the cases to come, as many times as the line says.
+    fn set_times(&mut self, text: &str) -> Option<()> {
+        let (count, line) = text.split_once(' ')?;
+        self.set(count.parse::<u32>().ok()?, line)
     }
 
     /// Adds a line to the case, or to the campaign where no case has begun.
-    fn take(&mut self, alloc: Global, line: &str) -> Result<()> {
+    fn take(&mut self, alloc: Global, line: &str) -> Option<()> {
         let (word, rest) = line.split_once(' ').unwrap_or((line, ""));
         match &mut self.case {
             Some(case) => take_case(alloc, case, word, rest),
-            None if word == "times" => {
-                let (count, line) = rest.split_once(' ').context("no words")?;
-                self.set(count.parse::<u32>().context("no number")?, line)
-            }
+            None if word == "times" => self.set_times(rest),
             None => self.set(1, line),
         }
     }
 
-    /// Reads a line.
-    fn read(&mut self, alloc: Global, line: &str) -> Result<()> {
-        if line.is_empty() || line.starts_with("--") {
-            return Ok(());
-        }
-        if line == "campaign" {
-            self.finish(alloc)?;
-            self.setting = Setting::new(alloc);
-        } else if let Some(name) = line.strip_prefix("run ") {
-            self.finish(alloc)?;
-            self.run = Run::of_name(name).context("no phases")?;
-        } else if let Some(title) = line.strip_prefix("case ") {
-            self.finish(alloc)?;
-            self.case = Some(Case::new(alloc, title)?);
-        } else {
-            self.take(alloc, line)?;
-        }
+    /// Begins another campaign.
+    fn begin_campaign(&mut self, alloc: Global) -> Result<(), Failed> {
+        self.finish(alloc)?;
+        self.setting = Setting::new(alloc);
         Ok(())
     }
+
+    /// The cases to come play the phases of a name.
+    fn begin_run(&mut self, alloc: Global, name: &str) -> Result<(), Failed> {
+        self.finish(alloc)?;
+        self.run = Run::of_name(name).ok_or(Failed("no phases"))?;
+        Ok(())
+    }
+
+    fn begin_case(&mut self, alloc: Global, title: &str) -> Result<(), Failed> {
+        self.finish(alloc)?;
+        self.case = Some(Case::new(alloc, title)?);
+        Ok(())
+    }
+
+    /// Reads a line.
+    fn read(&mut self, alloc: Global, line: &str) -> Result<(), Failed> {
+        if line.is_empty() || line.starts_with("--") {
+            Ok(())
+        } else if line == "campaign" {
+            self.begin_campaign(alloc)
+        } else if let Some(name) = line.strip_prefix("run ") {
+            self.begin_run(alloc, name)
+        } else if let Some(title) = line.strip_prefix("case ") {
+            self.begin_case(alloc, title)
+        } else {
+            self.take(alloc, line).ok_or(Failed("what is that?"))
+        }
+    }
+
+    /// Tells that a line cannot be read or its case not be played.
+    fn tell_failed(
+        &mut self,
+        alloc: Global,
+        place: usize,
+        failed: Failed,
+    ) -> Result<(), AllocError> {
+        let line = format!(in alloc; "{place} lines behind the first: {}\n", failed.0)?;
+        self.told.push_str(line.as_str())
+    }
+
+    /// Reads the lines of a file behind the first, and plays their cases.
+    fn read_all(&mut self, alloc: Global, lines: Lines<'_>) -> Result<(), Failed> {
+        for (place, line) in lines.enumerate() {
+            if let Err(failed) = self.read(alloc, line) {
+                self.tell_failed(alloc, place, failed)?;
+            }
+        }
+        self.finish(alloc)
+    }
 }
 
-fn world_at(rt: &HostRuntime, path: &str) -> Result<World> {
-    let text = fs::read_to_string(rt, path)?;
+fn text_at(rt: &HostRuntime, path: &str) -> Result<String, Failed> {
+    match fs::read_to_string(rt, path) {
+        Ok(text) => Ok(text),
+        Err(_) => Err(Failed("a file cannot be read")),
+    }
+}
+
+fn world_at(rt: &HostRuntime, path: &str) -> Result<World, Failed> {
+    let text = text_at(rt, path)?;
     match read_world(rt.alloc(), text.as_str()) {
         Ok(world) => Ok(world),
-        Err(_) => bail!("{path} is no world"),
+        Err(_) => Err(Failed("a file is no world")),
     }
 }
 
-/// Plays the cases of a file, and tells how many there are and which of them come to something else than is written there. The first line
-/// names the file of their world.
-pub(crate) fn told_of_file(rt: &HostRuntime, path: &str) -> Result<String> {
+/// Plays the cases of a file, and tells how many there are, which of them come to something else than is written there, and which lines
+/// cannot be read or played. The first line names the file of their world.
+pub(crate) fn told_of_file(rt: &HostRuntime, path: &str) -> Result<String, Failed> {
     let alloc = rt.alloc();
-    let text = fs::read_to_string(rt, path)?;
+    let text = text_at(rt, path)?;
     let mut lines = text.lines();
     let first = lines.next().and_then(|line| line.strip_prefix("world "));
-    let mut player = Player::new(alloc, world_at(rt, first.context("no world")?)?);
-    for (place, line) in lines.enumerate() {
-        player
-            .read(alloc, line)
-            .context(format_args!("{path}, {place} lines behind the first"))?;
-    }
-    player.finish(alloc)?;
+    let world = world_at(rt, first.ok_or(Failed("no world"))?)?;
+    let mut player = Player::new(alloc, world);
+    player.read_all(alloc, lines)?;
     Ok(format!(in alloc; "{}{path}: {} cases\n", player.told.as_str(), player.played)?)
 }

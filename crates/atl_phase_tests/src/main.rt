@@ -5,24 +5,27 @@
 mod bookings;
 mod cases;
 mod changes;
+mod failed;
 mod lines;
 mod months;
 mod runs;
 mod script;
 mod settings;
 
-use anyhow::Result;
-use std::env;
+use crate::failed::Failed;
+use std::{env, io};
 
-fn run(rt: &HostRuntime) -> Result<()> {
+fn run(rt: &HostRuntime) -> io::Result<()> {
     let words: Vec<String> = env::args(rt)?.collect(rt.alloc())?;
     for path in words.iter().skip(1) {
-        let told = cases::told_of_file(rt, path.as_str())?;
-        rt.print(told)?;
+        match cases::told_of_file(rt, path.as_str()) {
+            Ok(told) => rt.print(told)?,
+            Err(Failed(why)) => println!(rt; "{}: {why}", path.as_str())?,
+        }
     }
     Ok(())
 }
 
-fn main(rt: HostRuntime) -> Result<()> {
+fn main(rt: HostRuntime) -> io::Result<()> {
     run(&rt)
 }

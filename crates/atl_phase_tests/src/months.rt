@@ -4,21 +4,21 @@ ghost use Rattle.atl_orders.specs.Mailing.{IsReadWith};
 ghost use Rattle.atl_instant.specs.Month.{HaveOwnFactions};
 ghost use Rattle.atl_instant.specs.Fit.{AreFit};
 
-use anyhow::{Result, bail};
+use crate::failed::Failed;
 use atl_instant::Month;
 use atl_orders::{Mailing, read_mailing};
 use atl_state::are_distinct;
 use atl_tables::World;
 use std::alloc::{AllocError, Global};
 
-fn mailings_of(alloc: Global, world: &World, texts: &[String]) -> Result<Vec<Mailing>>
+fn mailings_of(alloc: Global, world: &World, texts: &[String]) -> Result<Vec<Mailing>, Failed>
     ensures { IfOk result (λ mailings. All (IsReadWith world.now) mailings.items) }
 {
     let mut mailings = Vec::new(alloc);
     for text in texts {
         match read_mailing(alloc, world, text.as_bytes()) {
             Ok(mailing) => mailings.push(mailing)?,
-            Err(_) => bail!("a text is no mailing"),
+            Err(_) => return Err(Failed("a text is no mailing")),
         }
     }
     Ok(mailings)
@@ -35,14 +35,18 @@ fn factions_of(alloc: Global, mailings: &[Mailing]) -> Result<Vec<u32>, AllocErr
 }
 
 /// The mailings of these texts, no two of one faction.
-pub(crate) fn read_all(alloc: Global, world: &World, texts: &[String]) -> Result<Vec<Mailing>>
+pub(crate) fn read_all(
+    alloc: Global,
+    world: &World,
+    texts: &[String],
+) -> Result<Vec<Mailing>, Failed>
     ensures read { IfOk result (λ mailings. All (IsReadWith world.now) mailings.items) }
     ensures own { IfOk result (λ mailings. HaveOwnFactions mailings.items) }
 {
     let mailings = mailings_of(alloc, world, texts)?;
     let factions = factions_of(alloc, &mailings)?;
     if !are_distinct(alloc, &factions)? {
-        bail!("two mailings are of one faction");
+        return Err(Failed("two mailings are of one faction"));
     }
     Ok(mailings)
 }

@@ -6,9 +6,9 @@ ghost use Rattle.atl_instant.specs.Month.{HaveOwnFactions};
 ghost use Rattle.atl_instant.specs.Fit.{AreFit};
 ghost use Rattle.atl_phase_tests.specs.Roomy.{IsRoomy};
 
+use crate::failed::Failed;
 use crate::months::month_of;
 use crate::settings::{Setting, campaign_of, good_campaign};
-use anyhow::{Result, bail};
 use atl_instant::{Month, Phase};
 use atl_market::WorkPhase;
 use atl_month::{OrderPhases, SeasonPhase, SweepPhase, UpkeepPhase, close_month};
@@ -32,19 +32,21 @@ pub(crate) enum Run {
     Month,
 }
 
+/// All of them, by their names.
+const RUNS: [(&str, Run); 7] = [
+    ("orders", Run::Orders),
+    ("work", Run::Work),
+    ("upkeep", Run::Upkeep),
+    ("season", Run::Season),
+    ("seasons", Run::Seasons),
+    ("sweep", Run::Sweep),
+    ("month", Run::Month),
+];
+
 impl Run {
     /// The phases of a name.
     pub fn of_name(name: &str) -> Option<Run> {
-        let runs = [
-            ("orders", Run::Orders),
-            ("work", Run::Work),
-            ("upkeep", Run::Upkeep),
-            ("season", Run::Season),
-            ("seasons", Run::Seasons),
-            ("sweep", Run::Sweep),
-            ("month", Run::Month),
-        ];
-        for (listed, run) in runs.iter() {
+        for (listed, run) in RUNS.iter() {
             if name == *listed {
                 return Some(*run);
             }
@@ -161,16 +163,13 @@ fn close(
     setting: &Setting,
     mailings: Vec<Mailing>,
     words: &[u32],
-) -> Result<(Campaign, Vec<Event>)>
+) -> Result<(Campaign, Vec<Event>), Failed>
     requires read { All (IsReadWith world.now) mailings.items }
     requires own { HaveOwnFactions mailings.items }
 {
     let campaign = good_campaign(alloc, world, setting)?;
-    if campaign.month() >= LAST_MONTH {
-        bail!("no month comes behind the last");
-    }
-    if words.len() != world.regions().len() {
-        bail!("a month has a word for each region");
+    if campaign.month() >= LAST_MONTH || words.len() != world.regions().len() {
+        return Err(Failed("a month comes before the last, and has a word for each region"));
     }
     Ok(close_month(alloc, world, campaign, mailings, words)?)
 }
@@ -183,7 +182,7 @@ pub(crate) fn played(
     setting: &Setting,
     mailings: Vec<Mailing>,
     words: &[u32],
-) -> Result<(Campaign, Vec<Event>)>
+) -> Result<(Campaign, Vec<Event>), Failed>
     requires read { All (IsReadWith world.now) mailings.items }
     requires own { HaveOwnFactions mailings.items }
 {

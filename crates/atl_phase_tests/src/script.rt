@@ -1,7 +1,5 @@
 //! What a line of a file of cases says.
-use crate::runs::Run;
 use crate::settings::{Built, Had, Setting, Stocked, Stood};
-use anyhow::{Context, Result, bail};
 use atl_tables::{World, let_go};
 use std::alloc::{AllocError, Global};
 
@@ -116,49 +114,63 @@ fn stocked(world: &World, text: &str) -> Option<Stocked> {
     })
 }
 
-/// Adds what a line says to a setting; false where it says nothing of one.
+/// Adds a unit to a setting.
+fn add_unit(setting: &mut Setting, text: &str) -> Option<()> {
+    setting.units.push(unit(text)?).ok()
+}
+
+fn add_goods(world: &World, setting: &mut Setting, text: &str) -> Option<()> {
+    setting.has.push(had(world, text)?).ok()
+}
+
+fn add_stock(world: &World, setting: &mut Setting, text: &str) -> Option<()> {
+    setting.stocks.push(stocked(world, text)?).ok()
+}
+
+fn add_structure(world: &World, setting: &mut Setting, text: &str) -> Option<()> {
+    setting.structures.push(structure(world, text)?).ok()
+}
+
+fn add_menless(setting: &mut Setting, text: &str) -> Option<()> {
+    setting.menless.push(text.parse::<u32>().ok()?).ok()
+}
+
+/// Adds what a line says to a setting. None where it says nothing of one, or memory is short.
 pub(crate) fn take_setting(
     world: &World,
     setting: &mut Setting,
     word: &str,
     rest: &str,
-) -> Result<bool> {
+) -> Option<()> {
     if word == "unit" {
-        setting.units.push(unit(rest).context("no unit")?)?;
+        add_unit(setting, rest)
     } else if word == "has" {
-        setting.has.push(had(world, rest).context("no goods")?)?;
+        add_goods(world, setting, rest)
     } else if word == "stock" {
-        setting
-            .stocks
-            .push(stocked(world, rest).context("no stock")?)?;
+        add_stock(world, setting, rest)
     } else if word == "structure" {
-        setting
-            .structures
-            .push(structure(world, rest).context("no structure")?)?;
+        add_structure(world, setting, rest)
     } else if word == "menless" {
-        setting
-            .menless
-            .push(rest.parse::<u32>().context("no number")?)?;
+        add_menless(setting, rest)
     } else if word == "next_unit" {
-        setting.next_unit = rest.parse::<i64>().context("no number")?;
+        setting.next_unit = rest.parse::<i64>().ok()?;
+        Some(())
     } else {
-        return Ok(false);
+        None
     }
-    Ok(true)
 }
 
-/// Adds what a line says to a case.
-pub(crate) fn take_case(alloc: Global, case: &mut Case, word: &str, rest: &str) -> Result<()> {
+/// Adds what a line says to a case. None where it says nothing of one, or memory is short.
+pub(crate) fn take_case(alloc: Global, case: &mut Case, word: &str, rest: &str) -> Option<()> {
     if word == "mail" {
-        case.mailings.push(String::new(alloc))?;
+        case.mailings.push(String::new(alloc)).ok()
     } else if word == ">" {
-        case.add_mail(rest)?;
+        case.add_mail(rest).ok()
     } else if word == "=" {
-        case.add_wanted(rest)?;
+        case.add_wanted(rest).ok()
     } else if word == "word" {
-        case.words.push(rest.parse::<u32>().context("no number")?)?;
+        case.words.push(rest.parse::<u32>().ok()?).ok()
     } else {
-        bail!("what is {word}?");
+        None
     }
-    Ok(())
 }

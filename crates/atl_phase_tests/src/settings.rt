@@ -3,7 +3,7 @@ ghost use Rattle.std.specs.Prelude.{◌≡◌, IfOk};
 ghost use Rattle.atl_state.specs.Good.{IsEarly, IsGood};
 ghost use Rattle.atl_phase_tests.specs.Roomy.{IsRoomy};
 
-use anyhow::{Result, bail};
+use crate::failed::Failed;
 use atl_state::parts::{
     Parts, StoredBooks, StoredFaction, StoredHas, StoredHead, StoredMarket, StoredReport,
     StoredStructure, StoredUnit,
@@ -293,8 +293,13 @@ fn book_all(
     Ok(())
 }
 
-fn rows_of(alloc: Global, world: &World, setting: &Setting) -> Result<Parts, AllocError> {
-    let mut parts = founded(alloc, world, b"gm")?.parts()?;
+/// Puts a setting into the rows of a campaign that was just founded.
+fn fill(
+    alloc: Global,
+    world: &World,
+    setting: &Setting,
+    parts: &mut Parts,
+) -> Result<(), AllocError> {
     book_all(world, setting, &mut parts.books)?;
     parts.campaign = head(alloc, setting)?;
     parts.factions = factions(alloc, &setting.units)?;
@@ -303,17 +308,27 @@ fn rows_of(alloc: Global, world: &World, setting: &Setting) -> Result<Parts, All
     parts.structures = structures_of(alloc, &setting.structures)?;
     parts.markets = markets_of(alloc, &setting.stocks)?;
     parts.reports = reports(alloc)?;
+    Ok(())
+}
+
+fn rows_of(alloc: Global, world: &World, setting: &Setting) -> Result<Parts, AllocError> {
+    let mut parts = founded(alloc, world, b"gm")?.parts()?;
+    fill(alloc, world, setting, &mut parts)?;
     Ok(parts)
 }
 
 /// The campaign of a setting before units lose their men.
-pub(crate) fn good_campaign(alloc: Global, world: &World, setting: &Setting) -> Result<Campaign>
+pub(crate) fn good_campaign(
+    alloc: Global,
+    world: &World,
+    setting: &Setting,
+) -> Result<Campaign, Failed>
     ensures { IfOk result (λ c. IsGood world.now c.value) }
 {
     let rows = rows_of(alloc, world, setting)?;
     match check_as(alloc, world, rows, Format::Second) {
         Ok(campaign) => Ok(campaign),
-        Err(_) => bail!("the rows are of no good campaign"),
+        Err(_) => Err(Failed("the rows are of no good campaign")),
     }
 }
 
@@ -341,7 +356,11 @@ fn lose_men(alloc: Global, world: &World, campaign: &mut Campaign, units: &[u32]
 }
 
 /// The campaign of a setting.
-pub(crate) fn campaign_of(alloc: Global, world: &World, setting: &Setting) -> Result<Campaign>
+pub(crate) fn campaign_of(
+    alloc: Global,
+    world: &World,
+    setting: &Setting,
+) -> Result<Campaign, Failed>
     ensures early { IfOk result (λ c. IsEarly world.now c.value) }
     ensures room { IfOk result (λ c. IsRoomy c.value) }
 {

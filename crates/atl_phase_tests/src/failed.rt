@@ -1,0 +1,18 @@
+//! Why a file of cases cannot be played.
+use std::alloc::{AllocError, AllocFailed};
+
+/// Why a file of cases, or a line of it, cannot be played.
+#[derive(Clone, Copy)]
+pub(crate) struct Failed(pub &'static str);
+
+impl From<AllocError> for Failed {
+    fn from(_error: AllocError) -> Failed {
+        Failed("no memory")
+    }
+}
+
+impl<T: Drop> From<AllocFailed<T>> for Failed {
+    fn from(_error: AllocFailed<T>) -> Failed {
+        Failed("no memory")
+    }
+}
