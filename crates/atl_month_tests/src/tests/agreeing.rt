@@ -3,14 +3,15 @@ ghost use Rattle.atl_state.specs.Good.{IsGood};
 ghost use Rattle.atl_instant.specs.Fit.{AreFit};
 
 use super::crowd::{crowd, crowd_month, crowd_world};
-use super::former::plain::{Good, Land, Person, Plain, Stock};
+use super::former::plain::Plain;
+use super::former::sharing::Sharing;
 use super::former::trade::Trade;
-use super::former::{produce, recruit, shares, tax, trade, upkeep, work};
+use super::former::{shares, sharing, upkeep};
 use super::shares::are_small;
-use atl_instant::{Arrangement, Month, Phase};
+use atl_instant::{Month, Phase};
 use atl_market::{BuyPhase, ProducePhase, RecruitPhase, SellPhase, TaxPhase, WorkPhase, share};
 use atl_month::UpkeepPhase;
-use atl_state::{Campaign, Event};
+use atl_state::Campaign;
 use atl_tables::World;
 use std::alloc::{AllocError, Global};
 use std::process::Abort;
@@ -18,58 +19,11 @@ use std::test::Fail;
 
 // ---- what is compared
 
-fn person_is(rt: &impl Abort, told: &Person, wanted: &Person) {
-    assert!(rt; told == wanted, "unit {}", wanted.number);
-}
-
-fn people_are(rt: &impl Abort, told: &[Person], wanted: &[Person]) {
-    assert!(rt; told.len() == wanted.len());
-    for (told, wanted) in told.iter().zip(wanted.iter()) {
-        person_is(rt, told, wanted);
-    }
-}
-
-fn good_is(rt: &impl Abort, told: &Good, wanted: &Good) {
-    assert!(rt; told == wanted, "goods of unit {}", wanted.unit);
-}
-
-fn goods_are(rt: &impl Abort, told: &[Good], wanted: &[Good]) {
-    assert!(rt; told.len() == wanted.len());
-    for (told, wanted) in told.iter().zip(wanted.iter()) {
-        good_is(rt, told, wanted);
-    }
-}
-
-fn land_is(rt: &impl Abort, told: &Land, wanted: &Land) {
-    assert!(rt; told == wanted, "region {}", wanted.number);
-}
-
-fn lands_are(rt: &impl Abort, told: &[Land], wanted: &[Land]) {
-    assert!(rt; told.len() == wanted.len());
-    for (told, wanted) in told.iter().zip(wanted.iter()) {
-        land_is(rt, told, wanted);
-    }
-}
-
-fn stock_is(rt: &impl Abort, told: &Stock, wanted: &Stock) {
-    assert!(rt; told == wanted, "a stock of region {}", wanted.region);
-}
-
-fn stocks_are(rt: &impl Abort, told: &[Stock], wanted: &[Stock]) {
-    assert!(rt; told.len() == wanted.len());
-    for (told, wanted) in told.iter().zip(wanted.iter()) {
-        stock_is(rt, told, wanted);
-    }
-}
-
-fn event_is(rt: &impl Abort, told: &Event, wanted: &Event) {
-    assert!(rt; told == wanted, "an event of unit {}", wanted.unit);
-}
-
-fn events_are(rt: &impl Abort, told: &[Event], wanted: &[Event]) {
-    assert!(rt; told.len() == wanted.len());
-    for (told, wanted) in told.iter().zip(wanted.iter()) {
-        event_is(rt, told, wanted);
+/// Two lists are the same.
+fn are_as<T: PartialEq>(rt: &impl Abort, what: &str, told: &[T], wanted: &[T]) {
+    assert!(rt; told.len() == wanted.len(), "so many {what}");
+    for (place, (told, wanted)) in told.iter().zip(wanted.iter()).enumerate() {
+        assert!(rt; told == wanted, "{what}, at {place}");
     }
 }
 
@@ -82,38 +36,40 @@ fn is_as(
     wanted: &Plain,
 ) -> Result<(), AllocError> {
     let told = Plain::of(alloc, campaign)?;
-    people_are(rt, &told.people, &wanted.people);
-    goods_are(rt, &told.sorted_goods(alloc)?, &wanted.sorted_goods(alloc)?);
-    lands_are(rt, &told.lands, &wanted.lands);
-    stocks_are(
+    are_as(rt, "units", &told.people, &wanted.people);
+    are_as(
         rt,
+        "goods",
+        &told.sorted_goods(alloc)?,
+        &wanted.sorted_goods(alloc)?,
+    );
+    are_as(rt, "regions", &told.lands, &wanted.lands);
+    are_as(
+        rt,
+        "stocks",
         &told.sorted_stocks(alloc)?,
         &wanted.sorted_stocks(alloc)?,
     );
-    events_are(rt, month.events(), &wanted.events);
+    are_as(rt, "events", month.events(), &wanted.events);
     Ok(())
 }
 
 // ---- the phases
 
+/// A phase.
 #[derive(Clone, Copy, Drop)]
 enum Played {
-    Sell,
-    Buy,
-    Tax,
-    Recruit,
-    Produce,
-    Work,
+    Sharing(Sharing),
     Upkeep,
 }
 
 const PLAYED: [Played; 7] = [
-    Played::Sell,
-    Played::Buy,
-    Played::Tax,
-    Played::Recruit,
-    Played::Produce,
-    Played::Work,
+    Played::Sharing(Sharing::Trade(Trade::Sell)),
+    Played::Sharing(Sharing::Trade(Trade::Buy)),
+    Played::Sharing(Sharing::Tax),
+    Played::Sharing(Sharing::Recruit),
+    Played::Sharing(Sharing::Produce),
+    Played::Sharing(Sharing::Work),
     Played::Upkeep,
 ];
 
@@ -201,6 +157,27 @@ fn run_upkeep(
     UpkeepPhase.run(alloc, world, campaign, month)
 }
 
+/// The campaign and the month behind a phase that shares pots.
+fn run_sharing(
+    alloc: Global,
+    world: &World,
+    sharing: Sharing,
+    campaign: Campaign,
+    month: Month,
+) -> Result<(Campaign, Month), AllocError>
+    requires good { IsGood world.now campaign.value }
+    requires read { AreFit world.now month.readings }
+{
+    match sharing {
+        Sharing::Trade(Trade::Sell) => run_sell(alloc, world, campaign, month),
+        Sharing::Trade(Trade::Buy) => run_buy(alloc, world, campaign, month),
+        Sharing::Tax => run_tax(alloc, world, campaign, month),
+        Sharing::Recruit => run_recruit(alloc, world, campaign, month),
+        Sharing::Produce => run_produce(alloc, world, campaign, month),
+        Sharing::Work => run_work(alloc, world, campaign, month),
+    }
+}
+
 /// The campaign and the month behind a phase.
 fn run_on(
     alloc: Global,
@@ -213,29 +190,9 @@ fn run_on(
     requires read { AreFit world.now month.readings }
 {
     match played {
-        Played::Sell => run_sell(alloc, world, campaign, month),
-        Played::Buy => run_buy(alloc, world, campaign, month),
-        Played::Tax => run_tax(alloc, world, campaign, month),
-        Played::Recruit => run_recruit(alloc, world, campaign, month),
-        Played::Produce => run_produce(alloc, world, campaign, month),
-        Played::Work => run_work(alloc, world, campaign, month),
+        Played::Sharing(sharing) => run_sharing(alloc, world, sharing, campaign, month),
         Played::Upkeep => run_upkeep(alloc, world, campaign, month),
     }
-}
-
-/// Reckons the trades that units are told of.
-fn reckon_trade(
-    alloc: Global,
-    world: &World,
-    trade: Trade,
-    plain: &mut Plain,
-    month: &Month,
-) -> Result<(), AllocError> {
-    let orders = match trade {
-        Trade::Sell => month.orders(alloc, &SellPhase {}, Arrangement::ByUnit)?,
-        Trade::Buy => month.orders(alloc, &BuyPhase {}, Arrangement::ByUnit)?,
-    };
-    trade::play(alloc, trade, world, plain, month, &orders)
 }
 
 /// Reckons a phase.
@@ -247,12 +204,7 @@ fn reckon(
     month: &Month,
 ) -> Result<(), AllocError> {
     match played {
-        Played::Sell => reckon_trade(alloc, world, Trade::Sell, plain, month),
-        Played::Buy => reckon_trade(alloc, world, Trade::Buy, plain, month),
-        Played::Tax => tax::play(alloc, world, plain, month),
-        Played::Recruit => recruit::play(alloc, world, plain, month),
-        Played::Produce => produce::play(alloc, world, plain, month),
-        Played::Work => work::play(alloc, world, plain, month),
+        Played::Sharing(sharing) => sharing::play(alloc, sharing, world, plain, month),
         Played::Upkeep => upkeep::play(alloc, world, plain),
     }
 }

@@ -13,7 +13,20 @@ use std::alloc::{AllocError, Global};
 use std::process::Abort;
 use std::test::Fail;
 
-/// A faction joins, and its report is stored; nothing is marked.
+/// A faction joins, and its report is stored.
+fn join(alloc: Global, world: &World, campaign: &mut Campaign, name: &str) -> Result<(), Fail>
+    requires { IsGood world.now campaign.old.value }
+{
+    let name = name.as_bytes();
+    if !name_ok(name) {
+        return Err(Fail::new("a good name"));
+    }
+    let (faction, _) = campaign.join(world, name, b"pw", 0)?;
+    campaign.set_report(faction, Text::from_str(alloc, "")?)?;
+    Ok(())
+}
+
+/// The campaign with one more faction; nothing is marked.
 fn joined(
     alloc: Global,
     world: &World,
@@ -23,12 +36,7 @@ fn joined(
     requires { IsGood world.now campaign.value }
     ensures { IfOk result (λ campaign. IsGood world.now campaign.value) }
 {
-    let name = name.as_bytes();
-    if !name_ok(name) {
-        return Err(Fail::new("a good name"));
-    }
-    let (faction, _) = campaign.join(world, name, b"pw", 0)?;
-    campaign.set_report(faction, Text::from_str(alloc, "")?)?;
+    join(alloc, world, &mut campaign, name)?;
     let rows = campaign.parts()?;
     Ok(check(alloc, world, rows)?)
 }
@@ -66,20 +74,12 @@ fn has_a_recruit(campaign: &Campaign) -> bool {
     }
 }
 
-fn only_rows_are_marked(rt: &impl Abort, campaign: &Campaign) {
-    is_so(rt, has_a_recruit(campaign));
-    is_so(rt, campaign.marked_units().eq([1, 2]));
-    is_so(rt, campaign.marked_rows().eq([1, 2]));
-    is_so(rt, campaign.marked_goods().next().is_none());
-    is_so(rt, campaign.marked_items().next().is_none());
-    is_so(rt, campaign.marked_skills().next().is_none());
-}
-
 #[test]
 fn names_pay_recruits_and_upkeep_mark_no_goods(rt: HostRuntime) -> Result<(), Fail> {
     let world = small_world(rt.alloc())?;
     let campaign = paid(rt.alloc(), &world)?;
-    only_rows_are_marked(&rt, &campaign);
+    is_so(&rt, has_a_recruit(&campaign));
+    marks_are(&rt, rt.alloc(), 0, &campaign, "1 2 |1 2 ||||")?;
     Ok(())
 }
 
@@ -167,9 +167,10 @@ fn tell_things(
     told.push_str("|")
 }
 
-/// The units whose rows are marked, those all of whose goods are, and the marked items and skills.
+/// The units with a mark, those whose rows are marked, those all of whose goods are, and the marked items and skills.
 fn marks_of(alloc: Global, campaign: &Campaign) -> Result<String, AllocError> {
     let mut told = String::new(alloc);
+    tell_numbers(alloc, campaign.marked_units(), &mut told)?;
     tell_numbers(alloc, campaign.marked_rows(), &mut told)?;
     tell_numbers(alloc, campaign.marked_goods(), &mut told)?;
     tell_things(alloc, campaign.marked_items(), &mut told)?;
@@ -177,28 +178,42 @@ fn marks_of(alloc: Global, campaign: &Campaign) -> Result<String, AllocError> {
     Ok(told)
 }
 
-/// Mailings, and what their month marks of the units. All pay their upkeep.
-const MARKED: [(&str, &str); 6] = [
-    ("#ATLANTIS 1\nUNIT 1\nWORK", "1 2 ||||"),
-    ("#ATLANTIS 1\nUNIT 1\nSTUDY lumberjack", "1 2 |||1:0 |"),
-    ("#ATLANTIS 1\nUNIT 1\nGIVE 2 3 wood", "1 2 ||1:0 2:0 ||"),
-    ("#ATLANTIS 1\nUNIT 1\nPRODUCE cart", "1 2 ||1:0 1:1 ||"),
-    ("#ATLANTIS 1\nUNIT 1\nSELL 3 wood", "1 2 ||1:0 ||"),
-    (
-        "#ATLANTIS 1\nUNIT 1\nGIVE 2 20 wood\nSTUDY carpentry",
-        "1 2 ||1:0 2:0 |1:1 |",
-    ),
-];
-
 fn told_is(rt: &impl Abort, row: usize, told: &str, wanted: &str) {
     assert_eq!(rt; told, wanted, "at {row}");
 }
 
+fn marks_are(
+    rt: &impl Abort,
+    alloc: Global,
+    row: usize,
+    campaign: &Campaign,
+    wanted: &str,
+) -> Result<(), AllocError> {
+    let told = marks_of(alloc, campaign)?;
+    told_is(rt, row, told.as_str(), wanted);
+    Ok(())
+}
+
+/// Mailings, and what their month marks of the units. All pay their upkeep.
+const MARKED: [(&str, &str); 6] = [
+    ("#ATLANTIS 1\nUNIT 1\nWORK", "1 2 |1 2 ||||"),
+    ("#ATLANTIS 1\nUNIT 1\nSTUDY lumberjack", "1 2 |1 2 |||1:0 |"),
+    (
+        "#ATLANTIS 1\nUNIT 1\nGIVE 2 3 wood",
+        "1 2 |1 2 ||1:0 2:0 ||",
+    ),
+    ("#ATLANTIS 1\nUNIT 1\nPRODUCE cart", "1 2 |1 2 ||1:0 1:1 ||"),
+    ("#ATLANTIS 1\nUNIT 1\nSELL 3 wood", "1 2 |1 2 ||1:0 ||"),
+    (
+        "#ATLANTIS 1\nUNIT 1\nGIVE 2 20 wood\nSTUDY carpentry",
+        "1 2 |1 2 ||1:0 2:0 |1:1 |",
+    ),
+];
+
 fn months_mark(rt: &impl Abort, alloc: Global, world: &World) -> Result<(), Fail> {
     for (row, (mailing, wanted)) in MARKED.iter().enumerate() {
         let campaign = island_behind(alloc, world, mailing)?;
-        let told = marks_of(alloc, &campaign)?;
-        told_is(rt, row, told.as_str(), wanted);
+        marks_are(rt, alloc, row, &campaign, wanted)?;
     }
     Ok(())
 }

@@ -1,7 +1,8 @@
 //! Which orders phases have, and in which order, by hand.
 use super::months::{month, world};
-use super::phases::{Forming, Giving, Recruiting, Studying, Working};
-use atl_instant::{Arrangement, Month, MonthLongVerbs, PhaseVerbs};
+use super::phases::{Studying, Working};
+use atl_instant::{Arrangement, FormPhase, GivePhase, Month, MonthLongVerbs, PhaseVerbs};
+use atl_market::RecruitPhase;
 use atl_orders::Verb;
 use atl_state::{Event, EventVerb, Outcome};
 use atl_tables::World;
@@ -38,9 +39,9 @@ fn tell<P: PhaseVerbs>(
 /// What the phases of FORM, GIVE, RECRUIT, STUDY and WORK have.
 fn told_of(alloc: Global, month: &Month) -> Result<String, Fail> {
     let mut told = String::new(alloc);
-    tell(alloc, month, &Forming, Arrangement::ByFaction, &mut told)?;
-    tell(alloc, month, &Giving, Arrangement::ByUnit, &mut told)?;
-    tell(alloc, month, &Recruiting, Arrangement::ByUnit, &mut told)?;
+    tell(alloc, month, &FormPhase, Arrangement::ByFaction, &mut told)?;
+    tell(alloc, month, &GivePhase, Arrangement::ByUnit, &mut told)?;
+    tell(alloc, month, &RecruitPhase, Arrangement::ByUnit, &mut told)?;
     tell(alloc, month, &Studying, Arrangement::ByUnit, &mut told)?;
     tell(alloc, month, &Working, Arrangement::ByUnit, &mut told)?;
     Ok(told)

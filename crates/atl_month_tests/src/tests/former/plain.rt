@@ -4,7 +4,7 @@ use atl_tables::let_go;
 use std::alloc::{AllocError, Global};
 
 /// A unit without its goods.
-#[derive(Clone, Copy, Debug, Drop, PartialEq, Eq)]
+#[derive(Clone, Copy, Drop, PartialEq, Eq)]
 pub(crate) struct Person {
     pub number: u32,
     pub faction: u32,
@@ -15,7 +15,7 @@ pub(crate) struct Person {
 }
 
 /// Pieces of an item, or days of a skill, that a unit has.
-#[derive(Clone, Copy, Debug, Drop, PartialEq, Eq)]
+#[derive(Clone, Copy, Drop, PartialEq, Eq)]
 pub(crate) struct Good {
     pub unit: u32,
     pub is_skill: bool,
@@ -24,7 +24,7 @@ pub(crate) struct Good {
 }
 
 /// What a region has.
-#[derive(Clone, Copy, Debug, Drop, PartialEq, Eq)]
+#[derive(Clone, Copy, Drop, PartialEq, Eq)]
 pub(crate) struct Land {
     pub number: u32,
     pub peasants: u64,
@@ -32,7 +32,7 @@ pub(crate) struct Land {
 }
 
 /// Pieces of an item that a region has in stock.
-#[derive(Clone, Copy, Debug, Drop, PartialEq, Eq)]
+#[derive(Clone, Copy, Drop, PartialEq, Eq)]
 pub(crate) struct Stock {
     pub region: u32,
     pub item: u32,
@@ -158,42 +158,42 @@ impl Plain {
 
     /// A unit that is there.
     pub fn person(&self, number: u32) -> Option<Person> {
-        self.people
-            .iter()
-            .copied()
-            .find(|person| person.number == number)
+        for person in self.people.iter() {
+            if person.number == number {
+                return Some(*person);
+            }
+        }
+        None
     }
 
     /// A region.
     pub fn land(&self, number: u32) -> Option<Land> {
-        self.lands
-            .iter()
-            .copied()
-            .find(|land| land.number == number)
+        for land in self.lands.iter() {
+            if land.number == number {
+                return Some(*land);
+            }
+        }
+        None
     }
 
     /// How much a unit has of a thing.
     pub fn amount(&self, unit: u32, is_skill: bool, thing: u32) -> u64 {
-        let found = self.goods.iter().copied().find(|good| {
-            good.unit == unit && good.is_skill == is_skill && good.thing == thing
-        });
-        match found {
-            Some(good) => good.amount,
-            None => 0,
+        for good in self.goods.iter() {
+            if good.unit == unit && good.is_skill == is_skill && good.thing == thing {
+                return good.amount;
+            }
         }
+        0
     }
 
     /// How much a region has of an item in stock.
     pub fn stock(&self, region: u32, item: u32) -> u64 {
-        let found = self
-            .stocks
-            .iter()
-            .copied()
-            .find(|stock| stock.region == region && stock.item == item);
-        match found {
-            Some(stock) => stock.amount,
-            None => 0,
+        for stock in self.stocks.iter() {
+            if stock.region == region && stock.item == item {
+                return stock.amount;
+            }
         }
+        0
     }
 
     /// A unit has so many men and so much money.

@@ -37,9 +37,12 @@ pub(crate) struct Given {
 
 /// The unit of an order, where the order's faction has it.
 pub(crate) fn own(plain: &Plain, order: Written) -> Option<Person> {
-    plain
-        .person(order.unit)
-        .filter(|person| person.faction == order.faction)
+    let person = plain.person(order.unit)?;
+    if person.faction == order.faction {
+        Some(person)
+    } else {
+        None
+    }
 }
 
 /// What a unit wants of a thing, where it wants some.
@@ -121,10 +124,12 @@ pub(crate) fn shared(
 
 /// What a unit was given; 0 where nothing was.
 pub(crate) fn given_to(given: &[Given], unit: u32) -> u64 {
-    match given.iter().copied().find(|one| one.unit == unit) {
-        Some(one) => one.amount,
-        None => 0,
+    for one in given {
+        if one.unit == unit {
+            return one.amount;
+        }
     }
+    0
 }
 
 /// What came of an order that is told so much.
@@ -133,19 +138,4 @@ pub(crate) fn outcome(claim: Claim, told: u64) -> Outcome {
         Claim::Fault(fault) => Outcome::Fault(fault.number()),
         Claim::Want(_, _) => Outcome::Done(told),
     }
-}
-
-/// Tells of each order what its unit was given.
-pub(crate) fn tell(
-    plain: &mut Plain,
-    claims: &[Claimed],
-    given: &[Given],
-) -> Result<(), AllocError> {
-    for claimed in claims {
-        let told = outcome(claimed.claim, given_to(given, claimed.order.unit));
-        plain
-            .events
-            .push(claimed.order.event(claimed.order.verb, told))?;
-    }
-    Ok(())
 }

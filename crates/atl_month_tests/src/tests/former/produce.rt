@@ -1,13 +1,12 @@
 //! PRODUCE: units make items, of raw items or of what the terrain gives.
 use super::plain::{Good, Person, Plain};
-use super::pots::{Claim, Claimed, Given, Pot, own, shared, tell};
+use super::pots::{Claim, Given, Pot, own};
 use super::tax::MOST_MONEY;
-use atl_instant::{Arrangement, Month, Written};
-use atl_market::ProducePhase;
+use atl_instant::{Month, Written};
 use atl_orders::Order;
 use atl_state::EventFault;
 use atl_tables::{Item, World};
-use std::alloc::{AllocError, Global};
+use std::alloc::AllocError;
 
 /// The most pieces of an item that a unit has.
 const MOST_PIECES: u64 = MOST_MONEY;
@@ -76,7 +75,8 @@ fn fault(plain: &Plain, person: Person, item: &Item) -> Option<EventFault> {
     }
 }
 
-fn claim(world: &World, plain: &Plain, month: &Month, order: Written) -> Claim {
+/// What an order comes to.
+pub(crate) fn claim(world: &World, plain: &Plain, month: &Month, order: Written) -> Claim {
     let number = item_of(month, order);
     let (Some(person), Some(item)) = (own(plain, order), world.items().get(number as usize)) else {
         return Claim::Fault(EventFault::NotYours);
@@ -85,23 +85,6 @@ fn claim(world: &World, plain: &Plain, month: &Month, order: Written) -> Claim {
         Some(fault) => Claim::Fault(fault),
         None => Claim::Want(number, want(plain, person, number, item)),
     }
-}
-
-fn claims(
-    alloc: Global,
-    world: &World,
-    plain: &Plain,
-    month: &Month,
-    orders: &[Written],
-) -> Result<Vec<Claimed>, AllocError> {
-    let mut claims = Vec::new(alloc);
-    for order in orders {
-        claims.push(Claimed {
-            order: *order,
-            claim: claim(world, plain, month, *order),
-        })?;
-    }
-    Ok(claims)
 }
 
 /// What a region gives of an item.
@@ -116,7 +99,7 @@ fn output(world: &World, region: u32, item: u32) -> u64 {
 }
 
 /// Adds what a region gives of the items that aren't made of others. Of the others there is enough for all.
-fn add_pots(world: &World, region: u32, pots: &mut Vec<Pot>) -> Result<(), AllocError> {
+pub(crate) fn add_pots(world: &World, region: u32, pots: &mut Vec<Pot>) -> Result<(), AllocError> {
     let mut thing: u32 = 0;
     for item in world.items() {
         let size = match item.raw {
@@ -133,14 +116,6 @@ fn add_pots(world: &World, region: u32, pots: &mut Vec<Pot>) -> Result<(), Alloc
     Ok(())
 }
 
-fn pots(alloc: Global, world: &World, plain: &Plain) -> Result<Vec<Pot>, AllocError> {
-    let mut pots = Vec::new(alloc);
-    for land in plain.lands.iter() {
-        add_pots(world, land.number, &mut pots)?;
-    }
-    Ok(pots)
-}
-
 /// A unit has so much of an item, which it had less or more of.
 fn set_item(plain: &mut Plain, unit: u32, thing: u32, amount: u64) -> Result<(), AllocError> {
     plain.set_amount(Good {
@@ -152,7 +127,7 @@ fn set_item(plain: &mut Plain, unit: u32, thing: u32, amount: u64) -> Result<(),
 }
 
 /// A unit has what it made, and no more the raw items.
-fn pay(world: &World, plain: &mut Plain, given: Given) -> Result<(), AllocError> {
+pub(crate) fn pay(world: &World, plain: &mut Plain, given: Given) -> Result<(), AllocError> {
     let Some(item) = world.items().get(given.thing as usize) else {
         return Ok(());
     };
@@ -168,25 +143,4 @@ fn pay(world: &World, plain: &mut Plain, given: Given) -> Result<(), AllocError>
         given.thing,
         held.wrapping_add(given.amount),
     )
-}
-
-fn pay_all(world: &World, plain: &mut Plain, given: &[Given]) -> Result<(), AllocError> {
-    for one in given {
-        pay(world, plain, *one)?;
-    }
-    Ok(())
-}
-
-/// Produces.
-pub(crate) fn play(
-    alloc: Global,
-    world: &World,
-    plain: &mut Plain,
-    month: &Month,
-) -> Result<(), AllocError> {
-    let orders = month.orders(alloc, &ProducePhase, Arrangement::ByUnit)?;
-    let claims = claims(alloc, world, plain, month, &orders)?;
-    let given = shared(alloc, plain, &claims, &pots(alloc, world, plain)?)?;
-    tell(plain, &claims, &given)?;
-    pay_all(world, plain, &given)
 }

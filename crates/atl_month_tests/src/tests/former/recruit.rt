@@ -1,12 +1,10 @@
 //! RECRUIT: peasants join, at a price.
-use super::plain::{Person, Plain};
-use super::pots::{Claim, Claimed, Given, Pot, own, shared, tell};
-use atl_instant::{Arrangement, Month, Written};
-use atl_market::RecruitPhase;
+use super::plain::{Land, Person, Plain};
+use super::pots::{Claim, Given, Pot, own};
+use atl_instant::{Month, Written};
 use atl_orders::Order;
 use atl_state::EventFault;
 use atl_tables::World;
-use std::alloc::{AllocError, Global};
 
 /// The most men of a unit.
 const MOST_MEN: u64 = 999_999;
@@ -32,7 +30,8 @@ fn want(world: &World, month: &Month, person: Person, order: Written) -> u64 {
     asked(month, order).min(payable).min(room)
 }
 
-fn claim(world: &World, plain: &Plain, month: &Month, order: Written) -> Claim {
+/// What an order comes to.
+pub(crate) fn claim(world: &World, plain: &Plain, month: &Month, order: Written) -> Claim {
     let Some(person) = own(plain, order) else {
         return Claim::Fault(EventFault::NotYours);
     };
@@ -42,39 +41,18 @@ fn claim(world: &World, plain: &Plain, month: &Month, order: Written) -> Claim {
     Claim::Want(PEOPLE, want(world, month, person, order))
 }
 
-fn claims(
-    alloc: Global,
-    world: &World,
-    plain: &Plain,
-    month: &Month,
-    orders: &[Written],
-) -> Result<Vec<Claimed>, AllocError> {
-    let mut claims = Vec::new(alloc);
-    for order in orders {
-        claims.push(Claimed {
-            order: *order,
-            claim: claim(world, plain, month, *order),
-        })?;
-    }
-    Ok(claims)
-}
-
-/// Those who can be recruited in the regions.
-fn pots(alloc: Global, world: &World, plain: &Plain) -> Result<Vec<Pot>, AllocError> {
+/// Those who can be recruited in a region.
+pub(crate) fn pot(world: &World, land: Land) -> Pot {
     let fraction = u64::from(world.rules().recruit_fraction);
-    let mut pots = Vec::new(alloc);
-    for land in plain.lands.iter() {
-        pots.push(Pot {
-            region: land.number,
-            thing: PEOPLE,
-            size: land.peasants.checked_div(fraction).unwrap_or(0),
-        })?;
+    Pot {
+        region: land.number,
+        thing: PEOPLE,
+        size: land.peasants.checked_div(fraction).unwrap_or(0),
     }
-    Ok(pots)
 }
 
 /// A unit's recruits leave the region, and are paid for.
-fn pay(world: &World, plain: &mut Plain, given: Given) {
+pub(crate) fn pay(world: &World, plain: &mut Plain, given: Given) {
     let Some(person) = plain.person(given.unit) else {
         return;
     };
@@ -85,25 +63,4 @@ fn pay(world: &World, plain: &mut Plain, given: Given) {
         let left = land.peasants.wrapping_sub(given.amount);
         plain.set_land(land.number, left, land.money);
     }
-}
-
-fn pay_all(world: &World, plain: &mut Plain, given: &[Given]) {
-    for one in given {
-        pay(world, plain, *one);
-    }
-}
-
-/// Recruits.
-pub(crate) fn play(
-    alloc: Global,
-    world: &World,
-    plain: &mut Plain,
-    month: &Month,
-) -> Result<(), AllocError> {
-    let orders = month.orders(alloc, &RecruitPhase, Arrangement::ByUnit)?;
-    let claims = claims(alloc, world, plain, month, &orders)?;
-    let given = shared(alloc, plain, &claims, &pots(alloc, world, plain)?)?;
-    tell(plain, &claims, &given)?;
-    pay_all(world, plain, &given);
-    Ok(())
 }

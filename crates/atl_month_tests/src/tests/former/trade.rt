@@ -1,12 +1,12 @@
 //! SELL and BUY: units sell to the markets of their regions, and buy of them.
 use super::plain::{Good, Person, Plain, Stock};
-use super::pots::{Claim, Claimed, Given, Pot, own, shared, tell};
+use super::pots::{Claim, Given, Pot, own};
 use super::tax::MOST_MONEY;
 use atl_instant::{Month, Written};
 use atl_orders::Order;
 use atl_state::EventFault;
 use atl_tables::{Market, World};
-use std::alloc::{AllocError, Global};
+use std::alloc::AllocError;
 
 /// The most pieces of an item that a unit has.
 const MOST_PIECES: u64 = MOST_MONEY;
@@ -52,7 +52,14 @@ fn is_short(trade: Trade, plain: &Plain, person: Person, market: &Market) -> boo
     }
 }
 
-fn claim(trade: Trade, world: &World, plain: &Plain, month: &Month, order: Written) -> Claim {
+/// What an order comes to.
+pub(crate) fn claim(
+    trade: Trade,
+    world: &World,
+    plain: &Plain,
+    month: &Month,
+    order: Written,
+) -> Claim {
     let Some(person) = own(plain, order) else {
         return Claim::Fault(EventFault::NotYours);
     };
@@ -70,24 +77,6 @@ fn claim(trade: Trade, world: &World, plain: &Plain, month: &Month, order: Writt
     Claim::Want(u32::from(item), amount.min(most))
 }
 
-fn claims(
-    alloc: Global,
-    trade: Trade,
-    world: &World,
-    plain: &Plain,
-    month: &Month,
-    orders: &[Written],
-) -> Result<Vec<Claimed>, AllocError> {
-    let mut claims = Vec::new(alloc);
-    for order in orders {
-        claims.push(Claimed {
-            order: *order,
-            claim: claim(trade, world, plain, month, *order),
-        })?;
-    }
-    Ok(claims)
-}
-
 /// What a market takes or gives.
 fn pot(trade: Trade, plain: &Plain, region: u32, market: &Market) -> Pot {
     let thing = u32::from(market.item);
@@ -103,7 +92,7 @@ fn pot(trade: Trade, plain: &Plain, region: u32, market: &Market) -> Pot {
 }
 
 /// Adds the pots of a region's markets.
-fn add_pots(
+pub(crate) fn add_pots(
     trade: Trade,
     world: &World,
     plain: &Plain,
@@ -116,14 +105,6 @@ fn add_pots(
         }
     }
     Ok(())
-}
-
-fn pots(alloc: Global, trade: Trade, world: &World, plain: &Plain) -> Result<Vec<Pot>, AllocError> {
-    let mut pots = Vec::new(alloc);
-    for land in plain.lands.iter() {
-        add_pots(trade, world, plain, land.number, &mut pots)?;
-    }
-    Ok(pots)
 }
 
 /// So many pieces go from one who has them to one who gets them, who had so many.
@@ -147,7 +128,12 @@ fn money_behind(trade: Trade, person: Person, market: &Market, pieces: u64) -> u
 }
 
 /// A unit trades its share.
-fn pay(trade: Trade, world: &World, plain: &mut Plain, given: Given) -> Result<(), AllocError> {
+pub(crate) fn pay(
+    trade: Trade,
+    world: &World,
+    plain: &mut Plain,
+    given: Given,
+) -> Result<(), AllocError> {
     let Some(person) = plain.person(given.unit) else {
         return Ok(());
     };
@@ -171,31 +157,4 @@ fn pay(trade: Trade, world: &World, plain: &mut Plain, given: Given) -> Result<(
         item: given.thing,
         amount: stock,
     })
-}
-
-fn pay_all(
-    trade: Trade,
-    world: &World,
-    plain: &mut Plain,
-    given: &[Given],
-) -> Result<(), AllocError> {
-    for one in given {
-        pay(trade, world, plain, *one)?;
-    }
-    Ok(())
-}
-
-/// Trades by these orders.
-pub(crate) fn play(
-    alloc: Global,
-    trade: Trade,
-    world: &World,
-    plain: &mut Plain,
-    month: &Month,
-    orders: &[Written],
-) -> Result<(), AllocError> {
-    let claims = claims(alloc, trade, world, plain, month, orders)?;
-    let given = shared(alloc, plain, &claims, &pots(alloc, trade, world, plain)?)?;
-    tell(plain, &claims, &given)?;
-    pay_all(trade, world, plain, &given)
 }

@@ -1,8 +1,8 @@
 //! WORK: units share the places of their region.
 use super::plain::{Person, Plain};
-use super::pots::{Claim, Claimed, Given, Pot, given_to, outcome, own, shared};
+use super::pots::{Claim, Given, Pot, given_to, own};
 use super::tax::MOST_MONEY;
-use atl_instant::{Arrangement, Month, MonthLongVerbs, Written};
+use atl_instant::Written;
 use atl_orders::Verb;
 use atl_state::EventFault;
 use atl_tables::World;
@@ -27,7 +27,8 @@ fn places(world: &World, region: u32) -> u64 {
     }
 }
 
-fn claim(world: &World, plain: &Plain, order: Written) -> Claim {
+/// What an order comes to.
+pub(crate) fn claim(world: &World, plain: &Plain, order: Written) -> Claim {
     let Some(person) = own(plain, order) else {
         return Claim::Fault(EventFault::NotYours);
     };
@@ -39,27 +40,14 @@ fn claim(world: &World, plain: &Plain, order: Written) -> Claim {
     Claim::Want(PLACES, person.men.min(paid))
 }
 
-fn claims(
-    alloc: Global,
-    world: &World,
-    plain: &Plain,
-    orders: &[Written],
-) -> Result<Vec<Claimed>, AllocError> {
-    let mut claims = Vec::new(alloc);
-    for order in orders {
-        claims.push(Claimed {
-            order: *order,
-            claim: claim(world, plain, *order),
-        })?;
-    }
-    Ok(claims)
-}
-
 /// Whether a unit with men has no month-long order of its own faction.
 fn is_idle(person: Person, orders: &[Written]) -> bool {
-    let is_ordered = orders.iter().any(|order| order.unit == person.number
-        && order.faction == person.faction);
-    person.men != 0 && !is_ordered
+    for order in orders {
+        if order.unit == person.number && order.faction == person.faction {
+            return false;
+        }
+    }
+    person.men != 0
 }
 
 /// Adds the work of the units that have no order.
@@ -79,7 +67,11 @@ fn add_idle(plain: &Plain, orders: &[Written], tasks: &mut Vec<Written>) -> Resu
 }
 
 /// Who works, by unit, line and faction.
-fn tasks(alloc: Global, plain: &Plain, orders: &[Written]) -> Result<Vec<Written>, AllocError> {
+pub(crate) fn tasks(
+    alloc: Global,
+    plain: &Plain,
+    orders: &[Written],
+) -> Result<Vec<Written>, AllocError> {
     let mut tasks = Vec::new(alloc);
     for order in orders {
         if matches!(order.verb, Verb::Work) {
@@ -97,63 +89,28 @@ fn tasks(alloc: Global, plain: &Plain, orders: &[Written]) -> Result<Vec<Written
     Ok(tasks)
 }
 
-/// The places of the regions.
-fn pots(alloc: Global, world: &World, plain: &Plain) -> Result<Vec<Pot>, AllocError> {
-    let mut pots = Vec::new(alloc);
-    for land in plain.lands.iter() {
-        pots.push(Pot {
-            region: land.number,
-            thing: PLACES,
-            size: places(world, land.number),
-        })?;
+/// The places of a region.
+pub(crate) fn pot(world: &World, region: u32) -> Pot {
+    Pot {
+        region,
+        thing: PLACES,
+        size: places(world, region),
     }
-    Ok(pots)
 }
 
 /// What a unit earns.
-fn earned(world: &World, plain: &Plain, given: &[Given], unit: u32) -> u64 {
+pub(crate) fn earned(world: &World, plain: &Plain, given: &[Given], unit: u32) -> u64 {
     match plain.person(unit) {
         Some(person) => given_to(given, unit).wrapping_mul(wage(world, person.region)),
         None => 0,
     }
 }
 
-fn tell(
-    world: &World,
-    plain: &mut Plain,
-    claims: &[Claimed],
-    given: &[Given],
-) -> Result<(), AllocError> {
-    for claimed in claims {
-        let told = outcome(
-            claimed.claim,
-            earned(world, plain, given, claimed.order.unit),
-        );
-        plain.events.push(claimed.order.event(Verb::Work, told))?;
-    }
-    Ok(())
-}
-
-fn pay_all(world: &World, plain: &mut Plain, given: &[Given]) {
-    for one in given {
-        let more = earned(world, plain, given, one.unit);
-        if let Some(person) = plain.person(one.unit) {
-            plain.set_person(one.unit, person.men, person.money.wrapping_add(more));
-        }
-    }
-}
-
-/// Works.
-pub(crate) fn play(
-    alloc: Global,
-    world: &World,
-    plain: &mut Plain,
-    month: &Month,
-) -> Result<(), AllocError> {
-    let orders = month.orders(alloc, &MonthLongVerbs, Arrangement::ByUnit)?;
-    let claims = claims(alloc, world, plain, &tasks(alloc, plain, &orders)?)?;
-    let given = shared(alloc, plain, &claims, &pots(alloc, world, plain)?)?;
-    tell(world, plain, &claims, &given)?;
-    pay_all(world, plain, &given);
-    Ok(())
+/// A unit is paid what it earns.
+pub(crate) fn pay(world: &World, plain: &mut Plain, given: Given) {
+    let Some(person) = plain.person(given.unit) else {
+        return;
+    };
+    let more = given.amount.wrapping_mul(wage(world, person.region));
+    plain.set_person(given.unit, person.men, person.money.wrapping_add(more));
 }

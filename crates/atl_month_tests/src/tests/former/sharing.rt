@@ -1,0 +1,163 @@
+//! The phases that share pots.
+use super::plain::{Land, Plain};
+use super::pots::{Claim, Claimed, Given, Pot, given_to, outcome, shared};
+use super::trade::Trade;
+use super::{produce, recruit, tax, trade, work};
+use atl_instant::{Arrangement, Month, MonthLongVerbs, Written};
+use atl_market::{BuyPhase, ProducePhase, RecruitPhase, SellPhase, TaxPhase};
+use atl_tables::World;
+use std::alloc::{AllocError, Global};
+
+/// A phase that shares pots.
+#[derive(Clone, Copy, Drop)]
+pub(crate) enum Sharing {
+    Trade(Trade),
+    Tax,
+    Recruit,
+    Produce,
+    Work,
+}
+
+/// The orders of a phase.
+fn orders(
+    alloc: Global,
+    sharing: Sharing,
+    plain: &Plain,
+    month: &Month,
+) -> Result<Vec<Written>, AllocError> {
+    let arrangement = Arrangement::ByUnit;
+    match sharing {
+        Sharing::Trade(Trade::Sell) => month.orders(alloc, &SellPhase {}, arrangement),
+        Sharing::Trade(Trade::Buy) => month.orders(alloc, &BuyPhase {}, arrangement),
+        Sharing::Tax => month.orders(alloc, &TaxPhase, arrangement),
+        Sharing::Recruit => month.orders(alloc, &RecruitPhase, arrangement),
+        Sharing::Produce => month.orders(alloc, &ProducePhase, arrangement),
+        Sharing::Work => {
+            let orders = month.orders(alloc, &MonthLongVerbs, arrangement)?;
+            work::tasks(alloc, plain, &orders)
+        }
+    }
+}
+
+fn claim(sharing: Sharing, world: &World, plain: &Plain, month: &Month, order: Written) -> Claim {
+    match sharing {
+        Sharing::Trade(trade) => trade::claim(trade, world, plain, month, order),
+        Sharing::Tax => tax::claim(world, plain, order),
+        Sharing::Recruit => recruit::claim(world, plain, month, order),
+        Sharing::Produce => produce::claim(world, plain, month, order),
+        Sharing::Work => work::claim(world, plain, order),
+    }
+}
+
+/// What the orders come to.
+fn claims(
+    alloc: Global,
+    sharing: Sharing,
+    world: &World,
+    plain: &Plain,
+    month: &Month,
+) -> Result<Vec<Claimed>, AllocError> {
+    let mut claims = Vec::new(alloc);
+    for order in orders(alloc, sharing, plain, month)?.iter() {
+        claims.push(Claimed {
+            order: *order,
+            claim: claim(sharing, world, plain, month, *order),
+        })?;
+    }
+    Ok(claims)
+}
+
+/// Adds the pots of a region.
+fn add_pots(
+    sharing: Sharing,
+    world: &World,
+    plain: &Plain,
+    land: Land,
+    pots: &mut Vec<Pot>,
+) -> Result<(), AllocError> {
+    let pot = match sharing {
+        Sharing::Trade(trade) => return trade::add_pots(trade, world, plain, land.number, pots),
+        Sharing::Produce => return produce::add_pots(world, land.number, pots),
+        Sharing::Tax => tax::pot(land),
+        Sharing::Recruit => recruit::pot(world, land),
+        Sharing::Work => work::pot(world, land.number),
+    };
+    pots.push(pot)?;
+    Ok(())
+}
+
+fn pots(
+    alloc: Global,
+    sharing: Sharing,
+    world: &World,
+    plain: &Plain,
+) -> Result<Vec<Pot>, AllocError> {
+    let mut pots = Vec::new(alloc);
+    for land in plain.lands.iter() {
+        add_pots(sharing, world, plain, *land, &mut pots)?;
+    }
+    Ok(pots)
+}
+
+/// What is told of the order of a unit that can be carried out.
+fn told_of(sharing: Sharing, world: &World, plain: &Plain, given: &[Given], unit: u32) -> u64 {
+    match sharing {
+        Sharing::Work => work::earned(world, plain, given, unit),
+        _ => given_to(given, unit),
+    }
+}
+
+fn tell(
+    sharing: Sharing,
+    world: &World,
+    plain: &mut Plain,
+    claims: &[Claimed],
+    given: &[Given],
+) -> Result<(), AllocError> {
+    for claimed in claims {
+        let order = claimed.order;
+        let told = told_of(sharing, world, plain, given, order.unit);
+        let event = order.event(order.verb, outcome(claimed.claim, told));
+        plain.events.push(event)?;
+    }
+    Ok(())
+}
+
+/// A unit has its share.
+fn pay(sharing: Sharing, world: &World, plain: &mut Plain, given: Given) -> Result<(), AllocError> {
+    match sharing {
+        Sharing::Trade(trade) => trade::pay(trade, world, plain, given)?,
+        Sharing::Tax => tax::pay(plain, given),
+        Sharing::Recruit => recruit::pay(world, plain, given),
+        Sharing::Produce => produce::pay(world, plain, given)?,
+        Sharing::Work => work::pay(world, plain, given),
+    }
+    Ok(())
+}
+
+fn pay_all(
+    sharing: Sharing,
+    world: &World,
+    plain: &mut Plain,
+    given: &[Given],
+) -> Result<(), AllocError> {
+    for one in given {
+        pay(sharing, world, plain, *one)?;
+    }
+    Ok(())
+}
+
+/// Plays a phase.
+pub(crate) fn play(
+    alloc: Global,
+    sharing: Sharing,
+    world: &World,
+    plain: &mut Plain,
+    month: &Month,
+) -> Result<(), AllocError> {
+    let claims = claims(alloc, sharing, world, plain, month)?;
+    let pots = pots(alloc, sharing, world, plain)?;
+    let given = shared(alloc, plain, &claims, &pots)?;
+    tell(sharing, world, plain, &claims, &given)?;
+    pay_all(sharing, world, plain, &given)
+}
