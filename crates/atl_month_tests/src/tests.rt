@@ -10,3 +10,4 @@ mod phases;
 mod pots;
 mod settling;
 mod shares;
+mod telling;

@@ -7,7 +7,7 @@ use super::former::plain::Plain;
 use super::former::sharing::Sharing;
 use super::former::trade::Trade;
 use super::former::{shares, sharing, upkeep};
-use super::shares::are_small;
+use super::shares::{are_small, is_shared};
 use atl_instant::{Month, Phase};
 use atl_market::{BuyPhase, ProducePhase, RecruitPhase, SellPhase, TaxPhase, WorkPhase, share};
 use atl_month::UpkeepPhase;
@@ -27,6 +27,28 @@ fn are_as<T: PartialEq>(rt: &impl Abort, what: &str, told: &[T], wanted: &[T]) {
     }
 }
 
+/// The goods of units and the stocks of regions are the same.
+fn amounts_are(
+    rt: &impl Abort,
+    alloc: Global,
+    told: &Plain,
+    wanted: &Plain,
+) -> Result<(), AllocError> {
+    are_as(
+        rt,
+        "goods",
+        &told.sorted_goods(alloc)?,
+        &wanted.sorted_goods(alloc)?,
+    );
+    are_as(
+        rt,
+        "stocks",
+        &told.sorted_stocks(alloc)?,
+        &wanted.sorted_stocks(alloc)?,
+    );
+    Ok(())
+}
+
 /// A campaign, and what came of its orders, are as they were reckoned.
 fn is_as(
     rt: &impl Abort,
@@ -37,21 +59,9 @@ fn is_as(
 ) -> Result<(), AllocError> {
     let told = Plain::of(alloc, campaign)?;
     are_as(rt, "units", &told.people, &wanted.people);
-    are_as(
-        rt,
-        "goods",
-        &told.sorted_goods(alloc)?,
-        &wanted.sorted_goods(alloc)?,
-    );
     are_as(rt, "regions", &told.lands, &wanted.lands);
-    are_as(
-        rt,
-        "stocks",
-        &told.sorted_stocks(alloc)?,
-        &wanted.sorted_stocks(alloc)?,
-    );
     are_as(rt, "events", month.events(), &wanted.events);
-    Ok(())
+    amounts_are(rt, alloc, &told, wanted)
 }
 
 // ---- the phases
@@ -258,17 +268,13 @@ const WANTS: [&[u64]; 6] = [
 
 const MOST_SHARED: u64 = 300;
 
-fn share_is(rt: &impl Abort, pot: u64, told: &[u64], wanted: &[u64]) {
-    assert!(rt; told == wanted, "of {pot}");
-}
-
 fn pot_agrees(rt: &impl Abort, alloc: Global, pot: u64, wants: &[u64]) -> Result<(), Fail> {
     if pot > MOST_SHARED || !are_small(wants) {
         return Err(Fail::new("a pot and wants that are small enough"));
     }
     let told = share(alloc, pot, wants)?;
     let wanted = shares::share(alloc, pot, wants)?;
-    share_is(rt, pot, &told, &wanted);
+    is_shared(rt, pot, &told, &wanted);
     Ok(())
 }
 

@@ -507,8 +507,8 @@ fn book_all(
     Ok(())
 }
 
-fn rows(alloc: Global, world: &World) -> Result<Parts, AllocError> {
-    let mut parts = founded(alloc, world, b"gm")?.parts()?;
+/// Puts the factions and their units into the rows of a campaign that was just founded.
+fn fill(alloc: Global, parts: &mut Parts) -> Result<(), AllocError> {
     parts.markets = stocks(alloc)?;
     book_all(&parts.markets, &mut parts.books)?;
     parts.campaign = head(alloc)?;
@@ -516,7 +516,20 @@ fn rows(alloc: Global, world: &World) -> Result<Parts, AllocError> {
     parts.units = units(alloc)?;
     parts.has = has(alloc)?;
     parts.reports = reports(alloc)?;
+    Ok(())
+}
+
+fn rows(alloc: Global, world: &World) -> Result<Parts, AllocError> {
+    let mut parts = founded(alloc, world, b"gm")?.parts()?;
+    fill(alloc, &mut parts)?;
     Ok(parts)
+}
+
+/// The campaign that rows are of; nothing is marked.
+pub(crate) fn checked(alloc: Global, world: &World, rows: Parts) -> Result<Campaign, Fail>
+    ensures { IfOk result (λ campaign. IsGood world.now campaign.value) }
+{
+    Ok(check(alloc, world, rows)?)
 }
 
 /// The campaign.
@@ -524,7 +537,7 @@ pub(crate) fn crowd(alloc: Global, world: &World) -> Result<Campaign, Fail>
     ensures { IfOk result (λ campaign. IsGood world.now campaign.value) }
 {
     let rows = rows(alloc, world)?;
-    Ok(check(alloc, world, rows)?)
+    checked(alloc, world, rows)
 }
 
 // ---- the month

@@ -1,12 +1,14 @@
 //! What a closing marks of units: the rows of those that take names, pay each other, recruit, work and pay their upkeep, and of
 //! their goods only what they use, make, give or study.
-ghost use Rattle.std.specs.Prelude.{◌≡◌, All, IfOk};
+ghost use Rattle.std.specs.Prelude.{IfOk};
 ghost use Rattle.atl_state.specs.Good.{IsGood};
 
+use super::crowd::checked;
 use super::months::{own_mailings, small_world};
+use super::telling::row_is;
 use atl_month::close_month;
 use atl_state::parts::{Parts, StoredBooks, StoredHas};
-use atl_state::{Campaign, LAST_MONTH, check, founded};
+use atl_state::{Campaign, LAST_MONTH, founded};
 use atl_tables::{Entries, MarkedNumbers, Numbered, Text, World, name_ok, read_world};
 use atl_test_worlds::ISLE_WITH_MARKET;
 use std::alloc::{AllocError, Global};
@@ -38,7 +40,7 @@ fn joined(
 {
     join(alloc, world, &mut campaign, name)?;
     let rows = campaign.parts()?;
-    Ok(check(alloc, world, rows)?)
+    checked(alloc, world, rows)
 }
 
 /// Two factions with a unit each, in one region.
@@ -53,14 +55,27 @@ fn two_factions(alloc: Global, world: &World) -> Result<Campaign, Fail>
 /// The first unit takes a name, pays the second and recruits a man, and both work.
 const PAYING: [&str; 1] = ["#ATLANTIS 1\nUNIT 1\nNAME UNIT Watch\nPAY 2 10\nRECRUIT 1\n"];
 
+/// The campaign behind a month of these mailings, with a word for each region.
+fn behind(
+    alloc: Global,
+    world: &World,
+    campaign: Campaign,
+    texts: &[&str],
+    words: &[u32],
+) -> Result<Campaign, Fail>
+    requires { IsGood world.now campaign.value }
+{
+    let mailings = own_mailings(alloc, world, texts)?;
+    if campaign.month() >= LAST_MONTH || words.len() != world.regions().len() {
+        return Err(Fail::new("a first month with a word for each region"));
+    }
+    let (campaign, _) = close_month(alloc, world, campaign, mailings, words)?;
+    Ok(campaign)
+}
+
 fn paid(alloc: Global, world: &World) -> Result<Campaign, Fail> {
     let campaign = two_factions(alloc, world)?;
-    let mailings = own_mailings(alloc, world, &PAYING)?;
-    if campaign.month() >= LAST_MONTH || world.regions().len() != 1 {
-        return Err(Fail::new("a first month of one region"));
-    }
-    let (campaign, _) = close_month(alloc, world, campaign, mailings, &[0])?;
-    Ok(campaign)
+    behind(alloc, world, campaign, &PAYING, &[0])
 }
 
 fn is_so(rt: &impl Abort, told: bool) {
@@ -118,18 +133,13 @@ fn equipped(alloc: Global, world: &World) -> Result<Campaign, Fail>
     let campaign = two_factions(alloc, world)?;
     let mut rows = campaign.parts()?;
     equip(&mut rows)?;
-    Ok(check(alloc, world, rows)?)
+    checked(alloc, world, rows)
 }
 
 /// The island's campaign behind a month of one mailing.
 fn island_behind(alloc: Global, world: &World, mailing: &str) -> Result<Campaign, Fail> {
     let campaign = equipped(alloc, world)?;
-    let mailings = own_mailings(alloc, world, &[mailing])?;
-    if campaign.month() >= LAST_MONTH || world.regions().len() != 4 {
-        return Err(Fail::new("a first month of four regions"));
-    }
-    let (campaign, _) = close_month(alloc, world, campaign, mailings, &[0, 0, 0, 0])?;
-    Ok(campaign)
+    behind(alloc, world, campaign, &[mailing], &[0, 0, 0, 0])
 }
 
 fn tell_numbers(
@@ -178,10 +188,6 @@ fn marks_of(alloc: Global, campaign: &Campaign) -> Result<String, AllocError> {
     Ok(told)
 }
 
-fn told_is(rt: &impl Abort, row: usize, told: &str, wanted: &str) {
-    assert_eq!(rt; told, wanted, "at {row}");
-}
-
 fn marks_are(
     rt: &impl Abort,
     alloc: Global,
@@ -190,7 +196,7 @@ fn marks_are(
     wanted: &str,
 ) -> Result<(), AllocError> {
     let told = marks_of(alloc, campaign)?;
-    told_is(rt, row, told.as_str(), wanted);
+    row_is(rt, row, told.as_str(), wanted);
     Ok(())
 }
 

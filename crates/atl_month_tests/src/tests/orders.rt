@@ -1,6 +1,7 @@
 //! Which orders phases have, and in which order, by hand.
 use super::months::{month, world};
 use super::phases::{Studying, Working};
+use super::telling::row_is;
 use atl_instant::{Arrangement, FormPhase, GivePhase, Month, MonthLongVerbs, PhaseVerbs};
 use atl_market::RecruitPhase;
 use atl_orders::Verb;
@@ -9,10 +10,6 @@ use atl_tables::World;
 use std::alloc::Global;
 use std::process::Abort;
 use std::test::Fail;
-
-fn row_is(rt: &impl Abort, row: &str, told: &str, wanted: &str) {
-    assert_eq!(rt; told, wanted, "at {row}");
-}
 
 /// Adds the orders of a phase: unit, line, faction and keyword of each.
 fn tell<P: PhaseVerbs>(
@@ -106,18 +103,19 @@ fn row_tells(
     rt: &impl Abort,
     alloc: Global,
     world: &World,
+    row: usize,
     texts: &[&str],
     wanted: &str,
 ) -> Result<(), Fail> {
     let month = month(alloc, world, texts)?;
     let told = told_of(alloc, &month)?;
-    row_is(rt, wanted, told.as_str(), wanted);
+    row_is(rt, row, told.as_str(), wanted);
     Ok(())
 }
 
 fn rows_tell(rt: &impl Abort, alloc: Global, world: &World) -> Result<(), Fail> {
-    for (texts, wanted) in ROWS.iter() {
-        row_tells(rt, alloc, world, texts, wanted)?;
+    for (row, (texts, wanted)) in ROWS.iter().enumerate() {
+        row_tells(rt, alloc, world, row, texts, wanted)?;
     }
     Ok(())
 }
@@ -155,7 +153,7 @@ fn month_long_are(
         Arrangement::ByUnit,
         &mut told,
     )?;
-    row_is(rt, wanted, told.as_str(), wanted);
+    row_is(rt, 0, told.as_str(), wanted);
     Ok(())
 }
 
@@ -187,7 +185,7 @@ fn formed_tells(rt: &impl Abort, alloc: Global, month: &Month) -> Result<(), Fai
     let told = told_of(alloc, month)?;
     row_is(
         rt,
-        "aliases",
+        0,
         told.as_str(),
         "4 3 1 FORM;4 6 1 FORM;5 3 2 FORM;5 6 2 FORM;|||0 4 2 STUDY;|0 7 1 WORK;6 7 2 WORK;7 4 1 WORK;|",
     );

@@ -3,11 +3,12 @@ ghost use Rattle.std.specs.Prelude.{IfOk, ⊤};
 ghost use Rattle.atl_market.specs.Pots.{AreWants};
 ghost use Rattle.atl_month_tests.specs.Places.{pot_in};
 
+use super::telling::{row_is, tell_pair};
 use atl_market::{Pots, pot_shares};
 use atl_state::{Campaign, Holding, LAST_UNIT, Unit, founded};
 use atl_tables::{Numbered, Text, World, read_world};
 use atl_test_worlds::TWO_REGIONS;
-use std::alloc::Global;
+use std::alloc::{AllocError, Global};
 use std::process::Abort;
 use std::test::Fail;
 
@@ -74,10 +75,6 @@ const SHARED: [(&[Taker], (u16, u16), &str); 8] = [
     (&[(9, Some(5)), (1, Some(5))], (5, 5), "2 5;"),
 ];
 
-fn row_is(rt: &impl Abort, row: usize, told: &str, wanted: &str) {
-    assert_eq!(rt; told, wanted, "at {row}");
-}
-
 /// One man with nothing.
 fn one_man(alloc: Global) -> Result<Holding, Fail> {
     let name = Text::from_str(alloc, "A man")?;
@@ -122,11 +119,10 @@ fn wants_of(alloc: Global, takers: &[Taker]) -> Result<Numbered<u32>, Fail>
     Ok(wants)
 }
 
-fn told_of(alloc: Global, given: &Numbered<u32>) -> Result<String, Fail> {
+fn told_of(alloc: Global, given: &Numbered<u32>) -> Result<String, AllocError> {
     let mut told = String::new(alloc);
     for (number, share) in given.iter() {
-        let part = format!(in alloc; "{} {};", number, *share)?;
-        told.push_str(&part)?;
+        tell_pair(alloc, u64::from(number), u64::from(*share), &mut told)?;
     }
     Ok(told)
 }
@@ -144,7 +140,7 @@ fn shares(
         second: pots.1,
     };
     let given = pot_shares(alloc, &campaign, &places, &wants)?;
-    told_of(alloc, &given)
+    Ok(told_of(alloc, &given)?)
 }
 
 fn shares_all(rt: &impl Abort, alloc: Global, world: &World) -> Result<(), Fail> {

@@ -2,9 +2,9 @@
 ghost use Rattle.std.specs.Prelude.{All, IfOk};
 ghost use Rattle.atl_month.specs.Settling.{IsPurse};
 
+use super::telling::{row_is, tell_pair};
 use atl_month::{Purse, settle};
 use std::alloc::{AllocError, Global};
-use std::process::Abort;
 use std::test::Fail;
 
 /// Money of a man a month.
@@ -34,10 +34,6 @@ const SETTLED: [(&[(u8, u8, u16, u16)], &str); 11] = [
     ),
 ];
 
-fn row_is(rt: &impl Abort, row: usize, told: &str, wanted: &str) {
-    assert_eq!(rt; told, wanted, "at {row}");
-}
-
 fn purses_of(alloc: Global, units: &[(u8, u8, u16, u16)]) -> Result<Vec<Purse>, AllocError>
     ensures { IfOk result (λ purses. All IsPurse purses.items) }
 {
@@ -58,8 +54,12 @@ fn told_of(alloc: Global, units: &[(u8, u8, u16, u16)]) -> Result<String, Fail> 
     let purses = purses_of(alloc, units)?;
     let mut told = String::new(alloc);
     for unit in settle(alloc, MAINTENANCE, &purses)?.iter() {
-        let part = format!(in alloc; "{} {};", unit.paid, unit.starved)?;
-        told.push_str(&part)?;
+        tell_pair(
+            alloc,
+            u64::from(unit.paid),
+            u64::from(unit.starved),
+            &mut told,
+        )?;
     }
     Ok(told)
 }

@@ -22,7 +22,7 @@ const SHARED: [(u64, &[u64], &[u64]); 8] = [
     ),
 ];
 
-fn is_shared(rt: &impl Abort, pot: u64, told: &[u64], wanted: &[u64]) {
+pub(crate) fn is_shared(rt: &impl Abort, pot: u64, told: &[u64], wanted: &[u64]) {
     assert_eq!(rt; told, wanted, "of {pot}");
 }
 
