@@ -16,22 +16,22 @@ use Rattle.atl_tables.specs.ByNumber.{is_land_at, neighbour, size_of}
 use Rattle.atl_tables.proofs.GeneralLaws.{is_equal, is_unequal}
 use Rattle.atl_orders.specs.declared.order.Order.TheVariants as orders
 use Rattle.atl_orders.specs.Orders.{Said}
-use Rattle.atl_state.specs.declared.event.EventFault.{EventFault}
-use Rattle.atl_state.specs.declared.event.EventFault.TheVariants.{NoCrew, NoMen, NotComplete, NotInside, NotOwner, NoWay, TooHeavy}
-use Rattle.atl_state.specs.declared.event.Outcome.{Outcome}
-use Rattle.atl_state.specs.declared.event.Outcome.TheVariants.{Done, Fault}
-use Rattle.atl_state.specs.declared.records.Structure.{Structure}
-use Rattle.atl_state.specs.declared.records.Unit.{Unit}
-use Rattle.atl_state.specs.Events.{event_fault_number}
-use Rattle.atl_state.specs.Good.{Every, IsOwned, IsSteady, IsThere, is_ship}
-use Rattle.atl_state.specs.Held.{Held}
-use Rattle.atl_state.specs.Levels.{load_of}
+use Rattle.atl_records.specs.declared.event.EventFault.{EventFault}
+use Rattle.atl_records.specs.declared.event.EventFault.TheVariants.{NoCrew, NoMen, NotComplete, NotInside, NotOwner, NoWay, TooHeavy}
+use Rattle.atl_records.specs.declared.event.Outcome.{Outcome}
+use Rattle.atl_records.specs.declared.event.Outcome.TheVariants.{Done, Fault}
+use Rattle.atl_records.specs.declared.records.Structure.{Structure}
+use Rattle.atl_records.specs.declared.records.Unit.{Unit}
+use Rattle.atl_records.specs.Events.{event_fault_number}
+use Rattle.atl_records.specs.Every.{Every, IsThere}
+use Rattle.atl_state.specs.Good.{IsOwned, IsSteady, is_ship}
+use Rattle.atl_records.specs.Held.{Held}
+use Rattle.atl_records.specs.Levels.{load_of}
 use Rattle.atl_state.specs.Owners.{handed, heir, is_owned_by, placed, with_place, with_place_at}
 use Rattle.atl_state.specs.Campaign.{CampaignValue, numbers_inside, with_guard, with_structure_region}
-use Rattle.atl_state.proofs.EveryLaws.{none_some}
+use Rattle.atl_records.proofs.EveryLaws.{none_some, other_number}
 use Rattle.atl_state.proofs.InsideLaws.{inside_is_listed, is_no_zero, listed_is_inside}
-use Rattle.atl_state.proofs.RemovedLaws.{IsListed}
-use Rattle.atl_state.proofs.ListLaws.{other_number}
+use Rattle.atl_state.proofs.NumberListLaws.{IsListed}
 use Rattle.atl_instant.specs.declared.written.Arrangement.TheVariants.{ByUnit}
 use Rattle.atl_instant.specs.Month.{MonthValue}
 use Rattle.atl_instant.specs.Inside.{inside}

@@ -11,32 +11,32 @@ use Rattle.atl_tables.specs.ByNumber.{fee_of}
 use Rattle.atl_orders.specs.Bounds.{IsOrderOf}
 use Rattle.atl_orders.specs.declared.order.Order.TheVariants as orders
 use Rattle.atl_orders.specs.Orders.{Said}
-use Rattle.atl_state.specs.Books.{amount_in, thing_place}
-use Rattle.atl_state.specs.declared.books.Entry.{Entry}
-use Rattle.atl_state.specs.declared.books.Entry.TheVariants.{Lost, Study}
-use Rattle.atl_state.specs.declared.books.Thing.{Thing}
-use Rattle.atl_state.specs.declared.books.Thing.TheVariants.{Item, Money, People}
-use Rattle.atl_state.specs.declared.event.EventFault.{EventFault}
-use Rattle.atl_state.specs.declared.event.EventFault.TheVariants.{NoFee, NoMen}
-use Rattle.atl_state.specs.declared.event.Outcome.TheVariants.{Done}
-use Rattle.atl_state.specs.declared.records.Unit.{Unit}
+use Rattle.atl_records.specs.Books.{amount_in, thing_place, amount_number}
+use Rattle.atl_records.specs.declared.books.Entry.{Entry}
+use Rattle.atl_records.specs.declared.books.Entry.TheVariants.{Lost, Study}
+use Rattle.atl_records.specs.declared.books.Thing.{Thing}
+use Rattle.atl_records.specs.declared.books.Thing.TheVariants.{Item, Money, People}
+use Rattle.atl_records.specs.declared.event.EventFault.{EventFault}
+use Rattle.atl_records.specs.declared.event.EventFault.TheVariants.{NoFee, NoMen}
+use Rattle.atl_records.specs.declared.event.Outcome.TheVariants.{Done}
+use Rattle.atl_records.specs.declared.records.Unit.{Unit}
 use Rattle.atl_state.specs.Founding.{things_of}
 use Rattle.atl_state.specs.Good.{IsSteady}
-use Rattle.atl_state.specs.Held.{Held, amount_of}
+use Rattle.atl_records.specs.Held.{Held, amount_of}
 use Rattle.atl_state.specs.Lending.{with_held}
-use Rattle.atl_state.specs.Limits.{most_days}
-use Rattle.atl_state.specs.Marks.{amount_number}
+use Rattle.atl_records.specs.Limits.{most_days}
 use Rattle.atl_state.specs.Campaign.{CampaignValue}
-use Rattle.atl_state.specs.Totals.{Balances, held, total}
-use Rattle.atl_state.proofs.BookLaws.{booked-with_booked}
-use Rattle.atl_state.proofs.EveryLaws.{get-insert_other}
+use Rattle.atl_records.specs.Amounts.{held}
+use Rattle.atl_state.specs.Totals.{Balances, total}
+use Rattle.atl_records.proofs.BookLaws.{booked-with_booked}
+use Rattle.atl_records.proofs.EveryLaws.{get-insert_other}
 use Rattle.atl_state.proofs.HavingLaws.{may_have}
 use Rattle.atl_state.proofs.HoldingLaws.{MayHold, steady-held, total-held}
 use Rattle.atl_state.proofs.RegionLaws.{steady-amount, total-amount}
 use Rattle.atl_instant.specs.Meaning.{HasRoom, HaveRoom, moves_only}
 use Rattle.atl_instant.specs.Outcomes.{unless}
 use Rattle.atl_instant.specs.Steps.{IsDrawn, IsOrderly, IsOwnOrder, IsSpared, IsSparing, StepsWell}
-use Rattle.atl_state.proofs.HeldLaws.{every_amount}
+use Rattle.atl_records.proofs.HeldLaws.{every_amount}
 use Rattle.atl_instant.proofs.MeaningLaws.{same_month_by}
 use Rattle.atl_instant.proofs.BookingLaws.{booked-near, within-neg}
 use Rattle.atl_instant.proofs.OutcomeLaws.{none_fits, not_less}

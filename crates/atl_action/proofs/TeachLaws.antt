@@ -4,7 +4,7 @@ use Rattle.std.specs.Prelude.{fold}
 use Rattle.std.specs.Ordering.{nat_cmp}
 use Rattle.std.specs.FinMap.{FinMap, empty, values}
 use Rattle.atl_orders.specs.Mailing.{Reading}
-use Rattle.atl_state.specs.Held.{amount_of}
+use Rattle.atl_records.specs.Held.{amount_of}
 use Rattle.atl_state.specs.Campaign.{CampaignValue}
 use Rattle.atl_instant.specs.Month.{MonthValue}
 use Rattle.atl_instant.specs.PhaseOrders.{orders_of, written}

@@ -6,11 +6,12 @@ use Rattle.std.specs.FinMap.{FinMap, get, len}
 use Rattle.atl_tables.specs.Names.{name_ok}
 use Rattle.atl_tables.specs.Worlds.{WorldValue}
 use Rattle.atl_tables.specs.ByNumber.{is_land_at, size_of}
-use Rattle.atl_state.specs.Limits.{most_days}
-use Rattle.atl_state.specs.declared.records.Structure.{Structure}
-use Rattle.atl_state.specs.declared.records.Unit.{Unit}
-use Rattle.atl_state.specs.Good.{AreAfloat, AreInRange, AreKnown, AreNumbered, AreOfOneFaction, Every, IsAboard, IsBuilt, IsOwned, IsPlaced, IsSteady, IsThere, guards, is_ship}
-use Rattle.atl_state.specs.Held.{IsHolding}
+use Rattle.atl_records.specs.Limits.{most_days}
+use Rattle.atl_records.specs.declared.records.Structure.{Structure}
+use Rattle.atl_records.specs.declared.records.Unit.{Unit}
+use Rattle.atl_records.specs.Every.{Every, IsThere}
+use Rattle.atl_state.specs.Good.{AreAfloat, AreInRange, AreKnown, AreNumbered, AreOfOneFaction, IsAboard, IsBuilt, IsOwned, IsPlaced, IsSteady, guards, is_ship}
+use Rattle.atl_records.specs.Held.{IsHolding}
 use Rattle.atl_state.specs.Campaign.{CampaignValue, numbers_of}
 use Rattle.atl_instant.proofs.RefitLaws.{in_range_replaced, named_replaced, numbered_replaced, under}
 

@@ -7,8 +7,8 @@ use Rattle.atl_tables.specs.declared.direction.Direction.{Direction}
 use Rattle.atl_tables.specs.ByNumber.{neighbour}
 use Rattle.atl_orders.specs.declared.order.Order.TheVariants as orders
 use Rattle.atl_orders.specs.Orders.{Said}
-use Rattle.atl_state.specs.declared.event.Outcome.TheVariants.{Done}
-use Rattle.atl_state.specs.declared.records.Unit.{Unit}
+use Rattle.atl_records.specs.declared.event.Outcome.TheVariants.{Done}
+use Rattle.atl_records.specs.declared.records.Unit.{Unit}
 use Rattle.atl_state.specs.Owners.{with_place}
 use Rattle.atl_state.specs.Campaign.{CampaignValue, numbers_inside, with_guard, with_structure_region}
 use Rattle.atl_action.specs.Sail.{IsCarried, is_sailing, sail, sail_fault, sail_said, sail_step, sail_terms, sailed, taken_along}

@@ -13,18 +13,18 @@ use Rattle.atl_tables.specs.ByNumber.{is_land_at, neighbour}
 use Rattle.atl_tables.proofs.GeneralLaws.{is_equal, is_unequal}
 use Rattle.atl_orders.specs.declared.order.Order.TheVariants as orders
 use Rattle.atl_orders.specs.Orders.{Said}
-use Rattle.atl_state.specs.declared.event.EventFault.{EventFault}
-use Rattle.atl_state.specs.declared.event.EventFault.TheVariants.{AtSea, NoMen, NoWay, TooHeavy}
-use Rattle.atl_state.specs.declared.event.Outcome.TheVariants.{Done}
-use Rattle.atl_state.specs.declared.records.Structure.{Structure}
-use Rattle.atl_state.specs.declared.records.Unit.{Unit}
-use Rattle.atl_state.specs.Good.{Every, IsOwned, IsSteady, IsThere, is_ship}
-use Rattle.atl_state.specs.Levels.{carried_by, goods_of}
+use Rattle.atl_records.specs.declared.event.EventFault.{EventFault}
+use Rattle.atl_records.specs.declared.event.EventFault.TheVariants.{AtSea, NoMen, NoWay, TooHeavy}
+use Rattle.atl_records.specs.declared.event.Outcome.TheVariants.{Done}
+use Rattle.atl_records.specs.declared.records.Structure.{Structure}
+use Rattle.atl_records.specs.declared.records.Unit.{Unit}
+use Rattle.atl_records.specs.Every.{Every, IsThere}
+use Rattle.atl_state.specs.Good.{IsOwned, IsSteady, is_ship}
+use Rattle.atl_records.specs.Levels.{carried_by, goods_of}
 use Rattle.atl_state.specs.Owners.{handed, heir, placed, with_place, with_place_at}
 use Rattle.atl_state.specs.Campaign.{CampaignValue, with_guard}
-use Rattle.atl_state.proofs.EveryLaws.{none_some}
+use Rattle.atl_records.proofs.EveryLaws.{none_some, other_number}
 use Rattle.atl_state.proofs.LeavingLaws.{owned_by}
-use Rattle.atl_state.proofs.ListLaws.{other_number}
 use Rattle.atl_instant.specs.Outcomes.{unless}
 use Rattle.atl_instant.specs.Staying.{IsNoWorse}
 use Rattle.atl_instant.specs.Steps.{IsOrderly, IsOwnOrder, StepsWell}

@@ -9,9 +9,9 @@ use Rattle.atl_orders.specs.declared.order.Order.TheVariants as orders
 use Rattle.atl_orders.specs.declared.verb.Verb.{Verb}
 use Rattle.atl_orders.specs.declared.verb.Verb.TheVariants as verbs
 use Rattle.atl_orders.specs.Orders.{Said}
-use Rattle.atl_state.specs.declared.records.Unit.{Unit}
-use Rattle.atl_state.specs.Good.{IsThere}
-use Rattle.atl_state.specs.Held.{Held}
+use Rattle.atl_records.specs.declared.records.Unit.{Unit}
+use Rattle.atl_records.specs.Every.{IsThere}
+use Rattle.atl_records.specs.Held.{Held}
 use Rattle.atl_state.specs.Campaign.{CampaignValue}
 use Rattle.atl_instant.specs.Month.{MonthValue}
 use Rattle.atl_instant.specs.PhaseOrders.{Task, orders_by_unit}

@@ -8,16 +8,16 @@ use Rattle.atl_tables.specs.Sums.{sum_over}
 use Rattle.atl_tables.specs.ByNumber.{fee_of, size_of}
 use Rattle.atl_orders.specs.declared.order.Order.TheVariants as orders
 use Rattle.atl_orders.specs.Orders.{Said}
-use Rattle.atl_state.specs.declared.books.Entry.TheVariants.{Study}
-use Rattle.atl_state.specs.declared.books.Thing.TheVariants.{Money}
-use Rattle.atl_state.specs.declared.event.EventFault.{EventFault}
-use Rattle.atl_state.specs.declared.event.EventFault.TheVariants.{NoFee, NoMen}
-use Rattle.atl_state.specs.declared.event.Outcome.TheVariants.{Done}
-use Rattle.atl_state.specs.declared.records.Structure.{Structure}
-use Rattle.atl_state.specs.declared.records.Unit.{Unit}
-use Rattle.atl_state.specs.Held.{Held, amount_of, with_amount_of}
+use Rattle.atl_records.specs.declared.books.Entry.TheVariants.{Study}
+use Rattle.atl_records.specs.declared.books.Thing.TheVariants.{Money}
+use Rattle.atl_records.specs.declared.event.EventFault.{EventFault}
+use Rattle.atl_records.specs.declared.event.EventFault.TheVariants.{NoFee, NoMen}
+use Rattle.atl_records.specs.declared.event.Outcome.TheVariants.{Done}
+use Rattle.atl_records.specs.declared.records.Structure.{Structure}
+use Rattle.atl_records.specs.declared.records.Unit.{Unit}
+use Rattle.atl_records.specs.Held.{Held, amount_of, with_amount_of}
 use Rattle.atl_state.specs.Lending.{with_held}
-use Rattle.atl_state.specs.Limits.{most_days}
+use Rattle.atl_records.specs.Limits.{most_days}
 use Rattle.atl_state.specs.Campaign.{CampaignValue, with_amount}
 use Rattle.atl_instant.specs.Meaning.{Keeping, Meaning, Moving, most_moved, moves_only}
 use Rattle.atl_instant.specs.Outcomes.{first_fault, unless}

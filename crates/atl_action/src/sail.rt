@@ -4,7 +4,7 @@ ghost use Rattle.std.specs.List.{slice_get};
 ghost use Rattle.std.specs.FinMap as map;
 ghost use Rattle.atl_state.specs.Covers.{MarksChanges};
 ghost use Rattle.atl_state.specs.Good.{IsSteady};
-ghost use Rattle.atl_state.specs.Levels.{load_of};
+ghost use Rattle.atl_records.specs.Levels.{load_of};
 ghost use Rattle.atl_state.specs.Owners.{is_owned_by};
 ghost use Rattle.atl_state.specs.Campaign.{with_structure_region};
 ghost use Rattle.atl_instant.specs.Steps.{carried};

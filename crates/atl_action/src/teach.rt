@@ -2,8 +2,8 @@
 ghost use Rattle.std.specs.Prelude.{◌≡◌, ◌≤◌, ◌+◌, IfOk, List, OnOk, min, sum_by, ℕ};
 ghost use Rattle.std.specs.FinMap as map;
 ghost use Rattle.atl_orders.specs.Orders.{said};
-ghost use Rattle.atl_state.specs.Held.{amount_of};
-ghost use Rattle.atl_state.specs.Limits.{men_limit};
+ghost use Rattle.atl_records.specs.Held.{amount_of};
+ghost use Rattle.atl_records.specs.Limits.{men_limit};
 ghost use Rattle.atl_action.specs.Teach.{NobodyIsTaughtTwice, below_of, first_mentions, is_below, is_pupil, is_teaching, lesson, lesson_behind, level_at, listed, pupils_of, taught_out, teach, teach_fault, teach_order, teach_pupils, untaught, with_taught};
 ghost use Rattle.atl_instant.specs.Carrying.{found_written};
 

@@ -5,11 +5,10 @@ use Rattle.std.specs.Int.{w64}
 use Rattle.std.specs.Int.RustNames.{FitsSigned}
 use Rattle.std.proofs.lemmas.Int.{ints}
 use Rattle.atl_tables.proofs.GeneralLaws.{is_unequal}
-use Rattle.atl_state.specs.declared.books.Entry.{Entry}
-use Rattle.atl_state.specs.declared.books.Thing.{Thing}
-use Rattle.atl_state.specs.Books.{IsGrid, IsWithin, amount_in, thing_place, with_booked}
-use Rattle.atl_state.specs.Marks.{amount_number}
-use Rattle.atl_state.proofs.BookLaws.{amount-with_booked}
+use Rattle.atl_records.specs.declared.books.Entry.{Entry}
+use Rattle.atl_records.specs.declared.books.Thing.{Thing}
+use Rattle.atl_records.specs.Books.{IsGrid, IsWithin, amount_in, thing_place, with_booked, amount_number}
+use Rattle.atl_records.proofs.BookLaws.{amount-with_booked}
 use Rattle.atl_state.proofs.RegionLaws.{amount-other}
 use Rattle.atl_instant.specs.Meaning.{HasRoom, IsNear, Moving, amount_limit, moves_only}
 use Rattle.atl_instant.proofs.MeaningLaws.{near_room}

@@ -6,15 +6,14 @@ use Rattle.std.specs.Ordering.{nat_cmp, eq_by_cmp}
 use Rattle.std.specs.FinMap.{FinMap, contains_key-keys, empty, entries, get, get-empty, keys}
 use Rattle.std.specs.List.{list_any}
 use Rattle.std.proofs.lemmas.List.Folds.{list_any-append}
-use Rattle.atl_state.specs.Deciding.{EachOf}
-use Rattle.atl_state.specs.Good.{Every}
-use Rattle.atl_state.specs.Held.{Held, amount_of, with_amount_of}
-use Rattle.atl_state.proofs.EveryLaws.{each-from_every, every-empty}
+use Rattle.atl_records.specs.Every.{EachOf, Every}
+use Rattle.atl_records.specs.Held.{Held, amount_of, with_amount_of}
+use Rattle.atl_records.proofs.EveryLaws.{each-from_every, every-empty}
 use Rattle.atl_instant.specs.Holdings.{with_days}
 use Rattle.atl_instant.specs.Raising.{left_list, raised_list}
 use Rattle.atl_instant.specs.Transfer.{DaysGoWithMen, days_going, going_of, raised_of, staying_of, with_fewer, with_more}
 use Rattle.atl_instant.proofs.AmountsForLaws.{as_said, each_said, same_amounts}
-use Rattle.atl_state.proofs.HeldLaws.{alike, every_amount, set_amount}
+use Rattle.atl_records.proofs.HeldLaws.{alike, every_amount, set_amount}
 
 -- the amounts of some numbers, each set by the one that it has in a map
 module _ (days : FinMap nat_cmp ℕ) (f : ℕ → ℕ → ℕ) (s : ℕ) where

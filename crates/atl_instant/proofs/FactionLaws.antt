@@ -5,10 +5,11 @@ use Rattle.std.specs.Ordering.{nat_cmp}
 use Rattle.std.specs.FinMap.{FinMap, get, insert, len}
 use Rattle.atl_tables.specs.Names.{name_ok, pass_ok}
 use Rattle.atl_tables.specs.Worlds.{WorldValue}
-use Rattle.atl_state.specs.declared.records.Faction.{Faction}
-use Rattle.atl_state.specs.Good.{AreInRange, AreKnown, AreNamed, AreNumbered, Every, IsSteady, IsThere}
+use Rattle.atl_records.specs.declared.records.Faction.{Faction}
+use Rattle.atl_records.specs.Every.{Every, IsThere}
+use Rattle.atl_state.specs.Good.{AreInRange, AreKnown, AreNamed, AreNumbered, IsSteady}
 use Rattle.atl_state.specs.Campaign.{CampaignValue, numbers_of, with_faction_name}
-use Rattle.atl_state.proofs.EveryLaws.{every-insert, get-insert_other, none_some, there-insert}
+use Rattle.atl_records.proofs.EveryLaws.{every-insert, get-insert_other, none_some, there-insert}
 use Rattle.atl_state.proofs.RegionLaws.{changed-known, same_len}
 
 module _ (c : CampaignValue) (n : ℕ) (x : Faction) (name : List ℕ) (is : get c.factions n ≡ Some x) where

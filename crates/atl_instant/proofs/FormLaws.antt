@@ -8,11 +8,12 @@ use Rattle.atl_tables.specs.Worlds.{WorldValue}
 use Rattle.atl_tables.proofs.GeneralLaws.{is_equal}
 use Rattle.atl_orders.specs.Mailing.{Reading}
 use Rattle.atl_orders.specs.Orders.{Said}
-use Rattle.atl_state.specs.declared.event.EventFault.TheVariants.{NotYours, UnitLimit}
-use Rattle.atl_state.specs.declared.event.Outcome.TheVariants.{Done}
-use Rattle.atl_state.specs.declared.records.Unit.{Unit}
-use Rattle.atl_state.specs.Good.{Every, IsEarly}
-use Rattle.atl_state.specs.Limits.{last_unit}
+use Rattle.atl_records.specs.declared.event.EventFault.TheVariants.{NotYours, UnitLimit}
+use Rattle.atl_records.specs.declared.event.Outcome.TheVariants.{Done}
+use Rattle.atl_records.specs.declared.records.Unit.{Unit}
+use Rattle.atl_records.specs.Every.{Every}
+use Rattle.atl_state.specs.Good.{IsEarly}
+use Rattle.atl_records.specs.Limits.{last_unit}
 use Rattle.atl_state.specs.Campaign.{CampaignValue, with_unit_begun}
 use Rattle.atl_instant.specs.Month.{MonthValue, order_at}
 use Rattle.atl_instant.specs.Form.{form_by, form_fault, form_meaning, form_order, formed, is_forming, is_unit_limit, new_unit}

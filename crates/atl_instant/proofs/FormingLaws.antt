@@ -11,18 +11,20 @@ use Rattle.atl_tables.specs.Worlds.{WorldValue}
 use Rattle.atl_tables.proofs.SumLaws.{numbers_where-insert_other}
 use Rattle.atl_tables.specs.ByNumber.{is_land_at}
 use Rattle.atl_state.specs.Covers.{MarksChanges}
-use Rattle.atl_state.specs.Limits.{holding_limit, last_unit, most_days, most_units}
-use Rattle.atl_state.specs.declared.books.Thing.{Thing}
-use Rattle.atl_state.specs.declared.books.Thing.TheVariants.{Item, Money, People}
-use Rattle.atl_state.specs.declared.records.Unit.{Unit}
-use Rattle.atl_state.specs.Good.{AreAfloat, AreInRange, AreKnown, AreNamed, AreNumbered, AreOfOneFaction, AreOwned, Every, GoneHaveNone, IsAboard, IsEarly, IsPlaced, IsSteady, guards}
-use Rattle.atl_state.specs.Held.{IsHolding}
+use Rattle.atl_records.specs.Limits.{holding_limit, last_unit, most_days, most_units}
+use Rattle.atl_records.specs.declared.books.Thing.{Thing}
+use Rattle.atl_records.specs.declared.books.Thing.TheVariants.{Item, Money, People}
+use Rattle.atl_records.specs.declared.records.Unit.{Unit}
+use Rattle.atl_records.specs.Every.{Every}
+use Rattle.atl_state.specs.Good.{AreAfloat, AreInRange, AreKnown, AreNamed, AreNumbered, AreOfOneFaction, AreOwned, GoneHaveNone, IsAboard, IsEarly, IsPlaced, IsSteady, guards}
+use Rattle.atl_records.specs.Held.{IsHolding}
 use Rattle.atl_state.specs.Marking.{mark_unit_added, mark_unit_begun}
 use Rattle.atl_state.specs.Campaign.{MarkedCampaign, CampaignValue, with_unit, with_unit_begun}
-use Rattle.atl_state.specs.Totals.{held, total}
+use Rattle.atl_records.specs.Amounts.{held}
+use Rattle.atl_state.specs.Totals.{total}
 use Rattle.atl_state.proofs.CoverLaws.{Row, Stays, Tells, marks-trans, marks-unit, part_by_part}
-use Rattle.atl_state.proofs.EveryLaws.{every-empty, every-insert, get-insert_other, none_some, there-insert}
-use Rattle.atl_state.proofs.RemovedLaws.{none_passing}
+use Rattle.atl_records.proofs.EveryLaws.{every-empty, every-insert, get-insert_other, none_some, there-insert}
+use Rattle.atl_state.proofs.NumberListLaws.{none_passing}
 use Rattle.atl_state.proofs.TotalLaws.{total-with_unit}
 use Rattle.atl_instant.specs.Form.{is_unit_limit, new_unit}
 use Rattle.atl_instant.specs.Steps.{StepsWell}

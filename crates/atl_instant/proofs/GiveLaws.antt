@@ -8,18 +8,18 @@ use Rattle.atl_tables.specs.Worlds.{WorldValue}
 use Rattle.atl_orders.specs.declared.order.Order.TheVariants as orders
 use Rattle.atl_orders.specs.Bounds.{IsOrderOf}
 use Rattle.atl_orders.specs.Orders.{Said}
-use Rattle.atl_state.specs.declared.books.Thing.{Thing}
-use Rattle.atl_state.specs.declared.books.Thing.TheVariants as things
-use Rattle.atl_state.specs.declared.event.EventFault.{EventFault}
-use Rattle.atl_state.specs.declared.event.EventFault.TheVariants.{NoRoom, NotEnough, NotHere}
-use Rattle.atl_state.specs.declared.event.Outcome.TheVariants.{Done}
-use Rattle.atl_state.specs.declared.records.Unit.{Unit}
+use Rattle.atl_records.specs.declared.books.Thing.{Thing}
+use Rattle.atl_records.specs.declared.books.Thing.TheVariants as things
+use Rattle.atl_records.specs.declared.event.EventFault.{EventFault}
+use Rattle.atl_records.specs.declared.event.EventFault.TheVariants.{NoRoom, NotEnough, NotHere}
+use Rattle.atl_records.specs.declared.event.Outcome.TheVariants.{Done}
+use Rattle.atl_records.specs.declared.records.Unit.{Unit}
 use Rattle.atl_state.specs.Good.{IsEarly}
-use Rattle.atl_state.specs.Held.{Held, IsHolding, amount_of, with_amount_of}
+use Rattle.atl_records.specs.Held.{Held, IsHolding, amount_of, with_amount_of}
 use Rattle.atl_state.specs.Lending.{with_held}
-use Rattle.atl_state.specs.Limits.{holding_limit}
+use Rattle.atl_records.specs.Limits.{holding_limit}
 use Rattle.atl_state.specs.Campaign.{CampaignValue}
-use Rattle.atl_state.specs.Totals.{held}
+use Rattle.atl_records.specs.Amounts.{held}
 use Rattle.atl_instant.specs.Give.{give, give_fault, give_said, give_step, give_to, given, held_of, with_held_of}
 use Rattle.atl_instant.specs.Month.{Aliases}
 use Rattle.atl_instant.specs.Outcomes.{unless}
@@ -28,7 +28,7 @@ use Rattle.atl_instant.specs.PhaseOrders.{Task, unit_of}
 use Rattle.atl_instant.specs.Steps.{IsOrderly, IsOwnOrder, IsSpared, IsUnitOf, StepsWell}
 use Rattle.atl_instant.specs.declared.give.Gift.{Gift}
 use Rattle.atl_instant.specs.declared.give.Gift.TheVariants.{Item, Money}
-use Rattle.atl_state.proofs.HeldLaws.{alike, amount_within, every_amount, set_amount}
+use Rattle.atl_records.proofs.HeldLaws.{alike, amount_within, every_amount, set_amount}
 use Rattle.atl_state.proofs.HavingLaws.{MayHave, may_have}
 use Rattle.atl_instant.proofs.MovingLaws.{early-moved, moved, receiver_still, spared-moved, steps-moved}
 use Rattle.atl_instant.proofs.OutcomeLaws.{none_fits, not_apart, not_less, unless_itself}

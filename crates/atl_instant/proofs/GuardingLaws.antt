@@ -7,22 +7,24 @@ use Rattle.std.specs.FinMap.{get, insert}
 use Rattle.atl_tables.specs.Worlds.{WorldValue}
 use Rattle.atl_orders.specs.declared.order.Order.TheVariants as orders
 use Rattle.atl_orders.specs.Orders.{Said}
-use Rattle.atl_state.specs.Books.{amount_in}
+use Rattle.atl_records.specs.Books.{amount_in}
 use Rattle.atl_state.specs.Covers.{MarksChanges}
-use Rattle.atl_state.specs.declared.books.Thing.{Thing}
-use Rattle.atl_state.specs.declared.books.Thing.TheVariants.{Item, Money, People}
-use Rattle.atl_state.specs.declared.event.EventFault.{EventFault}
-use Rattle.atl_state.specs.declared.event.EventFault.TheVariants.{Guarded, NoMen}
-use Rattle.atl_state.specs.declared.event.Outcome.TheVariants.{Done}
-use Rattle.atl_state.specs.declared.records.Unit.{Unit}
-use Rattle.atl_state.specs.Good.{AreOfOneFaction, Every, IsSteady, guards}
+use Rattle.atl_records.specs.declared.books.Thing.{Thing}
+use Rattle.atl_records.specs.declared.books.Thing.TheVariants.{Item, Money, People}
+use Rattle.atl_records.specs.declared.event.EventFault.{EventFault}
+use Rattle.atl_records.specs.declared.event.EventFault.TheVariants.{Guarded, NoMen}
+use Rattle.atl_records.specs.declared.event.Outcome.TheVariants.{Done}
+use Rattle.atl_records.specs.declared.records.Unit.{Unit}
+use Rattle.atl_records.specs.Every.{Every}
+use Rattle.atl_state.specs.Good.{AreOfOneFaction, IsSteady, guards}
 use Rattle.atl_state.specs.Marking.{mark_unit_row}
 use Rattle.atl_state.specs.Campaign.{MarkedCampaign, CampaignValue, numbers_in, with_guard}
-use Rattle.atl_state.specs.Totals.{held, total}
-use Rattle.atl_state.proofs.EveryLaws.{every-insert, get-insert_other}
+use Rattle.atl_records.specs.Amounts.{held}
+use Rattle.atl_state.specs.Totals.{total}
+use Rattle.atl_records.proofs.EveryLaws.{every-insert, get-insert_other}
 use Rattle.atl_state.proofs.HoldingLaws.{marks-unit_row, total-held}
 use Rattle.atl_state.proofs.RegionLaws.{changed-known}
-use Rattle.atl_state.proofs.RemovedLaws.{IsListed, passing_listed}
+use Rattle.atl_state.proofs.NumberListLaws.{IsListed, passing_listed}
 use Rattle.atl_instant.specs.Guard.{guard, guard_concerns, guard_fault, guard_said, guard_step, guards_against, is_guarded_against}
 use Rattle.atl_instant.specs.Outcomes.{unless}
 use Rattle.atl_instant.specs.Staying.{IsNoWorse}

@@ -8,14 +8,14 @@ use Rattle.std.proofs.lemmas.Option.{same_Some}
 use Rattle.std.specs.FinMap.{empty, entries, get, get-empty, insert}
 use Rattle.std.specs.Ordering.{nat_cmp}
 use Rattle.atl_tables.proofs.GeneralLaws.{equal_itself, is_equal}
-use Rattle.atl_state.specs.declared.event.EventFault.TheVariants.{Guarded, NoMen}
-use Rattle.atl_state.specs.declared.records.Unit.{Unit}
-use Rattle.atl_state.specs.Deciding.{EachOf}
-use Rattle.atl_state.specs.Good.{AreOfOneFaction, Every, guards}
+use Rattle.atl_records.specs.declared.event.EventFault.TheVariants.{Guarded, NoMen}
+use Rattle.atl_records.specs.declared.records.Unit.{Unit}
+use Rattle.atl_records.specs.Every.{EachOf, Every}
+use Rattle.atl_state.specs.Good.{AreOfOneFaction, guards}
 use Rattle.atl_state.specs.Campaign.{CampaignValue, numbers_in, with_guard}
-use Rattle.atl_state.proofs.EveryLaws.{each-from_every, every-from_each, every-insert, get-insert_other, none_some}
+use Rattle.atl_records.proofs.EveryLaws.{each-from_every, every-from_each, every-insert, get-insert_other, none_some}
 use Rattle.atl_state.proofs.RegionLaws.{get-insert_same}
-use Rattle.atl_state.proofs.RemovedLaws.{IsListed, listed_passing, passing_listed}
+use Rattle.atl_state.proofs.NumberListLaws.{IsListed, listed_passing, passing_listed}
 use Rattle.atl_instant.specs.Guard.{guard_fault, guards_against, is_guarded_against}
 use Rattle.atl_instant.specs.Holders.{AreHolders, HolderMap, IsGuardOf, all_noted, holder_noted, holders_of, is_held_against}
 use Rattle.atl_instant.specs.Outcomes.{first_fault}

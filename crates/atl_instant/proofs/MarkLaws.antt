@@ -2,11 +2,11 @@
 use Rattle.std.proofs.Common.{◌≡◌, ◌==◌, ◌<◌, ℕ, Bool, true, false, Option, Some, None, refl, sym, ◌∙◌}
 use Rattle.std.specs.Prelude.{ℤ, Result, Ok, Err, OnOk, if◌then◌else◌}
 use Rattle.std.specs.FinMap.{get}
-use Rattle.atl_state.specs.Books.{IsGrid, thing_place}
+use Rattle.atl_records.specs.Books.{IsGrid, thing_place}
 use Rattle.atl_state.specs.Covers.{MarksChanges}
-use Rattle.atl_state.specs.declared.books.Entry.{Entry}
-use Rattle.atl_state.specs.declared.books.Thing.{Thing}
-use Rattle.atl_state.specs.declared.records.Unit.{Unit}
+use Rattle.atl_records.specs.declared.books.Entry.{Entry}
+use Rattle.atl_records.specs.declared.books.Thing.{Thing}
+use Rattle.atl_records.specs.declared.records.Unit.{Unit}
 use Rattle.atl_state.specs.Marking.{handed_marked, mark_amount, place_marked, place_marked_at, put_marked}
 use Rattle.atl_state.specs.Owners.{heir, with_place}
 use Rattle.atl_state.specs.Campaign.{MarkedCampaign, with_amount}

@@ -7,11 +7,12 @@ use Rattle.std.proofs.lemmas.Int.{ints}
 use Rattle.std.proofs.Math.Nat.{suc-mul}
 use Rattle.atl_tables.specs.Worlds.{WorldValue}
 use Rattle.atl_state.specs.Campaign.{CampaignValue}
-use Rattle.atl_state.specs.declared.books.Entry.{Entry}
-use Rattle.atl_state.specs.declared.books.Thing.{Thing}
-use Rattle.atl_state.specs.Books.{IsWithin, amount_in}
-use Rattle.atl_state.specs.declared.records.Faction.{Faction}
-use Rattle.atl_state.specs.Good.{IsSound, IsThere, amount_bound}
+use Rattle.atl_records.specs.declared.books.Entry.{Entry}
+use Rattle.atl_records.specs.declared.books.Thing.{Thing}
+use Rattle.atl_records.specs.Books.{IsWithin, amount_in}
+use Rattle.atl_records.specs.declared.records.Faction.{Faction}
+use Rattle.atl_records.specs.Every.{IsThere}
+use Rattle.atl_state.specs.Good.{IsSound, amount_bound}
 use Rattle.atl_instant.specs.Month.{MonthValue}
 use Rattle.atl_instant.specs.Meaning.{Condition, HasRoom, HaveRoom, IsNear, IsSameMonth, Keeping, LeavesWell, Meaning, Moving, both_keep, both_move, moved_times}
 

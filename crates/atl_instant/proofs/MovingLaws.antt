@@ -4,15 +4,16 @@ use Rattle.std.specs.Prelude.{pos}
 use Rattle.std.proofs.lemmas.Bool.{cases_eq}
 use Rattle.std.specs.FinMap.{get}
 use Rattle.atl_tables.specs.Worlds.{WorldValue}
-use Rattle.atl_state.specs.declared.books.Thing.{Thing}
-use Rattle.atl_state.specs.declared.records.Unit.{Unit}
-use Rattle.atl_state.specs.Books.{amount_in}
+use Rattle.atl_records.specs.declared.books.Thing.{Thing}
+use Rattle.atl_records.specs.declared.records.Unit.{Unit}
+use Rattle.atl_records.specs.Books.{amount_in}
 use Rattle.atl_state.specs.Good.{IsEarly}
-use Rattle.atl_state.specs.Held.{Held}
+use Rattle.atl_records.specs.Held.{Held}
 use Rattle.atl_state.specs.Lending.{with_held}
 use Rattle.atl_state.specs.Campaign.{CampaignValue}
-use Rattle.atl_state.specs.Totals.{held, total}
-use Rattle.atl_state.proofs.EveryLaws.{get-insert_other}
+use Rattle.atl_records.specs.Amounts.{held}
+use Rattle.atl_state.specs.Totals.{total}
+use Rattle.atl_records.proofs.EveryLaws.{get-insert_other}
 use Rattle.atl_state.proofs.HoldingLaws.{total-held}
 use Rattle.atl_state.proofs.RegionLaws.{get-insert_same}
 use Rattle.atl_instant.specs.Staying.{IsNoWorse}

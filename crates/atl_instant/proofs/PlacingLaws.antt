@@ -7,18 +7,18 @@ use Rattle.std.specs.FinMap.{get}
 use Rattle.atl_tables.specs.Worlds.{WorldValue}
 use Rattle.atl_tables.specs.ByNumber.{is_land_at}
 use Rattle.atl_tables.proofs.GeneralLaws.{is_equal, is_unequal}
-use Rattle.atl_state.specs.declared.records.Structure.{Structure}
-use Rattle.atl_state.specs.declared.records.Unit.{Unit}
-use Rattle.atl_state.specs.Good.{Every, IsEarly, IsOwned, IsSteady, is_ship}
-use Rattle.atl_state.specs.declared.books.Thing.{Thing}
+use Rattle.atl_records.specs.declared.records.Structure.{Structure}
+use Rattle.atl_records.specs.declared.records.Unit.{Unit}
+use Rattle.atl_records.specs.Every.{Every}
+use Rattle.atl_state.specs.Good.{IsEarly, IsOwned, IsSteady, is_ship}
+use Rattle.atl_records.specs.declared.books.Thing.{Thing}
 use Rattle.atl_state.specs.Owners.{handed, heir, is_owned_by, placed, with_place, with_place_at}
 use Rattle.atl_state.specs.Campaign.{CampaignValue, with_owner}
 use Rattle.atl_state.specs.Totals.{total}
-use Rattle.atl_state.proofs.EveryLaws.{get-insert_other}
+use Rattle.atl_records.proofs.EveryLaws.{get-insert_other, other_number}
 use Rattle.atl_state.proofs.InsideLaws.{is_no_zero}
 use Rattle.atl_state.proofs.LeavingLaws.{owned_by}
 use Rattle.atl_state.proofs.RegionLaws.{changed-known, get-insert_same}
-use Rattle.atl_state.proofs.ListLaws.{other_number}
 use Rattle.atl_instant.specs.Steps.{StepsWell}
 use Rattle.atl_instant.specs.Unbooked.{books_nothing}
 use Rattle.atl_instant.proofs.MeaningLaws.{same_month_by}

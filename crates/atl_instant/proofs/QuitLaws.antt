@@ -15,42 +15,42 @@ use Rattle.atl_tables.specs.Worlds.{WorldValue}
 use Rattle.atl_tables.specs.Sums.{sum_over}
 use Rattle.atl_orders.specs.declared.order.Order.TheVariants as orders
 use Rattle.atl_orders.specs.Orders.{Said}
-use Rattle.atl_state.specs.Books.{IsGrid, amount_in, booked, entry_place, thing_place}
+use Rattle.atl_records.specs.Books.{IsGrid, amount_in, booked, entry_place, thing_place, amount_number}
 use Rattle.atl_state.specs.Covers.{MarksChanges}
 use Rattle.atl_state.specs.Marking.{mark_amount}
-use Rattle.atl_state.specs.declared.books.Entry.{Entry}
-use Rattle.atl_state.specs.declared.books.Entry.TheVariants.{Left, Lost}
-use Rattle.atl_state.specs.declared.books.Thing.{Thing}
-use Rattle.atl_state.specs.declared.books.Thing.TheVariants.{Item, Money, People}
-use Rattle.atl_state.specs.declared.event.EventFault.{EventFault}
-use Rattle.atl_state.specs.declared.event.EventFault.TheVariants.{WrongNumber}
-use Rattle.atl_state.specs.declared.event.Outcome.TheVariants.{Done}
-use Rattle.atl_state.specs.declared.records.Faction.{Faction}
-use Rattle.atl_state.specs.declared.records.Unit.{Unit}
-use Rattle.atl_state.specs.Deciding.{EachOf}
+use Rattle.atl_records.specs.declared.books.Entry.{Entry}
+use Rattle.atl_records.specs.declared.books.Entry.TheVariants.{Left, Lost}
+use Rattle.atl_records.specs.declared.books.Thing.{Thing}
+use Rattle.atl_records.specs.declared.books.Thing.TheVariants.{Item, Money, People}
+use Rattle.atl_records.specs.declared.event.EventFault.{EventFault}
+use Rattle.atl_records.specs.declared.event.EventFault.TheVariants.{WrongNumber}
+use Rattle.atl_records.specs.declared.event.Outcome.TheVariants.{Done}
+use Rattle.atl_records.specs.declared.records.Faction.{Faction}
+use Rattle.atl_records.specs.declared.records.Unit.{Unit}
+use Rattle.atl_records.specs.Every.{EachOf, Every, IsThere}
 use Rattle.atl_state.specs.Founding.{things_of}
-use Rattle.atl_state.specs.Good.{Every, IsSteady, IsThere}
-use Rattle.atl_state.specs.Held.{Held, IsHolding}
-use Rattle.atl_state.specs.Limits.{entry_count, holding_limit, most_units}
-use Rattle.atl_state.specs.Marks.{amount_number}
+use Rattle.atl_state.specs.Good.{IsSteady}
+use Rattle.atl_records.specs.Held.{Held, IsHolding}
+use Rattle.atl_records.specs.Limits.{entry_count, holding_limit, most_units}
 use Rattle.atl_state.specs.Owners.{heir, without_unit, without_unit_at}
 use Rattle.atl_state.specs.Campaign.{MarkedCampaign, CampaignValue, numbers_of}
-use Rattle.atl_state.specs.Totals.{Balances, held, total}
-use Rattle.atl_state.proofs.BookLaws.{IsGrid-with_booked, booked-with_booked}
-use Rattle.atl_state.proofs.EveryEntryLaws.{entry_small}
+use Rattle.atl_records.specs.Amounts.{held}
+use Rattle.atl_state.specs.Totals.{Balances, total}
+use Rattle.atl_records.proofs.BookLaws.{IsGrid-with_booked, booked-with_booked}
+use Rattle.atl_records.proofs.EveryEntryLaws.{entry_small}
 use Rattle.atl_state.proofs.CoverLaws.{marks-amount}
-use Rattle.atl_state.proofs.ListLaws.{same_number}
-use Rattle.atl_state.proofs.EveryLaws.{each-from_every, not_below, sorted}
+use Rattle.atl_records.proofs.EveryLaws.{same_number, each-from_every, not_below, sorted}
 use Rattle.atl_state.proofs.LeavingLaws.{only_reduced, steady-without, total-without}
 use Rattle.atl_state.proofs.RegionLaws.{steady-amount}
-use Rattle.atl_state.proofs.RemovedLaws.{IsListed, get-remove_other, listed_passing, sum_over-remove}
+use Rattle.atl_records.proofs.RemovedLaws.{get-remove_other, sum_over-remove}
+use Rattle.atl_state.proofs.NumberListLaws.{IsListed, listed_passing}
 use Rattle.atl_instant.specs.Meaning.{HasRoom, HaveRoom, IsNear, Moving, both_move, most_moved, moves_only}
 use Rattle.atl_instant.specs.Outcomes.{unless}
 use Rattle.atl_instant.specs.PhaseOrders.{Task}
 use Rattle.atl_instant.specs.Quit.{booked_off, gone_under, item_gone, leaves, left_at, left_by, quit, quit_concerns, quit_fault, quit_moves, quit_reserve, quit_said, quit_step, with_gone_amount}
 use Rattle.atl_instant.specs.Staying.{IsNoWorse}
 use Rattle.atl_instant.specs.Steps.{IsDrawn, IsOrderly, IsSpared, IsUnitOf, StepsWell}
-use Rattle.atl_state.proofs.HeldLaws.{amount_within}
+use Rattle.atl_records.proofs.HeldLaws.{amount_within}
 use Rattle.atl_instant.proofs.BookingLaws.{booked-near, booked-room, within-neg}
 use Rattle.atl_instant.proofs.MeaningLaws.{less_room, near_more, near_same, near_twice, room_less}
 use Rattle.atl_instant.proofs.OutcomeLaws.{none_fits, not_apart}

@@ -15,9 +15,9 @@ use Rattle.atl_orders.specs.Bounds.{LinesRise}
 use Rattle.atl_orders.specs.Mailing.{EntrySaid, Reading}
 use Rattle.atl_orders.specs.Orders.{verb_of_order}
 use Rattle.atl_orders.specs.declared.verb.Verb.{Verb}
-use Rattle.atl_state.specs.Deciding.{EachOf}
+use Rattle.atl_records.specs.Every.{EachOf}
 use Rattle.atl_state.proofs.BackLaws.{append_each}
-use Rattle.atl_state.proofs.EveryLaws.{each-from_every}
+use Rattle.atl_records.proofs.EveryLaws.{each-from_every}
 use Rattle.atl_instant.specs.declared.standing.Slot.{Slot}
 use Rattle.atl_instant.specs.declared.standing.Slot.TheVariants.{MonthLong, Selling, Buying, Taxing, Recruiting}
 use Rattle.atl_instant.specs.declared.written.Arrangement.{Arrangement}

@@ -1,6 +1,6 @@
 -- Units that are no worse off behind one change, and behind the next, are no worse off behind both.
 use Rattle.std.proofs.Common.{refl, ◌∙◌, arith}
-use Rattle.atl_state.specs.declared.records.Unit.{Unit}
+use Rattle.atl_records.specs.declared.records.Unit.{Unit}
 use Rattle.atl_state.specs.Campaign.{CampaignValue}
 use Rattle.atl_instant.specs.Staying.{AreNoWorse, IsNoWorse}
 

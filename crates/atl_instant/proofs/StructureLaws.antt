@@ -6,13 +6,12 @@ use Rattle.std.specs.FinMap.{FinMap, get, len}
 use Rattle.std.proofs.lemmas.Bool.{cases_eq}
 use Rattle.std.proofs.lemmas.Bool.Decides.{nat_tests}
 use Rattle.atl_tables.specs.Sums.{changed, changed_at}
-use Rattle.atl_state.specs.declared.records.Structure.{Structure}
+use Rattle.atl_records.specs.declared.records.Structure.{Structure}
 use Rattle.atl_state.specs.Owners.{handed, is_owned_by}
 use Rattle.atl_state.specs.Campaign.{CampaignValue, with_owner}
-use Rattle.atl_state.proofs.EveryLaws.{get-insert_other}
+use Rattle.atl_records.proofs.EveryLaws.{get-insert_other, other_number}
 use Rattle.atl_state.proofs.LeavingLaws.{owned_by}
 use Rattle.atl_state.proofs.RegionLaws.{get-insert_same, same_len}
-use Rattle.atl_state.proofs.ListLaws.{other_number}
 
 pub equal : (a b : ℕ) → a ≡ b → (a == b) ≡ true
 equal a b same = grind (arith, nat_tests)

@@ -1,8 +1,8 @@
 -- What follows for some phases, one after the other, from what is so of each.
 use Rattle.std.proofs.Common.{◌≡◌, ◌-◌, ◌+◌, ◌*◌, ◌≤◌, ℕ, Bool, true, false, List, [], ◌∷◌, refl, arith}
 use Rattle.std.specs.Prelude.{if◌then◌else◌}
-use Rattle.atl_state.specs.declared.books.Entry.{Entry}
-use Rattle.atl_state.specs.declared.books.Thing.{Thing}
+use Rattle.atl_records.specs.declared.books.Entry.{Entry}
+use Rattle.atl_records.specs.declared.books.Thing.{Thing}
 use Rattle.atl_instant.specs.Meaning.{most_moved}
 use Rattle.atl_instant.specs.Terms.{EachPhase, MovesItsOwn, PhaseTerms, keeps_of, may_move, meaning_of, moving_of, moving_phases_of}
 use Rattle.atl_instant.specs.Unmailed.{starved_in}

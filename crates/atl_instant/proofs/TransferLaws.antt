@@ -10,18 +10,19 @@ use Rattle.atl_tables.specs.Worlds.{WorldValue}
 use Rattle.atl_tables.proofs.GeneralLaws.{is_equal}
 use Rattle.atl_orders.specs.declared.order.Order.TheVariants as orders
 use Rattle.atl_orders.specs.Orders.{Said}
-use Rattle.atl_state.specs.declared.books.Thing.{Thing}
-use Rattle.atl_state.specs.declared.books.Thing.TheVariants as things
-use Rattle.atl_state.specs.declared.event.EventFault.{EventFault}
-use Rattle.atl_state.specs.declared.event.EventFault.TheVariants.{NoRoom, NotEnough, NotHere, NotYours}
-use Rattle.atl_state.specs.declared.event.Outcome.TheVariants.{Done}
-use Rattle.atl_state.specs.declared.records.Unit.{Unit}
-use Rattle.atl_state.specs.Good.{Every, IsEarly}
-use Rattle.atl_state.specs.Held.{Held, amount_of}
+use Rattle.atl_records.specs.declared.books.Thing.{Thing}
+use Rattle.atl_records.specs.declared.books.Thing.TheVariants as things
+use Rattle.atl_records.specs.declared.event.EventFault.{EventFault}
+use Rattle.atl_records.specs.declared.event.EventFault.TheVariants.{NoRoom, NotEnough, NotHere, NotYours}
+use Rattle.atl_records.specs.declared.event.Outcome.TheVariants.{Done}
+use Rattle.atl_records.specs.declared.records.Unit.{Unit}
+use Rattle.atl_records.specs.Every.{Every}
+use Rattle.atl_state.specs.Good.{IsEarly}
+use Rattle.atl_records.specs.Held.{Held, amount_of}
 use Rattle.atl_state.specs.Lending.{with_held}
-use Rattle.atl_state.specs.Limits.{men_limit, most_days}
+use Rattle.atl_records.specs.Limits.{men_limit, most_days}
 use Rattle.atl_state.specs.Campaign.{CampaignValue}
-use Rattle.atl_state.specs.Totals.{held}
+use Rattle.atl_records.specs.Amounts.{held}
 use Rattle.atl_instant.specs.Month.{Aliases}
 use Rattle.atl_instant.specs.Outcomes.{unless}
 use Rattle.atl_instant.specs.Staying.{IsNoWorse}

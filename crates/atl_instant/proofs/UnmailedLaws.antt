@@ -12,14 +12,14 @@ use Rattle.atl_tables.specs.Worlds.{WorldValue}
 use Rattle.atl_tables.specs.Sums.{changed}
 use Rattle.atl_orders.specs.declared.verb.Verb.{Verb}
 use Rattle.atl_orders.specs.Mailing.{Reading}
-use Rattle.atl_state.specs.declared.event.Event.{Event}
-use Rattle.atl_state.specs.declared.event.EventFault.{EventFault}
-use Rattle.atl_state.specs.declared.event.Outcome.{Outcome}
-use Rattle.atl_state.specs.declared.records.Unit.{Unit}
-use Rattle.atl_state.specs.Good.{Every}
-use Rattle.atl_state.specs.Held.{amount_of}
+use Rattle.atl_records.specs.declared.event.Event.{Event}
+use Rattle.atl_records.specs.declared.event.EventFault.{EventFault}
+use Rattle.atl_records.specs.declared.event.Outcome.{Outcome}
+use Rattle.atl_records.specs.declared.records.Unit.{Unit}
+use Rattle.atl_records.specs.Every.{Every}
+use Rattle.atl_records.specs.Held.{amount_of}
 use Rattle.atl_state.specs.Campaign.{CampaignValue}
-use Rattle.atl_state.proofs.EveryLaws.{get-insert_other, none_some}
+use Rattle.atl_records.proofs.EveryLaws.{get-insert_other, none_some}
 use Rattle.atl_state.proofs.RegionLaws.{get-insert_same}
 use Rattle.atl_instant.specs.Month.{Aliases, MonthValue}
 use Rattle.atl_instant.specs.Meaning.{Keeping, Meaning, both_keep, then_also}

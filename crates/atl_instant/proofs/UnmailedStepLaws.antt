@@ -8,15 +8,15 @@ use Rattle.atl_orders.specs.declared.order.NameKind.{NameKind}
 use Rattle.atl_orders.specs.declared.order.NameKind.TheVariants as kinds
 use Rattle.atl_orders.specs.declared.order.Order.TheVariants as orders
 use Rattle.atl_orders.specs.Orders.{Said}
-use Rattle.atl_state.specs.declared.event.EventFault.{EventFault}
-use Rattle.atl_state.specs.declared.event.Outcome.TheVariants.{Done}
-use Rattle.atl_state.specs.declared.records.Unit.{Unit}
-use Rattle.atl_state.specs.Held.{Held}
+use Rattle.atl_records.specs.declared.event.EventFault.{EventFault}
+use Rattle.atl_records.specs.declared.event.Outcome.TheVariants.{Done}
+use Rattle.atl_records.specs.declared.records.Unit.{Unit}
+use Rattle.atl_records.specs.Held.{Held}
 use Rattle.atl_state.specs.Lending.{with_held}
 use Rattle.atl_state.specs.Owners.{handed, heir, placed, with_place, with_place_at}
 use Rattle.atl_state.specs.Campaign.{CampaignValue, numbers_of, with_guard, with_owner, with_structure_name}
-use Rattle.atl_state.proofs.EveryLaws.{get-insert_other}
-use Rattle.atl_state.proofs.RemovedLaws.{IsListed, listed_passing}
+use Rattle.atl_records.proofs.EveryLaws.{get-insert_other}
+use Rattle.atl_state.proofs.NumberListLaws.{IsListed, listed_passing}
 use Rattle.atl_instant.specs.Month.{Aliases, MonthValue}
 use Rattle.atl_instant.specs.Form.{form_by, form_keeps, form_meaning, form_order, is_forming}
 use Rattle.atl_instant.specs.Give.{give, give_said, give_step, give_terms, held_of, is_giving, with_held_of}

@@ -10,8 +10,8 @@ use Rattle.std.specs.FinMap.{FinMap, IsAntisymmetric, entries, entries-insert, f
 use Rattle.std.specs.FinMap.Entries.{by_order}
 use Rattle.std.proofs.lemmas.List.Elements.{All-from_recursion}
 use Rattle.atl_orders.specs.Mailing.{EntrySaid, Reading}
-use Rattle.atl_state.specs.Deciding.{EachOf}
-use Rattle.atl_state.proofs.EveryLaws.{each-from_every}
+use Rattle.atl_records.specs.Every.{EachOf}
+use Rattle.atl_records.proofs.EveryLaws.{each-from_every}
 use Rattle.atl_state.proofs.BackLaws.{append_each}
 use Rattle.atl_instant.specs.Month.{Aliases}
 use Rattle.atl_instant.specs.PhaseOrders.{IsInMailing, OrdersAreInMailings, Task, key_of, tasks_for, tasks_from, tasks_of}

@@ -5,14 +5,14 @@ use Rattle.atl_orders.specs.declared.order.Order.TheVariants as orders
 use Rattle.atl_orders.specs.declared.verb.Verb.{Verb}
 use Rattle.atl_orders.specs.declared.verb.Verb.TheVariants as verbs
 use Rattle.atl_orders.specs.Orders.{Said}
-use Rattle.atl_state.specs.declared.event.EventFault.{EventFault}
-use Rattle.atl_state.specs.declared.event.EventFault.TheVariants.{NoRoom, NotEnough, NotHere}
-use Rattle.atl_state.specs.declared.event.Outcome.{Outcome}
-use Rattle.atl_state.specs.declared.event.Outcome.TheVariants.{Done}
-use Rattle.atl_state.specs.declared.records.Unit.{Unit}
-use Rattle.atl_state.specs.Held.{Held, amount_of, with_amount_of}
+use Rattle.atl_records.specs.declared.event.EventFault.{EventFault}
+use Rattle.atl_records.specs.declared.event.EventFault.TheVariants.{NoRoom, NotEnough, NotHere}
+use Rattle.atl_records.specs.declared.event.Outcome.{Outcome}
+use Rattle.atl_records.specs.declared.event.Outcome.TheVariants.{Done}
+use Rattle.atl_records.specs.declared.records.Unit.{Unit}
+use Rattle.atl_records.specs.Held.{Held, amount_of, with_amount_of}
 use Rattle.atl_state.specs.Lending.{with_held}
-use Rattle.atl_state.specs.Limits.{holding_limit}
+use Rattle.atl_records.specs.Limits.{holding_limit}
 use Rattle.atl_state.specs.Campaign.{CampaignValue}
 use Rattle.atl_instant.specs.Month.{Aliases}
 use Rattle.atl_instant.specs.Outcomes.{first_fault, unless}

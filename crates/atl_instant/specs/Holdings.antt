@@ -3,7 +3,7 @@ use Rattle.std.specs.Prelude.{◌≡◌, ℕ, List, fold}
 use Rattle.std.specs.Ordering.{nat_cmp}
 use Rattle.std.specs.FinMap.{FinMap}
 use Rattle.atl_state.specs.Covers.{MarksChanges}
-use Rattle.atl_state.specs.Held.{Held, with_amount_of}
+use Rattle.atl_records.specs.Held.{Held, with_amount_of}
 use Rattle.atl_state.specs.Marks.{Marks}
 use Rattle.atl_state.specs.Campaign.{MarkedCampaign, unit_changed}
 

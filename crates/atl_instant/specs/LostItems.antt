@@ -1,7 +1,7 @@
 -- For proofs alone: how far items that are lost move the books.
 use Rattle.std.specs.Prelude.{ℕ, ◌+◌, List, [], ◌∷◌}
-use Rattle.atl_state.specs.declared.books.Entry.TheVariants.{Lost}
-use Rattle.atl_state.specs.declared.books.Thing.TheVariants.{Item}
+use Rattle.atl_records.specs.declared.books.Entry.TheVariants.{Lost}
+use Rattle.atl_records.specs.declared.books.Thing.TheVariants.{Item}
 use Rattle.atl_instant.specs.Meaning.{Moving, moves_only}
 
 -- so much of some items

@@ -2,11 +2,10 @@
 use Rattle.std.specs.Prelude.{◌≡◌, ℕ, ℤ, pos, ◌+ℤ◌, ◌≤ℤ◌, ◌+◌, ◌*◌, ◌==◌, if◌then◌else◌}
 use Rattle.std.specs.FinMap.{len}
 use Rattle.atl_tables.specs.Worlds.{WorldValue}
-use Rattle.atl_state.specs.declared.books.Entry.{Entry}
-use Rattle.atl_state.specs.declared.books.Thing.{Thing}
-use Rattle.atl_state.specs.Books.{amount_in}
-use Rattle.atl_state.specs.Good.{IsThere}
-use Rattle.atl_state.specs.Marks.{amount_number}
+use Rattle.atl_records.specs.declared.books.Entry.{Entry}
+use Rattle.atl_records.specs.declared.books.Thing.{Thing}
+use Rattle.atl_records.specs.Books.{amount_in, amount_number}
+use Rattle.atl_records.specs.Every.{IsThere}
 use Rattle.atl_state.specs.Campaign.{CampaignValue}
 use Rattle.atl_state.specs.Totals.{Balances}
 use Rattle.atl_instant.specs.Month.{MonthValue}

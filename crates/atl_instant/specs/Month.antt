@@ -18,8 +18,8 @@ use Rattle.atl_orders.specs.contracts.order.Order as order
 use Rattle.atl_orders.specs.contracts.order.UnitRef as target
 use Rattle.atl_orders.specs.Mailing.{EntrySaid, Reading, reading_of}
 use Rattle.atl_orders.specs.Orders.{Said, said}
-use Rattle.atl_state.specs.declared.event.Event.{Event}
-use Rattle.atl_state.specs.contracts.event.Event as event
+use Rattle.atl_records.specs.declared.event.Event.{Event}
+use Rattle.atl_records.specs.contracts.event.Event as event
 
 -- the units that FORM made, by faction and then by alias
 abbrev pub Aliases : Type 0

@@ -8,11 +8,11 @@ use Rattle.atl_orders.specs.declared.order.Order.TheVariants as orders
 use Rattle.atl_orders.specs.declared.verb.Verb.{Verb}
 use Rattle.atl_orders.specs.declared.verb.Verb.TheVariants as verbs
 use Rattle.atl_orders.specs.Orders.{Said}
-use Rattle.atl_state.specs.declared.event.EventFault.{EventFault}
-use Rattle.atl_state.specs.declared.event.EventFault.TheVariants.{NotInside, NotOwner}
-use Rattle.atl_state.specs.declared.event.Outcome.{Outcome}
-use Rattle.atl_state.specs.declared.event.Outcome.TheVariants.{Done}
-use Rattle.atl_state.specs.declared.records.Structure.{Structure}
+use Rattle.atl_records.specs.declared.event.EventFault.{EventFault}
+use Rattle.atl_records.specs.declared.event.EventFault.TheVariants.{NotInside, NotOwner}
+use Rattle.atl_records.specs.declared.event.Outcome.{Outcome}
+use Rattle.atl_records.specs.declared.event.Outcome.TheVariants.{Done}
+use Rattle.atl_records.specs.declared.records.Structure.{Structure}
 use Rattle.atl_state.specs.Good.{is_ship}
 use Rattle.atl_state.specs.Campaign.{CampaignValue, with_faction_name, with_guard, with_structure_name, with_unit_name}
 use Rattle.atl_instant.specs.Outcomes.{first_fault, unless}

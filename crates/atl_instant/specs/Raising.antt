@@ -2,7 +2,7 @@
 use Rattle.std.specs.Prelude.{ℕ, ◌+◌, ◌-◌, List, map}
 use Rattle.std.specs.Ordering.{nat_cmp}
 use Rattle.std.specs.FinMap.{FinMap, entries}
-use Rattle.atl_state.specs.Held.{amount_of}
+use Rattle.atl_records.specs.Held.{amount_of}
 use Rattle.atl_instant.specs.Transfer.{days_going}
 
 -- the rest of each skill

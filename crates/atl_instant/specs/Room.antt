@@ -1,8 +1,8 @@
 -- When the books have room for a phase.
 use Rattle.std.specs.Prelude.{ℕ, ◌-◌, ◌≤◌}
-use Rattle.atl_state.specs.declared.books.Entry.{Entry}
-use Rattle.atl_state.specs.declared.books.Thing.{Thing}
-use Rattle.atl_state.specs.Books.{IsWithin, amount_in}
+use Rattle.atl_records.specs.declared.books.Entry.{Entry}
+use Rattle.atl_records.specs.declared.books.Thing.{Thing}
+use Rattle.atl_records.specs.Books.{IsWithin, amount_in}
 use Rattle.atl_state.specs.Campaign.{CampaignValue}
 use Rattle.atl_instant.specs.Meaning.{HaveRoom, Moving, amount_limit, most_moved}
 

@@ -1,9 +1,9 @@
 -- What a phase leaves to the units that it takes nothing from.
 use Rattle.std.specs.Prelude.{◌≡◌, ◌≤◌, ℕ, Some}
 use Rattle.std.specs.FinMap.{get}
-use Rattle.atl_state.specs.declared.records.Unit.{Unit}
-use Rattle.atl_state.specs.Good.{Every}
-use Rattle.atl_state.specs.Held.{amount_of}
+use Rattle.atl_records.specs.declared.records.Unit.{Unit}
+use Rattle.atl_records.specs.Every.{Every}
+use Rattle.atl_records.specs.Held.{amount_of}
 use Rattle.atl_state.specs.Campaign.{CampaignValue}
 use Rattle.atl_instant.specs.Meaning.{Keeping}
 

@@ -1,10 +1,10 @@
 -- A phase as a month takes it: what it makes, how far it may move the books, and what it keeps. See docs/RULES.md, "Closing a month".
 use Rattle.std.specs.Prelude.{⊤, ℕ, ◌+◌, ◌≤◌, ◌==◌, ◌||◌, Bool, false, List, [], ◌∷◌, if◌then◌else◌}
 use Rattle.atl_orders.specs.declared.verb.Verb.{Verb}
-use Rattle.atl_state.specs.declared.books.Entry.{Entry}
-use Rattle.atl_state.specs.declared.books.Thing.{Thing}
-use Rattle.atl_state.specs.declared.books.Thing.TheVariants.{Item, Money, People}
-use Rattle.atl_state.specs.Books.{entry_place}
+use Rattle.atl_records.specs.declared.books.Entry.{Entry}
+use Rattle.atl_records.specs.declared.books.Thing.{Thing}
+use Rattle.atl_records.specs.declared.books.Thing.TheVariants.{Item, Money, People}
+use Rattle.atl_records.specs.Books.{entry_place}
 use Rattle.atl_instant.specs.Meaning.{Keeping, Meaning, Moving, both_keep, both_move, most_moved, moves_only, then_also}
 use Rattle.atl_instant.specs.Steps.{Concern, Sparing, Step, carried_out, spares_others}
 use Rattle.atl_instant.specs.Unbooked.{moves_nothing}

@@ -1,6 +1,6 @@
 //! What phases book.
 ghost use Rattle.std.specs.Prelude.{pos, neg_ℤ, length, ◌≡◌, ◌<◌};
-ghost use Rattle.atl_state.specs.Books.{amount_in, thing_place};
+ghost use Rattle.atl_records.specs.Books.{amount_in, thing_place};
 ghost use Rattle.atl_state.specs.Marking.{mark_amount};
 ghost use Rattle.atl_state.specs.Campaign.{with_amount};
 ghost use Rattle.atl_instant.specs.Meaning.{HasRoom};

@@ -4,7 +4,7 @@ ghost use Rattle.std.specs.FinMap as map;
 ghost use Rattle.atl_orders.specs.Orders.{said};
 ghost use Rattle.atl_state.specs.Covers.{MarksChanges};
 ghost use Rattle.atl_state.specs.Good.{IsEarly};
-ghost use Rattle.atl_state.specs.Limits.{last_unit};
+ghost use Rattle.atl_records.specs.Limits.{last_unit};
 ghost use Rattle.atl_instant.specs.Form.{alias_of, form_by, form_fault, form_keeps, form_meaning, form_order, formed, is_forming, is_unit_limit, new_unit, noted};
 ghost use Rattle.atl_instant.specs.Carrying.{found_written};
 

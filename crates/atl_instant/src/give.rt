@@ -3,10 +3,11 @@ ghost use Rattle.std.specs.Prelude.{◌≡◌, ◌≢◌, ◌≤◌, ◌+◌, If
 ghost use Rattle.std.specs.FinMap as map;
 ghost use Rattle.std.specs.Option.{option_copied};
 ghost use Rattle.atl_state.specs.Covers.{MarksChanges};
-ghost use Rattle.atl_state.specs.Good.{Every, IsEarly};
-ghost use Rattle.atl_state.specs.Held.{IsHolding};
-ghost use Rattle.atl_state.specs.declared.records.Unit.{Unit};
-ghost use Rattle.atl_state.specs.Limits.{holding_limit};
+ghost use Rattle.atl_records.specs.Every.{Every};
+ghost use Rattle.atl_state.specs.Good.{IsEarly};
+ghost use Rattle.atl_records.specs.Held.{IsHolding};
+ghost use Rattle.atl_records.specs.declared.records.Unit.{Unit};
+ghost use Rattle.atl_records.specs.Limits.{holding_limit};
 ghost use Rattle.atl_instant.specs.Holdings.{ChangesHolding};
 ghost use Rattle.atl_instant.specs.Give.{give, give_fault, give_step, given, held_of, is_giving, with_held_of};
 ghost use Rattle.atl_instant.specs.Steps.{carried};

@@ -1,6 +1,6 @@
 //! What phases set of a unit's men and of their days.
 ghost use Rattle.std.specs.Prelude.{◌≡◌, ◌≤◌, OnOk};
-ghost use Rattle.atl_state.specs.Limits.{men_limit};
+ghost use Rattle.atl_records.specs.Limits.{men_limit};
 ghost use Rattle.atl_instant.specs.Holdings.{ChangesHolding, with_days};
 
 use atl_state::Campaign;

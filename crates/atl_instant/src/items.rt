@@ -1,7 +1,7 @@
 //! The items that units hold.
 ghost use Rattle.std.specs.Prelude.{◌≡◌, ◌<◌, IfOk, length};
 ghost use Rattle.std.specs.FinMap.{entries};
-ghost use Rattle.atl_state.specs.Good.{Every};
+ghost use Rattle.atl_records.specs.Every.{Every};
 
 use atl_state::Holding;
 use atl_tables::World;

@@ -1,7 +1,7 @@
 //! What orders come to.
 ghost use Rattle.std.specs.Prelude.{◌≡◌};
-ghost use Rattle.atl_state.specs.Events.{event_fault_number};
-ghost use Rattle.atl_state.specs.declared.event.Outcome.TheVariants.{Fault};
+ghost use Rattle.atl_records.specs.Events.{event_fault_number};
+ghost use Rattle.atl_records.specs.declared.event.Outcome.TheVariants.{Fault};
 
 use atl_state::{EventFault, Outcome};
 

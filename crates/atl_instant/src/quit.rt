@@ -1,13 +1,13 @@
 //! QUIT.
 ghost use Rattle.std.specs.Prelude.{◌≡◌, ◌<◌, IfOk, OnOk, fold, length, true};
-ghost use Rattle.atl_state.specs.Books.{IsGrid, amount_in, thing_place};
+ghost use Rattle.atl_records.specs.Books.{IsGrid, amount_in, thing_place};
 ghost use Rattle.atl_state.specs.Covers.{MarksChanges};
-ghost use Rattle.atl_state.specs.Deciding.{EachOf};
+ghost use Rattle.atl_records.specs.Every.{EachOf};
 ghost use Rattle.atl_state.specs.Founding.{things_of};
 ghost use Rattle.atl_state.specs.Good.{IsSteady};
 ghost use Rattle.atl_state.specs.Marking.{mark_amount};
-ghost use Rattle.atl_state.specs.declared.books.Entry.TheVariants.{Left, Lost};
-ghost use Rattle.atl_state.specs.declared.books.Thing.TheVariants.{Money, People};
+ghost use Rattle.atl_records.specs.declared.books.Entry.TheVariants.{Left, Lost};
+ghost use Rattle.atl_records.specs.declared.books.Thing.TheVariants.{Money, People};
 ghost use Rattle.atl_instant.specs.Meaning.{HasRoom, HaveRoom, both_move, moves_only};
 ghost use Rattle.atl_instant.specs.Quit.{gone_under, is_quitting, item_gone, left_at, quit, quit_concerns, quit_fault, quit_keeps, quit_meaning, quit_moves, quit_reserve, quit_step, with_gone_amount};
 ghost use Rattle.atl_instant.specs.LostItems.{moving_items};

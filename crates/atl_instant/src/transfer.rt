@@ -3,9 +3,10 @@ ghost use Rattle.std.specs.Prelude.{◌≡◌, ◌≢◌, ◌≤◌, ◌+◌, �
 ghost use Rattle.std.specs.FinMap as map;
 ghost use Rattle.std.specs.Option.{option_copied};
 ghost use Rattle.atl_state.specs.Covers.{MarksChanges};
-ghost use Rattle.atl_state.specs.Good.{AreDays, Every, IsEarly};
-ghost use Rattle.atl_state.specs.Limits.{men_limit, most_days};
-ghost use Rattle.atl_state.specs.declared.records.Unit.{Unit};
+ghost use Rattle.atl_records.specs.Every.{Every};
+ghost use Rattle.atl_state.specs.Good.{AreDays, IsEarly};
+ghost use Rattle.atl_records.specs.Limits.{men_limit, most_days};
+ghost use Rattle.atl_records.specs.declared.records.Unit.{Unit};
 ghost use Rattle.atl_instant.specs.Raising.{left_list, raised_list};
 ghost use Rattle.atl_instant.specs.Transfer.{DaysGoWithMen, days_going, is_transferring, sent, transfer, transfer_fault, transfer_step};
 ghost use Rattle.atl_instant.specs.Steps.{carried};

@@ -6,11 +6,11 @@ use Rattle.atl_tables.specs.Names.{name_ok}
 use Rattle.atl_tables.specs.Worlds.{WorldValue}
 use Rattle.atl_tables.specs.declared.world.Kind.{Kind}
 use Rattle.atl_tables.specs.ByNumber.{size_of}
-use Rattle.atl_state.specs.declared.books.Entry.{Entry}
-use Rattle.atl_state.specs.declared.books.Thing.{Thing}
-use Rattle.atl_state.specs.declared.records.Structure.{Structure}
-use Rattle.atl_state.specs.Books.{amount_in, booked}
-use Rattle.atl_state.specs.Limits.{last_unit, most_structures}
+use Rattle.atl_records.specs.declared.books.Entry.{Entry}
+use Rattle.atl_records.specs.declared.books.Thing.{Thing}
+use Rattle.atl_records.specs.declared.records.Structure.{Structure}
+use Rattle.atl_records.specs.Books.{amount_in, booked}
+use Rattle.atl_records.specs.Limits.{last_unit, most_structures}
 use Rattle.atl_state.specs.Campaign.{CampaignValue}
 use Rattle.atl_state.specs.Totals.{total}
 use Rattle.atl_state.proofs.BegunLaws.{IsFresh, built, raised, steady_built, steady_raised, total_built, total_raised}

@@ -8,24 +8,23 @@ use Rattle.std.specs.FinMap.{get, remove}
 use Rattle.atl_tables.specs.Worlds.{WorldValue}
 use Rattle.atl_tables.specs.Sums.{sum_over}
 use Rattle.atl_tables.proofs.SumLaws.{sum_over-insert_known}
-use Rattle.atl_state.specs.declared.books.Entry.{Entry}
-use Rattle.atl_state.specs.declared.books.Entry.TheVariants.{Used}
-use Rattle.atl_state.specs.declared.books.Thing.{Thing}
-use Rattle.atl_state.specs.declared.books.Thing.TheVariants.{Item, Money, People}
-use Rattle.atl_state.specs.declared.records.Unit.{Unit}
-use Rattle.atl_state.specs.Books.{amount_in, entry_place, thing_place}
+use Rattle.atl_records.specs.declared.books.Entry.{Entry}
+use Rattle.atl_records.specs.declared.books.Entry.TheVariants.{Used}
+use Rattle.atl_records.specs.declared.books.Thing.{Thing}
+use Rattle.atl_records.specs.declared.books.Thing.TheVariants.{Item, Money, People}
+use Rattle.atl_records.specs.declared.records.Unit.{Unit}
+use Rattle.atl_records.specs.Books.{amount_in, entry_place, thing_place, amount_number}
 use Rattle.atl_state.specs.Good.{IsSteady}
-use Rattle.atl_state.specs.Held.{Held, amount_of, with_amount_of}
-use Rattle.atl_state.specs.Limits.{entry_count}
-use Rattle.atl_state.specs.Marks.{amount_number}
+use Rattle.atl_records.specs.Held.{Held, amount_of, with_amount_of}
+use Rattle.atl_records.specs.Limits.{entry_count}
 use Rattle.atl_state.specs.Campaign.{CampaignValue, with_amount}
-use Rattle.atl_state.proofs.EveryEntryLaws.{entry_small}
-use Rattle.atl_state.proofs.EveryLaws.{get-insert_other}
+use Rattle.atl_records.proofs.EveryEntryLaws.{entry_small}
+use Rattle.atl_records.proofs.EveryLaws.{get-insert_other}
 use Rattle.atl_state.proofs.RegionLaws.{get-insert_same}
-use Rattle.atl_state.proofs.RemovedLaws.{sum_over-remove}
+use Rattle.atl_records.proofs.RemovedLaws.{sum_over-remove}
 use Rattle.atl_instant.specs.Meaning.{HasRoom, HaveRoom, LeavesWell, moves_only}
 use Rattle.atl_instant.specs.Steps.{IsDrawn, StepsWell}
-use Rattle.atl_state.proofs.HeldLaws.{alike, set_amount}
+use Rattle.atl_records.proofs.HeldLaws.{alike, set_amount}
 use Rattle.atl_instant.proofs.MeaningLaws.{less_room, near_more}
 use Rattle.atl_instant.proofs.StepLaws.{drawn_near}
 use Rattle.atl_market.specs.Build.{CanBuild, build_reserve, usable}

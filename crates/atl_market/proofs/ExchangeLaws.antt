@@ -5,18 +5,19 @@ use Rattle.std.specs.FinMap.{get, insert}
 use Rattle.std.proofs.lemmas.Int.{ints}
 use Rattle.std.proofs.lemmas.Bool.Decides.{nat_tests}
 use Rattle.atl_tables.specs.Worlds.{WorldValue}
-use Rattle.atl_state.specs.declared.books.Entry.{Entry}
-use Rattle.atl_state.specs.declared.books.Thing.{Thing}
-use Rattle.atl_state.specs.declared.books.Thing.TheVariants.{Money, People, Item}
-use Rattle.atl_state.specs.declared.records.Region.{Region}
-use Rattle.atl_state.specs.declared.records.Unit.{Unit}
-use Rattle.atl_state.specs.Books.{IsWithin}
+use Rattle.atl_records.specs.declared.books.Entry.{Entry}
+use Rattle.atl_records.specs.declared.books.Thing.{Thing}
+use Rattle.atl_records.specs.declared.books.Thing.TheVariants.{Money, People, Item}
+use Rattle.atl_records.specs.declared.records.Region.{Region}
+use Rattle.atl_records.specs.declared.records.Unit.{Unit}
+use Rattle.atl_records.specs.Books.{IsWithin}
 use Rattle.atl_state.specs.Founding.{things_of}
 use Rattle.atl_state.specs.Good.{IsEarly, IsSteady}
-use Rattle.atl_state.specs.Held.{Held, amount_of}
+use Rattle.atl_records.specs.Held.{Held, amount_of}
 use Rattle.atl_state.specs.Campaign.{CampaignValue, region_changed, with_amount}
-use Rattle.atl_state.specs.Totals.{held, kept, total}
-use Rattle.atl_state.proofs.BookLaws.{booked-with_booked, share_of}
+use Rattle.atl_records.specs.Amounts.{held, kept}
+use Rattle.atl_state.specs.Totals.{total}
+use Rattle.atl_records.proofs.BookLaws.{booked-with_booked, share_of}
 use Rattle.atl_state.proofs.HavingLaws.{MayHave, early-having}
 use Rattle.atl_state.proofs.HoldingLaws.{total-held}
 use Rattle.atl_state.proofs.RegionLaws.{steady-amount, total-amount, total-region}

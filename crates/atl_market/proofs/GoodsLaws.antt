@@ -7,25 +7,26 @@ use Rattle.std.specs.FinMap.{get}
 use Rattle.std.proofs.lemmas.Int.{ints}
 use Rattle.std.proofs.lemmas.Bool.Decides.{nat_tests}
 use Rattle.atl_tables.specs.Worlds.{WorldValue}
-use Rattle.atl_state.specs.declared.books.Entry.{Entry}
-use Rattle.atl_state.specs.declared.books.Entry.TheVariants as entries
-use Rattle.atl_state.specs.declared.books.Thing.{Thing}
-use Rattle.atl_state.specs.declared.books.Thing.TheVariants.{Item, Money, People}
-use Rattle.atl_state.specs.declared.records.Unit.{Unit}
-use Rattle.atl_state.specs.Books.{IsWithin}
+use Rattle.atl_records.specs.declared.books.Entry.{Entry}
+use Rattle.atl_records.specs.declared.books.Entry.TheVariants as entries
+use Rattle.atl_records.specs.declared.books.Thing.{Thing}
+use Rattle.atl_records.specs.declared.books.Thing.TheVariants.{Item, Money, People}
+use Rattle.atl_records.specs.declared.records.Unit.{Unit}
+use Rattle.atl_records.specs.Books.{IsWithin}
 use Rattle.atl_state.specs.Founding.{things_of}
 use Rattle.atl_state.specs.Good.{IsSteady}
-use Rattle.atl_state.specs.Held.{Held, amount_of, with_amount_of}
+use Rattle.atl_records.specs.Held.{Held, amount_of, with_amount_of}
 use Rattle.atl_state.specs.Lending.{with_held}
-use Rattle.atl_state.specs.Limits.{holding_limit}
+use Rattle.atl_records.specs.Limits.{holding_limit}
 use Rattle.atl_state.specs.Campaign.{CampaignValue, with_amount, with_item}
-use Rattle.atl_state.specs.Totals.{held, total}
-use Rattle.atl_state.proofs.BookLaws.{booked-with_booked, share_of}
+use Rattle.atl_records.specs.Amounts.{held}
+use Rattle.atl_state.specs.Totals.{total}
+use Rattle.atl_records.proofs.BookLaws.{booked-with_booked, share_of}
 use Rattle.atl_state.proofs.HavingLaws.{MayHave, may_have}
 use Rattle.atl_state.proofs.HoldingLaws.{steady-held, total-held}
 use Rattle.atl_state.proofs.RegionLaws.{get-insert_same, steady-amount, total-amount}
 use Rattle.atl_instant.specs.Meaning.{LeavesWell, moves_only}
-use Rattle.atl_state.proofs.HeldLaws.{alike, amount_within, every_amount, set_amount}
+use Rattle.atl_records.proofs.HeldLaws.{alike, amount_within, every_amount, set_amount}
 use Rattle.atl_instant.proofs.MeaningLaws.{same_month_by}
 use Rattle.atl_instant.proofs.BookingLaws.{booked-near, within-neg, within-pos}
 use Rattle.atl_instant.proofs.ChangeLaws.{changed_held, others_held}

@@ -9,7 +9,7 @@ use Rattle.std.proofs.lemmas.Bool.{cases_eq}
 use Rattle.atl_tables.specs.Worlds.{WorldValue}
 use Rattle.atl_state.specs.Campaign.{CampaignValue}
 use Rattle.atl_state.proofs.BackLaws.{Rise, entries_rise}
-use Rattle.atl_state.proofs.EveryLaws.{first, none_some}
+use Rattle.atl_records.proofs.EveryLaws.{first, none_some}
 use Rattle.atl_market.specs.Outputs.{gathered, made_by, makes, output_at, output_share}
 use Rattle.atl_market.specs.Puts.{with_each}
 use Rattle.atl_market.specs.Produce.{produce_pots}

@@ -7,11 +7,11 @@ use Rattle.std.specs.FinMap.{FinMap, empty, entries, get, get-empty}
 use Rattle.std.proofs.lemmas.Bool.{false≢true}
 use Rattle.std.proofs.lemmas.Bool.Decides.{nat_tests}
 use Rattle.atl_tables.specs.Worlds.{WorldValue}
-use Rattle.atl_state.specs.declared.event.EventFault.{EventFault}
-use Rattle.atl_state.specs.declared.event.EventFault.TheVariants.{NotYours}
-use Rattle.atl_state.specs.declared.records.Unit.{Unit}
+use Rattle.atl_records.specs.declared.event.EventFault.{EventFault}
+use Rattle.atl_records.specs.declared.event.EventFault.TheVariants.{NotYours}
+use Rattle.atl_records.specs.declared.records.Unit.{Unit}
 use Rattle.atl_state.specs.Campaign.{CampaignValue}
-use Rattle.atl_state.proofs.EveryLaws.{each-from_every, get-insert_other, none_some}
+use Rattle.atl_records.proofs.EveryLaws.{each-from_every, get-insert_other, none_some}
 use Rattle.atl_instant.specs.declared.written.Written.{Written}
 use Rattle.atl_instant.proofs.StayingLaws.{no_worse}
 use Rattle.atl_market.specs.PotPhase.{PotMeaning, fault_at, fault_of, given_by, shared_out, want_at, want_by, wants_by}

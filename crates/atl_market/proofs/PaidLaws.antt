@@ -6,9 +6,9 @@ use Rattle.std.specs.FinMap.{FinMap, get}
 use Rattle.atl_tables.specs.Worlds.{WorldValue}
 use Rattle.atl_tables.specs.declared.world.Item.{Item}
 use Rattle.atl_state.specs.Campaign.{CampaignValue}
-use Rattle.atl_state.specs.declared.records.Region.{Region}
-use Rattle.atl_state.specs.declared.records.Unit.{Unit}
-use Rattle.atl_state.proofs.EveryLaws.{get-insert_other}
+use Rattle.atl_records.specs.declared.records.Region.{Region}
+use Rattle.atl_records.specs.declared.records.Unit.{Unit}
+use Rattle.atl_records.proofs.EveryLaws.{get-insert_other}
 use Rattle.atl_state.proofs.RegionLaws.{changed-known, get-insert_same}
 use Rattle.atl_market.specs.AtOnce.{stays}
 use Rattle.atl_market.specs.Goods.{made_to, used_by, with_made, with_used}

@@ -14,14 +14,12 @@ use Rattle.std.proofs.lemmas.List.Sums.{fold-append}
 use Rattle.atl_tables.specs.Sums.{numbers_among}
 use Rattle.atl_tables.proofs.MadeLaws.{is_less}
 use Rattle.atl_tables.proofs.SumLaws.{chosen-cons}
-use Rattle.atl_state.specs.Good.{IsThere}
+use Rattle.atl_records.specs.Every.{IsThere, EachOf}
 use Rattle.atl_state.specs.Campaign.{CampaignValue, numbers_in}
-use Rattle.atl_state.specs.declared.records.Region.{Region}
-use Rattle.atl_state.specs.declared.records.Unit.{Unit}
-use Rattle.atl_state.specs.Deciding.{EachOf}
+use Rattle.atl_records.specs.declared.records.Region.{Region}
+use Rattle.atl_records.specs.declared.records.Unit.{Unit}
 use Rattle.atl_state.proofs.BackLaws.{Rise}
-use Rattle.atl_state.proofs.EveryLaws.{every-from_each, none_some, first, later, sorted}
-use Rattle.atl_state.proofs.ListLaws.{same_number}
+use Rattle.atl_records.proofs.EveryLaws.{every-from_each, none_some, first, later, sorted, same_number}
 use Rattle.atl_state.proofs.RegionLaws.{get-insert_same}
 use Rattle.atl_state.proofs.OrderLaws.{each_so}
 use Rattle.atl_market.specs.Asked.{region_at, regions_asked}

@@ -9,24 +9,23 @@ use Rattle.std.proofs.lemmas.Option.{slice_get_within}
 use Rattle.std.proofs.Math.Nat.{mul-div-le, mul-le-mul_right, mul_comm}
 use Rattle.atl_tables.specs.Worlds.{IsWorld, WorldValue}
 use Rattle.atl_tables.specs.declared.world.Item.{Item}
-use Rattle.atl_state.specs.declared.books.Entry.{Entry}
-use Rattle.atl_state.specs.declared.books.Entry.TheVariants as booked
-use Rattle.atl_state.specs.declared.books.Thing.{Thing}
-use Rattle.atl_state.specs.declared.books.Thing.TheVariants as things
-use Rattle.atl_state.specs.declared.records.Unit.{Unit}
-use Rattle.atl_state.specs.Books.{amount_in}
-use Rattle.atl_state.specs.Good.{Every, IsSteady}
-use Rattle.atl_state.specs.Held.{Held, amount_of, with_amount_of}
-use Rattle.atl_state.specs.Levels.{level_in_any}
-use Rattle.atl_state.specs.Limits.{holding_limit, most_units}
-use Rattle.atl_state.specs.Marks.{amount_number}
+use Rattle.atl_records.specs.declared.books.Entry.{Entry}
+use Rattle.atl_records.specs.declared.books.Entry.TheVariants as booked
+use Rattle.atl_records.specs.declared.books.Thing.{Thing}
+use Rattle.atl_records.specs.declared.books.Thing.TheVariants as things
+use Rattle.atl_records.specs.declared.records.Unit.{Unit}
+use Rattle.atl_records.specs.Books.{amount_in, amount_number}
+use Rattle.atl_records.specs.Every.{Every}
+use Rattle.atl_state.specs.Good.{IsSteady}
+use Rattle.atl_records.specs.Held.{Held, amount_of, with_amount_of}
+use Rattle.atl_records.specs.Levels.{level_in_any}
+use Rattle.atl_records.specs.Limits.{holding_limit, most_units}
 use Rattle.atl_state.specs.Campaign.{CampaignValue}
 use Rattle.atl_state.proofs.BackLaws.{Rise, entries_rise}
-use Rattle.atl_state.proofs.EveryLaws.{each-from_every, none_some}
-use Rattle.atl_state.proofs.ListLaws.{same_number}
+use Rattle.atl_records.proofs.EveryLaws.{each-from_every, none_some, same_number}
 use Rattle.atl_instant.specs.Meaning.{HasRoom, HaveRoom, LeavesWell, Moving, both_move, most_moved, moved_times, moves_only}
 use Rattle.atl_instant.specs.declared.written.Written.{Written}
-use Rattle.atl_state.proofs.HeldLaws.{amount_within}
+use Rattle.atl_records.proofs.HeldLaws.{amount_within}
 use Rattle.atl_instant.proofs.MeaningLaws.{MovesLess, both_leave_well, less_room, room_behind, room_less, well_unchanged, well_within}
 use Rattle.atl_market.specs.Making.{CanMakeOf, CanProduce, Fits}
 use Rattle.atl_market.specs.PotPhase.{CanInTurn, given_by, shared_out}

@@ -8,24 +8,25 @@ use Rattle.std.proofs.Math.Nat.{div-le_self, mul-div-le, mul-le-mul_right, mul_c
 use Rattle.atl_tables.specs.Worlds.{WorldValue}
 use Rattle.atl_tables.specs.Sums.{changed, changed_at}
 use Rattle.atl_tables.proofs.Maps.{insert_over}
-use Rattle.atl_state.specs.declared.books.Entry.{Entry}
-use Rattle.atl_state.specs.declared.books.Entry.TheVariants.{Recruiting}
-use Rattle.atl_state.specs.declared.books.Thing.{Thing}
-use Rattle.atl_state.specs.declared.books.Thing.TheVariants.{Money}
-use Rattle.atl_state.specs.declared.records.Region.{Region}
-use Rattle.atl_state.specs.declared.records.Unit.{Unit}
-use Rattle.atl_state.specs.Books.{IsGrid}
+use Rattle.atl_records.specs.declared.books.Entry.{Entry}
+use Rattle.atl_records.specs.declared.books.Entry.TheVariants.{Recruiting}
+use Rattle.atl_records.specs.declared.books.Thing.{Thing}
+use Rattle.atl_records.specs.declared.books.Thing.TheVariants.{Money}
+use Rattle.atl_records.specs.declared.records.Region.{Region}
+use Rattle.atl_records.specs.declared.records.Unit.{Unit}
+use Rattle.atl_records.specs.Books.{IsGrid}
 use Rattle.atl_state.specs.Covers.{MarksChanges}
-use Rattle.atl_state.specs.Good.{Every, IsEarly}
-use Rattle.atl_state.specs.Held.{Held}
+use Rattle.atl_records.specs.Every.{Every}
+use Rattle.atl_state.specs.Good.{IsEarly}
+use Rattle.atl_records.specs.Held.{Held}
 use Rattle.atl_state.specs.Lending.{with_held, with_holding}
-use Rattle.atl_state.specs.Limits.{holding_limit, men_limit, most_units}
+use Rattle.atl_records.specs.Limits.{holding_limit, men_limit, most_units}
 use Rattle.atl_state.specs.Marking.{mark_amount, mark_region, mark_unit_row}
 use Rattle.atl_state.specs.Campaign.{MarkedCampaign, CampaignValue, region_changed, with_amount, with_money, with_peasants}
 use Rattle.atl_state.specs.Campaign as state
 use Rattle.atl_state.proofs.BackLaws.{entries_rise}
 use Rattle.atl_state.proofs.CoverLaws.{marks-amount, marks-region, marks-trans}
-use Rattle.atl_state.proofs.EveryLaws.{each-from_every, get-insert_other}
+use Rattle.atl_records.proofs.EveryLaws.{each-from_every, get-insert_other}
 use Rattle.atl_state.proofs.HoldingLaws.{marks-unit_row}
 use Rattle.atl_state.proofs.RegionLaws.{IsRegion-peasants, get-insert_same, steady-region}
 use Rattle.atl_instant.specs.Meaning.{HaveRoom, LeavesWell, Moving, moved_times, most_moved}

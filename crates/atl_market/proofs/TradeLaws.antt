@@ -15,27 +15,27 @@ use Rattle.atl_tables.specs.Limits.{most_amount}
 use Rattle.atl_tables.specs.Worlds.{IsMarket, IsWorld, WorldValue}
 use Rattle.atl_tables.specs.declared.world.Market.{Market}
 use Rattle.atl_tables.specs.declared.world.RegionPlan.{RegionPlan}
-use Rattle.atl_state.specs.declared.books.Entry.{Entry}
-use Rattle.atl_state.specs.declared.books.Thing.{Thing}
-use Rattle.atl_state.specs.declared.books.Thing.TheVariants.{Money}
-use Rattle.atl_state.specs.declared.records.Region.{Region}
-use Rattle.atl_state.specs.declared.records.Unit.{Unit}
-use Rattle.atl_state.specs.Books.{IsWithin, amount_in}
+use Rattle.atl_records.specs.declared.books.Entry.{Entry}
+use Rattle.atl_records.specs.declared.books.Thing.{Thing}
+use Rattle.atl_records.specs.declared.books.Thing.TheVariants.{Money}
+use Rattle.atl_records.specs.declared.records.Region.{Region}
+use Rattle.atl_records.specs.declared.records.Unit.{Unit}
+use Rattle.atl_records.specs.Books.{IsWithin, amount_in}
 use Rattle.atl_state.specs.Covers.{MarksChanges}
 use Rattle.atl_state.specs.Founding.{things_of}
-use Rattle.atl_state.specs.Good.{Every, IsEarly}
-use Rattle.atl_state.specs.Held.{Held, IsHolding, amount_of, with_amount_of}
+use Rattle.atl_records.specs.Every.{Every}
+use Rattle.atl_state.specs.Good.{IsEarly}
+use Rattle.atl_records.specs.Held.{Held, IsHolding, amount_of, with_amount_of}
 use Rattle.atl_state.specs.Lending.{with_held, with_holding}
-use Rattle.atl_state.specs.Limits.{holding_limit, most_units}
+use Rattle.atl_records.specs.Limits.{holding_limit, most_units}
 use Rattle.atl_state.specs.Marking.{mark_region}
 use Rattle.atl_state.specs.Stocks.{stock_limit, stock_of}
 use Rattle.atl_state.specs.Campaign.{MarkedCampaign, CampaignValue, region_changed, with_amount, with_stock}
 use Rattle.atl_state.proofs.BackLaws.{entries_rise}
 use Rattle.atl_state.proofs.CoverLaws.{marks-region, marks-trans}
-use Rattle.atl_state.proofs.EveryLaws.{each-from_every, get-insert_other, none_some}
+use Rattle.atl_records.proofs.EveryLaws.{each-from_every, get-insert_other, none_some, other_number, same_number}
 use Rattle.atl_state.proofs.HavingLaws.{MayHave, may_have}
-use Rattle.atl_state.proofs.HeldLaws.{alike, amount_within, every_amount, set_amount}
-use Rattle.atl_state.proofs.ListLaws.{other_number, same_number}
+use Rattle.atl_records.proofs.HeldLaws.{alike, amount_within, every_amount, set_amount}
 use Rattle.atl_state.proofs.StockLaws.{restocked, steady-stock}
 use Rattle.atl_instant.specs.Meaning.{HasRoom, HaveRoom, LeavesWell, Moving, moved_times, moves_only, most_moved}
 use Rattle.atl_instant.specs.Holdings.{ChangesHolding}

@@ -3,10 +3,10 @@ use Rattle.std.proofs.Common.{◌≡◌, ◌==◌, ◌≤◌, ◌+◌, ◌*◌, 
 use Rattle.std.specs.Prelude.{fold, if◌then◌else◌}
 use Rattle.std.proofs.Math.Nat.{suc-mul}
 use Rattle.atl_tables.specs.Worlds.{WorldValue}
-use Rattle.atl_state.specs.declared.books.Entry.{Entry}
-use Rattle.atl_state.specs.declared.books.Thing.{Thing}
-use Rattle.atl_state.specs.Limits.{holding_limit, most_units}
-use Rattle.atl_state.specs.Marks.{amount_number}
+use Rattle.atl_records.specs.declared.books.Entry.{Entry}
+use Rattle.atl_records.specs.declared.books.Thing.{Thing}
+use Rattle.atl_records.specs.Limits.{holding_limit, most_units}
+use Rattle.atl_records.specs.Books.{amount_number}
 use Rattle.atl_state.specs.Campaign.{CampaignValue}
 use Rattle.atl_instant.specs.Meaning.{Condition, HaveRoom, LeavesWell, Moving, both_move, most_moved, moved_times, moves_only}
 use Rattle.atl_instant.proofs.MeaningLaws.{MovesLess, both_leave_well, room_behind, room_less, well_unchanged, well_within}

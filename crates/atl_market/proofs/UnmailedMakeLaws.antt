@@ -9,10 +9,10 @@ use Rattle.atl_tables.specs.declared.world.Item.{Item}
 use Rattle.atl_tables.specs.declared.world.Kind.{Kind}
 use Rattle.atl_orders.specs.declared.order.Order.TheVariants as orders
 use Rattle.atl_orders.specs.Orders.{Said}
-use Rattle.atl_state.specs.declared.event.Outcome.TheVariants.{Done}
-use Rattle.atl_state.specs.declared.records.Structure.{Structure}
-use Rattle.atl_state.specs.declared.records.Unit.{Unit}
-use Rattle.atl_state.specs.Held.{amount_of, with_amount_of}
+use Rattle.atl_records.specs.declared.event.Outcome.TheVariants.{Done}
+use Rattle.atl_records.specs.declared.records.Structure.{Structure}
+use Rattle.atl_records.specs.declared.records.Unit.{Unit}
+use Rattle.atl_records.specs.Held.{amount_of, with_amount_of}
 use Rattle.atl_state.specs.Owners.{with_place}
 use Rattle.atl_state.specs.Campaign.{CampaignValue}
 use Rattle.atl_instant.specs.Month.{MonthValue}

@@ -16,13 +16,12 @@ use Rattle.std.proofs.lemmas.Bool.Decides.{nat_tests}
 use Rattle.std.proofs.lemmas.List.{map-append}
 use Rattle.std.proofs.lemmas.List.Sorted.{IsPermutation-map}
 use Rattle.atl_tables.proofs.GeneralLaws.{equal_turned}
-use Rattle.atl_state.specs.Deciding.{EachOf}
+use Rattle.atl_records.specs.Every.{EachOf}
 use Rattle.atl_state.specs.Campaign.{CampaignValue}
-use Rattle.atl_state.specs.declared.records.Unit.{Unit}
+use Rattle.atl_records.specs.declared.records.Unit.{Unit}
 use Rattle.atl_state.proofs.BackLaws.{append_apart, append_each, entries_rise, flat_apart}
 use Rattle.atl_state.proofs.GroupLaws.{filter_apart, filter_each}
-use Rattle.atl_state.proofs.EveryLaws.{each-from_every, get-insert_other}
-use Rattle.atl_state.proofs.ListLaws.{other_number, same_number}
+use Rattle.atl_records.proofs.EveryLaws.{each-from_every, get-insert_other, other_number, same_number}
 use Rattle.atl_state.proofs.KeyLaws.{IsDistinct-map}
 use Rattle.atl_state.proofs.OrderLaws.{each_so}
 use Rattle.atl_orders.specs.declared.verb.Verb.TheVariants as verbs

@@ -11,21 +11,21 @@ use Rattle.atl_orders.specs.declared.order.Order.TheVariants as orders
 use Rattle.atl_orders.specs.declared.verb.Verb.{Verb}
 use Rattle.atl_orders.specs.declared.verb.Verb.TheVariants as verbs
 use Rattle.atl_orders.specs.Orders.{Said}
-use Rattle.atl_state.specs.Books.{entry_place}
-use Rattle.atl_state.specs.declared.books.Entry.{Entry}
-use Rattle.atl_state.specs.declared.books.Entry.TheVariants.{Used}
-use Rattle.atl_state.specs.declared.books.Thing.{Thing}
-use Rattle.atl_state.specs.declared.books.Thing.TheVariants.{Item}
-use Rattle.atl_state.specs.declared.event.EventFault.{EventFault}
-use Rattle.atl_state.specs.declared.event.EventFault.TheVariants.{AtSea, Complete, NoMaterial, NoMen, NoSkill, NotInside, StructureLimit}
-use Rattle.atl_state.specs.declared.event.Outcome.{Outcome}
-use Rattle.atl_state.specs.declared.event.Outcome.TheVariants.{Done}
-use Rattle.atl_state.specs.declared.records.Structure.{Structure}
-use Rattle.atl_state.specs.declared.records.Unit.{Unit}
+use Rattle.atl_records.specs.Books.{entry_place}
+use Rattle.atl_records.specs.declared.books.Entry.{Entry}
+use Rattle.atl_records.specs.declared.books.Entry.TheVariants.{Used}
+use Rattle.atl_records.specs.declared.books.Thing.{Thing}
+use Rattle.atl_records.specs.declared.books.Thing.TheVariants.{Item}
+use Rattle.atl_records.specs.declared.event.EventFault.{EventFault}
+use Rattle.atl_records.specs.declared.event.EventFault.TheVariants.{AtSea, Complete, NoMaterial, NoMen, NoSkill, NotInside, StructureLimit}
+use Rattle.atl_records.specs.declared.event.Outcome.{Outcome}
+use Rattle.atl_records.specs.declared.event.Outcome.TheVariants.{Done}
+use Rattle.atl_records.specs.declared.records.Structure.{Structure}
+use Rattle.atl_records.specs.declared.records.Unit.{Unit}
 use Rattle.atl_state.specs.Good.{IsSteady}
-use Rattle.atl_state.specs.Held.{Held, amount_of}
-use Rattle.atl_state.specs.Levels.{level_in}
-use Rattle.atl_state.specs.Limits.{most_structures}
+use Rattle.atl_records.specs.Held.{Held, amount_of}
+use Rattle.atl_records.specs.Levels.{level_in}
+use Rattle.atl_records.specs.Limits.{most_structures}
 use Rattle.atl_state.specs.Owners.{with_place}
 use Rattle.atl_state.specs.Campaign.{CampaignValue, with_done, with_structure_begun}
 use Rattle.atl_instant.specs.Meaning.{Moving, most_moved}

@@ -3,11 +3,11 @@ use Rattle.std.specs.Prelude.{◌-◌, ◌*◌, ◌/◌, ◌==◌, ℕ, Bool, tr
 use Rattle.std.specs.List.{slice_get}
 use Rattle.atl_tables.specs.Worlds.{WorldValue}
 use Rattle.atl_tables.specs.declared.world.Item.{Item}
-use Rattle.atl_state.specs.declared.event.EventFault.{EventFault}
-use Rattle.atl_state.specs.declared.event.EventFault.TheVariants.{NoMaterial, NoMen, NoSkill}
-use Rattle.atl_state.specs.Held.{Held, amount_of}
-use Rattle.atl_state.specs.Levels.{level_in_any}
-use Rattle.atl_state.specs.Limits.{holding_limit}
+use Rattle.atl_records.specs.declared.event.EventFault.{EventFault}
+use Rattle.atl_records.specs.declared.event.EventFault.TheVariants.{NoMaterial, NoMen, NoSkill}
+use Rattle.atl_records.specs.Held.{Held, amount_of}
+use Rattle.atl_records.specs.Levels.{level_in_any}
+use Rattle.atl_records.specs.Limits.{holding_limit}
 use Rattle.atl_instant.specs.Outcomes.{first_fault}
 
 -- the item that a unit is told to make, where it is one of the world

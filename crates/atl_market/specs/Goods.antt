@@ -2,13 +2,13 @@
 use Rattle.std.specs.Prelude.{◌≡◌, ◌≤◌, ◌<◌, ◌+◌, ◌-◌, ℕ, length, pos, neg_ℤ, Option, Some, None}
 use Rattle.std.specs.FinMap.{get}
 use Rattle.atl_tables.specs.Worlds.{WorldValue}
-use Rattle.atl_state.specs.declared.books.Entry.TheVariants.{Made, Used}
-use Rattle.atl_state.specs.declared.books.Thing.TheVariants.{Item}
-use Rattle.atl_state.specs.declared.records.Unit.{Unit}
-use Rattle.atl_state.specs.Books.{amount_in}
+use Rattle.atl_records.specs.declared.books.Entry.TheVariants.{Made, Used}
+use Rattle.atl_records.specs.declared.books.Thing.TheVariants.{Item}
+use Rattle.atl_records.specs.declared.records.Unit.{Unit}
+use Rattle.atl_records.specs.Books.{amount_in}
 use Rattle.atl_state.specs.Good.{IsSteady}
-use Rattle.atl_state.specs.Held.{amount_of}
-use Rattle.atl_state.specs.Limits.{holding_limit}
+use Rattle.atl_records.specs.Held.{amount_of}
+use Rattle.atl_records.specs.Limits.{holding_limit}
 use Rattle.atl_state.specs.Campaign.{CampaignValue, with_amount, with_item}
 use Rattle.atl_instant.specs.Meaning.{HasRoom}
 

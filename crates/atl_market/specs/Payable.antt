@@ -2,10 +2,10 @@
 use Rattle.std.specs.Prelude.{◌≡◌, ◌≤◌, ◌+◌, ◌*◌, ℕ, Some}
 use Rattle.std.specs.FinMap.{get}
 use Rattle.atl_tables.specs.Worlds.{WorldValue}
-use Rattle.atl_state.specs.declared.records.Region.{Region}
-use Rattle.atl_state.specs.declared.records.Unit.{Unit}
+use Rattle.atl_records.specs.declared.records.Region.{Region}
+use Rattle.atl_records.specs.declared.records.Unit.{Unit}
 use Rattle.atl_state.specs.Good.{IsEarly, IsSteady}
-use Rattle.atl_state.specs.Limits.{holding_limit, men_limit}
+use Rattle.atl_records.specs.Limits.{holding_limit, men_limit}
 use Rattle.atl_state.specs.Campaign.{CampaignValue}
 use Rattle.atl_instant.specs.Meaning.{HaveRoom}
 use Rattle.atl_market.specs.Recruit.{recruit_moves}

@@ -5,14 +5,14 @@ use Rattle.std.specs.List.{flat_map, fold}
 use Rattle.std.specs.Ordering.{nat_cmp}
 use Rattle.std.specs.FinMap.{FinMap, entries, from_entries, get}
 use Rattle.atl_tables.specs.Worlds.{WorldValue}
-use Rattle.atl_state.specs.declared.event.Event.{Event}
-use Rattle.atl_state.specs.declared.event.EventFault.{EventFault}
-use Rattle.atl_state.specs.declared.event.EventFault.TheVariants.{NotYours}
-use Rattle.atl_state.specs.declared.event.EventVerb.TheVariants.{Order}
-use Rattle.atl_state.specs.declared.event.Outcome.{Outcome}
-use Rattle.atl_state.specs.declared.event.Outcome.TheVariants.{Done, Fault}
-use Rattle.atl_state.specs.declared.records.Unit.{Unit}
-use Rattle.atl_state.specs.Events.{event_fault_number}
+use Rattle.atl_records.specs.declared.event.Event.{Event}
+use Rattle.atl_records.specs.declared.event.EventFault.{EventFault}
+use Rattle.atl_records.specs.declared.event.EventFault.TheVariants.{NotYours}
+use Rattle.atl_records.specs.declared.event.EventVerb.TheVariants.{Order}
+use Rattle.atl_records.specs.declared.event.Outcome.{Outcome}
+use Rattle.atl_records.specs.declared.event.Outcome.TheVariants.{Done, Fault}
+use Rattle.atl_records.specs.declared.records.Unit.{Unit}
+use Rattle.atl_records.specs.Events.{event_fault_number}
 use Rattle.atl_state.specs.Campaign.{CampaignValue}
 use Rattle.atl_instant.specs.Month.{MonthValue}
 use Rattle.atl_instant.specs.declared.written.Written.{Written}

@@ -7,8 +7,8 @@ use Rattle.atl_tables.specs.Worlds.{WorldValue}
 use Rattle.atl_tables.specs.declared.world.Item.{Item}
 use Rattle.atl_orders.specs.declared.verb.Verb.{Verb}
 use Rattle.atl_orders.specs.declared.verb.Verb.TheVariants as verbs
-use Rattle.atl_state.specs.declared.books.Entry.TheVariants.{Made, Used}
-use Rattle.atl_state.specs.declared.books.Thing.TheVariants as things
+use Rattle.atl_records.specs.declared.books.Entry.TheVariants.{Made, Used}
+use Rattle.atl_records.specs.declared.books.Thing.TheVariants as things
 use Rattle.atl_state.specs.Campaign.{CampaignValue}
 use Rattle.atl_instant.specs.Meaning.{Keeping, Meaning, Moving, most_moved}
 use Rattle.atl_market.specs.Asking.{asked_meaning, item_in}

@@ -5,15 +5,15 @@ use Rattle.std.specs.FinMap.{FinMap, get}
 use Rattle.atl_tables.specs.Worlds.{WorldValue}
 use Rattle.atl_orders.specs.declared.verb.Verb.{Verb}
 use Rattle.atl_orders.specs.declared.verb.Verb.TheVariants as verbs
-use Rattle.atl_state.specs.declared.books.Entry.TheVariants.{Recruiting}
-use Rattle.atl_state.specs.declared.books.Thing.TheVariants.{Money}
-use Rattle.atl_state.specs.declared.event.EventFault.{EventFault}
-use Rattle.atl_state.specs.declared.event.EventFault.TheVariants.{NotEnough}
-use Rattle.atl_state.specs.declared.records.Region.{Region}
-use Rattle.atl_state.specs.declared.records.Unit.{Unit}
-use Rattle.atl_state.specs.Held.{Held, amount_of}
+use Rattle.atl_records.specs.declared.books.Entry.TheVariants.{Recruiting}
+use Rattle.atl_records.specs.declared.books.Thing.TheVariants.{Money}
+use Rattle.atl_records.specs.declared.event.EventFault.{EventFault}
+use Rattle.atl_records.specs.declared.event.EventFault.TheVariants.{NotEnough}
+use Rattle.atl_records.specs.declared.records.Region.{Region}
+use Rattle.atl_records.specs.declared.records.Unit.{Unit}
+use Rattle.atl_records.specs.Held.{Held, amount_of}
 use Rattle.atl_state.specs.Lending.{with_holding}
-use Rattle.atl_state.specs.Limits.{men_limit}
+use Rattle.atl_records.specs.Limits.{men_limit}
 use Rattle.atl_state.specs.Campaign.{CampaignValue, with_amount, with_peasants}
 use Rattle.atl_instant.specs.Meaning.{Keeping, Meaning, Moving, moves_only}
 use Rattle.atl_instant.specs.Outcomes.{first_fault}

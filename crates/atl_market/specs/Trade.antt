@@ -8,15 +8,15 @@ use Rattle.atl_tables.specs.Worlds.{WorldValue}
 use Rattle.atl_tables.specs.declared.world.Market.{Market}
 use Rattle.atl_orders.specs.declared.verb.Verb.{Verb}
 use Rattle.atl_orders.specs.declared.verb.Verb.TheVariants as verbs
-use Rattle.atl_state.specs.declared.books.Entry.{Entry}
-use Rattle.atl_state.specs.declared.books.Entry.TheVariants.{Bought, Sold}
-use Rattle.atl_state.specs.declared.books.Thing.TheVariants.{Money}
-use Rattle.atl_state.specs.declared.event.EventFault.{EventFault}
-use Rattle.atl_state.specs.declared.event.EventFault.TheVariants.{NoMarket, NotEnough}
-use Rattle.atl_state.specs.declared.records.Unit.{Unit}
-use Rattle.atl_state.specs.Held.{Held, amount_of, with_amount_of}
+use Rattle.atl_records.specs.declared.books.Entry.{Entry}
+use Rattle.atl_records.specs.declared.books.Entry.TheVariants.{Bought, Sold}
+use Rattle.atl_records.specs.declared.books.Thing.TheVariants.{Money}
+use Rattle.atl_records.specs.declared.event.EventFault.{EventFault}
+use Rattle.atl_records.specs.declared.event.EventFault.TheVariants.{NoMarket, NotEnough}
+use Rattle.atl_records.specs.declared.records.Unit.{Unit}
+use Rattle.atl_records.specs.Held.{Held, amount_of, with_amount_of}
 use Rattle.atl_state.specs.Lending.{with_holding}
-use Rattle.atl_state.specs.Limits.{holding_limit}
+use Rattle.atl_records.specs.Limits.{holding_limit}
 use Rattle.atl_state.specs.Stocks.{stock_of}
 use Rattle.atl_state.specs.Campaign.{CampaignValue, with_amount, with_stock}
 use Rattle.atl_instant.specs.Meaning.{Keeping, Meaning, Moving, moves_only}

@@ -4,7 +4,7 @@ ghost use Rattle.std.specs.Option.{option_copied};
 ghost use Rattle.std.specs.List.{slice_get};
 ghost use Rattle.atl_tables.specs.Limits.{most_amount};
 ghost use Rattle.atl_state.specs.Covers.{MarksChanges};
-ghost use Rattle.atl_state.specs.Limits.{holding_limit};
+ghost use Rattle.atl_records.specs.Limits.{holding_limit};
 ghost use Rattle.atl_tables.specs.declared.world.Item.{Item};
 ghost use Rattle.atl_market.specs.Making.{CanMakeOf};
 ghost use Rattle.atl_market.specs.Produce.{produced_of, with_raw_used};

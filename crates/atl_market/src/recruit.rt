@@ -1,13 +1,13 @@
 //! RECRUIT: peasants of a region join its units, at a price.
 ghost use Rattle.std.specs.Prelude.{ℕ, pos, neg_ℤ, ◌≡◌, ◌≤◌, ◌+◌, ◌*◌, Some};
 ghost use Rattle.std.specs.FinMap as finmap;
-ghost use Rattle.atl_state.specs.declared.books.Entry.TheVariants.{Recruiting};
-ghost use Rattle.atl_state.specs.declared.books.Thing.TheVariants.{Money};
-ghost use Rattle.atl_state.specs.Books.{IsGrid};
+ghost use Rattle.atl_records.specs.declared.books.Entry.TheVariants.{Recruiting};
+ghost use Rattle.atl_records.specs.declared.books.Thing.TheVariants.{Money};
+ghost use Rattle.atl_records.specs.Books.{IsGrid};
 ghost use Rattle.atl_state.specs.Covers.{MarksChanges};
 ghost use Rattle.atl_state.specs.Good.{IsEarly};
 ghost use Rattle.atl_state.specs.Lending.{with_holding};
-ghost use Rattle.atl_state.specs.Limits.{holding_limit, men_limit};
+ghost use Rattle.atl_records.specs.Limits.{holding_limit, men_limit};
 ghost use Rattle.atl_state.specs.Campaign.{with_amount, with_peasants};
 ghost use Rattle.atl_instant.specs.Holdings.{MarksNoGoods};
 ghost use Rattle.atl_instant.specs.Meaning.{HaveRoom, most_moved};

@@ -3,7 +3,7 @@ ghost use Rattle.std.specs.Prelude.{◌≡◌, ◌≤◌};
 ghost use Rattle.atl_tables.specs.Worlds.{WorldValue};
 ghost use Rattle.atl_state.specs.Covers.{MarksChanges};
 ghost use Rattle.atl_state.specs.Good.{IsEarly};
-ghost use Rattle.atl_state.specs.Limits.{holding_limit};
+ghost use Rattle.atl_records.specs.Limits.{holding_limit};
 ghost use Rattle.atl_state.specs.Campaign.{with_money, with_region_money};
 ghost use Rattle.atl_instant.specs.Holdings.{MarksNoGoods};
 ghost use Rattle.atl_instant.specs.Staying.{spares_all};

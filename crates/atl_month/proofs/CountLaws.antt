@@ -5,9 +5,9 @@ use Rattle.std.specs.Ordering.{nat_cmp}
 use Rattle.std.specs.Cmp.{nat_cmp_total}
 use Rattle.std.specs.FinMap.{FinMap, empty_of_len, entries, find, get, get-empty, get-entries, insert, len, len-entries, len-insert, len-remove, remove}
 use Rattle.std.proofs.lemmas.Bool.{cases_eq}
-use Rattle.atl_state.specs.Good.{IsThere}
-use Rattle.atl_state.proofs.EveryLaws.{first, get-insert_other, none_some}
-use Rattle.atl_state.proofs.RemovedLaws.{get-remove_other, still}
+use Rattle.atl_records.specs.Every.{IsThere}
+use Rattle.atl_records.proofs.EveryLaws.{first, get-insert_other, none_some}
+use Rattle.atl_records.proofs.RemovedLaws.{get-remove_other, still}
 
 module _ {V : Type 0} where
   -- one map has each number of the other

@@ -6,14 +6,15 @@ use Rattle.std.specs.Ordering.{nat_cmp}
 use Rattle.std.proofs.lemmas.Int.{ints}
 use Rattle.std.proofs.lemmas.Bool.Decides.{nat_tests}
 use Rattle.atl_tables.specs.Worlds.{WorldValue}
-use Rattle.atl_state.specs.declared.event.Event.{Event}
-use Rattle.atl_state.specs.Books.{IsWithin, amount_in}
-use Rattle.atl_state.specs.Good.{AreAmountsWithin, IsEarly, IsGood, IsSound, IsSteady, IsThere, amount_bound}
-use Rattle.atl_state.specs.Limits.{last_month}
+use Rattle.atl_records.specs.declared.event.Event.{Event}
+use Rattle.atl_records.specs.Books.{IsWithin, amount_in}
+use Rattle.atl_records.specs.Every.{IsThere}
+use Rattle.atl_state.specs.Good.{AreAmountsWithin, IsEarly, IsGood, IsSound, IsSteady, amount_bound}
+use Rattle.atl_records.specs.Limits.{last_month}
 use Rattle.atl_state.specs.Campaign.{CampaignValue}
 use Rattle.atl_state.specs.Totals.{Balances, total}
 use Rattle.atl_orders.specs.Mailing.{Reading}
-use Rattle.atl_state.proofs.EveryLaws.{every-empty}
+use Rattle.atl_records.proofs.EveryLaws.{every-empty}
 use Rattle.atl_state.proofs.GoodLaws.{posted-steady}
 use Rattle.atl_instant.specs.Month.{MonthValue}
 use Rattle.atl_instant.specs.Meaning.{Condition, HaveRoom, IsNear, IsSameMonth, LeavesWell, Meaning, Moving}

@@ -2,9 +2,9 @@
 use Rattle.std.proofs.Common.{◌≡◌, ◌≤◌, ℕ, true, refl, arith}
 use Rattle.std.specs.Prelude.{nat_le}
 use Rattle.std.proofs.lemmas.Bool.Decides.{nat_tests}
-use Rattle.atl_state.specs.declared.books.Thing.TheVariants.{Item, Money, People}
-use Rattle.atl_state.specs.Limits.{most_in_month}
-use Rattle.atl_state.proofs.EveryEntryLaws.{each_entry}
+use Rattle.atl_records.specs.declared.books.Thing.TheVariants.{Item, Money, People}
+use Rattle.atl_records.specs.Limits.{most_in_month}
+use Rattle.atl_records.proofs.EveryEntryLaws.{each_entry}
 use Rattle.atl_instant.specs.Meaning.{Moving}
 use Rattle.atl_instant.specs.Terms.{EachPhase, MovesItsOwn}
 use Rattle.atl_instant.proofs.MeaningLaws.{MovesLess}

@@ -2,15 +2,14 @@
 use Rattle.std.proofs.Common.{◌≡◌, ◌≢◌, ◌==◌, ◌&&◌, not, ℕ, ◌+◌, ◌*◌, ◌≤◌, Bool, true, false, [], ◌∷◌, refl, sym, subst, arith}
 use Rattle.std.specs.Prelude.{if◌then◌else◌}
 use Rattle.std.proofs.lemmas.Bool.Decides.{nat_tests}
-use Rattle.atl_state.specs.declared.books.Entry.{Entry}
-use Rattle.atl_state.specs.declared.books.Entry.TheVariants as entries
-use Rattle.atl_state.specs.declared.books.Thing.{Thing}
-use Rattle.atl_state.specs.declared.books.Thing.TheVariants.{Item, Money, People}
-use Rattle.atl_state.specs.Books.{entry_place, thing_place}
-use Rattle.atl_state.specs.Limits.{entry_count}
-use Rattle.atl_state.specs.Marks.{amount_number}
-use Rattle.atl_state.proofs.EveryEntryLaws.{entry_small}
-use Rattle.atl_state.proofs.ListLaws.{other_number}
+use Rattle.atl_records.specs.declared.books.Entry.{Entry}
+use Rattle.atl_records.specs.declared.books.Entry.TheVariants as entries
+use Rattle.atl_records.specs.declared.books.Thing.{Thing}
+use Rattle.atl_records.specs.declared.books.Thing.TheVariants.{Item, Money, People}
+use Rattle.atl_records.specs.Books.{entry_place, thing_place, amount_number}
+use Rattle.atl_records.specs.Limits.{entry_count}
+use Rattle.atl_records.proofs.EveryEntryLaws.{entry_small}
+use Rattle.atl_records.proofs.EveryLaws.{other_number}
 use Rattle.atl_instant.specs.Meaning.{Moving, both_move, most_moved, moves_only}
 use Rattle.atl_instant.specs.Quit.{quit_terms}
 use Rattle.atl_instant.specs.Terms.{EachPhase, Moved, MovesItsOwn, PhaseTerms, may_move, nothing_moved}

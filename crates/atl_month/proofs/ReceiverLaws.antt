@@ -10,15 +10,15 @@ use Rattle.atl_tables.specs.Worlds.{WorldValue}
 use Rattle.atl_tables.specs.Sums.{numbers_among, numbers_where}
 use Rattle.atl_tables.proofs.SumLaws.{chosen-cons}
 use Rattle.atl_tables.specs.Groups.{group_of}
-use Rattle.atl_state.specs.declared.records.Unit.{Unit}
-use Rattle.atl_state.specs.Good.{Every, IsSteady}
+use Rattle.atl_records.specs.declared.records.Unit.{Unit}
+use Rattle.atl_records.specs.Every.{Every}
+use Rattle.atl_state.specs.Good.{IsSteady}
 use Rattle.atl_state.specs.Owners.{first_or_zero}
 use Rattle.atl_state.specs.Campaign.{CampaignValue}
-use Rattle.atl_state.proofs.EveryLaws.{get-insert_other, sorted}
-use Rattle.atl_state.proofs.ListLaws.{other_number, same_number}
+use Rattle.atl_records.proofs.EveryLaws.{get-insert_other, sorted, other_number, same_number}
 use Rattle.atl_state.proofs.OrderedLaws.{below}
 use Rattle.atl_state.proofs.RegionLaws.{get-insert_same}
-use Rattle.atl_state.proofs.RemovedLaws.{IsListed, listed_passing, passing_listed}
+use Rattle.atl_state.proofs.NumberListLaws.{IsListed, listed_passing, passing_listed}
 use Rattle.atl_month.specs.Receivers.{AreReceivers, ReceiverMap, or_if_zero, receiver_in, receiver_noted, with_receiver}
 use Rattle.atl_month.specs.Sweep.{IsKept, receiver, receives, swept_at}
 use Rattle.atl_month.proofs.SweepLaws.{first_listed}

@@ -14,27 +14,26 @@ use Rattle.atl_tables.specs.declared.world.Market.{Market}
 use Rattle.atl_tables.specs.declared.world.RegionPlan.{RegionPlan}
 use Rattle.atl_tables.specs.ByNumber.{market_of}
 use Rattle.atl_tables.proofs.Maps.{entries-empty}
-use Rattle.atl_state.specs.declared.books.Entry.{Entry}
-use Rattle.atl_state.specs.declared.books.Entry.TheVariants.{Stocked}
-use Rattle.atl_state.specs.declared.books.Thing.{Thing}
-use Rattle.atl_state.specs.declared.books.Thing.TheVariants.{Money, People, Item}
-use Rattle.atl_state.specs.declared.records.Region.{Region}
-use Rattle.atl_state.specs.Limits.{entry_count}
-use Rattle.atl_state.specs.Books.{IsGrid, amount_in, booked, entry_place, thing_at, thing_place}
+use Rattle.atl_records.specs.declared.books.Entry.{Entry}
+use Rattle.atl_records.specs.declared.books.Entry.TheVariants.{Stocked}
+use Rattle.atl_records.specs.declared.books.Thing.{Thing}
+use Rattle.atl_records.specs.declared.books.Thing.TheVariants.{Money, People, Item}
+use Rattle.atl_records.specs.declared.records.Region.{Region}
+use Rattle.atl_records.specs.Limits.{entry_count}
+use Rattle.atl_records.specs.Books.{IsGrid, amount_in, booked, entry_place, thing_at, thing_place, amount_number}
 use Rattle.atl_state.specs.Campaign.{MarkedCampaign, CampaignValue, with_amount, with_stock}
 use Rattle.atl_state.specs.Covers.{MarksChanges}
-use Rattle.atl_state.specs.Deciding.{EachOf}
+use Rattle.atl_records.specs.Every.{EachOf, IsThere}
 use Rattle.atl_state.specs.Founding.{things_of}
-use Rattle.atl_state.specs.Good.{IsSteady, IsThere}
-use Rattle.atl_state.specs.Held.{amount_of, with_amount_of}
+use Rattle.atl_state.specs.Good.{IsSteady}
+use Rattle.atl_records.specs.Held.{amount_of, with_amount_of}
 use Rattle.atl_state.specs.Marking.{mark_amount, mark_region}
-use Rattle.atl_state.specs.Marks.{amount_number}
 use Rattle.atl_state.specs.Stocks.{stock_limit, stock_of}
 use Rattle.atl_state.specs.Totals.{Balances, total}
-use Rattle.atl_state.proofs.BookLaws.{at_place, booked-with_booked}
+use Rattle.atl_records.proofs.BookLaws.{at_place, booked-with_booked}
 use Rattle.atl_state.proofs.CoverLaws.{marks-amount, marks-region, marks-trans}
-use Rattle.atl_state.proofs.EveryEntryLaws.{entry_small}
-use Rattle.atl_state.proofs.EveryLaws.{each-from_every, sorted}
+use Rattle.atl_records.proofs.EveryEntryLaws.{entry_small}
+use Rattle.atl_records.proofs.EveryLaws.{each-from_every, sorted}
 use Rattle.atl_state.proofs.RegionLaws.{steady-amount, total-amount}
 use Rattle.atl_state.proofs.StockLaws.{steady-stock, total-stock, total-stock_other}
 use Rattle.atl_instant.specs.Meaning.{HasRoom, HaveRoom, LeavesWell, Moving, moves_only}

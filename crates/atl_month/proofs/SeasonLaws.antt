@@ -11,24 +11,24 @@ use Rattle.atl_tables.specs.Limits.{most_amount, most_regions}
 use Rattle.atl_tables.specs.declared.world.Terrain.{Terrain}
 use Rattle.atl_tables.specs.declared.world.RegionPlan.{RegionPlan}
 use Rattle.atl_tables.specs.ByNumber.{terrain_of}
-use Rattle.atl_state.specs.declared.books.Entry.{Entry}
-use Rattle.atl_state.specs.declared.books.Entry.TheVariants.{Births, Income, Stocked}
-use Rattle.atl_state.specs.declared.books.Thing.{Thing}
-use Rattle.atl_state.specs.declared.books.Thing.TheVariants.{Money, People, Item}
-use Rattle.atl_state.specs.declared.records.Region.{Region}
-use Rattle.atl_state.specs.Books.{IsGrid, amount_in, entry_place, with_booked}
+use Rattle.atl_records.specs.declared.books.Entry.{Entry}
+use Rattle.atl_records.specs.declared.books.Entry.TheVariants.{Births, Income, Stocked}
+use Rattle.atl_records.specs.declared.books.Thing.{Thing}
+use Rattle.atl_records.specs.declared.books.Thing.TheVariants.{Money, People, Item}
+use Rattle.atl_records.specs.declared.records.Region.{Region}
+use Rattle.atl_records.specs.Books.{IsGrid, amount_in, entry_place, with_booked, amount_number}
 use Rattle.atl_state.specs.Founding.{things_of}
 use Rattle.atl_state.specs.Good.{IsSteady}
-use Rattle.atl_state.specs.Held.{amount_of}
+use Rattle.atl_records.specs.Held.{amount_of}
 use Rattle.atl_state.specs.Covers.{MarksChanges}
 use Rattle.atl_state.specs.Marking.{mark_amount, mark_region}
-use Rattle.atl_state.specs.Marks.{amount_number}
 use Rattle.atl_state.specs.Campaign.{MarkedCampaign, CampaignValue, with_amount, with_peasants, with_region_money}
-use Rattle.atl_state.specs.Totals.{Balances, kept, total}
-use Rattle.atl_state.proofs.BookLaws.{IsGrid-with_booked, booked-with_booked, share_of}
+use Rattle.atl_records.specs.Amounts.{kept}
+use Rattle.atl_state.specs.Totals.{Balances, total}
+use Rattle.atl_records.proofs.BookLaws.{IsGrid-with_booked, booked-with_booked, share_of}
 use Rattle.atl_state.proofs.CoverLaws.{marks-amount, marks-region, marks-trans}
 use Rattle.atl_state.proofs.RegionLaws.{IsRegion-money, IsRegion-peasants, region-changed, steady-amount, steady-region, total-amount, total-region}
-use Rattle.atl_state.proofs.EveryLaws.{none_some}
+use Rattle.atl_records.proofs.EveryLaws.{none_some}
 use Rattle.atl_instant.specs.Meaning.{HaveRoom, IsNear, LeavesWell, both_move, most_moved, moved_times, moves_only}
 use Rattle.atl_instant.proofs.MarkLaws.{marks_by}
 use Rattle.atl_instant.proofs.MeaningLaws.{both_leave_well, fold_leaves_well, near_more, near_twice, room_behind_one, room_for_one, room_less, same_month_by, well_unchanged, well_within}

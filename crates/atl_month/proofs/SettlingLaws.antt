@@ -9,9 +9,8 @@ use Rattle.std.proofs.lemmas.List.Elements.{filter-append}
 use Rattle.std.proofs.lemmas.List.Sums.{sum_by-append}
 use Rattle.atl_tables.specs.Limits.{most_per_head}
 use Rattle.atl_tables.specs.Groups.{group_of}
-use Rattle.atl_state.specs.Limits.{holding_limit, men_limit}
-use Rattle.atl_state.proofs.EveryLaws.{get-insert_other}
-use Rattle.atl_state.proofs.ListLaws.{same_number}
+use Rattle.atl_records.specs.Limits.{holding_limit, men_limit}
+use Rattle.atl_records.proofs.EveryLaws.{get-insert_other, same_number}
 use Rattle.atl_state.proofs.RegionLaws.{get-insert_same}
 use Rattle.atl_month.specs.declared.accounts.Account.{Account}
 use Rattle.atl_month.specs.declared.settling.Purse.{Purse}

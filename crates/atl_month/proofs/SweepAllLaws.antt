@@ -10,26 +10,27 @@ use Rattle.atl_tables.specs.Worlds.{WorldValue}
 use Rattle.atl_tables.specs.Limits.{most_amount}
 use Rattle.atl_tables.proofs.SumLaws.{chosen-cons}
 use Rattle.atl_tables.proofs.GeneralLaws.{is_equal, is_unequal}
-use Rattle.atl_state.specs.Books.{amount_in, entry_place, thing_place}
-use Rattle.atl_state.specs.declared.books.Entry.{Entry}
-use Rattle.atl_state.specs.declared.books.Entry.TheVariants.{Lost}
-use Rattle.atl_state.specs.declared.books.Thing.{Thing}
-use Rattle.atl_state.specs.declared.books.Thing.TheVariants.{People}
-use Rattle.atl_state.specs.declared.records.Faction.{Faction}
-use Rattle.atl_state.specs.declared.records.Unit.{Unit}
-use Rattle.atl_state.specs.Good.{Every, HaveMen, IsSteady, NoneAreGone}
+use Rattle.atl_records.specs.Books.{amount_in, entry_place, thing_place}
+use Rattle.atl_records.specs.declared.books.Entry.{Entry}
+use Rattle.atl_records.specs.declared.books.Entry.TheVariants.{Lost}
+use Rattle.atl_records.specs.declared.books.Thing.{Thing}
+use Rattle.atl_records.specs.declared.books.Thing.TheVariants.{People}
+use Rattle.atl_records.specs.declared.records.Faction.{Faction}
+use Rattle.atl_records.specs.declared.records.Unit.{Unit}
+use Rattle.atl_records.specs.Every.{Every}
+use Rattle.atl_state.specs.Good.{HaveMen, IsSteady, NoneAreGone}
 use Rattle.atl_state.specs.Owners.{without_unit}
 use Rattle.atl_state.specs.Campaign.{CampaignValue, active, numbers_of, with_gone}
-use Rattle.atl_state.proofs.EveryLaws.{none_some}
+use Rattle.atl_records.proofs.EveryLaws.{none_some}
 use Rattle.atl_instant.specs.Meaning.{LeavesWell, Moving, both_move, moved_times, most_moved}
 use Rattle.atl_instant.proofs.MeaningLaws.{both_leave_well, fold_leaves_well, near_same, same_month_among, well_unchanged, well_within}
 use Rattle.atl_month.specs.Sweep.{IsKept, faction_swept, is_empty, loses_by, menless, passed_on, receiver, sweep, swept_at, swept_in}
 use Rattle.atl_month.specs.Swept.{IsSwept}
-use Rattle.atl_state.proofs.RemovedLaws.{IsListed, passing_listed}
+use Rattle.atl_state.proofs.NumberListLaws.{IsListed, passing_listed}
 use Rattle.atl_state.proofs.GoneLaws.{as_gone, count-gone, get-gone, get-gone_other, known-gone, none-gone, steady-gone, total-gone}
 use Rattle.atl_month.proofs.PassingLaws.{kept-refl, kept-trans}
 use Rattle.atl_month.proofs.SweepLaws.{others_keep, others_were, swept_leaves_well}
-use Rattle.atl_state.specs.Limits.{most_units}
+use Rattle.atl_records.specs.Limits.{most_units}
 
 -- ---- one unit
 

@@ -10,30 +10,31 @@ use Rattle.std.specs.FinMap.{FinMap, entries, get, get-entries, len}
 use Rattle.atl_tables.specs.Worlds.{WorldValue}
 use Rattle.atl_tables.specs.Limits.{most_amount}
 use Rattle.atl_tables.specs.Sums.{numbers_where}
-use Rattle.atl_state.specs.Books.{amount_in, booked, entry_place, thing_place}
-use Rattle.atl_state.specs.declared.books.Entry.{Entry}
-use Rattle.atl_state.specs.declared.books.Entry.TheVariants.{Lost}
-use Rattle.atl_state.specs.declared.books.Thing.{Thing}
-use Rattle.atl_state.specs.declared.books.Thing.TheVariants.{Item, Money, People}
-use Rattle.atl_state.specs.declared.records.Faction.{Faction}
-use Rattle.atl_state.specs.declared.records.Unit.{Unit}
-use Rattle.atl_state.specs.Deciding.{EachOf}
-use Rattle.atl_state.specs.Good.{Every, IsSteady, IsThere}
-use Rattle.atl_state.specs.Held.{Held, amount_of}
-use Rattle.atl_state.specs.Limits.{entry_count, holding_limit}
-use Rattle.atl_state.specs.Marks.{amount_number}
+use Rattle.atl_records.specs.Books.{amount_in, booked, entry_place, thing_place, amount_number}
+use Rattle.atl_records.specs.declared.books.Entry.{Entry}
+use Rattle.atl_records.specs.declared.books.Entry.TheVariants.{Lost}
+use Rattle.atl_records.specs.declared.books.Thing.{Thing}
+use Rattle.atl_records.specs.declared.books.Thing.TheVariants.{Item, Money, People}
+use Rattle.atl_records.specs.declared.records.Faction.{Faction}
+use Rattle.atl_records.specs.declared.records.Unit.{Unit}
+use Rattle.atl_records.specs.Every.{EachOf, Every, IsThere}
+use Rattle.atl_state.specs.Good.{IsSteady}
+use Rattle.atl_records.specs.Held.{Held, amount_of}
+use Rattle.atl_records.specs.Limits.{entry_count, holding_limit}
 use Rattle.atl_state.specs.Owners.{first_or_zero, without_unit}
 use Rattle.atl_state.specs.Campaign.{CampaignValue}
-use Rattle.atl_state.specs.Totals.{Balances, held, total}
-use Rattle.atl_state.proofs.EveryEntryLaws.{entry_small}
-use Rattle.atl_state.proofs.EveryLaws.{each-from_every, sorted}
+use Rattle.atl_records.specs.Amounts.{held}
+use Rattle.atl_state.specs.Totals.{Balances, total}
+use Rattle.atl_records.proofs.EveryEntryLaws.{entry_small}
+use Rattle.atl_records.proofs.EveryLaws.{each-from_every, sorted}
 use Rattle.atl_instant.specs.Meaning.{IsNear, LeavesWell, Moving, both_move, moves_only}
-use Rattle.atl_state.proofs.HeldLaws.{amount_within}
+use Rattle.atl_records.proofs.HeldLaws.{amount_within}
 use Rattle.atl_instant.proofs.MeaningLaws.{near_more}
 use Rattle.atl_instant.proofs.QuitLaws.{no_money, no_people, of_item, owing_items, part_of}
 use Rattle.atl_instant.specs.LostItems.{moving_items}
 use Rattle.atl_month.specs.Sweep.{IsKept, loses_by, passed_money, passed_on, receiver, receives}
-use Rattle.atl_state.proofs.RemovedLaws.{IsListed, get-remove_other, listed_passing, still}
+use Rattle.atl_records.proofs.RemovedLaws.{get-remove_other, still}
+use Rattle.atl_state.proofs.NumberListLaws.{IsListed, listed_passing}
 use Rattle.atl_state.proofs.LeavingLaws.{only_reduced, steady-without, total-without}
 use Rattle.atl_month.proofs.PassingLaws.{Owes, PassesOn, pass_items, pass_money, passes-trans}
 

@@ -4,13 +4,13 @@ use Rattle.std.specs.Prelude.{pos, neg_ℤ}
 use Rattle.std.specs.FinMap.{entries, get}
 use Rattle.atl_tables.specs.Worlds.{WorldValue}
 use Rattle.atl_tables.specs.Limits.{most_amount}
-use Rattle.atl_state.specs.Books.{IsGrid, amount_in, thing_place}
+use Rattle.atl_records.specs.Books.{IsGrid, amount_in, thing_place}
 use Rattle.atl_state.specs.Covers.{MarksChanges}
-use Rattle.atl_state.specs.declared.books.Entry.{Entry}
-use Rattle.atl_state.specs.declared.books.Entry.TheVariants.{Lost}
-use Rattle.atl_state.specs.declared.books.Thing.{Thing}
-use Rattle.atl_state.specs.declared.books.Thing.TheVariants.{Item, Money}
-use Rattle.atl_state.specs.declared.records.Unit.{Unit}
+use Rattle.atl_records.specs.declared.books.Entry.{Entry}
+use Rattle.atl_records.specs.declared.books.Entry.TheVariants.{Lost}
+use Rattle.atl_records.specs.declared.books.Thing.{Thing}
+use Rattle.atl_records.specs.declared.books.Thing.TheVariants.{Item, Money}
+use Rattle.atl_records.specs.declared.records.Unit.{Unit}
 use Rattle.atl_state.specs.Good.{IsSteady}
 use Rattle.atl_state.specs.Marking.{mark_amount, mark_faction, mark_unit_row}
 use Rattle.atl_state.specs.Campaign.{MarkedCampaign, CampaignValue, with_gone, with_money}

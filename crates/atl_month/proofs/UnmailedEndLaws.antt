@@ -7,13 +7,12 @@ use Rattle.std.proofs.lemmas.Bool.{cases_eq}
 use Rattle.std.proofs.lemmas.List.Sums.{sum_by-append, sum_by-cons}
 use Rattle.atl_tables.specs.Worlds.{WorldValue}
 use Rattle.atl_tables.proofs.GeneralLaws.{is_equal}
-use Rattle.atl_state.specs.declared.event.Event.{Event}
-use Rattle.atl_state.specs.declared.records.Unit.{Unit}
-use Rattle.atl_state.specs.Held.{Held}
+use Rattle.atl_records.specs.declared.event.Event.{Event}
+use Rattle.atl_records.specs.declared.records.Unit.{Unit}
+use Rattle.atl_records.specs.Held.{Held}
 use Rattle.atl_state.specs.Campaign.{CampaignValue}
-use Rattle.atl_state.proofs.EveryLaws.{get-insert_other}
+use Rattle.atl_records.proofs.EveryLaws.{get-insert_other, other_number}
 use Rattle.atl_state.proofs.RegionLaws.{get-insert_same}
-use Rattle.atl_state.proofs.ListLaws.{other_number}
 use Rattle.atl_instant.specs.Month.{MonthValue}
 use Rattle.atl_instant.specs.Steps.{IsSpared}
 use Rattle.atl_instant.specs.Unmailed.{IsLessBy, starved_in, starved_told}

@@ -13,27 +13,27 @@ use Rattle.atl_tables.specs.Limits.{most_amount}
 use Rattle.atl_tables.specs.Names.{name_ok}
 use Rattle.atl_tables.specs.Sums.{changed_at}
 use Rattle.atl_tables.proofs.SumLaws.{put_same}
-use Rattle.atl_state.specs.declared.books.Entry.{Entry}
-use Rattle.atl_state.specs.declared.books.Entry.TheVariants.{Starved, Upkeep}
-use Rattle.atl_state.specs.declared.books.Thing.{Thing}
-use Rattle.atl_state.specs.declared.books.Thing.TheVariants.{Money, People, Item}
-use Rattle.atl_state.specs.declared.records.Unit.{Unit}
-use Rattle.atl_state.specs.Books.{IsGrid, amount_in, with_booked}
+use Rattle.atl_records.specs.declared.books.Entry.{Entry}
+use Rattle.atl_records.specs.declared.books.Entry.TheVariants.{Starved, Upkeep}
+use Rattle.atl_records.specs.declared.books.Thing.{Thing}
+use Rattle.atl_records.specs.declared.books.Thing.TheVariants.{Money, People, Item}
+use Rattle.atl_records.specs.declared.records.Unit.{Unit}
+use Rattle.atl_records.specs.Books.{IsGrid, amount_in, with_booked, amount_number}
 use Rattle.atl_state.specs.Covers.{MarksChanges}
 use Rattle.atl_state.specs.Founding.{things_of}
-use Rattle.atl_state.specs.Deciding.{EachOf}
-use Rattle.atl_state.specs.Good.{Every, IsSteady, guards}
-use Rattle.atl_state.specs.Held.{AreAmounts, Held, amount_of, with_amount_of}
+use Rattle.atl_records.specs.Every.{EachOf, Every}
+use Rattle.atl_state.specs.Good.{IsSteady, guards}
+use Rattle.atl_records.specs.Held.{AreAmounts, Held, amount_of, with_amount_of}
 use Rattle.atl_state.specs.Lending.{with_held}
-use Rattle.atl_state.specs.Limits.{most_days, most_units}
+use Rattle.atl_records.specs.Limits.{most_days, most_units}
 use Rattle.atl_state.specs.Marking.{mark_amount}
-use Rattle.atl_state.specs.Marks.{amount_number}
 use Rattle.atl_state.specs.Campaign.{MarkedCampaign, CampaignValue, with_amount, with_money}
-use Rattle.atl_state.specs.Totals.{Balances, held, total}
+use Rattle.atl_records.specs.Amounts.{held}
+use Rattle.atl_state.specs.Totals.{Balances, total}
 use Rattle.atl_state.proofs.BackLaws.{Rise, entries_rise}
-use Rattle.atl_state.proofs.BookLaws.{IsGrid-with_booked, booked-with_booked, share_of}
+use Rattle.atl_records.proofs.BookLaws.{IsGrid-with_booked, booked-with_booked, share_of}
 use Rattle.atl_state.proofs.CoverLaws.{marks-amount, marks-trans}
-use Rattle.atl_state.proofs.EveryLaws.{each-from_every, every-empty, get-insert_other}
+use Rattle.atl_records.proofs.EveryLaws.{each-from_every, every-empty, get-insert_other}
 use Rattle.atl_state.proofs.HoldingLaws.{MayHold, steady-held, total-held}
 use Rattle.atl_state.proofs.RegionLaws.{steady-amount, total-amount}
 use Rattle.atl_instant.specs.Meaning.{HaveRoom, IsNear, LeavesWell, Moving, moved_times, moves_only, most_moved}
@@ -41,7 +41,7 @@ use Rattle.atl_instant.specs.Holdings.{with_days}
 use Rattle.atl_instant.proofs.DaysLaws.{set_again}
 use Rattle.atl_instant.proofs.MarkLaws.{marks_by}
 use Rattle.atl_instant.proofs.MeaningLaws.{MovesLess, near_twice, room_less, same_month_by, well_within}
-use Rattle.atl_state.proofs.HeldLaws.{every_amount}
+use Rattle.atl_records.proofs.HeldLaws.{every_amount}
 use Rattle.atl_instant.proofs.BookingLaws.{booked-near, within-neg}
 use Rattle.atl_market.specs.PotPhase.{CanInTurn}
 use Rattle.atl_market.proofs.TurnLaws.{first_room, later_room, turns_leave_well}

@@ -6,10 +6,10 @@ use Rattle.std.specs.FinMap.{FinMap, empty}
 use Rattle.atl_tables.specs.Worlds.{WorldValue}
 use Rattle.atl_orders.specs.Mailing.{Reading, reading_of}
 use Rattle.atl_orders.specs.declared.mailing.Mailing.{Mailing}
-use Rattle.atl_state.specs.declared.books.Entry.{Entry}
-use Rattle.atl_state.specs.declared.books.Thing.{Thing}
-use Rattle.atl_state.specs.declared.event.Event.{Event}
-use Rattle.atl_state.specs.Books.{amount_in}
+use Rattle.atl_records.specs.declared.books.Entry.{Entry}
+use Rattle.atl_records.specs.declared.books.Thing.{Thing}
+use Rattle.atl_records.specs.declared.event.Event.{Event}
+use Rattle.atl_records.specs.Books.{amount_in}
 use Rattle.atl_state.specs.Campaign.{CampaignValue, with_month, without_mail}
 use Rattle.atl_instant.specs.Month.{MonthValue, HaveOwnFactions, by_faction}
 use Rattle.atl_instant.specs.Meaning.{IsNear, Keeping, Meaning, Moving, both_keep, both_move, most_moved, then_also}

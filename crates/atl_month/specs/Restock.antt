@@ -5,10 +5,10 @@ use Rattle.std.specs.FinMap.{FinMap, empty, get}
 use Rattle.std.specs.Option.{option_map_or}
 use Rattle.atl_tables.specs.Worlds.{WorldValue}
 use Rattle.atl_tables.specs.declared.world.Market.{Market}
-use Rattle.atl_state.specs.declared.books.Entry.TheVariants.{Stocked}
-use Rattle.atl_state.specs.declared.books.Thing.{Thing}
-use Rattle.atl_state.specs.declared.books.Thing.TheVariants.{Item, Money, People}
-use Rattle.atl_state.specs.Books.{entry_place}
+use Rattle.atl_records.specs.declared.books.Entry.TheVariants.{Stocked}
+use Rattle.atl_records.specs.declared.books.Thing.{Thing}
+use Rattle.atl_records.specs.declared.books.Thing.TheVariants.{Item, Money, People}
+use Rattle.atl_records.specs.Books.{entry_place}
 use Rattle.atl_state.specs.Campaign.{CampaignValue, with_amount, with_stock}
 use Rattle.atl_state.specs.Stocks.{stock_of}
 use Rattle.atl_instant.specs.Meaning.{Moving}

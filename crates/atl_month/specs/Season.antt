@@ -4,9 +4,9 @@ use Rattle.std.specs.FinMap.{entries, get}
 use Rattle.atl_tables.specs.Worlds.{WorldValue}
 use Rattle.atl_tables.specs.declared.world.Terrain.{Terrain}
 use Rattle.atl_tables.specs.ByNumber.{terrain_of}
-use Rattle.atl_state.specs.declared.books.Entry.TheVariants.{Births, Income, Stocked}
-use Rattle.atl_state.specs.declared.books.Thing.TheVariants.{Money, People}
-use Rattle.atl_state.specs.declared.records.Region.{Region}
+use Rattle.atl_records.specs.declared.books.Entry.TheVariants.{Births, Income, Stocked}
+use Rattle.atl_records.specs.declared.books.Thing.TheVariants.{Money, People}
+use Rattle.atl_records.specs.declared.records.Region.{Region}
 use Rattle.atl_state.specs.Campaign.{CampaignValue, with_amount, with_peasants, with_region_money}
 use Rattle.atl_instant.specs.Month.{MonthValue}
 use Rattle.atl_instant.specs.Meaning.{Keeping, Moving, both_move, most_moved, moves_only}

@@ -1,7 +1,7 @@
 -- The upkeep of units. See docs/RULES.md, "Upkeep".
 use Rattle.std.specs.Prelude.{ℕ, ◌+◌, ◌-◌, ◌*◌, ◌/◌, ◌++◌, ◌==◌, ◌&&◌, Bool, List, [], ◌∷◌, filter, min, ◌≤◌}
 use Rattle.std.specs.List.{sum_by}
-use Rattle.atl_state.specs.Limits.{holding_limit, men_limit}
+use Rattle.atl_records.specs.Limits.{holding_limit, men_limit}
 use Rattle.atl_month.specs.declared.settling.Purse.{Purse}
 use Rattle.atl_month.specs.declared.settling.Settled.{Settled}
 use Rattle.atl_instant.specs.Dealing.{dealt}

@@ -3,15 +3,15 @@ use Rattle.std.specs.Prelude.{◌≡◌, ◌≤◌, ◌+◌, ◌-◌, ◌==◌, 
 use Rattle.std.specs.FinMap.{entries, get}
 use Rattle.atl_tables.specs.Worlds.{WorldValue}
 use Rattle.atl_tables.specs.Sums.{numbers_where}
-use Rattle.atl_state.specs.Books.{entry_place, thing_place}
-use Rattle.atl_state.specs.declared.books.Entry.TheVariants.{Lost}
-use Rattle.atl_state.specs.declared.books.Thing.{Thing}
-use Rattle.atl_state.specs.declared.books.Thing.TheVariants.{Item, Money, People}
-use Rattle.atl_state.specs.declared.records.Unit.{Unit}
-use Rattle.atl_state.specs.Good.{Every}
-use Rattle.atl_state.specs.Held.{amount_of, with_amount_of}
+use Rattle.atl_records.specs.Books.{entry_place, thing_place}
+use Rattle.atl_records.specs.declared.books.Entry.TheVariants.{Lost}
+use Rattle.atl_records.specs.declared.books.Thing.{Thing}
+use Rattle.atl_records.specs.declared.books.Thing.TheVariants.{Item, Money, People}
+use Rattle.atl_records.specs.declared.records.Unit.{Unit}
+use Rattle.atl_records.specs.Every.{Every}
+use Rattle.atl_records.specs.Held.{amount_of, with_amount_of}
 use Rattle.atl_state.specs.Lending.{with_held}
-use Rattle.atl_state.specs.Limits.{holding_limit}
+use Rattle.atl_records.specs.Limits.{holding_limit}
 use Rattle.atl_state.specs.Owners.{first_or_zero, without_unit}
 use Rattle.atl_state.specs.Campaign.{CampaignValue, active, numbers_of, with_amount, with_gone, with_money}
 use Rattle.atl_instant.specs.Month.{MonthValue}

@@ -2,8 +2,8 @@
 use Rattle.std.specs.Prelude.{◌≢◌, ℕ, List}
 use Rattle.std.specs.List.{All}
 use Rattle.atl_orders.specs.declared.mailing.Mailing.{Mailing}
-use Rattle.atl_state.specs.declared.event.Event.{Event}
-use Rattle.atl_state.specs.Good.{Every}
+use Rattle.atl_records.specs.declared.event.Event.{Event}
+use Rattle.atl_records.specs.Every.{Every}
 use Rattle.atl_state.specs.Campaign.{CampaignValue}
 use Rattle.atl_instant.specs.Unmailed.{IsLeft, starved_in}
 

@@ -3,14 +3,14 @@ use Rattle.std.specs.Prelude.{◌≡◌, ℕ, nat_lt, pos, neg_ℤ, ◌-◌, ◌
 use Rattle.std.specs.Ordering.{nat_cmp}
 use Rattle.std.specs.FinMap.{FinMap, empty, entries, get}
 use Rattle.atl_tables.specs.Worlds.{WorldValue}
-use Rattle.atl_state.specs.declared.books.Entry.TheVariants.{Starved, Upkeep}
-use Rattle.atl_state.specs.declared.books.Thing.TheVariants.{Money, People}
-use Rattle.atl_state.specs.declared.event.Event.{Event}
-use Rattle.atl_state.specs.declared.event.EventVerb.TheVariants as verb
-use Rattle.atl_state.specs.declared.event.Outcome.TheVariants as outcome
-use Rattle.atl_state.specs.declared.records.Unit.{Unit}
-use Rattle.atl_state.specs.Good.{Every}
-use Rattle.atl_state.specs.Held.{Held, with_amount_of}
+use Rattle.atl_records.specs.declared.books.Entry.TheVariants.{Starved, Upkeep}
+use Rattle.atl_records.specs.declared.books.Thing.TheVariants.{Money, People}
+use Rattle.atl_records.specs.declared.event.Event.{Event}
+use Rattle.atl_records.specs.declared.event.EventVerb.TheVariants as verb
+use Rattle.atl_records.specs.declared.event.Outcome.TheVariants as outcome
+use Rattle.atl_records.specs.declared.records.Unit.{Unit}
+use Rattle.atl_records.specs.Every.{Every}
+use Rattle.atl_records.specs.Held.{Held, with_amount_of}
 use Rattle.atl_state.specs.Lending.{with_held}
 use Rattle.atl_state.specs.Campaign.{CampaignValue, with_amount}
 use Rattle.atl_instant.specs.Month.{MonthValue}

@@ -3,8 +3,9 @@ ghost use Rattle.std.specs.Prelude.{◌≡◌, ◌<◌, ℕ, All, IfOk, length, 
 ghost use Rattle.std.specs.FinMap.{len};
 ghost use Rattle.atl_orders.specs.Mailing.{IsReadWith, reading_of};
 ghost use Rattle.atl_state.specs.Covers.{MarksChanges};
-ghost use Rattle.atl_state.specs.Good.{IsGood, IsSound, IsThere};
-ghost use Rattle.atl_state.specs.Limits.{last_month};
+ghost use Rattle.atl_records.specs.Every.{IsThere};
+ghost use Rattle.atl_state.specs.Good.{IsGood, IsSound};
+ghost use Rattle.atl_records.specs.Limits.{last_month};
 ghost use Rattle.atl_instant.specs.Month.{HaveOwnFactions, by_faction};
 ghost use Rattle.atl_instant.specs.Fit.{AreFit};
 ghost use Rattle.atl_instant.specs.Meaning.{IsSameMonth, LeavesWell};

@@ -1,6 +1,6 @@
 //! Who receives what units without men leave.
 ghost use Rattle.std.specs.Prelude.{◌≡◌, ◌≤◌, IfOk, OnOk};
-ghost use Rattle.atl_state.specs.Good.{Every};
+ghost use Rattle.atl_records.specs.Every.{Every};
 ghost use Rattle.atl_month.specs.Receivers.{AreReceivers, receiver_in, receiver_noted};
 
 use atl_state::{Campaign, Unit};

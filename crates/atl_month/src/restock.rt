@@ -5,9 +5,10 @@ ghost use Rattle.atl_tables.specs.ByNumber.{market_of};
 ghost use Rattle.atl_tables.specs.Limits.{most_amount};
 ghost use Rattle.atl_tables.specs.Worlds.{IsMarket, IsWorld};
 ghost use Rattle.atl_state.specs.Covers.{MarksChanges};
-ghost use Rattle.atl_state.specs.Good.{IsSteady, IsThere};
-ghost use Rattle.atl_state.specs.declared.books.Entry.TheVariants.{Stocked};
-ghost use Rattle.atl_state.specs.declared.books.Thing.TheVariants.{Item};
+ghost use Rattle.atl_records.specs.Every.{IsThere};
+ghost use Rattle.atl_state.specs.Good.{IsSteady};
+ghost use Rattle.atl_records.specs.declared.books.Entry.TheVariants.{Stocked};
+ghost use Rattle.atl_records.specs.declared.books.Thing.TheVariants.{Item};
 ghost use Rattle.atl_instant.specs.Meaning.{HaveRoom, moves_only};
 ghost use Rattle.atl_month.specs.Restock.{market_restocked, markets_of, restock, restocked, stocks_by};
 

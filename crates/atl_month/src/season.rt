@@ -2,7 +2,7 @@
 ghost use Rattle.std.specs.Prelude.{ℕ, ◌≡◌, ◌≤◌, ◌<◌, ◌+◌, OnOk};
 ghost use Rattle.atl_tables.specs.Worlds.{IsWorld};
 ghost use Rattle.atl_tables.specs.Limits.{most_amount, most_growth};
-ghost use Rattle.atl_state.specs.Books.{IsGrid};
+ghost use Rattle.atl_records.specs.Books.{IsGrid};
 ghost use Rattle.atl_state.specs.Covers.{MarksChanges};
 ghost use Rattle.atl_state.specs.Good.{IsSteady};
 ghost use Rattle.atl_instant.specs.Meaning.{HaveRoom, most_moved};

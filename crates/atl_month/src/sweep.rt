@@ -1,13 +1,13 @@
 //! The sweep of a month.
 ghost use Rattle.std.specs.Prelude.{ℕ, ◌≡◌, ◌≤◌, ◌<◌, ◌+◌, IfOk, OnOk, fold, length};
 ghost use Rattle.atl_tables.specs.Limits.{most_amount};
-ghost use Rattle.atl_state.specs.Books.{IsGrid, amount_in, thing_place};
+ghost use Rattle.atl_records.specs.Books.{IsGrid, amount_in, thing_place};
 ghost use Rattle.atl_state.specs.Covers.{MarksChanges};
-ghost use Rattle.atl_state.specs.Deciding.{EachOf};
+ghost use Rattle.atl_records.specs.Every.{EachOf};
 ghost use Rattle.atl_state.specs.Good.{IsSteady};
 ghost use Rattle.atl_state.specs.Marking.{mark_amount};
-ghost use Rattle.atl_state.specs.declared.books.Entry.TheVariants.{Lost};
-ghost use Rattle.atl_state.specs.declared.books.Thing.TheVariants.{Item, Money};
+ghost use Rattle.atl_records.specs.declared.books.Entry.TheVariants.{Lost};
+ghost use Rattle.atl_records.specs.declared.books.Thing.TheVariants.{Item, Money};
 ghost use Rattle.atl_instant.specs.Meaning.{HasRoom, HaveRoom, most_moved, moved_times};
 ghost use Rattle.atl_instant.specs.LostItems.{moving_items};
 ghost use Rattle.atl_month.specs.Sweep.{faction_swept, loses_by, menless, passed_item, passed_money, sweep_keeps, sweep_meaning, swept_at, taken_of, with_lost};

@@ -1,6 +1,6 @@
 //! What was booked between two campaigns, a line each.
 ghost use Rattle.std.specs.Prelude.{◌≡◌};
-ghost use Rattle.atl_state.specs.Books.{thing_place};
+ghost use Rattle.atl_records.specs.Books.{thing_place};
 
 use crate::lines::number;
 use atl_state::{Campaign, ENTRY_COUNT, Entry, Thing};

@@ -5,7 +5,7 @@ use Rattle.std.specs.List.{list_any}
 use Rattle.std.proofs.lemmas.Bool.{false≢true}
 use Rattle.std.proofs.lemmas.Bool.Decides.{nat_tests}
 use Rattle.atl_orders.specs.declared.fault.FaultyLine.{FaultyLine}
-use Rattle.atl_state.specs.declared.event.Event.{Event}
+use Rattle.atl_records.specs.declared.event.Event.{Event}
 use Rattle.atl_report.specs.Events.{faulty_lines, event_lines, own_events, told, orders_part}
 use Rattle.atl_report.specs.Sight.{view_of}
 use Rattle.atl_report.specs.Report.{header_line, region_parts, report_of, OthersEventsAreNotTold, OnlyWhatIsSeenIsTold}

@@ -7,7 +7,7 @@ use Rattle.std.proofs.lemmas.List.{append_assoc}
 use Rattle.atl_tables.specs.Sums.{numbers_among}
 use Rattle.atl_tables.proofs.SumLaws.{chosen-cons}
 use Rattle.atl_tables.proofs.GeneralLaws.{is_equal, key_turned}
-use Rattle.atl_state.specs.declared.records.Structure.{Structure}
+use Rattle.atl_records.specs.declared.records.Structure.{Structure}
 use Rattle.atl_state.specs.Kept.{list_of}
 use Rattle.atl_report.specs.Sites.{with_site}
 

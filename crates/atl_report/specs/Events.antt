@@ -4,11 +4,11 @@ use Rattle.std.specs.Fmt.{decimal}
 use Rattle.atl_tables.specs.Texts.{◌▸◌}
 use Rattle.atl_orders.specs.Faulting.{fault_number, fault_name}
 use Rattle.atl_orders.specs.declared.fault.FaultyLine.{FaultyLine}
-use Rattle.atl_state.specs.declared.event.Event.{Event}
-use Rattle.atl_state.specs.declared.event.EventFault.{EventFault}
-use Rattle.atl_state.specs.declared.event.Outcome.{Outcome}
-use Rattle.atl_state.specs.declared.event.Outcome.TheVariants.{Done, Fault, Starved}
-use Rattle.atl_state.specs.Events.{event_keyword, event_fault_number, event_fault_name, event_faults}
+use Rattle.atl_records.specs.declared.event.Event.{Event}
+use Rattle.atl_records.specs.declared.event.EventFault.{EventFault}
+use Rattle.atl_records.specs.declared.event.Outcome.{Outcome}
+use Rattle.atl_records.specs.declared.event.Outcome.TheVariants.{Done, Fault, Starved}
+use Rattle.atl_records.specs.Events.{event_keyword, event_fault_number, event_fault_name, event_faults}
 use Rattle.atl_report.specs.Each.{each_text}
 
 -- ---- a line of the mailing that isn't read

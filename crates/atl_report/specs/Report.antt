@@ -13,7 +13,7 @@ use Rattle.atl_tables.specs.declared.world.Item.{Item}
 use Rattle.atl_tables.specs.declared.world.Skill.{Skill}
 use Rattle.atl_tables.specs.declared.world.Kind.{Kind}
 use Rattle.atl_orders.specs.declared.fault.FaultyLine.{FaultyLine}
-use Rattle.atl_state.specs.declared.event.Event.{Event}
+use Rattle.atl_records.specs.declared.event.Event.{Event}
 use Rattle.atl_state.specs.Campaign.{CampaignValue}
 use Rattle.atl_report.specs.Each.{each_text}
 use Rattle.atl_report.specs.Events.{own_events, orders_part}

@@ -7,13 +7,13 @@ use Rattle.atl_tables.specs.Worlds.{WorldValue}
 use Rattle.atl_tables.specs.Sums.{numbers_where}
 use Rattle.atl_tables.specs.declared.world.Market.{Market}
 use Rattle.atl_tables.specs.declared.world.RegionPlan.{RegionPlan}
-use Rattle.atl_state.specs.declared.records.Faction.{Faction}
-use Rattle.atl_state.specs.declared.records.Region.{Region}
-use Rattle.atl_state.specs.declared.records.Structure.{Structure}
-use Rattle.atl_state.specs.declared.records.Unit.{Unit}
+use Rattle.atl_records.specs.declared.records.Faction.{Faction}
+use Rattle.atl_records.specs.declared.records.Region.{Region}
+use Rattle.atl_records.specs.declared.records.Structure.{Structure}
+use Rattle.atl_records.specs.declared.records.Unit.{Unit}
 use Rattle.atl_state.specs.Good.{guards}
-use Rattle.atl_state.specs.Held.{Held, amount_of}
-use Rattle.atl_state.specs.Levels.{level_of}
+use Rattle.atl_records.specs.Held.{Held, amount_of}
+use Rattle.atl_records.specs.Levels.{level_of}
 use Rattle.atl_state.specs.Campaign.{CampaignValue, numbers_in}
 use Rattle.atl_report.specs.declared.views.View.{View}
 use Rattle.atl_report.specs.declared.views.RegionView.{RegionView}

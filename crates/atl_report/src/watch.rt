@@ -2,7 +2,7 @@
 ghost use Rattle.std.specs.Prelude.{◌≡◌, Some, nat_le};
 ghost use Rattle.std.specs.Option.{option_copied};
 ghost use Rattle.atl_state.specs.Good.{guards};
-ghost use Rattle.atl_state.specs.Levels.{level_in_any};
+ghost use Rattle.atl_records.specs.Levels.{level_in_any};
 ghost use Rattle.atl_report.specs.Watching.{is_watching, observation_of, observation_in, watch_over, is_seen, is_seen_there};
 
 use atl_state::{Campaign, Unit, level_in_any};

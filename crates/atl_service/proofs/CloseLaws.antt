@@ -19,17 +19,17 @@ use Rattle.atl_orders.specs.declared.mailing.Mailing.{Mailing}
 use Rattle.atl_orders.specs.Limits.{most_bytes}
 use Rattle.atl_orders.specs.Lines.{lines}
 use Rattle.atl_orders.specs.Mailing.{IsMailingOf, IsReadWith, Reading, Reads, behind_header, header_from, reading, reading_of}
-use Rattle.atl_state.specs.declared.event.Event.{Event}
-use Rattle.atl_state.specs.declared.records.Faction.{Faction}
+use Rattle.atl_records.specs.declared.event.Event.{Event}
+use Rattle.atl_records.specs.declared.records.Faction.{Faction}
 use Rattle.atl_state.specs.Covers.{MarksChanges}
-use Rattle.atl_state.specs.Deciding.{EachOf}
-use Rattle.atl_state.specs.Good.{IsGood, IsThere}
-use Rattle.atl_state.specs.Limits.{most_things}
+use Rattle.atl_records.specs.Every.{EachOf, IsThere}
+use Rattle.atl_state.specs.Good.{IsGood}
+use Rattle.atl_records.specs.Limits.{most_things}
 use Rattle.atl_state.specs.Marking.{mark_all_mail, mark_report, mark_row}
 use Rattle.atl_state.specs.Marks.{Marks}
 use Rattle.atl_state.specs.Campaign.{CampaignValue, MarkedCampaign, active, with_month, without_mail}
 use Rattle.atl_state.proofs.CoverLaws.{marks-trans}
-use Rattle.atl_state.proofs.EveryLaws.{each-from_every, sorted}
+use Rattle.atl_records.proofs.EveryLaws.{each-from_every, sorted}
 use Rattle.atl_state.proofs.GoodLaws.{IsGood-with_report}
 use Rattle.atl_state.proofs.PostLaws.{marks-month, marks-no_mail, marks-report}
 use Rattle.atl_state.proofs.SlotLaws.{keys_rise}

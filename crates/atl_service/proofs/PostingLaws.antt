@@ -9,7 +9,7 @@ use Rattle.atl_tables.specs.Worlds.{WorldValue}
 use Rattle.atl_orders.specs.declared.fault.MailFault.{MailFault}
 use Rattle.atl_orders.specs.declared.fault.MailFault.TheVariants.{TooLong, NoHeader, BadHeader, Memory}
 use Rattle.atl_orders.specs.Mailing.{Reading, reading}
-use Rattle.atl_state.specs.declared.records.Faction.{Faction}
+use Rattle.atl_records.specs.declared.records.Faction.{Faction}
 use Rattle.atl_state.specs.Campaign.{CampaignValue, with_mail}
 use Rattle.atl_service.specs.declared.command.Command.{Command}
 use Rattle.atl_service.specs.declared.command.Command.TheVariants.{Join, Mail, Close, Report}

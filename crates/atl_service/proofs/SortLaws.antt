@@ -9,7 +9,7 @@ use Rattle.std.proofs.lemmas.List.{append_assoc, drop_more}
 use Rattle.atl_tables.specs.Worlds.{WorldValue}
 use Rattle.atl_tables.proofs.GeneralLaws.{key_turned}
 use Rattle.atl_orders.specs.declared.fault.FaultyLine.{FaultyLine}
-use Rattle.atl_state.specs.declared.event.Event.{Event}
+use Rattle.atl_records.specs.declared.event.Event.{Event}
 use Rattle.atl_state.specs.Campaign.{CampaignValue, with_report}
 use Rattle.atl_report.specs.Events.{own_events}
 use Rattle.atl_report.proofs.EventLaws.{only_what_is_seen_is_told}

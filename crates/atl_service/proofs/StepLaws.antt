@@ -3,15 +3,15 @@ use Rattle.std.proofs.Common.{◌≡◌, ◌+◌, ◌-◌, ℕ, pos, List, [], B
 use Rattle.std.specs.FinMap.{get, insert}
 use Rattle.atl_tables.specs.Names.{name_ok, pass_ok}
 use Rattle.atl_tables.specs.Worlds.{WorldValue}
-use Rattle.atl_state.specs.declared.records.JoinFault.TheVariants.{NameTaken, Full}
+use Rattle.atl_records.specs.declared.records.JoinFault.TheVariants.{NameTaken, Full}
 use Rattle.atl_state.specs.Campaign.{CampaignValue, with_report}
 use Rattle.atl_state.specs.Good.{IsGood}
 use Rattle.atl_state.specs.Joining.{join_of, joined, name_taken, is_full, new_faction, first_unit}
 use Rattle.atl_state.specs.Founding.{things_of}
-use Rattle.atl_state.specs.Books.{with_booked}
-use Rattle.atl_state.specs.declared.books.Entry.TheVariants.{Joining}
-use Rattle.atl_state.specs.declared.books.Thing.TheVariants.{Money, People}
-use Rattle.atl_state.proofs.BookLaws.{IsGrid-with_booked}
+use Rattle.atl_records.specs.Books.{with_booked}
+use Rattle.atl_records.specs.declared.books.Entry.TheVariants.{Joining}
+use Rattle.atl_records.specs.declared.books.Thing.TheVariants.{Money, People}
+use Rattle.atl_records.proofs.BookLaws.{IsGrid-with_booked}
 use Rattle.atl_report.specs.Report.{report_of}
 use Rattle.atl_report.specs.Sight.{view_of}
 use Rattle.atl_store.specs.Keeps.{IsJoining}

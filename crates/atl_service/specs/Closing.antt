@@ -6,7 +6,7 @@ use Rattle.atl_tables.specs.Worlds.{WorldValue}
 use Rattle.atl_orders.specs.declared.fault.FaultyLine.{FaultyLine}
 use Rattle.atl_orders.specs.declared.fault.MailFault.{MailFault}
 use Rattle.atl_orders.specs.Mailing.{Reading, reading}
-use Rattle.atl_state.specs.declared.event.Event.{Event}
+use Rattle.atl_records.specs.declared.event.Event.{Event}
 use Rattle.atl_state.specs.Campaign.{CampaignValue, active, with_report}
 use Rattle.atl_instant.specs.Month.{by_faction}
 use Rattle.atl_month.specs.Month.{finished, month_of}

@@ -2,7 +2,7 @@
 use Rattle.std.specs.Prelude.{◌≡◌, ◌++◌, ℕ, List, [], ◌∷◌, unwrap_or}
 use Rattle.std.specs.Ordering.{nat_cmp}
 use Rattle.std.specs.FinMap.{FinMap, get, insert}
-use Rattle.atl_state.specs.declared.event.Event.{Event}
+use Rattle.atl_records.specs.declared.event.Event.{Event}
 use Rattle.atl_report.specs.Events.{own_events}
 
 -- what is listed of a faction

@@ -7,10 +7,10 @@ use Rattle.atl_tables.specs.Worlds.{WorldValue}
 use Rattle.atl_orders.specs.declared.fault.MailFault.{MailFault}
 use Rattle.atl_orders.specs.declared.fault.MailFault.TheVariants as mail
 use Rattle.atl_orders.specs.Mailing.{Reading, reading}
-use Rattle.atl_state.specs.declared.records.Faction.{Faction}
-use Rattle.atl_state.specs.declared.records.JoinFault.{JoinFault}
-use Rattle.atl_state.specs.declared.records.JoinFault.TheVariants.{NameTaken, Full, Memory}
-use Rattle.atl_state.specs.Limits.{last_month}
+use Rattle.atl_records.specs.declared.records.Faction.{Faction}
+use Rattle.atl_records.specs.declared.records.JoinFault.{JoinFault}
+use Rattle.atl_records.specs.declared.records.JoinFault.TheVariants.{NameTaken, Full, Memory}
+use Rattle.atl_records.specs.Limits.{last_month}
 use Rattle.atl_state.specs.Campaign.{CampaignValue, with_mail}
 use Rattle.atl_state.specs.Joining.{join_of}
 use Rattle.atl_service.specs.Closing.{closed, reported_with}

@@ -5,7 +5,7 @@ ghost use Rattle.atl_orders.specs.declared.fault.MailFault.TheVariants.{Memory};
 ghost use Rattle.atl_orders.specs.Mailing.{IsMailingOf, IsReadWith};
 ghost use Rattle.atl_state.specs.Covers.{MarksChanges};
 ghost use Rattle.atl_state.specs.Good.{IsGood};
-ghost use Rattle.atl_state.specs.Limits.{last_month};
+ghost use Rattle.atl_records.specs.Limits.{last_month};
 ghost use Rattle.atl_state.specs.Marks.{no_marks};
 ghost use Rattle.atl_service.specs.declared.command.Command.TheVariants as command;
 ghost use Rattle.atl_service.specs.Answering.{Answers, GivesUp, LeavesIdle, of_writing};

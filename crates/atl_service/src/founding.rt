@@ -1,6 +1,6 @@
 //! What a founding begins with.
 ghost use Rattle.std.specs.Prelude.{◌≤◌, Bool, IfOk, IfErr, length};
-ghost use Rattle.atl_state.specs.Limits.{most_things};
+ghost use Rattle.atl_records.specs.Limits.{most_things};
 ghost use Rattle.atl_state.specs.Good.{IsGood};
 ghost use Rattle.atl_service.specs.Found.{Prepares, IsCause};
 

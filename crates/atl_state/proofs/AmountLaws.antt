@@ -8,17 +8,18 @@ use Rattle.std.specs.Ordering.{nat_cmp}
 use Rattle.std.specs.FinMap.{FinMap, entries}
 use Rattle.atl_tables.specs.Worlds.{IsWorld, WorldValue}
 use Rattle.atl_tables.specs.Sums.{sum_over}
-use Rattle.atl_state.specs.declared.books.Thing.TheVariants.{Money, People, Item}
-use Rattle.atl_state.specs.declared.records.Region.{Region}
-use Rattle.atl_state.specs.declared.records.Unit.{Unit}
+use Rattle.atl_records.specs.declared.books.Thing.TheVariants.{Money, People, Item}
+use Rattle.atl_records.specs.declared.records.Region.{Region}
+use Rattle.atl_records.specs.declared.records.Unit.{Unit}
 use Rattle.atl_state.specs.Campaign.{CampaignValue}
-use Rattle.atl_state.specs.Held.{amount_of}
+use Rattle.atl_records.specs.Held.{amount_of}
 use Rattle.atl_state.specs.Founding.{things_of}
-use Rattle.atl_state.specs.Totals.{held, kept, total, Balances}
-use Rattle.atl_state.specs.Books.{added_up, booked, IsGrid}
-use Rattle.atl_state.specs.Deciding.{EachOf}
-use Rattle.atl_state.specs.Good.{AreOfMarkets, Every}
-use Rattle.atl_state.proofs.EveryLaws.{each-from_every}
+use Rattle.atl_records.specs.Amounts.{held, kept}
+use Rattle.atl_state.specs.Totals.{total, Balances}
+use Rattle.atl_records.specs.Books.{added_up, booked, IsGrid}
+use Rattle.atl_records.specs.Every.{EachOf, Every}
+use Rattle.atl_state.specs.Good.{AreOfMarkets}
+use Rattle.atl_records.proofs.EveryLaws.{each-from_every}
 use Rattle.atl_state.proofs.RuleLaws.{free_from}
 use Rattle.atl_state.proofs.MarketLaws.{market_known}
 

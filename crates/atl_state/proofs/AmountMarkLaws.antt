@@ -8,13 +8,13 @@ use Rattle.std.specs.FinMap.{nat_cmp-IsAntisymmetric}
 use Rattle.std.specs.FinSet as set
 use Rattle.atl_tables.specs.Marked.{Marked}
 use Rattle.atl_tables.proofs.SetLaws.{len-below}
-use Rattle.atl_state.specs.Books.{thing_place}
+use Rattle.atl_records.specs.Books.{thing_place, amount_number}
 use Rattle.atl_state.specs.Kept.{MarksAmounts}
-use Rattle.atl_state.specs.Limits.{entry_count}
-use Rattle.atl_state.specs.Marks.{AreOfThings, amount_number, amount_marked}
-use Rattle.atl_state.specs.declared.books.Entry.{Entry}
-use Rattle.atl_state.specs.declared.books.Thing.{Thing}
-use Rattle.atl_state.proofs.EveryEntryLaws.{entry_small}
+use Rattle.atl_records.specs.Limits.{entry_count}
+use Rattle.atl_state.specs.Marks.{AreOfThings, amount_marked}
+use Rattle.atl_records.specs.declared.books.Entry.{Entry}
+use Rattle.atl_records.specs.declared.books.Thing.{Thing}
+use Rattle.atl_records.proofs.EveryEntryLaws.{entry_small}
 
 or_there : (n k : ℕ) (there : Bool) (P : ℕ → Type 0) → (eq_by_cmp nat_cmp k n || there) ≡ true → P n → (there ≡ true → P k) → P k
 or_there n k there P h itself others = elim (nat_cmp k n) as (λ r. nat_cmp k n ≡ r → (is_eq r || there) ≡ true → P k) [

@@ -8,14 +8,14 @@ use Rattle.std.proofs.lemmas.Bool.Decides.{nat_tests}
 use Rattle.std.proofs.lemmas.List.{ext_get_or}
 use Rattle.std.proofs.lemmas.List.Sorted.{IsPermutation-sym, IsPermutation-trans}
 use Rattle.atl_state.specs.declared.parts.StoredBooks.{StoredBooks}
-use Rattle.atl_state.specs.Books.{no_amounts, IsGrid}
+use Rattle.atl_records.specs.Books.{no_amounts, IsGrid, amount_at}
 use Rattle.atl_state.specs.FromRows.{is_entry, put_amounts}
-use Rattle.atl_state.specs.Limits.{entry_count}
+use Rattle.atl_records.specs.Limits.{entry_count}
 use Rattle.atl_state.specs.RowRules.{books_key, HaveKeys}
-use Rattle.atl_state.specs.Rows.{is_zero, books_row, amount_at, entry_rows, books_rows}
+use Rattle.atl_state.specs.Rows.{is_zero, books_row, entry_rows, books_rows}
 use Rattle.atl_state.proofs.BackGroupLaws.{flat_each, each_flat}
 use Rattle.atl_state.proofs.BackLaws.{each_permuted, each_back, read_whole, written_whole, apart_keys, InOrder, flat_apart, keys_permuted, same_size}
-use Rattle.atl_state.proofs.BookLaws.{IsGrid-no_amounts}
+use Rattle.atl_records.proofs.BookLaws.{IsGrid-no_amounts}
 use Rattle.atl_state.proofs.BooksRowLaws.{IsBooked, books_order, cell, cells}
 use Rattle.atl_state.proofs.FromRowLaws.{put-grid}
 use Rattle.atl_state.proofs.GroupLaws.{filter_apart, kept, unkept}

@@ -5,12 +5,11 @@ use Rattle.std.specs.List.Sorted.{IsPermutation}
 use Rattle.std.specs.Ordering.{nat_cmp}
 use Rattle.std.specs.FinMap.{FinMap, get, entries}
 use Rattle.std.proofs.lemmas.Bool.{not-true, not_from_false}
-use Rattle.atl_state.specs.Deciding.{EachOf}
+use Rattle.atl_records.specs.Every.{EachOf, Every}
 use Rattle.atl_state.specs.FromRows.{by_number}
-use Rattle.atl_state.specs.Good.{Every}
 use Rattle.atl_state.specs.Rows.{rows_by}
 use Rattle.atl_state.proofs.BackLaws.{each_permuted, each_back, by_number_is, append_each, each_appended, every_row, rows_every, rows_apart, entries_rise}
-use Rattle.atl_state.proofs.EveryLaws.{every-from_each, each-from_every}
+use Rattle.atl_records.proofs.EveryLaws.{every-from_each, each-from_every}
 use Rattle.atl_state.proofs.GroupLaws.{filter_apart, kept, unkept}
 use Rattle.atl_state.proofs.OrderLaws.{Apart, rows_found}
 

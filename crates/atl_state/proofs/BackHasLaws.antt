@@ -7,11 +7,11 @@ use Rattle.std.specs.Ordering.{nat_cmp}
 use Rattle.std.specs.FinMap.{FinMap, get, entries}
 use Rattle.std.proofs.lemmas.Bool.{and_parts}
 use Rattle.std.proofs.lemmas.Bool.Decides.{nat_tests}
-use Rattle.atl_state.specs.Limits.{most_u32}
+use Rattle.atl_records.specs.Limits.{most_u32}
 use Rattle.atl_state.specs.declared.parts.StoredHas.{StoredHas}
-use Rattle.atl_state.specs.declared.records.Unit.{Unit}
+use Rattle.atl_records.specs.declared.records.Unit.{Unit}
 use Rattle.atl_state.specs.FromRows.{as_u32, is_of, things_had}
-use Rattle.atl_state.specs.Good.{Every}
+use Rattle.atl_records.specs.Every.{Every}
 use Rattle.atl_state.specs.RowRules.{has_key, HaveKeys}
 use Rattle.atl_state.specs.Rows.{is_zero, has_row, sort_rows, held_rows, has_rows}
 use Rattle.atl_state.proofs.BackLaws.{each_permuted, read_whole, written_whole, apart_keys, append_each, each_appended, append_apart, flat_apart, entries_rise, keys_permuted, same_size}

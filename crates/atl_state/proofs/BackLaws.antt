@@ -14,14 +14,13 @@ use Rattle.std.proofs.lemmas.List.Elements.{All-from_recursion, recursion_from_A
 use Rattle.std.proofs.lemmas.List.Sorted.{All-permutation, IsPermutation-sym, length_permutation}
 use Rattle.std.proofs.lemmas.Map.Keys.{IsDistinct-IsPermutation}
 use Rattle.std.proofs.lemmas.Cmp.{eq_by_cmp_equiv, int_cmp_total, on_total, then_total}
-use Rattle.atl_state.specs.Limits.{most_u32}
-use Rattle.atl_state.specs.Deciding.{EachOf}
+use Rattle.atl_records.specs.Limits.{most_u32}
+use Rattle.atl_records.specs.Every.{EachOf, Every}
 use Rattle.atl_state.specs.FromRows.{as_u32, put_rows, by_number}
-use Rattle.atl_state.specs.Good.{Every}
 use Rattle.atl_state.specs.RowRules.{Key, one_key, HaveKeys}
 use Rattle.atl_state.specs.Rows.{rows_by}
 use Rattle.atl_state.proofs.AssemblyLaws.{min_small}
-use Rattle.atl_state.proofs.EveryLaws.{none_some, every-empty, every-insert, every-from_each, each-from_every, sorted}
+use Rattle.atl_records.proofs.EveryLaws.{none_some, every-empty, every-insert, every-from_each, each-from_every, sorted}
 use Rattle.atl_state.proofs.HasLaws.{IsWhole, same}
 use Rattle.atl_state.proofs.KeyLaws.{IsDistinct-map}
 use Rattle.atl_state.proofs.OrderLaws.{Apart, rows_found}

@@ -7,11 +7,11 @@ use Rattle.std.specs.Ordering.{nat_cmp}
 use Rattle.std.specs.FinMap.{FinMap, get, entries}
 use Rattle.std.proofs.lemmas.Bool.Decides.{nat_tests}
 use Rattle.atl_tables.specs.declared.format.Format.TheVariants.{Second}
-use Rattle.atl_state.specs.Limits.{most_u32}
+use Rattle.atl_records.specs.Limits.{most_u32}
 use Rattle.atl_state.specs.declared.parts.StoredMarket.{StoredMarket}
-use Rattle.atl_state.specs.declared.records.Region.{Region}
+use Rattle.atl_records.specs.declared.records.Region.{Region}
 use Rattle.atl_state.specs.FromRows.{as_u32, stocks_of}
-use Rattle.atl_state.specs.Good.{Every}
+use Rattle.atl_records.specs.Every.{Every}
 use Rattle.atl_state.specs.RowRules.{market_key, HaveKeys}
 use Rattle.atl_state.specs.Rows.{is_zero, market_row, stock_rows, market_rows}
 use Rattle.atl_state.proofs.AssemblyLaws.{is_same}

@@ -9,15 +9,16 @@ use Rattle.atl_tables.specs.Names.{name_ok}
 use Rattle.atl_tables.specs.Worlds.{WorldValue}
 use Rattle.atl_tables.specs.ByNumber.{is_land_at, size_of}
 use Rattle.atl_state.specs.Covers.{MarksChanges}
-use Rattle.atl_state.specs.declared.books.Thing.{Thing}
-use Rattle.atl_state.specs.declared.records.Structure.{Structure}
-use Rattle.atl_state.specs.Good.{AreAfloat, AreInRange, AreKnown, AreNumbered, AreOwned, Every, IsBuilt, IsOwned, IsSteady, IsThere, is_ship}
-use Rattle.atl_state.specs.Limits.{most_structures}
+use Rattle.atl_records.specs.declared.books.Thing.{Thing}
+use Rattle.atl_records.specs.declared.records.Structure.{Structure}
+use Rattle.atl_records.specs.Every.{Every, IsThere}
+use Rattle.atl_state.specs.Good.{AreAfloat, AreInRange, AreKnown, AreNumbered, AreOwned, IsBuilt, IsOwned, IsSteady, is_ship}
+use Rattle.atl_records.specs.Limits.{most_structures}
 use Rattle.atl_state.specs.Marking.{mark_structure_begun}
 use Rattle.atl_state.specs.Campaign.{MarkedCampaign, CampaignValue, with_done, with_structure_begun}
 use Rattle.atl_state.specs.Totals.{total}
 use Rattle.atl_state.proofs.CoverLaws.{Row, Stays, Structures, Tells, apart_by, part_by_part, put_stays}
-use Rattle.atl_state.proofs.EveryLaws.{every-insert, get-insert_other, none_some}
+use Rattle.atl_records.proofs.EveryLaws.{every-insert, get-insert_other, none_some}
 use Rattle.atl_state.proofs.RegionLaws.{changed-known, get-insert_same, same_len}
 
 -- ---- a structure more

@@ -8,12 +8,12 @@ use Rattle.std.proofs.lemmas.Bool.Decides.{nat_tests}
 use Rattle.std.proofs.lemmas.List.{append-nil, get_or-set_same, get_or-set_other}
 use Rattle.std.proofs.lemmas.List.Sorted.{IsPermutation-refl, IsPermutation-sym, IsPermutation-trans, IsPermutation-append_left, IsPermutation-append_right, IsPermutation-middle}
 use Rattle.atl_state.specs.declared.parts.StoredBooks.{StoredBooks}
-use Rattle.atl_state.specs.Books.{no_amounts, IsGrid}
-use Rattle.atl_state.specs.FromRows.{as_u32, is_entry, with_amount, with_row, put_amounts}
-use Rattle.atl_state.specs.Limits.{entry_count}
+use Rattle.atl_records.specs.Books.{no_amounts, IsGrid, with_amount, amount_at}
+use Rattle.atl_state.specs.FromRows.{as_u32, is_entry, with_row, put_amounts}
+use Rattle.atl_records.specs.Limits.{entry_count}
 use Rattle.atl_state.specs.RowRules.{Key, books_key}
-use Rattle.atl_state.specs.Rows.{is_zero, books_row, amount_at, entry_rows, books_rows}
-use Rattle.atl_state.proofs.BookLaws.{no_row, nothing_in, IsGrid-no_amounts}
+use Rattle.atl_state.specs.Rows.{is_zero, books_row, entry_rows, books_rows}
+use Rattle.atl_records.proofs.BookLaws.{no_row, nothing_in, IsGrid-no_amounts}
 use Rattle.atl_state.proofs.FromRowLaws.{IsGrid-with_amount}
 use Rattle.atl_state.proofs.GroupLaws.{filter_lines}
 use Rattle.atl_state.proofs.HasLaws.{IsWhole, same, ties_itself}

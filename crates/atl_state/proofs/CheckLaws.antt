@@ -11,23 +11,24 @@ use Rattle.atl_tables.specs.Worlds.{WorldValue, IsWorld}
 use Rattle.atl_state.specs.declared.checking.Rule.{Rule}
 use Rattle.atl_state.specs.declared.checking.Rule.TheVariants.{OneRow, Ranges, Names, Known, Next, Days, Gone, Owners, Water, Guards, Books, Mail}
 use Rattle.atl_state.specs.declared.parts.Parts.{Parts}
-use Rattle.atl_state.specs.declared.books.Entry.{Entry}
-use Rattle.atl_state.specs.declared.books.Thing.{Thing}
+use Rattle.atl_records.specs.declared.books.Entry.{Entry}
+use Rattle.atl_records.specs.declared.books.Thing.{Thing}
 use Rattle.atl_state.specs.declared.parts.StoredBooks.{StoredBooks}
 use Rattle.atl_state.specs.declared.parts.StoredHead.{StoredHead}
 use Rattle.atl_state.specs.Checking.{rule_number, Keeps, KeepsBelow, IsFirstBroken, Fits}
 use Rattle.std.specs.List.{list_all, AllByRecursion}
-use Rattle.atl_state.specs.Books.{amount_in, entry_place, thing_place, no_amounts, IsGrid}
+use Rattle.atl_records.specs.Books.{amount_in, entry_place, thing_place, no_amounts, IsGrid}
 use Rattle.atl_state.specs.Founding.{things_of}
 use Rattle.atl_state.specs.FromRows.{as_u32, stocks_of, region_of, put_amounts, head_of, campaign_of}
-use Rattle.atl_state.specs.Good.{AreOfMarkets, Every, IsThere, HasNoStocks, IsGood}
+use Rattle.atl_records.specs.Every.{Every, IsThere}
+use Rattle.atl_state.specs.Good.{AreOfMarkets, HasNoStocks, IsGood}
 use Rattle.atl_state.specs.RowRules.{is_one_head, is_entry_in, is_booked, head_in_range, people_in_range, region_in_range, structure_in_range, books_in_range, books_bound, market_in_range}
 use Rattle.atl_state.specs.Totals.{IsCountable}
-use Rattle.atl_state.specs.Limits.{first_entry_count}
+use Rattle.atl_records.specs.Limits.{first_entry_count}
 use Rattle.atl_state.specs.Rows.{is_zero, books_rows, AreRowsOf}
 use Rattle.atl_state.proofs.BackBooksLaws.{line_at, nothing_at}
 use Rattle.atl_state.proofs.BackLaws.{each_back, read_whole}
-use Rattle.atl_state.proofs.EveryEntryLaws.{entry_small}
+use Rattle.atl_records.proofs.EveryEntryLaws.{entry_small}
 use Rattle.atl_state.proofs.FromRowLaws.{by_number-every, from_le, AreInRange-said, HaveMen-said}
 use Rattle.atl_state.proofs.NamedLaws.{AreNamed-said, AreAmountsWithin-said}
 use Rattle.atl_state.proofs.OrderLaws.{each_passes}

@@ -11,18 +11,18 @@ use Rattle.atl_tables.specs.Groups.{group_of}
 use Rattle.atl_tables.specs.Sums.{changed, changed_at}
 use Rattle.atl_tables.specs.Tracking.{marked_with}
 use Rattle.atl_tables.proofs.GeneralLaws.{same_key}
-use Rattle.atl_state.specs.declared.books.Entry.{Entry}
-use Rattle.atl_state.specs.declared.books.Thing.{Thing}
-use Rattle.atl_state.specs.declared.records.Faction.{Faction}
-use Rattle.atl_state.specs.declared.records.Region.{Region}
-use Rattle.atl_state.specs.declared.records.Structure.{Structure}
-use Rattle.atl_state.specs.declared.records.Unit.{Unit}
-use Rattle.atl_state.specs.Books.{IsGrid, amount_in, thing_place}
+use Rattle.atl_records.specs.declared.books.Entry.{Entry}
+use Rattle.atl_records.specs.declared.books.Thing.{Thing}
+use Rattle.atl_records.specs.declared.records.Faction.{Faction}
+use Rattle.atl_records.specs.declared.records.Region.{Region}
+use Rattle.atl_records.specs.declared.records.Structure.{Structure}
+use Rattle.atl_records.specs.declared.records.Unit.{Unit}
+use Rattle.atl_records.specs.Books.{IsGrid, amount_in, thing_place, amount_number}
 use Rattle.atl_state.specs.Covers.{Covers, ThingsStayMarked, StaysMarked, StayMarked, MarksChanges, bare, days_under, items_under, own_row}
 use Rattle.atl_state.specs.Marking.{mark_amount, mark_faction, mark_region, mark_unit_added}
-use Rattle.atl_state.specs.Marks.{Marks, Things, amount_number, is_thing_marked, with_thing}
+use Rattle.atl_state.specs.Marks.{Marks, Things, is_thing_marked, with_thing}
 use Rattle.atl_state.specs.Campaign.{CampaignValue, MarkedCampaign, faction_changed, region_changed, with_amount}
-use Rattle.atl_state.proofs.EveryLaws.{get-insert_other}
+use Rattle.atl_records.proofs.EveryLaws.{get-insert_other}
 use Rattle.atl_state.proofs.RegionLaws.{amount-other}
 
 unmarked : (a b : Bool) → (a ≡ true → b ≡ true) → b ≡ false → a ≡ false

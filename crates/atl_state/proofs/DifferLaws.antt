@@ -3,10 +3,10 @@ use Rattle.std.proofs.Common.{◌≡◌, ◌≢◌, ℕ, true, List, [], ◌∷�
 use Rattle.std.proofs.lemmas.Bool.{and_parts}
 use Rattle.std.specs.Ordering.{nat_cmp}
 use Rattle.std.specs.FinMap.{FinMap, find, entries, get-entries, is_sorted}
-use Rattle.atl_state.specs.declared.records.Faction.{Faction}
+use Rattle.atl_records.specs.declared.records.Faction.{Faction}
 use Rattle.atl_state.specs.Deciding.{Differ}
-use Rattle.atl_state.specs.Good.{Every}
-use Rattle.atl_state.proofs.EveryLaws.{none_some, each_of, later, first, not_below, sorted}
+use Rattle.atl_records.specs.Every.{Every}
+use Rattle.atl_records.proofs.EveryLaws.{none_some, each_of, later, first, not_below, sorted}
 
 differ_of : (es : List (ℕ × Faction)) → is_sorted nat_cmp es ≡ true → ((n k : ℕ) (f g : Faction) → find nat_cmp n es ≡ Some f → find nat_cmp k es ≡ Some g → f.joined_as ≡ g.joined_as → n ≡ k) → Differ es
 differ_of [] s h = tt

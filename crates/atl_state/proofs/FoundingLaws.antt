@@ -11,32 +11,34 @@ use Rattle.atl_tables.specs.Worlds.{WorldValue, IsWorld, IsRegionPlan}
 use Rattle.atl_tables.specs.Sums.{sum_over, mapped}
 use Rattle.atl_tables.proofs.MadeLaws.{entries-mapped}
 use Rattle.atl_tables.proofs.Maps.{entries-empty}
-use Rattle.atl_state.specs.declared.books.Entry.{Entry}
-use Rattle.atl_state.specs.declared.books.Entry.TheVariants.{Founding}
-use Rattle.atl_state.specs.declared.books.Thing.{Thing}
-use Rattle.atl_state.specs.declared.books.Thing.TheVariants.{Money, People, Item}
+use Rattle.atl_records.specs.declared.books.Entry.{Entry}
+use Rattle.atl_records.specs.declared.books.Entry.TheVariants.{Founding}
+use Rattle.atl_records.specs.declared.books.Thing.{Thing}
+use Rattle.atl_records.specs.declared.books.Thing.TheVariants.{Money, People, Item}
 use Rattle.atl_state.specs.declared.lists.UnitLists.{UnitLists}
-use Rattle.atl_state.specs.declared.records.Faction.{Faction}
-use Rattle.atl_state.specs.declared.records.Region.{Region}
-use Rattle.atl_state.specs.declared.records.Structure.{Structure}
-use Rattle.atl_state.specs.declared.records.Unit.{Unit}
-use Rattle.atl_state.specs.Books.{amount_in, booked, no_amounts, with_booked, IsGrid, IsWithin}
+use Rattle.atl_records.specs.declared.records.Faction.{Faction}
+use Rattle.atl_records.specs.declared.records.Region.{Region}
+use Rattle.atl_records.specs.declared.records.Structure.{Structure}
+use Rattle.atl_records.specs.declared.records.Unit.{Unit}
+use Rattle.atl_records.specs.Books.{amount_in, booked, no_amounts, with_booked, IsGrid, IsWithin}
 use Rattle.atl_state.specs.Kept.{AreUnitLists, AreKept}
 use Rattle.atl_tables.specs.Names.{name_ok, pass_ok}
 use Rattle.atl_tables.specs.declared.world.RegionPlan.{RegionPlan}
 use Rattle.atl_tables.specs.ByNumber.{is_land_at, market_of, size_of}
 use Rattle.atl_orders.specs.Mailing.{IsMailingOf}
-use Rattle.atl_state.specs.Limits.{entry_count, most_days}
-use Rattle.atl_state.specs.Totals.{total, Balances, held, kept}
+use Rattle.atl_records.specs.Limits.{entry_count, most_days}
+use Rattle.atl_records.specs.Amounts.{held, kept}
+use Rattle.atl_state.specs.Totals.{total, Balances}
 use Rattle.atl_state.specs.Stocks.{stock_limit}
 use Rattle.atl_state.specs.Founding.{founded_of, founded_region, things_of}
-use Rattle.atl_state.specs.Held.{IsHolding}
+use Rattle.atl_records.specs.Held.{IsHolding}
 use Rattle.atl_state.specs.Campaign.{numbers_of}
-use Rattle.atl_state.specs.Good.{Every, IsThere, IsActive, IsRegion, AreInRange, AreAmountsWithin, AreNamed, IsPlaced, IsBuilt, AreKnown, AreOfMarkets, IsNumbered, IsOwned, is_ship, IsAboard, guards, IsSteady, IsGood}
-use Rattle.atl_state.proofs.EveryLaws.{each-from_every, every-empty, every-mapped, there-mapped}
+use Rattle.atl_records.specs.Every.{Every, IsThere}
+use Rattle.atl_state.specs.Good.{IsActive, IsRegion, AreInRange, AreAmountsWithin, AreNamed, IsPlaced, IsBuilt, AreKnown, AreOfMarkets, IsNumbered, IsOwned, is_ship, IsAboard, guards, IsSteady, IsGood}
+use Rattle.atl_records.proofs.EveryLaws.{each-from_every, every-empty, every-mapped, there-mapped}
 use Rattle.atl_state.proofs.AmountLaws.{none_weighed}
 use Rattle.atl_state.proofs.AmountMarkLaws.{none_marked}
-use Rattle.atl_state.proofs.BookLaws.{booked-with_booked, booked-no_amounts, amount-no_amounts, IsGrid-no_amounts, IsGrid-with_booked, IsWithin-with_booked, share_of}
+use Rattle.atl_records.proofs.BookLaws.{booked-with_booked, booked-no_amounts, amount-no_amounts, IsGrid-no_amounts, IsGrid-with_booked, IsWithin-with_booked, share_of}
 
 -- what is kept beside nobody, for so many things
 pub AreKept-nobody : (things : ℕ) (lists : UnitLists) (books : List (List ℤ)) → AreUnitLists empty lists → IsGrid things books → AreKept empty lists books (record { numbers = set.empty; room = entry_count * things })

@@ -21,18 +21,19 @@ use Rattle.atl_state.specs.declared.parts.StoredHas.{StoredHas}
 use Rattle.atl_state.specs.declared.parts.StoredStructure.{StoredStructure}
 use Rattle.atl_state.specs.declared.parts.StoredBooks.{StoredBooks}
 use Rattle.atl_state.specs.declared.parts.StoredMarket.{StoredMarket}
-use Rattle.atl_state.specs.Books.{no_amounts, IsGrid}
+use Rattle.atl_records.specs.Books.{no_amounts, IsGrid, with_amount}
 use Rattle.atl_state.specs.Founding.{things_of}
-use Rattle.atl_state.specs.FromRows.{clamped, as_u32, as_u16, is_entry, put_rows, by_number, faction_of, stocks_of, region_of, structure_of, unit_of, with_amount, with_row, put_amounts, head_of, campaign_of}
-use Rattle.atl_state.specs.Good.{Every, IsRegion, AreInRange, HaveMen}
-use Rattle.atl_state.specs.Held.{IsHolding}
-use Rattle.atl_state.specs.Limits.{last_month, most_units, last_unit, men_limit, holding_limit, most_structures, entry_count, most_u32}
+use Rattle.atl_state.specs.FromRows.{clamped, as_u32, as_u16, is_entry, put_rows, by_number, faction_of, stocks_of, region_of, structure_of, unit_of, with_row, put_amounts, head_of, campaign_of}
+use Rattle.atl_records.specs.Every.{Every}
+use Rattle.atl_state.specs.Good.{IsRegion, AreInRange, HaveMen}
+use Rattle.atl_records.specs.Held.{IsHolding}
+use Rattle.atl_records.specs.Limits.{last_month, most_units, last_unit, men_limit, holding_limit, most_structures, entry_count, most_u32}
 use Rattle.atl_state.specs.RowRules.{is_from, head_in_range, faction_in_range, region_in_range, unit_in_range, has_in_range, structure_in_range, books_in_range, books_bound, market_in_range, are_few, people_in_range, numbers_in_range, AreRowsInRange}
 use Rattle.atl_state.specs.Stocks.{stock_limit}
 use Rattle.atl_state.proofs.AssemblyLaws.{is_same, AreAmounts-had}
 use Rattle.atl_state.proofs.BackLaws.{every_by}
-use Rattle.atl_state.proofs.BookLaws.{IsGrid-no_amounts}
-use Rattle.atl_state.proofs.EveryLaws.{every-empty, every-insert}
+use Rattle.atl_records.proofs.BookLaws.{IsGrid-no_amounts}
+use Rattle.atl_records.proofs.EveryLaws.{every-empty, every-insert}
 use Rattle.atl_state.proofs.GroupLaws.{kept}
 use Rattle.atl_state.proofs.OrderLaws.{each_passes}
 

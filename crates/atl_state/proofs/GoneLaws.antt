@@ -7,14 +7,15 @@ use Rattle.atl_tables.specs.Names.{name_ok, pass_ok}
 use Rattle.atl_tables.specs.Worlds.{WorldValue}
 use Rattle.atl_tables.specs.Sums.{changed_at}
 use Rattle.atl_state.specs.Covers.{MarksChanges}
-use Rattle.atl_state.specs.declared.books.Thing.{Thing}
-use Rattle.atl_state.specs.declared.records.Faction.{Faction}
-use Rattle.atl_state.specs.Good.{AreInRange, AreKnown, AreNamed, AreNumbered, Every, IsSteady, IsThere}
+use Rattle.atl_records.specs.declared.books.Thing.{Thing}
+use Rattle.atl_records.specs.declared.records.Faction.{Faction}
+use Rattle.atl_records.specs.Every.{Every, IsThere}
+use Rattle.atl_state.specs.Good.{AreInRange, AreKnown, AreNamed, AreNumbered, IsSteady}
 use Rattle.atl_state.specs.Marking.{mark_faction}
 use Rattle.atl_state.specs.Campaign.{MarkedCampaign, CampaignValue, numbers_of, with_gone}
 use Rattle.atl_state.specs.Totals.{total}
 use Rattle.atl_state.proofs.CoverLaws.{marks-faction}
-use Rattle.atl_state.proofs.EveryLaws.{every-insert, get-insert_other, none_some, there-insert}
+use Rattle.atl_records.proofs.EveryLaws.{every-insert, get-insert_other, none_some, there-insert}
 use Rattle.atl_state.proofs.RegionLaws.{changed-known, get-insert_same, same_len}
 
 abbrev pub as_gone : Faction → Faction

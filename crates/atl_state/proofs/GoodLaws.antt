@@ -6,14 +6,15 @@ use Rattle.std.specs.Ordering.{nat_cmp}
 use Rattle.std.specs.FinMap.{FinMap, insert}
 use Rattle.atl_tables.specs.Worlds.{WorldValue}
 use Rattle.atl_orders.specs.Mailing.{IsMailingOf}
-use Rattle.atl_state.specs.declared.records.JoinFault.{JoinFault}
-use Rattle.atl_state.specs.declared.records.JoinFault.TheVariants.{NameTaken, Full}
-use Rattle.atl_state.specs.Limits.{last_month}
+use Rattle.atl_records.specs.declared.records.JoinFault.{JoinFault}
+use Rattle.atl_records.specs.declared.records.JoinFault.TheVariants.{NameTaken, Full}
+use Rattle.atl_records.specs.Limits.{last_month}
 use Rattle.atl_state.specs.Campaign.{CampaignValue, with_mail, with_report}
 use Rattle.atl_state.specs.Totals.{total}
-use Rattle.atl_state.specs.Good.{Every, IsThere, IsActive, AreInRange, AreNamed, IsPlaced, IsBuilt, AreKnown, AreOwned, IsSteady, IsEarly, IsSound, IsGood}
+use Rattle.atl_records.specs.Every.{Every, IsThere}
+use Rattle.atl_state.specs.Good.{IsActive, AreInRange, AreNamed, IsPlaced, IsBuilt, AreKnown, AreOwned, IsSteady, IsEarly, IsSound, IsGood}
 use Rattle.atl_state.specs.Joining.{joined, join_of, name_taken, is_full, new_faction}
-use Rattle.atl_state.proofs.EveryLaws.{every-insert, there-new, there-insert}
+use Rattle.atl_records.proofs.EveryLaws.{every-insert, there-new, there-insert}
 
 -- ---- mail and reports
 

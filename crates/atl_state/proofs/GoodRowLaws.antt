@@ -16,17 +16,18 @@ use Rattle.atl_state.specs.declared.parts.Parts.{Parts}
 use Rattle.atl_state.specs.declared.parts.StoredHead.{StoredHead}
 use Rattle.atl_state.specs.declared.parts.StoredHas.{StoredHas}
 use Rattle.atl_state.specs.declared.parts.StoredMarket.{StoredMarket}
-use Rattle.atl_state.specs.declared.records.Faction.{Faction}
-use Rattle.atl_state.specs.declared.records.Region.{Region}
-use Rattle.atl_state.specs.declared.records.Structure.{Structure}
-use Rattle.atl_state.specs.declared.records.Unit.{Unit}
-use Rattle.atl_state.specs.Books.{no_amounts}
+use Rattle.atl_records.specs.declared.records.Faction.{Faction}
+use Rattle.atl_records.specs.declared.records.Region.{Region}
+use Rattle.atl_records.specs.declared.records.Structure.{Structure}
+use Rattle.atl_records.specs.declared.records.Unit.{Unit}
+use Rattle.atl_records.specs.Books.{no_amounts}
 use Rattle.atl_state.specs.Checking.{Fits}
 use Rattle.atl_state.specs.Founding.{things_of}
 use Rattle.atl_state.specs.FromRows.{as_u32, as_u16, is_set, faction_of, stocks_of, region_of, structure_of, unit_of, by_number, put_amounts, things_had, no_head, head_of, campaign_of}
-use Rattle.atl_state.specs.Good.{Every, IsThere, IsNumbered, IsGood}
-use Rattle.atl_state.specs.Held.{AreAmounts}
-use Rattle.atl_state.specs.Limits.{last_month, last_unit, men_limit, holding_limit, most_structures, most_days, most_u16, most_u32}
+use Rattle.atl_records.specs.Every.{Every, IsThere}
+use Rattle.atl_state.specs.Good.{IsNumbered, IsGood}
+use Rattle.atl_records.specs.Held.{AreAmounts}
+use Rattle.atl_records.specs.Limits.{last_month, last_unit, men_limit, holding_limit, most_structures, most_days, most_u16, most_u32}
 use Rattle.atl_state.specs.RowRules.{one_key, market_key, HaveKeys}
 use Rattle.atl_state.specs.Rows.{flag, rows_by, head_row, faction_row, region_row, unit_row, structure_row, mail_row, report_row, has_rows, books_rows, market_row, market_rows, rows_of, AreRowsOf}
 use Rattle.atl_state.specs.Campaign.{CampaignValue}
@@ -35,7 +36,7 @@ use Rattle.atl_state.proofs.BackLaws.{each_permuted, read_whole, written_whole, 
 use Rattle.atl_state.proofs.BackBooksLaws.{books_back}
 use Rattle.atl_state.proofs.BackHasLaws.{AreHad, goods_of, goods_back}
 use Rattle.atl_state.proofs.BackStockRowLaws.{AreStocked, stocks_each, market_keys, stocks_back}
-use Rattle.atl_state.proofs.EveryLaws.{every-from_each}
+use Rattle.atl_records.proofs.EveryLaws.{every-from_each}
 use Rattle.atl_state.proofs.HasLaws.{IsWhole, same}
 use Rattle.atl_state.proofs.OrderLaws.{Apart-keys}
 use Rattle.atl_state.proofs.RuleLaws.{each_numbered, every_before}

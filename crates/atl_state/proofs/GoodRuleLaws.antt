@@ -27,21 +27,22 @@ use Rattle.atl_state.specs.declared.checking.Rule.TheVariants.{OneRow, Ranges, N
 use Rattle.atl_state.specs.declared.parts.Parts.{Parts}
 use Rattle.atl_state.specs.declared.parts.StoredHead.{StoredHead}
 use Rattle.atl_state.specs.declared.parts.StoredFaction.{StoredFaction}
-use Rattle.atl_state.specs.declared.records.Faction.{Faction}
-use Rattle.atl_state.specs.Books.{entry_place, thing_at, IsWithin}
+use Rattle.atl_records.specs.declared.records.Faction.{Faction}
+use Rattle.atl_records.specs.Books.{entry_place, thing_at, IsWithin, amount_at}
 use Rattle.atl_state.specs.Checking.{Keeps, IsWithoutMarkets, Fits, Checks, GivesBack}
-use Rattle.atl_state.specs.Deciding.{EachOf, Differ}
+use Rattle.atl_records.specs.Every.{EachOf}
+use Rattle.atl_state.specs.Deciding.{Differ}
 use Rattle.atl_state.specs.Founding.{things_of}
 use Rattle.atl_state.specs.FromRows.{as_u32, faction_of, region_of, structure_of, unit_of, head_of, campaign_of}
 use Rattle.atl_state.specs.Good.{AreAmountsWithin, AreKnown, AreNumbered, AreDays, GoneHaveNone, NoneAreGone, AreOwned, AreAfloat, AreOfOneFaction, guards, IsMail, AreReported, amount_bound, IsGood}
-use Rattle.atl_state.specs.Limits.{entry_count, first_entry_count, entries_in, holding_limit, last_month, last_unit, men_limit, most_in_joining, most_in_month, most_structures, most_units}
+use Rattle.atl_records.specs.Limits.{entry_count, first_entry_count, entries_in, holding_limit, last_month, last_unit, men_limit, most_in_joining, most_in_month, most_structures, most_units}
 use Rattle.atl_state.specs.RowRules.{is_from, is_one_head, are_of_format, is_within, head_in_range, faction_in_range, region_in_range, unit_in_range, has_in_range, structure_in_range, books_in_range, books_bound, market_in_range, are_few, AreKeyed, AreRowsInRange, faction_named, AreRowsNamed, is_of_unit, is_of_market, is_entry_in, is_booked}
-use Rattle.atl_state.specs.Rows.{flag, rows_by, head_row, faction_row, region_row, unit_row, structure_row, mail_row, report_row, has_row, has_rows, books_rows, market_rows, amount_at, is_zero, AreRowsOf}
+use Rattle.atl_state.specs.Rows.{flag, rows_by, head_row, faction_row, region_row, unit_row, structure_row, mail_row, report_row, has_row, has_rows, books_rows, market_rows, is_zero, AreRowsOf}
 use Rattle.atl_state.specs.Stocks.{stock_limit}
 use Rattle.atl_state.specs.Campaign.{CampaignValue, MarkedCampaign}
 use Rattle.atl_state.specs.Totals.{Balances}
-use Rattle.atl_state.proofs.BookLaws.{place_at}
-use Rattle.atl_state.proofs.EveryEntryLaws.{entry_at}
+use Rattle.atl_records.proofs.BookLaws.{place_at}
+use Rattle.atl_records.proofs.EveryEntryLaws.{entry_at}
 use Rattle.atl_state.proofs.BackLaws.{each_permuted, all_pass, read_whole, rows_pass, count_rows}
 use Rattle.atl_state.proofs.BackBooksLaws.{lines_each, books_keys}
 use Rattle.atl_state.proofs.BackHasLaws.{has_each, has_keys, goods_of}

@@ -11,7 +11,7 @@ use Rattle.std.proofs.lemmas.List.{append-nil}
 use Rattle.std.proofs.lemmas.List.Sorted.{IsPermutation-refl, IsPermutation-sym, IsPermutation-trans, IsPermutation-append}
 use Rattle.atl_state.specs.declared.parts.StoredHas.{StoredHas}
 use Rattle.atl_state.specs.declared.parts.StoredUnit.{StoredUnit}
-use Rattle.atl_state.specs.declared.records.Unit.{Unit}
+use Rattle.atl_records.specs.declared.records.Unit.{Unit}
 use Rattle.atl_state.specs.FromRows.{as_u32, is_of, things_had, unit_of, by_number}
 use Rattle.atl_state.specs.RowRules.{Key, key_cmp, has_key}
 use Rattle.atl_state.specs.Rows.{is_zero, has_row, sort_rows, held_rows, has_rows}

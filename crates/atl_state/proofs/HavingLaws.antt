@@ -6,12 +6,13 @@ use Rattle.std.specs.FinMap.{get, insert}
 use Rattle.atl_tables.specs.Names.{name_ok}
 use Rattle.atl_tables.specs.Worlds.{WorldValue}
 use Rattle.atl_tables.proofs.SumLaws.{numbers_where-insert_known}
-use Rattle.atl_state.specs.Limits.{most_days}
-use Rattle.atl_state.specs.declared.records.Unit.{Unit}
-use Rattle.atl_state.specs.Good.{AreOfOneFaction, Every, IsEarly, IsSteady, guards}
-use Rattle.atl_state.specs.Held.{Held, IsHolding}
+use Rattle.atl_records.specs.Limits.{most_days}
+use Rattle.atl_records.specs.declared.records.Unit.{Unit}
+use Rattle.atl_records.specs.Every.{Every}
+use Rattle.atl_state.specs.Good.{AreOfOneFaction, IsEarly, IsSteady, guards}
+use Rattle.atl_records.specs.Held.{Held, IsHolding}
 use Rattle.atl_state.specs.Campaign.{CampaignValue}
-use Rattle.atl_state.proofs.EveryLaws.{every-insert}
+use Rattle.atl_records.proofs.EveryLaws.{every-insert}
 use Rattle.atl_state.proofs.HoldingLaws.{known_kept, next_kept, numbers_kept, of_one_faction_kept, owners_kept}
 
 -- What a unit of a campaign may hold: within the limits, and of what the world has.

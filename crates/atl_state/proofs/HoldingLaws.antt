@@ -12,20 +12,22 @@ use Rattle.atl_tables.specs.Tracking.{marked_with}
 use Rattle.atl_tables.proofs.GeneralLaws.{same_key}
 use Rattle.atl_tables.proofs.SumLaws.{numbers_where-insert_known, sum_over-insert_known}
 use Rattle.atl_state.specs.Covers.{MarksChanges, bare, days_under, items_under}
-use Rattle.atl_state.specs.Limits.{holding_limit, most_days}
-use Rattle.atl_state.specs.declared.books.Thing.{Thing}
-use Rattle.atl_state.specs.declared.records.Region.{Region}
-use Rattle.atl_state.specs.declared.records.Unit.{Unit}
-use Rattle.atl_state.specs.Good.{AreAfloat, AreInRange, AreKnown, AreNumbered, AreOfOneFaction, AreOwned, Every, GoneHaveNone, IsPlaced, IsSteady, guards}
-use Rattle.atl_state.specs.Held.{Held, IsHolding, with_amount_of}
+use Rattle.atl_records.specs.Limits.{holding_limit, most_days}
+use Rattle.atl_records.specs.declared.books.Thing.{Thing}
+use Rattle.atl_records.specs.declared.records.Region.{Region}
+use Rattle.atl_records.specs.declared.records.Unit.{Unit}
+use Rattle.atl_records.specs.Every.{Every}
+use Rattle.atl_state.specs.Good.{AreAfloat, AreInRange, AreKnown, AreNumbered, AreOfOneFaction, AreOwned, GoneHaveNone, IsPlaced, IsSteady, guards}
+use Rattle.atl_records.specs.Held.{Held, IsHolding, with_amount_of}
 use Rattle.atl_state.specs.Lending.{lent, with_held}
 use Rattle.atl_state.specs.Marking.{mark_item, mark_skill, mark_unit_row, whole_marked}
 use Rattle.atl_state.specs.Marks.{thing_marked}
 use Rattle.atl_state.specs.Campaign.{MarkedCampaign, CampaignValue, unit_changed, with_item, with_skill}
-use Rattle.atl_state.specs.Totals.{held, kept, total}
+use Rattle.atl_records.specs.Amounts.{held, kept}
+use Rattle.atl_state.specs.Totals.{total}
 use Rattle.atl_state.proofs.CoverLaws.{Items, Rows, Skills, Stays, Tells, Units, apart_by, apart_by_thing, changed_there, marks-refl, marks-unit, part_by_part, put_stays, thing_stays}
-use Rattle.atl_state.proofs.EveryLaws.{every-insert, get-insert_other, none_some, there-insert}
-use Rattle.atl_state.proofs.HeldLaws.{get-set_other}
+use Rattle.atl_records.proofs.EveryLaws.{every-insert, get-insert_other, none_some, there-insert}
+use Rattle.atl_records.proofs.HeldLaws.{get-set_other}
 use Rattle.atl_state.proofs.RegionLaws.{get-insert_same, same_len}
 
 -- What a unit of a steady campaign may hold in the place of what it holds: within the limits, of what the world has, and it guards only if it did.

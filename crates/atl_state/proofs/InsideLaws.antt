@@ -4,12 +4,12 @@ use Rattle.std.specs.Ordering.{nat_cmp}
 use Rattle.std.specs.FinMap.{FinMap, get}
 use Rattle.atl_tables.proofs.GeneralLaws.{is_equal}
 use Rattle.atl_tables.specs.Sums.{numbers_where}
-use Rattle.atl_state.specs.declared.records.Unit.{Unit}
-use Rattle.atl_state.specs.Good.{Every, IsNumbered}
+use Rattle.atl_records.specs.declared.records.Unit.{Unit}
+use Rattle.atl_records.specs.Every.{Every}
+use Rattle.atl_state.specs.Good.{IsNumbered}
 use Rattle.atl_state.specs.Campaign.{numbers_inside}
-use Rattle.atl_state.proofs.EveryLaws.{none_some}
-use Rattle.atl_state.proofs.ListLaws.{other_number, same_number}
-use Rattle.atl_state.proofs.RemovedLaws.{IsListed, listed_passing, passing_listed}
+use Rattle.atl_records.proofs.EveryLaws.{none_some, other_number, same_number}
+use Rattle.atl_state.proofs.NumberListLaws.{IsListed, listed_passing, passing_listed}
 
 -- whoever is listed is inside
 pub listed_is_inside : (s : ℕ) (units : FinMap nat_cmp Unit) (k : ℕ) → IsListed k (numbers_inside s units) → (v : Unit) × (get units k ≡ Some v) × (v.structure ≡ s)

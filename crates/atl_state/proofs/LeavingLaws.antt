@@ -11,22 +11,25 @@ use Rattle.atl_tables.specs.Worlds.{WorldValue}
 use Rattle.atl_tables.specs.Tracking.{marked_with}
 use Rattle.atl_tables.specs.ByNumber.{is_land_at, size_of}
 use Rattle.atl_state.specs.Covers.{MarksChanges}
-use Rattle.atl_state.specs.declared.books.Thing.{Thing}
-use Rattle.atl_state.specs.declared.records.Region.{Region}
-use Rattle.atl_state.specs.declared.records.Structure.{Structure}
-use Rattle.atl_state.specs.declared.records.Unit.{Unit}
-use Rattle.atl_state.specs.Good.{AreAfloat, AreInRange, AreKnown, AreNumbered, AreOwned, Every, GoneHaveNone, IsBuilt, IsOwned, IsPlaced, IsSteady, is_ship}
+use Rattle.atl_records.specs.declared.books.Thing.{Thing}
+use Rattle.atl_records.specs.declared.records.Region.{Region}
+use Rattle.atl_records.specs.declared.records.Structure.{Structure}
+use Rattle.atl_records.specs.declared.records.Unit.{Unit}
+use Rattle.atl_records.specs.Every.{Every}
+use Rattle.atl_state.specs.Good.{AreAfloat, AreInRange, AreKnown, AreNumbered, AreOwned, GoneHaveNone, IsBuilt, IsOwned, IsPlaced, IsSteady, is_ship}
 use Rattle.atl_state.specs.Marking.{gone_marked, gone_marked_at, handed_marked, mark_structure, taken_marked, whole_marked}
 use Rattle.atl_state.specs.Owners.{handed, heir, is_owned_by, without_unit, without_unit_at}
 use Rattle.atl_state.specs.Campaign.{MarkedCampaign, CampaignValue, numbers_inside, structure_changed, with_owner}
-use Rattle.atl_state.specs.Totals.{held, total}
+use Rattle.atl_records.specs.Amounts.{held}
+use Rattle.atl_state.specs.Totals.{total}
 use Rattle.atl_state.proofs.CoverLaws.{Stays, Structures, Tells, apart_by, changed_there, marks-refl, marks-trans, marks-unit, part_by_part, put_stays}
-use Rattle.atl_state.proofs.EveryLaws.{every-insert, get-insert_other, none_some}
+use Rattle.atl_records.proofs.EveryLaws.{every-insert, get-insert_other, none_some}
 use Rattle.atl_state.proofs.HoldingLaws.{structure_in}
 use Rattle.atl_state.proofs.InsideLaws.{inside_is_listed, is_no_zero, listed_is_inside}
 use Rattle.atl_state.proofs.OwnerLaws.{gone-what, taken_none}
 use Rattle.atl_state.proofs.RegionLaws.{changed-known, get-insert_same, same_len}
-use Rattle.atl_state.proofs.RemovedLaws.{IsListed, every-insert_other, every-remove, fewer, first_of, get-remove_other, none_passing, nothing_listed, still, sum_over-remove}
+use Rattle.atl_records.proofs.RemovedLaws.{every-insert_other, every-remove, fewer, get-remove_other, still, sum_over-remove}
+use Rattle.atl_state.proofs.NumberListLaws.{IsListed, first_of, none_passing, nothing_listed}
 
 -- a structure with another owner
 abbrev pub owned_by : ℕ → Structure → Structure

@@ -11,8 +11,6 @@ pub mod GroupLaws
 pub mod GivingLaws
 pub mod GoodRowLaws
 pub mod GoodRuleLaws
-pub mod EveryEntryLaws
-pub mod BookLaws
 pub mod TotalLaws
 pub mod MadeOf
 pub mod AmountMarkLaws
@@ -20,8 +18,6 @@ pub mod FoundingLaws
 pub mod NumberedNameLaws
 pub mod JoinLaws
 pub mod OwnerLaws
-pub mod LevelLaws
-pub mod HeldLaws
 pub mod ListLaws
 pub mod KeyLaws
 pub mod FreeLaws
@@ -37,7 +33,6 @@ pub mod RowLaws
 pub mod SaidLaws
 pub mod CheckLaws
 pub mod UnitLaws
-pub mod EveryLaws
 pub mod GoodLaws
 pub mod RuleLaws
 pub mod GuardLaws
@@ -46,7 +41,7 @@ pub mod AmountLaws
 pub mod MarketLaws
 pub mod StockLaws
 pub mod HoldingLaws
-pub mod RemovedLaws
+pub mod NumberListLaws
 pub mod LeavingLaws
 pub mod GoneLaws
 pub mod PostLaws

@@ -6,7 +6,6 @@ use Rattle.std.specs.Ordering.{nat_cmp, is_eq}
 use Rattle.std.specs.Cmp.{nat_cmp_total, ranked}
 use Rattle.std.specs.FinMap.{FinMap, get, insert, remove, empty, get-empty, get-insert, get-remove, nat_cmp-IsAntisymmetric}
 use Rattle.std.proofs.lemmas.Bool.{cases_eq}
-use Rattle.std.proofs.lemmas.Bool.Decides.{nat_tests}
 use Rattle.atl_tables.proofs.SumLaws.{numbers_where-insert_other, numbers_where-insert_known, put_back, taken_back}
 use Rattle.atl_tables.specs.Sums.{changed, changed_at, numbers_where}
 use Rattle.atl_tables.proofs.Maps.{entries-empty}
@@ -14,14 +13,9 @@ use Rattle.atl_state.specs.Ordered.{put_number, take_number}
 use Rattle.atl_state.specs.Kept.{AreInsideLists, AreLists, AreUnitLists, SameLists, ListsUnit, UnlistsUnit, list_of, listing_of, listed_apart, relisted_inside, unlisted_apart}
 use Rattle.atl_state.specs.declared.lists.Listing.{Listing}
 use Rattle.atl_state.specs.declared.lists.UnitLists.{UnitLists}
-use Rattle.atl_state.specs.declared.records.Unit.{Unit}
+use Rattle.atl_records.specs.declared.records.Unit.{Unit}
 use Rattle.atl_state.proofs.OrderedLaws.{numbers_where-insert_new, numbers_where-lost, numbers_where-gained, taken_put}
-
-pub same_number : (a : ℕ) → (a == a) ≡ true
-same_number a = grind (arith, nat_tests)
-
-pub other_number : (a b : ℕ) → a ≢ b → (a == b) ≡ false
-other_number a b ne = grind (arith, nat_tests)
+use Rattle.atl_records.proofs.EveryLaws.{same_number, other_number}
 
 itself : (k : ℕ) → is_eq (nat_cmp k k) ≡ true
 itself k = elim (nat_cmp k k) as (λ o. nat_cmp k k ≡ o → is_eq o ≡ true) [

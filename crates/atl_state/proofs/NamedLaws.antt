@@ -11,20 +11,20 @@ use Rattle.std.proofs.lemmas.Int.{ints}
 use Rattle.atl_tables.specs.Names.{name_ok, pass_ok}
 use Rattle.atl_tables.specs.Worlds.{WorldValue}
 use Rattle.atl_tables.specs.declared.format.Format.{Format}
-use Rattle.atl_state.specs.Limits.{most_in_joining, most_in_month}
+use Rattle.atl_records.specs.Limits.{most_in_joining, most_in_month}
 use Rattle.atl_state.specs.declared.parts.Parts.{Parts}
 use Rattle.atl_state.specs.declared.parts.StoredFaction.{StoredFaction}
 use Rattle.atl_state.specs.declared.parts.StoredUnit.{StoredUnit}
 use Rattle.atl_state.specs.declared.parts.StoredStructure.{StoredStructure}
 use Rattle.atl_state.specs.declared.parts.StoredBooks.{StoredBooks}
-use Rattle.atl_state.specs.declared.records.Faction.{Faction}
-use Rattle.atl_state.specs.Books.{no_amounts, IsGrid, IsWithin, entry_place, thing_place}
+use Rattle.atl_records.specs.declared.records.Faction.{Faction}
+use Rattle.atl_records.specs.Books.{no_amounts, IsGrid, IsWithin, entry_place, thing_place, with_amount, amount_at}
 use Rattle.atl_state.specs.Founding.{things_of}
-use Rattle.atl_state.specs.FromRows.{as_u32, faction_of, structure_of, unit_of, by_number, with_amount, put_amounts, head_of, campaign_of}
+use Rattle.atl_state.specs.FromRows.{as_u32, faction_of, structure_of, unit_of, by_number, put_amounts, head_of, campaign_of}
 use Rattle.atl_state.specs.Good.{AreNamed, AreAmountsWithin, amount_bound}
 use Rattle.atl_state.specs.RowRules.{faction_named, books_in_range, books_bound, is_within, HaveJoined, AreRowsNamed}
-use Rattle.atl_state.specs.Rows.{is_zero, amount_at}
-use Rattle.atl_state.proofs.BookLaws.{IsGrid-no_amounts, no_row, nothing_in}
+use Rattle.atl_state.specs.Rows.{is_zero}
+use Rattle.atl_records.proofs.BookLaws.{IsGrid-no_amounts, no_row, nothing_in}
 use Rattle.atl_state.proofs.BooksRowLaws.{IsBooked, its_amount, other_thing, other_entry, with_booked_row, entry_small, entry_of, thing_of}
 use Rattle.atl_state.proofs.FromRowLaws.{by_number-every, from_le, IsGrid-with_amount}
 use Rattle.atl_state.proofs.OrderLaws.{HasNumber, row_of, rows_found, same_count, each_passes}

@@ -8,7 +8,7 @@ use Rattle.std.proofs.lemmas.List.{get_or_append_left}
 use Rattle.std.proofs.lemmas.List.Folds.{list_all-append}
 use Rattle.std.proofs.Math.Seq.{get_or-append_seam}
 use Rattle.atl_tables.specs.Names.{name_ok, is_name_byte, is_short, has_open_ends}
-use Rattle.atl_state.specs.Limits.{last_unit}
+use Rattle.atl_records.specs.Limits.{last_unit}
 
 digit_ok : (d : ℕ) → 48 ≤ d → d ≤ 57 → is_name_byte d ≡ true
 digit_ok d h k = grind (arith, nat_tests)

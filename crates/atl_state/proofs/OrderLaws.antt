@@ -15,9 +15,9 @@ use Rattle.std.proofs.lemmas.List.Sorted.{IsPermutation-refl, IsPermutation-sym,
 use Rattle.atl_tables.proofs.Maps.{entries-empty}
 use Rattle.atl_state.specs.FromRows.{put_rows, by_number}
 use Rattle.atl_state.specs.Rows.{rows_by}
-use Rattle.atl_state.specs.Good.{Every, IsThere}
+use Rattle.atl_records.specs.Every.{Every, IsThere}
 use Rattle.atl_state.proofs.AssemblyLaws.{get_same, get_other}
-use Rattle.atl_state.proofs.EveryLaws.{none_some, there-new, there-insert}
+use Rattle.atl_records.proofs.EveryLaws.{none_some, there-new, there-insert}
 
 -- no two rows have one number
 abbrev pub Apart : {R : Type 0} → (R → ℕ) → List R → Type 0

@@ -12,7 +12,7 @@ use Rattle.atl_tables.specs.Sums.{numbers_where}
 use Rattle.atl_tables.proofs.SumLaws.{chosen-cons, numbers_where-insert_other, put_back, put_over}
 use Rattle.std.specs.List.{remove}
 use Rattle.atl_state.specs.Ordered.{first_above, put_number, take_number}
-use Rattle.atl_state.proofs.EveryLaws.{is_true, none_some}
+use Rattle.atl_records.proofs.EveryLaws.{is_true, none_some}
 
 -- ---- as recursions
 put_step : (t : Bool) (n x : ℕ) (xs : List ℕ) → take (cond (not t) (1 + first_above n xs) 0) (x ∷ xs) ++ n ∷ drop (cond (not t) (1 + first_above n xs) 0) (x ∷ xs) ≡ cond t (n ∷ x ∷ xs) (x ∷ put_number n xs)

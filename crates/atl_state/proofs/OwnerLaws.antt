@@ -4,7 +4,7 @@ use Rattle.std.specs.Prelude.{if◌then◌else◌}
 use Rattle.std.specs.FinMap.{FinMap, get}
 use Rattle.std.specs.Ordering.{nat_cmp}
 use Rattle.atl_tables.proofs.TrackLaws.{remove_none}
-use Rattle.atl_state.specs.declared.records.Unit.{Unit}
+use Rattle.atl_records.specs.declared.records.Unit.{Unit}
 use Rattle.atl_state.specs.Marking.{mark_structure, handed_marked, put_marked, place_marked, place_marked_at, taken_marked, gone_marked, gone_marked_at, whole_marked}
 use Rattle.atl_state.specs.Owners.{heir, is_owned_by, handed, placed, with_place, with_place_at, without_unit, without_unit_at}
 use Rattle.atl_state.specs.Campaign.{MarkedCampaign, with_owner}

@@ -8,7 +8,7 @@ use Rattle.atl_state.specs.Covers.{MarksChanges, SameBut, StaysMarked}
 use Rattle.atl_state.specs.Marking.{mark_all_mail, mark_report, mark_row}
 use Rattle.atl_state.specs.Campaign.{MarkedCampaign, with_month, with_report, without_mail}
 use Rattle.atl_state.proofs.CoverLaws.{Mail, Reports, Row, Stays, Tells, apart_by, part_by_part, put_stays}
-use Rattle.atl_state.proofs.EveryLaws.{get-insert_other}
+use Rattle.atl_records.proofs.EveryLaws.{get-insert_other}
 
 -- the month that is counted
 pub marks-month : (c : MarkedCampaign) (n : ℕ) → MarksChanges c (record { value = with_month c.value n; marks = mark_row c })

@@ -11,19 +11,20 @@ use Rattle.atl_tables.specs.Worlds.{WorldValue}
 use Rattle.atl_tables.specs.Limits.{most_amount}
 use Rattle.atl_tables.specs.Sums.{sum_over, changed, changed_at}
 use Rattle.atl_tables.proofs.SumLaws.{sum_over-insert_known}
-use Rattle.atl_state.specs.Limits.{entry_count}
-use Rattle.atl_state.specs.declared.books.Entry.{Entry}
-use Rattle.atl_state.specs.declared.books.Thing.{Thing}
-use Rattle.atl_state.specs.declared.records.Region.{Region}
-use Rattle.atl_state.specs.declared.records.Unit.{Unit}
-use Rattle.atl_state.specs.Books.{IsGrid, amount_in, entry_place, row_of, thing_place, with_booked}
+use Rattle.atl_records.specs.Limits.{entry_count}
+use Rattle.atl_records.specs.declared.books.Entry.{Entry}
+use Rattle.atl_records.specs.declared.books.Thing.{Thing}
+use Rattle.atl_records.specs.declared.records.Region.{Region}
+use Rattle.atl_records.specs.declared.records.Unit.{Unit}
+use Rattle.atl_records.specs.Books.{IsGrid, amount_in, entry_place, row_of, thing_place, with_booked, amount_number}
 use Rattle.atl_state.specs.Founding.{things_of}
-use Rattle.atl_state.specs.Good.{Every, IsThere, IsRegion, AreInRange, AreKnown, AreOfMarkets, IsSteady}
-use Rattle.atl_state.specs.Marks.{amount_number}
+use Rattle.atl_records.specs.Every.{Every, IsThere}
+use Rattle.atl_state.specs.Good.{IsRegion, AreInRange, AreKnown, AreOfMarkets, IsSteady}
 use Rattle.atl_state.specs.Campaign.{CampaignValue, region_changed, with_amount}
-use Rattle.atl_state.specs.Totals.{held, kept, total}
-use Rattle.atl_state.proofs.BookLaws.{IsGrid-with_booked}
-use Rattle.atl_state.proofs.EveryLaws.{every-insert, there-insert}
+use Rattle.atl_records.specs.Amounts.{held, kept}
+use Rattle.atl_state.specs.Totals.{total}
+use Rattle.atl_records.proofs.BookLaws.{IsGrid-with_booked}
+use Rattle.atl_records.proofs.EveryLaws.{every-insert, there-insert}
 
 -- ---- other regions, other books
 

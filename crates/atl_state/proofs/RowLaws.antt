@@ -7,7 +7,8 @@ use Rattle.std.proofs.lemmas.List.Concat.{flat_map-append}
 use Rattle.std.proofs.lemmas.List.FromFn.{map-range_with_len_more, filter_of_map_range_with_len_more}
 use Rattle.std.proofs.lemmas.Bool.Decides.{nat_tests}
 use Rattle.atl_state.specs.declared.parts.StoredBooks.{StoredBooks}
-use Rattle.atl_state.specs.Rows.{has_row, books_row, is_zero, amount_rows, sort_rows, amount_at, entry_rows}
+use Rattle.atl_records.specs.Books.{amount_at}
+use Rattle.atl_state.specs.Rows.{has_row, books_row, is_zero, amount_rows, sort_rows, entry_rows}
 
 pub is_zero_not : (z : ℤ) → z ≢ pos 0 → is_zero z ≡ false
 is_zero_not (pos zero) h = absurd (h refl)

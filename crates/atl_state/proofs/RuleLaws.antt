@@ -13,9 +13,9 @@ use Rattle.std.specs.Option.{MatchOption}
 use denote.Param.Members.{Mut}
 use Rattle.std.specs.Ordering.{nat_cmp}
 use Rattle.std.specs.FinMap.{FinMap, get, entries, len}
-use Rattle.atl_state.specs.Good.{Every, IsThere, IsNumbered}
-use Rattle.atl_state.proofs.EveryLaws.{none_some, every-from_each, each-from_every}
-use Rattle.atl_state.specs.Deciding.{EachOf}
+use Rattle.atl_records.specs.Every.{Every, IsThere, EachOf}
+use Rattle.atl_state.specs.Good.{IsNumbered}
+use Rattle.atl_records.proofs.EveryLaws.{none_some, every-from_each, each-from_every}
 
 -- whether something is there, by a look-up
 pub Decides-there : {V : Type 0} (m : FinMap nat_cmp V) (n : ℕ) (b : Bool) → b ≡ is_some (get m n) → Decides b (IsThere m n)

@@ -28,13 +28,14 @@ use Rattle.atl_state.specs.declared.parts.StoredHas.{StoredHas}
 use Rattle.atl_state.specs.declared.parts.StoredStructure.{StoredStructure}
 use Rattle.atl_state.specs.declared.parts.StoredBooks.{StoredBooks}
 use Rattle.atl_state.specs.declared.parts.StoredMarket.{StoredMarket}
-use Rattle.atl_state.specs.declared.records.Region.{Region}
-use Rattle.atl_state.specs.declared.records.Unit.{Unit}
-use Rattle.atl_state.specs.Books.{no_amounts}
+use Rattle.atl_records.specs.declared.records.Region.{Region}
+use Rattle.atl_records.specs.declared.records.Unit.{Unit}
+use Rattle.atl_records.specs.Books.{no_amounts}
 use Rattle.atl_state.specs.Founding.{things_of}
 use Rattle.atl_state.specs.FromRows.{as_u32, as_u16, is_set, is_of, is_entry, faction_of, region_of, structure_of, unit_of, things_had, by_number, put_amounts, no_head, head_of, campaign_of}
-use Rattle.atl_state.specs.Good.{Every, IsThere, IsPlaced, IsBuilt, AreKnown, AreDays}
-use Rattle.atl_state.specs.Limits.{last_month, last_unit, men_limit, holding_limit, most_structures, entry_count, entries_in, most_u16, most_u32}
+use Rattle.atl_records.specs.Every.{Every, IsThere}
+use Rattle.atl_state.specs.Good.{IsPlaced, IsBuilt, AreKnown, AreDays}
+use Rattle.atl_records.specs.Limits.{last_month, last_unit, men_limit, holding_limit, most_structures, entry_count, entries_in, most_u16, most_u32}
 use Rattle.atl_state.specs.RowRules.{one_key, is_from, is_one_head, are_of_format, head_in_range, faction_in_range, region_in_range, unit_in_range, has_in_range, structure_in_range, books_in_range, books_bound, market_in_range, is_within, faction_key, region_key, unit_key, structure_key, mail_key, report_key, AreRowsInRange, is_of_unit, is_of_market, is_entry_in, is_booked}
 use Rattle.atl_state.specs.Rows.{flag, is_zero, rows_by, faction_row, region_row, unit_row, structure_row, mail_row, report_row, has_rows, books_rows, market_rows, AreRowsOf, rows_of}
 use Rattle.atl_state.specs.Stocks.{stock_limit}

@@ -16,7 +16,7 @@ use Rattle.atl_tables.proofs.MadeLaws.{is_less}
 use Rattle.atl_tables.proofs.Maps.{entries-empty, entries_of}
 use Rattle.slab.specs.Slab as slab
 use Rattle.atl_state.specs.Slots.{lodged, lodged_at, values_of, AreInUse, AreLodged, IsArena}
-use Rattle.atl_state.proofs.EveryLaws.{sorted, each-from_every}
+use Rattle.atl_records.proofs.EveryLaws.{sorted, each-from_every}
 use Rattle.atl_state.proofs.IndexLaws.{some_none}
 
 same_some : {X : Type 0} {x y : X} {o : Option X} → o ≡ Some x → o ≡ Some y → x ≡ y

@@ -3,15 +3,15 @@ use Rattle.std.proofs.Common.{◌≡◌, ◌≢◌, ℕ, ◌+◌, ◌≤◌, Som
 use Rattle.std.specs.FinMap.{get}
 use Rattle.atl_tables.specs.ByNumber.{market_of}
 use Rattle.atl_tables.specs.Worlds.{WorldValue}
-use Rattle.atl_state.specs.declared.books.Thing.{Thing}
-use Rattle.atl_state.specs.declared.books.Thing.TheVariants.{Money, People, Item}
-use Rattle.atl_state.specs.declared.records.Region.{Region}
+use Rattle.atl_records.specs.declared.books.Thing.{Thing}
+use Rattle.atl_records.specs.declared.books.Thing.TheVariants.{Money, People, Item}
+use Rattle.atl_records.specs.declared.records.Region.{Region}
 use Rattle.atl_state.specs.Campaign.{CampaignValue, with_stock}
 use Rattle.atl_state.specs.Good.{AreOfMarkets, IsRegion, IsSteady}
-use Rattle.atl_state.specs.Held.{amount_of, with_amount_of}
+use Rattle.atl_records.specs.Held.{amount_of, with_amount_of}
 use Rattle.atl_state.specs.Stocks.{stock_limit}
 use Rattle.atl_state.specs.Totals.{total}
-use Rattle.atl_state.proofs.HeldLaws.{every_amount, set_other, set_same}
+use Rattle.atl_records.proofs.HeldLaws.{every_amount, set_other, set_same}
 use Rattle.atl_state.proofs.RegionLaws.{steady-region, total-region}
 
 -- a region with another stock of an item

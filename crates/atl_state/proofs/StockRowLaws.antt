@@ -8,7 +8,7 @@ use Rattle.std.proofs.lemmas.List.Sorted.{IsPermutation-sym, IsPermutation-trans
 use Rattle.atl_tables.specs.declared.format.Format.TheVariants.{Second}
 use Rattle.atl_state.specs.declared.parts.StoredMarket.{StoredMarket}
 use Rattle.atl_state.specs.declared.parts.StoredRegion.{StoredRegion}
-use Rattle.atl_state.specs.declared.records.Region.{Region}
+use Rattle.atl_records.specs.declared.records.Region.{Region}
 use Rattle.atl_state.specs.FromRows.{as_u32, stocks_of, region_of, by_number}
 use Rattle.atl_state.specs.RowRules.{Key, market_key}
 use Rattle.atl_state.specs.Rows.{is_zero, market_row, stock_rows, market_rows}

@@ -3,11 +3,12 @@ use Rattle.std.proofs.Common.{◌≡◌, ℕ, ◌+◌, None, ap, ◌∙◌, arit
 use Rattle.std.specs.FinMap.{get}
 use Rattle.atl_tables.specs.Sums.{sum_over}
 use Rattle.atl_tables.proofs.SumLaws.{sum_over-insert_new}
-use Rattle.atl_state.specs.declared.books.Thing.{Thing}
-use Rattle.atl_state.specs.declared.records.Region.{Region}
-use Rattle.atl_state.specs.declared.records.Unit.{Unit}
+use Rattle.atl_records.specs.declared.books.Thing.{Thing}
+use Rattle.atl_records.specs.declared.records.Region.{Region}
+use Rattle.atl_records.specs.declared.records.Unit.{Unit}
 use Rattle.atl_state.specs.Campaign.{CampaignValue, with_unit}
-use Rattle.atl_state.specs.Totals.{held, kept, total}
+use Rattle.atl_records.specs.Amounts.{held, kept}
+use Rattle.atl_state.specs.Totals.{total}
 
 later : (a b n : ℕ) → (a + n) + b ≡ (a + b) + n
 later a b n = omega arith

@@ -9,7 +9,7 @@ use Rattle.std.proofs.lemmas.Bool.{false≢true}
 use Rattle.atl_tables.specs.Marked.{Marked, HasRoom}
 use Rattle.atl_tables.proofs.GeneralLaws.{one_more}
 use Rattle.atl_tables.proofs.TrackLaws.{Room-empty, Room-of, Room-unmarked, Room-lent, Room-over, Room-inserted, Room-without, fits-inserted}
-use Rattle.atl_state.specs.declared.records.Unit.{Unit}
+use Rattle.atl_records.specs.declared.records.Unit.{Unit}
 use Rattle.atl_state.specs.Marks.{Things, AreWithin}
 use Rattle.atl_state.specs.UnitRoom.{AreUnits}
 

@@ -11,8 +11,8 @@ use Rattle.atl_state.specs.declared.parts.StoredHas.{StoredHas}
 use Rattle.atl_state.specs.declared.parts.StoredMarket.{StoredMarket}
 use Rattle.atl_state.specs.declared.parts.StoredRegion.{StoredRegion}
 use Rattle.atl_state.specs.declared.parts.StoredUnit.{StoredUnit}
-use Rattle.atl_state.specs.declared.records.Region.{Region}
-use Rattle.atl_state.specs.declared.records.Unit.{Unit}
+use Rattle.atl_records.specs.declared.records.Region.{Region}
+use Rattle.atl_records.specs.declared.records.Unit.{Unit}
 use Rattle.atl_state.specs.FromRows.{as_u32, by_number, faction_of, region_of, region_with, structure_of, unit_with}
 
 abbrev pub unmarked : {V : Type 0} → FinMap nat_cmp V → Changing V

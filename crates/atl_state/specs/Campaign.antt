@@ -4,18 +4,18 @@ use Rattle.std.specs.Ordering.{nat_cmp}
 use Rattle.std.specs.Coded.{Coded, code_by, coded×, coded_ℕ, coded_ℤ, coded_list}
 use Rattle.std.specs.FinMap.{FinMap, code, empty, insert}
 use Rattle.atl_tables.specs.Sums.{changed, numbers_where}
-use Rattle.atl_state.specs.declared.records.Faction.{Faction}
-use Rattle.atl_state.specs.declared.records.Region.{Region}
-use Rattle.atl_state.specs.declared.records.Structure.{Structure}
-use Rattle.atl_state.specs.declared.records.Unit.{Unit}
-use Rattle.atl_state.specs.contracts.records.Faction as faction
-use Rattle.atl_state.specs.contracts.records.Region as region
-use Rattle.atl_state.specs.contracts.records.Structure as structure
-use Rattle.atl_state.specs.contracts.records.Unit as unit
-use Rattle.atl_state.specs.declared.books.Entry.{Entry}
-use Rattle.atl_state.specs.declared.books.Thing.{Thing}
-use Rattle.atl_state.specs.Books.{with_booked}
-use Rattle.atl_state.specs.Held.{with_amount_of}
+use Rattle.atl_records.specs.declared.records.Faction.{Faction}
+use Rattle.atl_records.specs.declared.records.Region.{Region}
+use Rattle.atl_records.specs.declared.records.Structure.{Structure}
+use Rattle.atl_records.specs.declared.records.Unit.{Unit}
+use Rattle.atl_records.specs.contracts.records.Faction as faction
+use Rattle.atl_records.specs.contracts.records.Region as region
+use Rattle.atl_records.specs.contracts.records.Structure as structure
+use Rattle.atl_records.specs.contracts.records.Unit as unit
+use Rattle.atl_records.specs.declared.books.Entry.{Entry}
+use Rattle.atl_records.specs.declared.books.Thing.{Thing}
+use Rattle.atl_records.specs.Books.{with_booked}
+use Rattle.atl_records.specs.Held.{with_amount_of}
 use Rattle.atl_state.specs.Marks.{Marks, marks_code}
 
 -- The month last closed, the moderator's pass text, the numbers that come next; factions, regions, units and structures by their numbers; mail and reports by the factions' numbers; and the books.

@@ -4,17 +4,17 @@ use Rattle.std.specs.List.{list_all}
 use Rattle.atl_tables.specs.Worlds.{WorldValue}
 use Rattle.atl_tables.specs.declared.format.Format.{Format}
 use Rattle.atl_tables.specs.declared.format.Format.TheVariants.{First, Second}
-use Rattle.atl_state.specs.declared.books.Entry.{Entry}
-use Rattle.atl_state.specs.declared.books.Thing.{Thing}
+use Rattle.atl_records.specs.declared.books.Entry.{Entry}
+use Rattle.atl_records.specs.declared.books.Thing.{Thing}
 use Rattle.atl_state.specs.declared.checking.CheckFault.{CheckFault}
 use Rattle.atl_state.specs.declared.checking.CheckFault.TheVariants.{Damaged, Memory}
 use Rattle.atl_state.specs.declared.checking.Rule.{Rule}
 use Rattle.atl_state.specs.declared.checking.Rule.TheVariants.{OneRow, Ranges, Names, Known, Next, Days, Gone, Owners, Water, Guards, Books, Mail}
 use Rattle.atl_state.specs.declared.parts.Parts.{Parts}
-use Rattle.atl_state.specs.Books.{amount_in, entry_place}
+use Rattle.atl_records.specs.Books.{amount_in, entry_place}
 use Rattle.atl_state.specs.FromRows.{campaign_of}
 use Rattle.atl_state.specs.Good.{AreKnown, AreNumbered, AreDays, GoneHaveNone, NoneAreGone, AreOwned, AreAfloat, AreOfOneFaction, guards, IsMail, AreReported, HasNoStocks, IsGood}
-use Rattle.atl_state.specs.Limits.{first_entry_count}
+use Rattle.atl_records.specs.Limits.{first_entry_count}
 use Rattle.atl_state.specs.Marks.{no_marks}
 use Rattle.atl_state.specs.RowRules.{is_one_head, are_of_format, AreRowsInRange, AreRowsNamed, is_of_unit, is_of_market, is_booked}
 use Rattle.atl_state.specs.Rows.{AreRowsOf}

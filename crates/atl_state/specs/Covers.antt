@@ -3,11 +3,11 @@ use Rattle.std.specs.Prelude.{◌≡◌, ℕ, List, true, false, Option, Some, N
 use Rattle.std.specs.Ordering.{nat_cmp}
 use Rattle.std.specs.FinMap.{FinMap, get, empty}
 use Rattle.std.specs.FinSet.{FinSet, contains}
-use Rattle.atl_state.specs.declared.books.Entry.{Entry}
-use Rattle.atl_state.specs.declared.books.Thing.{Thing}
-use Rattle.atl_state.specs.declared.records.Unit.{Unit}
-use Rattle.atl_state.specs.Books.{amount_in}
-use Rattle.atl_state.specs.Marks.{Marks, Things, amount_number, is_thing_marked}
+use Rattle.atl_records.specs.declared.books.Entry.{Entry}
+use Rattle.atl_records.specs.declared.books.Thing.{Thing}
+use Rattle.atl_records.specs.declared.records.Unit.{Unit}
+use Rattle.atl_records.specs.Books.{amount_in, amount_number}
+use Rattle.atl_state.specs.Marks.{Marks, Things, is_thing_marked}
 use Rattle.atl_state.specs.Campaign.{CampaignValue, MarkedCampaign}
 
 -- under a number that is not marked stands the same in both

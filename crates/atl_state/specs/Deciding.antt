@@ -1,16 +1,13 @@
--- For proofs alone: what is so of each entry of a list, who owns a structure, and who holds a region.
+-- For proofs alone: who owns a structure, and who holds a region.
 use Rattle.std.specs.Prelude.{◌≡◌, ◌≢◌, ◌==◌, ◌&&◌, ℕ, Bool, true, List, [], ◌∷◌, ⊤, Option, Some, None, option_and_then, if◌then◌else◌}
 use Rattle.std.specs.Option.{option_or}
 use Rattle.std.specs.FinMap.{get}
-use Rattle.atl_state.specs.declared.records.Faction.{Faction}
-use Rattle.atl_state.specs.declared.records.Structure.{Structure}
-use Rattle.atl_state.specs.declared.records.Unit.{Unit}
+use Rattle.atl_records.specs.declared.records.Faction.{Faction}
+use Rattle.atl_records.specs.declared.records.Structure.{Structure}
+use Rattle.atl_records.specs.declared.records.Unit.{Unit}
 use Rattle.atl_state.specs.Campaign.{CampaignValue}
 use Rattle.atl_state.specs.Good.{guards}
-
-abbrev pub EachOf : {V : Type 0} → (ℕ → V → Type 0) → List (ℕ × V) → Type 0
-EachOf P [] = ⊤
-EachOf P (e ∷ es) = P e.0 e.1 × EachOf P es
+use Rattle.atl_records.specs.Every.{EachOf}
 
 -- a structure that a unit inside owns, or nobody
 pub record HasOwnerInside (c : CampaignValue) (n : ℕ) (s : Structure) : Type 0 where

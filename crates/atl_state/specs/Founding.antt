@@ -4,11 +4,11 @@ use Rattle.std.specs.FinMap.{empty}
 use Rattle.atl_tables.specs.Worlds.{WorldValue}
 use Rattle.atl_tables.specs.Sums.{sum_over, mapped}
 use Rattle.atl_tables.specs.declared.world.RegionPlan.{RegionPlan}
-use Rattle.atl_state.specs.declared.books.Entry.TheVariants.{Founding}
-use Rattle.atl_state.specs.declared.books.Thing.TheVariants.{Money, People}
-use Rattle.atl_state.specs.declared.records.Region.{Region}
+use Rattle.atl_records.specs.declared.books.Entry.TheVariants.{Founding}
+use Rattle.atl_records.specs.declared.books.Thing.TheVariants.{Money, People}
+use Rattle.atl_records.specs.declared.records.Region.{Region}
 use Rattle.atl_state.specs.Blank.{nothing}
-use Rattle.atl_state.specs.Books.{with_booked, no_amounts}
+use Rattle.atl_records.specs.Books.{with_booked, no_amounts}
 use Rattle.atl_state.specs.Campaign.{CampaignValue}
 
 -- a region as it is founded, with nothing in stock

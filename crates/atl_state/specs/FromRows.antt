@@ -1,9 +1,9 @@
 -- The campaign that rows say, whatever they are.
-use Rattle.std.specs.Prelude.{◌-◌, ℕ, ℤ, pos, negsuc, Bool, not, ◌==◌, ◌&&◌, nat_le, min, List, [], ◌∷◌, filter, slice_index_or, slice_set, if◌then◌else◌}
+use Rattle.std.specs.Prelude.{◌-◌, ℕ, ℤ, pos, negsuc, Bool, not, ◌==◌, ◌&&◌, nat_le, min, List, [], ◌∷◌, filter, slice_index_or, if◌then◌else◌}
 use Rattle.std.specs.Ordering.{nat_cmp}
 use Rattle.std.specs.FinMap.{FinMap, empty, insert}
 use Rattle.atl_tables.specs.Worlds.{WorldValue}
-use Rattle.atl_state.specs.Limits.{entry_count, most_u16, most_u32}
+use Rattle.atl_records.specs.Limits.{entry_count, most_u16, most_u32}
 use Rattle.atl_state.specs.declared.parts.Parts.{Parts}
 use Rattle.atl_state.specs.declared.parts.StoredHead.{StoredHead}
 use Rattle.atl_state.specs.declared.parts.StoredFaction.{StoredFaction}
@@ -13,11 +13,11 @@ use Rattle.atl_state.specs.declared.parts.StoredHas.{StoredHas}
 use Rattle.atl_state.specs.declared.parts.StoredStructure.{StoredStructure}
 use Rattle.atl_state.specs.declared.parts.StoredBooks.{StoredBooks}
 use Rattle.atl_state.specs.declared.parts.StoredMarket.{StoredMarket}
-use Rattle.atl_state.specs.declared.records.Faction.{Faction}
-use Rattle.atl_state.specs.declared.records.Region.{Region}
-use Rattle.atl_state.specs.declared.records.Structure.{Structure}
-use Rattle.atl_state.specs.declared.records.Unit.{Unit}
-use Rattle.atl_state.specs.Books.{no_amounts}
+use Rattle.atl_records.specs.declared.records.Faction.{Faction}
+use Rattle.atl_records.specs.declared.records.Region.{Region}
+use Rattle.atl_records.specs.declared.records.Structure.{Structure}
+use Rattle.atl_records.specs.declared.records.Unit.{Unit}
+use Rattle.atl_records.specs.Books.{no_amounts, with_amount}
 use Rattle.atl_state.specs.Founding.{things_of}
 use Rattle.atl_state.specs.Rows.{is_zero}
 use Rattle.atl_state.specs.Campaign.{CampaignValue}
@@ -90,10 +90,6 @@ region_of markets r = region_with r (stocks_of (as_u32 r.number) markets)
 -- entries are counted from 1
 abbrev pub is_entry : ℕ → Bool
 is_entry n = nat_le 1 n && nat_le n entry_count
-
--- the books with an amount at its places; where there is no such thing they stay
-abbrev pub with_amount : List (List ℤ) → ℕ → ℕ → ℤ → List (List ℤ)
-with_amount books entry thing amount = slice_set books thing (slice_set (slice_index_or books thing []) entry amount)
 
 abbrev pub with_row : List (List ℤ) → StoredBooks → List (List ℤ)
 with_row books r = if is_entry (as_u32 r.entry) then with_amount books (as_u32 r.entry - 1) (as_u32 r.thing) r.amount else books

@@ -9,27 +9,20 @@ use Rattle.atl_tables.specs.Names.{name_ok, pass_ok}
 use Rattle.atl_tables.specs.Worlds.{WorldValue}
 use Rattle.atl_orders.specs.Limits.{last_faction}
 use Rattle.atl_orders.specs.Mailing.{IsMailingOf}
-use Rattle.atl_state.specs.Limits.{last_month, last_unit, most_days, most_in_joining, most_in_month, most_structures, most_units}
-use Rattle.atl_state.specs.declared.books.Entry.{Entry}
-use Rattle.atl_state.specs.declared.books.Thing.{Thing}
-use Rattle.atl_state.specs.declared.records.Faction.{Faction}
-use Rattle.atl_state.specs.declared.records.Region.{Region}
-use Rattle.atl_state.specs.declared.records.Structure.{Structure}
-use Rattle.atl_state.specs.declared.records.Unit.{Unit}
-use Rattle.atl_state.specs.Books.{amount_in, IsGrid, IsWithin}
+use Rattle.atl_records.specs.Limits.{last_month, last_unit, most_days, most_in_joining, most_in_month, most_structures, most_units}
+use Rattle.atl_records.specs.declared.books.Entry.{Entry}
+use Rattle.atl_records.specs.declared.books.Thing.{Thing}
+use Rattle.atl_records.specs.declared.records.Faction.{Faction}
+use Rattle.atl_records.specs.declared.records.Region.{Region}
+use Rattle.atl_records.specs.declared.records.Structure.{Structure}
+use Rattle.atl_records.specs.declared.records.Unit.{Unit}
+use Rattle.atl_records.specs.Books.{amount_in, IsGrid, IsWithin}
 use Rattle.atl_state.specs.Founding.{things_of}
-use Rattle.atl_state.specs.Held.{IsHolding}
+use Rattle.atl_records.specs.Held.{IsHolding}
 use Rattle.atl_state.specs.Campaign.{CampaignValue, numbers_of}
 use Rattle.atl_state.specs.Stocks.{stock_limit}
 use Rattle.atl_state.specs.Totals.{Balances}
-
--- each value is so, under its number
-abbrev pub Every : {V : Type 0} → (ℕ → V → Type 0) → FinMap nat_cmp V → Type 0
-Every P m = (n : ℕ) → (v : _) → get m n ≡ Some v → P n v
-
--- something stands under the number
-abbrev pub IsThere : {V : Type 0} → FinMap nat_cmp V → ℕ → Type 0
-IsThere {V} m n = (v : V) × (get m n ≡ Some v)
+use Rattle.atl_records.specs.Every.{Every, IsThere}
 
 -- this faction is there, and not gone
 abbrev pub IsActive : CampaignValue → ℕ → Type 0

@@ -6,14 +6,14 @@ use Rattle.std.specs.Cmp.Lexicographic.{pointwise}
 use Rattle.std.specs.FinMap.{insert, entries, len, empty}
 use Rattle.atl_tables.specs.Worlds.{WorldValue, land_of}
 use Rattle.atl_orders.specs.Limits.{last_faction}
-use Rattle.atl_state.specs.Limits.{most_units, last_unit}
-use Rattle.atl_state.specs.declared.books.Entry.TheVariants.{Joining}
-use Rattle.atl_state.specs.declared.books.Thing.TheVariants.{Money, People}
-use Rattle.atl_state.specs.declared.records.Faction.{Faction}
-use Rattle.atl_state.specs.declared.records.Unit.{Unit}
-use Rattle.atl_state.specs.declared.records.JoinFault.{JoinFault}
-use Rattle.atl_state.specs.declared.records.JoinFault.TheVariants.{NameTaken, Full, Memory}
-use Rattle.atl_state.specs.Books.{with_booked}
+use Rattle.atl_records.specs.Limits.{most_units, last_unit}
+use Rattle.atl_records.specs.declared.books.Entry.TheVariants.{Joining}
+use Rattle.atl_records.specs.declared.books.Thing.TheVariants.{Money, People}
+use Rattle.atl_records.specs.declared.records.Faction.{Faction}
+use Rattle.atl_records.specs.declared.records.Unit.{Unit}
+use Rattle.atl_records.specs.declared.records.JoinFault.{JoinFault}
+use Rattle.atl_records.specs.declared.records.JoinFault.TheVariants.{NameTaken, Full, Memory}
+use Rattle.atl_records.specs.Books.{with_booked}
 use Rattle.atl_state.specs.Campaign.{CampaignValue}
 
 -- some faction ever joined under this name

@@ -4,9 +4,9 @@ use Rattle.std.specs.Ordering.{nat_cmp}
 use Rattle.std.specs.FinMap.{FinMap, get, insert, remove}
 use Rattle.atl_tables.specs.Marked.{Marked}
 use Rattle.atl_tables.specs.Sums.{numbers_where}
-use Rattle.atl_state.specs.Limits.{entry_count}
+use Rattle.atl_records.specs.Limits.{entry_count}
 use Rattle.atl_state.specs.Marks.{AreOfThings}
-use Rattle.atl_state.specs.declared.records.Unit.{Unit}
+use Rattle.atl_records.specs.declared.records.Unit.{Unit}
 use Rattle.atl_state.specs.Ordered.{put_number, take_number}
 use Rattle.atl_state.specs.Campaign.{numbers_inside}
 use Rattle.atl_state.specs.declared.lists.Listing.{Listing}

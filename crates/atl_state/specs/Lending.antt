@@ -2,12 +2,12 @@
 use Rattle.std.specs.Prelude.{ℕ, Option, Some, None}
 use Rattle.std.specs.FinMap.{get, insert}
 use Rattle.std.specs.Borrow.{LendsIf, MutBor, Fml}
-use Rattle.atl_state.specs.Held.{Held}
+use Rattle.atl_records.specs.Held.{Held}
 use Rattle.atl_state.specs.Campaign.{CampaignValue, MarkedCampaign}
 use Rattle.atl_state.specs.Marking.{mark_unit}
-use Rattle.atl_state.specs.declared.records.Unit.{Unit}
+use Rattle.atl_records.specs.declared.records.Unit.{Unit}
 use Rattle.atl_state.specs.contracts.campaign.Campaign.{the_row}
-use Rattle.atl_state.specs.contracts.holding.Holding as holding
+use Rattle.atl_records.specs.contracts.holding.Holding as holding
 
 -- the campaign with another holding of a unit, where that unit is there
 abbrev pub with_held : CampaignValue → ℕ → Held → Option Unit → CampaignValue

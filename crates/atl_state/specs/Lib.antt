@@ -1,17 +1,12 @@
 pub mod Assembling
 pub mod Blank
-pub mod Books
 pub mod Checking
 pub mod Covers
 pub mod Deciding
-pub mod Events
 pub mod Founding
 pub mod FromRows
 pub mod Good
-pub mod Held
 pub mod Kept
-pub mod Levels
-pub mod Limits
 pub mod Joining
 pub mod Lending
 pub mod Marking

@@ -3,11 +3,11 @@ use Rattle.std.specs.Prelude.{◌==◌, ℕ, true, Option, Some, None, if◌then
 use Rattle.std.specs.FinMap.{get, remove, keys}
 use Rattle.std.specs.FinSet.{insert, union, from_list}
 use Rattle.atl_tables.specs.Tracking.{marked_with}
-use Rattle.atl_state.specs.declared.books.Entry.TheVariants.{Joining}
-use Rattle.atl_state.specs.declared.books.Thing.TheVariants.{Money, People}
-use Rattle.atl_state.specs.declared.books.Entry.{Entry}
-use Rattle.atl_state.specs.declared.books.Thing.{Thing}
-use Rattle.atl_state.specs.declared.records.Unit.{Unit}
+use Rattle.atl_records.specs.declared.books.Entry.TheVariants.{Joining}
+use Rattle.atl_records.specs.declared.books.Thing.TheVariants.{Money, People}
+use Rattle.atl_records.specs.declared.books.Entry.{Entry}
+use Rattle.atl_records.specs.declared.books.Thing.{Thing}
+use Rattle.atl_records.specs.declared.records.Unit.{Unit}
 use Rattle.atl_state.specs.Marks.{Marks, amount_marked, thing_marked}
 use Rattle.atl_state.specs.Owners.{heir, is_owned_by, placed}
 use Rattle.atl_state.specs.Campaign.{MarkedCampaign, with_owner}

@@ -6,10 +6,10 @@ use Rattle.std.specs.FinMap as map
 use Rattle.std.specs.FinSet.{FinSet, code, contains, empty, insert, len}
 use Rattle.atl_tables.specs.Groups.{group_of}
 use base.Stored.{coded_unit}
-use Rattle.atl_state.specs.Limits.{entry_count}
-use Rattle.atl_state.specs.declared.books.Entry.{Entry}
-use Rattle.atl_state.specs.declared.books.Thing.{Thing}
-use Rattle.atl_state.specs.Books.{entry_place, thing_place}
+use Rattle.atl_records.specs.Limits.{entry_count}
+use Rattle.atl_records.specs.declared.books.Entry.{Entry}
+use Rattle.atl_records.specs.declared.books.Thing.{Thing}
+use Rattle.atl_records.specs.Books.{amount_number}
 
 -- single things of units: the numbers of some items, or of some skills, by the numbers of their units
 abbrev pub Things : Type 0
@@ -95,10 +95,6 @@ no_marks = record {
 -- how many things are marked; the campaign's row is one, and so is a unit, whatever of it is marked
 abbrev pub marks_in : Marks → ℕ
 marks_in m = len m.factions + len m.regions + len m.units + len m.structures + len m.mail + len m.reports + len m.books + (if m.row then 1 else 0)
-
--- the number of an amount: thing by thing, and of each thing entry by entry
-abbrev pub amount_number : Entry → Thing → ℕ
-amount_number e t = entry_count * thing_place t + entry_place e
 
 abbrev pub amount_marked : FinSet nat_cmp → Entry → Thing → FinSet nat_cmp
 amount_marked marks e t = insert marks (amount_number e t)

@@ -1,8 +1,8 @@
 -- Where units are, and who owns the structures that they leave and enter.
 use Rattle.std.specs.Prelude.{◌==◌, ℕ, List, [], ◌∷◌, filter, not, Bool, false, Option, Some, None, if◌then◌else◌}
 use Rattle.std.specs.FinMap.{get, remove}
-use Rattle.atl_state.specs.declared.records.Structure.{Structure}
-use Rattle.atl_state.specs.declared.records.Unit.{Unit}
+use Rattle.atl_records.specs.declared.records.Structure.{Structure}
+use Rattle.atl_records.specs.declared.records.Unit.{Unit}
 use Rattle.atl_state.specs.Campaign.{CampaignValue, numbers_inside, unit_changed, with_owner}
 
 abbrev pub first_or_zero : List ℕ → ℕ

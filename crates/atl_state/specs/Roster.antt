@@ -6,8 +6,8 @@ use Rattle.std.specs.FinMap as map
 use Rattle.std.specs.FinSet as set
 use Rattle.atl_tables.specs.Sums.{changed}
 use Rattle.atl_tables.specs.Tracking.{marked_with}
-use Rattle.atl_state.specs.declared.records.Unit.{Unit}
-use Rattle.atl_state.specs.contracts.records.Unit as unit
+use Rattle.atl_records.specs.declared.records.Unit.{Unit}
+use Rattle.atl_records.specs.contracts.records.Unit as unit
 use Rattle.atl_state.specs.Marks.{Things, things_code, thing_marked}
 
 pub record Roster : Type 0 where

@@ -1,12 +1,12 @@
 -- The rows of a campaign in a format: of each table those that stand for it, in the order of their keys.
-use Rattle.std.specs.Prelude.{◌+◌, ◌++◌, ℕ, ℤ, pos, negsuc, Bool, true, false, not, ◌==◌, List, [], ◌∷◌, length, map, filter, slice_index_or}
+use Rattle.std.specs.Prelude.{◌+◌, ◌++◌, ℕ, ℤ, pos, negsuc, Bool, true, false, not, ◌==◌, List, [], ◌∷◌, length, map, filter}
 use Rattle.std.specs.List.{range_with_len, flat_map}
 use Rattle.std.specs.List.Sorted.{IsPermutation}
 use Rattle.std.specs.FinMap.{entries}
 use Rattle.atl_tables.specs.Formats.{format_number}
 use Rattle.atl_tables.specs.declared.format.Format.{Format}
 use Rattle.atl_tables.specs.declared.format.Format.TheVariants.{First, Second}
-use Rattle.atl_state.specs.Limits.{entry_count}
+use Rattle.atl_records.specs.Limits.{entry_count}
 use Rattle.atl_state.specs.declared.parts.Parts.{Parts}
 use Rattle.atl_state.specs.declared.parts.StoredHead.{StoredHead}
 use Rattle.atl_state.specs.declared.parts.StoredFaction.{StoredFaction}
@@ -18,12 +18,13 @@ use Rattle.atl_state.specs.declared.parts.StoredMail.{StoredMail}
 use Rattle.atl_state.specs.declared.parts.StoredReport.{StoredReport}
 use Rattle.atl_state.specs.declared.parts.StoredBooks.{StoredBooks}
 use Rattle.atl_state.specs.declared.parts.StoredMarket.{StoredMarket}
-use Rattle.atl_state.specs.declared.records.Faction.{Faction}
-use Rattle.atl_state.specs.declared.records.Region.{Region}
-use Rattle.atl_state.specs.declared.records.Structure.{Structure}
-use Rattle.atl_state.specs.declared.records.Unit.{Unit}
-use Rattle.atl_state.specs.Held.{Held}
+use Rattle.atl_records.specs.declared.records.Faction.{Faction}
+use Rattle.atl_records.specs.declared.records.Region.{Region}
+use Rattle.atl_records.specs.declared.records.Structure.{Structure}
+use Rattle.atl_records.specs.declared.records.Unit.{Unit}
+use Rattle.atl_records.specs.Held.{Held}
 use Rattle.atl_state.specs.Campaign.{CampaignValue}
+use Rattle.atl_records.specs.Books.{amount_at}
 
 -- 1 where a flag is set
 abbrev pub flag : Bool → ℤ
@@ -90,10 +91,6 @@ held_rows n h = sort_rows n 0 (entries h.items) ++ sort_rows n 1 (entries h.days
 
 abbrev pub has_rows : List (ℕ × Unit) → List StoredHas
 has_rows es = flat_map (λ e. held_rows e.0 e.1.holding) es
-
--- the amount of the books at these places, 0 where nothing is
-abbrev pub amount_at : List (List ℤ) → ℕ → ℕ → ℤ
-amount_at books entry thing = slice_index_or (slice_index_or books thing []) entry (pos 0)
 
 -- the amounts of an entry for so many things, where they are not 0
 abbrev pub entry_rows : List (List ℤ) → ℕ → ℕ → List StoredBooks

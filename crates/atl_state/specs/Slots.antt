@@ -3,7 +3,7 @@ use Rattle.std.specs.Prelude.{◌≡◌, ℕ, true, is_some, List, [], ◌∷◌
 use Rattle.std.specs.Ordering.{nat_cmp}
 use Rattle.std.specs.FinMap.{FinMap, get, entries, len, from_entries}
 use Rattle.slab.specs.Slab as slab
-use Rattle.atl_state.specs.Deciding.{EachOf}
+use Rattle.atl_records.specs.Every.{EachOf}
 
 module _ {V : Type 0} where
   abbrev pub lodged_at : ℕ → Option V → List (ℕ × V) → List (ℕ × V)

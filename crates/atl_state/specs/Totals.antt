@@ -2,24 +2,10 @@
 use Rattle.std.specs.Prelude.{◌≡◌, ◌≤◌, ◌+◌, ℕ, pos}
 use Rattle.std.specs.FinMap.{len}
 use Rattle.atl_tables.specs.Sums.{sum_over}
-use Rattle.atl_state.specs.declared.books.Thing.{Thing}
-use Rattle.atl_state.specs.declared.books.Thing.TheVariants.{Money, People, Item}
-use Rattle.atl_state.specs.declared.records.Region.{Region}
-use Rattle.atl_state.specs.Held.{Held, amount_of}
+use Rattle.atl_records.specs.declared.books.Thing.{Thing}
 use Rattle.atl_state.specs.Campaign.{CampaignValue}
-use Rattle.atl_state.specs.Books.{booked}
-
--- how much of a thing a unit holds
-abbrev pub held : Thing → Held → ℕ
-held Money h = h.money
-held People h = h.men
-held (Item i) h = amount_of h.items i
-
--- how much of a thing a region holds
-abbrev pub kept : Thing → Region → ℕ
-kept Money r = r.money
-kept People r = r.peasants
-kept (Item i) r = amount_of r.stocks i
+use Rattle.atl_records.specs.Books.{booked}
+use Rattle.atl_records.specs.Amounts.{held, kept}
 
 -- the sum over all units and regions
 unfoldable pub total : CampaignValue → Thing → ℕ

@@ -3,8 +3,8 @@ use Rattle.std.specs.Prelude.{ℕ, Option}
 use Rattle.std.specs.FinMap as map
 use Rattle.std.specs.FinSet as set
 use Rattle.std.specs.Borrow.{LendsIf, MutBor, Fml}
-use Rattle.atl_state.specs.declared.records.Unit.{Unit}
-use Rattle.atl_state.specs.contracts.records.Unit as unit
+use Rattle.atl_records.specs.declared.records.Unit.{Unit}
+use Rattle.atl_records.specs.contracts.records.Unit as unit
 use Rattle.atl_state.specs.contracts.units.Units.{the_row}
 use Rattle.atl_state.specs.Roster.{Roster, with_unit_at}
 

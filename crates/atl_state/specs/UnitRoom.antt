@@ -2,7 +2,7 @@
 use Rattle.std.specs.Ordering.{nat_cmp}
 use Rattle.std.specs.FinMap.{FinMap}
 use Rattle.atl_tables.specs.Marked.{Marked, HasRoom}
-use Rattle.atl_state.specs.declared.records.Unit.{Unit}
+use Rattle.atl_records.specs.declared.records.Unit.{Unit}
 use Rattle.atl_state.specs.Marks.{Things, AreWithin}
 
 pub record AreUnits (units : FinMap nat_cmp Unit) (marks rows goods : Marked) (items skills : Things) : Type 0 where

@@ -3,7 +3,7 @@ ghost use Rattle.std.specs.Prelude.{◌≡◌, ◌<◌, IfOk, OnOk, OnErr, lengt
 ghost use Rattle.std.specs.Option.{option_copied};
 ghost use Rattle.std.specs.FinMap as map;
 ghost use Rattle.atl_state.specs.Campaign.{active, numbers_in, numbers_of, numbers_inside, with_mail, with_report};
-ghost use Rattle.atl_state.specs.Books.{amount_in, thing_place};
+ghost use Rattle.atl_records.specs.Books.{amount_in, thing_place};
 ghost use Rattle.atl_state.specs.Stocks.{stock_of};
 ghost use Rattle.atl_state.specs.Totals.{total, IsCountable};
 ghost use Rattle.atl_state.specs.Marking.{mark_mail, mark_report};
@@ -19,13 +19,11 @@ mod placing;
 mod setting;
 
 use crate::arena::SlotEntries;
-use crate::books::{Books, Entry, Thing};
-use crate::holding::Holding;
 use crate::lists::{UnitLists, listed};
-use crate::records::{Faction, Region, Structure, Unit};
 use crate::totals::{regions_total, units_total};
 use crate::units::Units;
 pub(crate) use assembling::assembled;
+use atl_records::{Books, Entry, Faction, Holding, Region, Structure, Thing, Unit};
 use atl_tables::{Entries, Marks, Sequence, Text, Tracked, let_go};
 pub use founding::founded;
 use std::alloc::{AllocError, Global};

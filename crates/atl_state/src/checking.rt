@@ -8,11 +8,10 @@ ghost use Rattle.atl_state.specs.declared.checking.Rule.TheVariants as rule;
 ghost use Rattle.atl_state.specs.Checking.{rule_number, Keeps, KeepsBelow, Passes, Checks, GivesBack};
 ghost use Rattle.atl_state.specs.FromRows.{campaign_of};
 ghost use Rattle.atl_state.specs.Good.{AreKnown, IsMail, AreReported};
-ghost use Rattle.atl_state.specs.Limits.{entries_in};
+ghost use Rattle.atl_records.specs.Limits.{entries_in};
 ghost use Rattle.atl_state.specs.RowRules.{is_one_head, are_of_format, is_of_unit, is_of_market, is_booked};
 
 use crate::campaign::{Campaign, assembled};
-use crate::limits::{ENTRY_COUNT, FIRST_ENTRY_COUNT, FIRST_ITEM};
 use crate::parts::{Parts, StoredBooks};
 use crate::row_rules::{
     are_of_format, are_of_markets, as_u32, is_one_head, rows_in_range, rows_named,
@@ -21,6 +20,7 @@ use crate::rules::{
     are_afloat, are_balanced, are_days, are_gone, are_guarded, are_known, are_mailings,
     are_numbered, are_owned, are_reported,
 };
+use atl_records::{ENTRY_COUNT, FIRST_ENTRY_COUNT, FIRST_ITEM};
 use atl_tables::{Format, World};
 use std::alloc::Global;
 use std::error::Error;

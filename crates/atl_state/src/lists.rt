@@ -5,7 +5,7 @@ ghost use Rattle.atl_state.specs.Kept.{list_of, listing_of, listed_apart, unlist
 ghost use Rattle.atl_state.specs.Ordered.{put_number, take_number};
 
 use crate::numbers::Numbers;
-use crate::records::Unit;
+use atl_records::Unit;
 use atl_tables::{Numbered, let_go};
 use std::alloc::{AllocError, Global};
 

@@ -2,18 +2,16 @@
 ghost use Rattle.std.specs.Prelude.{◌≡◌, ◌≤◌, ◌<◌, ◌++◌, ◌∷◌, [], IfOk, OnOk, length};
 ghost use Rattle.std.specs.FinMap as map;
 ghost use Rattle.atl_tables.specs.declared.format.Format.TheVariants.{First, Second};
-ghost use Rattle.atl_state.specs.Limits.{entry_count, possible_things};
-ghost use Rattle.atl_state.specs.Rows.{flag, rows_by, head_row, faction_row, region_row, unit_row, structure_row, mail_row, report_row, has_row, books_row, market_row, sort_rows, held_rows, has_rows, stock_rows, market_rows, amount_at, entry_rows, books_rows, rows_of};
+ghost use Rattle.atl_records.specs.Limits.{entry_count, possible_things};
+ghost use Rattle.atl_records.specs.Books.{amount_at};
+ghost use Rattle.atl_state.specs.Rows.{flag, rows_by, head_row, faction_row, region_row, unit_row, structure_row, mail_row, report_row, has_row, books_row, market_row, sort_rows, held_rows, has_rows, stock_rows, market_rows, entry_rows, books_rows, rows_of};
 
-use crate::books::Books;
 use crate::campaign::Campaign;
-use crate::holding::Holding;
-use crate::limits::ENTRY_COUNT;
 use crate::parts::{
     Parts, StoredBooks, StoredFaction, StoredHas, StoredHead, StoredMail, StoredMarket,
     StoredRegion, StoredReport, StoredStructure, StoredUnit,
 };
-use crate::records::{Faction, Structure, Unit};
+use atl_records::{Books, ENTRY_COUNT, Faction, Holding, Structure, Unit};
 use atl_tables::{Entries, Format, Sequence, Text};
 use std::alloc::{AllocError, Global};
 

@@ -2,34 +2,12 @@
 ghost use Rattle.std.specs.Prelude.{◌≡◌, ◌≤◌, ◌*◌, length};
 ghost use Rattle.std.specs.FinMap as map;
 ghost use Rattle.atl_tables.specs.Sums.{sum_over};
-ghost use Rattle.atl_state.specs.Limits.{most_u32};
-ghost use Rattle.atl_state.specs.Totals.{held, kept};
+ghost use Rattle.atl_records.specs.Limits.{most_u32};
+ghost use Rattle.atl_records.specs.Amounts.{held, kept};
 
-use crate::books::Thing;
-use crate::holding::Holding;
-use crate::records::Region;
 use crate::units::Units;
+use atl_records::{Region, Thing, held, kept};
 use atl_tables::Tracked;
-
-fn held(thing: Thing, holding: &Holding) -> u32
-    ensures { result ≡ held thing holding.now }
-{
-    match thing {
-        Thing::Money => holding.money(),
-        Thing::People => holding.men(),
-        Thing::Item(item) => holding.amount(u32::from(item)),
-    }
-}
-
-fn kept(thing: Thing, region: &Region) -> u32
-    ensures { result ≡ kept thing region.now }
-{
-    match thing {
-        Thing::Money => region.money,
-        Thing::People => region.peasants,
-        Thing::Item(item) => region.stock(u32::from(item)),
-    }
-}
 
 /// What the units hold of a thing.
 pub(crate) fn units_total(units: &Units, thing: Thing) -> u64

@@ -3,13 +3,13 @@ ghost use Rattle.std.specs.Prelude.{◌≡◌, ◌≤◌, IfOk, OnOk, OnErr, opt
 ghost use Rattle.std.specs.FinMap as map;
 ghost use Rattle.std.specs.FinSet as set;
 ghost use Rattle.atl_tables.specs.Tracking.{Lists};
-ghost use Rattle.atl_state.specs.Limits.{holding_limit, men_limit, most_numbered};
-ghost use Rattle.atl_state.specs.Held.{with_amount_of};
+ghost use Rattle.atl_records.specs.Limits.{holding_limit, men_limit, most_numbered};
+ghost use Rattle.atl_records.specs.Held.{with_amount_of};
 ghost use Rattle.atl_state.specs.Marks.{AreWithin};
 ghost use Rattle.atl_state.specs.Roster.{no_units, unmarked_units, with_unit_at, with_row, with_item_at, with_skill_at, without_unit_at};
 
 use crate::arena::{Arena, SlotEntries};
-use crate::records::Unit;
+use atl_records::Unit;
 use atl_tables::{Entries, MarkedNumbers, Marks, Numbered, Text, let_go};
 use std::alloc::{AllocError, Global};
 use std::marker::Model;

@@ -8,19 +8,20 @@ use Rattle.std.proofs.lemmas.Option.{same_Some}
 use Rattle.sqlite.specs.Order.{Row}
 use Rattle.sqlite_trees.specs.Tree.{Trees}
 use Rattle.atl_tables.specs.Worlds.{WorldValue}
-use Rattle.atl_state.specs.Books.{amount_in, entry_place, thing_at, thing_place, IsGrid}
+use Rattle.atl_records.specs.Books.{amount_in, entry_place, thing_at, thing_place, IsGrid}
 use Rattle.atl_state.specs.Founding as founding
-use Rattle.atl_state.specs.Good.{Every, IsGood}
+use Rattle.atl_records.specs.Every.{Every}
+use Rattle.atl_state.specs.Good.{IsGood}
 use Rattle.atl_state.specs.Campaign.{CampaignValue}
-use Rattle.atl_state.specs.declared.books.Entry.{Entry}
-use Rattle.atl_state.specs.declared.books.Thing.{Thing}
-use Rattle.atl_state.specs.declared.records.Faction.{Faction}
-use Rattle.atl_state.specs.declared.records.Region.{Region}
-use Rattle.atl_state.specs.declared.records.Structure.{Structure}
-use Rattle.atl_state.specs.declared.records.Unit.{Unit}
+use Rattle.atl_records.specs.declared.books.Entry.{Entry}
+use Rattle.atl_records.specs.declared.books.Thing.{Thing}
+use Rattle.atl_records.specs.declared.records.Faction.{Faction}
+use Rattle.atl_records.specs.declared.records.Region.{Region}
+use Rattle.atl_records.specs.declared.records.Structure.{Structure}
+use Rattle.atl_records.specs.declared.records.Unit.{Unit}
 use Rattle.atl_state.proofs.BackLaws.{agree}
-use Rattle.atl_state.proofs.BookLaws.{place_at}
-use Rattle.atl_state.proofs.EveryEntryLaws.{entry_at}
+use Rattle.atl_records.proofs.BookLaws.{place_at}
+use Rattle.atl_records.proofs.EveryEntryLaws.{entry_at}
 use Rattle.atl_store.specs.Alike.{HoldsOne}
 use Rattle.atl_store.specs.Rows.{RowsOf, HasRowsOf, BooksRowsOf, MarketRowsOf, Holds, campaign_line, faction_line, region_line, unit_line, structure_line, things_of}
 use Rattle.atl_store.specs.Sets.{Is}

@@ -10,10 +10,10 @@ use Rattle.sqlite.specs.Order.{Row}
 use Rattle.sqlite.specs.Effect.{Database}
 use Rattle.sqlite_rules.specs.Lists.{Has}
 use Rattle.atl_state.specs.Campaign.{CampaignValue}
-use Rattle.atl_state.specs.Books.{amount_in, entry_place, thing_place}
-use Rattle.atl_state.specs.declared.books.Entry.{Entry}
-use Rattle.atl_state.specs.declared.books.Thing.{Thing}
-use Rattle.atl_state.specs.declared.records.Unit.{Unit}
+use Rattle.atl_records.specs.Books.{amount_in, entry_place, thing_place}
+use Rattle.atl_records.specs.declared.books.Entry.{Entry}
+use Rattle.atl_records.specs.declared.books.Thing.{Thing}
+use Rattle.atl_records.specs.declared.records.Unit.{Unit}
 use Rattle.atl_store.specs.declared.rows.has.Sort.{Sort}
 use Rattle.atl_store.specs.Sets.{Set, Is, put}
 use Rattle.atl_store.specs.Tables.{books_table}

@@ -9,8 +9,9 @@ use Rattle.atl_tables.specs.Worlds.{WorldValue, is_land, without_market, without
 use Rattle.atl_tables.specs.declared.world.RegionPlan.{RegionPlan}
 use Rattle.atl_tables.proofs.MadeLaws.{get-mapped}
 use Rattle.atl_state.specs.Campaign.{CampaignValue}
-use Rattle.atl_state.specs.Good.{HasNoStocks, IsGood, IsThere}
-use Rattle.atl_state.specs.declared.records.Region.{Region}
+use Rattle.atl_records.specs.Every.{IsThere}
+use Rattle.atl_state.specs.Good.{HasNoStocks, IsGood}
+use Rattle.atl_records.specs.declared.records.Region.{Region}
 
 nothing_in_stock : (c : CampaignValue) → HasNoStocks c → (n : ℕ) (r : Region) → get c.regions n ≡ Some r → (i amount : ℕ) → ¬ (get r.stocks i ≡ Some amount)
 nothing_in_stock c bare n r is i amount there = let e = sym (get-empty {X = ℕ} nat_cmp i) ∙ ap (λ (m : FinMap nat_cmp ℕ). get m i) (sym (bare n r is)) ∙ there in absurd cc

@@ -11,12 +11,12 @@ use Rattle.sqlite.specs.Order.{Row}
 use Rattle.sqlite.specs.State.{State}
 use Rattle.sqlite_rules.specs.Lists.{Has}
 use Rattle.sqlite_value.specs.declared.value.Value.TheVariants.{Int}
-use Rattle.atl_state.specs.Limits.{entry_count}
-use Rattle.atl_state.specs.Books.{all_entries, amount_in, entry_place, thing_place}
-use Rattle.atl_state.specs.Marks.{amount_number, AreOfThings}
+use Rattle.atl_records.specs.Limits.{entry_count}
+use Rattle.atl_records.specs.Books.{all_entries, amount_in, entry_place, thing_place, amount_number}
+use Rattle.atl_state.specs.Marks.{AreOfThings}
 use Rattle.atl_state.specs.Campaign.{MarkedCampaign}
-use Rattle.atl_state.specs.declared.books.Entry.{Entry}
-use Rattle.atl_state.specs.declared.books.Thing.{Thing}
+use Rattle.atl_records.specs.declared.books.Entry.{Entry}
+use Rattle.atl_records.specs.declared.books.Thing.{Thing}
 use Rattle.atl_store.specs.Tables.{books_table}
 use Rattle.atl_store.specs.Shown.{int, books_key, books_row}
 use Rattle.atl_store.specs.Rows.{BooksRowsOf}

@@ -11,15 +11,15 @@ use Rattle.sqlite.specs.Order.{Row}
 use Rattle.sqlite_trees.specs.Tree.{Trees}
 use Rattle.sqlite_rules.specs.Lists.{Has}
 use Rattle.atl_state.specs.Covers.{SameBut, SameThings, Covers, bare, own_row}
-use Rattle.atl_state.specs.Books.{amount_in, entry_place, thing_place}
-use Rattle.atl_state.specs.Marks.{Marks, amount_number, is_thing_marked}
+use Rattle.atl_records.specs.Books.{amount_in, entry_place, thing_place, amount_number}
+use Rattle.atl_state.specs.Marks.{Marks, is_thing_marked}
 use Rattle.atl_state.specs.Campaign.{CampaignValue, MarkedCampaign}
-use Rattle.atl_state.specs.declared.books.Entry.{Entry}
-use Rattle.atl_state.specs.Limits.{entry_count}
-use Rattle.atl_state.proofs.EveryEntryLaws.{entry_small}
-use Rattle.atl_state.specs.declared.books.Thing.{Thing}
-use Rattle.atl_state.specs.declared.records.Region.{Region}
-use Rattle.atl_state.specs.declared.records.Unit.{Unit}
+use Rattle.atl_records.specs.declared.books.Entry.{Entry}
+use Rattle.atl_records.specs.Limits.{entry_count}
+use Rattle.atl_records.proofs.EveryEntryLaws.{entry_small}
+use Rattle.atl_records.specs.declared.books.Thing.{Thing}
+use Rattle.atl_records.specs.declared.records.Region.{Region}
+use Rattle.atl_records.specs.declared.records.Unit.{Unit}
 use Rattle.atl_store.specs.declared.rows.has.Sort.{Sort}
 use Rattle.atl_store.specs.declared.rows.has.Sort.TheVariants.{Item, Skill}
 use Rattle.atl_store.specs.Sets.{Is, rows_in}

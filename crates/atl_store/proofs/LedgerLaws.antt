@@ -11,11 +11,11 @@ use Rattle.sqlite.specs.Order.{Row}
 use Rattle.sqlite_rules.specs.Lists.{Has}
 use Rattle.sqlite_rules.proofs.ListLemmas.{test_has}
 use Rattle.atl_state.specs.Campaign.{CampaignValue}
-use Rattle.atl_state.specs.Books.{all_entries, amount_in, entry_place, thing_at, thing_place}
-use Rattle.atl_state.specs.declared.books.Entry.{Entry}
-use Rattle.atl_state.specs.declared.books.Thing.{Thing}
-use Rattle.atl_state.proofs.BookLaws.{place_at, at_place}
-use Rattle.atl_state.proofs.EveryEntryLaws.{entry_there}
+use Rattle.atl_records.specs.Books.{all_entries, amount_in, entry_place, thing_at, thing_place}
+use Rattle.atl_records.specs.declared.books.Entry.{Entry}
+use Rattle.atl_records.specs.declared.books.Thing.{Thing}
+use Rattle.atl_records.proofs.BookLaws.{place_at, at_place}
+use Rattle.atl_records.proofs.EveryEntryLaws.{entry_there}
 use Rattle.atl_store.specs.Sets.{Is, puts}
 use Rattle.atl_store.specs.Shown.{books_key, books_row}
 use Rattle.atl_store.specs.Rows.{BooksRowsOf}

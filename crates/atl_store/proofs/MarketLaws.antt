@@ -3,7 +3,7 @@ use Rattle.std.proofs.Common.{◌≡◌, ℕ, take, sym, ap, subst}
 use Rattle.std.specs.Ordering.{nat_cmp}
 use Rattle.std.specs.FinMap.{FinMap, entries}
 use Rattle.sqlite_rules.specs.Lists.{Has}
-use Rattle.atl_state.specs.declared.records.Region.{Region}
+use Rattle.atl_records.specs.declared.records.Region.{Region}
 use Rattle.atl_store.specs.Shown.{market_row}
 use Rattle.atl_store.specs.Rows.{MarketRowsOf}
 use Rattle.atl_store.specs.Lines.{AreGroups, region_lines}

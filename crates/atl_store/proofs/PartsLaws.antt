@@ -13,23 +13,23 @@ use Rattle.sqlite_rules.specs.Lists.{Has}
 use Rattle.sqlite_rules.proofs.ListLemmas.{all_has, has_either, has_left, has_right, has_filtered, has_kept}
 use Rattle.atl_tables.specs.declared.format.Format.{Format}
 use Rattle.atl_tables.specs.declared.format.Format.TheVariants.{First, Second}
-use Rattle.atl_state.specs.Books.{all_entries, entry_place, thing_at, thing_place}
-use Rattle.atl_state.specs.Held.{Held}
-use Rattle.atl_state.specs.Limits.{entry_count}
-use Rattle.atl_state.specs.Rows.{rows_by, rows_of, amount_rows, is_zero, amount_at, AreRowsOf}
+use Rattle.atl_records.specs.Books.{all_entries, entry_place, thing_at, thing_place, amount_at}
+use Rattle.atl_records.specs.Held.{Held}
+use Rattle.atl_records.specs.Limits.{entry_count}
+use Rattle.atl_state.specs.Rows.{rows_by, rows_of, amount_rows, is_zero, AreRowsOf}
 use Rattle.atl_state.specs.Rows as made
 use Rattle.atl_state.specs.Campaign.{CampaignValue}
-use Rattle.atl_state.specs.declared.books.Entry.{Entry}
-use Rattle.atl_state.specs.declared.books.Thing.{Thing}
+use Rattle.atl_records.specs.declared.books.Entry.{Entry}
+use Rattle.atl_records.specs.declared.books.Thing.{Thing}
 use Rattle.atl_state.specs.declared.parts.Parts.{Parts}
 use Rattle.atl_state.specs.declared.parts.StoredBooks.{StoredBooks}
 use Rattle.atl_state.specs.declared.parts.StoredHas.{StoredHas}
 use Rattle.atl_state.specs.declared.parts.StoredHead.{StoredHead}
 use Rattle.atl_state.specs.declared.parts.StoredMarket.{StoredMarket}
-use Rattle.atl_state.specs.declared.records.Faction.{Faction}
-use Rattle.atl_state.specs.declared.records.Region.{Region}
-use Rattle.atl_state.specs.declared.records.Unit.{Unit}
-use Rattle.atl_state.proofs.BookLaws.{place_at}
+use Rattle.atl_records.specs.declared.records.Faction.{Faction}
+use Rattle.atl_records.specs.declared.records.Region.{Region}
+use Rattle.atl_records.specs.declared.records.Unit.{Unit}
+use Rattle.atl_records.proofs.BookLaws.{place_at}
 use Rattle.atl_store.specs.declared.rows.has.Sort.{Sort}
 use Rattle.atl_store.specs.declared.rows.has.Sort.TheVariants.{Item, Skill}
 use Rattle.atl_store.specs.Loading.{HaveRows, HaveMarkets, own_stored, has_values, books_values, market_values}

@@ -10,7 +10,7 @@ use Rattle.sqlite_trees.specs.Tree.{Trees}
 use Rattle.sqlite.specs.Table.{Table}
 use Rattle.sqlite_rules.specs.Lists.{Has}
 use Rattle.atl_tables.specs.Groups.{group_of}
-use Rattle.atl_state.specs.Limits.{entry_count}
+use Rattle.atl_records.specs.Limits.{entry_count}
 use Rattle.atl_state.specs.Campaign.{CampaignValue, MarkedCampaign}
 use Rattle.atl_state.specs.Marks.{Marks, Things}
 use Rattle.atl_store.specs.declared.rows.has.Sort.{Sort}

@@ -3,7 +3,7 @@ ghost use Rattle.std.specs.Prelude.{◌≡◌, ◌≤◌, false, IsTrue, OnOk, O
 ghost use Rattle.std.specs.Bool.{Decides};
 ghost use Rattle.sqlite.specs.Held.{state};
 ghost use Rattle.atl_store.specs.Tables.{no_tables, player_parts, place_parts, people_parts};
-ghost use Rattle.atl_state.specs.Limits.{most_things};
+ghost use Rattle.atl_records.specs.Limits.{most_things};
 ghost use Rattle.atl_state.specs.Marks.{no_marks};
 ghost use Rattle.atl_store.specs.OwnStatements.{OfRow, OfFounding};
 ghost use Rattle.atl_store.specs.Writes.{Writes, Transacts};

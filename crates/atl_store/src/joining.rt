@@ -3,8 +3,8 @@ ghost use Rattle.std.specs.Prelude.{◌≡◌, [], false, List, ℕ, IfErr, OnOk
 ghost use Rattle.sqlite.specs.Held.{state};
 ghost use Rattle.sqlite.specs.State.{HasCleanDisk};
 ghost use Rattle.atl_state.specs.Campaign.{CampaignValue};
-ghost use Rattle.atl_state.specs.declared.books.Entry.TheVariants.{Joining};
-ghost use Rattle.atl_state.specs.declared.books.Thing.TheVariants.{Money, People};
+ghost use Rattle.atl_records.specs.declared.books.Entry.TheVariants.{Joining};
+ghost use Rattle.atl_records.specs.declared.books.Thing.TheVariants.{Money, People};
 ghost use Rattle.atl_store.specs.Tables.{faction_table, unit_table, report_table};
 ghost use Rattle.atl_store.specs.Shown.{report_row};
 ghost use Rattle.atl_store.specs.Rows.{head_of, faction_line, unit_line};

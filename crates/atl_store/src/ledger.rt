@@ -1,8 +1,8 @@
 //! The books, written row by row.
 ghost use Rattle.std.specs.Prelude.{◌<◌, ◌≤◌, length, map};
 ghost use Rattle.std.specs.List.{range_with_len};
-ghost use Rattle.atl_state.specs.Limits.{most_things};
-ghost use Rattle.atl_state.specs.Books.{entry_place, thing_place};
+ghost use Rattle.atl_records.specs.Limits.{most_things};
+ghost use Rattle.atl_records.specs.Books.{entry_place, thing_place};
 ghost use Rattle.atl_store.specs.Tables.{books_table};
 ghost use Rattle.atl_store.specs.Lines.{amount_lines, entries_lines, things_lines};
 ghost use Rattle.atl_store.specs.OwnStatements.{OfAmount, OfChange};

@@ -1,13 +1,12 @@
 //! The books.
 ghost use Rattle.std.specs.Prelude.{◌≡◌, ◌≤◌, IfOk};
-ghost use Rattle.atl_state.specs.Limits.{possible_things};
+ghost use Rattle.atl_records.specs.Limits.{possible_things};
 ghost use Rattle.atl_state.specs.FromRows.{with_row, put_amounts};
-ghost use Rattle.atl_state.specs.Books.{no_amounts};
+ghost use Rattle.atl_records.specs.Books.{no_amounts};
 
-use crate::books::Books;
-use crate::limits::ENTRY_COUNT;
 use crate::parts::StoredBooks;
 use crate::row_rules::as_u32;
+use atl_records::{Books, ENTRY_COUNT};
 use std::alloc::{AllocError, Global};
 
 /// Puts the amount of a row at its places, where there is such an entry and such a thing.

@@ -8,9 +8,9 @@ ghost use Rattle.atl_state.specs.RowRules.{has_in_range};
 
 use crate::arena::Arena;
 use crate::parts::{StoredHas, StoredMarket};
-use crate::records::{Region, Unit};
 use crate::row_rules::as_u32;
 use crate::rows::{ITEM_SORT, SKILL_SORT};
+use atl_records::{Region, Unit};
 use atl_tables::Numbered;
 use std::alloc::AllocError;
 

@@ -11,8 +11,8 @@ use super::records::{bare_region, faction_of, structure_of};
 use crate::parts::{
     Parts, StoredFaction, StoredMail, StoredMarket, StoredRegion, StoredReport, StoredStructure,
 };
-use crate::records::{Faction, Region, Structure};
 use crate::row_rules::as_u32;
+use atl_records::{Faction, Region, Structure};
 use atl_tables::{Numbered, Sequence, Text, Tracked};
 use std::alloc::{AllocError, Global};
 

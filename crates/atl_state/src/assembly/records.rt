@@ -6,8 +6,8 @@ ghost use Rattle.atl_state.specs.FromRows.{as_u32, faction_of, structure_of};
 ghost use Rattle.atl_state.specs.RowRules.{faction_named};
 
 use crate::parts::{StoredFaction, StoredRegion, StoredStructure};
-use crate::records::{Faction, Region, Structure};
 use crate::row_rules::{as_u16, as_u32, is_set};
+use atl_records::{Faction, Region, Structure};
 use atl_tables::{Numbered, Sequence, Text};
 use std::alloc::{AllocError, Global};
 

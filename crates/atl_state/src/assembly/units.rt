@@ -11,12 +11,11 @@ ghost use Rattle.atl_state.specs.RowRules.{unit_in_range, has_in_range};
 use super::goods::put_things;
 use super::records::name_of;
 use crate::arena::Arena;
-use crate::holding::Holding;
 use crate::lists::{UnitLists, listing_of};
 use crate::parts::{Parts, StoredHas, StoredUnit};
-use crate::records::Unit;
 use crate::row_rules::{as_u32, is_set};
 use crate::units::Units;
+use atl_records::{Holding, Unit};
 use atl_tables::Numbered;
 use std::alloc::{AllocError, Global};
 

@@ -7,9 +7,9 @@ ghost use Rattle.atl_state.specs.RowRules.{are_named, people_in_range};
 
 use super::Campaign;
 use crate::assembly::{Tables, books_of, lists_of, pass_of, roster_of, tables_of};
-use crate::limits::{ENTRY_COUNT, FIRST_ITEM};
 use crate::parts::Parts;
 use crate::row_rules::{as_u32, head_of};
+use atl_records::{ENTRY_COUNT, FIRST_ITEM};
 use atl_tables::{Marks, World};
 use std::alloc::{AllocError, Global};
 

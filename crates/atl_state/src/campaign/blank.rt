@@ -3,9 +3,9 @@ ghost use Rattle.std.specs.Prelude.{◌≡◌};
 ghost use Rattle.atl_state.specs.Blank.{blank};
 
 use super::Campaign;
-use crate::books::Books;
 use crate::lists::UnitLists;
 use crate::units::Units;
+use atl_records::Books;
 use atl_tables::{Marks, Text, Tracked};
 use std::alloc::Global;
 

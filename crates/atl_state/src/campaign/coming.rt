@@ -1,13 +1,13 @@
 //! How units and structures come.
 ghost use Rattle.std.specs.Prelude.{◌≡◌, ◌≤◌, IfOk, OnOk, OnErr, None};
 ghost use Rattle.std.specs.FinMap as map;
-ghost use Rattle.atl_state.specs.Limits.{last_unit, most_structures};
+ghost use Rattle.atl_records.specs.Limits.{last_unit, most_structures};
 ghost use Rattle.atl_state.specs.Marking.{mark_unit_added, mark_unit_begun, mark_structure_begun};
 ghost use Rattle.atl_state.specs.Campaign.{with_unit, with_unit_begun, with_structure_begun};
 
 use super::Campaign;
 use crate::lists::listing_of;
-use crate::records::{Structure, Unit};
+use atl_records::{Structure, Unit};
 use std::alloc::AllocError;
 
 impl Campaign {

@@ -5,22 +5,20 @@ ghost use Rattle.std.specs.FinSet as set;
 ghost use Rattle.atl_tables.specs.Limits.{most_regions};
 ghost use Rattle.atl_tables.specs.Names.{pass_ok};
 ghost use Rattle.atl_tables.specs.Sums.{sum_over, mapped};
-ghost use Rattle.atl_state.specs.declared.books.Entry.TheVariants.{Founding};
-ghost use Rattle.atl_state.specs.declared.books.Thing.TheVariants.{Money, People};
-ghost use Rattle.atl_state.specs.Limits.{most_things, possible_things, most_founded};
-ghost use Rattle.atl_state.specs.Books.{no_amounts, with_booked};
-ghost use Rattle.atl_state.specs.Totals.{kept};
+ghost use Rattle.atl_records.specs.declared.books.Entry.TheVariants.{Founding};
+ghost use Rattle.atl_records.specs.declared.books.Thing.TheVariants.{Money, People};
+ghost use Rattle.atl_records.specs.Limits.{most_things, possible_things, most_founded};
+ghost use Rattle.atl_records.specs.Books.{no_amounts, with_booked};
+ghost use Rattle.atl_records.specs.Amounts.{kept};
 ghost use Rattle.atl_state.specs.Marks.{no_marks};
 ghost use Rattle.atl_state.specs.Founding.{founded_of, founded_region};
 ghost use Rattle.atl_state.specs.Good.{IsGood};
 
 use super::Campaign;
-use crate::books::{Books, Entry, Thing};
-use crate::limits::{ENTRY_COUNT, FIRST_ITEM};
 use crate::lists::UnitLists;
-use crate::records::Region;
 use crate::totals::regions_total;
 use crate::units::Units;
+use atl_records::{Books, ENTRY_COUNT, Entry, FIRST_ITEM, Region, Thing};
 use atl_tables::{Marks, Numbered, RegionPlan, Text, Tracked, World};
 use std::alloc::{AllocError, Global};
 

@@ -7,20 +7,19 @@ ghost use Rattle.std.specs.List.{list_any};
 ghost use Rattle.std.specs.Str.{IsUtf8};
 ghost use Rattle.atl_tables.specs.Names.{name_ok, pass_ok};
 ghost use Rattle.atl_tables.specs.Worlds.{IsWorld};
-ghost use Rattle.atl_state.specs.declared.books.Entry.TheVariants.{Joining};
-ghost use Rattle.atl_state.specs.declared.books.Thing.TheVariants.{Money, People};
-ghost use Rattle.atl_state.specs.Books.{amount_in, with_booked, IsSmall};
+ghost use Rattle.atl_records.specs.declared.books.Entry.TheVariants.{Joining};
+ghost use Rattle.atl_records.specs.declared.books.Thing.TheVariants.{Money, People};
+ghost use Rattle.atl_records.specs.Books.{amount_in, with_booked, IsSmall};
 ghost use Rattle.atl_state.specs.Good.{IsGood, IsSound};
 ghost use Rattle.atl_state.specs.Joining.{name_taken, is_full, home_of, new_faction, joined, Joins};
-ghost use Rattle.atl_state.specs.Limits.{holding_limit, last_unit};
+ghost use Rattle.atl_records.specs.Limits.{holding_limit, last_unit};
 ghost use Rattle.atl_state.specs.Marking.{join_marked};
 
 use super::Campaign;
-use crate::books::{Books, Entry, Thing, amount_number};
-use crate::holding::Holding;
-use crate::limits::{LAST_UNIT, MOST_UNITS};
-use crate::records::{Faction, JoinFault, Unit};
 use atl_orders::LAST_FACTION;
+use atl_records::{
+    Books, Entry, Faction, Holding, JoinFault, LAST_UNIT, MOST_UNITS, Thing, Unit, amount_number,
+};
 use atl_tables::{Numbered, Text, Tracked, World};
 use std::alloc::{AllocError, Global};
 

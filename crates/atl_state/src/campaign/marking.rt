@@ -3,11 +3,11 @@ ghost use Rattle.std.specs.Prelude.{◌≡◌, ◌<◌, length};
 ghost use Rattle.std.specs.FinMap as map;
 ghost use Rattle.std.specs.FinSet as set;
 ghost use Rattle.atl_tables.specs.Tracking.{Lists};
-ghost use Rattle.atl_state.specs.Books.{thing_place};
-ghost use Rattle.atl_state.specs.Marks.{AreWithin, no_marks, marks_in, amount_number};
+ghost use Rattle.atl_records.specs.Books.{thing_place, amount_number};
+ghost use Rattle.atl_state.specs.Marks.{AreWithin, no_marks, marks_in};
 
 use super::Campaign;
-use crate::books::{Entry, Thing, amount_number};
+use atl_records::{Entry, Thing, amount_number};
 use atl_tables::{Entries, MarkedNumbers, Numbered};
 
 impl Campaign {

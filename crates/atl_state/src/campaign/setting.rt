@@ -3,14 +3,13 @@
 ghost use Rattle.std.specs.Prelude.{◌≡◌, ◌≤◌, ◌<◌, ◌+ℤ◌, IsOk, OnErr, OnOk, length};
 ghost use Rattle.std.specs.Int.{w64};
 ghost use Rattle.std.specs.Int.RustNames.{FitsSigned};
-ghost use Rattle.atl_state.specs.Books.{amount_in, thing_place};
-ghost use Rattle.atl_state.specs.Limits.{holding_limit, men_limit};
+ghost use Rattle.atl_records.specs.Books.{amount_in, thing_place};
+ghost use Rattle.atl_records.specs.Limits.{holding_limit, men_limit};
 ghost use Rattle.atl_state.specs.Marking.{mark_row, mark_faction, mark_region, mark_structure, mark_unit_row, mark_item, mark_skill, mark_amount, mark_all_mail};
 ghost use Rattle.atl_state.specs.Campaign.{with_month, with_faction_name, with_gone, with_peasants, with_region_money, with_stock, with_unit_name, with_men, with_money, with_item, with_skill, with_guard, with_done, with_structure_name, with_structure_region, with_owner, with_amount, without_mail};
 
 use super::Campaign;
-use crate::books::{Entry, Thing, amount_number};
-use crate::holding::put_amount;
+use atl_records::{Entry, Thing, amount_number, put_amount};
 use atl_tables::Text;
 use std::alloc::AllocError;
 

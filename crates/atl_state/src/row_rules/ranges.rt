@@ -8,15 +8,15 @@ use super::head::head_of;
 use super::keys::are_keyed;
 use super::markets::market_of;
 use super::numbers::{as_u16, as_u32, is_from, is_set, is_within};
-use crate::limits::{
-    HOLDING_LIMIT, LAST_MONTH, LAST_UNIT, MEN_LIMIT, MOST_IN_JOINING, MOST_IN_MONTH,
-    MOST_STRUCTURES, MOST_UNITS,
-};
 use crate::parts::{
     Parts, StoredBooks, StoredFaction, StoredHas, StoredHead, StoredMarket, StoredRegion,
     StoredStructure, StoredUnit,
 };
 use atl_orders::LAST_FACTION;
+use atl_records::{
+    HOLDING_LIMIT, LAST_MONTH, LAST_UNIT, MEN_LIMIT, MOST_IN_JOINING, MOST_IN_MONTH,
+    MOST_STRUCTURES, MOST_UNITS,
+};
 use atl_tables::World;
 use atl_tables::limits::{MOST_AMOUNT, MOST_REGIONS};
 use std::alloc::{AllocError, Global};

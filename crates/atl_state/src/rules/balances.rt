@@ -2,14 +2,15 @@
 ghost use Rattle.std.specs.Prelude.{◌≡◌, ◌<◌, ℕ, length, pos};
 ghost use Rattle.std.specs.Bool.{Decides};
 ghost use Rattle.atl_tables.specs.Worlds.{IsWorld};
-ghost use Rattle.atl_state.specs.Books.{booked, thing_place, IsGrid};
+ghost use Rattle.atl_records.specs.Books.{booked, thing_place, IsGrid};
 ghost use Rattle.atl_state.specs.Founding.{things_of};
-ghost use Rattle.atl_state.specs.Good.{AreOfMarkets, Every};
+ghost use Rattle.atl_records.specs.Every.{Every};
+ghost use Rattle.atl_state.specs.Good.{AreOfMarkets};
 ghost use Rattle.atl_state.specs.Totals.{total, Balances, IsCountable};
-ghost use Rattle.atl_state.specs.declared.books.Thing.TheVariants.{Money, People, Item};
+ghost use Rattle.atl_records.specs.declared.books.Thing.TheVariants.{Money, People, Item};
 
-use crate::books::Thing;
 use crate::campaign::Campaign;
+use atl_records::Thing;
 use atl_tables::World;
 
 /// Whether the total of a thing is the sum of its entries.

@@ -1,12 +1,12 @@
 //! Days of study.
 ghost use Rattle.std.specs.Prelude.{◌≤◌, ◌*◌};
 ghost use Rattle.std.specs.Bool.{Decides};
-ghost use Rattle.atl_state.specs.Good.{Every, AreDays};
-ghost use Rattle.atl_state.specs.Limits.{most_days};
+ghost use Rattle.atl_records.specs.Every.{Every};
+ghost use Rattle.atl_state.specs.Good.{AreDays};
+ghost use Rattle.atl_records.specs.Limits.{most_days};
 
 use crate::campaign::Campaign;
-use crate::holding::Holding;
-use crate::limits::MOST_DAYS;
+use atl_records::{Holding, MOST_DAYS};
 
 /// Whether the days of each skill that is studied are from 1 to MOST_DAYS for each man.
 fn has_days(holding: &Holding) -> bool

@@ -5,7 +5,7 @@ ghost use Rattle.atl_state.specs.Good.{GoneHaveNone, NoneAreGone};
 ghost use Rattle.atl_state.specs.Campaign.{numbers_of};
 
 use crate::campaign::Campaign;
-use crate::records::Faction;
+use atl_records::Faction;
 
 /// Whether a faction is gone exactly where it has no unit.
 fn is_gone_without(campaign: &Campaign, number: u32, faction: &Faction) -> bool

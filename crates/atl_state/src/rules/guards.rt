@@ -2,7 +2,8 @@
 ghost use Rattle.std.specs.Prelude.{◌≡◌, None};
 ghost use Rattle.std.specs.Bool.{Decides};
 ghost use Rattle.atl_state.specs.Deciding.{agree, guard_of, one_holder};
-ghost use Rattle.atl_state.specs.Good.{Every, IsThere, AreOfOneFaction, guards};
+ghost use Rattle.atl_records.specs.Every.{Every, IsThere};
+ghost use Rattle.atl_state.specs.Good.{AreOfOneFaction, guards};
 ghost use Rattle.atl_state.specs.Campaign.{numbers_in};
 
 use crate::campaign::Campaign;

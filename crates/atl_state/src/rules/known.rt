@@ -3,13 +3,12 @@ ghost use Rattle.std.specs.Prelude.{◌≡◌, ◌≢◌, ◌<◌, ◌↔◌, �
 ghost use Rattle.std.specs.Bool.{Decides};
 ghost use Rattle.std.specs.FinMap as map;
 ghost use Rattle.atl_tables.specs.ByNumber.{market_of};
-ghost use Rattle.atl_state.specs.declared.records.Structure as builds;
-ghost use Rattle.atl_state.specs.Deciding.{EachOf};
-ghost use Rattle.atl_state.specs.Good.{Every, IsThere, IsPlaced, IsBuilt, AreKnown, AreOfMarkets};
+ghost use Rattle.atl_records.specs.declared.records.Structure as builds;
+ghost use Rattle.atl_records.specs.Every.{EachOf, Every, IsThere};
+ghost use Rattle.atl_state.specs.Good.{IsPlaced, IsBuilt, AreKnown, AreOfMarkets};
 
 use crate::campaign::Campaign;
-use crate::holding::Holding;
-use crate::records::{Region, Structure, Unit};
+use atl_records::{Holding, Region, Structure, Unit};
 use atl_tables::{Entries, World};
 
 fn is_faction(campaign: &Campaign, number: u32) -> bool

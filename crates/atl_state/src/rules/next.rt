@@ -2,7 +2,7 @@
 ghost use Rattle.std.specs.Prelude.{◌≡◌, ◌≤◌, ◌<◌, ◌+◌, ℕ, None};
 ghost use Rattle.std.specs.Bool.{Decides};
 ghost use Rattle.std.specs.FinMap as map;
-ghost use Rattle.atl_state.specs.Deciding.{EachOf};
+ghost use Rattle.atl_records.specs.Every.{EachOf};
 ghost use Rattle.atl_state.specs.Good.{AreNumbered, IsNumbered};
 
 use crate::campaign::Campaign;

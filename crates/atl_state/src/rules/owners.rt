@@ -2,12 +2,13 @@
 ghost use Rattle.std.specs.Prelude.{◌≡◌, ◌≢◌, Some};
 ghost use Rattle.std.specs.Bool.{Decides};
 ghost use Rattle.std.specs.FinMap as map;
-ghost use Rattle.atl_state.specs.declared.records.Structure as builds;
+ghost use Rattle.atl_records.specs.declared.records.Structure as builds;
 ghost use Rattle.atl_state.specs.Deciding.{HasOwnerInside};
-ghost use Rattle.atl_state.specs.Good.{Every, AreOwned};
+ghost use Rattle.atl_records.specs.Every.{Every};
+ghost use Rattle.atl_state.specs.Good.{AreOwned};
 
 use crate::campaign::Campaign;
-use crate::records::{Structure, Unit};
+use atl_records::{Structure, Unit};
 
 /// Whether nobody owns a structure, or a unit inside.
 fn is_owner_inside(campaign: &Campaign, number: u32, structure: &Structure) -> bool

@@ -1,6 +1,7 @@
 //! Reports.
 ghost use Rattle.std.specs.Bool.{Decides};
-ghost use Rattle.atl_state.specs.Good.{AreReported, IsThere};
+ghost use Rattle.atl_records.specs.Every.{IsThere};
+ghost use Rattle.atl_state.specs.Good.{AreReported};
 
 use crate::campaign::Campaign;
 

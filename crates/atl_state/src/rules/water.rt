@@ -1,11 +1,12 @@
 //! What stands on water.
 ghost use Rattle.std.specs.Prelude.{◌≡◌, false, true};
 ghost use Rattle.std.specs.Bool.{Decides};
-ghost use Rattle.atl_state.specs.Good.{Every, AreAfloat, IsAboard, is_ship};
+ghost use Rattle.atl_records.specs.Every.{Every};
+ghost use Rattle.atl_state.specs.Good.{AreAfloat, IsAboard, is_ship};
 ghost use Rattle.atl_tables.specs.ByNumber.{is_land_at, size_of};
 
 use crate::campaign::Campaign;
-use crate::records::{Structure, Unit};
+use atl_records::{Structure, Unit};
 use atl_tables::World;
 
 /// Whether a unit is inside a ship.

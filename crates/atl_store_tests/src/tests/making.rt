@@ -2,7 +2,7 @@
 //! one and lends it, and one that works on a connection takes any store.
 ghost use Rattle.std.specs.Prelude.{◌≡◌, ◌≤◌, false, length, IsTrue, IfOk, OnOk};
 ghost use Rattle.atl_state.specs.Good.{IsGood};
-ghost use Rattle.atl_state.specs.Limits.{most_things};
+ghost use Rattle.atl_records.specs.Limits.{most_things};
 ghost use Rattle.atl_store.specs.Arriving.{HasArrival};
 
 use atl_state::{Campaign, founded};

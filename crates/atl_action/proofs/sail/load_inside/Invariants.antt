@@ -1,6 +1,6 @@
 use Rattle.std.proofs.Common.{◌≡◌, ◌≤◌, ◌+◌, ◌*◌, drop, sum_by}
 use Rattle.std.specs.FinMap.{get}
-use Rattle.atl_state.specs.Levels.{load_of}
+use Rattle.atl_records.specs.Levels.{load_of}
 use Rattle.atl_state.specs.Campaign.{numbers_inside}
 use Rattle.atl_action.specs.Sail.{of_unit, sum_inside}
 use Rattle.atl_action.proofs.sail.load_inside.Given as goal

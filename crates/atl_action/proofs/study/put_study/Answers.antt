@@ -1,7 +1,7 @@
 use Rattle.std.proofs.Common.{ap, ◌∙◌, arith}
 use Rattle.std.specs.Prelude.{neg_ℤ, pos}
-use Rattle.atl_state.specs.declared.books.Entry.TheVariants.{Study}
-use Rattle.atl_state.specs.declared.books.Thing.TheVariants.{Money}
+use Rattle.atl_records.specs.declared.books.Entry.TheVariants.{Study}
+use Rattle.atl_records.specs.declared.books.Thing.TheVariants.{Money}
 use Rattle.atl_state.specs.Founding.{things_of}
 use Rattle.atl_state.specs.Campaign.{CampaignValue, with_amount}
 use Rattle.atl_instant.proofs.ChangeLaws.{changed_held}

@@ -1,7 +1,7 @@
 use Rattle.std.proofs.Common.{sym, ◌∙◌}
 use Rattle.std.specs.Ordering.{nat_cmp}
 use Rattle.std.specs.FinMap.{get-empty}
-use Rattle.atl_state.proofs.EveryLaws.{none_some}
+use Rattle.atl_records.proofs.EveryLaws.{none_some}
 use Rattle.atl_instant.proofs.form.new_unit.Goals as goal
 
 pub new-requires-3-clause-items : goal.new-requires-3-clause-items

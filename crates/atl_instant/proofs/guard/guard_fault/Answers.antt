@@ -1,5 +1,5 @@
 use Rattle.std.proofs.Common.{◌==◌, true, false, sym, ap, ◌∙◌}
-use Rattle.atl_state.proofs.ListLaws.{other_number}
+use Rattle.atl_records.proofs.EveryLaws.{other_number}
 use Rattle.atl_instant.proofs.HolderLaws.{fault_told}
 use Rattle.atl_instant.proofs.guard.guard_fault.Goals as goal
 

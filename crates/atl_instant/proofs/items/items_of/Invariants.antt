@@ -1,6 +1,6 @@
 use Rattle.std.proofs.Common.{◌≡◌, ◌<◌, ◌++◌, length}
 use Rattle.std.specs.FinMap.{entries}
-use Rattle.atl_state.specs.Deciding.{EachOf}
+use Rattle.atl_records.specs.Every.{EachOf}
 use Rattle.atl_instant.proofs.items.items_of.Given as goal
 
 abbrev pub invariant-loop-item : goal.invariant-loop-item

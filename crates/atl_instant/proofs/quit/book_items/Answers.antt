@@ -1,5 +1,5 @@
 use Rattle.std.proofs.Common.{◌≡◌, ◌+◌, ℕ, drop, get_or, arith}
-use Rattle.atl_state.specs.declared.books.Thing.TheVariants.{Item}
+use Rattle.atl_records.specs.declared.books.Thing.TheVariants.{Item}
 use Rattle.atl_state.specs.Founding.{things_of}
 use Rattle.atl_state.proofs.CoverLaws.{marks-trans}
 use Rattle.atl_instant.specs.Quit.{item_gone}

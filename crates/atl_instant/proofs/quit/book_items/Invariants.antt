@@ -1,8 +1,8 @@
 use Rattle.std.proofs.Common.{◌≡◌, ◌<◌, length, drop}
 use Rattle.std.specs.Prelude.{fold}
-use Rattle.atl_state.specs.Books.{IsGrid}
+use Rattle.atl_records.specs.Books.{IsGrid}
 use Rattle.atl_state.specs.Covers.{MarksChanges}
-use Rattle.atl_state.specs.Deciding.{EachOf}
+use Rattle.atl_records.specs.Every.{EachOf}
 use Rattle.atl_state.specs.Founding.{things_of}
 use Rattle.atl_instant.specs.Meaning.{HaveRoom}
 use Rattle.atl_instant.specs.Quit.{item_gone}

@@ -1,7 +1,7 @@
 use Rattle.std.proofs.Common.{◌≡◌, ◌≤◌, ◌+◌, ◌*◌, ◌++◌, map}
-use Rattle.atl_state.specs.Deciding.{EachOf}
-use Rattle.atl_state.specs.Held.{amount_of}
-use Rattle.atl_state.specs.Limits.{most_days}
+use Rattle.atl_records.specs.Every.{EachOf}
+use Rattle.atl_records.specs.Held.{amount_of}
+use Rattle.atl_records.specs.Limits.{most_days}
 use Rattle.atl_instant.specs.Raising.{raised_list}
 use Rattle.atl_instant.specs.Transfer.{days_going}
 use Rattle.atl_instant.proofs.transfer.days_raised.Given as goal

@@ -1,10 +1,10 @@
 use Rattle.std.proofs.Common.{◌≡◌, sym, ap, ◌∙◌, ◌+◌, arith, rules, pos, to_z, of_z, w64}
 use Rattle.std.proofs.lemmas.Int.{to_z-of_z}
-use Rattle.atl_state.specs.Books.{amount_in}
+use Rattle.atl_records.specs.Books.{amount_in}
 use Rattle.atl_state.specs.Founding.{things_of}
 use Rattle.atl_state.specs.Campaign.{CampaignValue, with_amount, with_item}
-use Rattle.atl_state.specs.declared.books.Entry.TheVariants.{Made}
-use Rattle.atl_state.specs.declared.books.Thing.TheVariants.{Item}
+use Rattle.atl_records.specs.declared.books.Entry.TheVariants.{Made}
+use Rattle.atl_records.specs.declared.books.Thing.TheVariants.{Item}
 use Rattle.atl_instant.proofs.BookingLaws.{booking_fits, within-pos}
 use Rattle.atl_instant.proofs.ChangeLaws.{item_changes}
 use Rattle.atl_instant.proofs.MarkLaws.{booked_marks}

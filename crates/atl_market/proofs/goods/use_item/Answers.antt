@@ -2,8 +2,8 @@ use Rattle.std.proofs.Common.{sym, ap, ◌∙◌, ◌-◌, arith}
 use Rattle.std.specs.Prelude.{neg_ℤ, pos}
 use Rattle.atl_state.specs.Founding.{things_of}
 use Rattle.atl_state.specs.Campaign.{CampaignValue, with_amount, with_item}
-use Rattle.atl_state.specs.declared.books.Entry.TheVariants.{Used}
-use Rattle.atl_state.specs.declared.books.Thing.TheVariants.{Item}
+use Rattle.atl_records.specs.declared.books.Entry.TheVariants.{Used}
+use Rattle.atl_records.specs.declared.books.Thing.TheVariants.{Item}
 use Rattle.atl_instant.proofs.ChangeLaws.{item_changes}
 use Rattle.atl_instant.proofs.MarkLaws.{booked_marks}
 use Rattle.atl_market.specs.Goods.{used_by}

@@ -1,7 +1,7 @@
 use Rattle.std.proofs.Common.{◌≤◌, ◌∙◌, ℕ, ap}
 use Rattle.std.specs.List.{flat_map}
 use Rattle.atl_tables.specs.Limits.{most_amount}
-use Rattle.atl_state.proofs.EveryLaws.{every-empty}
+use Rattle.atl_records.proofs.EveryLaws.{every-empty}
 use Rattle.atl_market.specs.PotPhase.{want_by}
 use Rattle.atl_market.specs.Puts.{with_each}
 use Rattle.atl_market.proofs.PotLaws.{put_in_turn}

@@ -1,13 +1,13 @@
 use Rattle.std.proofs.Common.{ap, arith}
 use Rattle.std.specs.Prelude.{neg_ℤ, pos}
 use Rattle.atl_state.specs.Campaign.{CampaignValue}
-use Rattle.atl_state.specs.declared.books.Entry.TheVariants.{Recruiting}
-use Rattle.atl_state.specs.declared.books.Thing.TheVariants.{Money}
+use Rattle.atl_records.specs.declared.books.Entry.TheVariants.{Recruiting}
+use Rattle.atl_records.specs.declared.books.Thing.TheVariants.{Money}
 use Rattle.atl_market.proofs.RecruitLaws.{leaving_marks}
 use Rattle.atl_market.proofs.recruit.leave_region.Goals as goal
 use Rattle.atl_instant.proofs.MeaningLaws.{less_room}
-use Rattle.atl_state.specs.Limits.{holding_limit}
-use Rattle.atl_state.specs.Books.{amount_in}
+use Rattle.atl_records.specs.Limits.{holding_limit}
+use Rattle.atl_records.specs.Books.{amount_in}
 
 pub book_taken-requires-clause-there : goal.book_taken-requires-clause-there
 book_taken-requires-clause-there c =

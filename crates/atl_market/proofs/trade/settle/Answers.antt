@@ -1,10 +1,10 @@
 use Rattle.std.proofs.Common.{◌≡◌, sym, ap, ◌∙◌, rules, arith, to_z, of_z, w64}
 use Rattle.std.proofs.lemmas.Int.{to_z-of_z}
-use Rattle.atl_state.specs.Books.{amount_in}
+use Rattle.atl_records.specs.Books.{amount_in}
 use Rattle.atl_state.specs.Lending.{with_holding}
-use Rattle.atl_state.specs.Limits.{holding_limit}
+use Rattle.atl_records.specs.Limits.{holding_limit}
 use Rattle.atl_state.specs.Campaign.{with_amount, with_stock}
-use Rattle.atl_state.specs.declared.books.Thing.TheVariants.{Money}
+use Rattle.atl_records.specs.declared.books.Thing.TheVariants.{Money}
 use Rattle.atl_instant.proofs.BookingLaws.{booking_fits}
 use Rattle.atl_instant.proofs.MarkLaws.{booked_marks}
 use Rattle.atl_market.specs.Trade.{with_deal}

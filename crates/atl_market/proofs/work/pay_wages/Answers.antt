@@ -1,9 +1,9 @@
 use Rattle.std.proofs.Common.{◌≡◌, ◌+◌, arith, rules, pos, to_z, of_z, w64}
 use Rattle.std.proofs.lemmas.Int.{to_z-of_z}
-use Rattle.atl_state.specs.Books.{amount_in}
-use Rattle.atl_state.specs.Limits.{holding_limit}
-use Rattle.atl_state.specs.declared.books.Entry.TheVariants.{Wages}
-use Rattle.atl_state.specs.declared.books.Thing.TheVariants.{Money}
+use Rattle.atl_records.specs.Books.{amount_in}
+use Rattle.atl_records.specs.Limits.{holding_limit}
+use Rattle.atl_records.specs.declared.books.Entry.TheVariants.{Wages}
+use Rattle.atl_records.specs.declared.books.Thing.TheVariants.{Money}
 use Rattle.atl_instant.proofs.BookingLaws.{booking_fits, within-pos}
 use Rattle.atl_market.proofs.WorkLaws.{wages_marks}
 use Rattle.atl_market.proofs.work.pay_wages.Goals as goal

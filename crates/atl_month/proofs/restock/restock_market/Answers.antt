@@ -1,9 +1,9 @@
 use Rattle.std.proofs.Common.{◌≡◌, arith, rules, pos, to_z, of_z, w64}
 use Rattle.std.proofs.lemmas.Int.{to_z-of_z}
 use Rattle.atl_tables.specs.Limits.{most_amount}
-use Rattle.atl_state.specs.declared.books.Entry.TheVariants.{Stocked}
-use Rattle.atl_state.specs.declared.books.Thing.TheVariants.{Item}
-use Rattle.atl_state.specs.Books.{amount_in}
+use Rattle.atl_records.specs.declared.books.Entry.TheVariants.{Stocked}
+use Rattle.atl_records.specs.declared.books.Thing.TheVariants.{Item}
+use Rattle.atl_records.specs.Books.{amount_in}
 use Rattle.atl_state.specs.Founding.{things_of}
 use Rattle.atl_instant.proofs.BookingLaws.{booking_fits, within-pos}
 use Rattle.atl_month.proofs.RestockLaws.{market_marks, restock_small, room_alone}

@@ -3,10 +3,9 @@ use Rattle.std.specs.Prelude.{List, fold}
 use Rattle.std.specs.FinMap.{entries, get}
 use Rattle.atl_tables.specs.Limits.{most_amount}
 use Rattle.atl_tables.specs.declared.world.Market.{Market}
-use Rattle.atl_state.specs.Deciding.{EachOf}
-use Rattle.atl_state.specs.Good.{IsThere}
+use Rattle.atl_records.specs.Every.{EachOf, IsThere}
 use Rattle.atl_state.proofs.CoverLaws.{marks-refl, marks-trans}
-use Rattle.atl_state.proofs.EveryLaws.{sorted}
+use Rattle.atl_records.proofs.EveryLaws.{sorted}
 use Rattle.atl_instant.specs.Meaning.{HaveRoom}
 use Rattle.atl_instant.proofs.MeaningLaws.{room_less}
 use Rattle.atl_month.specs.Restock.{market_restocked, restocked, stocks_by}

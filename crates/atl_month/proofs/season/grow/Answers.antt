@@ -1,11 +1,9 @@
 use Rattle.std.proofs.Common.{◌≡◌, ◌+◌, arith, rules, pos, to_z, of_z, w64}
 use Rattle.std.proofs.lemmas.Int.{to_z-of_z}
-use Rattle.atl_state.specs.declared.books.Entry.TheVariants.{Births}
-use Rattle.atl_state.specs.declared.books.Thing.TheVariants.{People}
-use Rattle.atl_state.specs.Books.{amount_in}
+use Rattle.atl_records.specs.declared.books.Entry.TheVariants.{Births, Income}
+use Rattle.atl_records.specs.declared.books.Thing.TheVariants.{People, Money}
+use Rattle.atl_records.specs.Books.{amount_in}
 use Rattle.atl_tables.specs.Limits.{most_amount}
-use Rattle.atl_state.specs.declared.books.Entry.TheVariants.{Income}
-use Rattle.atl_state.specs.declared.books.Thing.TheVariants.{Money}
 use Rattle.atl_instant.specs.Meaning.{moves_only}
 use Rattle.atl_instant.proofs.BookingLaws.{booked-room, booking_fits, within-pos}
 use Rattle.atl_month.proofs.SeasonLaws.{births_first, growth_marks}

@@ -1,10 +1,10 @@
 use Rattle.std.proofs.Common.{◌+◌, ◌-◌, sym, ap, arith}
 use Rattle.std.specs.Prelude.{neg_ℤ, pos}
-use Rattle.atl_state.specs.declared.books.Entry.TheVariants.{Lost}
-use Rattle.atl_state.specs.declared.books.Thing.TheVariants.{Item}
-use Rattle.atl_state.specs.Books.{amount_in}
+use Rattle.atl_records.specs.declared.books.Entry.TheVariants.{Lost}
+use Rattle.atl_records.specs.declared.books.Thing.TheVariants.{Item}
+use Rattle.atl_records.specs.Books.{amount_in}
 use Rattle.atl_state.specs.Founding.{things_of}
-use Rattle.atl_state.specs.Held.{with_amount_of}
+use Rattle.atl_records.specs.Held.{with_amount_of}
 use Rattle.atl_state.specs.Campaign.{CampaignValue}
 use Rattle.atl_instant.proofs.ChangeLaws.{changed_held, item_changes}
 use Rattle.atl_instant.proofs.MarkLaws.{booked_marks}

@@ -1,5 +1,5 @@
 use Rattle.std.proofs.Common.{◌-◌, arith}
-use Rattle.atl_state.specs.declared.books.Thing.TheVariants.{Money}
+use Rattle.atl_records.specs.declared.books.Thing.TheVariants.{Money}
 use Rattle.atl_month.proofs.SweepRunLaws.{lost_marks, money_marks}
 use Rattle.atl_month.proofs.sweep.pass_money.Goals as goal
 

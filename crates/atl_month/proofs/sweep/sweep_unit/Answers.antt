@@ -1,9 +1,9 @@
 use Rattle.std.proofs.Common.{rules, ◌≡◌, sym, arith}
 use Rattle.std.specs.FinMap.{entries}
 use Rattle.atl_tables.specs.Limits.{most_amount}
-use Rattle.atl_state.specs.declared.books.Entry.TheVariants.{Lost}
-use Rattle.atl_state.specs.declared.books.Thing.TheVariants.{Money}
-use Rattle.atl_state.specs.Books.{amount_in}
+use Rattle.atl_records.specs.declared.books.Entry.TheVariants.{Lost}
+use Rattle.atl_records.specs.declared.books.Thing.TheVariants.{Money}
+use Rattle.atl_records.specs.Books.{amount_in}
 use Rattle.atl_state.proofs.CoverLaws.{marks-trans}
 use Rattle.atl_state.proofs.LeavingLaws.{marks-without}
 use Rattle.atl_instant.proofs.MeaningLaws.{less_room}

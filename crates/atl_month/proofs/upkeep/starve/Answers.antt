@@ -2,11 +2,11 @@ use Rattle.std.proofs.Common.{◌≡◌, ◌≤◌, ◌-◌, Some, sym, ap, subs
 use Rattle.std.specs.FinMap.{get}
 use Rattle.std.proofs.lemmas.Option.{same_Some}
 use Rattle.std.proofs.lemmas.Result.{on_ok_weaker}
-use Rattle.atl_state.specs.Good.{Every}
-use Rattle.atl_state.specs.Held.{Held}
+use Rattle.atl_records.specs.Every.{Every}
+use Rattle.atl_records.specs.Held.{Held}
 use Rattle.atl_state.specs.Lending.{with_held}
 use Rattle.atl_state.specs.Marks.{Marks}
-use Rattle.atl_state.specs.declared.records.Unit.{Unit}
+use Rattle.atl_records.specs.declared.records.Unit.{Unit}
 use Rattle.atl_instant.specs.Holdings.{ChangesHolding, with_days}
 use Rattle.atl_instant.proofs.ChangeLaws.{changed_held, money_changes, then_changes}
 use Rattle.atl_instant.proofs.MarkLaws.{on_ok_both}

@@ -1,12 +1,12 @@
 use Rattle.std.proofs.Common.{ap, sym, arith}
 use Rattle.std.specs.Prelude.{neg_ℤ, pos}
 use Rattle.atl_tables.specs.Limits.{most_amount}
-use Rattle.atl_state.specs.Books.{amount_in, with_booked}
+use Rattle.atl_records.specs.Books.{amount_in, with_booked}
 use Rattle.atl_state.specs.Founding.{things_of}
-use Rattle.atl_state.specs.declared.books.Entry.TheVariants.{Starved, Upkeep}
-use Rattle.atl_state.specs.declared.books.Thing.TheVariants.{Money, People}
+use Rattle.atl_records.specs.declared.books.Entry.TheVariants.{Starved, Upkeep}
+use Rattle.atl_records.specs.declared.books.Thing.TheVariants.{Money, People}
 use Rattle.atl_state.specs.Campaign.{CampaignValue}
-use Rattle.atl_state.proofs.BookLaws.{IsGrid-with_booked}
+use Rattle.atl_records.proofs.BookLaws.{IsGrid-with_booked}
 use Rattle.atl_instant.specs.Meaning.{moves_only}
 use Rattle.atl_instant.proofs.BookingLaws.{booked-room, within-neg}
 use Rattle.atl_instant.proofs.MeaningLaws.{less_room}

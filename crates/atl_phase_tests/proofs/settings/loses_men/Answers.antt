@@ -3,12 +3,12 @@ use Rattle.std.specs.FinMap.{empty, get}
 use Rattle.std.proofs.lemmas.Bool.{false≢true}
 use Rattle.atl_tables.specs.Worlds.{WorldValue}
 use Rattle.atl_state.specs.Good.{IsEarly, IsSteady}
-use Rattle.atl_state.specs.Held.{Held}
+use Rattle.atl_records.specs.Held.{Held}
 use Rattle.atl_state.specs.Lending.{with_held, with_holding}
-use Rattle.atl_state.specs.Limits.{most_days}
+use Rattle.atl_records.specs.Limits.{most_days}
 use Rattle.atl_state.specs.Campaign.{CampaignValue}
-use Rattle.atl_state.specs.declared.records.Unit.{Unit}
-use Rattle.atl_state.proofs.EveryLaws.{every-empty}
+use Rattle.atl_records.specs.declared.records.Unit.{Unit}
+use Rattle.atl_records.proofs.EveryLaws.{every-empty}
 use Rattle.atl_state.proofs.HoldingLaws.{MayHold, of_one_faction_kept, steady-held}
 use Rattle.atl_phase_tests.proofs.settings.loses_men.Goals as goal
 

@@ -1,7 +1,8 @@
 use Rattle.std.proofs.Common.{◌<◌, length, sym, subst}
-use Rattle.atl_state.specs.Books.{IsGrid}
+use Rattle.atl_records.specs.Books.{IsGrid}
 use Rattle.atl_state.specs.Founding.{things_of}
-use Rattle.atl_state.specs.Good.{AreOfMarkets, Every}
+use Rattle.atl_records.specs.Every.{Every}
+use Rattle.atl_state.specs.Good.{AreOfMarkets}
 use Rattle.atl_state.specs.Campaign.{CampaignValue}
 use Rattle.atl_state.specs.Totals.{IsCountable}
 use Rattle.atl_state.proofs.CheckLaws.{few-said, grid-said, items-said, stocks-said}

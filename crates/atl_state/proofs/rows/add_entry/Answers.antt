@@ -3,7 +3,8 @@ use Rattle.std.specs.Prelude.{pos}
 use Rattle.std.proofs.lemmas.Int.{ints, to_z-of_z}
 use Rattle.std.proofs.lemmas.List.{append_assoc}
 use Rattle.atl_state.specs.declared.parts.StoredBooks.{StoredBooks}
-use Rattle.atl_state.specs.Rows.{amount_at, entry_rows, books_row}
+use Rattle.atl_records.specs.Books.{amount_at}
+use Rattle.atl_state.specs.Rows.{entry_rows, books_row}
 use Rattle.atl_state.proofs.RowLaws.{entry_rows_one, entry_rows_none}
 use Rattle.atl_state.proofs.rows.add_entry.Goals as goal
 use Rattle.atl_state.proofs.rows.add_entry.Goals.{then-amount-ne0+in_ok-push, else-amount-ne0}

@@ -1,8 +1,8 @@
 use Rattle.std.proofs.Common.{◌≡◌, ◌+◌, ◌*◌, ◌≤◌, length, sum_by}
 use Rattle.std.specs.FinMap.{entries}
 use Rattle.atl_tables.specs.Sums.{sum_over}
-use Rattle.atl_state.specs.Limits.{most_u32}
-use Rattle.atl_state.specs.Totals.{held}
+use Rattle.atl_records.specs.Limits.{most_u32}
+use Rattle.atl_records.specs.Amounts.{held}
 use Rattle.atl_state.proofs.totals.units_total.Given as goal
 
 abbrev pub invariant-loop-unit : goal.invariant-loop-unit

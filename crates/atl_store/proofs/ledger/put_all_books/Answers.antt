@@ -1,6 +1,6 @@
 use Rattle.std.proofs.Common.{◌≡◌, ◌+◌, ◌-◌, suc, length, ap, arith}
 use Rattle.std.specs.List.{range_with_len}
-use Rattle.atl_state.specs.Books.{all_entries, thing_at}
+use Rattle.atl_records.specs.Books.{all_entries, thing_at}
 use Rattle.atl_store.specs.Tables.{books_table}
 use Rattle.atl_store.specs.Lines.{entries_lines, things_lines}
 use Rattle.atl_store.proofs.PuttingLaws.{same_written, putting_begins, putting_more, putting_failed, putting_ends}

@@ -1,5 +1,5 @@
 use Rattle.std.proofs.Common.{sym, ◌∙◌}
-use Rattle.atl_state.specs.Books.{entry_place, thing_place}
+use Rattle.atl_records.specs.Books.{entry_place, thing_place}
 use Rattle.atl_store.specs.Tables.{books_table}
 use Rattle.atl_store.specs.Rows.{BooksRowsOf}
 use Rattle.atl_store.specs.Rewriting.{is_number, of_amounts}

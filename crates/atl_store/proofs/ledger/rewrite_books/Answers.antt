@@ -1,8 +1,8 @@
 use Rattle.std.proofs.Common.{◌≡◌, ◌+◌, ◌-◌, suc, map, length, ap, subst, ◌∙◌, arith}
 use Rattle.std.specs.List.{range_with_len}
-use Rattle.atl_state.specs.Books.{all_entries, entry_place, thing_place}
+use Rattle.atl_records.specs.Books.{all_entries, entry_place, thing_place}
 use Rattle.atl_state.specs.Marks.{AreOfThings}
-use Rattle.atl_state.proofs.BookLaws.{place_at}
+use Rattle.atl_records.proofs.BookLaws.{place_at}
 use Rattle.atl_store.specs.Tables.{books_table}
 use Rattle.atl_store.specs.Inside.{Inside, HasTables}
 use Rattle.atl_store.specs.Rewriting.{RewritesAmounts, is_number, is_among, of_amounts}

@@ -1,6 +1,6 @@
 use Rattle.std.proofs.Common.{◌+◌, drop, refl, arith}
 use Rattle.std.proofs.lemmas.List.{drop_more, at_drop_all}
-use Rattle.atl_state.specs.Books.{thing_place}
+use Rattle.atl_records.specs.Books.{thing_place}
 use Rattle.atl_store.specs.Tables.{books_table}
 use Rattle.atl_store.specs.Rewriting.{is_number}
 use Rattle.atl_store.proofs.BooksRewriteLaws.{entry_nearer, entries_rewritten}

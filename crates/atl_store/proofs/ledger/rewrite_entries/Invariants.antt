@@ -1,5 +1,5 @@
 use Rattle.std.proofs.Common.{drop}
-use Rattle.atl_state.specs.Books.{thing_place}
+use Rattle.atl_records.specs.Books.{thing_place}
 use Rattle.atl_store.specs.OwnStatements.{OfChange}
 use Rattle.atl_store.specs.Inside.{Inside, HasTables}
 use Rattle.atl_store.specs.Rewriting.{is_number}

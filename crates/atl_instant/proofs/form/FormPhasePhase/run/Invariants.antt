@@ -2,7 +2,8 @@ use Rattle.std.proofs.Common.{◌≡◌, Some, drop}
 use Rattle.std.specs.Prelude.{fold}
 use Rattle.std.specs.FinMap.{get}
 use Rattle.atl_state.specs.Covers.{MarksChanges}
-use Rattle.atl_state.specs.Good.{Every, IsEarly}
+use Rattle.atl_records.specs.Every.{Every}
+use Rattle.atl_state.specs.Good.{IsEarly}
 use Rattle.atl_instant.specs.Steps.{StepsWell}
 use Rattle.atl_instant.specs.Unbooked.{books_nothing}
 use Rattle.atl_instant.proofs.form.FormPhasePhase.run.Given as goal

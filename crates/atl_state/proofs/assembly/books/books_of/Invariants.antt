@@ -1,5 +1,5 @@
 use Rattle.std.proofs.Common.{◌≡◌, drop}
-use Rattle.atl_state.specs.Books.{no_amounts}
+use Rattle.atl_records.specs.Books.{no_amounts}
 use Rattle.atl_state.specs.FromRows.{put_amounts}
 use Rattle.atl_state.proofs.assembly.books.books_of.Given as goal
 

@@ -3,7 +3,7 @@ use Rattle.std.proofs.lemmas.Int.{to_z-of_z}
 use Rattle.std.specs.Ordering.{nat_cmp}
 use Rattle.std.specs.FinMap.{FinMap, insert}
 use Rattle.atl_state.specs.declared.parts.StoredStructure.{StoredStructure}
-use Rattle.atl_state.specs.declared.records.Structure.{Structure}
+use Rattle.atl_records.specs.declared.records.Structure.{Structure}
 use Rattle.atl_state.specs.FromRows.{as_u32, structure_of, put_rows}
 use Rattle.atl_state.proofs.KeyLaws.{next_of}
 use Rattle.atl_state.proofs.assembly.maps.structures_of.Goals as goal

@@ -1,6 +1,6 @@
 use Rattle.std.proofs.Common.{◌≡◌, ◌<◌, length, ap, ◌∙◌}
 use Rattle.std.proofs.lemmas.List.{length-set}
-use Rattle.atl_state.specs.Books.{thing_place}
+use Rattle.atl_records.specs.Books.{thing_place}
 use Rattle.atl_state.proofs.AmountMarkLaws.{fits_amount, more_marked}
 use Rattle.atl_state.proofs.campaign.Campaign.book.Goals as goal
 

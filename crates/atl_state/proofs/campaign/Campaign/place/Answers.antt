@@ -2,7 +2,7 @@ use Rattle.std.proofs.Common.{◌≡◌, ◌==◌, Some, sym, ap, ◌∙◌}
 use Rattle.std.specs.FinMap.{get}
 use Rattle.atl_state.specs.Marking.{handed_marked, put_marked}
 use Rattle.atl_state.specs.Campaign.{MarkedCampaign}
-use Rattle.atl_state.proofs.ListLaws.{same_number, other_number}
+use Rattle.atl_records.proofs.EveryLaws.{same_number, other_number}
 use Rattle.atl_state.proofs.OwnerLaws.{place-what, place_none, place_stays, place_leaves}
 use Rattle.atl_state.proofs.campaign.Campaign.place.Goals as goal
 

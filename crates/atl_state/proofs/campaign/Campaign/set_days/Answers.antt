@@ -1,7 +1,7 @@
 use Rattle.std.proofs.Common.{ap, refl}
 use Rattle.std.proofs.lemmas.Result.{on_ok_weaker}
-use Rattle.atl_state.specs.declared.records.Unit.{Unit}
-use Rattle.atl_state.specs.Held.{with_amount_of}
+use Rattle.atl_records.specs.declared.records.Unit.{Unit}
+use Rattle.atl_records.specs.Held.{with_amount_of}
 use Rattle.atl_state.specs.Roster.{Roster}
 use Rattle.atl_state.proofs.ListLaws.{AreUnitLists-set}
 use Rattle.atl_state.proofs.campaign.Campaign.set_days.Goals as goal

@@ -1,5 +1,5 @@
 use Rattle.std.proofs.Common.{refl}
-use Rattle.atl_state.specs.declared.records.Unit.{Unit}
+use Rattle.atl_records.specs.declared.records.Unit.{Unit}
 use Rattle.atl_state.proofs.ListLaws.{AreUnitLists-changed}
 use Rattle.atl_state.proofs.campaign.Campaign.set_money.Goals as goal
 

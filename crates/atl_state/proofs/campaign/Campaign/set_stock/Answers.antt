@@ -5,7 +5,7 @@ use Rattle.std.specs.FinMap.{FinMap}
 use Rattle.atl_tables.proofs.SumLaws.{put_same_err}
 use Rattle.atl_state.specs.Campaign.{CampaignValue, MarkedCampaign}
 use Rattle.atl_state.specs.contracts.campaign.Campaign.{the_view}
-use Rattle.atl_state.specs.declared.records.Region.{Region}
+use Rattle.atl_records.specs.declared.records.Region.{Region}
 use Rattle.atl_state.proofs.campaign.Campaign.set_stock.Goals.{in-Some, in-None}
 use Rattle.atl_state.proofs.campaign.Campaign.set_stock.Goals as goal
 

@@ -1,8 +1,8 @@
 use Rattle.std.proofs.Common.{◌≡◌, ◌+◌, ◌*◌, length, ap, ◌∙◌, refl, arith}
-use Rattle.atl_state.specs.Books.{no_amounts}
+use Rattle.atl_records.specs.Books.{no_amounts}
 use Rattle.atl_state.specs.FromRows.{put_amounts}
-use Rattle.atl_state.specs.Limits.{entry_count}
-use Rattle.atl_state.proofs.BookLaws.{IsGrid-no_amounts}
+use Rattle.atl_records.specs.Limits.{entry_count}
+use Rattle.atl_records.proofs.BookLaws.{IsGrid-no_amounts}
 use Rattle.atl_state.proofs.AmountMarkLaws.{none_marked}
 use Rattle.atl_state.proofs.FromRowLaws.{put-grid}
 use Rattle.atl_state.proofs.campaign.assembling.assembled.Goals as goal

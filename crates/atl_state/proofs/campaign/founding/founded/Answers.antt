@@ -5,7 +5,7 @@ use Rattle.atl_tables.specs.Changing.{Changing}
 use Rattle.atl_tables.specs.Sums.{mapped}
 use Rattle.atl_tables.proofs.MadeLaws.{entries-mapped}
 use Rattle.atl_tables.proofs.NameLaws.{pass_ok-IsUtf8}
-use Rattle.atl_state.specs.declared.records.Region.{Region}
+use Rattle.atl_records.specs.declared.records.Region.{Region}
 use Rattle.atl_state.specs.Campaign.{CampaignValue}
 use Rattle.atl_state.specs.Founding.{founded_region, founded_of}
 use Rattle.atl_state.specs.Good.{IsGood}

@@ -6,7 +6,7 @@ use Rattle.atl_tables.proofs.Maps.{entries-empty}
 use Rattle.atl_tables.proofs.MadeLaws.{entries-mapped, insert_last}
 use Rattle.atl_state.proofs.MadeOf.{IfOk-made}
 use Rattle.atl_state.specs.Founding.{founded_region}
-use Rattle.atl_state.specs.declared.records.Region.{Region}
+use Rattle.atl_records.specs.declared.records.Region.{Region}
 use Rattle.atl_state.proofs.campaign.founding.regions_made.Goals as goal
 
 pub loop-number-init : goal.loop-number-init

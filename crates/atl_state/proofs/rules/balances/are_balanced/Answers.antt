@@ -1,5 +1,5 @@
 use Rattle.std.proofs.Common.{rules}
-use Rattle.atl_state.specs.declared.books.Thing.TheVariants.{Item}
+use Rattle.atl_records.specs.declared.books.Thing.TheVariants.{Item}
 use Rattle.atl_state.proofs.AmountLaws.{all_balance}
 use Rattle.atl_state.proofs.rules.balances.are_balanced.Goals as goal
 

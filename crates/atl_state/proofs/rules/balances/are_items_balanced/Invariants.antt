@@ -1,7 +1,7 @@
 use Rattle.std.proofs.Common.{◌≡◌, ◌<◌, ℕ, pos}
-use Rattle.atl_state.specs.Books.{booked}
+use Rattle.atl_records.specs.Books.{booked}
 use Rattle.atl_state.specs.Totals.{total}
-use Rattle.atl_state.specs.declared.books.Thing.TheVariants.{Item}
+use Rattle.atl_records.specs.declared.books.Thing.TheVariants.{Item}
 use Rattle.atl_state.proofs.rules.balances.are_items_balanced.Given as goal
 
 abbrev pub invariant-loop-item : goal.invariant-loop-item

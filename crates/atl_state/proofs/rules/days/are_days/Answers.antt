@@ -1,8 +1,8 @@
 use Rattle.std.proofs.Common.{◌≤◌, ◌*◌, ℕ, rules}
 use borrow.Author.Tests.{tests}
-use Rattle.atl_state.specs.Good.{Every}
-use Rattle.atl_state.specs.Limits.{most_days}
-use Rattle.atl_state.specs.declared.records.Unit.{Unit}
+use Rattle.atl_records.specs.Every.{Every}
+use Rattle.atl_records.specs.Limits.{most_days}
+use Rattle.atl_records.specs.declared.records.Unit.{Unit}
 use Rattle.atl_state.proofs.RuleLaws.{every_by_all}
 use Rattle.atl_state.proofs.rules.days.are_days.Goals as goal
 

@@ -1,6 +1,6 @@
 use Rattle.std.proofs.Common.{◌≤◌, ◌*◌, ℕ, rules}
 use borrow.Author.Tests.{tests}
-use Rattle.atl_state.specs.Limits.{most_days}
+use Rattle.atl_records.specs.Limits.{most_days}
 use Rattle.atl_state.proofs.RuleLaws.{every_by_all}
 use Rattle.atl_state.proofs.rules.days.has_days.Goals as goal
 

@@ -3,10 +3,11 @@ use borrow.Author.Tests.{tests}
 use Rattle.std.proofs.lemmas.Bool.Decides.{Decides-like}
 use Rattle.std.specs.Ordering.{nat_cmp}
 use Rattle.std.specs.FinMap.{FinMap}
-use Rattle.atl_state.specs.declared.records.Faction.{Faction}
-use Rattle.atl_state.specs.declared.records.Unit.{Unit}
+use Rattle.atl_records.specs.declared.records.Faction.{Faction}
+use Rattle.atl_records.specs.declared.records.Unit.{Unit}
 use Rattle.atl_state.specs.Campaign.{CampaignValue, numbers_of}
-use Rattle.atl_state.specs.Good.{Every, GoneHaveNone, NoneAreGone}
+use Rattle.atl_records.specs.Every.{Every}
+use Rattle.atl_state.specs.Good.{GoneHaveNone, NoneAreGone}
 use Rattle.atl_state.proofs.RuleLaws.{every_by_all}
 use Rattle.atl_state.proofs.rules.gone.are_gone.Goals as goal
 

@@ -2,7 +2,7 @@ use Rattle.std.proofs.Common.{◌≡◌, None, sym, ap, ◌∙◌}
 use Rattle.std.specs.FinMap.{FinMap, get}
 use Rattle.std.specs.Ordering.{nat_cmp}
 use Rattle.atl_tables.proofs.TrackLaws.{fits-marked, remove_none}
-use Rattle.atl_state.specs.declared.records.Unit.{Unit}
+use Rattle.atl_records.specs.declared.records.Unit.{Unit}
 use Rattle.atl_state.specs.Roster.{Roster, gone_at}
 use Rattle.atl_state.proofs.IndexLaws.{nothing}
 use Rattle.atl_state.proofs.UnitLaws.{AreUnits-gone}

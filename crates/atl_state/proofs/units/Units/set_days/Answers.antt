@@ -5,7 +5,7 @@ use Rattle.std.proofs.lemmas.Result.{on_err_weaker}
 use Rattle.atl_tables.specs.Groups.{group_of}
 use Rattle.atl_tables.proofs.SumLaws.{put_same, put_same_err}
 use Rattle.atl_tables.proofs.TrackLaws.{fits-marked}
-use Rattle.atl_state.specs.Held.{Held}
+use Rattle.atl_records.specs.Held.{Held}
 use Rattle.atl_state.specs.Roster.{Roster}
 use Rattle.atl_state.proofs.SlotLaws.{on_err}
 use Rattle.atl_state.proofs.UnitLaws.{AreUnits-skill}

@@ -1,0 +1,49 @@
+-- What events are of, and the numbers and names of their faults.
+use Rattle.std.specs.Prelude.{ℕ, List, [], ◌∷◌, codes}
+use Rattle.atl_orders.specs.Verbs.{keyword}
+use Rattle.atl_records.specs.declared.event.EventVerb.{EventVerb}
+use Rattle.atl_records.specs.declared.event.EventVerb.TheVariants.{Order, Upkeep}
+use Rattle.atl_records.specs.declared.event.EventFault.{EventFault}
+use Rattle.atl_records.specs.declared.event.EventFault.TheVariants.{NotYours, NotHere, NotEnough, NoRoom, Guarded, NotOwner, NotInside, UnitLimit, AtSea, NoMen, WrongNumber, NotGuarding, NoSkill, NoMaterial, Complete, StructureLimit, NoWay, TooHeavy, NotComplete, NoCrew, NotLearning, CannotTeach, NoFee, NoMarket}
+
+abbrev pub event_keyword : EventVerb → List ℕ
+event_keyword (Order verb) = keyword verb
+event_keyword Upkeep = codes "UPKEEP"
+
+-- each fault by its number and its name
+abbrev pub event_fault : EventFault → ℕ × List ℕ
+event_fault NotYours = (1, codes "NotYours")
+event_fault NotHere = (2, codes "NotHere")
+event_fault NotEnough = (3, codes "NotEnough")
+event_fault NoRoom = (4, codes "NoRoom")
+event_fault Guarded = (5, codes "Guarded")
+event_fault NotOwner = (6, codes "NotOwner")
+event_fault NotInside = (7, codes "NotInside")
+event_fault UnitLimit = (8, codes "UnitLimit")
+event_fault AtSea = (9, codes "AtSea")
+event_fault NoMen = (10, codes "NoMen")
+event_fault WrongNumber = (11, codes "WrongNumber")
+event_fault NotGuarding = (12, codes "NotGuarding")
+event_fault NoSkill = (13, codes "NoSkill")
+event_fault NoMaterial = (14, codes "NoMaterial")
+event_fault Complete = (15, codes "Complete")
+event_fault StructureLimit = (16, codes "StructureLimit")
+event_fault NoWay = (17, codes "NoWay")
+event_fault TooHeavy = (18, codes "TooHeavy")
+event_fault NotComplete = (19, codes "NotComplete")
+event_fault NoCrew = (20, codes "NoCrew")
+event_fault NotLearning = (21, codes "NotLearning")
+event_fault CannotTeach = (22, codes "CannotTeach")
+event_fault NoFee = (23, codes "NoFee")
+event_fault NoMarket = (24, codes "NoMarket")
+
+abbrev pub event_fault_number : EventFault → ℕ
+event_fault_number fault = (event_fault fault).0
+
+abbrev pub event_fault_name : EventFault → List ℕ
+event_fault_name fault = (event_fault fault).1
+
+-- by their numbers
+abbrev pub event_faults : List EventFault
+event_faults =
+    NotYours ∷ NotHere ∷ NotEnough ∷ NoRoom ∷ Guarded ∷ NotOwner ∷ NotInside ∷ UnitLimit ∷ AtSea ∷ NoMen ∷ WrongNumber ∷ NotGuarding ∷ NoSkill ∷ NoMaterial ∷ Complete ∷ StructureLimit ∷ NoWay ∷ TooHeavy ∷ NotComplete ∷ NoCrew ∷ NotLearning ∷ CannotTeach ∷ NoFee ∷ NoMarket ∷ []

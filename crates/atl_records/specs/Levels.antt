@@ -1,0 +1,68 @@
+-- Levels of skills, and what units weigh and carry.
+use Rattle.std.specs.Prelude.{◌==◌, ◌+◌, ◌*◌, ℕ, zero, suc, Bool, Option, Some, None, nat_le, sum_by, if◌then◌else◌}
+use Rattle.std.specs.List.{slice_get}
+use Rattle.std.specs.Option.{option_map_or}
+use Rattle.std.specs.FinMap.{entries}
+use Rattle.atl_tables.specs.Limits.{last_level}
+use Rattle.atl_tables.specs.Worlds.{WorldValue}
+use Rattle.atl_records.specs.declared.levels.Measure.{Measure}
+use Rattle.atl_records.specs.declared.levels.Measure.TheVariants.{Weight, Carry}
+use Rattle.atl_records.specs.Held.{Held, amount_of}
+use Rattle.atl_records.specs.Limits.{level_days}
+
+-- ---- levels
+
+-- the greatest number up to n that passes a test, or 0
+abbrev pub greatest : (ℕ → Bool) → ℕ → ℕ
+greatest passes zero = 0
+greatest passes (suc n) = if passes (suc n) then suc n else greatest passes n
+
+-- the days of study that so many men need for a level: 30 for the first, 60 more for the second, and so on
+abbrev pub days_for : ℕ → ℕ → ℕ
+days_for level men = level_days * level * (level + 1) * men
+
+-- the greatest level for which the days of so many men are enough
+unfoldable pub level_of : ℕ → ℕ → ℕ
+level_of days men = if men == 0 then 0 else greatest (λ level. nat_le (days_for level men) days) last_level
+
+-- the level of people in a skill, by the days that they have studied it
+abbrev pub level_in : Held → (skill : ℕ) → ℕ
+level_in h skill = level_of (amount_of h.days skill) h.men
+
+-- in a skill that may not be named nobody has a level
+abbrev pub level_in_any : Held → Option ℕ → ℕ
+level_in_any h None = 0
+level_in_any h (Some skill) = level_in h skill
+
+-- ---- loads
+
+-- what one of an item weighs, and what it carries
+abbrev pub weight_of : WorldValue → ℕ → ℕ
+weight_of w item = option_map_or (λ x. x.weight) (slice_get w.items item) 0
+
+abbrev pub carry_of : WorldValue → ℕ → ℕ
+carry_of w item = option_map_or (λ x. x.carry) (slice_get w.items item) 0
+
+-- what one of an item weighs or carries, and the sum of amount times that over the items held
+abbrev pub measure_of : Measure → WorldValue → ℕ → ℕ
+measure_of Weight w item = weight_of w item
+measure_of Carry w item = carry_of w item
+
+abbrev pub measured_goods : Measure → WorldValue → Held → ℕ
+measured_goods m w h = sum_by (λ e. e.1 * measure_of m w e.0) (entries h.items)
+
+-- the sum of amount times weight over the items held
+abbrev pub goods_of : WorldValue → Held → ℕ
+goods_of w h = sum_by (λ e. e.1 * weight_of w e.0) (entries h.items)
+
+-- the sum of amount times carry over the items held
+abbrev pub carried_by_goods : WorldValue → Held → ℕ
+carried_by_goods w h = sum_by (λ e. e.1 * carry_of w e.0) (entries h.items)
+
+-- what a unit weighs
+abbrev pub load_of : WorldValue → Held → ℕ
+load_of w h = h.men * w.rules.man_weight + goods_of w h
+
+-- what a unit can carry
+abbrev pub carried_by : WorldValue → Held → ℕ
+carried_by w h = h.men * w.rules.man_carry + carried_by_goods w h

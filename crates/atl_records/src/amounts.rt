@@ -1,0 +1,29 @@
+//! How much of a thing a unit and a region hold.
+ghost use Rattle.std.specs.Prelude.{◌≡◌};
+ghost use Rattle.atl_records.specs.Amounts.{held, kept};
+
+use crate::books::Thing;
+use crate::holding::Holding;
+use crate::records::Region;
+
+/// What a unit holds: money, men, or pieces of an item.
+pub fn held(thing: Thing, holding: &Holding) -> u32
+    ensures { result ≡ held thing holding.now }
+{
+    match thing {
+        Thing::Money => holding.money(),
+        Thing::People => holding.men(),
+        Thing::Item(item) => holding.amount(u32::from(item)),
+    }
+}
+
+/// What a region holds: money, peasants, or pieces of an item in stock.
+pub fn kept(thing: Thing, region: &Region) -> u32
+    ensures { result ≡ kept thing region.now }
+{
+    match thing {
+        Thing::Money => region.money,
+        Thing::People => region.peasants,
+        Thing::Item(item) => region.stock(u32::from(item)),
+    }
+}

@@ -1,0 +1,230 @@
+//! What the books say: signed amounts by entry and thing.
+ghost use Rattle.std.specs.Prelude.{◌≡◌, ◌<◌, ◌≤◌, ◌+◌, ◌+ℤ◌, [], All, IfOk, length};
+ghost use Rattle.std.specs.Int.{w64};
+ghost use Rattle.std.specs.Int.RustNames.{FitsSigned};
+ghost use Rattle.atl_records.specs.Limits.{entry_count, most_things, possible_things};
+ghost use Rattle.atl_records.specs.Books.{entry_place, thing_place, thing_at, added_up, amount_in, booked, with_booked, no_amounts, amount_number, with_amount, amount_at};
+
+use crate::limits::{ENTRY_COUNT, FIRST_ITEM};
+use atl_tables::variants;
+use std::alloc::{AllocError, Global};
+use std::marker::Model;
+
+/// Why an amount of a thing came in or went. A move between holders is no entry. See docs/RULES.md, "Books".
+#[derive(Drop, Clone, Copy, Debug, PartialEq, Eq)]
+pub enum Entry {
+    /// The money and the peasants that the regions begin with.
+    Founding = 1,
+    /// The money and the man that a faction begins with.
+    Joining = 2,
+    /// The money that comes to the regions in each season.
+    Income = 3,
+    /// The money that units earn by work.
+    Wages = 4,
+    /// The money that goes for recruits.
+    Recruiting = 5,
+    /// The money that goes for study.
+    Study = 6,
+    /// The money that goes for the upkeep of men.
+    Upkeep = 7,
+    /// The money and the items of units that are removed, where nobody receives them.
+    Lost = 8,
+    /// The peasants that are born.
+    Births = 9,
+    /// The men that starve.
+    Starved = 10,
+    /// The men of a faction that quits.
+    Left = 11,
+    /// The items that are produced.
+    Made = 12,
+    /// The items that are used for building and producing.
+    Used = 13,
+    /// The money that goes for what is bought of markets.
+    Bought = 14,
+    /// The money that comes in for what is sold to markets.
+    Sold = 15,
+    /// The items that come into the stocks of markets.
+    Stocked = 16,
+}
+
+/// Of what amounts are booked.
+#[derive(Drop, Clone, Copy, Debug, PartialEq, Eq)]
+pub enum Thing {
+    /// The money of regions and units.
+    Money,
+    /// Peasants and men.
+    People,
+    /// The pieces of an item, by its place in the list of the world's items.
+    Item(u16),
+}
+
+impl Entry {
+    /// All entries, in the order of their numbers.
+    pub const ALL: [Entry; 16] = variants!(
+        Entry: Founding Joining Income Wages Recruiting Study Upkeep Lost Births Starved Left
+        Made Used Bought Sold Stocked
+    );
+
+    /// The entry's number, from 1.
+    pub fn number(self) -> u32
+        ensures place { result ≡ entry_place self + 1 }
+        ensures small { result ≤ entry_count }
+    {
+        self as u32
+    }
+
+    /// The place of the entry in a row.
+    fn place(self) -> usize
+        ensures place { result ≡ entry_place self }
+        ensures small { result < entry_count }
+    {
+        self.number() as usize - 1
+    }
+}
+
+impl Thing {
+    /// The thing's number: 0 of money, 1 of people, and then the items'.
+    pub fn number(self) -> u32
+        ensures place { result ≡ thing_place self }
+        ensures small { result < possible_things }
+    {
+        match self {
+            Thing::Money => 0,
+            Thing::People => 1,
+            Thing::Item(item) => FIRST_ITEM as u32 + u32::from(item),
+        }
+    }
+
+    /// The thing of a number.
+    pub fn of_number(number: usize) -> Thing
+        requires { number < most_things }
+        ensures { result ≡ thing_at number }
+    {
+        match number {
+            0 => Thing::Money,
+            1 => Thing::People,
+            _ => Thing::Item((number - FIRST_ITEM) as u16),
+        }
+    }
+
+    /// The place of the thing's row.
+    fn place(self) -> usize
+        ensures place { result ≡ thing_place self }
+        ensures small { result < possible_things }
+    {
+        self.number() as usize
+    }
+}
+
+/// The number of an amount: thing by thing, and of each thing entry by entry.
+pub fn amount_number(entry: Entry, thing: Thing) -> u32
+    ensures { result ≡ amount_number entry thing }
+{
+    ENTRY_COUNT as u32 * thing.number() + entry.number() - 1
+}
+
+/// The sum of a row of amounts.
+fn added_up(row: &[i64; ENTRY_COUNT]) -> i128
+    ensures { result ≡ added_up row.now }
+{
+    let mut sum = 0i128;
+    for amount in row {
+        sum += i128::from(*amount);
+    }
+    sum
+}
+
+/// What is booked of each thing under each entry: what came in so far less what went, so that the sum of a thing's entries
+/// is what all units and regions hold. See docs/RULES.md, "Books".
+#[derive(Drop)]
+pub struct Books {
+    rows: Vec<[i64; ENTRY_COUNT]>,
+}
+
+impl Model for Books {
+    ghost use Rattle.std.specs.Prelude.{◌≤◌, List, ℤ, length};
+    ghost use Rattle.atl_records.specs.Limits.{possible_things};
+
+    ghost Value = { List (List ℤ) };
+
+    ghost view = { λ a. a.rows.items };
+
+    ghost invariant = { λ a. length a.rows.items ≤ possible_things };
+}
+
+impl Books {
+    /// Books of so many things, all 0: money, people, and at most one item for each number of 16 bits. AllocError without
+    /// memory.
+    pub fn new(alloc: Global, things: usize) -> Result<Books, AllocError>
+        requires { things ≤ possible_things }
+        ensures { IfOk result (λ made. made ≡ no_amounts things) }
+    {
+        let mut rows = Vec::new(alloc);
+        for _made in 0..things {
+            rows.push([0; ENTRY_COUNT])?;
+        }
+        Ok(Books { rows })
+    }
+
+    /// Books of nothing. It takes no memory.
+    pub fn blank(alloc: Global) -> Books
+        ensures { result ≡ [] }
+    {
+        Books {
+            rows: Vec::new(alloc),
+        }
+    }
+
+    /// How many things there are: money, people, and the items of the world.
+    pub fn len(&self) -> usize
+        ensures value { result ≡ length self.now }
+        ensures few { length self.now ≤ possible_things }
+    {
+        self.rows.len()
+    }
+
+    /// What came in of a thing under an entry so far, less what went: money, men and peasants, or pieces of an item.
+    pub fn amount(&self, entry: Entry, thing: Thing) -> i64
+        requires { thing_place thing < length self.now }
+        ensures { result ≡ amount_in self.now entry thing }
+    {
+        self.rows[thing.place()][entry.place()]
+    }
+
+    /// The amount at the places of an entry and a thing.
+    pub fn amount_at(&self, entry: usize, thing: usize) -> i64
+        requires entry { entry < entry_count }
+        requires thing { thing < length self.now }
+        ensures { result ≡ amount_at self.now entry thing }
+    {
+        self.rows[thing][entry]
+    }
+
+    /// Puts an amount at the places of an entry and a thing. It takes no memory.
+    pub fn put_at(&mut self, entry: usize, thing: usize, amount: i64)
+        requires entry { entry < entry_count }
+        requires thing { thing < length self.old }
+        ensures { self.new ≡ with_amount self.old entry thing amount }
+    {
+        self.rows[thing][entry] = amount;
+    }
+
+    /// All that is booked of a thing.
+    pub fn sum(&self, thing: Thing) -> i128
+        requires { thing_place thing < length self.now }
+        ensures { result ≡ booked self.now thing }
+    {
+        added_up(&self.rows[thing.place()])
+    }
+
+    /// Adds an amount of a thing, of either sign, under an entry. It takes no memory.
+    pub fn book(&mut self, entry: Entry, thing: Thing, amount: i64)
+        requires there { thing_place thing < length self.old }
+        requires fits { FitsSigned w64 (amount_in self.old entry thing +ℤ amount) }
+        ensures { self.new ≡ with_booked self.old entry thing amount }
+    {
+        let row = thing.place();
+        let place = entry.place();
+        self.rows[row][place] += amount;
+    }
+}

@@ -1,0 +1,160 @@
+//! What becomes of the orders of a month. See docs/RULES.md, "Events".
+ghost use Rattle.std.specs.Prelude.{◌≡◌};
+
+use atl_orders::Verb;
+use atl_tables::{name_of, variants};
+use std::error::Error;
+use std::fmt;
+
+/// What an event tells of.
+#[derive(Drop, Clone, Copy, Debug, PartialEq, Eq)]
+pub enum EventVerb {
+    /// An order of a mailing, or the work of a unit without one.
+    Order(Verb),
+    /// The upkeep that all units pay.
+    Upkeep,
+}
+
+impl EventVerb {
+    ghost use Rattle.atl_records.specs.Events.{event_keyword};
+
+    /// The keyword in capitals, as reports print it.
+    pub fn keyword(self) -> &'static str
+        ensures { result.now ≡ event_keyword self }
+    {
+        match self {
+            EventVerb::Order(verb) => verb.keyword(),
+            EventVerb::Upkeep => "UPKEEP",
+        }
+    }
+}
+
+/// Why an order isn't carried out. Nothing of the campaign changes by it then. See docs/RULES.md, "Events".
+#[derive(Drop, Clone, Copy, Debug, PartialEq, Eq)]
+pub enum EventFault {
+    /// The unit isn't there, or is another faction's.
+    NotYours = 1,
+    /// The unit or structure isn't in the same region, or not inside the same structure.
+    NotHere = 2,
+    /// Less is held than the order asks for.
+    NotEnough = 3,
+    /// The receiver can't hold so much more.
+    NoRoom = 4,
+    /// A unit of another faction guards the region.
+    Guarded = 5,
+    /// The unit doesn't own the structure that it is inside.
+    NotOwner = 6,
+    /// The unit isn't inside a structure of the sort.
+    NotInside = 7,
+    /// No further unit may be formed.
+    UnitLimit = 8,
+    /// The unit is on water.
+    AtSea = 9,
+    /// The unit has no men.
+    NoMen = 10,
+    /// The number isn't that of the unit's faction.
+    WrongNumber = 11,
+    /// The unit doesn't guard.
+    NotGuarding = 12,
+    /// The unit's level is too low, or no skill makes the item.
+    NoSkill = 13,
+    /// The unit holds none of the material, or too little of it.
+    NoMaterial = 14,
+    /// The structure is complete.
+    Complete = 15,
+    /// No further structure may be begun.
+    StructureLimit = 16,
+    /// No region lies there that can be entered so.
+    NoWay = 17,
+    /// What is to be carried is more than can be.
+    TooHeavy = 18,
+    /// The ship isn't complete.
+    NotComplete = 19,
+    /// The sailors are too few.
+    NoCrew = 20,
+    /// No unit of the list learns in the region.
+    NotLearning = 21,
+    /// The teacher's level is above that of no unit that learns.
+    CannotTeach = 22,
+    /// The unit can't pay the fee.
+    NoFee = 23,
+    /// The region has no market for the item.
+    NoMarket = 24,
+}
+
+/// All of them, by their numbers.
+const FAULTS: [EventFault; 24] = variants!(
+    EventFault: NotYours NotHere NotEnough NoRoom Guarded NotOwner NotInside UnitLimit AtSea
+    NoMen WrongNumber NotGuarding NoSkill NoMaterial Complete StructureLimit NoWay TooHeavy
+    NotComplete NoCrew NotLearning CannotTeach NoFee NoMarket
+);
+
+impl EventFault {
+    ghost use Rattle.std.specs.Prelude.{find, ◌==◌};
+    ghost use Rattle.atl_records.specs.Events.{event_fault_number, event_fault_name, event_faults};
+
+    /// The fault's number, from 1 to 24.
+    pub fn number(self) -> u8
+        ensures { result ≡ event_fault_number self }
+    {
+        self as u8
+    }
+
+    /// The fault's name, as reports print it.
+    pub fn name(self) -> &'static str
+        ensures { result.now ≡ event_fault_name self }
+    {
+        name_of!(
+            self, EventFault: NotYours NotHere NotEnough NoRoom Guarded NotOwner NotInside
+            UnitLimit AtSea NoMen WrongNumber NotGuarding NoSkill NoMaterial Complete
+            StructureLimit NoWay TooHeavy NotComplete NoCrew NotLearning CannotTeach NoFee
+            NoMarket
+        )
+    }
+
+    /// The fault with this number.
+    pub fn of_number(number: u8) -> Option<EventFault>
+        ensures { result ≡ find (λ fault. event_fault_number fault == number) event_faults }
+    {
+        FAULTS
+            .iter()
+            .copied()
+            .find(|fault| fault.number() == number)
+    }
+}
+
+/// The number and the name, as `17 NoWay`.
+impl fmt::Display for EventFault {
+    fn fmt<W: fmt::Write>(&self, f: &mut fmt::Formatter<W>) -> fmt::Result {
+        write!(f, "{} {}", self.number(), self.name())
+    }
+}
+
+impl Error for EventFault {}
+
+/// What an order, or a unit's upkeep, came to.
+#[derive(Drop, Clone, Copy, Debug, PartialEq, Eq)]
+pub enum Outcome {
+    /// It was carried out. The number is the one that the order's rule names (a unit that was formed, or how many men, days,
+    /// pieces or how much money), or 0 where it names none.
+    Done(u64),
+    /// It was not, for the fault with this number (`EventFault::number`).
+    Fault(u8),
+    /// So many men starved.
+    Starved(u64),
+}
+
+/// What came of one order, or of a unit's upkeep.
+#[derive(Drop, Clone, Copy, Debug, PartialEq, Eq)]
+pub struct Event {
+    /// The number of the faction whose report tells of it: the one that wrote the order, or whose unit it is.
+    pub faction: u32,
+    /// The number of the unit that the order is for, or 0 for an alias without a unit.
+    pub unit: u32,
+    /// The line of the mailing, counted from 1, or 0 where no line orders it.
+    pub line: u32,
+    /// The order's verb, or upkeep.
+    pub verb: EventVerb,
+    /// What came of it.
+    pub outcome: Outcome,
+}

@@ -1,0 +1,226 @@
+//! What a unit holds.
+ghost use Rattle.std.specs.Prelude.{◌≡◌, ◌≤◌, ℕ, OnOk, OnErr, IsOk, false};
+ghost use Rattle.std.specs.FinMap as map;
+ghost use Rattle.atl_records.specs.Limits.{men_limit, holding_limit};
+ghost use Rattle.atl_records.specs.Held.{amount_of, with_amount_of, AreAmounts};
+
+use atl_tables::{Entries, Numbered, Text, let_go};
+use std::alloc::AllocError;
+use std::marker::Model;
+
+/// A unit's name, men, money, guard flag, items and days of study. It has at most MEN_LIMIT men, and at most HOLDING_LIMIT
+/// of money and pieces of each item. Days of study are kept over all men. See docs/RULES.md, "Limits" and "Levels and
+/// loads".
+pub struct Holding {
+    name: Text,
+    men: u32,
+    money: u32,
+    guard: bool,
+    // How many pieces of each item are held, where they are not 0.
+    items: Numbered<u32>,
+    // The days of each skill over all men, where they are not 0.
+    days: Numbered<u32>,
+}
+
+impl Drop for Holding {
+    fn drop(self) {
+        let_go!(self: Holding { name, men, money, guard, items, days });
+    }
+}
+
+impl Model for Holding {
+    ghost use Rattle.std.specs.Prelude.{◌≤◌};
+    ghost use Rattle.atl_records.specs.Held.{Held, held_code, IsHolding};
+
+    ghost Value = { Held };
+
+    ghost coded = { held_code };
+
+    ghost view = { λ a. record { name = a.name; men = a.men; money = a.money; guard = a.guard; items = a.items; days = a.days } };
+
+    ghost invariant = { λ a. IsHolding (record { name = a.name; men = a.men; money = a.money; guard = a.guard; items = a.items; days = a.days }) };
+}
+
+/// The amount under a number, 0 where there is none.
+pub fn amount_under(amounts: &Numbered<u32>, number: u32) -> u32
+    ensures { result ≡ amount_of amounts.now number }
+{
+    match amounts.get(number) {
+        Some(amount) => *amount,
+        None => 0,
+    }
+}
+
+/// Puts an amount under a number, or takes away what stood there, where it is 0, which takes no memory. Without memory
+/// nothing changes.
+pub fn put_amount(amounts: &mut Numbered<u32>, number: u32, amount: u32) -> Result<(), AllocError>
+    ensures ok { OnOk result (amounts.new ≡ with_amount_of amounts.old number amount) }
+    ensures err { OnErr result (amounts.new ≡ amounts.old) }
+    ensures none { amount ≡ 0 → IsOk result }
+{
+    if amount == 0 {
+        amounts.remove(number);
+        return Ok(());
+    }
+    amounts.insert(number, amount)
+}
+
+impl Holding {
+    /// A holding without the guard flag, of at most MEN_LIMIT men and HOLDING_LIMIT of money, with the pieces of each item and
+    /// the days of each skill over all men, where they are not 0. It takes no memory.
+    pub fn new(
+        name: Text,
+        men: u32,
+        money: u32,
+        items: Numbered<u32>,
+        days: Numbered<u32>,
+    ) -> Holding
+        requires few { men ≤ men_limit }
+        requires fits { money ≤ holding_limit }
+        requires items { AreAmounts items }
+        ensures { result ≡ record { name = name; men = men; money = money; guard = false; items = items; days = days } }
+    {
+        Holding {
+            name,
+            men,
+            money,
+            guard: false,
+            items,
+            days,
+        }
+    }
+
+    /// The name of the unit that is shown.
+    pub fn name(&self) -> &Text
+        ensures { result.now ≡ self.now.name }
+    {
+        &self.name
+    }
+
+    /// How many men there are, from 0 to MEN_LIMIT.
+    pub fn men(&self) -> u32
+        ensures value { result ≡ self.now.men }
+        ensures fits { self.now.men ≤ men_limit }
+    {
+        self.men
+    }
+
+    /// How much money there is, from 0 to HOLDING_LIMIT.
+    pub fn money(&self) -> u32
+        ensures value { result ≡ self.now.money }
+        ensures fits { self.now.money ≤ holding_limit }
+    {
+        self.money
+    }
+
+    /// Whether the guard flag is set. Only a unit with men guards by it.
+    pub fn guard(&self) -> bool
+        ensures { result ≡ self.now.guard }
+    {
+        self.guard
+    }
+
+    /// How many pieces of an item are held, from 0 to HOLDING_LIMIT.
+    pub fn amount(&self, item: u32) -> u32
+        ensures { result ≡ amount_of self.now.items item }
+    {
+        amount_under(&self.items, item)
+    }
+
+    /// How many pieces are held of each item, where they are not 0, with the items' numbers in rising order.
+    pub fn items(&self) -> Entries<'_, u32>
+        ensures { result ≡ map.entries self.now.items }
+    {
+        self.items.iter()
+    }
+
+    /// The days of study over all men, where they are not 0, with the skills' numbers in rising order.
+    pub fn days(&self) -> Entries<'_, u32>
+        ensures { result ≡ map.entries self.now.days }
+    {
+        self.days.iter()
+    }
+
+    /// The days of study of a skill over all men, 0 where it was never studied.
+    pub fn days_of(&self, skill: u32) -> u32
+        ensures { result ≡ amount_of self.now.days skill }
+    {
+        amount_under(&self.days, skill)
+    }
+
+    /// Sets the name. It takes no memory.
+    pub fn set_name(&mut self, name: Text)
+        ensures { self.new ≡ record self.old { name = name } }
+    {
+        self.name = name;
+    }
+
+    /// Sets the number of men, at most MEN_LIMIT. The days of study stay. It takes no memory.
+    pub fn set_men(&mut self, men: u32)
+        requires { men ≤ men_limit }
+        ensures { self.new ≡ record self.old { men = men } }
+    {
+        self.men = men;
+    }
+
+    /// Sets how many pieces of an item are held, at most HOLDING_LIMIT. Where they are 0 the item is listed no more, which
+    /// takes no memory. AllocError without memory, and then nothing changes.
+    pub fn set_amount(&mut self, item: u32, amount: u32) -> Result<(), AllocError>
+        requires { amount ≤ holding_limit }
+        ensures ok { OnOk result (self.new ≡ record self.old { items = with_amount_of self.old.items item amount }) }
+        ensures err { OnErr result (self.new ≡ self.old) }
+        ensures none { amount ≡ 0 → IsOk result }
+    {
+        put_amount(&mut self.items, item, amount)
+    }
+
+    /// Sets the days of study of a skill over all men. Where they are 0 the skill is listed no more, which takes no memory.
+    /// AllocError without memory, and then nothing changes.
+    pub fn set_days(&mut self, skill: u32, days: u32) -> Result<(), AllocError>
+        ensures ok { OnOk result (self.new ≡ record self.old { days = with_amount_of self.old.days skill days }) }
+        ensures err { OnErr result (self.new ≡ self.old) }
+        ensures none { days ≡ 0 → IsOk result }
+    {
+        put_amount(&mut self.days, skill, days)
+    }
+
+    /// Puts pieces of an item in the place of those held, as rows say them. Without memory nothing changes.
+    pub fn put_item(&mut self, item: u32, amount: u32) -> Result<(), AllocError>
+        requires { (1 ≤ amount) × (amount ≤ holding_limit) }
+        ensures ok { OnOk result (self.new ≡ record self.old { items = map.insert self.old.items item amount }) }
+        ensures err { OnErr result (self.new ≡ self.old) }
+    {
+        self.items.insert(item, amount)
+    }
+
+    /// Puts days of a skill over all men in the place of those studied, as rows say them, 0 too. Without memory nothing changes.
+    pub fn put_days(&mut self, skill: u32, days: u32) -> Result<(), AllocError>
+        ensures ok { OnOk result (self.new ≡ record self.old { days = map.insert self.old.days skill days }) }
+        ensures err { OnErr result (self.new ≡ self.old) }
+    {
+        self.days.insert(skill, days)
+    }
+
+    /// Sets the money, at most HOLDING_LIMIT. It takes no memory.
+    pub fn set_money(&mut self, money: u32)
+        requires { money ≤ holding_limit }
+        ensures { self.new ≡ record self.old { money = money } }
+    {
+        self.money = money;
+    }
+
+    /// Sets or clears the guard flag. It takes no memory.
+    pub fn set_guard(&mut self, guard: bool)
+        ensures { self.new ≡ record self.old { guard = guard } }
+    {
+        self.guard = guard;
+    }
+
+    /// Puts other days of study in the place of all that there are: of each skill over all men, where they are not 0. It takes
+    /// no memory.
+    pub fn set_all_days(&mut self, days: Numbered<u32>)
+        ensures { self.new ≡ record self.old { days = days } }
+    {
+        self.days = days;
+    }
+}

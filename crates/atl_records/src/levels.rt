@@ -1,0 +1,154 @@
+//! Levels of skills, and what units weigh and carry.
+ghost use Rattle.std.specs.Prelude.{◌≡◌, ◌≤◌, ◌*◌, nat_le};
+ghost use Rattle.atl_tables.specs.Limits.{last_level, most_items, most_weight};
+ghost use Rattle.atl_records.specs.Limits.{most_u32};
+ghost use Rattle.atl_records.specs.Levels.{days_for, level_in, level_in_any, level_of, weight_of, carry_of, goods_of, carried_by_goods, load_of, carried_by, measure_of, measured_goods};
+
+use crate::holding::Holding;
+use crate::limits::LEVEL_DAYS;
+use atl_tables::World;
+use atl_tables::limits::LAST_LEVEL;
+
+/// Whether the days of study of so many men are enough for a level, which is at most 5.
+fn is_reached(level: u32, days: u32, men: u32) -> bool
+    requires { level ≤ last_level }
+    ensures { result ≡ nat_le (days_for level men) days }
+{
+    u64::from(LEVEL_DAYS * level * (level + 1)) * u64::from(men) <= u64::from(days)
+}
+
+/// The level of so many men with so many days of study among them: the greatest number `n` from 0 to 5 with
+/// `15 * n * (n + 1) * men` at most the days, and 0 without men. It takes no memory. See docs/RULES.md, "Levels and
+/// loads".
+#[tactic(auto, unfolding(crate::specs::Levels::level_of))]
+pub fn level(days: u32, men: u32) -> u32
+    ensures value { result ≡ level_of days men }
+    ensures small { result ≤ last_level }
+{
+    if men == 0 {
+        return 0;
+    }
+    let mut level = LAST_LEVEL;
+    while !is_reached(level, days, men) {
+        level -= 1;
+    }
+    level
+}
+
+/// The level of people in a skill, by the days that they have studied it. It takes no memory. See docs/RULES.md, "Levels and
+/// loads".
+pub fn level_in(holding: &Holding, skill: u16) -> u32
+    ensures value { result ≡ level_in holding.now skill }
+    ensures small { result ≤ last_level }
+{
+    level(holding.days_of(u32::from(skill)), holding.men())
+}
+
+/// The level of people in a skill that may not be named: in none nobody has a level. It takes no memory.
+pub fn level_in_any(holding: &Holding, skill: Option<u16>) -> u32
+    ensures value { result ≡ level_in_any holding.now skill }
+    ensures small { result ≤ last_level }
+{
+    match skill {
+        Some(skill) => level_in(holding, skill),
+        None => 0,
+    }
+}
+
+/// What one of an item weighs; an item that the world has not weighs nothing.
+fn weight(world: &World, item: u32) -> u32
+    ensures value { result ≡ weight_of world.now item }
+    ensures small { result ≤ most_weight }
+    ensures far { most_items ≤ item → result ≡ 0 }
+{
+    match world.items().get(item as usize) {
+        Some(found) => found.weight,
+        None => 0,
+    }
+}
+
+/// What one of an item carries; an item that the world has not carries nothing.
+fn carriage(world: &World, item: u32) -> u32
+    ensures value { result ≡ carry_of world.now item }
+    ensures small { result ≤ most_weight }
+    ensures far { most_items ≤ item → result ≡ 0 }
+{
+    match world.items().get(item as usize) {
+        Some(found) => found.carry,
+        None => 0,
+    }
+}
+
+/// What so many of an item weigh or carry.
+fn times(amount: u32, each: u32) -> u64
+    requires { each ≤ most_weight }
+    ensures value { result ≡ amount * each }
+    ensures small { result ≤ most_u32 * most_weight }
+{
+    u64::from(amount) * u64::from(each)
+}
+
+/// What is summed over goods.
+#[derive(Drop, Clone, Copy)]
+enum Measure {
+    /// What they weigh.
+    Weight,
+    /// What they carry.
+    Carry,
+}
+
+/// What one of an item weighs or carries.
+fn measured(world: &World, item: u32, of: Measure) -> u32
+    ensures value { result ≡ measure_of of world.now item }
+    ensures small { result ≤ most_weight }
+    ensures far { most_items ≤ item → result ≡ 0 }
+{
+    match of {
+        Measure::Weight => weight(world, item),
+        Measure::Carry => carriage(world, item),
+    }
+}
+
+/// What a unit's goods weigh or carry: the sum of amount times weight, or carry, over the items that it holds.
+fn measured_goods(world: &World, holding: &Holding, of: Measure) -> u64
+    ensures value { result ≡ measured_goods of world.now holding.now }
+    ensures small { result ≤ most_u32 * most_weight * most_items }
+{
+    let mut sum = 0;
+    for (item, amount) in holding.items() {
+        sum += times(*amount, measured(world, item, of));
+    }
+    sum
+}
+
+/// The weight of a unit's goods: the sum of amount times weight over the items that it holds. Money weighs nothing. It
+/// takes no memory. See docs/RULES.md, "Levels and loads".
+pub fn goods(world: &World, holding: &Holding) -> u64
+    ensures value { result ≡ goods_of world.now holding.now }
+    ensures small { result ≤ most_u32 * most_weight * most_items }
+{
+    measured_goods(world, holding, Measure::Weight)
+}
+
+/// What a unit's goods carry: the sum of amount times carry over the items that it holds.
+fn carried_by_goods(world: &World, holding: &Holding) -> u64
+    ensures value { result ≡ carried_by_goods world.now holding.now }
+    ensures small { result ≤ most_u32 * most_weight * most_items }
+{
+    measured_goods(world, holding, Measure::Carry)
+}
+
+/// The weight of a unit: that of its men and of its goods. It takes no memory. See docs/RULES.md, "Levels and loads".
+pub fn load(world: &World, holding: &Holding) -> u64
+    ensures { result ≡ load_of world.now holding.now }
+{
+    u64::from(holding.men()) * u64::from(world.rules().man_weight) + goods(world, holding)
+}
+
+/// The weight of goods that a unit can carry: what its men and its goods carry. It takes no memory. See docs/RULES.md,
+/// "Levels and loads".
+pub fn carry(world: &World, holding: &Holding) -> u64
+    ensures { result ≡ carried_by world.now holding.now }
+{
+    u64::from(holding.men()) * u64::from(world.rules().man_carry) + carried_by_goods(world, holding)
+}

@@ -1,0 +1,106 @@
+//! What a campaign consists of.
+use crate::holding::{Holding, amount_under};
+use atl_tables::{Numbered, Text, let_go};
+use std::error::Error;
+use std::fmt;
+
+/// A player's faction. Names and pass texts keep their rules (docs/RULES.md, "Names and pass texts").
+pub struct Faction {
+    /// From 1 to atl_orders' LAST_FACTION, in the order of joining.
+    pub number: u32,
+    /// The name that it joined under, which no other faction ever takes.
+    pub joined_as: Text,
+    /// The name that is shown.
+    pub name: Text,
+    /// The pass text that its player sends with each command.
+    pub pass: Text,
+    /// Whether it has no unit left. It never comes back.
+    pub gone: bool,
+}
+
+impl Drop for Faction {
+    fn drop(self) {
+        let_go!(self: Faction { number, joined_as, name, pass, gone });
+    }
+}
+
+/// People of one faction in one place, who share what they hold.
+pub struct Unit {
+    /// The number of its faction.
+    pub faction: u32,
+    /// The number of the region where it stands.
+    pub region: u32,
+    /// The number of the structure that it is inside, or 0 where it is inside none.
+    pub structure: u32,
+    /// Its name, men, money, items and days of study.
+    pub holding: Holding,
+}
+
+impl Drop for Unit {
+    fn drop(self) {
+        let_go!(self: Unit { faction, region, structure, holding });
+    }
+}
+
+/// What a region holds besides its units.
+pub struct Region {
+    /// The people that are of no faction, from 0 to atl_tables' MOST_AMOUNT.
+    pub peasants: u32,
+    /// The money that no unit has, from 0 to atl_tables' MOST_AMOUNT.
+    pub money: u32,
+    /// The stocks of its markets: how many pieces of each item, where they are not 0, up to the limit of the item's market.
+    pub stocks: Numbered<u32>,
+}
+
+impl Drop for Region {
+    fn drop(self) {
+        let_go!(self: Region { peasants, money, stocks });
+    }
+}
+
+impl Region {
+    ghost use Rattle.std.specs.Prelude.{◌≡◌};
+    ghost use Rattle.atl_records.specs.Held.{amount_of};
+
+    /// How many pieces of an item there are in stock, 0 where there is no market for it.
+    pub fn stock(&self, item: u32) -> u32
+        ensures { result ≡ amount_of self.now.stocks item }
+    {
+        amount_under(&self.stocks, item)
+    }
+}
+
+/// A building or a ship. See docs/RULES.md, "Owners".
+#[derive(Drop)]
+pub struct Structure {
+    /// The place of its kind in the list of the world's kinds.
+    pub kind: u16,
+    /// The name that is shown.
+    pub name: Text,
+    /// The number of the region where it stands.
+    pub region: u32,
+    /// How much of it is built, from 1 to the size of its kind, with which it is complete.
+    pub done: u32,
+    /// The number of the unit inside that owns it, or 0 where no unit is inside.
+    pub owner: u32,
+}
+
+/// Why a faction does not join. The campaign is then as it was, and nothing is marked. See docs/RULES.md, "Joining".
+#[derive(Drop, Clone, Copy, Debug, PartialEq, Eq)]
+pub enum JoinFault {
+    /// Some faction joined under this name.
+    NameTaken,
+    /// The last faction has joined, MOST_UNITS units stand, or the last unit's number is given.
+    Full,
+    /// There is no memory for the faction or its unit.
+    Memory,
+}
+
+/// Its name.
+impl fmt::Display for JoinFault {
+    fn fmt<W: fmt::Write>(&self, f: &mut fmt::Formatter<W>) -> fmt::Result {
+        write!(f, "{self:?}")
+    }
+}
+
+impl Error for JoinFault {}
