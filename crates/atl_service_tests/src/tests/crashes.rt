@@ -73,13 +73,14 @@ fn note_stages(
 
 /// What a course comes to where no disk stops.
 fn planned(alloc: Global, course: &Course) -> Result<Plan, Fail> {
-    let mut plan = Plan {
+    let commands = commands_of(alloc, course.steps)?;
+    let mut stages = Vec::new(alloc);
+    note_stages(alloc, course, &commands, &mut stages)?;
+    Ok(Plan {
         course: *course,
-        commands: commands_of(alloc, course.steps)?,
-        stages: Vec::new(alloc),
-    };
-    note_stages(alloc, course, &plan.commands, &mut plan.stages)?;
-    Ok(plan)
+        commands,
+        stages,
+    })
 }
 
 fn is_done(answer: &Answer) -> bool {
