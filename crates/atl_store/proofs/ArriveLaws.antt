@@ -10,19 +10,19 @@ use Rattle.sqlite.specs.Order.{Row}
 use Rattle.sqlite.specs.Effect.{Database}
 use Rattle.sqlite_rules.specs.Lists.{Has}
 use Rattle.atl_state.specs.Campaign.{CampaignValue}
-use Rattle.atl_records.specs.Books.{amount_in, entry_place, thing_place}
+use Rattle.atl_records.specs.Books.{amount_at, amount_in, entry_place, thing_place}
 use Rattle.atl_records.specs.declared.books.Entry.{Entry}
 use Rattle.atl_records.specs.declared.books.Thing.{Thing}
 use Rattle.atl_records.specs.declared.records.Unit.{Unit}
 use Rattle.atl_store.specs.declared.rows.has.Sort.{Sort}
 use Rattle.atl_store.specs.Sets.{Set, Is, put}
-use Rattle.atl_store.specs.Tables.{books_table}
+use Rattle.atl_store.specs.Tables.{Books, books_table}
 use Rattle.atl_store.specs.Shown.{int, books_key, books_row}
 use Rattle.atl_store.specs.Rows.{RowsOf, HasRowsOf, BooksRowsOf, things_of}
 use Rattle.atl_store.specs.Lines.{amount_lines}
 use Rattle.atl_store.specs.Arriving.{settled, Settles}
 use Rattle.atl_store.specs.Statements.{deletion, upsert}
-use Rattle.atl_store.specs.OwnStatements.{OfAmount, puts_amount, drops_amount, OfChange, changes_row, puts_books, drops_books}
+use Rattle.atl_store.specs.OwnStatements.{OfAmount, puts_amount, drops_amount, OfChange, changes_row, puts_row, drops_row}
 use Rattle.atl_store.proofs.EntryLaws.{same_number}
 use Rattle.atl_store.proofs.GoodsLaws.{optional_has, has_optional}
 use Rattle.atl_store.proofs.LedgerLaws.{two_same, differs_zero, is_differing, amount_is}
@@ -142,8 +142,14 @@ module _ (c : CampaignValue) (e : Entry) (t : Thing) (n k : ℕ) (entry : n ≡ 
   amount_taken zero = rw (entry, thing) (drops_amount zero)
 
 pub amount_changes : (c : CampaignValue) (e : Entry) (t : Thing) (sql : List ℕ) (params : Row) → OfAmount c e t sql params → OfChange c sql params
-amount_changes c e t sql params (puts_amount some) = changes_row (puts_books (e, t, some, refl))
-amount_changes c e t sql params (drops_amount zero) = drops_books e t zero
+amount_changes c e t sql params (puts_amount some) = changes_row (puts_row Books (λ own. (e, t, some, refl)))
+amount_changes c e t sql params (drops_amount zero) = drops_row Books (
+  refl,
+  λ own row of key.
+      let keys = two_same (entry_place of.0 + 1) (thing_place of.1) (entry_place e + 1) (thing_place t) (ap (take 2) (sym of.3) ∙ key) in
+      let entry : entry_place of.0 ≡ entry_place e = omega (arith, keys.0) in
+      of.2 (ap (λ n. amount_at c.books n (thing_place of.1)) entry ∙ ap (amount_at c.books (entry_place e)) keys.1 ∙ zero),
+)
 
 -- the row of an amount is put, or taken out where the amount is 0
 module _ (c : CampaignValue) (e : Entry) (t : Thing) (n k : ℕ) (entry : n ≡ entry_place e + 1) (thing : k ≡ thing_place t) (old new : Database) where

@@ -1,5 +1,7 @@
 -- The texts that make the tables, and what each does.
-use Rattle.std.proofs.Common.{◌≡◌, ◌++◌, ◌∷◌, ℕ, false, List, [], Result, Ok, refl, sym, subst, inl, inr}
+use Rattle.std.proofs.Common.{◌≡◌, ◌++◌, ◌∷◌, ◌+◌, ◌<◌, ℕ, false, cond, nat_eq, List, [], Result, Ok, get_or, length, map, refl, sym, ap, ◌∙◌, subst, zero-add}
+use Rattle.std.proofs.lemmas.List.{get_or-map, length-map}
+use Rattle.std.proofs.lemmas.List.FromFn.{get_or-range_with_len}
 use Rattle.std.specs.Borrow.{MutBor}
 use Rattle.sqlite_rules.specs.Lists.{Has}
 use Rattle.sqlite_trees.specs.declared.store.Store.{Ghosts}
@@ -15,14 +17,14 @@ use Rattle.sqlite.specs.Table.{Table}
 use Rattle.sqlite.specs.Command.TheVariants.{CreateTable}
 use Rattle.sqlite.specs.State.{State, Executes}
 use Rattle.sqlite.proofs.Callers.{IsPlain, command_of, statement_of}
-use Rattle.atl_store.specs.Tables.{campaign_table, faction_table, region_table, unit_table, has_table, structure_table, mail_table, report_table, books_table, market_table, first_tables}
-use Rattle.atl_store.specs.Making.{Extends}
+use Rattle.atl_store.specs.Tables.{Part, Own, all_parts, creation_of, table_count, table_of}
 use Rattle.atl_store.specs.Writes.{Writes, Runs}
 use Rattle.atl_store.specs.OwnStatements.{Only, Creations}
-use Rattle.atl_store.specs.Statements.{creation, creations}
-use Rattle.atl_store.proofs.Made.{Creates}
+use Rattle.atl_store.proofs.Made.{Creates, Extends}
 use Rattle.atl_store.proofs.CreateLaws.{creates}
-use Rattle.atl_store.proofs.MakingLaws.{extends}
+use Rattle.atl_store.proofs.ListLaws.{has_map}
+use Rattle.atl_store.proofs.MakingLaws.{extends, so_many}
+use Rattle.atl_store.proofs.PartLaws.{all_among, tree_of}
 use Rattle.atl_store.proofs.WriteLaws.{weaker, among_only}
 
 -- a text makes a table, which is the last of the schema then
@@ -44,59 +46,54 @@ makes_table before after table text is old new count has ran =
     subst (λ s. Creates before s table.tree old.now new.now) is.after_is (subst (λ tree. Creates before (created before (record table { tree = 0 })) tree old.now new.now) is.tree_is
     (creates before (record table { tree = 0 }) text old new count is.command is.whole is.defines is.plain uncounted has ran))
 
+-- ---- of each part
+
+-- so many parts come before it
+abbrev place_among : Part → List Part → ℕ
+place_among part [] = 0
+place_among part (p ∷ parts) = cond (nat_eq (tree_of part) (tree_of p)) 0 (place_among part parts + 1)
+
+abbrev place : Part → ℕ
+place part = place_among part all_parts
+
+-- its text makes its table, behind those of the parts before it
+pub is_made : (part : Part) → IsCreate (so_many (place part)) (so_many (place part + 1)) (table_of part) (creation_of part)
+unfolding understood everything
+is_made Own = record { command = refl; whole = refl; defines = refl; plain = (refl, refl); after_is = refl; tree_is = refl; last = refl; uncounted = refl }
+is_made part = record { command = refl; whole = refl; defines = refl; plain = (refl, refl); after_is = refl; tree_is = refl; last = refl; uncounted = refl }
+
+placed : (i : ℕ) (d : Part) → i < length all_parts → place (get_or all_parts i d) ≡ i
+placed i d small = sym (get_or-map place all_parts i d 0 small) ∙ get_or-range_with_len 0 (length all_parts) i 0 small ∙ zero-add i
+
+made_at : (i : ℕ) (d : Part) → i < length all_parts → IsCreate (so_many i) (so_many (i + 1)) (table_of (get_or all_parts i d)) (creation_of (get_or all_parts i d))
+made_at i d small =
+    let part = get_or all_parts i d in
+    subst (λ n. IsCreate (so_many n) (so_many (n + 1)) (table_of part) (creation_of part)) (placed i d small) (is_made part)
+
+-- ---- of all, one after another
+
 -- the text is one of them, and makes the one more table
 abbrev pub Makes : Schema → Schema → List ℕ → Type 1
-Makes before after text = Has creations text × ((old new : State) → Runs text [] old new → Extends before after old new)
+Makes before after text = Has (map creation_of all_parts) text × ((old new : State) → Runs text [] old new → Extends before after old new)
 
-makes : (before after : Schema) (table : Table) (text : List ℕ) → Has creations text → IsCreate before after table text → Makes before after text
+makes : (before after : Schema) (table : Table) (text : List ℕ) → Has (map creation_of all_parts) text → IsCreate before after table text → Makes before after text
 makes before after table text listed is = (listed, run)
   where
     run : (old new : State) → Runs text [] old new → Extends before after old new
     run old new (inside, count, h) = extends before after table old new inside h.1.mode is.last (λ has. makes_table before after table text is old new count has h.0)
 
-pub makes_campaign : Makes (first_tables 0 0) (first_tables 1 0) (creation 0)
-unfolding understood everything
-makes_campaign = makes (first_tables 0 0) (first_tables 1 0) campaign_table (creation 0) (inl refl) (record { command = refl; whole = refl; defines = refl; plain = (refl, refl); after_is = refl; tree_is = refl; last = refl; uncounted = refl })
+-- elements with these texts
+module _ {X : Type 0} (text : X → List ℕ) (xs : List X) (all : map text xs ≡ map creation_of all_parts) where
+  pub as_many : length xs ≡ table_count
+  as_many = sym (length-map xs text) ∙ ap length all
 
-pub makes_faction : Makes (first_tables 1 0) (first_tables 2 1) (creation 1)
-unfolding understood everything
-makes_faction = makes (first_tables 1 0) (first_tables 2 1) faction_table (creation 1) (inr (inl refl)) (record { command = refl; whole = refl; defines = refl; plain = (refl, refl); after_is = refl; tree_is = refl; last = refl; uncounted = refl })
-
-pub makes_region : Makes (first_tables 2 1) (first_tables 3 1) (creation 2)
-unfolding understood everything
-makes_region = makes (first_tables 2 1) (first_tables 3 1) region_table (creation 2) (inr (inr (inl refl))) (record { command = refl; whole = refl; defines = refl; plain = (refl, refl); after_is = refl; tree_is = refl; last = refl; uncounted = refl })
-
-pub makes_unit : Makes (first_tables 3 1) (first_tables 4 1) (creation 3)
-unfolding understood everything
-makes_unit = makes (first_tables 3 1) (first_tables 4 1) unit_table (creation 3) (inr (inr (inr (inl refl)))) (record { command = refl; whole = refl; defines = refl; plain = (refl, refl); after_is = refl; tree_is = refl; last = refl; uncounted = refl })
-
-pub makes_has : Makes (first_tables 4 1) (first_tables 5 2) (creation 4)
-unfolding understood everything
-makes_has = makes (first_tables 4 1) (first_tables 5 2) has_table (creation 4) (inr (inr (inr (inr (inl refl))))) (record { command = refl; whole = refl; defines = refl; plain = (refl, refl); after_is = refl; tree_is = refl; last = refl; uncounted = refl })
-
-pub makes_structure : Makes (first_tables 5 2) (first_tables 6 2) (creation 5)
-unfolding understood everything
-makes_structure = makes (first_tables 5 2) (first_tables 6 2) structure_table (creation 5) (inr (inr (inr (inr (inr (inl refl)))))) (record { command = refl; whole = refl; defines = refl; plain = (refl, refl); after_is = refl; tree_is = refl; last = refl; uncounted = refl })
-
-pub makes_mail : Makes (first_tables 6 2) (first_tables 7 2) (creation 6)
-unfolding understood everything
-makes_mail = makes (first_tables 6 2) (first_tables 7 2) mail_table (creation 6) (inr (inr (inr (inr (inr (inr (inl refl))))))) (record { command = refl; whole = refl; defines = refl; plain = (refl, refl); after_is = refl; tree_is = refl; last = refl; uncounted = refl })
-
-pub makes_report : Makes (first_tables 7 2) (first_tables 8 2) (creation 7)
-unfolding understood everything
-makes_report = makes (first_tables 7 2) (first_tables 8 2) report_table (creation 7) (inr (inr (inr (inr (inr (inr (inr (inl refl)))))))) (record { command = refl; whole = refl; defines = refl; plain = (refl, refl); after_is = refl; tree_is = refl; last = refl; uncounted = refl })
-
-pub makes_books : Makes (first_tables 8 2) (first_tables 9 3) (creation 8)
-unfolding understood everything
-makes_books = makes (first_tables 8 2) (first_tables 9 3) books_table (creation 8) (inr (inr (inr (inr (inr (inr (inr (inr (inl refl))))))))) (record { command = refl; whole = refl; defines = refl; plain = (refl, refl); after_is = refl; tree_is = refl; last = refl; uncounted = refl })
-
--- the table that the first format hasn't
-pub market_create : IsCreate (first_tables 9 3) (first_tables 10 4) market_table (creation 9)
-unfolding understood everything
-market_create = record { command = refl; whole = refl; defines = refl; plain = (refl, refl); after_is = refl; tree_is = refl; last = refl; uncounted = refl }
-
-pub makes_market : Makes (first_tables 9 3) (first_tables 10 4) (creation 9)
-makes_market = makes (first_tables 9 3) (first_tables 10 4) market_table (creation 9) (inr (inr (inr (inr (inr (inr (inr (inr (inr (inl refl)))))))))) market_create
+  pub makes_next : (i : ℕ) (d : X) → i < length xs → Makes (so_many i) (so_many (i + 1)) (text (get_or xs i d))
+  makes_next i d small =
+      let part = get_or all_parts i Own in
+      let few : i < length all_parts = subst (λ n. i < n) as_many small in
+      let is : text (get_or xs i d) ≡ creation_of part = sym (get_or-map text xs i d [] small) ∙ ap (λ (l : List (List ℕ)). get_or l i []) all ∙ get_or-map creation_of all_parts i Own [] few in
+      let listed : Has (map creation_of all_parts) (creation_of part) = has_map creation_of all_parts part (all_among all_parts refl part) in
+      subst (Makes (so_many i) (so_many (i + 1))) (sym is) (makes (so_many i) (so_many (i + 1)) (table_of part) (creation_of part) listed (made_at i Own few))
 
 -- ---- in a transaction
 

@@ -58,9 +58,6 @@ module _ (c : CampaignValue) where
 
   -- ---- one after the other
 
-  pub then_filled : (ps qs : List Part) → are_apart ps qs ≡ true → (old mid new : Database) → FillsParts c ps old mid → FillsParts c qs mid new → FillsParts c (ps ++ qs) old new
-  then_filled ps qs apart old mid new first second own = both_changed (Fills c own) ps qs apart old mid new (first own) (second own)
-
   pub own_then_filled : (text : List ℕ) (ps qs : List Part) → are_apart ps qs ≡ true → (old mid new : Database) → FillsWithOwn text c ps old mid → FillsParts c qs mid new → FillsWithOwn text c (ps ++ qs) old new
   own_then_filled text ps qs apart old mid new first second none = both_changed (Fills c (campaign_line text c)) ps qs apart old mid new (first none) (second (campaign_line text c))
 

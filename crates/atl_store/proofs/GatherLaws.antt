@@ -1,5 +1,5 @@
 -- Readings one after another, each of the tables as they were before the first.
-use Rattle.std.proofs.Common.{◌≡◌, ◌≢◌, ◌⊎◌, ◌++◌, ℕ, List, [], ◌∷◌, false, IsTrue, Option, Some, None, Result, Ok, Err, IfOk, IfErr, IsErrAnd, IsPermutation, map, refl, sym, ap, ◌∙◌, subst, inl, inr, arith}
+use Rattle.std.proofs.Common.{◌≡◌, ◌≢◌, ◌⊎◌, ◌++◌, ℕ, List, [], ◌∷◌, Bool, true, false, not, true≢false, IsTrue, Option, Some, None, Result, Ok, Err, IfOk, IfErr, IsErrAnd, map, refl, sym, ◌∙◌, subst, inl, inr, arith}
 use Rattle.std.specs.Option.{option_zip}
 use Rattle.std.specs.declared.vec.Vec.{Vec}
 use Rattle.sqlite_trees.specs.declared.store.Store.{Ghosts}
@@ -9,22 +9,22 @@ use Rattle.sqlite.specs.Held.{Held, state}
 use Rattle.sqlite.specs.Order.{Row}
 use Rattle.sqlite.specs.State.{State, HasCleanDisk, Survives, Shown, ShowsRows}
 use Rattle.sqlite_rules.specs.Lists.{Has}
-use Rattle.sqlite_rules.proofs.ListLemmas.{has_left, has_right, has_either}
+use Rattle.sqlite_rules.proofs.ListLemmas.{has_left, has_right, has_either, test_has}
 use Rattle.atl_tables.specs.declared.format.Format.{Format}
 use Rattle.atl_tables.specs.declared.format.Format.TheVariants.{First, Second}
-use Rattle.atl_state.specs.declared.parts.StoredMarket.{StoredMarket}
-use Rattle.atl_store.specs.declared.rows.stored.Placed.{Placed}
-use Rattle.atl_store.specs.Gathering.{IsSettled, kept_of, Found, AnswersOne, FailsToRead, AreRows, AreTwo, AreThree, EightRead, AreEight, AreMarkets, OthersRead, AreOthers, ReadsSome}
-use Rattle.atl_store.specs.Loading.{Stays, Leaves, Tells, AreTold, AreToldTyped, HasOtherType, RefusesOne}
+use Rattle.atl_store.specs.Gathering.{IsSettled, kept_of, ReadRows, AreRows, AreAllRows, AreOfFormat, AreNone, late_parts, selects_by, Found, AnswersOne, FailsToRead, ReadsSome}
+use Rattle.atl_store.specs.Loading.{Stays, Leaves, Tells, AreTold, AreToldTyped, HasOtherType, RefusesOne, other_parts, other_selects}
 use Rattle.atl_store.specs.Reading.{ReadsRows, GivesTable, Rests, Selects, RefusesToSelect, listing_of}
-use Rattle.atl_store.specs.StoredRows.{faction_stored, region_stored, unit_stored, structure_stored, mail_stored, report_stored, has_stored, books_stored, market_stored}
 use Rattle.atl_store.specs.Stored.{Form, AreTyped}
-use Rattle.atl_store.specs.Tables.{Part, Factions, Regions, Units, Goods, Structures, Mail, Reports, Books, Markets, HasTablesOf}
+use Rattle.atl_store.specs.Tables.{Part, parts_in}
 use Rattle.atl_store.specs.declared.fault.ReadFault.{ReadFault}
 use Rattle.atl_store.specs.declared.fault.ReadFault.TheVariants as read
 use Rattle.atl_store.specs.declared.fault.LoadFault.{LoadFault}
 use Rattle.atl_store.specs.declared.fault.LoadFault.TheVariants.{Store, Damaged, NotACampaign, OtherFormat, Memory}
 use Rattle.atl_store.proofs.KeepLaws.{survives_more}
+use Rattle.atl_store.proofs.ListLaws.{has_map}
+use Rattle.atl_store.proofs.PartLaws.{is_among, not_among}
+use Rattle.atl_store.proofs.PartsLaws.{every_part}
 
 shows_open : (old new : State) (sql : List ℕ) (c : _) (row : Row) (rows : List Row) (what : Option Returning) → ShowsRows old new sql c row rows what → IsTrue old.is_open
 shows_open old new sql c row rows None h = h.3.0.was_open
@@ -112,10 +112,10 @@ module _ {S : Type 0} (g : Ghosts S) where
     selects_open : (rows : List Row) → Selects g sql old rows → IsTrue (state g old).is_open
     selects_open rows told = told.2.was_open (shown_open sql _ _ rows told.3)
 
-    found_one : {Z : Type 0} (r : Result (Vec A Z) ReadFault) → ReadsRows g sql old forms shown r new → GivesTable g (listing_of part).since (listing_of part).in_table shown r old new → HasCleanDisk (state g new) → IfOk (kept_of r) (Found g old this_select (λ all. AreRows g old part shown all.items))
+    found_one : {Z : Type 0} (r : Result (Vec A Z) ReadFault) → ReadsRows g sql old forms shown r new → GivesTable g (listing_of part).since (listing_of part).in_table shown r old new → HasCleanDisk (state g new) → IfOk (kept_of r) (Found g old this_select (λ all. AreAllRows (state g old).now ((part, map shown all.items) ∷ [])))
     found_one (Ok all) reads gives clean =
         let told = reads.rows clean in
-        (each_of_one (λ s. (rows : List Row) × Tells g old s.0 rows × AreTyped s.1 rows) (sql, forms) (told.0, tells told.0 told.1, told.3), gives clean)
+        (each_of_one (λ s. (rows : List Row) × Tells g old s.0 rows × AreTyped s.1 rows) (sql, forms) (told.0, tells told.0 told.1, told.3), each_of_one (λ read. AreRows (state g old).now read.0 read.1) (part, map shown all.items) (gives clean))
     found_one (Err read.OtherType) reads gives clean =
         let told = reads.other clean refl in
         record {
@@ -153,10 +153,10 @@ module _ {S : Type 0} (g : Ghosts S) where
 
     -- what was kept of its reading
     pub reads_one : {Z : Type 0} (r : Result (Vec A Z) ReadFault) → ReadsRows g sql old forms shown r new → GivesTable g (listing_of part).since (listing_of part).in_table shown r old new → (kept : Result (Option (Vec A Z)) LoadFault) → kept ≡ kept_of r
-        → ReadsSome g old this_select (λ all. AreRows g old part shown all.items) kept new
+        → ReadsSome g old this_select (λ all. AreAllRows (state g old).now ((part, map shown all.items) ∷ [])) kept new
     reads_one r reads gives kept is = record {
       was_open = λ clean. subst (λ k. IfOk k (λ _. IsTrue (state g old).is_open)) (sym is) (open_one r reads clean);
-      found = λ clean. subst (λ k. IfOk k (Found g old this_select (λ all. AreRows g old part shown all.items))) (sym is) (found_one r reads gives clean);
+      found = λ clean. subst (λ k. IfOk k (Found g old this_select (λ all. AreAllRows (state g old).now ((part, map shown all.items) ∷ [])))) (sym is) (found_one r reads gives clean);
       fails = λ clean. subst (λ k. IfErr k (FailsToRead g old this_select)) (sym is) (fails_one r reads clean);
       leaves = record {
         stays = λ clean. rests_stays (state g old) (state g new) settled (omega (arith, reads.survives.clean, clean)) (reads.rests clean);
@@ -184,32 +184,6 @@ module _ {S : Type 0} (g : Ghosts S) where
       told = told_then found.select.0 found.rows found.told;
       other = found.other;
     }
-
-    pub rows_behind : {A : Type 0} (part : Part) (shown : A → Row) (rows : List A) → AreRows g mid part shown rows → AreRows g old part shown rows
-    rows_behind part shown rows are begins =
-        subst (λ (d : Database). IsPermutation ((listing_of part).in_table d.trees) (map shown rows)) same (are (subst (HasTablesOf (listing_of part).since) (sym (ap (λ (d : Database). d.schema) same)) begins))
-
-    pub two_behind : {A B Z : Type 0} (one : Part) (a : A → Row) (two : Part) (b : B → Row) (read : Vec A Z × Vec B Z) → AreTwo g mid one a two b read → AreTwo g old one a two b read
-    two_behind one a two b read are = (rows_behind one a read.0.items are.0, rows_behind two b read.1.items are.1)
-
-    pub three_behind : {A B C Z : Type 0} (one : Part) (a : A → Row) (two : Part) (b : B → Row) (three : Part) (c : C → Row) (read : (Vec A Z × Vec B Z) × Vec C Z) → AreThree g mid one a two b three c read → AreThree g old one a two b three c read
-    three_behind one a two b three c read are = (two_behind one a two b read.0 are.0, rows_behind three c read.1.items are.1)
-
-    eight_behind : {Z : Type 0} (read : EightRead Z) → AreEight g mid read → AreEight g old read
-    eight_behind read are = (
-      (
-        three_behind Factions faction_stored Regions region_stored Reports report_stored read.0.0 are.0.0,
-        two_behind Units unit_stored Goods has_stored read.0.1 are.0.1,
-      ),
-      three_behind Structures structure_stored Mail mail_stored Books books_stored read.1 are.1,
-    )
-
-    markets_behind : (f : Format) (rows : List (Placed StoredMarket)) → AreMarkets g mid f rows → AreMarkets g old f rows
-    markets_behind First rows are = are
-    markets_behind Second rows are = rows_behind Markets market_stored rows are
-
-    pub others_behind : (f : Format) {Z : Type 0} (read : OthersRead Z) → AreOthers g mid f read → AreOthers g old f read
-    others_behind f read are = (eight_behind read.0 are.0, markets_behind f read.1.items are.1)
 
   refuses_then : (old mid : Held S) → Leaves g old mid → (selects : List (List ℕ × List Form)) (fault : ReadFault) → RefusesOne g mid selects fault → RefusesOne g old selects fault
   refuses_then old mid first selects fault refused = record {
@@ -269,12 +243,20 @@ module _ {S : Type 0} (g : Ghosts S) where
   found_both xs ys P Q old None None p q = other_within old xs (xs ++ ys) (has_left xs ys) (each_of_both (λ s. (rows : List Row) × Tells g old s.0 rows) xs ys p.all q.all) p
 
   -- what a stage found that begins where another ended
-  pub found_behind : {A : Type 0} (old mid new : Held S) → Leaves g old mid → (selects : List (List ℕ × List Form)) (P Q : A → Type 0) (r : Result (Option A) LoadFault) → ReadsSome g mid selects P r new → (o : Option A) → r ≡ Ok o
+  found_behind : {A : Type 0} (old mid new : Held S) → Leaves g old mid → (selects : List (List ℕ × List Form)) (P Q : A → Type 0) (r : Result (Option A) LoadFault) → ReadsSome g mid selects P r new → (o : Option A) → r ≡ Ok o
       → ((state g mid).now ≡ (state g old).now → (a : A) → P a → Q a) → HasCleanDisk (state g new) → Found g old selects Q o
   found_behind old mid new before selects P Q r reads o was weaker clean =
       let up = subst (λ r. IfOk r (λ _. IsTrue (state g mid).is_open)) was (reads.was_open clean) in
       let same = ((before.stays (omega (arith, reads.leaves.survives.clean, clean))).same up).0 in
       found_then old mid same selects P Q o (weaker same) (subst (λ r. IfOk r (Found g mid selects P)) was (reads.found clean))
+
+  reads_as : {A : Type 0} (selects : List (List ℕ × List Form)) (P Q : A → Type 0) (old new : Held S) (r : Result (Option A) LoadFault) → ((a : A) → P a → Q a) → ReadsSome g old selects P r new → ReadsSome g old selects Q r new
+  reads_as {A} selects P Q old new r weaker reads = record { was_open = reads.was_open; found = λ clean. found r (reads.found clean); fails = reads.fails; leaves = reads.leaves }
+    where
+      found : (r : Result (Option A) LoadFault) → IfOk r (Found g old selects P) → IfOk r (Found g old selects Q)
+      found (Ok (Some a)) h = (h.0, weaker a h.1)
+      found (Ok None) h = h
+      found (Err fault) h = tt
 
   -- the first stage ends with a fault
   pub first_fails : {A B : Type 0} (xs ys : List (List ℕ × List Form)) (P : A → Type 0) (Q : B → Type 0) (old new : Held S) (fault : LoadFault) (one : Result (Option A) LoadFault) (r : Result (Option B) LoadFault)
@@ -288,7 +270,7 @@ module _ {S : Type 0} (g : Ghosts S) where
   }
 
   -- where the second one begins
-  module _ {A B : Type 0} (xs ys : List (List ℕ × List Form)) (P : A → Type 0) (Q Q2 : B → Type 0) (old mid new : Held S) (one : Result (Option A) LoadFault) (two : Result (Option B) LoadFault)
+  module _ {A B : Type 0} (xs ys : List (List ℕ × List Form)) (P : A → Type 0) (Q : B → Type 0) (old mid new : Held S) (one : Result (Option A) LoadFault) (two : Result (Option B) LoadFault)
       (first : ReadsSome g old xs P one mid) (second : ReadsSome g mid ys Q two new) (a : Option A) (was_first : one ≡ Ok a) where
     pub second_fails : {C : Type 0} (R : C → Type 0) (fault : LoadFault) (r : Result (Option C) LoadFault) → two ≡ Err fault → IsErrAnd r (λ told. told ≡ fault) → ReadsSome g old (xs ++ ys) R r new
     second_fails R fault (Ok o) was told = absurd told
@@ -302,8 +284,8 @@ module _ {S : Type 0} (g : Ghosts S) where
     }
 
     -- both are read
-    pub reads_both : (b : Option B) → two ≡ Ok b → ((state g mid).now ≡ (state g old).now → (b : B) → Q b → Q2 b) → (o : Option (A × B)) → o ≡ option_zip a b → ReadsSome g old (xs ++ ys) (λ x. P x.0 × Q2 x.1) (Ok o) new
-    reads_both b was weaker o is = record {
+    reads_both : (Q2 : B → Type 0) (b : Option B) → two ≡ Ok b → ((state g mid).now ≡ (state g old).now → (b : B) → Q b → Q2 b) → (o : Option (A × B)) → o ≡ option_zip a b → ReadsSome g old (xs ++ ys) (λ x. P x.0 × Q2 x.1) (Ok o) new
+    reads_both Q2 b was weaker o is = record {
       was_open = λ clean. subst (λ r. IfOk r (λ _. IsTrue (state g old).is_open)) was_first (first.was_open (clean_mid clean));
       found = λ clean.
           subst (Found g old (xs ++ ys) _) (sym is) (found_both xs ys P Q2 old a b
@@ -315,3 +297,88 @@ module _ {S : Type 0} (g : Ghosts S) where
       where
         clean_mid : HasCleanDisk (state g new) → HasCleanDisk (state g mid)
         clean_mid clean = omega (arith, second.leaves.survives.clean, clean)
+
+  -- the rows of some tables and then of others
+  pub both_read : {A B : Type 0} (xs ys : List (List ℕ × List Form)) (some : A → ReadRows) (others : B → ReadRows) (old mid new : Held S) (one : Result (Option A) LoadFault) (two : Result (Option B) LoadFault)
+      → ReadsSome g old xs (λ a. AreAllRows (state g old).now (some a)) one mid → ReadsSome g mid ys (λ b. AreAllRows (state g mid).now (others b)) two new
+      → (a : Option A) → one ≡ Ok a → (b : Option B) → two ≡ Ok b → (o : Option (A × B)) → o ≡ option_zip a b → ReadsSome g old (xs ++ ys) (λ x. AreAllRows (state g old).now (some x.0 ++ others x.1)) (Ok o) new
+  both_read xs ys some others old mid new one two first second a was_first b was o is =
+      reads_as (xs ++ ys) _ _ old new (Ok o) (λ x are. each_of_both (λ read. AreRows (state g old).now read.0 read.1) (some x.0) (others x.1) are.0 are.1)
+      (reads_both xs ys (λ a. AreAllRows (state g old).now (some a)) (λ b. AreAllRows (state g mid).now (others b)) old mid new one two first second a was_first (λ b. AreAllRows (state g old).now (others b)) b was
+      (λ same b are. subst (λ (db : Database). AreAllRows db (others b)) same are) o is)
+
+  -- ---- by the format
+
+  -- no rows of others
+  found_with : {A B : Type 0} (old : Held S) (selects : List (List ℕ × List Form)) (P : A → Type 0) (Q : A × B → Type 0) (b : B) → ((a : A) → P a → Q (a, b)) → (o : Option A) → Found g old selects P o → Found g old selects Q (option_zip o (Some b))
+  found_with old selects P Q b weaker (Some a) found = (found.0, weaker a found.1)
+  found_with old selects P Q b weaker None found = found
+
+  of_first : (db : Database) (some others : ReadRows) → AreAllRows db some → map (λ read. read.0) some ≡ other_parts First → AreNone others → map (λ read. read.0) others ≡ late_parts → AreOfFormat First db (some ++ others)
+  of_first db some others are early none late = record {
+    each =
+        each_of_both (λ read. (Has (parts_in First) read.0 × AreRows db read.0 read.1) ⊎ ((¬ Has (parts_in First) read.0) × (read.1 ≡ []))) some others (λ read there. inl (inr (is_there some (other_parts First) early read there), are read there))
+        (λ read there. inr (not_early read.0 (is_there others late_parts late read there), none read there));
+  }
+    where
+      is_there : (reads : ReadRows) (parts : List Part) → map (λ read. read.0) reads ≡ parts → (read : Part × List Row) → Has reads read → Has parts read.0
+      is_there reads parts same read there = subst (λ l. Has l read.0) same (has_map (λ (read : Part × List Row). read.0) reads read there)
+
+      no : (b : Bool) → not b ≡ true → b ≡ false
+      no true is = absurd (true≢false (sym is))
+      no false is = refl
+
+      not_early : (part : Part) → Has late_parts part → ¬ Has (parts_in First) part
+      not_early part there = not_among (parts_in First) part (no (is_among (parts_in First) part) (test_has (λ p. not (is_among (parts_in First) p)) late_parts part refl there))
+
+  -- by the first format the rows of some, and none of others
+  pub reads_first : {A B : Type 0} (selects : List (List ℕ × List Form)) (some : A → ReadRows) (others : B → ReadRows) (old new : Held S) (one : Result (Option A) LoadFault) → ReadsSome g old selects (λ a. AreAllRows (state g old).now (some a)) one new
+      → (a : Option A) → one ≡ Ok a → (b : B) → AreNone (others b) → ((a : A) → map (λ read. read.0) (some a) ≡ other_parts First) → map (λ read. read.0) (others b) ≡ late_parts
+      → (o : Option (A × B)) → o ≡ option_zip a (Some b) → ReadsSome g old selects (λ x. AreOfFormat First (state g old).now (some x.0 ++ others x.1)) (Ok o) new
+  reads_first selects some others old new one first a was b none early late o is = record {
+    was_open = λ clean. subst (λ r. IfOk r (λ _. IsTrue (state g old).is_open)) was (first.was_open clean);
+    found = λ clean.
+        subst (Found g old selects (λ x. AreOfFormat First (state g old).now (some x.0 ++ others x.1))) (sym is)
+        (found_with old selects (λ a. AreAllRows (state g old).now (some a)) (λ x. AreOfFormat First (state g old).now (some x.0 ++ others x.1)) b
+        (λ a are. of_first (state g old).now (some a) (others b) are (early a) none late) a (subst (λ r. IfOk r (Found g old selects (λ a. AreAllRows (state g old).now (some a)))) was (first.found clean)));
+    fails = λ _. tt;
+    leaves = first.leaves;
+  }
+
+  -- by the second all
+  pub reads_second : {A : Type 0} (selects : List (List ℕ × List Form)) (rows : A → ReadRows) (old new : Held S) (r : Result (Option A) LoadFault) → ReadsSome g old selects (λ a. AreAllRows (state g old).now (rows a)) r new → ReadsSome g old selects (λ a. AreOfFormat Second (state g old).now (rows a)) r new
+  reads_second selects rows old new r reads = reads_as selects _ _ old new r (λ a are. record { each = λ read there. inl (every_part read.0, are read there) }) reads
+
+  -- a fault ends it
+  pub fails_as : {A B : Type 0} (selects : List (List ℕ × List Form)) (P : A → Type 0) (Q : B → Type 0) (old new : Held S) (fault : LoadFault) (one : Result (Option A) LoadFault) (r : Result (Option B) LoadFault)
+      → ReadsSome g old selects P one new → one ≡ Err fault → IsErrAnd r (λ told. told ≡ fault) → ReadsSome g old selects Q r new
+  fails_as selects P Q old new fault one (Ok o) first was told = absurd told
+  fails_as selects P Q old new fault one (Err f) first was told = record {
+    was_open = λ _. tt;
+    found = λ _. tt;
+    fails = λ clean. subst (FailsToRead g old selects) (sym told) (subst (λ r. IfErr r (FailsToRead g old selects)) was (first.fails clean));
+    leaves = first.leaves;
+  }
+
+  pub reads_by : {A : Type 0} (some others : List (List ℕ × List Form)) (rows : A → ReadRows) (old new : Held S) (r : Result (Option A) LoadFault) (f is : Format) → f ≡ is
+      → ReadsSome g old (selects_by is some others) (λ a. AreOfFormat is (state g old).now (rows a)) r new → ReadsSome g old (selects_by f some others) (λ a. AreOfFormat f (state g old).now (rows a)) r new
+  reads_by some others rows old new r f is same reads = subst (λ f. ReadsSome g old (selects_by f some others) (λ a. AreOfFormat f (state g old).now (rows a)) r new) (sym same) reads
+
+  -- what was found of a format behind another stage
+  pub format_behind : {A : Type 0} (f : Format) (rows : A → ReadRows) (old mid new : Held S) → Leaves g old mid → (selects : List (List ℕ × List Form)) (r : Result (Option A) LoadFault) → ReadsSome g mid selects (λ a. AreOfFormat f (state g mid).now (rows a)) r new → (o : Option A) → r ≡ Ok o
+      → HasCleanDisk (state g new) → Found g old selects (λ a. AreOfFormat f (state g old).now (rows a)) o
+  format_behind f rows old mid new before selects r reads o was clean =
+      found_behind old mid new before selects (λ a. AreOfFormat f (state g mid).now (rows a)) (λ a. AreOfFormat f (state g old).now (rows a)) r reads o was (λ same a are. subst (λ (db : Database). AreOfFormat f db (rows a)) same are) clean
+
+-- no rows of some tables and of others
+pub both_none : (some others : ReadRows) → AreNone some → AreNone others → AreNone (some ++ others)
+both_none some others first second = each_of_both (λ read. read.1 ≡ []) some others first second
+
+-- the SELECTs of a format, where some are those of the first, and with others those of the second
+same_selects : (some others : List (List ℕ × List Form)) → some ≡ other_selects First → some ++ others ≡ other_selects Second → (f : Format) → selects_by f some others ≡ other_selects f
+same_selects some others first second First = first
+same_selects some others first second Second = second
+
+pub reads_others : {A S : Type 0} (g : Ghosts S) (some others : List (List ℕ × List Form)) (P : A → Type 0) (old new : Held S) (r : Result (Option A) LoadFault) (f : Format) → some ≡ other_selects First → some ++ others ≡ other_selects Second
+    → ReadsSome g old (selects_by f some others) P r new → ReadsSome g old (other_selects f) P r new
+reads_others g some others P old new r f first second reads = subst (λ selects. ReadsSome g old selects P r new) (same_selects some others first second f) reads

@@ -9,9 +9,14 @@ use Rattle.sqlite.specs.Order.{Row}
 use Rattle.sqlite.specs.State.{State}
 use Rattle.sqlite.specs.Table.{Table}
 use Rattle.sqlite_rules.specs.Lists.{Has}
+use Rattle.atl_state.specs.Campaign.{CampaignValue}
 use Rattle.atl_store.specs.Sets.{Set, Is, puts, rows_in}
+use Rattle.atl_store.specs.Tables.{Part, key_of, table_of}
 use Rattle.atl_store.specs.Shown.{int}
 use Rattle.atl_store.specs.Lines.{DifferInKey, AreGroups, groups_of}
+use Rattle.atl_store.specs.Rows.{rows_for}
+use Rattle.atl_store.specs.Statements.{upsert}
+use Rattle.atl_store.specs.OwnStatements.{OfRow, puts_row}
 use Rattle.atl_store.specs.Inside.{Inside, HasTables, Both, Drops, PutsRows}
 use Rattle.atl_store.specs.Changing.{begins}
 use Rattle.atl_store.specs.Rewriting.{RewritesGroup, is_number}
@@ -91,3 +96,8 @@ module _ {V : Type 0} (lines : ℕ → V → List Row) (more : ℕ) (values : Fi
     pub bare_done : get values n ≡ None → (old new : State) → Inside HasTables (Drops table 1 (int n ∷ [])) old new
         → Inside HasTables (RewritesGroup table Wanted n) old new
     bare_done none old new did = inside_weaker HasTables (Drops table 1 (int n ∷ [])) (RewritesGroup table Wanted n) old new (λ has drops. bare_rewrite old.now new.now drops none) did
+
+-- a wanted row is put as one of its part
+pub puts_wanted : (part : Part) (more : ℕ) → key_of part ≡ suc more → (Wanted : CampaignValue → Row → Type 0) → ((own : Row) (c : CampaignValue) (r : Row) → Wanted c r → rows_for own c part r) → (c : CampaignValue) (r : Row) → Wanted c r
+    → OfRow c (upsert (table_of part) (suc more)) r
+puts_wanted part more key Wanted are c r is = subst (λ k. OfRow c (upsert (table_of part) k) r) key (puts_row part (λ own. are own c r is))

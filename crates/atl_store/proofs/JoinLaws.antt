@@ -60,9 +60,6 @@ record IsArrival (n : ℕ) (f : Faction) (m : ℕ) (u : Unit) (report : List ℕ
   factions : after.factions ≡ insert before.factions n f
   units : after.units ≡ insert before.units m u
   reports : after.reports ≡ insert before.reports n report
-  regions : after.regions ≡ before.regions
-  structures : after.structures ≡ before.structures
-  mail : after.mail ≡ before.mail
   fresh : get before.units m ≡ None
   bare : (sort : Sort) → things_of sort u.holding ≡ empty
   -- the books once the money is booked
@@ -101,9 +98,6 @@ arrives n f m u report before after found joining =
       factions = factions ∙ ap (λ k. insert before.factions k member) (sym number) ∙ ap (insert before.factions n) member_is;
       units = units ∙ ap (λ k. insert before.units k band) (sym place) ∙ ap (insert before.units m) band_is;
       reports = reports ∙ ap (insert before.reports n) report_is;
-      regions = ap (λ (c : CampaignValue). c.regions) is;
-      structures = ap (λ (c : CampaignValue). c.structures) is;
-      mail = ap (λ (c : CampaignValue). c.mail) is;
       fresh = good.sound.steady.next.units m (omega (arith, place));
       bare = λ sort. subst (λ (x : Unit). things_of sort x.holding ≡ empty) band_is (nothing sort);
       half = half;

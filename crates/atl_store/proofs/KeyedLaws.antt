@@ -1,46 +1,36 @@
--- The rowids of the tables of a campaign, where the rows that were read of them are those of a campaign.
-use Rattle.std.proofs.Common.{◌≡◌, ◌≢◌, ◌++◌, ℕ, ℤ, pos, true, false, List, [], ◌∷◌, take, map, refl, sym, ap, ◌∙◌, subst, inl, inr, arith}
+-- Rows that have different numbers in a column, and the places that rows are shown with.
+use Rattle.std.proofs.Common.{◌≡◌, ◌≢◌, ◌++◌, ℕ, ℤ, pos, true, false, List, [], ◌∷◌, ◌⊎◌, take, map, Result, Ok, Err, IfErr, IsErrAnd, inl, inr, refl, sym, ap, ◌∙◌, subst, true≢false, arith}
+use Rattle.std.specs.Prelude.{if◌then◌else◌}
 use Rattle.std.specs.List.{AllByRecursion, IsDistinct}
 use Rattle.std.specs.List.Sorted.{IsPermutation}
 use Rattle.std.specs.Ordering.{int_eq, is_eq, nat_cmp}
-use Rattle.std.specs.Cmp.{eq_by_cmp_equiv}
 use Rattle.std.specs.FinMap.{FinMap, entries, is_sorted}
 use Rattle.std.proofs.lemmas.Bool.{cases_Bool, and_parts}
-use Rattle.std.proofs.lemmas.Cmp.{int_cmp_total}
 use Rattle.std.proofs.lemmas.Int.{ints}
 use Rattle.std.proofs.lemmas.List.Sorted.{IsPermutation-map}
-use Rattle.std.proofs.lemmas.Map.Keys.{IsDistinct-IsPermutation}
 use Rattle.sqlite.specs.declared.types.Value.TheVariants.{Int}
 use Rattle.sqlite.specs.Order.{Row, column, value_cmp}
-use Rattle.sqlite.specs.Table.{Table}
 use Rattle.sqlite_value.proofs.OrderLemmas.{value_cmp-Int}
 use Rattle.sqlite_trees.specs.Tree.{Trees, rowid}
 use Rattle.sqlite_trees.specs.View.{is_int}
 use Rattle.sqlite_rules.specs.Lists.{Has}
-use Rattle.sqlite_rules.proofs.ListLemmas.{all_from}
-use Rattle.atl_tables.specs.declared.format.Format.{Format}
-use Rattle.atl_tables.specs.declared.format.Format.TheVariants.{First, Second}
-use Rattle.atl_state.specs.Rows.{rows_by, rows_of, AreRowsOf}
-use Rattle.atl_state.specs.Rows as made
-use Rattle.atl_state.specs.Campaign.{CampaignValue}
+use Rattle.sqlite_rules.proofs.ListLemmas.{all_from, all_has}
+use Rattle.atl_tables.specs.declared.format.Format.TheVariants.{Second}
 use Rattle.atl_state.specs.declared.parts.Parts.{Parts}
-use Rattle.atl_state.specs.declared.parts.StoredFaction.{StoredFaction}
 use Rattle.atl_state.specs.declared.parts.StoredHead.{StoredHead}
-use Rattle.atl_state.specs.declared.parts.StoredMail.{StoredMail}
-use Rattle.atl_state.specs.declared.parts.StoredRegion.{StoredRegion}
-use Rattle.atl_state.specs.declared.parts.StoredReport.{StoredReport}
-use Rattle.atl_state.specs.declared.parts.StoredStructure.{StoredStructure}
-use Rattle.atl_state.specs.declared.parts.StoredUnit.{StoredUnit}
-use Rattle.atl_store.specs.declared.rows.stored.Placed.{Placed}
-use Rattle.atl_store.specs.Loading.{HaveRows, own_stored, has_values, books_values, market_values, placed_tables}
-use Rattle.atl_store.specs.Reading.{placed_rows_in}
+use Rattle.atl_store.specs.Gathering.{AreApart, AreAllApart, HaveKeys, IsMadeOf, Lacks, ReadRows, unplaced, width}
+use Rattle.atl_store.specs.Loading.{has_places, has_values, books_values, market_values, other_parts, rows_read}
+use Rattle.atl_store.specs.Reading.{listing_of}
+use Rattle.atl_store.specs.Rows.{lines_of}
 use Rattle.atl_store.specs.Sets.{IsKeyed, visible, rows_in}
-use Rattle.atl_store.specs.StoredRows.{faction_stored, region_stored, unit_stored, structure_stored, mail_stored, report_stored, has_stored, books_stored, market_stored}
-use Rattle.atl_store.specs.Tables.{Part, Own, Factions, Regions, Units, Goods, Structures, Mail, Reports, Books, Markets, table_of, parts_in, campaign_table, faction_table, region_table, unit_table, has_table, structure_table, mail_table, report_table, books_table, market_table}
+use Rattle.atl_store.specs.Shown.{has_stored, books_stored, market_stored}
+use Rattle.atl_store.specs.Tables.{Part, Own, Goods, Books, Markets, table_of}
+use Rattle.atl_store.specs.declared.fault.LoadFault.{LoadFault}
+use Rattle.atl_store.specs.declared.fault.LoadFault.TheVariants.{Store, Damaged, NotACampaign, OtherFormat, Memory}
+use Rattle.atl_store.specs.declared.rows.stored.Placed.{Placed}
 use Rattle.atl_store.proofs.EntryLaws.{below_has, less_apart, in_order}
 use Rattle.atl_store.proofs.ListLaws.{map_has}
 use Rattle.atl_store.proofs.LoadLaws.{keyed_by, keyed_shown}
-use Rattle.atl_store.proofs.PartsLaws.{no_markets}
 
 -- ---- rows by a number that each of them has in a column
 
@@ -61,9 +51,8 @@ module _ {A : Type 0} (shown : A → Row) (number : A → ℤ) (at : ℕ) (is : 
   are_ints [] = tt
   are_ints (x ∷ xs) = (ap is_int (is x), are_ints xs)
 
-  -- f shows a row, with its rowid in this column
-  keyed_numbers : (f : Row → Row) (tree : List Row) (read : List A) → ((r : Row) → column (f r) at ≡ rowid r) → IsPermutation (map f tree) (map shown read) → IsDistinct int_eq (map number read) → IsKeyed tree
-  keyed_numbers f tree read rowid_is in_table apart = keyed_by f at tree (map shown read) rowid_is in_table (record { apart = columns_apart read apart; ints = are_ints read })
+  numbers_keys : (xs : List A) → IsDistinct int_eq (map number xs) → HaveKeys at (map shown xs)
+  numbers_keys xs apart = record { apart = columns_apart xs apart; ints = are_ints xs }
 
   each_number_apart : (a : A) (xs : List A) → AllByRecursion (λ r. is_eq (value_cmp (column (shown a) at) (column r at)) ≡ false) (map shown xs) → AllByRecursion (λ n. int_eq (number a) n ≡ false) (map number xs)
   each_number_apart a [] all = tt
@@ -74,103 +63,157 @@ module _ {A : Type 0} (shown : A → Row) (number : A → ℤ) (at : ℕ) (is : 
   numbers_apart [] apart = tt
   numbers_apart (x ∷ xs) apart = (each_number_apart x xs apart.0, numbers_apart xs apart.1)
 
-  -- and back from a tree whose rowids differ
-  keyed_apart : (f : Row → Row) (tree : List Row) (read : List A) → ((r : Row) → column (f r) at ≡ rowid r) → IsPermutation (map f tree) (map shown read) → IsKeyed tree → IsDistinct int_eq (map number read)
-  keyed_apart f tree read rowid_is in_table keyed = numbers_apart read (keyed_shown f at tree (map shown read) rowid_is in_table keyed)
-
--- ---- rows that are made of the entries of a map
+-- ---- lines of the entries of a map, which have their numbers in the first column
 
 differ : (m n : ℕ) → m ≢ n → int_eq (pos m) (pos n) ≡ false
 differ m n apart = elim (cases_Bool (int_eq (pos m) (pos n))) [ inl same ↦ absurd (apart (grind (ints, arith))) | inr differs ↦ differs ]
 
-module _ {A V : Type 0} (number : A → ℤ) (row : ℕ → V → A) (numbered : (n : ℕ) (v : V) → number (row n v) ≡ pos n) where
-  made_apart : (es : List (ℕ × V)) → is_sorted nat_cmp es ≡ true → IsDistinct int_eq (map number (rows_by row es))
-  unfolding IsDistinct
-  made_apart [] sorted = tt
-  made_apart (e ∷ es) sorted = (
-    all_from (λ n. int_eq (number (row e.0 e.1)) n ≡ false) (map number (rows_by row es)) (λ n there.
-        let a = map_has number (rows_by row es) n there in
-        let x = map_has (λ (x : ℕ × V). row x.0 x.1) es a.0 a.1 in
-        let here : n ≡ pos x.0.0 = a.2 ∙ ap number x.2 ∙ numbered x.0.0 x.0.1 in
-        ap (λ m. int_eq m n) (numbered e.0 e.1) ∙ ap (int_eq (pos e.0)) here ∙ differ e.0 x.0.0 (less_apart e.0 x.0.0 (below_has e.0 es x.0 (and_parts _ _ sorted).0 x.1))),
-    made_apart es (and_parts _ _ sorted).1,
-  )
-
-  read_apart : (read : List A) (m : FinMap nat_cmp V) → IsPermutation (rows_by row (entries m)) read → IsDistinct int_eq (map number read)
-  read_apart read m of_them =
-      IsDistinct-IsPermutation int_eq (eq_by_cmp_equiv int_cmp_total).symm (map number (rows_by row (entries m))) (map number read) (IsPermutation-map number (rows_by row (entries m)) read of_them) (made_apart (entries m) (in_order m))
-
-one_apart : {A : Type 0} (number : A → ℤ) (a : A) (read : List A) → IsPermutation (a ∷ []) read → IsDistinct int_eq (map number read)
+entries_apart : {V : Type 0} (es : List (ℕ × V)) → is_sorted nat_cmp es ≡ true → IsDistinct int_eq (map (λ (e : ℕ × V). pos e.0) es)
 unfolding IsDistinct
-one_apart number a read of_them = IsDistinct-IsPermutation int_eq (eq_by_cmp_equiv int_cmp_total).symm (number a ∷ []) (map number read) (IsPermutation-map number (a ∷ []) read of_them) (tt, tt)
+entries_apart [] sorted = tt
+entries_apart {V} (e ∷ es) sorted = (
+  all_from (λ n. int_eq (pos e.0) n ≡ false) (map (λ (x : ℕ × V). pos x.0) es) (λ n there.
+      let x = map_has (λ (x : ℕ × V). pos x.0) es n there in
+      ap (int_eq (pos e.0)) x.2 ∙ differ e.0 x.0.0 (less_apart e.0 x.0.0 (below_has e.0 es x.0 (and_parts _ _ sorted).0 x.1))),
+  entries_apart es (and_parts _ _ sorted).1,
+)
 
--- ---- the two tables whose key is not the row's number
+pub lines_keys : {V : Type 0} (line : ℕ → V → Row) → ((n : ℕ) (v : V) → column (line n v) 0 ≡ Int (pos n)) → (m : FinMap nat_cmp V) → HaveKeys 0 (lines_of line (entries m))
+lines_keys {V} line numbered m = numbers_keys (λ (e : ℕ × V). line e.0 e.1) (λ (e : ℕ × V). pos e.0) 0 (λ e. numbered e.0 e.1) (entries m) (entries_apart (entries m) (in_order m))
 
-mapped_twice : {X Y Z : Type 0} (f : X → Y) (g : Y → Z) (h : X → Z) → ((x : X) → g (f x) ≡ h x) → (xs : List X) → map g (map f xs) ≡ map h xs
+pub one_keys : (row : Row) (n : ℤ) → column row 0 ≡ Int n → HaveKeys 0 (row ∷ [])
+unfolding IsDistinct
+one_keys row n is = record { apart = (tt, tt); ints = (ap is_int is, tt) }
+
+-- ---- the rows of a part, as its listing shows them
+
+pub mapped_twice : {X Y Z : Type 0} (f : X → Y) (g : Y → Z) (h : X → Z) → ((x : X) → g (f x) ≡ h x) → (xs : List X) → map g (map f xs) ≡ map h xs
 mapped_twice f g h same [] = refl
 mapped_twice f g h same (x ∷ xs) = ap (λ y. y ∷ map g (map f xs)) (same x) ∙ ap (λ ys. h x ∷ ys) (mapped_twice f g h same xs)
 
--- rows without the place that the database keeps them at
-unplaced : {A : Type 0} (stored : Placed A → Row) (values : A → Row) (f v : Row → Row) (count : ℕ) (tree : List Row) (placed : List (Placed A)) → ((r : Row) → take count (f r) ≡ v r) → ((s : Placed A) → take count (stored s) ≡ values s.row)
-    → IsPermutation (map f tree) (map stored placed) → IsPermutation (map v tree) (map values (map (λ s. s.row) placed))
-unplaced stored values f v count tree placed cut_row cut_stored same =
-    let cut = IsPermutation-map (take count) (map f tree) (map stored placed) same in
-    let left : map (take count) (map f tree) ≡ map v tree = mapped_twice f (take count) v cut_row tree in
-    let right : map (take count) (map stored placed) ≡ map values (map (λ s. s.row) placed) = mapped_twice stored (take count) (λ s. values s.row) cut_stored placed ∙ sym (mapped_twice (λ s. s.row) values (λ s. values s.row) (λ s. refl) placed) in
-    subst (IsPermutation (map v tree)) right (subst (λ rows. IsPermutation rows (map (take count) (map stored placed))) left cut)
+-- a row with its place
+abbrev placed_row : Part → Row → Row
+placed_row part r = visible (table_of part) r ++ rowid r ∷ []
 
--- A row of such a table is shown as its values and behind them, in the column of this number, its place; so is one that was read.
-pub record IsPlacedAs {A : Type 0} (table : Table) (stored : Placed A → Row) (values : A → Row) (count : ℕ) : Type 0 where
-  pub cut_row : (r : Row) → take count (visible table r ++ rowid r ∷ []) ≡ visible table r
-  pub cut_stored : (s : Placed A) → take count (stored s) ≡ values s.row
-  pub row_place : (r : Row) → column (visible table r ++ rowid r ∷ []) count ≡ rowid r
-  pub stored_place : (s : Placed A) → column (stored s) count ≡ Int s.rowid
+cut_row : (part : Part) (r : Row) → take (width part) (placed_row part r) ≡ visible (table_of part) r
+cut_row Own r = refl
+cut_row part r = refl
 
-pub has_placed : IsPlacedAs has_table has_stored has_values 4
-has_placed = record { cut_row = λ r. refl; cut_stored = λ s. refl; row_place = λ r. refl; stored_place = λ s. refl }
+row_place : (part : Part) (r : Row) → column (placed_row part r) (width part) ≡ rowid r
+row_place Own r = refl
+row_place part r = refl
 
-pub books_placed : IsPlacedAs books_table books_stored books_values 3
-books_placed = record { cut_row = λ r. refl; cut_stored = λ s. refl; row_place = λ r. refl; stored_place = λ s. refl }
+-- A part's listing shows all rows with their places, or all rows, whose numbers are in the first column.
+shown_by : (part : Part) → ((has_places part ≡ true) × ((db : Trees) → (listing_of part).in_table db ≡ map (placed_row part) (db (table_of part).tree)))
+    ⊎ ((has_places part ≡ false) × ((db : Trees) → (listing_of part).in_table db ≡ rows_in (table_of part) db) × ((r : Row) → column (visible (table_of part) r) 0 ≡ rowid r))
+shown_by Goods = inl (refl, λ db. refl)
+shown_by Books = inl (refl, λ db. refl)
+shown_by Markets = inl (refl, λ db. refl)
+shown_by part = inr (refl, λ db. refl, λ r. refl)
 
-pub market_placed : IsPlacedAs market_table market_stored market_values 3
-market_placed = record { cut_row = λ r. refl; cut_stored = λ s. refl; row_place = λ r. refl; stored_place = λ s. refl }
+in_places : (part : Part) → has_places part ≡ true → (db : Trees) → (listing_of part).in_table db ≡ map (placed_row part) (db (table_of part).tree)
+in_places part is = elim (shown_by part) [ inl places ↦ places.1 | inr whole ↦ absurd (true≢false (sym is ∙ whole.0)) ]
 
-module _ {A : Type 0} {table : Table} {stored : Placed A → Row} {values : A → Row} {count : ℕ} (is : IsPlacedAs table stored values count) (db : Trees) (placed : List (Placed A)) (same : IsPermutation (placed_rows_in table db) (map stored placed)) where
-  pub placed_unplaced : IsPermutation (rows_in table db) (map values (map (λ s. s.row) placed))
-  placed_unplaced = unplaced stored values (λ r. visible table r ++ rowid r ∷ []) (visible table) count (db table.tree) placed is.cut_row is.cut_stored same
+row_number : (part : Part) → has_places part ≡ false → (r : Row) → column (visible (table_of part) r) 0 ≡ rowid r
+row_number part is = elim (shown_by part) [ inl places ↦ absurd (true≢false (sym places.0 ∙ is)) | inr whole ↦ whole.2 ]
 
-  pub placed_keyed : IsDistinct int_eq (map (λ s. s.rowid) placed) → IsKeyed (db table.tree)
-  placed_keyed = keyed_numbers stored (λ s. s.rowid) count is.stored_place (λ r. visible table r ++ rowid r ∷ []) (db table.tree) placed is.row_place same
+pub cut_places : (part : Part) (rows : List Row) → has_places part ≡ true → unplaced part rows ≡ map (take (width part)) rows
+cut_places part rows is = ap (λ b. if b then map (take (width part)) rows else rows) is
 
-  pub placed_apart : IsKeyed (db table.tree) → IsDistinct int_eq (map (λ s. s.rowid) placed)
-  placed_apart = keyed_apart stored (λ s. s.rowid) count is.stored_place (λ r. visible table r ++ rowid r ∷ []) (db table.tree) placed is.row_place same
+pub cut_nothing : (part : Part) (rows : List Row) → has_places part ≡ false → unplaced part rows ≡ rows
+cut_nothing part rows is = ap (λ b. if b then map (take (width part)) rows else rows) is
 
--- ---- all
+module _ (part : Part) (db : Trees) (rows : List Row) where
+  without_places : IsPermutation (map (placed_row part) (db (table_of part).tree)) rows → IsPermutation (rows_in (table_of part) db) (map (take (width part)) rows)
+  without_places same =
+      subst (λ l. IsPermutation l (map (take (width part)) rows)) (mapped_twice (placed_row part) (take (width part)) (visible (table_of part)) (cut_row part) (db (table_of part).tree))
+      (IsPermutation-map (take (width part)) (map (placed_row part) (db (table_of part).tree)) rows same)
 
-pub rows_keyed : (f : Format) (db : Trees) (text : List ℕ) (p : Parts) (c : CampaignValue) → HaveRows f db text p → AreRowsOf f c p → ((table : Table) → Has (placed_tables f) table → IsKeyed (db table.tree)) → (table : Table) → Has (map table_of (parts_in f)) table → IsKeyed (db table.tree)
-unfolding rows_of
-rows_keyed f db text p c have are placed table there = let part = map_has table_of (parts_in f) table there in subst (λ (t : Table). IsKeyed (db t.tree)) (sym part.2) (keyed part.0 part.1)
+  module _ (is : has_places part ≡ true) (same : IsPermutation ((listing_of part).in_table db) rows) where
+    same_placed : IsPermutation (map (placed_row part) (db (table_of part).tree)) rows
+    same_placed = subst (λ l. IsPermutation l rows) (in_places part is db) same
+
+    -- where the places differ, the tree is keyed, and the other way round
+    pub places_keyed : HaveKeys (width part) rows → IsKeyed (db (table_of part).tree)
+    places_keyed keys = keyed_by (placed_row part) (width part) (db (table_of part).tree) rows (row_place part) same_placed keys
+
+    pub keyed_places : IsKeyed (db (table_of part).tree) → HaveKeys (width part) rows
+    keyed_places keyed = keyed_shown (placed_row part) (width part) (db (table_of part).tree) rows (row_place part) same_placed keyed
+
+  -- and so where the numbers differ
+  pub numbers_keyed : has_places part ≡ false → IsPermutation (rows_in (table_of part) db) rows → HaveKeys 0 rows → IsKeyed (db (table_of part).tree)
+  numbers_keyed is same keys = keyed_by (visible (table_of part)) 0 (db (table_of part).tree) rows (row_number part is) same keys
+
+  pub unplaced_all : IsPermutation ((listing_of part).in_table db) rows → IsPermutation (rows_in (table_of part) db) (unplaced part rows)
+  unplaced_all same = elim (shown_by part) [
+    | inl places ↦ subst (IsPermutation (rows_in (table_of part) db)) (sym (cut_places part rows places.0)) (without_places (same_placed places.0 same))
+    | inr whole ↦ subst (IsPermutation (rows_in (table_of part) db)) (sym (cut_nothing part rows whole.0)) (subst (λ l. IsPermutation l rows) (whole.1 db) same)
+  ]
+
+-- ---- rows that were read with their places
+
+-- A row that was read is shown as its values and behind them its place.
+pub record IsPlacedAs {A : Type 0} (part : Part) (stored : Placed A → Row) (values : A → Row) : Type 0 where
+  pub values_are : (s : Placed A) → take (width part) (stored s) ≡ values s.row
+  pub place_is : (s : Placed A) → column (stored s) (width part) ≡ Int s.rowid
+
+module _ {A : Type 0} {part : Part} {stored : Placed A → Row} {values : A → Row} (is : IsPlacedAs part stored values) (placed : List (Placed A)) where
+  pub placed_values : map values (map (λ s. s.row) placed) ≡ map (take (width part)) (map stored placed)
+  placed_values =
+      mapped_twice (λ (s : Placed A). s.row) values (λ (s : Placed A). values s.row) (λ s. refl) placed ∙ sym (mapped_twice stored (take (width part)) (λ (s : Placed A). values s.row) is.values_are placed)
+
+  pub placed_keys : AreApart placed → HaveKeys (width part) (map stored placed)
+  placed_keys apart = numbers_keys stored (λ s. s.rowid) (width part) is.place_is placed apart
+
+  pub placed_apart : HaveKeys (width part) (map stored placed) → AreApart placed
+  placed_apart keys = numbers_apart stored (λ s. s.rowid) (width part) is.place_is placed keys.apart
+
+pub has_placed : IsPlacedAs Goods has_stored has_values
+has_placed = record { values_are = λ s. refl; place_is = λ s. refl }
+
+pub books_placed : IsPlacedAs Books books_stored books_values
+books_placed = record { values_are = λ s. refl; place_is = λ s. refl }
+
+pub market_placed : IsPlacedAs Markets market_stored market_values
+market_placed = record { values_are = λ s. refl; place_is = λ s. refl }
+
+-- ---- the rows that are to be judged
+
+-- those of a part are what was read of it without the places, which differ
+pub record IsMadeAs (p : Parts) (read : Part × List Row) : Type 0 where
+  pub rows : (text : List ℕ) → rows_read text p read.0 ≡ unplaced read.0 read.1
+  pub apart : has_places read.0 ≡ true → HaveKeys (width read.0) read.1
+
+pub made_whole : {p : Parts} {rows : List Row} (part : Part) → has_places part ≡ false → ((text : List ℕ) → rows_read text p part ≡ rows) → IsMadeAs p (part, rows)
+made_whole {p} {rows} part free are = record {
+  rows = λ text. are text ∙ sym (cut_nothing part rows free);
+  apart = λ placed. absurd (true≢false (sym placed ∙ free));
+}
+
+pub made_placed : {p : Parts} {A : Type 0} {part : Part} {stored : Placed A → Row} {values : A → Row} → IsPlacedAs part stored values → has_places part ≡ true → (placed : List (Placed A))
+    → ((text : List ℕ) → rows_read text p part ≡ map values (map (λ s. s.row) placed)) → AreApart placed → IsMadeAs p (part, map stored placed)
+made_placed {p} {A} {part} {stored} {values} is has placed are apart = record {
+  rows = λ text. are text ∙ placed_values is placed ∙ sym (cut_places part (map stored placed) has);
+  apart = λ _. placed_keys is placed apart;
+}
+
+pub made_of : {head : StoredHead} {reads : ReadRows} {p : Parts} → map (λ read. read.0) reads ≡ other_parts Second → p.campaign ≡ head ∷ [] → AllByRecursion (IsMadeAs p) reads → IsMadeOf head reads p
+made_of {head} {reads} {p} parts campaign all = record {
+  parts = parts;
+  campaign = campaign;
+  rows = λ text read there. (all_has (IsMadeAs p) reads read all there).rows text;
+  apart = record { each = λ read there. (all_has (IsMadeAs p) reads read all there).apart };
+}
+
+-- where two rows of a part are kept at one place, not all are apart
+pub lacks_all : {A B : Type 0} {part : Part} {stored : Placed A → Row} {values : A → Row} → IsPlacedAs part stored values → has_places part ≡ true → (placed : List (Placed A)) (reads : ReadRows) → Has reads (part, map stored placed)
+    → (fault : LoadFault) → Lacks (AreApart placed) fault → (r : Result B LoadFault) → IsErrAnd r (λ told. told ≡ fault) → IfErr r (Lacks (AreAllApart reads))
+lacks_all is has placed reads there fault lacks (Ok b) told = tt
+lacks_all {A} {B} {part} {stored} is has placed reads there fault lacks (Err f) told = subst (Lacks (AreAllApart reads)) (sym told) (all fault lacks)
   where
-    of_goods : (f : Format) → Has (placed_tables f) has_table
-    of_goods First = inl refl
-    of_goods Second = inl refl
-
-    of_books : (f : Format) → Has (placed_tables f) books_table
-    of_books First = inr (inl refl)
-    of_books Second = inr (inl refl)
-
-    of_markets : (f : Format) → Has (parts_in f) Markets → Has (placed_tables f) market_table
-    of_markets First there = absurd (no_markets there)
-    of_markets Second there = inr (inr (inl refl))
-
-    keyed : (part : Part) → Has (parts_in f) part → IsKeyed (db (table_of part).tree)
-    keyed Own there = keyed_numbers (own_stored text) (λ (s : StoredHead). s.id) 0 (λ s. refl) (visible campaign_table) (db campaign_table.tree) p.campaign (λ r. refl) have.campaign (one_apart (λ (s : StoredHead). s.id) (made.head_row f c) p.campaign are.campaign)
-    keyed Factions there = keyed_numbers faction_stored (λ (s : StoredFaction). s.number) 0 (λ s. refl) (visible faction_table) (db faction_table.tree) p.factions (λ r. refl) have.factions (read_apart (λ (s : StoredFaction). s.number) made.faction_row (λ n v. refl) p.factions c.factions are.factions)
-    keyed Regions there = keyed_numbers region_stored (λ (s : StoredRegion). s.number) 0 (λ s. refl) (visible region_table) (db region_table.tree) p.regions (λ r. refl) have.regions (read_apart (λ (s : StoredRegion). s.number) made.region_row (λ n v. refl) p.regions c.regions are.regions)
-    keyed Units there = keyed_numbers unit_stored (λ (s : StoredUnit). s.number) 0 (λ s. refl) (visible unit_table) (db unit_table.tree) p.units (λ r. refl) have.units (read_apart (λ (s : StoredUnit). s.number) made.unit_row (λ n v. refl) p.units c.units are.units)
-    keyed Goods there = placed has_table (of_goods f)
-    keyed Structures there = keyed_numbers structure_stored (λ (s : StoredStructure). s.number) 0 (λ s. refl) (visible structure_table) (db structure_table.tree) p.structures (λ r. refl) have.structures (read_apart (λ (s : StoredStructure). s.number) made.structure_row (λ n v. refl) p.structures c.structures are.structures)
-    keyed Mail there = keyed_numbers mail_stored (λ (s : StoredMail). s.faction) 0 (λ s. refl) (visible mail_table) (db mail_table.tree) p.mail (λ r. refl) have.mail (read_apart (λ (s : StoredMail). s.faction) made.mail_row (λ n v. refl) p.mail c.mail are.mail)
-    keyed Reports there = keyed_numbers report_stored (λ (s : StoredReport). s.faction) 0 (λ s. refl) (visible report_table) (db report_table.tree) p.reports (λ r. refl) have.reports (read_apart (λ (s : StoredReport). s.faction) made.report_row (λ n v. refl) p.reports c.reports are.reports)
-    keyed Books there = placed books_table (of_books f)
-    keyed Markets there = placed market_table (of_markets f there)
+    all : (fault : LoadFault) → Lacks (AreApart placed) fault → Lacks (AreAllApart reads) fault
+    all Store lacks = λ apart. lacks (placed_apart is placed (apart.each (part, map stored placed) there has))
+    all (Damaged rule) lacks = lacks
+    all NotACampaign lacks = lacks
+    all OtherFormat lacks = lacks
+    all Memory lacks = lacks

@@ -52,6 +52,7 @@ pub mod WholeLaws
 pub mod StayLaws
 pub mod UpgradedLaws
 pub mod FillLaws
+pub mod KeptLaws
 pub mod ArriveLaws
 pub mod JoinLaws
 pub mod WorldTextLaws

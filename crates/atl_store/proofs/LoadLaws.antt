@@ -1,5 +1,5 @@
 -- From the rows that a SELECT gave to the trees: the rowids differ and are integers.
-use Rattle.std.proofs.Common.{◌≡◌, ℕ, true, false, List, [], ◌∷◌, map, Ordering, Less, Equal, Greater, refl, sym, ap, ◌∙◌}
+use Rattle.std.proofs.Common.{◌≡◌, ℕ, false, List, [], ◌∷◌, map, Ordering, Less, Equal, Greater, refl, sym, ap, ◌∙◌}
 use Rattle.std.specs.List.{AllByRecursion, IsDistinct}
 use Rattle.std.specs.List.Sorted.{IsPermutation}
 use Rattle.std.specs.Ordering.{is_eq, ordering_reverse}
@@ -10,12 +10,8 @@ use Rattle.sqlite_value.proofs.OrderLemmas.{value_cmp_total}
 use Rattle.sqlite_trees.specs.Tree.{rowid, IsAscending}
 use Rattle.sqlite_trees.specs.View.{is_int}
 use Rattle.sqlite_trees.proofs.ListLemmas.{all-permutation}
+use Rattle.atl_store.specs.Gathering.{HaveKeys}
 use Rattle.atl_store.specs.Sets.{IsKeyed}
-
--- the rows have different integers in this column
-pub record HaveKeys (at : ℕ) (rows : List Row) : Type 0 where
-  pub apart : IsDistinct (λ a b. is_eq (value_cmp (column a at) (column b at))) rows
-  pub ints : AllByRecursion (λ r. is_int (column r at) ≡ true) rows
 
 all_mapped : (f : Row → Row) (P Q : Row → Type 0) (rows : List Row) → ((r : Row) → P (f r) → Q r) → AllByRecursion P (map f rows) → AllByRecursion Q rows
 all_mapped f P Q [] so all = tt
@@ -57,11 +53,14 @@ mapped_distinct f at (r ∷ rows) is apart = (
   mapped_distinct f at rows is apart.1,
 )
 
--- rows that differ in their rowids are shown with different ones
-pub keyed_shown : (f : Row → Row) (at : ℕ) (tree shown : List Row) → ((r : Row) → column (f r) at ≡ rowid r) → IsPermutation (map f tree) shown → IsKeyed tree → IsDistinct (λ a b. is_eq (value_cmp (column a at) (column b at))) shown
-keyed_shown f at tree shown is same keyed = IsDistinct-IsPermutation _ (flips at) (map f tree) shown same (mapped_distinct f at tree is keyed.apart)
+-- f shows a row, with its rowid in this column, and these are all rows that it shows: where the rowids are different integers, so are those that are shown
+pub keyed_shown : (f : Row → Row) (at : ℕ) (tree shown : List Row) → ((r : Row) → column (f r) at ≡ rowid r) → IsPermutation (map f tree) shown → IsKeyed tree → HaveKeys at shown
+keyed_shown f at tree shown is same keyed = record {
+  apart = IsDistinct-IsPermutation _ (flips at) (map f tree) shown same (mapped_distinct f at tree is keyed.apart);
+  ints = all-permutation _ (map f tree) shown same (mapped_all f _ _ tree (λ r h. ap is_int (is r) ∙ h) keyed.ints);
+}
 
--- f shows a row, with its rowid in this column, and these are all rows that it shows
+-- and the other way round
 pub keyed_by : (f : Row → Row) (at : ℕ) (tree shown : List Row) → ((r : Row) → column (f r) at ≡ rowid r) → IsPermutation (map f tree) shown → HaveKeys at shown → IsKeyed tree
 keyed_by f at tree shown is same have =
     let back = IsPermutation-sym (map f tree) shown same in

@@ -1,24 +1,23 @@
 -- From the rows that were read to the campaign that is loaded.
-use Rattle.std.proofs.Common.{◌≡◌, ℕ, List, [], ◌∷◌, Bool, true, false, not, pos, map, IsTrue, Result, Ok, Err, IfErr, IsErrAnd, ◌⊎◌, Some, inl, arith, refl, sym, ap, ◌∙◌, subst, inr, string_bytes}
+use Rattle.std.proofs.Common.{◌≡◌, ℕ, List, [], ◌∷◌, Bool, true, false, not, filter, map, IsTrue, IsPermutation, true≢false, Option, Result, Ok, Err, IfErr, IsErrAnd, ◌⊎◌, Some, None, inl, arith, refl, sym, ap, ◌∙◌, subst, inr, string_bytes}
 use Rattle.std.specs.List.{IsDistinct}
-use Rattle.std.specs.Ordering.{eq_by_cmp, int_cmp}
 use Rattle.std.proofs.lemmas.Bool.{cases_Bool}
 use Rattle.sqlite_catalog.specs.Listing.{IsSound}
 use Rattle.sqlite_rules.specs.Lists.{Has}
-use Rattle.sqlite_rules.proofs.ListLemmas.{all_has}
+use Rattle.sqlite_rules.proofs.ListLemmas.{all_has, has_filtered, has_kept}
 use Rattle.sqlite_trees.specs.Tree.{Trees}
 use Rattle.sqlite_trees.specs.declared.store.Store.{Ghosts}
 use Rattle.sqlite.specs.Effect.{Database}
 use Rattle.sqlite.specs.Held.{Held, state}
+use Rattle.sqlite.specs.Order.{Row}
+use Rattle.sqlite.specs.Schema.{Schema}
 use Rattle.sqlite.specs.State.{HasCleanDisk}
 use Rattle.sqlite.specs.Table.{Table}
-use Rattle.atl_tables.specs.Formats.{format_number}
 use Rattle.atl_tables.specs.declared.format.Format.{Format}
 use Rattle.atl_tables.specs.declared.format.Format.TheVariants.{First, Second}
 use Rattle.atl_tables.specs.Worlds.{WorldValue}
 use Rattle.atl_tables.specs.World.{world_by}
 use Rattle.atl_state.specs.Checking.{Checks, IsFirstBroken}
-use Rattle.atl_state.specs.RowRules.{is_one_head, are_of_format}
 use Rattle.atl_state.specs.Campaign.{CampaignValue, MarkedCampaign}
 use Rattle.atl_state.specs.declared.checking.CheckFault.{CheckFault}
 use Rattle.atl_state.specs.declared.checking.CheckFault.TheVariants as check
@@ -26,30 +25,25 @@ use Rattle.atl_state.specs.declared.checking.Rule.{Rule}
 use Rattle.atl_state.specs.declared.checking.Rule.TheVariants.{OneRow, Ranges, Names, Known, Next, Days, Gone, Owners, Water, Guards, Books, Mail}
 use Rattle.atl_state.specs.declared.parts.Parts.{Parts}
 use Rattle.atl_state.specs.declared.parts.StoredHead.{StoredHead}
-use Rattle.atl_state.specs.declared.parts.StoredMarket.{StoredMarket}
 use Rattle.atl_store.specs.Faults.{judged_fault}
-use Rattle.atl_store.specs.Gathering.{IsSettled, Lacks, Found, FailsToRead, FailsToConfirm, AreAllApart, OwnRead, OthersRead, AreMarkets, AreOthers, IsMadeOf, Gathered, IsConfirmed, IsLoaded}
+use Rattle.atl_store.specs.Gathering.{IsSettled, Lacks, Found, FailsToRead, FailsToConfirm, ReadRows, AreOfFormat, AreAllApart, HaveKeys, unplaced, width, OwnRead, IsMadeOf, ReadsSome, Gathered, IsConfirmed, IsLoaded}
 use Rattle.atl_store.specs.Keeps.{Keeps, Stores}
-use Rattle.atl_store.specs.Loading.{HaveRows, HaveMarkets, KeepsOneRow, BreaksRule, IsDamaged, RefusesToLoadIn, StandsIn, LoadsIn, Loads, LeavesAlone, Leaves, AreMade, AreToldTyped, WantsMemory, FailedMeanwhile, RefusesAgain, placed_tables, other_selects}
+use Rattle.atl_store.specs.Loading.{HaveRows, rows_read, own_stored, KeepsOneRow, BreaksRule, IsDamaged, RefusesToLoadIn, StandsIn, LoadsIn, Loads, LeavesAlone, Leaves, AreMade, AreToldTyped, WantsMemory, FailedMeanwhile, RefusesAgain, has_places, placed_tables, other_parts, other_selects}
 use Rattle.atl_store.specs.Rows.{HoldsIn}
 use Rattle.atl_store.specs.Statements.{selection}
-use Rattle.atl_store.specs.Sets.{IsKeyed}
-use Rattle.atl_store.specs.Tables.{IsSoundly, HasTablesOf, campaign_table, has_table, books_table, market_table}
+use Rattle.atl_store.specs.Reading.{listing_of}
+use Rattle.atl_store.specs.Sets.{IsKeyed, rows_in}
+use Rattle.atl_store.specs.Tables.{Part, Own, IsSoundly, HasTablesOf, campaign_table, table_of, parts_in}
 use Rattle.atl_store.specs.WorldText.{world_text}
 use Rattle.atl_store.specs.declared.fault.LoadFault.{LoadFault}
 use Rattle.atl_store.specs.declared.fault.LoadFault.TheVariants.{Store, Damaged, NotACampaign, OtherFormat, Memory}
 use Rattle.atl_store.specs.declared.rows.campaign.StoredCampaign.{StoredCampaign}
-use Rattle.atl_store.specs.declared.rows.stored.Placed.{Placed}
-use Rattle.atl_store.proofs.KeyedLaws.{rows_keyed, has_placed, books_placed, market_placed, placed_unplaced, placed_keyed, placed_apart}
-use Rattle.atl_store.proofs.GatherLaws.{shown_open, fails_then}
-use Rattle.atl_store.proofs.PartsLaws.{rows_hold, holds_all}
+use Rattle.atl_store.proofs.KeyedLaws.{cut_nothing, cut_places, places_keyed, keyed_places, unplaced_all}
+use Rattle.atl_store.proofs.GatherLaws.{shown_open, fails_then, format_behind}
+use Rattle.atl_store.proofs.ListLaws.{has_map, map_has}
+use Rattle.atl_store.proofs.PartsLaws.{every_part, keeps_one_row, rows_hold, rows_keyed, holds_all}
 use Rattle.atl_store.proofs.SelectLaws.{has_first}
 use Rattle.atl_store.proofs.WorldTextLaws.{standing_text_is}
-
--- a row whose id is 1 and whose format is this one keeps the first rule
-one_head : (f : Format) (h : StoredHead) (rows : List StoredHead) → h.id ≡ pos 1 → h.format ≡ pos (format_number f) → rows ≡ h ∷ [] → IsTrue (is_one_head f rows)
-one_head First h rows id format is = rw (is, id, format) refl
-one_head Second h rows id format is = rw (is, id, format) refl
 
 module _ (f : Format) {S : Type 0} (g : Ghosts S) where
   pub own_kept : (old : Held S) (own : StoredCampaign) (w : WorldValue) → OwnRead g old f own w → KeepsOneRow f g old
@@ -62,95 +56,101 @@ module _ (f : Format) {S : Type 0} (g : Ghosts S) where
     own = read.row;
   }
 
+-- ---- the parts
+
+not_own : (part : Part) → has_places part ≡ true → Has (other_parts Second) part
+not_own part is = elim (every_part part) [ inl own ↦ absurd (true≢false (sym is ∙ ap has_places own)) | inr other ↦ other ]
+
+has_own : (f : Format) → Has (parts_in f) Own
+has_own First = inl refl
+has_own Second = inl refl
+
+-- what was read of a part
+read_of : (reads : ReadRows) → map (λ read. read.0) reads ≡ other_parts Second → (part : Part) → Has (other_parts Second) part → (read : Part × List Row) × Has reads read × (part ≡ read.0)
+read_of reads parts part there = map_has (λ (read : Part × List Row). read.0) reads part (subst (λ l. Has l part) (sym parts) there)
+
+nothing_unplaced : (part : Part) → unplaced part [] ≡ []
+nothing_unplaced part = elim (cases_Bool (has_places part)) [
+  | inl is ↦ cut_places part [] is
+  | inr is ↦ cut_nothing part [] is
+]
+
 -- ---- the rows, as they were read
 
-of_goods : (f : Format) → Has (placed_tables f) has_table
-of_goods First = inl refl
-of_goods Second = inl refl
+-- the parts of the first format are read under its tables
+since_first : (part : Part) → Has (parts_in First) part → (listing_of part).since ≡ First
+since_first part there = all_has (λ p. (listing_of p).since ≡ First) (parts_in First) part (refl, (refl, (refl, (refl, (refl, (refl, (refl, (refl, (refl, tt))))))))) there
 
-of_books : (f : Format) → Has (placed_tables f) books_table
-of_books First = inr (inl refl)
-of_books Second = inr (inl refl)
+-- under the tables of a format there are those that each of its parts is read under
+has_since : (f : Format) (schema : Schema) → HasTablesOf f schema → (part : Part) → Has (parts_in f) part → HasTablesOf (listing_of part).since schema
+has_since First schema has part there = subst (λ since. HasTablesOf since schema) (sym (since_first part there)) has
+has_since Second schema has part there = under (listing_of part).since
+  where
+    under : (since : Format) → HasTablesOf since schema
+    under First = has_first Second schema has
+    under Second = has
 
-module _ {S : Type 0} (g : Ghosts S) (old : Held S) where
-  have_markets : (f : Format) (placed : List (Placed StoredMarket)) → AreMarkets g old f placed → HasTablesOf f old.schema → HaveMarkets f (state g old).now.trees (map (λ s. s.row) placed)
-  have_markets First placed none begins = ap (map (λ (s : Placed StoredMarket). s.row)) none
-  have_markets Second placed are begins = placed_unplaced market_placed (state g old).now.trees placed (are begins)
+module _ (f : Format) {S : Type 0} (g : Ghosts S) (old : Held S) (reads : ReadRows) (are : AreOfFormat f (state g old).now reads) where
+  abbrev db : Trees
+  db = (state g old).now.trees
 
-  no_markets_of : (f : Format) (placed : List (Placed StoredMarket)) → AreMarkets g old f placed → IsTrue (are_of_format f (map (λ s. s.row) placed))
-  no_markets_of First placed none = ap (λ (l : List (Placed StoredMarket)). are_of_format First (map (λ s. s.row) l)) none
-  no_markets_of Second placed are = refl
+  -- all rows of a part that the format has
+  all_of : (read : Part × List Row) → Has reads read → Has (parts_in f) read.0 → HasTablesOf f old.schema → IsPermutation ((listing_of read.0).in_table db) read.1
+  all_of read there has begins = elim (are.each read there) [ inl all ↦ all.1 (has_since f old.schema begins read.0 has) | inr none ↦ absurd (none.0 has) ]
 
-  -- where the places of rows differ, the tables are keyed, and the other way round
-  all_keyed : (f : Format) {Z : Type 0} (read : OthersRead Z) → AreOthers g old f read → AreAllApart read → HasTablesOf f old.schema → (table : Table) → Has (placed_tables f) table → IsKeyed ((state g old).now.trees table.tree)
-  all_keyed f read others apart begins = tables f others.1 begins
-    where
-      first : HasTablesOf First old.schema
-      first = has_first f old.schema begins
+  -- where the places differ, the tables are keyed, and the other way round
+  all_keyed : map (λ read. read.0) reads ≡ other_parts Second → AreAllApart reads → HasTablesOf f old.schema → (table : Table) → Has (placed_tables f) table → IsKeyed (db table.tree)
+  all_keyed parts apart begins table there =
+      let part = map_has table_of (filter has_places (parts_in f)) table there in
+      let kept = has_filtered has_places (parts_in f) part.0 part.1 in
+      let read = read_of reads parts part.0 (not_own part.0 kept.1) in
+      subst (λ (t : Table). IsKeyed (db t.tree)) (sym (part.2 ∙ ap table_of read.2))
+      (places_keyed read.0.0 db read.0.1 (subst (λ p. has_places p ≡ true) read.2 kept.1) (all_of read.0 read.1 (subst (Has (parts_in f)) read.2 kept.0) begins) (apart.each read.0 read.1 (subst (λ p. has_places p ≡ true) read.2 kept.1)))
 
-      keyed : Table → Type 0
-      keyed table = IsKeyed ((state g old).now.trees table.tree)
-
-      has : keyed has_table
-      has = placed_keyed has_placed (state g old).now.trees read.0.0.1.1.items (others.0.0.1.1 first) apart.0
-
-      books : keyed books_table
-      books = placed_keyed books_placed (state g old).now.trees read.0.1.1.items (others.0.1.1 first) apart.1
-
-      tables : (f : Format) → AreMarkets g old f read.1.items → HasTablesOf f old.schema → (table : Table) → Has (placed_tables f) table → keyed table
-      tables First none begins table there = all_has keyed (placed_tables First) table (has, (books, tt)) there
-      tables Second are begins table there = all_has keyed (placed_tables Second) table (has, (books, (placed_keyed market_placed (state g old).now.trees read.1.items (are begins) apart.2, tt))) there
-
-  no_rows_apart : {A : Type 0} (placed : List (Placed A)) → placed ≡ [] → IsDistinct (eq_by_cmp int_cmp) (map (λ s. s.rowid) placed)
+  all_apart : AreMade f g old → AreAllApart reads
   unfolding IsDistinct
-  no_rows_apart placed none = subst (λ l. IsDistinct (eq_by_cmp int_cmp) (map (λ s. s.rowid) l)) (sym none) tt
+  all_apart made = record {
+    each = λ read there is. elim (are.each read there) [
+      | inl all ↦ keyed_places read.0 db read.1 is (all_of read there all.0 made.begins) (made.keyed (table_of read.0) (has_map table_of (filter has_places (parts_in f)) read.0 (has_kept has_places (parts_in f) read.0 all.0 is)))
+      | inr none ↦ subst (HaveKeys (width read.0)) (sym none.1) (record { apart = tt; ints = tt })
+    ];
+  }
 
-  all_apart : (f : Format) {Z : Type 0} (read : OthersRead Z) → AreOthers g old f read → AreMade f g old → AreAllApart read
-  all_apart f read others made = (
-    placed_apart has_placed db read.0.0.1.1.items (others.0.0.1.1 first) (made.keyed has_table (of_goods f)),
-    placed_apart books_placed db read.0.1.1.items (others.0.1.1 first) (made.keyed books_table (of_books f)),
-    markets f others.1 made,
-  )
-    where
-      db : Trees
-      db = (state g old).now.trees
+  -- the rows that are to be judged are all rows
+  module _ (head : StoredHead) (p : Parts) (made : IsMadeOf head reads p) where
+    none_read : (text : List ℕ) (part : Part) → ¬ Has (parts_in f) part → rows_read text p part ≡ []
+    none_read text part lacks = elim (every_part part) [
+      | inl own ↦ absurd (lacks (subst (Has (parts_in f)) (sym own) (has_own f)))
+      | inr other ↦
+          let read = read_of reads made.parts part other in
+          elim (are.each read.0 read.1) [
+            | inl all ↦ absurd (lacks (subst (Has (parts_in f)) (sym read.2) all.0))
+            | inr none ↦ ap (rows_read text p) read.2 ∙ made.rows text read.0 read.1 ∙ ap (unplaced read.0.0) none.1 ∙ nothing_unplaced read.0.0
+          ]
+    ]
 
-      first : HasTablesOf First old.schema
-      first = has_first f old.schema made.begins
+    rows_of_part : (text : List ℕ) → HasTablesOf f old.schema → IsPermutation (rows_in campaign_table db) (own_stored text head ∷ []) → (part : Part) → Has (parts_in f) part → IsPermutation (rows_in (table_of part) db) (rows_read text p part)
+    rows_of_part text begins own part there = elim (every_part part) [
+      | inl is ↦ subst (λ q. IsPermutation (rows_in (table_of q) db) (rows_read text p q)) (sym is) (subst (λ rows. IsPermutation (rows_in campaign_table db) (map (own_stored text) rows)) (sym made.campaign) own)
+      | inr other ↦
+          let read = read_of reads made.parts part other in
+          subst (λ q. IsPermutation (rows_in (table_of q) db) (rows_read text p q)) (sym read.2)
+          (subst (IsPermutation (rows_in (table_of read.0.0) db)) (sym (made.rows text read.0 read.1)) (unplaced_all read.0.0 db read.0.1 (all_of read.0 read.1 (subst (Has (parts_in f)) read.2 there) begins)))
+    ]
 
-      markets : (f : Format) → AreMarkets g old f read.1.items → AreMade f g old → IsDistinct (eq_by_cmp int_cmp) (map (λ s. s.rowid) read.1.items)
-      markets First none made = no_rows_apart read.1.items none
-      markets Second are made = placed_apart market_placed db read.1.items (are made.begins) (made.keyed market_table (inr (inr (inl refl))))
+    have_rows : (text : List ℕ) → HasTablesOf f old.schema → IsPermutation (rows_in campaign_table db) (own_stored text head ∷ []) → HaveRows f db text p
+    have_rows text begins own = record { rows = rows_of_part text begins own; none = none_read text }
 
 module _ (f : Format) {S : Type 0} (g : Ghosts S) where
-  -- all rows, as they were read
-  made_rows : {Z : Type 0} (old : Held S) (own : StoredCampaign) (w : WorldValue) (read : OthersRead Z) (p : Parts) → OwnRead g old f own w → AreOthers g old f read → IsMadeOf own.head read p → HasTablesOf f old.schema → HaveRows f (state g old).now.trees (string_bytes own.world) p
-  made_rows old own w read p row others made begins =
-      let first = has_first f old.schema begins in
-      let db = (state g old).now.trees in
-      subst (HaveRows f db (string_bytes own.world)) (sym made.is) (record {
-        campaign = row.table first;
-        factions = others.0.0.0.0.0 first;
-        regions = others.0.0.0.0.1 first;
-        units = others.0.0.1.0 first;
-        has = placed_unplaced has_placed db read.0.0.1.1.items (others.0.0.1.1 first);
-        structures = others.0.1.0.0 first;
-        mail = others.0.1.0.1 first;
-        reports = others.0.0.0.1 first;
-        books = placed_unplaced books_placed db read.0.1.1.items (others.0.1.1 first);
-        markets = have_markets g old f read.1.items others.1 begins;
-      })
-
-  pub gathered_with : {Z : Type 0} (old : Held S) (own : StoredCampaign) (w : WorldValue) (read : OthersRead Z) (p : Parts) → OwnRead g old f own w → Found g old (other_selects f) (AreOthers g old f) (Some read) → IsMadeOf own.head read p → Gathered f g old w p
-  gathered_with old own w read p row found made = record {
+  gathered_of : (old : Held S) (own : StoredCampaign) (w : WorldValue) (reads : ReadRows) (p : Parts) → OwnRead g old f own w → AreToldTyped g old (other_selects f) → AreOfFormat f (state g old).now reads → (head : StoredHead) → head ≡ own.head → IsMadeOf head reads p → Gathered f g old w p
+  gathered_of old own w reads p row typed are head same made = record {
     one = own_kept f g old own w row;
-    head = one_head f own.head p.campaign row.row.id row.row.format (ap (λ (p : Parts). p.campaign) made.is);
-    markets = subst (λ (p : Parts). IsTrue (are_of_format f p.markets)) (sym made.is) (no_markets_of g old f read.1.items found.1.1);
+    first = keeps_one_row f w p head (ap (λ (h : StoredHead). h.id) same ∙ row.row.id) (ap (λ (h : StoredHead). h.format) same ∙ row.row.format) made.campaign (none_read f g old reads are head p made);
     text = string_bytes own.world;
     world = row.row.world;
-    typed = found.0;
-    rows = made_rows old own w read p row found.1 made;
-    keyed = all_keyed g old f read found.1 made.apart;
+    typed = typed;
+    rows = λ begins. have_rows f g old reads are head p made (string_bytes own.world) begins (subst (λ h. IsPermutation (rows_in campaign_table (state g old).now.trees) (own_stored (string_bytes own.world) h ∷ [])) (sym same) (row.table (has_first f old.schema begins)));
+    keyed = all_keyed f g old reads are made.parts made.apart;
   }
 
   -- ---- what the check of the rows refuses
@@ -159,7 +159,7 @@ module _ (f : Format) {S : Type 0} (g : Ghosts S) where
   breaks old w p all begins rule first = record { made = record { begins = begins; keyed = all.keyed begins }; world = w; text = all.text; is_world = all.world; parts = p; rows = all.rows begins; first = first }
 
   damaged : (old : Held S) (w : WorldValue) (p : Parts) → Gathered f g old w p → HasTablesOf f old.schema → (rule : Rule) → IsFirstBroken f w p rule → IsDamaged f g old rule
-  damaged old w p all begins OneRow first = absurd (first.broken (all.head, all.markets))
+  damaged old w p all begins OneRow first = absurd (first.broken all.first)
   damaged old w p all begins Ranges first = inr (breaks old w p all begins Ranges first)
   damaged old w p all begins Names first = breaks old w p all begins Names first
   damaged old w p all begins Known first = breaks old w p all begins Known first
@@ -193,15 +193,6 @@ module _ (f : Format) {S : Type 0} (g : Ghosts S) where
       refused OtherFormat fails = absurd fails
       refused Memory fails = wants_memory old idle kept
 
-  -- the rows are not put together
-  pub unmade_refuses : {Z : Type 0} (old : Held S) → old.in_transaction ≡ false → KeepsOneRow f g old → (read : OthersRead Z) → Found g old (other_selects f) (AreOthers g old f) (Some read)
-      → (fault : LoadFault) → Lacks (AreAllApart read) fault → RefusesToLoadIn f g old fault
-  unmade_refuses old idle kept read found Store lacks = inr (inr (kept, inr (found.0, inl (λ made. lacks (all_apart g old f read found.1 made)))))
-  unmade_refuses old idle kept read found (Damaged rule) lacks = absurd lacks
-  unmade_refuses old idle kept read found NotACampaign lacks = absurd lacks
-  unmade_refuses old idle kept read found OtherFormat lacks = absurd lacks
-  unmade_refuses old idle kept read found Memory lacks = wants_memory old idle kept
-
   -- the tables are not confirmed
   module _ (old mid : Held S) (kept : KeepsOneRow f g old) (first : Leaves g old mid) (clean : HasCleanDisk (state g mid)) where
     was_open : IsTrue (state g old).is_open
@@ -229,6 +220,30 @@ module _ (f : Format) {S : Type 0} (g : Ghosts S) where
     unconfirmed_refuses idle typed NotACampaign fails = absurd fails
     unconfirmed_refuses idle typed OtherFormat fails = absurd fails
     unconfirmed_refuses idle typed Memory fails = wants_memory old idle kept
+
+-- what was found of the other tables behind the reading of the campaign's own row
+module _ (f : Format) {S : Type 0} (g : Ghosts S) {A : Type 0} (rows : A → ReadRows) (old mid new : Held S) (own : StoredCampaign) (w : WorldValue) (row : OwnRead g old f own w) (before : Leaves g old mid) (r : Result (Option A) LoadFault)
+    (reads : ReadsSome g mid (other_selects f) (λ a. AreOfFormat f (state g mid).now (rows a)) r new) (o : Option A) (was : r ≡ Ok o) (clean : HasCleanDisk (state g new)) where
+  found : (told : Option A) → o ≡ told → Found g old (other_selects f) (λ a. AreOfFormat f (state g old).now (rows a)) told
+  found told is = subst (Found g old (other_selects f) (λ a. AreOfFormat f (state g old).now (rows a))) is (format_behind g f rows old mid new before (other_selects f) r reads o was clean)
+
+  pub gathered_with : (a : A) → o ≡ Some a → (p : Parts) (head : StoredHead) → head ≡ own.head → IsMadeOf head (rows a) p → Gathered f g old w p
+  gathered_with a is p head same made = let all = found (Some a) is in gathered_of f g old own w (rows a) p row all.0 all.1 head same made
+
+  -- a value is of another type
+  pub mistyped_refuses : o ≡ None → RefusesToLoadIn f g old (Damaged Ranges)
+  mistyped_refuses is = inl (own_kept f g old own w row, found None is)
+
+  -- the rows are not put together
+  pub unmade_refuses : old.in_transaction ≡ false → (a : A) → o ≡ Some a → (fault : LoadFault) → Lacks (AreAllApart (rows a)) fault → RefusesToLoadIn f g old fault
+  unmade_refuses idle a is fault = refused fault
+    where
+      refused : (fault : LoadFault) → Lacks (AreAllApart (rows a)) fault → RefusesToLoadIn f g old fault
+      refused Store lacks = let all = found (Some a) is in inr (inr (own_kept f g old own w row, inr (all.0, inl (λ made. lacks (all_apart f g old (rows a) all.1 made)))))
+      refused (Damaged rule) lacks = absurd lacks
+      refused NotACampaign lacks = absurd lacks
+      refused OtherFormat lacks = absurd lacks
+      refused Memory lacks = wants_memory f g old idle (own_kept f g old own w row)
 
 module _ {S : Type 0} (g : Ghosts S) where
   -- a fault that was handed on

@@ -1,6 +1,7 @@
 -- What one statement makes of a database.
 use Rattle.std.specs.Prelude.{◌≡◌, ◌≢◌, ℕ, []}
 use Rattle.sqlite.specs.Effect.{Database, IsDatabase}
+use Rattle.sqlite.specs.State.{State}
 use Rattle.sqlite_rules.specs.Lists.{Has}
 use Rattle.sqlite_schema.specs.declared.schema.Schema.{Schema}
 use Rattle.sqlite_schema.specs.declared.schema.Table.{Table}
@@ -20,3 +21,12 @@ pub record Creates (before after : Schema) (tree : ℕ) (old new : Database) : T
   pub empty : new.trees tree ≡ []
   pub others : (t : Table) → Has before.tables t → new.trees t.tree ≡ old.trees t.tree
   pub sound : IsDatabase new
+
+-- the database has these tables, and none of them has a row
+pub record AreBare (schema : Schema) (db : Database) : Type 0 where
+  pub schema_is : db.schema ≡ schema
+  pub empty : (t : Table) → Has schema.tables t → db.trees t.tree ≡ []
+
+-- inside a transaction, which goes on: where the tables were the first of these and without a row, they are the second now and without a row
+abbrev pub Extends : Schema → Schema → State → State → Type 0
+Extends before after old new = (new.in_transaction ≡ old.in_transaction) × (AreBare before old.now → AreBare after new.now × IsDatabase new.now)

@@ -1,15 +1,18 @@
 -- One table after another is made, up to all.
-use Rattle.std.proofs.Common.{◌≡◌, ◌++◌, ◌∷◌, [], IsTrue, true, map, sym, ap, ◌∙◌, subst, inl, inr}
+use Rattle.std.proofs.Common.{◌≡◌, ◌++◌, ◌∷◌, ◌+◌, ◌<◌, ◌≤◌, ℕ, List, [], IsTrue, true, length, map, take, refl, sym, ap, ◌∙◌, subst, inl, inr, lit<, arith}
+use Rattle.std.specs.List.{sum_by}
+use Rattle.std.proofs.lemmas.List.{take_all}
+use Rattle.sqlite.specs.Effect.{IsDatabase}
 use Rattle.sqlite.specs.Schema.{Schema}
 use Rattle.sqlite.specs.Table.{Table}
 use Rattle.sqlite.specs.State.{State}
 use Rattle.sqlite_rules.specs.Lists.{Has}
 use Rattle.sqlite_rules.proofs.ListLemmas.{has_either}
 use Rattle.atl_store.specs.Sets.{IsKeyed, visible}
-use Rattle.atl_store.proofs.Made.{Creates}
-use Rattle.atl_store.specs.Tables.{no_tables, first_tables, table_count, index_count}
+use Rattle.atl_store.proofs.Made.{Creates, AreBare, Extends}
+use Rattle.atl_store.specs.Tables.{all_indexes, all_tables, no_tables, table_count}
 use Rattle.atl_store.specs.Inside.{Inside, IsBlank}
-use Rattle.atl_store.specs.Making.{Extends, AreEmpty}
+use Rattle.atl_store.specs.Making.{AreEmpty}
 
 -- one more table, where those before had no row
 pub extends : (before after : Schema) (table : Table) (old new : State) → IsTrue old.in_transaction → new.in_transaction ≡ true → after.tables ≡ before.tables ++ table ∷ []
@@ -30,31 +33,44 @@ extends before after table old new inside mode more makes = (
       ),
 )
 
-pub extends_then : (one two three : Schema) (a b c : State) → Extends one two a b → Extends two three b c → Extends one three a c
-extends_then one two three a b c first second = (second.0 ∙ first.0, λ bare. second.1 (first.1 bare).0)
+-- ---- so many
 
-pub extends_three : (one two three four : Schema) (a b c d : State) → Extends one two a b → Extends two three b c → Extends three four c d → Extends one four a d
-extends_three one two three four a b c d first second third = extends_then one two four a b d first (extends_then two three four b c d second third)
+-- these tables are the first, and there are the indexes of their keys
+abbrev pub with_tables : List Table → Schema
+with_tables tables = record { tables = tables; indexes = take (sum_by (λ t. length t.uniques) tables) all_indexes; views = [] }
 
-pub extends_four : (one two three four five : Schema) (a b c d e : State) → Extends one two a b → Extends two three b c → Extends three four c d → Extends four five d e → Extends one five a e
-extends_four one two three four five a b c d e first second third fourth = extends_then one four five a d e (extends_three one two three four a b c d first second third) fourth
+abbrev pub so_many : ℕ → Schema
+so_many count = with_tables (take count all_tables)
+
+-- inside a transaction, which goes on: where there was no table there are so many now, without a row
+abbrev pub MakesSome : ℕ → State → State → Type 0
+MakesSome count old new = (new.in_transaction ≡ old.in_transaction) × (AreBare no_tables old.now → AreBare (so_many count) new.now × (0 < count → IsDatabase new.now))
+
+pub makes_none : (s : State) → MakesSome 0 s s
+makes_none s = (refl, λ bare. (bare, λ some. absurd (omega (arith, some))))
+
+pub makes_more : (count : ℕ) (a b c : State) → MakesSome count a b → Extends (so_many count) (so_many (count + 1)) b c → MakesSome (count + 1) a c
+makes_more count a b c first next = (next.0 ∙ first.0, λ bare. let made = next.1 (first.1 bare).0 in (made.0, λ some. made.1))
+
+-- ---- all
 
 no_rows : IsKeyed []
 no_rows = record { apart = tt; ints = tt }
 
--- from a database without tables
-pub makes_all : (a b : State) → Extends no_tables (first_tables table_count index_count) a b → Inside IsBlank AreEmpty a b
-makes_all a b all = (
+pub makes_all : (count : ℕ) → table_count ≤ count → (a b : State) → MakesSome count a b → Inside IsBlank AreEmpty a b
+makes_all count enough a b all = (
   all.0,
   λ blank.
       let made = all.1 (record { schema_is = blank; empty = λ t listed. absurd listed }) in
+      let bare : AreBare (with_tables all_tables) b.now = subst (λ (l : List Table). AreBare (with_tables l) b.now) (take_all count all_tables enough) made.0 in
+      let some : 0 < table_count = lit< tt in
       record {
-        does = λ t listed. ap (map (visible t)) (made.0.empty t listed);
+        does = λ t listed. ap (map (visible t)) (bare.empty t listed);
         tables = record {
-          begins = record { tables = []; indexes = []; is = made.0.schema_is; free = tt; plain = λ i none. absurd none };
+          begins = record { tables = []; indexes = []; is = bare.schema_is; free = tt; plain = λ i none. absurd none };
           sound = record {
-            keyed = λ t listed. subst IsKeyed (sym (made.0.empty t listed)) no_rows;
-            listed = made.1;
+            keyed = λ t listed. subst IsKeyed (sym (bare.empty t listed)) no_rows;
+            listed = made.1 (omega (arith, some, enough));
           };
         };
         carries = record {

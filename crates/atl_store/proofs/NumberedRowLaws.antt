@@ -3,20 +3,12 @@ use Rattle.std.proofs.Common.{ℕ, [], ◌∷◌, length, drop, nat_eq, unwrap_o
 use Rattle.sqlite_tied.specs.Compute.{everything}
 use Rattle.sqlite.specs.Listing.{understood}
 use Rattle.sqlite.specs.Order.{Row}
-use Rattle.atl_store.specs.Tables.{Part, Own, Goods, Books, Markets, table_of, all_parts}
+use Rattle.atl_store.specs.Tables.{Part, Own, Goods, Books, Markets, IsNumberedPart, table_of, all_parts}
 use Rattle.atl_store.specs.Shown.{int}
 use Rattle.atl_store.proofs.FitLaws.{Fits}
 use Rattle.atl_store.proofs.NumberedLaws.{IsNumbered, puts_numbered, drops_numbered}
 use Rattle.atl_store.proofs.PartLaws.{listed, tree_of}
 use Rattle.atl_store.proofs.StatementLaws.{PutsRow, DropsKey}
-
--- the parts each of whose rows stands under a number of its own
-abbrev pub IsNumberedPart : Part → Type 0
-IsNumberedPart Own = ⊥
-IsNumberedPart Goods = ⊥
-IsNumberedPart Books = ⊥
-IsNumberedPart Markets = ⊥
-IsNumberedPart part = Unit {0}
 
 -- the place of a part's table among all, and how many values its rows have behind their number
 abbrev pub place_in : Part → ℕ

@@ -16,7 +16,7 @@ use Rattle.atl_store.specs.Reading.{Selects, RefusesToSelect}
 use Rattle.atl_store.specs.Statements.{selection}
 use Rattle.atl_store.specs.Sets.{rows_in}
 use Rattle.atl_store.specs.Stored.{first_columns, AreTyped, IsTyped}
-use Rattle.atl_store.specs.StoredRows.{campaign_stored, campaign_forms}
+use Rattle.atl_store.specs.Shown.{campaign_stored, campaign_forms}
 use Rattle.atl_store.specs.declared.fault.ReadFault.{ReadFault}
 use Rattle.atl_store.specs.declared.fault.ReadFault.TheVariants as read
 use Rattle.atl_store.specs.declared.fault.LoadFault.{LoadFault}

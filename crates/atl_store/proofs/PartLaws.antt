@@ -1,6 +1,7 @@
 -- The tables of the parts of a campaign, and what becomes of those of some parts.
-use Rattle.std.proofs.Common.{◌≡◌, ◌||◌, ◌⊎◌, ◌++◌, ℕ, Bool, true, false, not, nat_eq, cond, List, [], ◌∷◌, Option, Some, map, refl, sym, ap, ◌∙◌, subst, inl, inr, true≢false, arith}
+use Rattle.std.proofs.Common.{◌≡◌, ◌&&◌, ◌||◌, ◌⊎◌, ◌++◌, ℕ, Bool, true, false, not, nat_eq, cond, List, [], ◌∷◌, Option, Some, map, refl, sym, ap, ◌∙◌, subst, inl, inr, true≢false, arith}
 use Rattle.std.specs.List.{find, list_any, list_all}
+use Rattle.std.proofs.lemmas.Bool.{and_parts}
 use Rattle.std.proofs.lemmas.Bool.Decides.{nat_tests}
 use Rattle.std.proofs.lemmas.Option.{same_Some}
 use Rattle.sqlite.specs.Effect.{Database}
@@ -10,7 +11,7 @@ use Rattle.sqlite_rules.specs.Lists.{Has}
 use Rattle.sqlite_rules.proofs.ListLemmas.{has_either, has_left, has_right, some_from, test_has}
 use Rattle.atl_store.specs.Sets.{Set, Is, rows_in, visible}
 use Rattle.atl_store.specs.Tables.{Part, Own, table_of, all_parts, all_tables}
-use Rattle.atl_store.specs.Inside.{Alters, Changes}
+use Rattle.atl_store.specs.Inside.{Alters, Changes, InTurn}
 use Rattle.atl_store.proofs.ListLaws.{has_map}
 
 abbrev pub tree_of : Part → ℕ
@@ -106,3 +107,28 @@ module _ (Becomes : Part → List Row → List Row → Type 0) where
     ];
     others = λ p free. second.others p (λ late. free (has_right ps qs p late)) ∙ first.others p (λ early. free (has_left ps qs p early));
   }
+
+-- ---- each of some parts in its turn
+
+pub in_turn_one : (Does : Part → Database → Database → Type 0) (part : Part) (old new : Database) → Does part old new → InTurn Does (part ∷ []) old new
+in_turn_one Does part old new did = (new, did, refl)
+
+pub in_turn_then : (Does : Part → Database → Database → Type 0) (ps qs : List Part) (old mid new : Database) → InTurn Does ps old mid → InTurn Does qs mid new → InTurn Does (ps ++ qs) old new
+in_turn_then Does [] qs old mid new none rest = subst (λ db. InTurn Does qs db new) none rest
+in_turn_then Does (p ∷ ps) qs old mid new first rest = (first.0, first.1, in_turn_then Does ps qs first.0 mid new first.2 rest)
+
+-- none of them comes twice
+abbrev pub are_distinct : List Part → Bool
+are_distinct [] = true
+are_distinct (part ∷ parts) = are_apart (part ∷ []) parts && are_distinct parts
+
+-- what becomes of each of them in its turn becomes of all
+module _ {X : Type 0} (Becomes : X → Part → List Row → List Row → Type 0) where
+  abbrev pub Turn : Part → Database → Database → Type 0
+  Turn part old new = (x : X) → Changes (Becomes x) (part ∷ []) old new
+
+  pub in_turn_changed : (parts : List Part) → are_distinct parts ≡ true → (old new : Database) → InTurn Turn parts old new → (x : X) → Changes (Becomes x) parts old new
+  in_turn_changed [] apart old new none x = record { done = λ part there. absurd there; others = λ part free. ap (λ (db : Database). db.trees (tree_of part)) none }
+  in_turn_changed (p ∷ ps) apart old new first x =
+      let both = and_parts (are_apart (p ∷ []) ps) (are_distinct ps) apart in
+      both_changed (Becomes x) (p ∷ []) ps both.0 old first.0 new (first.1 x) (in_turn_changed ps both.1 first.0 new first.2 x)

@@ -1,21 +1,27 @@
 -- From the rows that the tables have to the campaign that they hold, table by table.
-use Rattle.std.proofs.Common.{◌≡◌, ◌≢◌, ◌==◌, ℕ, ℤ, pos, negsuc, Bool, true, false, not, List, [], ◌∷◌, length, map, refl, sym, ap, ◌∙◌, subst, inl, inr, true≢false, arith}
-use Rattle.std.specs.Prelude.{⊤}
+use Rattle.std.proofs.Common.{◌≡◌, ◌≢◌, ◌==◌, ℕ, ℤ, pos, negsuc, Bool, true, false, not, List, [], ◌∷◌, length, filter, map, refl, sym, ap, ◌∙◌, subst, inl, inr, true≢false, IsTrue, arith}
 use Rattle.std.specs.List.{range_with_len}
 use Rattle.std.specs.List.Sorted.{IsPermutation}
 use Rattle.std.specs.Ordering.{nat_cmp}
 use Rattle.std.specs.FinMap.{FinMap, entries}
-use Rattle.std.proofs.lemmas.List.Sorted.{IsPermutation-sym}
+use Rattle.std.proofs.lemmas.Bool.{cases_Bool}
+use Rattle.std.proofs.lemmas.List.Sorted.{IsPermutation-map, IsPermutation-sym, IsPermutation-trans}
 use Rattle.sqlite.specs.declared.types.Value.TheVariants.{Int, Text}
-use Rattle.sqlite.specs.Order.{Row}
+use Rattle.sqlite.specs.Order.{Row, column}
+use Rattle.sqlite.specs.Table.{Table}
 use Rattle.sqlite_trees.specs.Tree.{Trees}
 use Rattle.sqlite_rules.specs.Lists.{Has}
-use Rattle.sqlite_rules.proofs.ListLemmas.{all_has, has_either, has_left, has_right, has_filtered, has_kept}
+use Rattle.sqlite_rules.proofs.ListLemmas.{has_either, has_left, has_right, has_filtered, has_kept}
 use Rattle.atl_tables.specs.declared.format.Format.{Format}
 use Rattle.atl_tables.specs.declared.format.Format.TheVariants.{First, Second}
 use Rattle.atl_records.specs.Books.{all_entries, entry_place, thing_at, thing_place, amount_at}
 use Rattle.atl_records.specs.Held.{Held}
 use Rattle.atl_records.specs.Limits.{entry_count}
+use Rattle.atl_tables.specs.Formats.{format_number}
+use Rattle.atl_tables.specs.Worlds.{WorldValue}
+use Rattle.atl_state.specs.Checking.{Keeps}
+use Rattle.atl_state.specs.RowRules.{is_one_head, are_of_format}
+use Rattle.atl_state.specs.declared.checking.Rule.TheVariants.{OneRow}
 use Rattle.atl_state.specs.Rows.{rows_by, rows_of, amount_rows, is_zero, AreRowsOf}
 use Rattle.atl_state.specs.Rows as made
 use Rattle.atl_state.specs.Campaign.{CampaignValue}
@@ -32,42 +38,56 @@ use Rattle.atl_records.specs.declared.records.Unit.{Unit}
 use Rattle.atl_records.proofs.BookLaws.{place_at}
 use Rattle.atl_store.specs.declared.rows.has.Sort.{Sort}
 use Rattle.atl_store.specs.declared.rows.has.Sort.TheVariants.{Item, Skill}
-use Rattle.atl_store.specs.Loading.{HaveRows, HaveMarkets, own_stored, has_values, books_values, market_values}
-use Rattle.atl_store.specs.Rows.{RowsOf, HasRowsOf, BooksRowsOf, MarketRowsOf, rows_for, Holds, HoldsIn, head_of, faction_line, region_line, unit_line, structure_line, things_of}
-use Rattle.atl_store.specs.Sets.{Is, rows_in}
-use Rattle.atl_store.specs.Shown.{flag, head_row_in, mail_row, report_row}
-use Rattle.atl_store.specs.StoredRows.{faction_stored, region_stored, unit_stored, structure_stored, mail_stored, report_stored}
-use Rattle.atl_store.specs.Tables.{Part, Own, Factions, Regions, Units, Goods, Structures, Mail, Reports, Books, Markets, table_of, all_parts, parts_in, campaign_table, faction_table, region_table, unit_table, has_table, structure_table, mail_table, report_table, books_table, market_table}
+use Rattle.atl_store.specs.Gathering.{HaveKeys}
+use Rattle.atl_store.specs.Loading.{HaveRows, rows_read, own_stored, has_values, books_values, market_values, has_places, placed_tables}
+use Rattle.atl_store.specs.Rows.{RowsOf, lines_of, HasRowsOf, BooksRowsOf, MarketRowsOf, rows_for, Holds, HoldsIn, head_of, faction_line, region_line, unit_line, structure_line, things_of}
+use Rattle.atl_store.specs.Sets.{Is, IsKeyed, rows_in}
+use Rattle.atl_store.specs.Shown.{flag, head_row_in, mail_row, report_row, faction_stored, region_stored, unit_stored, structure_stored, mail_stored, report_stored}
+use Rattle.atl_store.specs.Tables.{Part, Own, Factions, Regions, Units, Goods, Structures, Mail, Reports, Books, Markets, table_of, all_parts, parts_in}
 use Rattle.atl_store.specs.Written.{sort_number}
 use Rattle.atl_store.proofs.EditLaws.{has_permuted}
 use Rattle.atl_store.proofs.EntryLaws.{got_entry, entry_got, flat_has, has_flat}
 use Rattle.atl_store.proofs.GoodsLaws.{is_not_zero}
 use Rattle.atl_store.proofs.LedgerLaws.{every_entry, has_range, within}
+use Rattle.atl_store.proofs.KeyedLaws.{mapped_twice, lines_keys, one_keys, numbers_keyed}
 use Rattle.atl_store.proofs.ListLaws.{has_map, map_has}
+use Rattle.atl_store.proofs.PartLaws.{all_among, is_among, not_among}
 
 -- ---- rows of a table, rows that were read of it, and rows that are made of a campaign
 
 module _ {A : Type 0} (shown : A → Row) (rows : List Row) (read made : List A) (in_table : IsPermutation rows (map shown read)) (of_them : IsPermutation made read) where
   -- the table has exactly the rows that are made
+  rows_made : IsPermutation rows (map shown made)
+  rows_made = IsPermutation-trans rows (map shown read) (map shown made) in_table (IsPermutation-sym (map shown made) (map shown read) (IsPermutation-map shown made read of_them))
+
   are_made : Is rows (λ r. (a : A) × Has made a × (r ≡ shown a))
   are_made r = (
-    λ there. let a = map_has shown read r (has_permuted rows (map shown read) r in_table there) in (a.0, has_permuted read made a.0 (IsPermutation-sym made read of_them) a.1, a.2),
-    λ of. has_permuted (map shown read) rows r (IsPermutation-sym rows (map shown read) in_table) (subst (Has (map shown read)) (sym of.2) (has_map shown read of.0 (has_permuted made read of.0 of_them of.1))),
+    λ there. map_has shown made r (has_permuted rows (map shown made) r rows_made there),
+    λ of. has_permuted (map shown made) rows r (IsPermutation-sym rows (map shown made) rows_made) (subst (Has (map shown made)) (sym of.2) (has_map shown made of.0 of.1)),
   )
 
--- ---- the six tables by number
+-- ---- the tables by number
+
+-- all rows, as they are shown, and they have different integers in the first column
+abbrev HasKeys : List Row → Type 0
+HasKeys rows = (shown : List Row) × IsPermutation rows shown × HaveKeys 0 shown
 
 -- one row for each entry of a map
-module _ {A V : Type 0} (shown : A → Row) (row : ℕ → V → A) (line : ℕ → V → Row) (same : (n : ℕ) (v : V) → shown (row n v) ≡ line n v) where
-  by_number : (rows : List Row) (read : List A) (m : FinMap nat_cmp V) → IsPermutation rows (map shown read) → IsPermutation (rows_by row (entries m)) read → Is rows (RowsOf line m)
-  by_number rows read m in_table of_them r =
-      let is = are_made shown rows read (rows_by row (entries m)) in_table of_them r in (
-        λ there.
-            let a = is.0 there in
-            let e = map_has (λ (e : ℕ × V). row e.0 e.1) (entries m) a.0 a.1 in
-            (e.0.0, e.0.1, entry_got m e.0.0 e.0.1 e.1, a.2 ∙ ap shown e.2 ∙ same e.0.0 e.0.1),
-        λ of. is.1 (row of.0 of.1, has_map (λ (e : ℕ × V). row e.0 e.1) (entries m) (of.0, of.1) (got_entry m of.0 of.1 of.2), of.3 ∙ sym (same of.0 of.1)),
-      )
+by_number : {A V : Type 0} {Q : Type 0} (shown : A → Row) (row : ℕ → V → A) (line : ℕ → V → Row) → ((n : ℕ) (v : V) → shown (row n v) ≡ line n v) → ((n : ℕ) (v : V) → column (line n v) 0 ≡ Int (pos n))
+    → (rows : List Row) (read : List A) (m : FinMap nat_cmp V) → IsPermutation rows (map shown read) → IsPermutation (rows_by row (entries m)) read → Is rows (RowsOf line m) × (Q → HasKeys rows)
+by_number {A} {V} shown row line same numbered rows read m in_table of_them = (held, λ _. (lines, is, lines_keys line numbered m))
+  where
+    lines : List Row
+    lines = lines_of line (entries m)
+
+    is : IsPermutation rows lines
+    is = subst (IsPermutation rows) (mapped_twice (λ (e : ℕ × V). row e.0 e.1) shown (λ (e : ℕ × V). line e.0 e.1) (λ e. same e.0 e.1) (entries m)) (rows_made shown rows read (rows_by row (entries m)) in_table of_them)
+
+    held : Is rows (RowsOf line m)
+    held r = (
+      λ there. let e = map_has (λ (e : ℕ × V). line e.0 e.1) (entries m) r (has_permuted rows lines r is there) in (e.0.0, e.0.1, entry_got m e.0.0 e.0.1 e.1, e.2),
+      λ of. has_permuted lines rows r (IsPermutation-sym rows lines is) (subst (Has lines) (sym of.3) (has_map (λ (e : ℕ × V). line e.0 e.1) (entries m) (of.0, of.1) (got_entry m of.0 of.1 of.2))),
+    )
 
 same_flag : (b : Bool) → Int (made.flag b) ≡ flag b
 same_flag true = refl
@@ -82,12 +102,15 @@ unit_same n u =
 
 -- ---- the campaign's own row
 
-own_held : (f : Format) (text : List ℕ) (c : CampaignValue) (rows : List Row) (read : List StoredHead) → IsPermutation rows (map (own_stored text) read) → IsPermutation (made.head_row f c ∷ []) read → Is rows (λ r. r ≡ head_row_in f (head_of c) text)
-own_held f text c rows read in_table of_them r =
-    let is = are_made (own_stored text) rows read (made.head_row f c ∷ []) in_table of_them r in (
-      λ there. let a = is.0 there in elim a.1 [ inl same ↦ a.2 ∙ ap (own_stored text) same | inr none ↦ absurd none ],
-      λ same. is.1 (made.head_row f c, inl refl, same),
-    )
+own_held : {Q : Type 0} (f : Format) (text : List ℕ) (c : CampaignValue) (rows : List Row) (read : List StoredHead) → IsPermutation rows (map (own_stored text) read) → IsPermutation (made.head_row f c ∷ []) read → Is rows (λ r. r ≡ head_row_in f (head_of c) text) × (Q → HasKeys rows)
+own_held f text c rows read in_table of_them = (
+  λ r.
+      let is = are_made (own_stored text) rows read (made.head_row f c ∷ []) in_table of_them r in (
+        λ there. let a = is.0 there in elim a.1 [ inl same ↦ a.2 ∙ ap (own_stored text) same | inr none ↦ absurd none ],
+        λ same. is.1 (made.head_row f c, inl refl, same),
+      ),
+  λ _. (head_row_in f (head_of c) text ∷ [], rows_made (own_stored text) rows read (made.head_row f c ∷ []) in_table of_them, one_keys (head_row_in f (head_of c) text) (pos 1) refl),
+)
 
 -- ---- amounts that are not 0
 
@@ -213,55 +236,61 @@ module _ (books : List (List ℤ)) where
 
 -- ---- all tables
 
--- the first format has no table of markets
-pub no_markets : Has (parts_in First) Markets → ⊥
-no_markets there = all_has IsNoMarkets (parts_in First) Markets (tt, (tt, (tt, (tt, (tt, (tt, (tt, (tt, (tt, tt))))))))) there
-  where
-    IsNoMarkets : Part → Type 0
-    IsNoMarkets Markets = ⊥
-    IsNoMarkets Own = ⊤
-    IsNoMarkets Factions = ⊤
-    IsNoMarkets Regions = ⊤
-    IsNoMarkets Units = ⊤
-    IsNoMarkets Goods = ⊤
-    IsNoMarkets Structures = ⊤
-    IsNoMarkets Mail = ⊤
-    IsNoMarkets Reports = ⊤
-    IsNoMarkets Books = ⊤
+pub every_part : (part : Part) → Has all_parts part
+every_part = all_among all_parts refl
 
--- tables that have the rows of a campaign hold it
-pub rows_hold : (f : Format) (db : Trees) (text : List ℕ) (p : Parts) (c : CampaignValue) → HaveRows f db text p → AreRowsOf f c p → HoldsIn f db text c
-unfolding rows_of
-rows_hold f db text p c have are = record { rows = rows }
-  where
-    markets : (f : Format) → Has (parts_in f) Markets → HaveMarkets f db p.markets → IsPermutation (made.market_rows f (entries c.regions)) p.markets → Is (rows_in market_table db) (MarketRowsOf c.regions)
-    markets First there in_table of_them = absurd (no_markets there)
-    markets Second there in_table of_them = stocks_held (rows_in market_table db) p.markets c.regions in_table of_them
+-- a part that the first format doesn't have is of the second
+only_second : (f : Format) (part : Part) → is_among (parts_in First) part ≡ false → Has (parts_in f) part → f ≡ Second
+only_second First part late there = absurd (not_among (parts_in First) part late there)
+only_second Second part late there = refl
 
-    rows : (part : Part) → Has (parts_in f) part → Is (rows_in (table_of part) db) (rows_for (head_row_in f (head_of c) text) c part)
-    rows Own there = own_held f text c (rows_in campaign_table db) p.campaign have.campaign are.campaign
-    rows Factions there = by_number faction_stored made.faction_row faction_line faction_same (rows_in faction_table db) p.factions c.factions have.factions are.factions
-    rows Regions there = by_number region_stored made.region_row region_line (λ n r. refl) (rows_in region_table db) p.regions c.regions have.regions are.regions
-    rows Units there = by_number unit_stored made.unit_row unit_line unit_same (rows_in unit_table db) p.units c.units have.units are.units
-    rows Goods there = goods_held (rows_in has_table db) p.has c.units have.has are.has
-    rows Structures there = by_number structure_stored made.structure_row structure_line (λ n s. refl) (rows_in structure_table db) p.structures c.structures have.structures are.structures
-    rows Mail there = by_number mail_stored made.mail_row mail_row (λ n text. refl) (rows_in mail_table db) p.mail c.mail have.mail are.mail
-    rows Reports there = by_number report_stored made.report_row report_row (λ n text. refl) (rows_in report_table db) p.reports c.reports have.reports are.reports
-    rows Books there = books_held c.books (rows_in books_table db) p.books have.books are.books
-    rows Markets there = markets f there have.markets are.markets
+-- tables that have the rows of a campaign
+module _ (f : Format) (db : Trees) (text : List ℕ) (p : Parts) (c : CampaignValue) (have : HaveRows f db text p) (are : AreRowsOf f c p) where
+  -- Each part's table has exactly the rows that stand for the part, and they differ in the first column where that is the row's number.
+  by_part : (part : Part) → Has (parts_in f) part → Is (rows_in (table_of part) db) (rows_for (head_row_in f (head_of c) text) c part) × (has_places part ≡ false → HasKeys (rows_in (table_of part) db))
+  unfolding rows_of
+  by_part Own there = own_held f text c _ p.campaign (have.rows Own there) are.campaign
+  by_part Factions there = by_number faction_stored made.faction_row faction_line faction_same (λ n v. refl) _ p.factions c.factions (have.rows Factions there) are.factions
+  by_part Regions there = by_number region_stored made.region_row region_line (λ n v. refl) (λ n v. refl) _ p.regions c.regions (have.rows Regions there) are.regions
+  by_part Units there = by_number unit_stored made.unit_row unit_line unit_same (λ n v. refl) _ p.units c.units (have.rows Units there) are.units
+  by_part Goods there = (goods_held _ p.has c.units (have.rows Goods there) are.has, λ number. absurd (true≢false number))
+  by_part Structures there = by_number structure_stored made.structure_row structure_line (λ n v. refl) (λ n v. refl) _ p.structures c.structures (have.rows Structures there) are.structures
+  by_part Mail there = by_number mail_stored made.mail_row mail_row (λ n v. refl) (λ n v. refl) _ p.mail c.mail (have.rows Mail there) are.mail
+  by_part Reports there = by_number report_stored made.report_row report_row (λ n v. refl) (λ n v. refl) _ p.reports c.reports (have.rows Reports there) are.reports
+  by_part Books there = (books_held c.books _ p.books (have.rows Books there) are.books, λ number. absurd (true≢false number))
+  by_part Markets there = (stocks_held _ p.markets c.regions (have.rows Markets there) (subst (λ f. IsPermutation (made.market_rows f (entries c.regions)) p.markets) (only_second f Markets refl there) are.markets), λ number. absurd (true≢false number))
 
-every_part : (part : Part) → Has all_parts part
-every_part Own = inl refl
-every_part Factions = inr (inl refl)
-every_part Regions = inr (inr (inl refl))
-every_part Units = inr (inr (inr (inl refl)))
-every_part Goods = inr (inr (inr (inr (inl refl))))
-every_part Structures = inr (inr (inr (inr (inr (inl refl)))))
-every_part Mail = inr (inr (inr (inr (inr (inr (inl refl))))))
-every_part Reports = inr (inr (inr (inr (inr (inr (inr (inl refl)))))))
-every_part Books = inr (inr (inr (inr (inr (inr (inr (inr (inl refl))))))))
-every_part Markets = inr (inr (inr (inr (inr (inr (inr (inr (inr (inl refl)))))))))
+  -- so they hold it
+  pub rows_hold : HoldsIn f db text c
+  rows_hold = record { rows = λ part there. (by_part part there).0 }
+
+  -- and are keyed, where those are that have places
+  pub rows_keyed : ((table : Table) → Has (placed_tables f) table → IsKeyed (db table.tree)) → (table : Table) → Has (map table_of (parts_in f)) table → IsKeyed (db table.tree)
+  rows_keyed placed table there =
+      let part = map_has table_of (parts_in f) table there in
+      subst (λ (t : Table). IsKeyed (db t.tree)) (sym part.2) (elim (cases_Bool (has_places part.0)) [
+        | inl is ↦ placed (table_of part.0) (has_map table_of (filter has_places (parts_in f)) part.0 (has_kept has_places (parts_in f) part.0 part.1 is))
+        | inr is ↦ let keys = (by_part part.0 part.1).1 is in numbers_keyed part.0 db keys.0 is keys.1 keys.2
+      ])
 
 -- in the second format they hold it whole
 pub holds_all : (db : Trees) (text : List ℕ) (c : CampaignValue) → HoldsIn Second db text c → Holds db text c
 holds_all db text c holds = record { rows = λ part. holds.rows part (every_part part) }
+
+-- ---- the first rule
+
+one_head : (f : Format) (h : StoredHead) (rows : List StoredHead) → h.id ≡ pos 1 → h.format ≡ pos (format_number f) → rows ≡ h ∷ [] → IsTrue (is_one_head f rows)
+one_head First h rows id format is = rw (is, id, format) refl
+one_head Second h rows id format is = rw (is, id, format) refl
+
+no_markets : (f : Format) (p : Parts) → ((text : List ℕ) (part : Part) → ¬ Has (parts_in f) part → rows_read text p part ≡ []) → IsTrue (are_of_format f p.markets)
+no_markets First p none = nothing p.markets (none [] Markets (not_among (parts_in First) Markets refl))
+  where
+    nothing : (rows : List StoredMarket) → map market_values rows ≡ [] → IsTrue (are_of_format First rows)
+    nothing [] is = refl
+    nothing (row ∷ rows) is = absurd (let k = is in cc)
+no_markets Second p none = refl
+
+-- a row whose id is 1 and whose format is this one keeps it, where no row was read of a part that the format doesn't have
+pub keeps_one_row : (f : Format) (w : WorldValue) (p : Parts) (h : StoredHead) → h.id ≡ pos 1 → h.format ≡ pos (format_number f) → p.campaign ≡ h ∷ [] → ((text : List ℕ) (part : Part) → ¬ Has (parts_in f) part → rows_read text p part ≡ []) → Keeps f w p OneRow
+keeps_one_row f w p h id format is none = (one_head f h p.campaign id format is, no_markets f p none)

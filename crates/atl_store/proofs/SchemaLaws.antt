@@ -14,7 +14,7 @@ use Rattle.sqlite_schema.specs.Rules.{guards}
 use Rattle.sqlite_rules.specs.Lists.{Has}
 use Rattle.sqlite_rules.proofs.ListLemmas.{all_has, all_from, has_left, has_either}
 use Rattle.sqlite_trees.proofs.ListLemmas.{all-append}
-use Rattle.atl_store.specs.Tables.{all_tables, all_indexes, IsHarmless, AreTables, AreIndexes, Begins}
+use Rattle.atl_store.specs.Tables.{all_tables, all_indexes, all_trees, IsHarmless, AreTables, AreIndexes, Begins}
 
 -- a list of one element, which is this one
 pub only_one : {A : Type 0} (xs : List A) (x d : A) → 1 ≤ length xs → length xs < 2 → d ≡ get_or xs 0 d → d ≡ x → xs ≡ x ∷ []
@@ -51,10 +51,13 @@ any_mapped : {A B : Type 0} (f : A → B) (p : B → Bool) (xs : List A) → lis
 any_mapped f p [] = refl
 any_mapped f p (x ∷ xs) = ap (λ b. p (f x) || b) (any_mapped f p xs)
 
--- the first so many trees are those of the first so many tables
-pub our_trees : (tree count : ℕ)
-    → list_any (λ n. tree == n) (take count (map (λ (t : Table). t.tree) all_tables)) ≡ list_any (λ t. tree == t.tree) (take count all_tables)
-our_trees tree count = ap (list_any (λ n. tree == n)) (take-map (λ (t : Table). t.tree) count all_tables) ∙ any_mapped (λ (t : Table). t.tree) (λ n. tree == n) (take count all_tables)
+-- where such elements have the trees of all tables, the first so many have those of the first so many
+pub our_trees : {X : Type 0} (tree_of : X → ℕ) (xs : List X) → map tree_of xs ≡ all_trees → (tree count : ℕ)
+    → list_any (λ x. tree == tree_of x) (take count xs) ≡ list_any (λ t. tree == t.tree) (take count all_tables)
+our_trees tree_of xs same tree count =
+    sym (any_mapped tree_of (λ n. tree == n) (take count xs))
+    ∙ ap (list_any (λ n. tree == n)) (sym (take-map tree_of count xs) ∙ ap (take count) same ∙ take-map (λ (t : Table). t.tree) count all_tables)
+    ∙ any_mapped (λ (t : Table). t.tree) (λ n. tree == n) (take count all_tables)
 
 -- ---- the whole schema
 

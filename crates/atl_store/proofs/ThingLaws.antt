@@ -90,6 +90,10 @@ module _ (unit : ℕ) (sort : Sort) (thing : ℕ) where
         let told : Tells unit sort thing = subst (λ n. Tells n sort thing) keys.0 (subst (λ s. Tells had.0 s thing) (same_sort had.1 sort keys.1) (subst (Tells had.0 had.1) keys.2 (had.3, had.4))) in
         (λ none. told.0 (sym is ∙ none), told.1 ∙ ap (has_row unit (sort_number sort) thing) (sym is))
 
+    -- where there is none of it, no row has its key
+    pub no_thing : amount ≡ 0 → (r : Row) → HasRowsOf c.units r → take 3 r ≢ has_key unit (sort_number sort) thing
+    no_thing none r of key = (wanted_here r (of_key r key) of).0 none
+
     pub thing_put : amount ≢ 0 → (old new : State) → Inside HasTables (Puts has_table 3 row) old new → Inside HasTables (RewritesThings c sort (is_thing unit thing)) old new
     thing_put some old new did = inside_weaker HasTables (Puts has_table 3 row) (RewritesThings c sort (is_thing unit thing)) old new
         (λ has puts. rewrites_key is_here (λ r. take 3 r ≡ has_key unit (sort_number sort) thing) (λ r. r ≡ row) (HasRowsOf c.units) key_of of_key

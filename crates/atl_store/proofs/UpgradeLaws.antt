@@ -16,14 +16,13 @@ use Rattle.atl_store.specs.Inside.{Inside, HasTables, Carries, Both, Puts}
 use Rattle.atl_store.specs.Rows.{head_of, rows_for, campaign_line, Holds, HoldsIn, MarketRowsOf}
 use Rattle.atl_store.specs.Sets.{Is, IsKeyed, rows_in, put, visible}
 use Rattle.atl_store.specs.Shown.{head_row, head_row_in}
-use Rattle.atl_store.specs.Statements.{creation}
-use Rattle.atl_store.specs.Tables.{Part, Own, Factions, Regions, Units, Goods, Structures, Mail, Reports, Books, Markets, campaign_table, market_table, all_tables, all_indexes, first_tables, parts_in, table_of}
+use Rattle.atl_store.specs.Tables.{Part, Own, Markets, campaign_table, market_table, all_tables, all_indexes, creation_of, first_tables, parts_in, table_of}
 use Rattle.atl_store.specs.UpgradeSteps.{AddsMarkets, IsOld, UpgradesHead, WritesUpgrade}
 use Rattle.atl_store.specs.Writes.{Runs}
-use Rattle.atl_store.proofs.CreateTexts.{makes_table, market_create}
+use Rattle.atl_store.proofs.CreateTexts.{is_made, makes_table}
 use Rattle.atl_store.proofs.ListLaws.{has_map}
 use Rattle.atl_store.proofs.Made.{Creates}
-use Rattle.atl_store.proofs.PartLaws.{listed, same_part}
+use Rattle.atl_store.proofs.PartLaws.{all_among, listed, same_part}
 use Rattle.atl_store.proofs.WholeLaws.{inside_then, inside_weaker}
 
 abbrev old_schema : Schema
@@ -61,11 +60,11 @@ module _ (old new : Database) (is : IsOld old) (made : Creates old_schema new_sc
         absurd (free (has_map (λ (u : Table). u.tree) all_tables t (has_left old_schema.tables (market_table ∷ []) t was)));
   }
 
-pub adds_markets : (old new : State) → Runs (creation 9) [] old new → Inside IsOld AddsMarkets old new
+pub adds_markets : (old new : State) → Runs (creation_of Markets) [] old new → Inside IsOld AddsMarkets old new
 adds_markets old new ran = (
   ran.2.1.mode ∙ sym ran.0,
   λ is.
-      let made = makes_table old_schema new_schema market_table (creation 9) market_create old new ran.1 is.just ran.2.0 in
+      let made = makes_table old_schema new_schema market_table (creation_of Markets) (is_made Markets) old new ran.1 is.just ran.2.0 in
       record {
         does = record { empty = made.empty; others = λ t there. made.others t there };
         tables = has_all old.now new.now is made;
@@ -74,6 +73,10 @@ adds_markets old new ran = (
 )
 
 -- ---- the whole
+
+-- each other part has a table in the first format
+in_first : (part : Part) → part ≢ Markets → Has (parts_in First) part
+in_first part other = elim (all_among (Markets ∷ parts_in First) refl part) [ inl same ↦ absurd (other same) | inr there ↦ there ]
 
 -- where nothing is in stock there are no rows of stocks
 no_stocks : (c : CampaignValue) → HasNoStocks c → (r : Row) → ¬ MarketRowsOf c.regions r
@@ -108,15 +111,8 @@ module _ (text : List ℕ) (c : CampaignValue) (old mid new : Database) (first :
     where
       rows : (part : Part) → Is (rows_in (table_of part) new.trees) (rows_for (campaign_line text c) c part)
       rows Own = own_row _ _ (head_row_in First (head_of c) before) (campaign_line text c) refl (was Own (inl refl)) did.rows
-      rows Factions = kept Factions (λ e. absurd cc) (inr (inl refl))
-      rows Regions = kept Regions (λ e. absurd cc) (inr (inr (inl refl)))
-      rows Units = kept Units (λ e. absurd cc) (inr (inr (inr (inl refl))))
-      rows Goods = kept Goods (λ e. absurd cc) (inr (inr (inr (inr (inl refl)))))
-      rows Structures = kept Structures (λ e. absurd cc) (inr (inr (inr (inr (inr (inl refl))))))
-      rows Mail = kept Mail (λ e. absurd cc) (inr (inr (inr (inr (inr (inr (inl refl)))))))
-      rows Reports = kept Reports (λ e. absurd cc) (inr (inr (inr (inr (inr (inr (inr (inl refl))))))))
-      rows Books = kept Books (λ e. absurd cc) (inr (inr (inr (inr (inr (inr (inr (inr (inl refl)))))))))
       rows Markets = λ r. (λ there. absurd (subst (λ l. Has l r) (rest Markets (λ e. absurd cc) ∙ ap (map (visible market_table)) first.empty) there), λ of. absurd (no_stocks c bare r of))
+      rows part = kept part (λ e. absurd cc) (in_first part (λ e. absurd cc))
 
 -- the head is upgraded behind the new table
 pub upgrade_done : (text : List ℕ) (c : CampaignValue) (start mid end : State) → Inside IsOld AddsMarkets start mid → Inside HasTables (UpgradesHead (head_of c) text) mid end → Inside IsOld (WritesUpgrade text c) start end

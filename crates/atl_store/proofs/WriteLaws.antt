@@ -167,25 +167,6 @@ module _ {S : Type 0} (g : Ghosts S) where
         survives = whole.survives;
       }
 
-  -- it gives what its fourth step gives
-  pub four_steps : {own : Statements} {First Second Third Fourth Does : State → State → Type 0} {A X Y Z : Type 0} {x : X} {y : Y} {z : Z} {r : Result A Error} {a b c d e : MutBor (Held S)}
-      → ((old one two three new : State) → First old one → Second one two → Third two three → Fourth three new → Does old new)
-      → Writes g own First (Ok x) a b → Writes g own Second (Ok y) b c → Writes g own Third (Ok z) c d → Writes g own Fourth r d e → Writes g own Does r a e
-  four_steps {z = z} {r = r} {c = c} {d = d} all one two three four =
-      let whole = two_steps {Does = Any} {r = r} (λ old mid new first second. tt) (three_steps {Does = Any} {r = Ok z} (λ old mid next new first second third. tt) one two three) four in
-      record {
-        same_reference = whole.same_reference;
-        does = λ clean.
-            let before : HasCleanDisk (state g d.now) = omega (arith, four.survives.clean) in
-            let first : HasCleanDisk (state g c.now) = omega (arith, before, three.survives.clean) in
-            on_ok r (all _ _ _ _ _ (one.does (omega (arith, first, two.survives.clean))) (two.does first) (three.does before)) (four.does clean);
-        goes_on = whole.goes_on;
-        reaches = whole.reaches;
-        told = whole.told;
-        kept = whole.kept;
-        survives = whole.survives;
-      }
-
   -- one step more
   pub goes_on : {own : Statements} {First Second Does : State → State → Type 0} {u : Unit {0}} {a b c : MutBor (Held S)} → ((old mid new : State) → First old mid → Second mid new → Does old new) → SoFar g own First a b → Writes g own Second (Ok u) b c → SoFar g own Does a c
   goes_on both so_far more = two_steps both so_far more

@@ -1,5 +1,5 @@
 -- What writing a whole campaign into empty tables does.
-use Rattle.std.specs.Prelude.{◌≡◌, [], List, ℕ}
+use Rattle.std.specs.Prelude.{◌≡◌, [], ◌∷◌, List, ℕ}
 use Rattle.sqlite.specs.Effect.{Database}
 use Rattle.sqlite.specs.Order.{Row}
 use Rattle.atl_state.specs.Campaign.{CampaignValue}
@@ -15,6 +15,10 @@ Fills c own part before after = before ≡ [] → Is after (rows_for own c part)
 -- the tables of these parts are filled, whatever the campaign's own row is, which is none of them
 abbrev pub FillsParts : CampaignValue → List Part → Database → Database → Type 0
 FillsParts c parts old new = (own : Row) → Changes (Fills c own) parts old new
+
+-- that of one part is
+abbrev pub FillsPart : CampaignValue → Part → Database → Database → Type 0
+FillsPart c part = FillsParts c (part ∷ [])
 
 -- and of these, among which it is
 abbrev pub FillsWithOwn : List ℕ → CampaignValue → List Part → Database → Database → Type 0

@@ -1,44 +1,36 @@
 -- For proofs alone: how far loading has come.
-use Rattle.std.specs.Prelude.{◌≡◌, ◌≢◌, ℕ, List, [], ◌∷◌, Bool, false, true, ◌⊎◌, IsTrue, IsPermutation, map, pos, Option, Some, None, Result, Ok, Err, IfOk, IfErr, ⊤, string_bytes}
-use Rattle.std.specs.List.{IsDistinct}
-use Rattle.std.specs.Ordering.{eq_by_cmp, int_cmp}
+use Rattle.std.specs.Prelude.{◌≡◌, ◌≢◌, ◌++◌, ℕ, List, [], ◌∷◌, Bool, false, true, if◌then◌else◌, ◌⊎◌, IsTrue, IsPermutation, drop, length, map, take, pos, Option, Some, None, Result, Ok, Err, IfOk, IfErr, ⊤, string_bytes}
+use Rattle.std.specs.List.{AllByRecursion, IsDistinct}
+use Rattle.std.specs.Ordering.{eq_by_cmp, int_cmp, is_eq}
 use Rattle.std.specs.declared.vec.Vec.{Vec}
 use Rattle.sqlite.specs.declared.error.Error.{Error}
+use Rattle.sqlite.specs.Effect.{Database}
 use Rattle.sqlite.specs.Held.{Held, state}
-use Rattle.sqlite.specs.Order.{Row}
+use Rattle.sqlite.specs.Order.{Row, column, value_cmp}
 use Rattle.sqlite.specs.State.{State, HasCleanDisk, FailsToQuery}
 use Rattle.sqlite.specs.Table.{Table}
 use Rattle.sqlite_rules.specs.Lists.{Has}
 use Rattle.sqlite_catalog.specs.Listing.{IsSound}
+use Rattle.sqlite_trees.specs.View.{is_int}
 use Rattle.sqlite_trees.specs.declared.store.Store.{Ghosts}
 use Rattle.atl_tables.specs.Worlds.{WorldValue}
 use Rattle.atl_tables.specs.Formats.{format_number}
 use Rattle.atl_tables.specs.declared.format.Format.{Format}
 use Rattle.atl_tables.specs.declared.format.Format.TheVariants.{First, Second}
 use Rattle.atl_tables.specs.World.{world_by}
-use Rattle.atl_state.specs.Checking.{IsChecked}
-use Rattle.atl_state.specs.RowRules.{is_one_head, are_of_format}
+use Rattle.atl_state.specs.Checking.{IsChecked, Keeps}
 use Rattle.atl_state.specs.Campaign.{MarkedCampaign}
 use Rattle.atl_state.specs.declared.checking.Rule.TheVariants.{OneRow}
 use Rattle.atl_state.specs.declared.parts.Parts.{Parts}
-use Rattle.atl_state.specs.declared.parts.StoredBooks.{StoredBooks}
-use Rattle.atl_state.specs.declared.parts.StoredFaction.{StoredFaction}
-use Rattle.atl_state.specs.declared.parts.StoredHas.{StoredHas}
 use Rattle.atl_state.specs.declared.parts.StoredHead.{StoredHead}
-use Rattle.atl_state.specs.declared.parts.StoredMail.{StoredMail}
-use Rattle.atl_state.specs.declared.parts.StoredMarket.{StoredMarket}
-use Rattle.atl_state.specs.declared.parts.StoredRegion.{StoredRegion}
-use Rattle.atl_state.specs.declared.parts.StoredReport.{StoredReport}
-use Rattle.atl_state.specs.declared.parts.StoredStructure.{StoredStructure}
-use Rattle.atl_state.specs.declared.parts.StoredUnit.{StoredUnit}
 use Rattle.atl_store.specs.Faults.{is_memory}
-use Rattle.atl_store.specs.Loading.{HaveRows, AreOwnRow, IsOther, HasOtherType, KeepsOneRow, other_selects, placed_tables, Leaves, AreToldTyped, RefusesOne}
+use Rattle.atl_store.specs.Loading.{HaveRows, AreOwnRow, IsOther, HasOtherType, KeepsOneRow, other_parts, other_selects, has_places, placed_tables, rows_read, Leaves, AreToldTyped, RefusesOne}
 use Rattle.atl_store.specs.Reading.{Selects, listing_of}
-use Rattle.atl_store.specs.Statements.{placed_selection, selection}
+use Rattle.atl_store.specs.Statements.{selection}
 use Rattle.atl_store.specs.Sets.{IsKeyed, rows_in}
-use Rattle.atl_store.specs.StoredRows.{campaign_stored, faction_stored, region_stored, unit_stored, structure_stored, mail_stored, report_stored, has_stored, books_stored, market_stored, faction_forms, region_forms, unit_forms, structure_forms, mail_forms, report_forms, has_forms, books_forms}
+use Rattle.atl_store.specs.Shown.{campaign_stored}
 use Rattle.atl_store.specs.Stored.{Form}
-use Rattle.atl_store.specs.Tables.{Part, Factions, Regions, Units, Goods, Structures, Mail, Reports, Books, Markets, campaign_table, faction_table, region_table, unit_table, has_table, structure_table, mail_table, report_table, books_table, HasTablesOf}
+use Rattle.atl_store.specs.Tables.{Part, all_parts, campaign_table, table_of, parts_in, HasTablesOf}
 use Rattle.atl_store.specs.declared.fault.ReadFault.{ReadFault}
 use Rattle.atl_store.specs.declared.fault.ReadFault.TheVariants as read
 use Rattle.atl_store.specs.declared.fault.LoadFault.{LoadFault}
@@ -113,23 +105,36 @@ JudgesRows f rows r = Judges (λ both. AreOwnRow f rows both.0.head (string_byte
 abbrev pub JudgesFormat : Format → List Row → Result (StoredCampaign × WorldValue) LoadFault → Type 0
 JudgesFormat f rows r = (IsOther f rows × (r ≡ Err OtherFormat)) ⊎ ((¬ IsOther f rows) × JudgesRows f rows r)
 
--- the SELECTs of the other tables, in the order in which they are asked
-abbrev pub place_selects : List (List ℕ × List Form)
-place_selects = (selection faction_table 1, faction_forms) ∷ (selection region_table 1, region_forms) ∷ (selection report_table 1, report_forms) ∷ []
+-- ---- the rows of other tables, as they were read
 
-abbrev pub people_selects : List (List ℕ × List Form)
-people_selects = (selection unit_table 1, unit_forms) ∷ (placed_selection has_table 3, has_forms) ∷ []
+-- of some parts the rows that were read
+abbrev pub ReadRows : Type 0
+ReadRows = List (Part × List Row)
 
-abbrev pub work_selects : List (List ℕ × List Form)
-work_selects = (selection structure_table 1, structure_forms) ∷ (selection mail_table 1, mail_forms) ∷ (placed_selection books_table 2, books_forms) ∷ []
+-- these are all rows of a part's table, where the schema has the tables of the format since which it is there
+abbrev pub AreRows : Database → Part → List Row → Type 0
+AreRows db part rows = HasTablesOf (listing_of part).since db.schema → IsPermutation ((listing_of part).in_table db.trees) rows
 
--- what was read of the eight tables that both formats have
-abbrev pub EightRead : Type 0 → Type 0
-EightRead Z = (((Vec StoredFaction Z × Vec StoredRegion Z) × Vec StoredReport Z) × (Vec StoredUnit Z × Vec (Placed StoredHas) Z)) × ((Vec StoredStructure Z × Vec StoredMail Z) × Vec (Placed StoredBooks) Z)
+-- of each of the parts
+abbrev pub AreAllRows : Database → ReadRows → Type 0
+AreAllRows db reads = (read : Part × List Row) → Has reads read → AreRows db read.0 read.1
 
--- and of that of markets
-abbrev pub OthersRead : Type 0 → Type 0
-OthersRead Z = EightRead Z × Vec (Placed StoredMarket) Z
+-- of each part that the format has these are all rows, and of each other part there is none
+pub record AreOfFormat (f : Format) (db : Database) (reads : ReadRows) : Type 0 where
+  pub each : (read : Part × List Row) → Has reads read → (Has (parts_in f) read.0 × AreRows db read.0 read.1) ⊎ ((¬ Has (parts_in f) read.0) × (read.1 ≡ []))
+
+-- no row was read
+abbrev pub AreNone : ReadRows → Type 0
+AreNone reads = (read : Part × List Row) → Has reads read → read.1 ≡ []
+
+-- the parts that the first format doesn't have
+abbrev pub late_parts : List Part
+late_parts = drop (length (parts_in First)) all_parts
+
+-- some SELECTs, and others that the second format alone asks
+abbrev pub selects_by : Format → List (List ℕ × List Form) → List (List ℕ × List Form) → List (List ℕ × List Form)
+selects_by First some others = some
+selects_by Second some others = some ++ others
 
 module _ {S : Type 0} (g : Ghosts S) (old : Held S) where
   -- one row was read, whose id is 1 and whose format is this one, with a text of the world
@@ -163,31 +168,6 @@ module _ {S : Type 0} (g : Ghosts S) (old : Held S) where
   FailsToRead selects OtherFormat = ⊥
   FailsToRead selects Memory = RefusesOne g old selects read.Memory ⊎ AnswersOne selects
 
-  -- these are all rows of a table, where the schema has the tables of the format since which it is there
-  abbrev pub AreRows : {A : Type 0} → Part → (A → Row) → List A → Type 0
-  AreRows part shown rows = HasTablesOf (listing_of part).since old.schema → IsPermutation ((listing_of part).in_table (state g old).now.trees) (map shown rows)
-
-  -- these are all rows of two tables, or of three
-  abbrev pub AreTwo : {A B Z : Type 0} → Part → (A → Row) → Part → (B → Row) → Vec A Z × Vec B Z → Type 0
-  AreTwo one a two b read = AreRows one a read.0.items × AreRows two b read.1.items
-
-  abbrev pub AreThree : {A B C Z : Type 0} → Part → (A → Row) → Part → (B → Row) → Part → (C → Row) → (Vec A Z × Vec B Z) × Vec C Z → Type 0
-  AreThree one a two b three c read = AreTwo one a two b read.0 × AreRows three c read.1.items
-
-  -- these are all rows of the eight tables
-  abbrev pub AreEight : {Z : Type 0} → EightRead Z → Type 0
-  AreEight read =
-      (AreThree Factions faction_stored Regions region_stored Reports report_stored read.0.0 × AreTwo Units unit_stored Goods has_stored read.0.1)
-      × AreThree Structures structure_stored Mail mail_stored Books books_stored read.1
-
-  -- these are all rows of the table of markets, which the first format doesn't have
-  abbrev pub AreMarkets : Format → List (Placed StoredMarket) → Type 0
-  AreMarkets First rows = rows ≡ []
-  AreMarkets Second rows = AreRows Markets market_stored rows
-
-  abbrev pub AreOthers : Format → {Z : Type 0} → OthersRead Z → Type 0
-  AreOthers f read = AreEight read.0 × AreMarkets f read.1.items
-
   pub record ReadsSome {A : Type 0} (selects : List (List ℕ × List Form)) (P : A → Type 0) (result : Result (Option A) LoadFault) (new : Held S) : Type 0 where
     pub was_open : HasCleanDisk (state g new) → IfOk result (λ _. IsTrue (state g old).is_open)
     pub found : HasCleanDisk (state g new) → IfOk result (Found selects P)
@@ -208,41 +188,42 @@ module _ {S : Type 0} (g : Ghosts S) (old : Held S) where
   FailsToConfirm f OtherFormat = ⊥
   FailsToConfirm f Memory = HasTablesOf f old.schema × IsRefusedAgain true
 
+-- ---- the places of rows
+
 -- no two rows are kept at one place
 abbrev pub AreApart : {A : Type 0} → List (Placed A) → Type 0
 AreApart placed = IsDistinct (eq_by_cmp int_cmp) (map (λ s. s.rowid) placed)
 
--- no two rows of has, of books, or of market are
-abbrev pub AreAllApart : {Z : Type 0} → OthersRead Z → Type 0
-AreAllApart read = AreApart read.0.0.1.1.items × AreApart read.0.1.1.items × AreApart read.1.items
+-- how many columns a part's table has: a place is shown behind them
+abbrev pub width : Part → ℕ
+width part = length (table_of part).columns
 
--- the rows as they are to be judged
-abbrev pub parts_with : {Z : Type 0} → StoredHead → OthersRead Z → Parts
-parts_with head read = record {
-  campaign = head ∷ [];
-  factions = read.0.0.0.0.0.items;
-  regions = read.0.0.0.0.1.items;
-  units = read.0.0.1.0.items;
-  has = map (λ s. s.row) read.0.0.1.1.items;
-  structures = read.0.1.0.0.items;
-  mail = read.0.1.0.1.items;
-  reports = read.0.0.0.1.items;
-  books = map (λ s. s.row) read.0.1.1.items;
-  markets = map (λ s. s.row) read.1.items;
-}
+-- the rows have different integers in this column
+pub record HaveKeys (at : ℕ) (rows : List Row) : Type 0 where
+  pub apart : IsDistinct (λ a b. is_eq (value_cmp (column a at) (column b at))) rows
+  pub ints : AllByRecursion (λ r. is_int (column r at) ≡ true) rows
 
--- the rows are these, and no two of has, of books, or of market are kept at one place
-pub record IsMadeOf {Z : Type 0} (head : StoredHead) (read : OthersRead Z) (p : Parts) : Type 0 where
-  pub is : p ≡ parts_with head read
-  pub apart : AreAllApart read
+-- no two rows of a part are shown with one place
+pub record AreAllApart (reads : ReadRows) : Type 0 where
+  pub each : (read : Part × List Row) → Has reads read → has_places read.0 ≡ true → HaveKeys (width read.0) read.1
+
+-- the rows of a part, without the places that they are shown with
+abbrev pub unplaced : Part → List Row → List Row
+unplaced part rows = if has_places part then map (take (width part)) rows else rows
+
+-- These were read of all parts but the campaign's own, of which this is the row; they are the rows that are to be judged, and no two of a part are shown with one place.
+pub record IsMadeOf (head : StoredHead) (reads : ReadRows) (p : Parts) : Type 0 where
+  pub parts : map (λ read. read.0) reads ≡ other_parts Second
+  pub campaign : p.campaign ≡ head ∷ []
+  pub rows : (text : List ℕ) (read : Part × List Row) → Has reads read → rows_read text p read.0 ≡ unplaced read.0 read.1
+  pub apart : AreAllApart reads
 
 -- ---- all of it
 
 -- all rows were read: those of the world's text and these
 pub record Gathered (f : Format) {S : Type 0} (g : Ghosts S) (old : Held S) (w : WorldValue) (p : Parts) : Type 0 where
   pub one : KeepsOneRow f g old
-  pub head : IsTrue (is_one_head f p.campaign)
-  pub markets : IsTrue (are_of_format f p.markets)
+  pub first : Keeps f w p OneRow
   pub text : List ℕ
   pub world : world_by f text ≡ Ok w
   pub typed : AreToldTyped g old (other_selects f)

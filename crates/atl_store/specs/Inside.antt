@@ -1,5 +1,5 @@
 -- What is done to the tables: inside a transaction, one step after another, and by a transaction as a whole.
-use Rattle.std.specs.Prelude.{◌≡◌, ◌≢◌, ℕ, List, false, IsTrue}
+use Rattle.std.specs.Prelude.{◌≡◌, ◌≢◌, ℕ, List, [], ◌∷◌, false, IsTrue}
 use Rattle.sqlite_value.specs.Order.{Row}
 use Rattle.sqlite_schema.specs.declared.schema.Table.{Table}
 use Rattle.sqlite_schema.specs.declared.schema.Index.{Index}
@@ -48,6 +48,11 @@ pub record Alters (table : Table) (S : Set) (old new : Database) : Type 0 where
 pub record Changes (Becomes : Part → List Row → List Row → Type 0) (parts : List Part) (old new : Database) : Type 0 where
   pub done : (part : Part) → Has parts part → Becomes part (rows_in (table_of part) old.trees) (rows_in (table_of part) new.trees)
   pub others : (part : Part) → ¬ Has parts part → new.trees (table_of part).tree ≡ old.trees (table_of part).tree
+
+-- this is done for each of these parts, one after another
+abbrev pub InTurn : (Part → Database → Database → Type 0) → List Part → Database → Database → Type 0
+InTurn Does [] old new = new ≡ old
+InTurn Does (part ∷ parts) old new = (mid : Database) × Does part old mid × InTurn Does parts mid new
 
 -- the row is put in the place of the one that has its key, which is so many columns
 abbrev pub Puts : Table → ℕ → Row → Database → Database → Type 0

@@ -12,7 +12,6 @@ pub mod OwnStatements
 pub mod Causes
 pub mod Stored
 pub mod Reading
-pub mod StoredRows
 pub mod Rows
 pub mod Lines
 pub mod Filling

@@ -1,5 +1,5 @@
 -- What loading a campaign from its tables may answer and leave.
-use Rattle.std.specs.Prelude.{◌≡◌, ◌⊎◌, ◌++◌, ℕ, Bool, List, [], ◌∷◌, length, map, pos, true, false, IsTrue, IsPermutation, IsUtf8, Ok}
+use Rattle.std.specs.Prelude.{◌≡◌, ◌⊎◌, ◌++◌, ℕ, Bool, List, [], ◌∷◌, length, drop, filter, map, is_some, not, pos, true, false, IsTrue, IsPermutation, IsUtf8, Ok}
 use Rattle.sqlite.specs.declared.error.Error.{Error}
 use Rattle.sqlite.specs.declared.types.Value.TheVariants.{Int, Text}
 use Rattle.sqlite.specs.Held.{Held, state}
@@ -21,7 +21,7 @@ use Rattle.atl_state.specs.Good.{IsGood}
 use Rattle.atl_state.specs.Marks.{no_marks}
 use Rattle.atl_state.specs.Campaign.{CampaignValue, MarkedCampaign}
 use Rattle.atl_state.specs.declared.checking.Rule.{Rule}
-use Rattle.atl_state.specs.declared.checking.Rule.TheVariants.{OneRow, Ranges, Names, Known, Next, Days, Gone, Owners, Water, Guards, Books, Mail}
+use Rattle.atl_state.specs.declared.checking.Rule.TheVariants as rules
 use Rattle.atl_state.specs.declared.parts.Parts.{Parts}
 use Rattle.atl_state.specs.declared.parts.StoredBooks.{StoredBooks}
 use Rattle.atl_state.specs.declared.parts.StoredHas.{StoredHas}
@@ -29,14 +29,13 @@ use Rattle.atl_state.specs.declared.parts.StoredHead.{StoredHead}
 use Rattle.atl_state.specs.declared.parts.StoredMarket.{StoredMarket}
 use Rattle.atl_store.specs.Faults.{is_memory}
 use Rattle.atl_store.specs.Keeps.{HoldsCampaign, Spares}
-use Rattle.atl_store.specs.Reading.{Selects, RefusesToSelect}
+use Rattle.atl_store.specs.Reading.{Selects, RefusesToSelect, listing_of}
 use Rattle.atl_store.specs.Rows.{HoldsIn}
-use Rattle.atl_store.specs.Shown.{int}
-use Rattle.atl_store.specs.Statements.{placed_selection, selection}
+use Rattle.atl_store.specs.Shown.{int, head_stored, faction_stored, region_stored, unit_stored, structure_stored, mail_stored, report_stored, campaign_forms, faction_forms, region_forms, unit_forms, has_forms, structure_forms, mail_forms, report_forms, books_forms, market_forms}
+use Rattle.atl_store.specs.Statements.{selection}
 use Rattle.atl_store.specs.Sets.{rows_in, IsKeyed}
 use Rattle.atl_store.specs.Stored.{Form, first_columns, AreTyped}
-use Rattle.atl_store.specs.StoredRows.{head_stored, faction_stored, region_stored, unit_stored, structure_stored, mail_stored, report_stored, campaign_forms, faction_forms, region_forms, unit_forms, has_forms, structure_forms, mail_forms, report_forms, books_forms, market_forms}
-use Rattle.atl_store.specs.Tables.{campaign_table, faction_table, region_table, unit_table, has_table, structure_table, mail_table, report_table, books_table, market_table, table_of, parts_in, HasTablesOf}
+use Rattle.atl_store.specs.Tables.{Part, Own, Factions, Regions, Units, Goods, Structures, Mail, Reports, Books, Markets, campaign_table, table_of, parts_in, HasTablesOf}
 use Rattle.atl_store.specs.WorldText.{world_text}
 use Rattle.atl_store.specs.declared.fault.ReadFault.{ReadFault}
 use Rattle.atl_store.specs.declared.fault.ReadFault.TheVariants as read
@@ -59,23 +58,23 @@ books_values s = Int s.entry ∷ Int s.thing ∷ Int s.amount ∷ []
 abbrev pub market_values : StoredMarket → Row
 market_values s = Int s.region ∷ Int s.item ∷ Int s.stock ∷ []
 
--- the first format has no table of markets
-abbrev pub HaveMarkets : Format → Trees → List StoredMarket → Type 0
-HaveMarkets First db rows = rows ≡ []
-HaveMarkets Second db rows = IsPermutation (rows_in market_table db) (map market_values rows)
+-- the rows that were read of each part, as its table has them; the campaign's own have this world text
+abbrev pub rows_read : List ℕ → Parts → Part → List Row
+rows_read text p Own = map (own_stored text) p.campaign
+rows_read text p Factions = map faction_stored p.factions
+rows_read text p Regions = map region_stored p.regions
+rows_read text p Units = map unit_stored p.units
+rows_read text p Goods = map has_values p.has
+rows_read text p Structures = map structure_stored p.structures
+rows_read text p Mail = map mail_stored p.mail
+rows_read text p Reports = map report_stored p.reports
+rows_read text p Books = map books_values p.books
+rows_read text p Markets = map market_values p.markets
 
--- The tables of a format have these rows and no others, each as often as it stands here; the campaign's own have this world text.
+-- The tables of a format have these rows and no others, each as often as it stands here, and there are none of a part that the format doesn't have.
 pub record HaveRows (f : Format) (db : Trees) (text : List ℕ) (p : Parts) : Type 0 where
-  pub campaign : IsPermutation (rows_in campaign_table db) (map (own_stored text) p.campaign)
-  pub factions : IsPermutation (rows_in faction_table db) (map faction_stored p.factions)
-  pub regions : IsPermutation (rows_in region_table db) (map region_stored p.regions)
-  pub units : IsPermutation (rows_in unit_table db) (map unit_stored p.units)
-  pub has : IsPermutation (rows_in has_table db) (map has_values p.has)
-  pub structures : IsPermutation (rows_in structure_table db) (map structure_stored p.structures)
-  pub mail : IsPermutation (rows_in mail_table db) (map mail_stored p.mail)
-  pub reports : IsPermutation (rows_in report_table db) (map report_stored p.reports)
-  pub books : IsPermutation (rows_in books_table db) (map books_values p.books)
-  pub markets : HaveMarkets f db p.markets
+  pub rows : (part : Part) → Has (parts_in f) part → IsPermutation (rows_in (table_of part) db) (rows_read text p part)
+  pub none : (part : Part) → ¬ Has (parts_in f) part → rows_read text p part ≡ []
 
 -- ---- the first rule
 
@@ -97,24 +96,33 @@ IsOther f rows = (row : Row) × (rows ≡ row ∷ []) × (column row 1 ≡ int (
 
 -- ---- the other tables
 
--- the SELECTs of the eight other tables that both formats have, each with what its columns are read as
-abbrev pub eight_selects : List (List ℕ × List Form)
-eight_selects =
-    (selection faction_table 1, faction_forms) ∷ (selection region_table 1, region_forms) ∷ (selection report_table 1, report_forms) ∷ (selection unit_table 1, unit_forms) ∷ (placed_selection has_table 3, has_forms) ∷ (selection structure_table 1, structure_forms) ∷ (selection mail_table 1, mail_forms) ∷ (placed_selection books_table 2, books_forms) ∷ []
+-- what the columns of each part's rows are read as
+abbrev pub forms_of : Part → List Form
+forms_of Own = campaign_forms
+forms_of Factions = faction_forms
+forms_of Regions = region_forms
+forms_of Units = unit_forms
+forms_of Goods = has_forms
+forms_of Structures = structure_forms
+forms_of Mail = mail_forms
+forms_of Reports = report_forms
+forms_of Books = books_forms
+forms_of Markets = market_forms
 
--- that of the table of markets
-abbrev pub market_selects : Format → List (List ℕ × List Form)
-market_selects First = []
-market_selects Second = (placed_selection market_table 2, market_forms) ∷ []
+-- all parts but the campaign's own row
+abbrev pub other_parts : Format → List Part
+other_parts f = drop 1 (parts_in f)
 
--- those of all other tables
+-- the SELECTs of their tables, each with what its columns are read as
 abbrev pub other_selects : Format → List (List ℕ × List Form)
-other_selects f = eight_selects ++ market_selects f
+other_selects f = map (λ part. ((listing_of part).select, forms_of part)) (other_parts f)
 
--- those whose key is not the row's number
+-- whether the key of a part's table is not the row's number, so that its rows are shown with their places
+abbrev pub has_places : Part → Bool
+has_places part = not (is_some (table_of part).key)
+
 abbrev pub placed_tables : Format → List Table
-placed_tables First = has_table ∷ books_table ∷ []
-placed_tables Second = has_table ∷ books_table ∷ market_table ∷ []
+placed_tables f = map table_of (filter has_places (parts_in f))
 
 -- while the connection is open, its tables are those of the one before
 pub record Stays (old new : State) : Type 0 where
@@ -218,18 +226,18 @@ module _ (f : Format) {S : Type 0} (g : Ghosts S) (old : Held S) where
 
   -- the first rule that is broken
   abbrev pub IsDamaged : Rule → Type 0
-  IsDamaged OneRow = BreaksOneRow
-  IsDamaged Ranges = (KeepsOneRow × HasOtherType g old (other_selects f)) ⊎ BreaksRule Ranges
-  IsDamaged Names = BreaksRule Names
-  IsDamaged Known = BreaksRule Known
-  IsDamaged Next = BreaksRule Next
-  IsDamaged Days = BreaksRule Days
-  IsDamaged Gone = BreaksRule Gone
-  IsDamaged Owners = BreaksRule Owners
-  IsDamaged Water = BreaksRule Water
-  IsDamaged Guards = BreaksRule Guards
-  IsDamaged Books = BreaksRule Books
-  IsDamaged Mail = BreaksRule Mail
+  IsDamaged rules.OneRow = BreaksOneRow
+  IsDamaged rules.Ranges = (KeepsOneRow × HasOtherType g old (other_selects f)) ⊎ BreaksRule rules.Ranges
+  IsDamaged rules.Names = BreaksRule rules.Names
+  IsDamaged rules.Known = BreaksRule rules.Known
+  IsDamaged rules.Next = BreaksRule rules.Next
+  IsDamaged rules.Days = BreaksRule rules.Days
+  IsDamaged rules.Gone = BreaksRule rules.Gone
+  IsDamaged rules.Owners = BreaksRule rules.Owners
+  IsDamaged rules.Water = BreaksRule rules.Water
+  IsDamaged rules.Guards = BreaksRule rules.Guards
+  IsDamaged rules.Books = BreaksRule rules.Books
+  IsDamaged rules.Mail = BreaksRule rules.Mail
 
   -- ---- Store and Memory
 

@@ -1,5 +1,5 @@
 -- Which statements a writing may run, each by its text and the values of its parameters.
-use Rattle.std.specs.Prelude.{◌≡◌, ◌≢◌, ◌+◌, ℕ, pos, List, [], ◌∷◌, Some, None}
+use Rattle.std.specs.Prelude.{◌≡◌, ◌≢◌, ◌+◌, ℕ, pos, List, [], ◌∷◌, Some, length, map, take}
 use Rattle.std.specs.FinMap.{get}
 use Rattle.sqlite.specs.Order.{Row}
 use Rattle.sqlite_rules.specs.Lists.{Has}
@@ -12,12 +12,10 @@ use Rattle.atl_records.specs.declared.books.Thing.TheVariants.{Money, People}
 use Rattle.atl_records.specs.declared.records.Faction.{Faction}
 use Rattle.atl_records.specs.declared.records.Unit.{Unit}
 use Rattle.atl_store.specs.Sets.{Set}
-use Rattle.atl_store.specs.declared.rows.has.Sort.{Sort}
-use Rattle.atl_store.specs.Shown.{int, head_values, has_key, mail_row, report_row, books_key, books_row}
-use Rattle.atl_store.specs.Written.{sort_number}
-use Rattle.atl_store.specs.Rows.{head_of, faction_line, region_line, unit_line, structure_line, amount_under, RowsOf, HasRowsOf, BooksRowsOf, MarketRowsOf}
-use Rattle.atl_store.specs.Statements.{campaign_upsert, upgrading_upsert, creation, creations, deletion, upsert}
-use Rattle.atl_store.specs.Tables.{books_table, faction_table, has_table, mail_table, market_table, region_table, report_table, structure_table, unit_table}
+use Rattle.atl_store.specs.Shown.{int, head_values, mail_row, report_row, books_key, books_row}
+use Rattle.atl_store.specs.Rows.{head_of, faction_line, unit_line, rows_for}
+use Rattle.atl_store.specs.Statements.{campaign_upsert, upgrading_upsert, deletion, upsert}
+use Rattle.atl_store.specs.Tables.{Part, Markets, all_parts, books_table, creation_of, faction_table, IsGroupedPart, key_of, mail_table, report_table, table_of, unit_table}
 
 abbrev pub Statements : Type 1
 Statements = List ℕ → Row → Type 0
@@ -32,24 +30,24 @@ Only text values = Each text (λ row. row ≡ values)
 
 -- the texts that make the tables
 abbrev pub Creations : Statements
-Creations sql params = Has creations sql × (params ≡ [])
+Creations sql params = Has (map creation_of all_parts) sql × (params ≡ [])
 
 -- the row of an amount of the books is put, or deleted where the amount is 0
 pub data OfAmount (c : CampaignValue) (entry : Entry) (thing : Thing) : List ℕ → Row → Type 0 where
   puts_amount : amount_in c.books entry thing ≢ pos 0 → OfAmount c entry thing (upsert books_table 2) (books_row (entry_place entry + 1) (thing_place thing) (amount_in c.books entry thing))
   drops_amount : amount_in c.books entry thing ≡ pos 0 → OfAmount c entry thing (deletion books_table 2) (books_key (entry_place entry + 1) (thing_place thing))
 
--- a row of the campaign is put into the table that it belongs to
+-- a row of a part of the campaign, whatever the campaign's own row says
+abbrev pub IsRowOf : CampaignValue → Part → Row → Type 0
+IsRowOf c part row = (own : Row) → rows_for own c part row
+
+-- no row of the part has this key
+abbrev pub HasNoRow : CampaignValue → Part → Row → Type 0
+HasNoRow c part key = (length key ≡ key_of part) × ((own row : Row) → rows_for own c part row → take (key_of part) row ≢ key)
+
+-- a row of the campaign is put into the table of its part
 pub data OfRow (c : CampaignValue) : List ℕ → Row → Type 0 where
-  puts_faction : {row : Row} → RowsOf faction_line c.factions row → OfRow c (upsert faction_table 1) row
-  puts_region : {row : Row} → RowsOf region_line c.regions row → OfRow c (upsert region_table 1) row
-  puts_unit : {row : Row} → RowsOf unit_line c.units row → OfRow c (upsert unit_table 1) row
-  puts_has : {row : Row} → HasRowsOf c.units row → OfRow c (upsert has_table 3) row
-  puts_structure : {row : Row} → RowsOf structure_line c.structures row → OfRow c (upsert structure_table 1) row
-  puts_mail : {row : Row} → RowsOf mail_row c.mail row → OfRow c (upsert mail_table 1) row
-  puts_report : {row : Row} → RowsOf report_row c.reports row → OfRow c (upsert report_table 1) row
-  puts_books : {row : Row} → BooksRowsOf c.books row → OfRow c (upsert books_table 2) row
-  puts_market : {row : Row} → MarketRowsOf c.regions row → OfRow c (upsert market_table 2) row
+  puts_row : (part : Part) {row : Row} → IsRowOf c part row → OfRow c (upsert (table_of part) (key_of part)) row
 
 -- ---- of each writing
 
@@ -59,24 +57,16 @@ pub data OfFounding (text : List ℕ) (c : CampaignValue) : List ℕ → Row →
   founds_head : OfFounding text c campaign_upsert (head_values (head_of c) text)
   founds_row : {sql : List ℕ} {params : Row} → OfRow c sql params → OfFounding text c sql params
 
--- a change puts rows of the campaign, and deletes those of what it has no more
+-- A change puts rows of the campaign, and deletes those whose key no row of the campaign has. What belongs to a number is deleted whole, before it is put anew.
 pub data OfChange (c : CampaignValue) : List ℕ → Row → Type 0 where
   changes_head : OfChange c campaign_upsert (head_values (head_of c) [])
   changes_row : {sql : List ℕ} {params : Row} → OfRow c sql params → OfChange c sql params
-  drops_faction : {n : ℕ} → get c.factions n ≡ None → OfChange c (deletion faction_table 1) (int n ∷ [])
-  drops_region : {n : ℕ} → get c.regions n ≡ None → OfChange c (deletion region_table 1) (int n ∷ [])
-  drops_unit : {n : ℕ} → get c.units n ≡ None → OfChange c (deletion unit_table 1) (int n ∷ [])
-  drops_goods : {n : ℕ} → OfChange c (deletion has_table 1) (int n ∷ [])
-  drops_thing : {n : ℕ} (sort : Sort) {thing : ℕ} → amount_under c.units n sort thing ≡ 0 → OfChange c (deletion has_table 3) (has_key n (sort_number sort) thing)
-  drops_stocks : {n : ℕ} → OfChange c (deletion market_table 1) (int n ∷ [])
-  drops_structure : {n : ℕ} → get c.structures n ≡ None → OfChange c (deletion structure_table 1) (int n ∷ [])
-  drops_mail : {n : ℕ} → get c.mail n ≡ None → OfChange c (deletion mail_table 1) (int n ∷ [])
-  drops_report : {n : ℕ} → get c.reports n ≡ None → OfChange c (deletion report_table 1) (int n ∷ [])
-  drops_books : (entry : Entry) (thing : Thing) → amount_in c.books entry thing ≡ pos 0 → OfChange c (deletion books_table 2) (books_key (entry_place entry + 1) (thing_place thing))
+  drops_row : (part : Part) {key : Row} → HasNoRow c part key → OfChange c (deletion (table_of part) (key_of part)) key
+  drops_group : (part : Part) {n : ℕ} → IsGroupedPart part → OfChange c (deletion (table_of part) 1) (int n ∷ [])
 
 -- an upgrade makes the table of markets, and puts the campaign's own row anew with another world text
 pub data OfUpgrade (text : List ℕ) (c : CampaignValue) : List ℕ → Row → Type 0 where
-  upgrades_tables : OfUpgrade text c (creation 9) []
+  upgrades_tables : OfUpgrade text c (creation_of Markets) []
   upgrades_head : OfUpgrade text c upgrading_upsert (head_values (head_of c) text)
 
 -- a joining puts the campaign's own row, the faction, the unit that came last, the faction's report, and what joining booked

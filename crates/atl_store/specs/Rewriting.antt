@@ -1,5 +1,5 @@
 -- What the steps of writing a campaign's changes do. For proofs and for private functions.
-use Rattle.std.specs.Prelude.{◌≡◌, ◌+◌, ◌*◌, ◌&&◌, ℕ, Bool, List, is_some}
+use Rattle.std.specs.Prelude.{◌≡◌, ◌+◌, ◌*◌, ◌&&◌, ℕ, Bool, List, [], ◌∷◌, is_some}
 use Rattle.std.specs.List.{list_any}
 use Rattle.std.specs.Ordering.{nat_cmp, eq_by_cmp}
 use Rattle.std.specs.FinSet.{FinSet, contains}
@@ -92,6 +92,10 @@ Becomes c own part before after = Is after (rewritten (is_marked c.marks part) (
 -- the tables of these parts are rewritten, whatever the campaign's own row says, which is none of them
 abbrev pub RewritesParts : MarkedCampaign → List Part → Database → Database → Type 0
 RewritesParts c parts old new = (own : Row) → Changes (Becomes c own) parts old new
+
+-- that of one part is
+abbrev pub RewritesPart : MarkedCampaign → Part → Database → Database → Type 0
+RewritesPart c part = RewritesParts c (part ∷ [])
 
 -- and of these, among which it is
 abbrev pub RewritesWithOwn : MarkedCampaign → List Part → Database → Database → Type 0

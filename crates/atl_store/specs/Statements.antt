@@ -1,5 +1,5 @@
 -- The texts of the statements, made of the names of a table and of its columns. The key of a table is so many of its columns, the first ones.
-use Rattle.std.specs.Prelude.{◌+◌, ◌++◌, ℕ, List, [], ◌∷◌, codes, drop, get_or, length, map, take}
+use Rattle.std.specs.Prelude.{◌+◌, ◌++◌, ℕ, List, [], ◌∷◌, codes, drop, length, map, take}
 use Rattle.std.specs.List.{range_with_len}
 use Rattle.sqlite.specs.Table.{Table}
 
@@ -52,21 +52,3 @@ campaign_upsert = codes "INSERT INTO campaign (id, format, month, next_faction, 
 -- the same, but it is the format and the world text that are changed
 abbrev pub upgrading_upsert : List ℕ
 upgrading_upsert = codes "INSERT INTO campaign (id, format, month, next_faction, next_unit, next_structure, pass, world) VALUES (1, 2, ?1, ?2, ?3, ?4, ?5, ?6) ON CONFLICT (id) DO UPDATE SET format = 2, world = ?6"
-
--- the texts that make the tables
-abbrev pub creations : List (List ℕ)
-creations =
-    codes "CREATE TABLE campaign (id INTEGER NOT NULL PRIMARY KEY CHECK (id = 1), format INTEGER NOT NULL, month INTEGER NOT NULL, next_faction INTEGER NOT NULL, next_unit INTEGER NOT NULL, next_structure INTEGER NOT NULL, pass TEXT NOT NULL, world TEXT NOT NULL) STRICT" ∷
-    codes "CREATE TABLE faction (number INTEGER NOT NULL PRIMARY KEY, joined_as TEXT NOT NULL UNIQUE, name TEXT NOT NULL, pass TEXT NOT NULL, gone INTEGER NOT NULL) STRICT" ∷
-    codes "CREATE TABLE region (number INTEGER NOT NULL PRIMARY KEY, peasants INTEGER NOT NULL, money INTEGER NOT NULL) STRICT" ∷
-    codes "CREATE TABLE unit (number INTEGER NOT NULL PRIMARY KEY, faction INTEGER NOT NULL, name TEXT NOT NULL, region INTEGER NOT NULL, structure INTEGER NOT NULL, men INTEGER NOT NULL, money INTEGER NOT NULL, guard INTEGER NOT NULL) STRICT" ∷
-    codes "CREATE TABLE has (unit INTEGER NOT NULL, sort INTEGER NOT NULL, thing INTEGER NOT NULL, amount INTEGER NOT NULL, PRIMARY KEY (unit, sort, thing)) STRICT" ∷
-    codes "CREATE TABLE structure (number INTEGER NOT NULL PRIMARY KEY, kind INTEGER NOT NULL, name TEXT NOT NULL, region INTEGER NOT NULL, done INTEGER NOT NULL, owner INTEGER NOT NULL) STRICT" ∷
-    codes "CREATE TABLE mail (faction INTEGER NOT NULL PRIMARY KEY, text BLOB NOT NULL) STRICT" ∷
-    codes "CREATE TABLE report (faction INTEGER NOT NULL PRIMARY KEY, text TEXT NOT NULL) STRICT" ∷
-    codes "CREATE TABLE books (entry INTEGER NOT NULL, thing INTEGER NOT NULL, amount INTEGER NOT NULL, PRIMARY KEY (entry, thing)) STRICT" ∷
-    codes "CREATE TABLE market (region INTEGER NOT NULL, item INTEGER NOT NULL, stock INTEGER NOT NULL, PRIMARY KEY (region, item)) STRICT" ∷
-    []
-
-abbrev pub creation : ℕ → List ℕ
-creation at = get_or creations at []

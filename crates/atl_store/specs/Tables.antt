@@ -1,5 +1,5 @@
--- The tables of a campaign: their columns, keys and checks, and the schema that they make together.
-use Rattle.std.specs.Prelude.{◌≡◌, false, [], ◌∷◌, ◌++◌, Some, None, codes, pos, take, map, length, List, ℕ}
+-- The tables of a campaign: their columns, keys and checks, the texts that make them, and the schema that they make together.
+use Rattle.std.specs.Prelude.{◌≡◌, false, [], ◌∷◌, ◌++◌, Some, None, codes, pos, take, map, length, List, ℕ, ⊤}
 use Rattle.std.specs.List.{AllByRecursion}
 use Rattle.sqlite.specs.declared.types.Value.TheVariants.{Int}
 use Rattle.sqlite.specs.Table.{Table}
@@ -109,19 +109,44 @@ table_of Reports = report_table
 table_of Books = books_table
 table_of Markets = market_table
 
+-- the text that makes its table
+abbrev pub creation_of : Part → List ℕ
+creation_of Own = codes "CREATE TABLE campaign (id INTEGER NOT NULL PRIMARY KEY CHECK (id = 1), format INTEGER NOT NULL, month INTEGER NOT NULL, next_faction INTEGER NOT NULL, next_unit INTEGER NOT NULL, next_structure INTEGER NOT NULL, pass TEXT NOT NULL, world TEXT NOT NULL) STRICT"
+creation_of Factions = codes "CREATE TABLE faction (number INTEGER NOT NULL PRIMARY KEY, joined_as TEXT NOT NULL UNIQUE, name TEXT NOT NULL, pass TEXT NOT NULL, gone INTEGER NOT NULL) STRICT"
+creation_of Regions = codes "CREATE TABLE region (number INTEGER NOT NULL PRIMARY KEY, peasants INTEGER NOT NULL, money INTEGER NOT NULL) STRICT"
+creation_of Units = codes "CREATE TABLE unit (number INTEGER NOT NULL PRIMARY KEY, faction INTEGER NOT NULL, name TEXT NOT NULL, region INTEGER NOT NULL, structure INTEGER NOT NULL, men INTEGER NOT NULL, money INTEGER NOT NULL, guard INTEGER NOT NULL) STRICT"
+creation_of Goods = codes "CREATE TABLE has (unit INTEGER NOT NULL, sort INTEGER NOT NULL, thing INTEGER NOT NULL, amount INTEGER NOT NULL, PRIMARY KEY (unit, sort, thing)) STRICT"
+creation_of Structures = codes "CREATE TABLE structure (number INTEGER NOT NULL PRIMARY KEY, kind INTEGER NOT NULL, name TEXT NOT NULL, region INTEGER NOT NULL, done INTEGER NOT NULL, owner INTEGER NOT NULL) STRICT"
+creation_of Mail = codes "CREATE TABLE mail (faction INTEGER NOT NULL PRIMARY KEY, text BLOB NOT NULL) STRICT"
+creation_of Reports = codes "CREATE TABLE report (faction INTEGER NOT NULL PRIMARY KEY, text TEXT NOT NULL) STRICT"
+creation_of Books = codes "CREATE TABLE books (entry INTEGER NOT NULL, thing INTEGER NOT NULL, amount INTEGER NOT NULL, PRIMARY KEY (entry, thing)) STRICT"
+creation_of Markets = codes "CREATE TABLE market (region INTEGER NOT NULL, item INTEGER NOT NULL, stock INTEGER NOT NULL, PRIMARY KEY (region, item)) STRICT"
+
 -- in the order in which their tables are made
 abbrev pub all_parts : List Part
 all_parts = Own ∷ Factions ∷ Regions ∷ Units ∷ Goods ∷ Structures ∷ Mail ∷ Reports ∷ Books ∷ Markets ∷ []
 
--- those whose rows are written together
-abbrev pub player_parts : List Part
-player_parts = Own ∷ Factions ∷ Reports ∷ []
+-- all but the campaign's own row, in the order in which they are written
+abbrev pub written_parts : List Part
+written_parts = Factions ∷ Reports ∷ Regions ∷ Structures ∷ Books ∷ Markets ∷ Units ∷ Goods ∷ Mail ∷ []
 
-abbrev pub place_parts : List Part
-place_parts = Regions ∷ Structures ∷ Books ∷ Markets ∷ []
+-- the rows of a part belong to numbers, as many to each as it needs
+abbrev pub IsGroupedPart : Part → Type 0
+IsGroupedPart Goods = ⊤
+IsGroupedPart Markets = ⊤
+IsGroupedPart part = ⊥
 
-abbrev pub people_parts : List Part
-people_parts = Units ∷ Goods ∷ Mail ∷ []
+-- each row of a part stands under a number of its own
+abbrev pub IsNumberedPart : Part → Type 0
+IsNumberedPart Own = ⊥
+IsNumberedPart Goods = ⊥
+IsNumberedPart Books = ⊥
+IsNumberedPart Markets = ⊥
+IsNumberedPart part = ⊤
+
+-- how many columns of a part's table are its key, the first ones
+abbrev pub key_of : Part → ℕ
+key_of part = length (table_of part).primary
 
 abbrev pub all_tables : List Table
 all_tables = map table_of all_parts

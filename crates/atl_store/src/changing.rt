@@ -10,59 +10,23 @@ ghost use Rattle.atl_store.specs.Causes.{IsTold};
 ghost use Rattle.atl_store.specs.Changing.{WritesChanges, HoldsUnmarked};
 ghost use Rattle.atl_store.specs.Faults.{write_fault};
 ghost use Rattle.atl_store.specs.OwnStatements.{OfChange};
-ghost use Rattle.atl_store.specs.Rewriting.{RewritesParts, RewritesWithOwn};
-ghost use Rattle.atl_store.specs.Tables.{player_parts, place_parts, people_parts};
 ghost use Rattle.atl_store.specs.Writes.{Writes, Transacts};
 ghost use Rattle.atl_store.specs.Inside.{Inside, HasTables, LeavesOff};
 ghost use Rattle.atl_store.specs.Keeps.{Keeps, Stops, IsLater, MayFound, SparesOthers};
 
 use crate::fault::WriteFault;
-use crate::goods::rewrite_goods;
-use crate::grouped::rewrite_marked_groups;
 use crate::head::rewrite_head;
-use crate::kept::rewrite_marked;
-use crate::ledger::rewrite_books;
-use atl_state::{Campaign, Faction, Region, Structure, Unit};
-use atl_tables::{Sequence, Text};
+use crate::written::{OtherParts, Written};
+use atl_state::Campaign;
 use sqlite::{Alter, Connection, Error, Transaction};
-
-/// The campaign's own row, factions and reports.
-fn rewrite_players<S: Alter>(tx: &mut Transaction<'_, S>, campaign: &Campaign) -> Result<(), Error>
-    ensures { Writes S.Store (OfChange campaign.now.value) (Inside HasTables (RewritesWithOwn campaign.now player_parts)) result tx.old.conn tx.new.conn }
-{
-    rewrite_head(tx, campaign)?;
-    rewrite_marked::<Faction, S>(tx, campaign)?;
-    rewrite_marked::<Text, S>(tx, campaign)
-}
-
-/// Regions, their stocks, structures and books.
-fn rewrite_places<S: Alter>(tx: &mut Transaction<'_, S>, campaign: &Campaign) -> Result<(), Error>
-    requires { length campaign.now.value.books ≤ most_things }
-    ensures { Writes S.Store (OfChange campaign.now.value) (Inside HasTables (RewritesParts campaign.now place_parts)) result tx.old.conn tx.new.conn }
-{
-    rewrite_marked::<Region, S>(tx, campaign)?;
-    rewrite_marked::<Structure, S>(tx, campaign)?;
-    rewrite_books(tx, campaign)?;
-    rewrite_marked_groups::<Region, S>(tx, campaign)
-}
-
-/// Units, what they have, and mail.
-fn rewrite_people<S: Alter>(tx: &mut Transaction<'_, S>, campaign: &Campaign) -> Result<(), Error>
-    ensures { Writes S.Store (OfChange campaign.now.value) (Inside HasTables (RewritesParts campaign.now people_parts)) result tx.old.conn tx.new.conn }
-{
-    rewrite_marked::<Unit, S>(tx, campaign)?;
-    rewrite_goods(tx, campaign)?;
-    rewrite_marked::<Sequence<u8>, S>(tx, campaign)
-}
 
 /// All that is marked.
 fn rewrite_all<S: Alter>(tx: &mut Transaction<'_, S>, campaign: &Campaign) -> Result<(), Error>
     requires { length campaign.now.value.books ≤ most_things }
     ensures { Writes S.Store (OfChange campaign.now.value) (Inside HasTables (WritesChanges campaign.now)) result tx.old.conn tx.new.conn }
 {
-    rewrite_players(tx, campaign)?;
-    rewrite_places(tx, campaign)?;
-    rewrite_people(tx, campaign)
+    rewrite_head(tx, campaign)?;
+    OtherParts::rewrite(tx, campaign)
 }
 
 /// The transaction of a change.

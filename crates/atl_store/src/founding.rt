@@ -2,60 +2,23 @@
 ghost use Rattle.std.specs.Prelude.{◌≡◌, ◌≤◌, false, IsTrue, OnOk, OnErr, IfErr, length};
 ghost use Rattle.std.specs.Bool.{Decides};
 ghost use Rattle.sqlite.specs.Held.{state};
-ghost use Rattle.atl_store.specs.Tables.{no_tables, player_parts, place_parts, people_parts};
+ghost use Rattle.atl_store.specs.Tables.{no_tables};
 ghost use Rattle.atl_records.specs.Limits.{most_things};
 ghost use Rattle.atl_state.specs.Marks.{no_marks};
-ghost use Rattle.atl_store.specs.OwnStatements.{OfRow, OfFounding};
+ghost use Rattle.atl_store.specs.OwnStatements.{OfFounding};
 ghost use Rattle.atl_store.specs.Writes.{Writes, Transacts};
-ghost use Rattle.atl_store.specs.Inside.{Inside, HasTables, IsBlank};
+ghost use Rattle.atl_store.specs.Inside.{Inside, IsBlank};
 ghost use Rattle.atl_store.specs.Making.{has_campaign};
-ghost use Rattle.atl_store.specs.Filling.{FillsParts, FillsWithOwn, WritesFounding};
+ghost use Rattle.atl_store.specs.Filling.{WritesFounding};
 ghost use Rattle.atl_store.specs.Keeps.{Creates, IsReady, RefusesToCreate, IsLater};
 
 use crate::fault::CreateFault;
-use crate::goods::put_all_goods;
 use crate::head::put_head;
-use crate::kept::put_each;
-use crate::ledger::put_all_books;
-use crate::markets::put_all_stocks;
-use crate::rows::unit::put_units;
 use crate::tables::create_tables;
+use crate::written::{OtherParts, Written};
 use atl_state::Campaign;
 use sqlite::{Alter, Connection, Error, Transaction};
 use sqlite_schema::schema::Schema;
-
-/// Puts the campaign's own row, the factions and the reports.
-fn put_players<S: Alter>(
-    tx: &mut Transaction<'_, S>,
-    text: &str,
-    campaign: &Campaign,
-) -> Result<(), Error>
-    ensures { Writes S.Store (OfFounding text.now campaign.now.value) (Inside HasTables (FillsWithOwn text.now campaign.now.value player_parts)) result tx.old.conn tx.new.conn }
-{
-    put_head(tx, campaign, text)?;
-    put_each(tx, campaign.factions())?;
-    put_each(tx, campaign.reports())
-}
-
-/// Puts the regions, their stocks, the structures and the books.
-fn put_places<S: Alter>(tx: &mut Transaction<'_, S>, campaign: &Campaign) -> Result<(), Error>
-    requires { length campaign.now.value.books ≤ most_things }
-    ensures { Writes S.Store (OfRow campaign.now.value) (Inside HasTables (FillsParts campaign.now.value place_parts)) result tx.old.conn tx.new.conn }
-{
-    put_each(tx, campaign.regions())?;
-    put_each(tx, campaign.structures())?;
-    put_all_books(tx, campaign)?;
-    put_all_stocks(tx, campaign.regions())
-}
-
-/// Puts the units, what they have, and the mail.
-fn put_people<S: Alter>(tx: &mut Transaction<'_, S>, campaign: &Campaign) -> Result<(), Error>
-    ensures { Writes S.Store (OfRow campaign.now.value) (Inside HasTables (FillsParts campaign.now.value people_parts)) result tx.old.conn tx.new.conn }
-{
-    put_units(tx, campaign.units())?;
-    put_all_goods(tx, campaign.units())?;
-    put_each(tx, campaign.mail())
-}
 
 /// Makes the tables and puts all rows of the campaign.
 fn put_founding<S: Alter>(
@@ -67,9 +30,8 @@ fn put_founding<S: Alter>(
     ensures { Writes S.Store (OfFounding text.now campaign.now.value) (Inside IsBlank (WritesFounding text.now campaign.now.value)) result tx.old.conn tx.new.conn }
 {
     create_tables(tx)?;
-    put_players(tx, text, campaign)?;
-    put_places(tx, campaign)?;
-    put_people(tx, campaign)
+    put_head(tx, campaign, text)?;
+    OtherParts::fill(tx, campaign)
 }
 
 /// The transaction of a creation.

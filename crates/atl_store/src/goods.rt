@@ -1,10 +1,11 @@
 //! What units have, written row by row.
-ghost use Rattle.atl_store.specs.Tables.{has_table};
+ghost use Rattle.std.specs.Prelude.{refl};
+ghost use Rattle.atl_store.specs.Tables.{Goods, has_table};
 ghost use Rattle.atl_store.specs.Shown.{has_row};
 ghost use Rattle.atl_store.specs.Written.{sort_number};
 ghost use Rattle.atl_store.specs.Rows.{HasRowsOf};
 ghost use Rattle.atl_store.specs.Lines.{goods_lines, unit_lines, all_goods_lines};
-ghost use Rattle.atl_store.specs.OwnStatements.{OfChange, puts_has, drops_goods};
+ghost use Rattle.atl_store.specs.OwnStatements.{OfChange};
 ghost use Rattle.atl_store.specs.Writes.{Writes, WritesRows};
 ghost use Rattle.atl_store.specs.Inside.{Inside, HasTables};
 ghost use Rattle.atl_store.specs.Rewriting.{RewritesGoods};
@@ -81,9 +82,13 @@ pub(crate) fn put_all_goods<S: Alter>(
 }
 
 impl Grouped for Unit {
-    ghost table = { has_table };
+    ghost part = { Goods };
+
+    ghost is_grouped = { tt };
 
     ghost more = { 2 };
+
+    ghost is_key = { refl };
 
     ghost lines = { unit_lines };
 
@@ -91,9 +96,7 @@ impl Grouped for Unit {
 
     ghost marks = { λ m. m.goods };
 
-    ghost of_row = { λ c r is. puts_has is };
-
-    ghost of_number = { λ c n. drops_goods };
+    ghost are_rows = { λ own c r is. is };
 
     fn marked_groups(campaign: &Campaign) -> MarkedNumbers<'_> {
         campaign.marked_goods()

@@ -1,13 +1,13 @@
 //! What has rows in a table of their own under its number, as many as it needs: all of them are deleted and put anew.
-ghost use Rattle.std.specs.Prelude.{ℕ, suc, List, [], ◌∷◌};
+ghost use Rattle.std.specs.Prelude.{◌≡◌, ℕ, suc, List, [], ◌∷◌};
 ghost use Rattle.std.specs.Ordering.{nat_cmp};
 ghost use Rattle.std.specs.FinSet.{FinSet};
 ghost use Rattle.sqlite.specs.Order.{Row as SqlRow};
-ghost use Rattle.sqlite.specs.Table.{Table};
+ghost use Rattle.atl_store.specs.Tables.{Part, IsGroupedPart, key_of, table_of};
+ghost use Rattle.atl_store.specs.Rows.{rows_for};
 ghost use Rattle.atl_store.specs.Shown.{int};
 ghost use Rattle.atl_store.specs.Lines.{AreGroups};
-ghost use Rattle.atl_store.specs.Statements.{deletion, upsert};
-ghost use Rattle.atl_store.specs.OwnStatements.{OfRow, OfChange};
+ghost use Rattle.atl_store.specs.OwnStatements.{OfChange};
 ghost use Rattle.atl_store.specs.Writes.{Writes, WritesRows, TakesOut};
 ghost use Rattle.atl_store.specs.Inside.{Inside, HasTables};
 ghost use Rattle.atl_store.specs.Rewriting.{RewritesGroup, RewritesGroups};
@@ -22,10 +22,14 @@ use sqlite::{Alter, Error, Transaction};
 
 /// What has, beside its own row, rows of another table under its number, which is the first column of their key.
 pub(crate) trait Grouped: Kept {
-    ghost table: { Table };
+    ghost part: { Part };
+
+    ghost is_grouped: { IsGroupedPart part };
 
     // How many columns of the key come behind the number.
     ghost more: { ℕ };
+
+    ghost is_key: { key_of part ≡ suc more };
 
     ghost lines: { ℕ → Self → List SqlRow };
 
@@ -33,9 +37,7 @@ pub(crate) trait Grouped: Kept {
 
     ghost marks: { Marks → FinSet nat_cmp };
 
-    ghost of_row: { (c : CampaignValue) (r : SqlRow) → wanted c r → OfRow c (upsert table (suc more)) r };
-
-    ghost of_number: { (c : CampaignValue) (n : ℕ) → OfChange c (deletion table 1) (int n ∷ []) };
+    ghost are_rows: { (own : SqlRow) (c : CampaignValue) (r : SqlRow) → wanted c r → rows_for own c part r };
 
     /// The numbers whose rows are marked in a campaign, in rising order.
     fn marked_groups(campaign: &Campaign) -> MarkedNumbers<'_>
@@ -43,11 +45,11 @@ pub(crate) trait Grouped: Kept {
 
     /// Inserts its rows, or changes those that have their keys.
     fn put_rows<S: Alter>(&self, tx: &mut Transaction<'_, S>, number: u32) -> Result<(), Error>
-        ensures { WritesRows S.Store table (suc more) (lines number self.now) result tx.old.conn tx.new.conn };
+        ensures { WritesRows S.Store (table_of part) (suc more) (lines number self.now) result tx.old.conn tx.new.conn };
 
     /// Deletes all rows that have the number.
     fn drop_rows<S: Alter>(tx: &mut Transaction<'_, S>, number: u32) -> Result<(), Error>
-        ensures { TakesOut S.Store table 1 (int number ∷ []) result tx.old.conn tx.new.conn };
+        ensures { TakesOut S.Store (table_of part) 1 (int number ∷ []) result tx.old.conn tx.new.conn };
 }
 
 /// Deletes the rows of a number, and puts those of what stands under it.
@@ -57,7 +59,7 @@ fn rewrite_group<V: Grouped + Drop, S: Alter>(
     number: u32,
 ) -> Result<(), Error>
     requires { AreGroups V.Grouped.lines (suc V.Grouped.more) (V.Kept.values campaign.now.value) (V.Grouped.wanted campaign.now.value) }
-    ensures { Writes S.Store (OfChange campaign.now.value) (Inside HasTables (RewritesGroup V.Grouped.table (V.Grouped.wanted campaign.now.value) number)) result tx.old.conn tx.new.conn }
+    ensures { Writes S.Store (OfChange campaign.now.value) (Inside HasTables (RewritesGroup (table_of V.Grouped.part) (V.Grouped.wanted campaign.now.value) number)) result tx.old.conn tx.new.conn }
 {
     V::drop_rows(tx, number)?;
     match V::of(campaign, number) {
@@ -72,7 +74,7 @@ pub(crate) fn rewrite_marked_groups<V: Grouped + Drop, S: Alter>(
     campaign: &Campaign,
 ) -> Result<(), Error>
     requires { AreGroups V.Grouped.lines (suc V.Grouped.more) (V.Kept.values campaign.now.value) (V.Grouped.wanted campaign.now.value) }
-    ensures { Writes S.Store (OfChange campaign.now.value) (Inside HasTables (RewritesGroups V.Grouped.table (V.Grouped.wanted campaign.now.value) (V.Grouped.marks campaign.now.marks))) result tx.old.conn tx.new.conn }
+    ensures { Writes S.Store (OfChange campaign.now.value) (Inside HasTables (RewritesGroups (table_of V.Grouped.part) (V.Grouped.wanted campaign.now.value) (V.Grouped.marks campaign.now.marks))) result tx.old.conn tx.new.conn }
 {
     for number in V::marked_groups(campaign) {
         rewrite_group::<V, S>(tx, campaign, number)?;

@@ -1,15 +1,16 @@
 //! The parts of a campaign that stand in a table of their own, each under its number.
-ghost use Rattle.std.specs.Prelude.{◌≡◌, ℕ, [], ◌∷◌, take, Some, None};
+ghost use Rattle.std.specs.Prelude.{◌≡◌, ◌↔◌, ℕ, [], ◌∷◌, take};
 ghost use Rattle.std.specs.Ordering.{nat_cmp};
 ghost use Rattle.std.specs.Option.{option_copied};
-ghost use Rattle.std.specs.FinMap.{FinMap, get};
+ghost use Rattle.std.specs.FinMap.{FinMap, entries, get};
 ghost use Rattle.std.specs.FinSet.{FinSet};
 ghost use Rattle.sqlite.specs.Order.{Row as SqlRow};
-ghost use Rattle.sqlite.specs.Table.{Table};
 ghost use Rattle.atl_store.specs.Shown.{int};
-ghost use Rattle.atl_store.specs.Rows.{lines_of};
-ghost use Rattle.atl_store.specs.Statements.{deletion, upsert};
-ghost use Rattle.atl_store.specs.OwnStatements.{OfRow, OfChange};
+ghost use Rattle.atl_store.specs.Tables.{Part, IsNumberedPart, table_of};
+ghost use Rattle.atl_store.specs.Rows.{RowsOf, lines_of, rows_for};
+ghost use Rattle.atl_store.specs.Changing.{begins_marked, is_marked};
+ghost use Rattle.atl_store.specs.Statements.{deletion};
+ghost use Rattle.atl_store.specs.OwnStatements.{OfChange};
 ghost use Rattle.atl_store.specs.Writes.{Writes, WritesRow, WritesRows, TakesOut};
 ghost use Rattle.atl_store.specs.Inside.{Inside, HasTables};
 ghost use Rattle.atl_store.specs.Rewriting.{RewritesNumber, RewritesMarked};
@@ -17,13 +18,16 @@ ghost use Rattle.atl_tables.specs.Tracking.{Lists};
 ghost use Rattle.atl_state.specs.Marks.{Marks};
 ghost use Rattle.atl_state.specs.Campaign.{CampaignValue};
 
+use crate::statement::run;
 use atl_state::Campaign;
 use atl_tables::{Entries, MarkedNumbers};
-use sqlite::{Alter, Error, Transaction};
+use sqlite::{Alter, Error, Transaction, params};
 
 /// What has a row under its number in a table of its own.
 pub(crate) trait Kept: Sized {
-    ghost table: { Table };
+    ghost part: { Part };
+
+    ghost is_numbered: { IsNumberedPart part };
 
     ghost line: { ℕ → Self → SqlRow };
 
@@ -33,9 +37,9 @@ pub(crate) trait Kept: Sized {
 
     ghost marks: { Marks → FinSet nat_cmp };
 
-    ghost of_row: { (c : CampaignValue) (n : ℕ) (v : Self) → get (values c) n ≡ Some v → OfRow c (upsert table 1) (line n v) };
+    ghost are_rows: { (own : SqlRow) (c : CampaignValue) (r : SqlRow) → rows_for own c part r ↔ RowsOf line (values c) r };
 
-    ghost of_none: { (c : CampaignValue) (n : ℕ) → get (values c) n ≡ None → OfChange c (deletion table 1) (int n ∷ []) };
+    ghost are_marked: { (m : Marks) (r : SqlRow) → is_marked m part r ≡ begins_marked (marks m) r };
 
     /// What stands under a number of a campaign.
     fn of(campaign: &Campaign, number: u32) -> Option<&Self>
@@ -45,13 +49,20 @@ pub(crate) trait Kept: Sized {
     fn marked(campaign: &Campaign) -> MarkedNumbers<'_>
         ensures { Lists (marks campaign.now.marks) result };
 
+    /// The text that deletes the row of a number.
+    fn removal() -> &'static str
+        ensures { result.now ≡ deletion (table_of part) 1 };
+
     /// Inserts its row, or changes the one that has the number.
     fn put<S: Alter>(&self, tx: &mut Transaction<'_, S>, number: u32) -> Result<(), Error>
-        ensures { WritesRow S.Store table 1 (line number self.now) result tx.old.conn tx.new.conn };
+        ensures { WritesRow S.Store (table_of part) 1 (line number self.now) result tx.old.conn tx.new.conn };
+}
 
-    /// Deletes the row that has the number, where there is one.
-    fn take_out<S: Alter>(tx: &mut Transaction<'_, S>, number: u32) -> Result<(), Error>
-        ensures { TakesOut S.Store table 1 (int number ∷ []) result tx.old.conn tx.new.conn };
+/// What stands in a map of a campaign, under its numbers.
+pub(crate) trait Mapped: Kept {
+    /// All that a campaign has of it, in rising order of the numbers.
+    fn all(campaign: &Campaign) -> Entries<'_, Self>
+        ensures { result ≡ entries (Self.values campaign.now.value) };
 }
 
 /// Puts the rows of all entries.
@@ -59,12 +70,19 @@ pub(crate) fn put_each<V: Kept + Drop, S: Alter>(
     tx: &mut Transaction<'_, S>,
     values: Entries<'_, V>,
 ) -> Result<(), Error>
-    ensures { WritesRows S.Store V.Kept.table 1 (lines_of V.Kept.line values.entry) result tx.old.conn tx.new.conn }
+    ensures { WritesRows S.Store (table_of V.Kept.part) 1 (lines_of V.Kept.line values.entry) result tx.old.conn tx.new.conn }
 {
     for (number, value) in values {
         value.put(tx, number)?;
     }
     Ok(())
+}
+
+/// Deletes the row that has the number, where there is one.
+fn take_out<V: Kept, S: Alter>(tx: &mut Transaction<'_, S>, number: u32) -> Result<(), Error>
+    ensures { TakesOut S.Store (table_of V.Kept.part) 1 (int number ∷ []) result tx.old.conn tx.new.conn }
+{
+    run(tx, V::removal(), params![number])
 }
 
 /// Puts the row of a number, or deletes it where nothing stands under the number.
@@ -73,11 +91,11 @@ fn rewrite<V: Kept + Drop, S: Alter>(
     campaign: &Campaign,
     number: u32,
 ) -> Result<(), Error>
-    ensures { Writes S.Store (OfChange campaign.now.value) (Inside HasTables (RewritesNumber V.Kept.table V.Kept.line (V.Kept.values campaign.now.value) number)) result tx.old.conn tx.new.conn }
+    ensures { Writes S.Store (OfChange campaign.now.value) (Inside HasTables (RewritesNumber (table_of V.Kept.part) V.Kept.line (V.Kept.values campaign.now.value) number)) result tx.old.conn tx.new.conn }
 {
     match V::of(campaign, number) {
         Some(value) => value.put(tx, number),
-        None => V::take_out(tx, number),
+        None => take_out::<V, S>(tx, number),
     }
 }
 
@@ -86,7 +104,7 @@ pub(crate) fn rewrite_marked<V: Kept + Drop, S: Alter>(
     tx: &mut Transaction<'_, S>,
     campaign: &Campaign,
 ) -> Result<(), Error>
-    ensures { Writes S.Store (OfChange campaign.now.value) (Inside HasTables (RewritesMarked V.Kept.table V.Kept.line (V.Kept.values campaign.now.value) (V.Kept.marks campaign.now.marks))) result tx.old.conn tx.new.conn }
+    ensures { Writes S.Store (OfChange campaign.now.value) (Inside HasTables (RewritesMarked (table_of V.Kept.part) V.Kept.line (V.Kept.values campaign.now.value) (V.Kept.marks campaign.now.marks))) result tx.old.conn tx.new.conn }
 {
     for number in V::marked(campaign) {
         rewrite::<V, S>(tx, campaign, number)?;

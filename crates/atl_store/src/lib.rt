@@ -23,6 +23,7 @@ mod statement;
 pub mod tables;
 mod things;
 mod upgrading;
+mod written;
 
 pub use alike::one_database_holds_one_campaign;
 pub use changing::write_changes;

@@ -1,9 +1,9 @@
 //! The stocks of markets, written row by row.
-ghost use Rattle.atl_store.specs.Tables.{market_table};
+ghost use Rattle.std.specs.Prelude.{refl};
+ghost use Rattle.atl_store.specs.Tables.{Markets, market_table};
 ghost use Rattle.atl_store.specs.Shown.{market_row};
 ghost use Rattle.atl_store.specs.Rows.{MarketRowsOf};
 ghost use Rattle.atl_store.specs.Lines.{region_lines, all_stocks_lines};
-ghost use Rattle.atl_store.specs.OwnStatements.{puts_market, drops_stocks};
 ghost use Rattle.atl_store.specs.Writes.{WritesRows};
 
 use crate::amounts::{Stocked, put_amounts};
@@ -61,9 +61,13 @@ pub(crate) fn put_all_stocks<S: Alter>(
 }
 
 impl Grouped for Region {
-    ghost table = { market_table };
+    ghost part = { Markets };
+
+    ghost is_grouped = { tt };
 
     ghost more = { 1 };
+
+    ghost is_key = { refl };
 
     ghost lines = { region_lines };
 
@@ -71,9 +75,7 @@ impl Grouped for Region {
 
     ghost marks = { λ m. m.regions };
 
-    ghost of_row = { λ c r is. puts_market is };
-
-    ghost of_number = { λ c n. drops_stocks };
+    ghost are_rows = { λ own c r is. is };
 
     fn marked_groups(campaign: &Campaign) -> MarkedNumbers<'_> {
         campaign.marked_regions()

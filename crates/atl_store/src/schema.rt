@@ -5,18 +5,16 @@ ghost use Rattle.std.specs.List.{AllByRecursion};
 ghost use Rattle.atl_store.specs.UpgradeSteps.{IsJustOld};
 ghost use Rattle.atl_store.specs.Tables.{all_tables, all_indexes, AreTables, Begins, HasAll, HasTablesOf};
 
-mod checks;
+pub(crate) mod checks;
 mod columns;
 mod indexes;
-mod keys;
-mod places;
-mod shapes;
-mod tables;
+pub(crate) mod keys;
+pub(crate) mod shapes;
 
+use crate::tables::{FIRST_INDEXES, FIRST_TABLES, INDEXES, TABLES, are_first_tables};
 use atl_tables::Format;
 use indexes::are_indexes;
 use sqlite_schema::schema::{Schema, Table};
-use tables::are_first_tables;
 
 /// A table with no foreign key.
 fn is_free(found: &Table) -> bool
@@ -64,7 +62,7 @@ pub(crate) fn has_tables_of(schema: &Schema, format: Format) -> bool
     ensures { Decides result (HasTablesOf format schema.now) }
 {
     match format {
-        Format::First => begins(schema, places::FIRST_TABLES, places::FIRST_INDEXES),
+        Format::First => begins(schema, FIRST_TABLES, FIRST_INDEXES),
         Format::Second => has_all_tables(schema),
     }
 }
@@ -73,8 +71,8 @@ pub(crate) fn has_tables_of(schema: &Schema, format: Format) -> bool
 pub(crate) fn is_just_old(schema: &Schema) -> bool
     ensures { Decides result (IsJustOld schema.now) }
 {
-    schema.tables.len() == places::FIRST_TABLES
-        && schema.indexes.len() == places::FIRST_INDEXES
+    schema.tables.len() == FIRST_TABLES
+        && schema.indexes.len() == FIRST_INDEXES
         && has_tables_of(schema, Format::First)
 }
 
@@ -84,5 +82,5 @@ pub(crate) fn is_just_old(schema: &Schema) -> bool
 pub fn has_all_tables(schema: &Schema) -> bool
     ensures { Decides result (HasAll schema.now) }
 {
-    begins(schema, places::TABLES, places::INDEXES)
+    begins(schema, TABLES, INDEXES)
 }

@@ -1,85 +1,226 @@
-//! The tables are made.
-ghost use Rattle.std.specs.Prelude.{[]};
-ghost use Rattle.atl_store.specs.Tables.{first_tables};
+//! How the tables are made, one after another: the text that makes each, and how it is found in a schema then.
+ghost use Rattle.std.specs.Prelude.{◌≡◌, ◌≤◌, [], length, map, slice_get, take};
+ghost use Rattle.std.specs.Bool.{Decides};
+ghost use Rattle.atl_store.specs.Tables.{Markets, all_parts, all_tables, campaign_table, creation_of, faction_table};
 ghost use Rattle.atl_store.specs.OwnStatements.{Only, Creations};
-ghost use Rattle.atl_store.specs.Statements.{creation};
 ghost use Rattle.atl_store.specs.Writes.{Writes, Runs};
 ghost use Rattle.atl_store.specs.Inside.{Inside, IsBlank};
-ghost use Rattle.atl_store.specs.Making.{Extends, AreEmpty};
+ghost use Rattle.atl_store.specs.Making.{AreEmpty};
 
+use crate::schema::checks::is_own_row;
+use crate::schema::keys::{has_no_unique, is_numbered, is_unique};
+use crate::schema::shapes::{is_keyed, is_simple, is_strict};
 use crate::statement::run;
 use sqlite::{Alter, Error, Transaction};
+use sqlite_schema::schema::{Kind, Table};
 
-const CAMPAIGN: &str =
-    "CREATE TABLE campaign (id INTEGER NOT NULL PRIMARY KEY CHECK (id = 1), format INTEGER NOT NULL, month INTEGER NOT NULL, next_faction INTEGER NOT NULL, next_unit INTEGER NOT NULL, next_structure INTEGER NOT NULL, pass TEXT NOT NULL, world TEXT NOT NULL) STRICT";
-
-const FACTION: &str =
-    "CREATE TABLE faction (number INTEGER NOT NULL PRIMARY KEY, joined_as TEXT NOT NULL UNIQUE, name TEXT NOT NULL, pass TEXT NOT NULL, gone INTEGER NOT NULL) STRICT";
-
-const REGION: &str =
-    "CREATE TABLE region (number INTEGER NOT NULL PRIMARY KEY, peasants INTEGER NOT NULL, money INTEGER NOT NULL) STRICT";
-
-const UNIT: &str =
-    "CREATE TABLE unit (number INTEGER NOT NULL PRIMARY KEY, faction INTEGER NOT NULL, name TEXT NOT NULL, region INTEGER NOT NULL, structure INTEGER NOT NULL, men INTEGER NOT NULL, money INTEGER NOT NULL, guard INTEGER NOT NULL) STRICT";
-
-const HAS: &str =
-    "CREATE TABLE has (unit INTEGER NOT NULL, sort INTEGER NOT NULL, thing INTEGER NOT NULL, amount INTEGER NOT NULL, PRIMARY KEY (unit, sort, thing)) STRICT";
-
-const STRUCTURE: &str =
-    "CREATE TABLE structure (number INTEGER NOT NULL PRIMARY KEY, kind INTEGER NOT NULL, name TEXT NOT NULL, region INTEGER NOT NULL, done INTEGER NOT NULL, owner INTEGER NOT NULL) STRICT";
-
-const MAIL: &str =
-    "CREATE TABLE mail (faction INTEGER NOT NULL PRIMARY KEY, text BLOB NOT NULL) STRICT";
-
-const REPORT: &str =
-    "CREATE TABLE report (faction INTEGER NOT NULL PRIMARY KEY, text TEXT NOT NULL) STRICT";
-
-const BOOKS: &str =
-    "CREATE TABLE books (entry INTEGER NOT NULL, thing INTEGER NOT NULL, amount INTEGER NOT NULL, PRIMARY KEY (entry, thing)) STRICT";
-
-const MARKET: &str =
-    "CREATE TABLE market (region INTEGER NOT NULL, item INTEGER NOT NULL, stock INTEGER NOT NULL, PRIMARY KEY (region, item)) STRICT";
-
-/// The tables of the campaign, its factions and its regions.
-fn create_first_three<S: Alter>(tx: &mut Transaction<'_, S>) -> Result<(), Error>
-    ensures { Writes S.Store Creations (Extends (first_tables 0 0) (first_tables 3 1)) result tx.old.conn tx.new.conn }
-{
-    run(tx, CAMPAIGN, &[])?;
-    run(tx, FACTION, &[])?;
-    run(tx, REGION, &[])
+/// How a table is made, and at which tree. Tables and the indexes of their keys take the trees of a file in the order in
+/// which they are made.
+#[derive(Drop, Clone, Copy)]
+pub(crate) struct Made {
+    text: &'static str,
+    pub(crate) tree: u32,
+    pub(crate) name: &'static [u8],
+    pub(crate) columns: &'static [(&'static [u8], Kind)],
 }
 
-/// The tables of units, of what they have, and of structures.
-fn create_next_three<S: Alter>(tx: &mut Transaction<'_, S>) -> Result<(), Error>
-    ensures { Writes S.Store Creations (Extends (first_tables 3 1) (first_tables 6 2)) result tx.old.conn tx.new.conn }
-{
-    run(tx, UNIT, &[])?;
-    run(tx, HAS, &[])?;
-    run(tx, STRUCTURE, &[])
+/// Columns in their order: the kind of some that stand side by side, and their names.
+macro_rules! columns {
+    ($($kind:ident: $($name:literal)*);*) => {
+        &[$($(($name, Kind::$kind),)*)*]
+    };
 }
 
-/// The tables of mail, reports and books.
-fn create_last_three<S: Alter>(tx: &mut Transaction<'_, S>) -> Result<(), Error>
-    ensures { Writes S.Store Creations (Extends (first_tables 6 2) (first_tables 9 3)) result tx.old.conn tx.new.conn }
+// ---- the tables, with the places of what else is unique in their rows and the tree of its index
+
+const CAMPAIGN: Made = Made {
+    text: "CREATE TABLE campaign (id INTEGER NOT NULL PRIMARY KEY CHECK (id = 1), format INTEGER NOT NULL, month INTEGER NOT NULL, next_faction INTEGER NOT NULL, next_unit INTEGER NOT NULL, next_structure INTEGER NOT NULL, pass TEXT NOT NULL, world TEXT NOT NULL) STRICT",
+    tree: 0,
+    name: b"campaign",
+    columns: columns!(
+        Integer: b"id" b"format" b"month" b"next_faction" b"next_unit" b"next_structure";
+        Text: b"pass" b"world"
+    ),
+};
+
+pub(crate) const FACTION: Made = Made {
+    text: "CREATE TABLE faction (number INTEGER NOT NULL PRIMARY KEY, joined_as TEXT NOT NULL UNIQUE, name TEXT NOT NULL, pass TEXT NOT NULL, gone INTEGER NOT NULL) STRICT",
+    tree: 1,
+    name: b"faction",
+    columns: columns!(Integer: b"number"; Text: b"joined_as" b"name" b"pass"; Integer: b"gone"),
+};
+
+/// A faction's `joined_as`, which no two factions share.
+pub(crate) const FACTION_UNIQUE: [usize; 1] = [2];
+
+pub(crate) const FACTION_INDEX: u32 = 2;
+
+const REGION: Made = Made {
+    text: "CREATE TABLE region (number INTEGER NOT NULL PRIMARY KEY, peasants INTEGER NOT NULL, money INTEGER NOT NULL) STRICT",
+    tree: 3,
+    name: b"region",
+    columns: columns!(Integer: b"number" b"peasants" b"money"),
+};
+
+const UNIT: Made = Made {
+    text: "CREATE TABLE unit (number INTEGER NOT NULL PRIMARY KEY, faction INTEGER NOT NULL, name TEXT NOT NULL, region INTEGER NOT NULL, structure INTEGER NOT NULL, men INTEGER NOT NULL, money INTEGER NOT NULL, guard INTEGER NOT NULL) STRICT",
+    tree: 4,
+    name: b"unit",
+    columns: columns!(
+        Integer: b"number" b"faction"; Text: b"name"; Integer: b"region" b"structure" b"men" b"money" b"guard"
+    ),
+};
+
+pub(crate) const HAS: Made = Made {
+    text: "CREATE TABLE has (unit INTEGER NOT NULL, sort INTEGER NOT NULL, thing INTEGER NOT NULL, amount INTEGER NOT NULL, PRIMARY KEY (unit, sort, thing)) STRICT",
+    tree: 5,
+    name: b"has",
+    columns: columns!(Integer: b"unit" b"sort" b"thing" b"amount"),
+};
+
+/// `unit`, `sort` and `thing`.
+pub(crate) const HAS_UNIQUE: [usize; 3] = [1, 2, 3];
+
+pub(crate) const HAS_INDEX: u32 = 6;
+
+const STRUCTURE: Made = Made {
+    text: "CREATE TABLE structure (number INTEGER NOT NULL PRIMARY KEY, kind INTEGER NOT NULL, name TEXT NOT NULL, region INTEGER NOT NULL, done INTEGER NOT NULL, owner INTEGER NOT NULL) STRICT",
+    tree: 7,
+    name: b"structure",
+    columns: columns!(Integer: b"number" b"kind"; Text: b"name"; Integer: b"region" b"done" b"owner"),
+};
+
+const MAIL: Made = Made {
+    text: "CREATE TABLE mail (faction INTEGER NOT NULL PRIMARY KEY, text BLOB NOT NULL) STRICT",
+    tree: 8,
+    name: b"mail",
+    columns: columns!(Integer: b"faction"; Blob: b"text"),
+};
+
+const REPORT: Made = Made {
+    text: "CREATE TABLE report (faction INTEGER NOT NULL PRIMARY KEY, text TEXT NOT NULL) STRICT",
+    tree: 9,
+    name: b"report",
+    columns: columns!(Integer: b"faction"; Text: b"text"),
+};
+
+pub(crate) const BOOKS: Made = Made {
+    text: "CREATE TABLE books (entry INTEGER NOT NULL, thing INTEGER NOT NULL, amount INTEGER NOT NULL, PRIMARY KEY (entry, thing)) STRICT",
+    tree: 10,
+    name: b"books",
+    columns: columns!(Integer: b"entry" b"thing" b"amount"),
+};
+
+/// `entry` and `thing`.
+pub(crate) const BOOKS_UNIQUE: [usize; 2] = [1, 2];
+
+pub(crate) const BOOKS_INDEX: u32 = 11;
+
+/// The stocks of markets, which the first format hasn't.
+pub(crate) const MARKET: Made = Made {
+    text: "CREATE TABLE market (region INTEGER NOT NULL, item INTEGER NOT NULL, stock INTEGER NOT NULL, PRIMARY KEY (region, item)) STRICT",
+    tree: 12,
+    name: b"market",
+    columns: columns!(Integer: b"region" b"item" b"stock"),
+};
+
+/// `region` and `item`.
+pub(crate) const MARKET_UNIQUE: [usize; 2] = [1, 2];
+
+pub(crate) const MARKET_INDEX: u32 = 13;
+
+/// All of them, in the order in which they are made.
+pub(crate) const ALL: [Made; 10] = [
+    CAMPAIGN, FACTION, REGION, UNIT, HAS, STRUCTURE, MAIL, REPORT, BOOKS, MARKET,
+];
+
+pub(crate) const TABLES: usize = ALL.len();
+
+/// How many indexes their keys have.
+pub(crate) const INDEXES: usize = 4;
+
+/// So many tables and indexes the first format has.
+pub(crate) const FIRST_TABLES: usize = 9;
+
+pub(crate) const FIRST_INDEXES: usize = 3;
+
+// ---- whether a table that is found is made so
+
+/// The table of the campaign's own row, which has a check.
+fn is_campaign(found: &Table) -> bool
+    ensures { Decides result (found.now ≡ campaign_table) }
 {
-    run(tx, MAIL, &[])?;
-    run(tx, REPORT, &[])?;
-    run(tx, BOOKS, &[])
+    is_strict(found, &CAMPAIGN)
+        && is_numbered(found)
+        && has_no_unique(found)
+        && is_own_row(&found.checks)
 }
 
-/// The table of the stocks of markets, which the first format hasn't.
-pub(crate) fn create_market<S: Alter>(tx: &mut Transaction<'_, S>) -> Result<(), Error>
-    ensures { Writes S.Store (Only (creation 9) []) (Runs (creation 9) []) result tx.old.conn tx.new.conn }
+/// The table of factions, of which no two joined under one name.
+fn is_faction(found: &Table) -> bool
+    ensures { Decides result (found.now ≡ faction_table) }
 {
-    run(tx, MARKET, &[])
+    is_strict(found, &FACTION)
+        && is_numbered(found)
+        && is_unique(found, &FACTION_UNIQUE)
+        && found.checks.roots.is_empty()
 }
 
-/// Makes the tables, each with no row, where there is none.
+/// Whether this is the table with this place among those of a campaign, in the order in which they are made.
+fn is_table(found: &Table, place: usize) -> bool
+    ensures { Decides result (slice_get all_tables place ≡ Some found.now) }
+{
+    match place {
+        0 => is_campaign(found),
+        1 => is_faction(found),
+        2 => is_simple(found, &REGION),
+        3 => is_simple(found, &UNIT),
+        4 => is_keyed(found, &HAS, &HAS_UNIQUE),
+        5 => is_simple(found, &STRUCTURE),
+        6 => is_simple(found, &MAIL),
+        7 => is_simple(found, &REPORT),
+        8 => is_keyed(found, &BOOKS, &BOOKS_UNIQUE),
+        9 => is_keyed(found, &MARKET, &MARKET_UNIQUE),
+        _ => false,
+    }
+}
+
+/// So many tables are the first that are made.
+pub(crate) fn are_first_tables(tables: &[Table], count: usize) -> bool
+    requires { count ≤ length tables.now }
+    ensures { Decides result (take count tables.now ≡ take count all_tables) }
+{
+    for place in 0..count {
+        if !is_table(&tables[place], place) {
+            return false;
+        }
+    }
+    true
+}
+
+// ---- the tables are made
+
+/// Makes the tables of these texts, each with no row, where there is none.
+fn create_each<S: Alter>(tx: &mut Transaction<'_, S>, tables: &[Made]) -> Result<(), Error>
+    requires { map (λ t. t.text.now) tables.now ≡ map creation_of all_parts }
+    ensures { Writes S.Store Creations (Inside IsBlank AreEmpty) result tx.old.conn tx.new.conn }
+{
+    for table in tables {
+        run(tx, table.text, &[])?;
+    }
+    Ok(())
+}
+
+/// Makes all tables, each with no row, where there is none.
 pub(crate) fn create_tables<S: Alter>(tx: &mut Transaction<'_, S>) -> Result<(), Error>
     ensures { Writes S.Store Creations (Inside IsBlank AreEmpty) result tx.old.conn tx.new.conn }
 {
-    create_first_three(tx)?;
-    create_next_three(tx)?;
-    create_last_three(tx)?;
-    create_market(tx)
+    create_each(tx, &ALL)
+}
+
+/// Makes the table of the stocks of markets.
+pub(crate) fn create_market<S: Alter>(tx: &mut Transaction<'_, S>) -> Result<(), Error>
+    ensures { Writes S.Store (Only (creation_of Markets) []) (Runs (creation_of Markets) []) result tx.old.conn tx.new.conn }
+{
+    run(tx, MARKET.text, &[])
 }

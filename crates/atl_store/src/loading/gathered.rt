@@ -1,16 +1,131 @@
-//! The rows of the tables, as they are judged.
-ghost use Rattle.std.specs.Prelude.{◌≡◌, map, Ok, Err, if◌then◌else◌, IfOk, IfErr};
+//! All rows of tables one after another, and the places of rows.
+ghost use Rattle.std.specs.Prelude.{◌≡◌, ◌++◌, ℕ, false, [], ◌∷◌, List, map, refl, Ok, Err, if◌then◌else◌, IfOk, IfErr};
 ghost use Rattle.std.specs.Bool.{Decides};
+ghost use Rattle.std.proofs.Common.{ap, ◌∙◌};
+ghost use Rattle.std.proofs.lemmas.List.{map-append};
+ghost use Rattle.sqlite.specs.Held.{state};
+ghost use Rattle.sqlite.specs.Order.{Row as SqlRow};
 ghost use Rattle.atl_store.specs.declared.fault.LoadFault.TheVariants.{Store};
-ghost use Rattle.atl_store.specs.Gathering.{Lacks, AreApart, AreAllApart, IsMadeOf};
+ghost use Rattle.atl_tables.specs.declared.format.Format.TheVariants.{First};
+ghost use Rattle.atl_store.specs.Gathering.{IsSettled, ReadRows, AreAllRows, AreNone, AreOfFormat, ReadsSome, Lacks, AreApart, kept_of, late_parts, selects_by};
+ghost use Rattle.atl_store.specs.Loading.{other_parts};
+ghost use Rattle.atl_store.specs.Reading.{listing_of};
+ghost use Rattle.atl_store.specs.Stored.{Form};
+ghost use Rattle.atl_store.specs.Tables.{Part};
 
-use crate::fault::LoadFault;
-use crate::loading::others::Others;
-use crate::rows::Placed;
+use crate::fault::{LoadFault, ReadFault};
+use crate::rows::{Listed, Placed};
 use atl_state::are_distinct;
-use atl_state::parts::{Parts, StoredHead};
-use atl_tables::Sequence;
+use atl_tables::{Format, Sequence};
+use sqlite::{Alter, Connection};
 use std::alloc::{AllocError, Global};
+
+/// All rows of a table, or those of some tables and then of others. All tables are read: a value of another type in one of
+/// them is told only where none of them fails to be read.
+pub(crate) trait AllRows: Drop + Sized {
+    // The parts that the tables are of.
+    ghost parts: { List Part };
+
+    // The SELECTs that are asked, each with what its columns are read as.
+    ghost selects: { List (List ℕ × List Form) };
+
+    // What was read, as SQL shows it.
+    ghost rows: { Self → ReadRows };
+
+    /// All rows; there are none where a value is of another type.
+    fn read_all<S: Alter>(
+        alloc: Global,
+        conn: &mut Connection<S>,
+    ) -> Result<Option<Self>, LoadFault>
+        requires idle { conn.old.in_transaction ≡ false }
+        requires settled { IsSettled (state S.Store conn.old) }
+        ensures { ReadsSome S.Store conn.old selects (λ all. AreAllRows (state S.Store conn.old).now (rows all)) result conn.new };
+
+    /// No rows.
+    fn none(alloc: Global) -> Self
+        ensures { AreNone (rows result) };
+
+    // It is of these parts.
+    ghost of_parts: { (all : Self) → map (λ read. read.0) (rows all) ≡ parts };
+}
+
+/// The rows of a table. There are none where a value is of another type.
+fn kept<T: Drop>(rows: Result<Vec<T>, ReadFault>) -> Result<Option<Vec<T>>, LoadFault>
+    ensures { result ≡ kept_of rows }
+{
+    match rows {
+        Ok(rows) => Ok(Some(rows)),
+        Err(ReadFault::OtherType) => Ok(None),
+        Err(ReadFault::Memory) => Err(LoadFault::Memory),
+        Err(ReadFault::Store | ReadFault::Refused) => Err(LoadFault::Store),
+    }
+}
+
+impl<A: Listed> AllRows for Vec<A> {
+    ghost parts = { A.Listed.part ∷ [] };
+
+    ghost selects = { ((listing_of A.Listed.part).select, A.Stored.forms) ∷ [] };
+
+    ghost rows = { λ all. (A.Listed.part, map A.Stored.shown all.items) ∷ [] };
+
+    ghost of_parts = { λ all. refl };
+
+    fn read_all<S: Alter>(
+        alloc: Global,
+        conn: &mut Connection<S>,
+    ) -> Result<Option<Vec<A>>, LoadFault> {
+        kept(A::read(alloc, conn))
+    }
+
+    fn none(alloc: Global) -> Vec<A> {
+        Vec::new(alloc)
+    }
+}
+
+impl<X: AllRows, Y: AllRows> AllRows for (X, Y) {
+    ghost parts = { X.AllRows.parts ++ Y.AllRows.parts };
+
+    ghost selects = { X.AllRows.selects ++ Y.AllRows.selects };
+
+    ghost rows = { λ both. X.AllRows.rows both.0 ++ Y.AllRows.rows both.1 };
+
+    ghost of_parts = { λ both. map-append (λ (read : Part × List SqlRow). read.0) (X.AllRows.rows both.0) (Y.AllRows.rows both.1) ∙ ap (λ parts. parts ++ map (λ read. read.0) (Y.AllRows.rows both.1)) (X.AllRows.of_parts both.0) ∙ ap (λ parts. X.AllRows.parts ++ parts) (Y.AllRows.of_parts both.1) };
+
+    fn read_all<S: Alter>(
+        alloc: Global,
+        conn: &mut Connection<S>,
+    ) -> Result<Option<(X, Y)>, LoadFault> {
+        let some = X::read_all(alloc, conn)?;
+        let others = Y::read_all(alloc, conn)?;
+        Ok(some.zip(others))
+    }
+
+    fn none(alloc: Global) -> (X, Y) {
+        (X::none(alloc), Y::none(alloc))
+    }
+}
+
+/// All rows of some tables, and those of others by the second format alone: by the first there are none. There are none of
+/// all where a value is of another type.
+pub(crate) fn read_by<X: AllRows, Y: AllRows, S: Alter>(
+    alloc: Global,
+    conn: &mut Connection<S>,
+    format: Format,
+) -> Result<Option<(X, Y)>, LoadFault>
+    requires idle { conn.old.in_transaction ≡ false }
+    requires settled { IsSettled (state S.Store conn.old) }
+    requires some { X.AllRows.parts ≡ other_parts First }
+    requires others { Y.AllRows.parts ≡ late_parts }
+    ensures { ReadsSome S.Store conn.old (selects_by format X.AllRows.selects Y.AllRows.selects) (λ both. AreOfFormat format (state S.Store conn.old).now (X.AllRows.rows both.0 ++ Y.AllRows.rows both.1)) result conn.new }
+{
+    match format {
+        Format::First => {
+            let some = X::read_all(alloc, conn)?;
+            Ok(some.zip(Some(Y::none(alloc))))
+        }
+        Format::Second => <(X, Y)>::read_all(alloc, conn),
+    }
+}
 
 /// The places at which rows are kept.
 fn rowids_of<T>(alloc: Global, placed: &[Placed<T>]) -> Result<Vec<i64>, AllocError>
@@ -54,41 +169,14 @@ fn told_apart(are_apart: bool) -> Result<(), LoadFault>
 }
 
 /// The rows without their places, which have to differ.
-fn rows_apart<T: Drop>(alloc: Global, placed: Vec<Placed<T>>) -> Result<Sequence<T>, LoadFault>
+pub(crate) fn rows_apart<T: Drop>(
+    alloc: Global,
+    placed: Vec<Placed<T>>,
+) -> Result<Sequence<T>, LoadFault>
     ensures ok { IfOk result (λ rows. (rows ≡ map (λ s. s.row) placed.items) × AreApart placed.items) }
     ensures fails { IfErr result (Lacks (AreApart placed.items)) }
 {
     told_apart(are_apart(alloc, &placed)?)?;
     let rows = unplaced(alloc, placed)?;
     Ok(rows)
-}
-
-/// The rows of all tables, of which the campaign's own has one.
-pub(crate) fn parts_with(
-    alloc: Global,
-    head: StoredHead,
-    others: Others,
-) -> Result<Parts, LoadFault>
-    ensures ok { IfOk result (λ parts. IsMadeOf head others parts) }
-    ensures fails { IfErr result (Lacks (AreAllApart others)) }
-{
-    let (((((factions, regions), reports), (units, has)), ((structures, mail), books)), markets) =
-        others;
-    let has = rows_apart(alloc, has)?;
-    let books = rows_apart(alloc, books)?;
-    let markets = rows_apart(alloc, markets)?;
-    let mut campaign = Sequence::new(alloc);
-    campaign.push(head)?;
-    Ok(Parts {
-        campaign,
-        factions: Sequence::from_vec(factions),
-        regions: Sequence::from_vec(regions),
-        units: Sequence::from_vec(units),
-        has,
-        structures: Sequence::from_vec(structures),
-        mail: Sequence::from_vec(mail),
-        reports: Sequence::from_vec(reports),
-        books,
-        markets,
-    })
 }

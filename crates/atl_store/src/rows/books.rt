@@ -1,10 +1,9 @@
 //! The table of the books: signed amounts by entry and thing.
 ghost use Rattle.std.specs.Prelude.{refl};
 ghost use Rattle.atl_store.specs.Tables.{Books, books_table};
-ghost use Rattle.atl_store.specs.Shown.{books_key};
+ghost use Rattle.atl_store.specs.Shown.{books_key, books_stored, books_forms};
 ghost use Rattle.atl_store.specs.Written.{books_shown};
 ghost use Rattle.atl_store.specs.Writes.{WritesRow, TakesOut};
-ghost use Rattle.atl_store.specs.StoredRows.{books_stored, books_forms};
 
 use crate::rows::columns::two_integers;
 use crate::rows::stored::{Listed, Placed, Stored};

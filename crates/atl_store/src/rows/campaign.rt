@@ -5,12 +5,11 @@ ghost use Rattle.atl_store.specs.Stored.{first_columns, IsTyped};
 ghost use Rattle.atl_store.specs.Tables.{Own, campaign_table};
 ghost use Rattle.atl_store.specs.Written.{head_shown};
 ghost use Rattle.atl_store.specs.PutsHead.{PutsHead};
-ghost use Rattle.atl_store.specs.Shown.{head_values};
+ghost use Rattle.atl_store.specs.Shown.{head_values, head_stored, head_forms, campaign_stored, campaign_forms};
 ghost use Rattle.atl_store.specs.Statements.{campaign_upsert, selection, upgrading_upsert};
 ghost use Rattle.atl_store.specs.OwnStatements.{Only};
 ghost use Rattle.atl_store.specs.Writes.{Writes};
 ghost use Rattle.atl_store.specs.Inside.{Inside, HasTables};
-ghost use Rattle.atl_store.specs.StoredRows.{head_stored, head_forms, campaign_stored, campaign_forms};
 ghost use Rattle.atl_store.specs.Reading.{Asks};
 ghost use Rattle.atl_store.specs.UpgradeSteps.{UpgradesHead};
 

@@ -1,22 +1,23 @@
 //! The table of factions.
 ghost use Rattle.std.specs.Prelude.{refl};
-ghost use Rattle.atl_store.specs.Tables.{Factions, faction_table};
-ghost use Rattle.atl_store.specs.OwnStatements.{puts_faction, drops_faction};
+ghost use Rattle.atl_store.specs.Tables.{Factions};
 ghost use Rattle.atl_store.specs.Rows.{faction_line};
-ghost use Rattle.atl_store.specs.StoredRows.{faction_stored, faction_forms};
+ghost use Rattle.atl_store.specs.Shown.{faction_stored, faction_forms};
 
-use crate::kept::Kept;
+use crate::kept::{Kept, Mapped};
 use crate::rows::columns::{integer, letters};
 use crate::rows::stored::{Listed, Stored};
 use crate::statement::run;
 use atl_state::parts::StoredFaction;
 use atl_state::{Campaign, Faction};
-use atl_tables::{Format, MarkedNumbers};
+use atl_tables::{Entries, Format, MarkedNumbers};
 use sqlite::{Alter, Error, Row, Transaction, params};
 use std::alloc::Global;
 
 impl Kept for Faction {
-    ghost table = { faction_table };
+    ghost part = { Factions };
+
+    ghost is_numbered = { tt };
 
     ghost line = { faction_line };
 
@@ -26,9 +27,9 @@ impl Kept for Faction {
 
     ghost marks = { λ m. m.factions };
 
-    ghost of_row = { λ c n v is. puts_faction (n, v, is, refl) };
+    ghost are_rows = { λ own c r. (λ is. is, λ is. is) };
 
-    ghost of_none = { λ c n none. drops_faction none };
+    ghost are_marked = { λ m r. refl };
 
     fn of(campaign: &Campaign, number: u32) -> Option<&Faction> {
         campaign.faction(number)
@@ -36,6 +37,10 @@ impl Kept for Faction {
 
     fn marked(campaign: &Campaign) -> MarkedNumbers<'_> {
         campaign.marked_factions()
+    }
+
+    fn removal() -> &'static str {
+        "DELETE FROM faction WHERE number = ?1"
     }
 
     fn put<S: Alter>(&self, tx: &mut Transaction<'_, S>, number: u32) -> Result<(), Error> {
@@ -51,9 +56,11 @@ impl Kept for Faction {
             ],
         )
     }
+}
 
-    fn take_out<S: Alter>(tx: &mut Transaction<'_, S>, number: u32) -> Result<(), Error> {
-        run(tx, "DELETE FROM faction WHERE number = ?1", params![number])
+impl Mapped for Faction {
+    fn all(campaign: &Campaign) -> Entries<'_, Faction> {
+        campaign.factions()
     }
 }
 

@@ -1,10 +1,9 @@
 //! The table of what units have: an amount of an item, or days of a skill.
 ghost use Rattle.std.specs.Prelude.{◌≡◌, [], ◌∷◌, refl};
 ghost use Rattle.atl_store.specs.Tables.{Goods, has_table};
-ghost use Rattle.atl_store.specs.Shown.{int, has_key};
+ghost use Rattle.atl_store.specs.Shown.{int, has_key, has_stored, has_forms};
 ghost use Rattle.atl_store.specs.Written.{has_shown, sort_number};
 ghost use Rattle.atl_store.specs.Writes.{WritesRow, TakesOut};
-ghost use Rattle.atl_store.specs.StoredRows.{has_stored, has_forms};
 
 use crate::rows::columns::{three_integers, two_integers};
 use crate::rows::stored::{Listed, Placed, Stored};

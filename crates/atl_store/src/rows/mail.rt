@@ -1,18 +1,16 @@
 //! The table of mail.
 ghost use Rattle.std.specs.Prelude.{refl};
 ghost use Rattle.atl_store.specs.Tables.{Mail, mail_table};
-ghost use Rattle.atl_store.specs.OwnStatements.{puts_mail, drops_mail};
-ghost use Rattle.atl_store.specs.Shown.{mail_row};
+ghost use Rattle.atl_store.specs.Shown.{mail_row, mail_stored, mail_forms};
 ghost use Rattle.atl_store.specs.Writes.{WritesRow};
-ghost use Rattle.atl_store.specs.StoredRows.{mail_stored, mail_forms};
 
-use crate::kept::Kept;
+use crate::kept::{Kept, Mapped};
 use crate::rows::columns::{bytes, integer};
 use crate::rows::stored::{Listed, Stored};
 use crate::statement::run;
 use atl_state::Campaign;
 use atl_state::parts::StoredMail;
-use atl_tables::{Format, MarkedNumbers, Sequence};
+use atl_tables::{Entries, Format, MarkedNumbers, Sequence};
 use sqlite::{Alter, Error, Row, Transaction, params};
 use std::alloc::Global;
 
@@ -33,7 +31,9 @@ pub(crate) fn put_mail<S: Alter>(
 
 /// The mail of a faction.
 impl Kept for Sequence<u8> {
-    ghost table = { mail_table };
+    ghost part = { Mail };
+
+    ghost is_numbered = { tt };
 
     ghost line = { mail_row };
 
@@ -43,9 +43,9 @@ impl Kept for Sequence<u8> {
 
     ghost marks = { λ m. m.mail };
 
-    ghost of_row = { λ c n v is. puts_mail (n, v, is, refl) };
+    ghost are_rows = { λ own c r. (λ is. is, λ is. is) };
 
-    ghost of_none = { λ c n none. drops_mail none };
+    ghost are_marked = { λ m r. refl };
 
     fn of(campaign: &Campaign, number: u32) -> Option<&Sequence<u8>> {
         campaign.mail_of(number)
@@ -55,12 +55,18 @@ impl Kept for Sequence<u8> {
         campaign.marked_mail()
     }
 
+    fn removal() -> &'static str {
+        "DELETE FROM mail WHERE faction = ?1"
+    }
+
     fn put<S: Alter>(&self, tx: &mut Transaction<'_, S>, number: u32) -> Result<(), Error> {
         put_mail(tx, number, self.as_slice())
     }
+}
 
-    fn take_out<S: Alter>(tx: &mut Transaction<'_, S>, number: u32) -> Result<(), Error> {
-        run(tx, "DELETE FROM mail WHERE faction = ?1", params![number])
+impl Mapped for Sequence<u8> {
+    fn all(campaign: &Campaign) -> Entries<'_, Sequence<u8>> {
+        campaign.mail()
     }
 }
 

@@ -1,9 +1,8 @@
 //! The table of the stocks of markets.
 ghost use Rattle.std.specs.Prelude.{[], ◌∷◌, refl};
 ghost use Rattle.atl_store.specs.Tables.{Markets, market_table};
-ghost use Rattle.atl_store.specs.Shown.{int, market_row};
+ghost use Rattle.atl_store.specs.Shown.{int, market_row, market_stored, market_forms};
 ghost use Rattle.atl_store.specs.Writes.{WritesRow, TakesOut};
-ghost use Rattle.atl_store.specs.StoredRows.{market_stored, market_forms};
 
 use crate::rows::columns::two_integers;
 use crate::rows::stored::{Listed, Placed, Stored};

@@ -1,22 +1,23 @@
 //! The table of regions.
 ghost use Rattle.std.specs.Prelude.{refl};
-ghost use Rattle.atl_store.specs.Tables.{Regions, region_table};
-ghost use Rattle.atl_store.specs.OwnStatements.{puts_region, drops_region};
+ghost use Rattle.atl_store.specs.Tables.{Regions};
 ghost use Rattle.atl_store.specs.Rows.{region_line};
-ghost use Rattle.atl_store.specs.StoredRows.{region_stored, region_forms};
+ghost use Rattle.atl_store.specs.Shown.{region_stored, region_forms};
 
-use crate::kept::Kept;
+use crate::kept::{Kept, Mapped};
 use crate::rows::columns::three_integers;
 use crate::rows::stored::{Listed, Stored};
 use crate::statement::run;
 use atl_state::parts::StoredRegion;
 use atl_state::{Campaign, Region};
-use atl_tables::{Format, MarkedNumbers};
+use atl_tables::{Entries, Format, MarkedNumbers};
 use sqlite::{Alter, Error, Row, Transaction, params};
 use std::alloc::Global;
 
 impl Kept for Region {
-    ghost table = { region_table };
+    ghost part = { Regions };
+
+    ghost is_numbered = { tt };
 
     ghost line = { region_line };
 
@@ -26,9 +27,9 @@ impl Kept for Region {
 
     ghost marks = { λ m. m.regions };
 
-    ghost of_row = { λ c n v is. puts_region (n, v, is, refl) };
+    ghost are_rows = { λ own c r. (λ is. is, λ is. is) };
 
-    ghost of_none = { λ c n none. drops_region none };
+    ghost are_marked = { λ m r. refl };
 
     fn of(campaign: &Campaign, number: u32) -> Option<&Region> {
         campaign.region(number)
@@ -38,6 +39,10 @@ impl Kept for Region {
         campaign.marked_regions()
     }
 
+    fn removal() -> &'static str {
+        "DELETE FROM region WHERE number = ?1"
+    }
+
     fn put<S: Alter>(&self, tx: &mut Transaction<'_, S>, number: u32) -> Result<(), Error> {
         run(
             tx,
@@ -45,9 +50,11 @@ impl Kept for Region {
             params![number, self.peasants, self.money],
         )
     }
+}
 
-    fn take_out<S: Alter>(tx: &mut Transaction<'_, S>, number: u32) -> Result<(), Error> {
-        run(tx, "DELETE FROM region WHERE number = ?1", params![number])
+impl Mapped for Region {
+    fn all(campaign: &Campaign) -> Entries<'_, Region> {
+        campaign.regions()
     }
 }
 

@@ -1,23 +1,23 @@
 //! The table of reports.
 ghost use Rattle.std.specs.Prelude.{refl};
-ghost use Rattle.atl_store.specs.Tables.{Reports, report_table};
-ghost use Rattle.atl_store.specs.OwnStatements.{puts_report, drops_report};
-ghost use Rattle.atl_store.specs.Shown.{report_row};
-ghost use Rattle.atl_store.specs.StoredRows.{report_stored, report_forms};
+ghost use Rattle.atl_store.specs.Tables.{Reports};
+ghost use Rattle.atl_store.specs.Shown.{report_row, report_stored, report_forms};
 
-use crate::kept::Kept;
+use crate::kept::{Kept, Mapped};
 use crate::rows::columns::{integer, words};
 use crate::rows::stored::{Listed, Stored};
 use crate::statement::run;
 use atl_state::Campaign;
 use atl_state::parts::StoredReport;
-use atl_tables::{Format, MarkedNumbers, Text};
+use atl_tables::{Entries, Format, MarkedNumbers, Text};
 use sqlite::{Alter, Error, Row, Transaction, params};
 use std::alloc::Global;
 
 /// The report of a faction.
 impl Kept for Text {
-    ghost table = { report_table };
+    ghost part = { Reports };
+
+    ghost is_numbered = { tt };
 
     ghost line = { report_row };
 
@@ -27,9 +27,9 @@ impl Kept for Text {
 
     ghost marks = { λ m. m.reports };
 
-    ghost of_row = { λ c n v is. puts_report (n, v, is, refl) };
+    ghost are_rows = { λ own c r. (λ is. is, λ is. is) };
 
-    ghost of_none = { λ c n none. drops_report none };
+    ghost are_marked = { λ m r. refl };
 
     fn of(campaign: &Campaign, number: u32) -> Option<&Text> {
         campaign.report(number)
@@ -39,6 +39,10 @@ impl Kept for Text {
         campaign.marked_reports()
     }
 
+    fn removal() -> &'static str {
+        "DELETE FROM report WHERE faction = ?1"
+    }
+
     fn put<S: Alter>(&self, tx: &mut Transaction<'_, S>, number: u32) -> Result<(), Error> {
         run(
             tx,
@@ -46,9 +50,11 @@ impl Kept for Text {
             params![number, self.as_str()],
         )
     }
+}
 
-    fn take_out<S: Alter>(tx: &mut Transaction<'_, S>, number: u32) -> Result<(), Error> {
-        run(tx, "DELETE FROM report WHERE faction = ?1", params![number])
+impl Mapped for Text {
+    fn all(campaign: &Campaign) -> Entries<'_, Text> {
+        campaign.reports()
     }
 }
 

@@ -1,22 +1,23 @@
 //! The table of structures.
 ghost use Rattle.std.specs.Prelude.{refl};
-ghost use Rattle.atl_store.specs.Tables.{Structures, structure_table};
-ghost use Rattle.atl_store.specs.OwnStatements.{puts_structure, drops_structure};
+ghost use Rattle.atl_store.specs.Tables.{Structures};
 ghost use Rattle.atl_store.specs.Rows.{structure_line};
-ghost use Rattle.atl_store.specs.StoredRows.{structure_stored, structure_forms};
+ghost use Rattle.atl_store.specs.Shown.{structure_stored, structure_forms};
 
-use crate::kept::Kept;
+use crate::kept::{Kept, Mapped};
 use crate::rows::columns::{letters, three_integers, two_integers};
 use crate::rows::stored::{Listed, Stored};
 use crate::statement::run;
 use atl_state::parts::StoredStructure;
 use atl_state::{Campaign, Structure};
-use atl_tables::{Format, MarkedNumbers};
+use atl_tables::{Entries, Format, MarkedNumbers};
 use sqlite::{Alter, Error, Row, Transaction, params};
 use std::alloc::Global;
 
 impl Kept for Structure {
-    ghost table = { structure_table };
+    ghost part = { Structures };
+
+    ghost is_numbered = { tt };
 
     ghost line = { structure_line };
 
@@ -26,9 +27,9 @@ impl Kept for Structure {
 
     ghost marks = { λ m. m.structures };
 
-    ghost of_row = { λ c n v is. puts_structure (n, v, is, refl) };
+    ghost are_rows = { λ own c r. (λ is. is, λ is. is) };
 
-    ghost of_none = { λ c n none. drops_structure none };
+    ghost are_marked = { λ m r. refl };
 
     fn of(campaign: &Campaign, number: u32) -> Option<&Structure> {
         campaign.structure(number)
@@ -36,6 +37,10 @@ impl Kept for Structure {
 
     fn marked(campaign: &Campaign) -> MarkedNumbers<'_> {
         campaign.marked_structures()
+    }
+
+    fn removal() -> &'static str {
+        "DELETE FROM structure WHERE number = ?1"
     }
 
     fn put<S: Alter>(&self, tx: &mut Transaction<'_, S>, number: u32) -> Result<(), Error> {
@@ -52,13 +57,11 @@ impl Kept for Structure {
             ],
         )
     }
+}
 
-    fn take_out<S: Alter>(tx: &mut Transaction<'_, S>, number: u32) -> Result<(), Error> {
-        run(
-            tx,
-            "DELETE FROM structure WHERE number = ?1",
-            params![number],
-        )
+impl Mapped for Structure {
+    fn all(campaign: &Campaign) -> Entries<'_, Structure> {
+        campaign.structures()
     }
 }
 

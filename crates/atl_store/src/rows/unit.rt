@@ -1,9 +1,8 @@
 //! The table of units.
 ghost use Rattle.std.specs.Prelude.{refl};
 ghost use Rattle.atl_store.specs.Tables.{Units, unit_table};
-ghost use Rattle.atl_store.specs.OwnStatements.{puts_unit, drops_unit};
 ghost use Rattle.atl_store.specs.Rows.{lines_of, unit_line};
-ghost use Rattle.atl_store.specs.StoredRows.{unit_stored, unit_forms};
+ghost use Rattle.atl_store.specs.Shown.{unit_stored, unit_forms};
 ghost use Rattle.atl_store.specs.Writes.{WritesRows};
 
 use crate::kept::Kept;
@@ -17,7 +16,9 @@ use sqlite::{Alter, Error, Row, Transaction, params};
 use std::alloc::Global;
 
 impl Kept for Unit {
-    ghost table = { unit_table };
+    ghost part = { Units };
+
+    ghost is_numbered = { tt };
 
     ghost line = { unit_line };
 
@@ -27,9 +28,9 @@ impl Kept for Unit {
 
     ghost marks = { λ m. m.rows };
 
-    ghost of_row = { λ c n v is. puts_unit (n, v, is, refl) };
+    ghost are_rows = { λ own c r. (λ is. is, λ is. is) };
 
-    ghost of_none = { λ c n none. drops_unit none };
+    ghost are_marked = { λ m r. refl };
 
     fn of(campaign: &Campaign, number: u32) -> Option<&Unit> {
         campaign.unit(number)
@@ -37,6 +38,10 @@ impl Kept for Unit {
 
     fn marked(campaign: &Campaign) -> MarkedNumbers<'_> {
         campaign.marked_rows()
+    }
+
+    fn removal() -> &'static str {
+        "DELETE FROM unit WHERE number = ?1"
     }
 
     fn put<S: Alter>(&self, tx: &mut Transaction<'_, S>, number: u32) -> Result<(), Error> {
@@ -54,10 +59,6 @@ impl Kept for Unit {
                 self.holding.guard()
             ],
         )
-    }
-
-    fn take_out<S: Alter>(tx: &mut Transaction<'_, S>, number: u32) -> Result<(), Error> {
-        run(tx, "DELETE FROM unit WHERE number = ?1", params![number])
     }
 }
 

@@ -1,13 +1,16 @@
 //! The indexes of the tables' keys, and those that came behind them.
-ghost use Rattle.std.specs.Prelude.{◌≡◌, ◌==◌, ◌≤◌, [], ◌∷◌, true, length, slice_get, take};
+ghost use Rattle.std.specs.Prelude.{◌≡◌, ◌==◌, ◌≤◌, ◌++◌, true, codes, length, slice_get, take};
 ghost use Rattle.std.specs.Bool.{Decides};
 ghost use Rattle.std.specs.List.{AllByRecursion, list_any};
-ghost use Rattle.sqlite_catalog.specs.Listing.{automatic};
+ghost use Rattle.std.specs.Fmt.{decimal};
 ghost use Rattle.sqlite_value.specs.Keys.{plain};
-ghost use Rattle.atl_store.specs.Tables.{faction_table, has_table, books_table, market_table, all_tables, all_indexes, IsHarmless, AreIndexes};
+ghost use Rattle.atl_store.specs.Tables.{all_tables, all_indexes, IsHarmless, AreIndexes};
 
 use crate::schema::keys::is_plain;
-use crate::schema::places;
+use crate::tables::{
+    ALL, BOOKS, BOOKS_INDEX, BOOKS_UNIQUE, FACTION, FACTION_INDEX, FACTION_UNIQUE, HAS, HAS_INDEX,
+    HAS_UNIQUE, MARKET, MARKET_INDEX, MARKET_UNIQUE, Made,
+};
 use sqlite_schema::schema::Index;
 
 /// The index that the database makes for a unique key of a table.
@@ -22,52 +25,12 @@ fn is_index(found: &Index, name: &[u8], tree: u32, table: u32, columns: &[usize]
         && found.is_unique
 }
 
-fn is_faction_index(found: &Index) -> bool
-    ensures { Decides result (found.now ≡ automatic faction_table 0 (2 ∷ []) 2) }
+/// The index of the only unique key of a table.
+fn is_index_of(found: &Index, made: &Made, name: &[u8], tree: u32, columns: &[usize]) -> bool
+    requires { name.now ≡ codes "sqlite_autoindex_" ++ (made.now.name.now ++ codes "_1") }
+    ensures { Decides result (found.now ≡ record { name = codes "sqlite_autoindex_" ++ (made.now.name.now ++ (codes "_" ++ decimal 1)); tree = tree; table = made.now.tree; columns = columns.now; order = plain; is_unique = true }) }
 {
-    is_index(
-        found,
-        b"sqlite_autoindex_faction_1",
-        places::FACTION_INDEX,
-        places::FACTION,
-        &places::FACTION_UNIQUE,
-    )
-}
-
-fn is_has_index(found: &Index) -> bool
-    ensures { Decides result (found.now ≡ automatic has_table 0 (1 ∷ 2 ∷ 3 ∷ []) 6) }
-{
-    is_index(
-        found,
-        b"sqlite_autoindex_has_1",
-        places::HAS_INDEX,
-        places::HAS,
-        &places::HAS_UNIQUE,
-    )
-}
-
-fn is_books_index(found: &Index) -> bool
-    ensures { Decides result (found.now ≡ automatic books_table 0 (1 ∷ 2 ∷ []) 11) }
-{
-    is_index(
-        found,
-        b"sqlite_autoindex_books_1",
-        places::BOOKS_INDEX,
-        places::BOOKS,
-        &places::BOOKS_UNIQUE,
-    )
-}
-
-fn is_market_index(found: &Index) -> bool
-    ensures { Decides result (found.now ≡ automatic market_table 0 (1 ∷ 2 ∷ []) 13) }
-{
-    is_index(
-        found,
-        b"sqlite_autoindex_market_1",
-        places::MARKET_INDEX,
-        places::MARKET,
-        &places::MARKET_UNIQUE,
-    )
+    is_index(found, name, tree, made.tree, columns)
 }
 
 /// Whether this is the index with this place among those of the keys that are not the row's number.
@@ -75,10 +38,34 @@ fn is_key_index(found: &Index, place: usize) -> bool
     ensures { Decides result (slice_get all_indexes place ≡ Some found.now) }
 {
     match place {
-        0 => is_faction_index(found),
-        1 => is_has_index(found),
-        2 => is_books_index(found),
-        3 => is_market_index(found),
+        0 => is_index_of(
+            found,
+            &FACTION,
+            b"sqlite_autoindex_faction_1",
+            FACTION_INDEX,
+            &FACTION_UNIQUE,
+        ),
+        1 => is_index_of(
+            found,
+            &HAS,
+            b"sqlite_autoindex_has_1",
+            HAS_INDEX,
+            &HAS_UNIQUE,
+        ),
+        2 => is_index_of(
+            found,
+            &BOOKS,
+            b"sqlite_autoindex_books_1",
+            BOOKS_INDEX,
+            &BOOKS_UNIQUE,
+        ),
+        3 => is_index_of(
+            found,
+            &MARKET,
+            b"sqlite_autoindex_market_1",
+            MARKET_INDEX,
+            &MARKET_UNIQUE,
+        ),
         _ => false,
     }
 }
@@ -96,10 +83,10 @@ fn are_first_indexes(indexes: &[Index], count: usize) -> bool
     true
 }
 
-fn is_among(tree: u32, trees: &[u32]) -> bool
-    ensures { result ≡ list_any (λ n. tree == n) trees.now }
+fn is_among(tree: u32, tables: &[Made]) -> bool
+    ensures { result ≡ list_any (λ t. tree == t.tree) tables.now }
 {
-    trees.iter().any(|one| tree == *one)
+    tables.iter().any(|table| tree == table.tree)
 }
 
 /// Whether a tree is that of one of the first so many tables.
@@ -107,7 +94,7 @@ fn is_ours(tree: u32, count: usize) -> bool
     requires { count ≤ length all_tables }
     ensures { result ≡ list_any (λ t. tree == t.tree) (take count all_tables) }
 {
-    is_among(tree, &places::TREES[..count])
+    is_among(tree, &ALL[..count])
 }
 
 /// An index that makes nothing of the first so many tables unique.

@@ -3,10 +3,15 @@ ghost use Rattle.std.specs.Prelude.{◌≡◌, [], ◌∷◌, Some, None};
 ghost use Rattle.std.specs.Bool.{Decides};
 ghost use Rattle.sqlite_value.specs.Keys.{plain};
 
-use crate::schema::places::{NUMBER_COLUMN, ROW_NUMBER};
 use sqlite_items::Items;
 use sqlite_schema::schema::Table;
 use sqlite_value::keys::Order;
+
+/// The column that is the row's number, where the rows of a table have one.
+const NUMBER_COLUMN: usize = 0;
+
+/// The place of the row's number in a row. The columns have the places from 1 on.
+const ROW_NUMBER: usize = 0;
 
 /// The key is the row's number.
 pub(crate) fn is_numbered(found: &Table) -> bool

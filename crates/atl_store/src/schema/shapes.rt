@@ -5,7 +5,8 @@ ghost use Rattle.atl_store.specs.Sets.{field, table};
 
 use crate::schema::columns::are_fields;
 use crate::schema::keys::{has_no_unique, is_numbered, is_under, is_unique};
-use sqlite_schema::schema::{Kind, Stamps, Table};
+use crate::tables::Made;
+use sqlite_schema::schema::{Stamps, Table};
 
 /// No default reads the time.
 fn is_unstamped(stamps: &Stamps) -> bool
@@ -25,38 +26,32 @@ fn is_without_more(found: &Table) -> bool
 }
 
 /// A table of such columns, whatever its keys and checks are.
-pub(crate) fn is_strict(found: &Table, tree: u32, name: &[u8], fields: &[(&[u8], Kind)]) -> bool
-    ensures { Decides result (found.now ≡ record (table tree name.now (map (λ f. field f.0.now f.1) fields.now) found.now.key found.now.primary found.now.uniques found.now.checks) { orders = found.now.orders }) }
+pub(crate) fn is_strict(found: &Table, made: &Made) -> bool
+    ensures { Decides result (found.now ≡ record (table made.now.tree made.now.name.now (map (λ f. field f.0.now f.1) made.now.columns.now) found.now.key found.now.primary found.now.uniques found.now.checks) { orders = found.now.orders }) }
 {
-    found.tree == tree
-        && found.name.as_slice() == name
-        && are_fields(found.columns.as_slice(), fields)
+    found.tree == made.tree
+        && found.name.as_slice() == made.name
+        && are_fields(found.columns.as_slice(), made.columns)
         && is_without_more(found)
 }
 
 /// The same, without a check.
-fn is_unchecked(found: &Table, tree: u32, name: &[u8], fields: &[(&[u8], Kind)]) -> bool
-    ensures { Decides result (found.now ≡ record (table tree name.now (map (λ f. field f.0.now f.1) fields.now) found.now.key found.now.primary found.now.uniques []) { orders = found.now.orders }) }
+fn is_unchecked(found: &Table, made: &Made) -> bool
+    ensures { Decides result (found.now ≡ record (table made.now.tree made.now.name.now (map (λ f. field f.0.now f.1) made.now.columns.now) found.now.key found.now.primary found.now.uniques []) { orders = found.now.orders }) }
 {
-    is_strict(found, tree, name, fields) && found.checks.roots.is_empty()
+    is_strict(found, made) && found.checks.roots.is_empty()
 }
 
 /// A table under the number of its rows, with nothing else unique and no check.
-pub(crate) fn is_simple(found: &Table, tree: u32, name: &[u8], fields: &[(&[u8], Kind)]) -> bool
-    ensures { Decides result (found.now ≡ table tree name.now (map (λ f. field f.0.now f.1) fields.now) (Some 0) (0 ∷ []) [] []) }
+pub(crate) fn is_simple(found: &Table, made: &Made) -> bool
+    ensures { Decides result (found.now ≡ table made.now.tree made.now.name.now (map (λ f. field f.0.now f.1) made.now.columns.now) (Some 0) (0 ∷ []) [] []) }
 {
-    is_unchecked(found, tree, name, fields) && is_numbered(found) && has_no_unique(found)
+    is_unchecked(found, made) && is_numbered(found) && has_no_unique(found)
 }
 
 /// A table with a key of several columns, whose rows have no number of their own.
-pub(crate) fn is_keyed(
-    found: &Table,
-    tree: u32,
-    name: &[u8],
-    fields: &[(&[u8], Kind)],
-    key: &[usize],
-) -> bool
-    ensures { Decides result (found.now ≡ table tree name.now (map (λ f. field f.0.now f.1) fields.now) None key.now (key.now ∷ []) []) }
+pub(crate) fn is_keyed(found: &Table, made: &Made, key: &[usize]) -> bool
+    ensures { Decides result (found.now ≡ table made.now.tree made.now.name.now (map (λ f. field f.0.now f.1) made.now.columns.now) None key.now (key.now ∷ []) []) }
 {
-    is_unchecked(found, tree, name, fields) && is_under(found, key) && is_unique(found, key)
+    is_unchecked(found, made) && is_under(found, key) && is_unique(found, key)
 }

@@ -1,19 +1,18 @@
-use Rattle.std.proofs.Common.{◌++◌, refl}
-use Rattle.atl_store.specs.Tables.{player_parts, place_parts, people_parts}
-use Rattle.atl_store.proofs.RewriteAllLaws.{own_then_rewritten, all_rewritten}
+use Rattle.std.proofs.Common.{[], ◌∷◌, refl}
+use Rattle.atl_store.specs.Tables.{Own, written_parts}
+use Rattle.atl_store.specs.Rewriting.{Becomes}
+use Rattle.atl_store.proofs.PartLaws.{in_turn_changed}
+use Rattle.atl_store.proofs.RewriteAllLaws.{own_rewritten, own_then_rewritten, all_rewritten}
 use Rattle.atl_store.proofs.WholeLaws.{done_as, then_done}
-use Rattle.atl_store.proofs.WriteLaws.{stops, stops_second}
+use Rattle.atl_store.proofs.WriteLaws.{stops}
 use Rattle.atl_store.proofs.changing.rewrite_all.Goals as goal
 
 pub returns : goal.returns
 returns g c =
     let campaign = c.args.campaign.now in
-    done_as g.S.Store (all_rewritten campaign ((player_parts ++ place_parts) ++ people_parts) refl)
-    (then_done g.S.Store (own_then_rewritten campaign (player_parts ++ place_parts) people_parts refl)
-    (then_done g.S.Store (own_then_rewritten campaign player_parts place_parts refl) c.in_ok-rewrite_players.ensures c.in_ok-rewrite_places.ensures) c.rewrite_people.ensures)
+    done_as g.S.Store (all_rewritten campaign (Own ∷ written_parts) refl)
+    (then_done g.S.Store (own_then_rewritten campaign (Own ∷ []) written_parts refl)
+    (done_as g.S.Store (own_rewritten campaign) c.in_ok-rewrite_head.ensures) (done_as g.S.Store (in_turn_changed (Becomes campaign) written_parts refl) c.rewrite.ensures))
 
-pub returns-in_err-rewrite_players : goal.returns-in_err-rewrite_players
-returns-in_err-rewrite_players g c = stops g.S.Store c.in_err-rewrite_players.ensures c.from_residual.ensures
-
-pub returns-in_err-rewrite_places : goal.returns-in_err-rewrite_places
-returns-in_err-rewrite_places g c = stops_second g.S.Store c.in_ok-rewrite_players.ensures c.in_err-rewrite_places.ensures c.from_residual-in_err-rewrite_places.ensures
+pub returns-in_err-rewrite_head : goal.returns-in_err-rewrite_head
+returns-in_err-rewrite_head g c = stops g.S.Store c.in_err-rewrite_head.ensures c.from_residual.ensures

@@ -1,3 +1,4 @@
+use Rattle.atl_store.specs.Tables.{table_of}
 use Rattle.atl_store.specs.OwnStatements.{OfChange}
 use Rattle.atl_store.specs.Inside.{Inside, HasTables}
 use Rattle.atl_store.proofs.RewriteLaws.{NearingNumbers}
@@ -5,4 +6,4 @@ use Rattle.atl_store.proofs.WriteLaws.{SoFar}
 use Rattle.atl_store.proofs.grouped.rewrite_marked_groups.Given as goal
 
 abbrev pub invariant-loop-number : goal.invariant-loop-number
-invariant-loop-number g l = SoFar g.S.Store (OfChange l.fn.campaign.value) (Inside HasTables (NearingNumbers g.V.Grouped.table (g.V.Grouped.wanted l.fn.campaign.value) l.number-iterator l.initial.number-iterator)) l.fn.tx.conn l.tx.conn
+invariant-loop-number g l = SoFar g.S.Store (OfChange l.fn.campaign.value) (Inside HasTables (NearingNumbers (table_of g.V.Grouped.part) (g.V.Grouped.wanted l.fn.campaign.value) l.number-iterator l.initial.number-iterator)) l.fn.tx.conn l.tx.conn

@@ -1,3 +1,4 @@
+use Rattle.atl_store.specs.Tables.{table_of}
 use Rattle.atl_store.specs.Rows.{RowsOf}
 use Rattle.atl_store.specs.OwnStatements.{OfChange}
 use Rattle.atl_store.specs.Inside.{Inside, HasTables}
@@ -6,4 +7,4 @@ use Rattle.atl_store.proofs.WriteLaws.{SoFar}
 use Rattle.atl_store.proofs.kept.rewrite_marked.Given as goal
 
 abbrev pub invariant-loop-number : goal.invariant-loop-number
-invariant-loop-number g l = SoFar g.S.Store (OfChange l.fn.campaign.value) (Inside HasTables (NearingNumbers g.V.Kept.table (RowsOf g.V.Kept.line (g.V.Kept.values l.fn.campaign.value)) l.number-iterator l.initial.number-iterator)) l.fn.tx.conn l.tx.conn
+invariant-loop-number g l = SoFar g.S.Store (OfChange l.fn.campaign.value) (Inside HasTables (NearingNumbers (table_of g.V.Kept.part) (RowsOf g.V.Kept.line (g.V.Kept.values l.fn.campaign.value)) l.number-iterator l.initial.number-iterator)) l.fn.tx.conn l.tx.conn

@@ -1,10 +1,9 @@
-use Rattle.std.proofs.Common.{subst, inl, arith, IfErr}
+use Rattle.std.proofs.Common.{subst, arith, IfErr}
 use Rattle.sqlite.specs.Held.{state}
 use Rattle.sqlite.specs.State.{HasCleanDisk}
-use Rattle.atl_store.specs.Gathering.{Found, FailsToRead, AreOthers, IsMadeOf}
+use Rattle.atl_store.specs.Gathering.{FailsToRead}
 use Rattle.atl_store.specs.Loading.{RefusesToLoadIn, other_selects}
-use Rattle.atl_store.proofs.GatherLaws.{found_behind, others_behind}
-use Rattle.atl_store.proofs.LoadedLaws.{own_kept, gathered_with, unread_refuses, unmade_refuses, told_as}
+use Rattle.atl_store.proofs.LoadedLaws.{own_kept, gathered_with, mistyped_refuses, unread_refuses, unmade_refuses, told_as}
 use Rattle.atl_store.proofs.loading.gather.Goals as goal
 
 pub returns-in_err-others-clause-err : goal.returns-in_err-others-clause-err
@@ -24,30 +23,18 @@ returns-in_err-parts-clause-err g c clean =
     let mid = c.read_own.new.conn in
     let after_own : HasCleanDisk (state g.S.Store mid) = omega (arith, c.read_others.ensures.leaves.survives.clean, clean) in
     told_as g.S.Store (RefusesToLoadIn f g.S.Store old) c.in_err-parts.field-0.0 c.from_residual-in_err-parts.result c.from_residual-in_err-parts.ensures.1
-    (unmade_refuses f g.S.Store old c.requires.idle (own_kept f g.S.Store old c.in_ok-own.own c.in_ok-own.world (c.in_ok-own.ensures.ok after_own)) c.in-Some.others
-    (subst (Found g.S.Store old (other_selects f) (AreOthers g.S.Store old f)) c.in-Some.is (found_behind g.S.Store old mid c.read_others.new.conn c.read_own.ensures.leaves (other_selects f) _ _ c.read_others.result c.read_others.ensures c.in_ok-others.field-0 c.in_ok-others.was
-    (λ same read are. others_behind g.S.Store old mid same f read are) clean))
+    (unmade_refuses f g.S.Store _ old mid c.read_others.new.conn c.in_ok-own.own c.in_ok-own.world (c.in_ok-own.ensures.ok after_own) c.read_own.ensures.leaves c.read_others.result c.read_others.ensures c.in_ok-others.field-0 c.in_ok-others.was clean c.requires.idle c.in-Some.others c.in-Some.is
     c.in_err-parts.field-0.0 c.in_err-parts.ensures.fails)
 
 pub returns-in_default-clause-err : goal.returns-in_default-clause-err
 returns-in_default-clause-err g c clean =
-    let f = c.args.format in
-    let old = c.args.conn.now in
     let mid = c.read_own.new.conn in
     let after_own : HasCleanDisk (state g.S.Store mid) = omega (arith, c.read_others.ensures.leaves.survives.clean, clean) in
-    inl (
-      own_kept f g.S.Store old c.in_ok-own.own c.in_ok-own.world (c.in_ok-own.ensures.ok after_own),
-      subst (Found g.S.Store old (other_selects f) (AreOthers g.S.Store old f)) c.in_default.is (found_behind g.S.Store old mid c.read_others.new.conn c.read_own.ensures.leaves (other_selects f) _ _ c.read_others.result c.read_others.ensures c.in_ok-others.field-0 c.in_ok-others.was
-          (λ same read are. others_behind g.S.Store old mid same f read are) clean),
-    )
+    mistyped_refuses c.args.format g.S.Store _ c.args.conn.now mid c.read_others.new.conn c.in_ok-own.own c.in_ok-own.world (c.in_ok-own.ensures.ok after_own) c.read_own.ensures.leaves c.read_others.result c.read_others.ensures c.in_ok-others.field-0 c.in_ok-others.was clean c.in_default.is
 
 pub returns-clause-ok : goal.returns-clause-ok
 returns-clause-ok g c clean =
-    let f = c.args.format in
-    let old = c.args.conn.now in
     let mid = c.read_own.new.conn in
     let after_own : HasCleanDisk (state g.S.Store mid) = omega (arith, c.read_others.ensures.leaves.survives.clean, clean) in
-    gathered_with f g.S.Store old c.in_ok-own.own c.in_ok-own.world c.in-Some.others c.in_ok-parts.parts (c.in_ok-own.ensures.ok after_own)
-    (subst (Found g.S.Store old (other_selects f) (AreOthers g.S.Store old f)) c.in-Some.is (found_behind g.S.Store old mid c.read_others.new.conn c.read_own.ensures.leaves (other_selects f) _ _ c.read_others.result c.read_others.ensures c.in_ok-others.field-0 c.in_ok-others.was
-    (λ same read are. others_behind g.S.Store old mid same f read are) clean))
-    (subst (λ head. IsMadeOf head c.in-Some.others c.in_ok-parts.parts) c.into_head.ensures c.in_ok-parts.ensures.ok)
+    gathered_with c.args.format g.S.Store _ c.args.conn.now mid c.read_others.new.conn c.in_ok-own.own c.in_ok-own.world (c.in_ok-own.ensures.ok after_own) c.read_own.ensures.leaves c.read_others.result c.read_others.ensures c.in_ok-others.field-0 c.in_ok-others.was clean
+    c.in-Some.others c.in-Some.is c.in_ok-parts.parts c.into_head.result c.into_head.ensures c.in_ok-parts.ensures.ok

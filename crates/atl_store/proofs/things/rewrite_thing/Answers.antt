@@ -1,7 +1,8 @@
-use Rattle.std.proofs.Common.{sym, ◌∙◌}
-use Rattle.atl_store.specs.OwnStatements.{changes_row, puts_has, drops_thing}
+use Rattle.std.proofs.Common.{refl}
+use Rattle.atl_store.specs.Tables.{Goods}
+use Rattle.atl_store.specs.OwnStatements.{changes_row, puts_row, drops_row}
 use Rattle.atl_store.proofs.GoodsLaws.{of_had}
-use Rattle.atl_store.proofs.ThingLaws.{thing_put, thing_dropped}
+use Rattle.atl_store.proofs.ThingLaws.{no_thing, thing_put, thing_dropped}
 use Rattle.atl_store.proofs.WriteLaws.{weaker, among_only}
 use Rattle.atl_store.proofs.things.rewrite_thing.Goals as goal
 
@@ -10,10 +11,10 @@ returns g c =
     let campaign = c.args.campaign.now.value in
     let amount = c.amount_of-amount in
     weaker g.S.Store (thing_put c.args.unit c.args.sort c.args.thing campaign amount.result amount.ensures c.if-amount-eq0.false)
-    (among_only g.S.Store _ _ (changes_row (puts_has (of_had campaign.units c.args.unit c.args.sort c.args.thing amount.result amount.ensures c.if-amount-eq0.false))) c.put_has.ensures)
+    (among_only g.S.Store _ _ (changes_row (puts_row Goods (λ own. of_had campaign.units c.args.unit c.args.sort c.args.thing amount.result amount.ensures c.if-amount-eq0.false))) c.put_has.ensures)
 
 pub returns-then-amount-eq0 : goal.returns-then-amount-eq0
 returns-then-amount-eq0 g c =
     let amount = c.amount_of-amount in
     weaker g.S.Store (thing_dropped c.args.unit c.args.sort c.args.thing c.args.campaign.now.value amount.result amount.ensures c.if-amount-eq0.true)
-    (among_only g.S.Store _ _ (drops_thing c.args.sort (sym amount.ensures ∙ c.if-amount-eq0.true)) c.drop_has.ensures)
+    (among_only g.S.Store _ _ (drops_row Goods (refl, λ own. no_thing c.args.unit c.args.sort c.args.thing c.args.campaign.now.value amount.result amount.ensures c.if-amount-eq0.true)) c.drop_has.ensures)
