@@ -2,7 +2,7 @@
 use super::compare::is_text;
 use atl_orders::{FaultyLine, LineFault, Verb};
 use atl_report::{View, report_text};
-use atl_state::{Event, EventVerb, Outcome};
+use atl_state::{Event, EventFault, EventVerb, JoinFault, Outcome};
 use atl_tables::{Sequence, Text, World, read_world};
 use atl_test_worlds::SMALL;
 use std::alloc::Global;
@@ -199,4 +199,14 @@ fn tells_all(rt: &impl Abort, alloc: Global, world: &World) -> Result<(), Fail> 
 fn faults_and_events(rt: HostRuntime) -> Result<(), Fail> {
     let world = read_world(rt.alloc(), SMALL)?;
     tells_all(&rt, rt.alloc(), &world)
+}
+
+/// A fault of an order is printed with its number, one of a joining without.
+#[test]
+fn printed_faults(rt: HostRuntime) -> Result<(), Fail> {
+    let of_order = format!(in rt.alloc(); "{}", EventFault::NoWay)?;
+    let of_joining = format!(in rt.alloc(); "{}", JoinFault::NameTaken)?;
+    is_text(&rt, of_order.as_str(), "17 NoWay");
+    is_text(&rt, of_joining.as_str(), "NameTaken");
+    Ok(())
 }
