@@ -57,7 +57,7 @@ const HIDER: Person = Person {
 };
 
 /// Units that hide, and what the first faction sees of them.
-const HIDDEN: [Case; 9] = [
+static HIDDEN: [Case; 9] = [
     // A unit of level 2 is hidden from level 1.
     Case {
         scene: Scene {
@@ -263,7 +263,7 @@ const KEEN_HIDER: Person = Person {
 };
 
 /// Units without men, as there are some within a month.
-const EMPTY: [Case; 3] = [
+static EMPTY: [Case; 3] = [
     // Such a unit has no level, so that another's is seen, and it doesn't guard.
     Case {
         scene: Scene {
@@ -371,7 +371,7 @@ const EVENTS: [Event; 4] = [
 ];
 
 /// All sorts of lines.
-const WHOLE: [Case; 2] = [
+static WHOLE: [Case; 2] = [
     Case {
         scene: Scene {
             people: &[
