@@ -24,7 +24,7 @@ pub enum Call {
 }
 
 /// The calls in the order of their trials.
-pub const CALLS: [Call; 11] = [
+pub static CALLS: [Call; 11] = [
     Call::Found,
     Call::Open,
     Call::Upgrade,
@@ -51,7 +51,7 @@ const REPORTED: &str = "A report.";
 /// Of 100 money unit 1 pays 40, and sends 2 of its 5 men to the unit that it forms. Its 3 men take 30 money in tax, and of 90 it pays
 /// for one recruit. Unit 6 has 5 wood, gives 2 of it away and builds with 3. The 4 men of unit 2 get 30 days each and 30 more, as all
 /// are taught. In the forest 15 men make as much wood.
-const OF_AVALON: [&str; 14] = [
+static OF_AVALON: [&str; 14] = [
     "Unit 1, line 4, FORM: done 12.",
     "Unit 1, line 7, FORM: done 13.",
     "Unit 1, line 9, PAY: done 40.",
@@ -69,7 +69,7 @@ const OF_AVALON: [&str; 14] = [
 ];
 
 /// Unit 10 has 4 money, earns 20 and pays 20, so it has 4 left of the 10 that unit 11 is short of.
-const OF_BREE: [&str; 2] = [
+static OF_BREE: [&str; 2] = [
     "Unit 11, line 3, STUDY: fault 23 NoFee.",
     "Unit 11: 1 starved.",
 ];

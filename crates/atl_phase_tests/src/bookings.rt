@@ -15,7 +15,7 @@ const PEOPLE: usize = 1;
 const FIRST_ITEM: usize = 2;
 
 /// All entries of the books, by their names.
-const ENTRIES: [(&str, Entry); ENTRY_COUNT] = [
+static ENTRIES: [(&str, Entry); ENTRY_COUNT] = [
     ("founding", Entry::Founding),
     ("joining", Entry::Joining),
     ("income", Entry::Income),

@@ -22,7 +22,7 @@ fn numbers_of(unit: Option<&Unit>) -> [i64; 6] {
     }
 }
 
-const NUMBERS: [&str; 6] = ["faction", "region", "inside", "men", "money", "guard"];
+static NUMBERS: [&str; 6] = ["faction", "region", "inside", "men", "money", "guard"];
 
 fn unit_name(unit: Option<&Unit>) -> &str {
     match unit {
@@ -151,7 +151,7 @@ fn sides_of(structure: Option<&Structure>) -> [i64; 3] {
     }
 }
 
-const SIDES: [&str; 3] = ["region", "done", "owner"];
+static SIDES: [&str; 3] = ["region", "done", "owner"];
 
 /// The name of a structure and that of its kind.
 fn names_of<'a>(world: &'a World, structure: Option<&'a Structure>) -> (&'a str, &'a str) {

@@ -33,7 +33,7 @@ pub(crate) enum Run {
 }
 
 /// All of them, by their names.
-const RUNS: [(&str, Run); 7] = [
+static RUNS: [(&str, Run); 7] = [
     ("orders", Run::Orders),
     ("work", Run::Work),
     ("upkeep", Run::Upkeep),

@@ -87,7 +87,7 @@ impl Setting {
 }
 
 /// The names that the factions joined under, in the order of their numbers, and the number that comes next.
-const FACTIONS: [&str; 2] = ["Avalon", "Bree"];
+static FACTIONS: [&str; 2] = ["Avalon", "Bree"];
 
 const NEXT_FACTION: i64 = 3;
 

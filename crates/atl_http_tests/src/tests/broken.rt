@@ -51,7 +51,7 @@ fn writes_that_take_nothing(rt: HostRuntime) -> Result<(), Fail> {
 }
 
 /// The number of each fault.
-const NUMBERS: [(HttpFault, Option<u8>); 4] = [
+static NUMBERS: [(HttpFault, Option<u8>); 4] = [
     (HttpFault::Cut, Some(1)),
     (HttpFault::ReadFault, Some(2)),
     (HttpFault::WriteFault, Some(3)),

@@ -11,7 +11,7 @@ const NO_HEADER: &str =
     "HTTP/1.1 400 Bad Request\r\nContent-Type: application/json\r\nContent-Length: 31\r\nConnection: close\r\n\r\n{\"error\":\"NoHeader\",\"number\":9}";
 
 /// A target, a field's name and bodies of bytes 255. In a query too they are no target; in a value they may stand.
-const CASES: [(&[u8], &str); 6] = [
+static CASES: [(&[u8], &str); 6] = [
     (b"GET /\xff HTTP/1.0\r\n\r\n", BAD_REQUEST),
     (b"GET /report/1?\xff HTTP/1.0\r\n\r\n", BAD_REQUEST),
     (b"GET /report/1 HTTP/1.0\r\n\xff: x\r\n\r\n", BAD_REQUEST),

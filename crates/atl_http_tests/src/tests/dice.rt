@@ -4,7 +4,7 @@ use atl_http::Dice;
 use std::alloc::{AllocError, Global};
 use std::process::Abort;
 
-const DEMO: [u32; 6] = [
+static DEMO: [u32; 6] = [
     0xa15c_02b7,
     0x7b47_f409,
     0xba1d_3330,
@@ -14,7 +14,7 @@ const DEMO: [u32; 6] = [
 ];
 
 /// Seeds, factions, and the word of each.
-const JOINING_WORDS: [(u64, u32, u32); 6] = [
+static JOINING_WORDS: [(u64, u32, u32); 6] = [
     (1, 1, 2_662_848_630),
     (1, 2, 1_686_128_983),
     (1, 3, 2_024_058_790),

@@ -11,7 +11,7 @@ use std::test::Fail;
 
 /// How many bytes a read gives, before each that gives some so many are interrupted, and how many reads there are then: 1,000,000 in one
 /// piece and in two, and of each byte by itself 81 times 12,345.
-const READS: [(usize, usize, usize); 3] = [
+static READS: [(usize, usize, usize); 3] = [
     (81, 999_999, 1_000_000),
     (41, 499_999, 1_000_000),
     (1, 12_344, 999_945),
@@ -19,7 +19,7 @@ const READS: [(usize, usize, usize); 3] = [
 
 /// With an interruption more before each piece the request isn't whole after 1,000,000 reads: it would be after 1,000,001, 1,000,002 and
 /// 1,000,026, and never where no read gives a byte.
-const TOO_MANY_READS: [(usize, usize); 4] = [
+static TOO_MANY_READS: [(usize, usize); 4] = [
     (81, 1_000_000),
     (41, 500_000),
     (1, 12_345),
@@ -75,11 +75,11 @@ fn reads_beyond_the_bound(rt: HostRuntime) -> Result<(), Fail> {
 
 /// How many bytes a write takes, and before each that takes some so many are interrupted: together 999,999, 999,998 and 999,936 before
 /// all 112 bytes of the reply are written.
-const WRITES: [(usize, usize); 3] = [(112, 999_999), (56, 499_999), (1, 8_928)];
+static WRITES: [(usize, usize); 3] = [(112, 999_999), (56, 499_999), (1, 8_928)];
 
 /// With an interruption more before each there are 1,000,000 before the last write, or before any. How many bytes are written by then,
 /// and by how many writes.
-const TOO_MANY_WRITES: [(usize, usize, usize, usize); 4] = [
+static TOO_MANY_WRITES: [(usize, usize, usize, usize); 4] = [
     (112, 1_000_000, 0, 1_000_000),
     (56, 500_000, 56, 1_000_001),
     (1, 8_929, 111, 1_000_111),

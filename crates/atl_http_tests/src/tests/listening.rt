@@ -16,7 +16,7 @@ const LONG_BODY: &str =
 
 /// What each peer sends, whether it sends no more, and what it is told. One joins, one ends within its request, which counts as
 /// served, one is told that its body is too long before it comes, and one asks for a report.
-const PEERS: [(&str, bool, &str); 4] = [
+static PEERS: [(&str, bool, &str); 4] = [
     (JOIN, false, JOINED),
     ("GET /report/1", true, ""),
     (LONG_BODY, false, TOO_LONG),

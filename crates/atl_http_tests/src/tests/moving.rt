@@ -37,7 +37,7 @@ fn cut_and_whole(rt: &impl Abort, alloc: Global, service: &mut impl Served) -> R
 }
 
 /// How many bytes each read gives, and in how many reads the whole request comes.
-const BY_PIECES: [(usize, usize); 3] = [(1, JOIN.len()), (8, 11), (JOIN.len(), 1)];
+static BY_PIECES: [(usize, usize); 3] = [(1, JOIN.len()), (8, 11), (JOIN.len(), 1)];
 
 /// A read that fails before the request is whole runs no command, whichever read it is: who joins next is the first.
 fn fails_at_each_read(rt: &impl Abort, alloc: Global, service: &mut impl Served) {
@@ -75,7 +75,7 @@ fn writes_in_pieces(rt: &impl Abort, alloc: Global, service: &mut impl Served) {
 }
 
 /// Requests with bytes behind them, how many of their bytes are read where each read gives one, and the replies.
-const NO_FURTHER: [(&str, usize, &str); 4] = [
+static NO_FURTHER: [(&str, usize, &str); 4] = [
     (
         "POST /join HTTP/1.1\r\nHost: x\r\nContent-Length: 29\r\n\r\n{\"name\":\"Avalon\",\"pass\":\"pw\"} and more",
         JOIN.len(),
@@ -141,7 +141,7 @@ fn head(alloc: Global, long: usize, fields: usize) -> Result<Vec<u8>, Fail> {
 
 /// How many bytes the long field has, how many short ones stand behind it, and what is told. 45 bytes stand before what the long
 /// field says, and 4 behind it.
-const LONG_HEADS: [(usize, usize, &str); 4] = [
+static LONG_HEADS: [(usize, usize, &str); 4] = [
     (8_143, 0, REPORTED),
     (8_144, 0, BAD_REQUEST),
     (1, 30, REPORTED),

@@ -45,7 +45,7 @@ pub(crate) const BAD_JSON: &str =
 
 /// A faction joins, the name is taken from then on, and its report is told. An empty Host is one, HTTP/1.0 may have two, and
 /// of a GET neither Content-Length nor Transfer-Encoding counts.
-const JOINING: [Case; 6] = [
+static JOINING: [Case; 6] = [
     (JOIN, JOINED),
     (
         JOIN,
@@ -72,7 +72,7 @@ fn joining(rt: HostRuntime) -> Result<(), Fail> {
 }
 
 /// Orders are sent, a month is closed, and what comes of it is told.
-const A_MONTH: [Case; 4] = [
+static A_MONTH: [Case; 4] = [
     (JOIN, JOINED),
     (
         "POST /orders/1 HTTP/1.1\r\nHost: x\r\nAtlantis-Pass: pw\r\nContent-Length: 34\r\n\r\n#ATLANTIS 1\nUNIT 1\nATTACK 2\nwork\nx",
@@ -94,7 +94,7 @@ fn a_month(rt: HostRuntime) -> Result<(), Fail> {
 }
 
 /// A faction quits, and sends orders no more. A mailing that is too long is a body that is too long, which is told first.
-const QUITTING: [Case; 4] = [
+static QUITTING: [Case; 4] = [
     (JOIN, JOINED),
     (
         "POST /orders/1 HTTP/1.1\r\nHost: x\r\nAtlantis-Pass: pw\r\nContent-Length: 25\r\n\r\n#ATLANTIS 1\nUNIT 1\nQUIT 1",
@@ -116,7 +116,7 @@ fn quitting(rt: HostRuntime) -> Result<(), Fail> {
 }
 
 /// Refusals of the campaign, one of each status.
-const REFUSALS: [Case; 7] = [
+static REFUSALS: [Case; 7] = [
     (
         "POST /join HTTP/1.1\r\nHost: x\r\nContent-Length: 24\r\n\r\n{\"name\":\" x\",\"pass\":\"p\"}",
         "HTTP/1.1 400 Bad Request\r\nContent-Type: application/json\r\nContent-Length: 30\r\nConnection: close\r\n\r\n{\"error\":\"BadName\",\"number\":1}",
@@ -150,7 +150,7 @@ fn refusals(rt: HostRuntime) -> Result<(), Fail> {
 }
 
 /// Heads that are refused, with as many fields of Host as they should not have, or with none.
-const HEADS: [Case; 6] = [
+static HEADS: [Case; 6] = [
     ("\u{1}", BAD_REQUEST),
     ("GET /report/1 HTTP/2.0\r\n\r\n", BAD_REQUEST),
     (
@@ -171,7 +171,7 @@ fn heads(rt: HostRuntime) -> Result<(), Fail> {
 }
 
 /// Paths without a route, and methods that a route has not.
-const ROUTES: [Case; 13] = [
+static ROUTES: [Case; 13] = [
     ("GET / HTTP/1.0\r\n\r\n", NO_ROUTE),
     ("GET /report/1234567890 HTTP/1.0\r\n\r\n", NO_ROUTE),
     ("GET /report/ HTTP/1.0\r\n\r\n", NO_ROUTE),
@@ -193,7 +193,7 @@ fn routes(rt: HostRuntime) -> Result<(), Fail> {
 }
 
 /// Bodies without a good length, or with two, and requests without one pass text.
-const LENGTHS: [Case; 14] = [
+static LENGTHS: [Case; 14] = [
     ("POST /join HTTP/1.0\r\n\r\n", NO_LENGTH),
     (
         "POST /join HTTP/1.0\r\nTransfer-Encoding: chunked\r\nContent-Length: x\r\n\r\n",
@@ -252,7 +252,7 @@ fn lengths(rt: HostRuntime) -> Result<(), Fail> {
 }
 
 /// Bodies that are no object with both texts; of equal keys the last counts, and bytes behind the body don't.
-const BODIES: [Case; 9] = [
+static BODIES: [Case; 9] = [
     ("POST /join HTTP/1.0\r\nContent-Length: 0\r\n\r\n", BAD_JSON),
     (
         "POST /join HTTP/1.0\r\nContent-Length: 2\r\n\r\n[]",
@@ -295,7 +295,7 @@ fn bodies(rt: HostRuntime) -> Result<(), Fail> {
 
 /// Bodies with both texts beside a value that can't be read: nested in 128, past all numbers, half a character. One that is nested in 127
 /// can, and empty lines may stand before a head.
-const VALUES: [Case; 4] = [
+static VALUES: [Case; 4] = [
     (
         "POST /join HTTP/1.0\r\nContent-Length: 291\r\n\r\n{\"name\":\"Avalon\",\"pass\":\"pw\",\"more\":[[[[[[[[[[[[[[[[[[[[[[[[[[[[[[[[[[[[[[[[[[[[[[[[[[[[[[[[[[[[[[[[[[[[[[[[[[[[[[[[[[[[[[[[[[[[[[[[[[[[[[[[[[[[[[[[[[[[[[[[[[[[[[[]]]]]]]]]]]]]]]]]]]]]]]]]]]]]]]]]]]]]]]]]]]]]]]]]]]]]]]]]]]]]]]]]]]]]]]]]]]]]]]]]]]]]]]]]]]]]]]]]]]]]]]]]]]]]]]]]]]]]]]]]]]]]]]}",
         BAD_JSON,

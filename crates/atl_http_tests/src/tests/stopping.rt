@@ -15,7 +15,7 @@ const STORE: &str =
 const CLOSED: &str =
     "HTTP/1.1 500 Internal Server Error\r\nContent-Type: application/json\r\nContent-Length: 29\r\nConnection: close\r\n\r\n{\"error\":\"Closed\",\"number\":0}";
 
-const STOPPED: [Case; 3] = [(JOIN, STORE), (JOIN, CLOSED), (REPORT, CLOSED)];
+static STOPPED: [Case; 3] = [(JOIN, STORE), (JOIN, CLOSED), (REPORT, CLOSED)];
 
 fn open<D: Disk + Drop>(alloc: Global, files: Files<D>) -> Option<Connection<FileStore<D>>> {
     if !files.may_be_used() {

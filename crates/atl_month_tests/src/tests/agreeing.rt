@@ -73,7 +73,7 @@ enum Played {
     Upkeep,
 }
 
-const PLAYED: [Played; 7] = [
+static PLAYED: [Played; 7] = [
     Played::Sharing(Sharing::Trade(Trade::Sell)),
     Played::Sharing(Sharing::Trade(Trade::Buy)),
     Played::Sharing(Sharing::Tax),
@@ -257,7 +257,7 @@ fn phases_agree(rt: HostRuntime) -> Result<(), Fail> {
 // ---- shares
 
 /// Wants that are shared of each pot up to what they come to, and one more.
-const WANTS: [&[u64]; 6] = [
+static WANTS: [&[u64]; 6] = [
     &[50, 60, 70],
     &[1, 1, 1, 1, 1, 1, 1],
     &[0, 99, 0, 1],

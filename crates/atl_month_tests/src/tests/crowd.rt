@@ -104,7 +104,7 @@ struct Stall {
 }
 
 /// Two of these in a row are the markets of a region.
-const STALLS: [Stall; 5] = [
+static STALLS: [Stall; 5] = [
     Stall {
         item: 0,
         name: "wood",
@@ -143,12 +143,12 @@ const STALLS: [Stall; 5] = [
 ];
 
 /// How many thirds of its limit a market has in stock.
-const FILLED: [u32; 4] = [0, 1, 3, 2];
+static FILLED: [u32; 4] = [0, 1, 3, 2];
 
 const SKILLS: u32 = 4;
 
 /// Terrain, peasants and money of regions.
-const LANDS: [(&str, u32, u32); 7] = [
+static LANDS: [(&str, u32, u32); 7] = [
     ("plain", 2_950, 700),
     ("hill", 120, 0),
     ("plain", 59, 49_000),
@@ -158,9 +158,9 @@ const LANDS: [(&str, u32, u32); 7] = [
     ("hill", 61, 880),
 ];
 
-const MEN: [i64; 11] = [1, 1, 2, 3, 5, 8, 13, 40, 90, 2, 1];
+static MEN: [i64; 11] = [1, 1, 2, 3, 5, 8, 13, 40, 90, 2, 1];
 
-const MONEY: [i64; 7] = [0, 3, 20, 150, 900, 0, 4_000];
+static MONEY: [i64; 7] = [0, 3, 20, 150, 900, 0, 4_000];
 
 /// One of so many units has room for hardly more money.
 const RICH: u32 = 37;
@@ -168,13 +168,13 @@ const RICH: u32 = 37;
 const FULL_PURSE: i64 = 999_999_990;
 
 /// Pieces of an item; of some there is room for hardly more.
-const PIECES: [i64; 5] = [0, 2, 0, 30, 999_999_995];
+static PIECES: [i64; 5] = [0, 2, 0, 30, 999_999_995];
 
 /// Days of a skill of each man.
-const DAYS: [i64; 6] = [29, 30, 90, 0, 180, 450];
+static DAYS: [i64; 6] = [29, 30, 90, 0, 180, 450];
 
 /// What a unit is told to do all month.
-const MONTH_LONG: [&str; 9] = [
+static MONTH_LONG: [&str; 9] = [
     "PRODUCE wood",
     "WORK",
     "PRODUCE stone",
@@ -187,7 +187,7 @@ const MONTH_LONG: [&str; 9] = [
 ];
 
 /// What a unit is told to sell, and to buy.
-const SOLD: [&str; 8] = [
+static SOLD: [&str; 8] = [
     "SELL 3 wood",
     "SELL 40 grain",
     "",
@@ -198,7 +198,7 @@ const SOLD: [&str; 8] = [
     "SELL 9 cart",
 ];
 
-const BOUGHT: [&str; 13] = [
+static BOUGHT: [&str; 13] = [
     "BUY 2 grain",
     "BUY 5 wood",
     "",
@@ -214,7 +214,7 @@ const BOUGHT: [&str; 13] = [
     "BUY 1 cart",
 ];
 
-const RECRUITED: [u32; 5] = [1, 20, 3, 7, 400];
+static RECRUITED: [u32; 5] = [1, 20, 3, 7, 400];
 
 /// The orders of one of so many units are for the next one, which is another faction's.
 const ASTRAY: u32 = 29;

@@ -53,7 +53,7 @@ fn two_factions(alloc: Global, world: &World) -> Result<Campaign, Fail>
 }
 
 /// The first unit takes a name, pays the second and recruits a man, and both work.
-const PAYING: [&str; 1] = ["#ATLANTIS 1\nUNIT 1\nNAME UNIT Watch\nPAY 2 10\nRECRUIT 1\n"];
+static PAYING: [&str; 1] = ["#ATLANTIS 1\nUNIT 1\nNAME UNIT Watch\nPAY 2 10\nRECRUIT 1\n"];
 
 /// The campaign behind a month of these mailings, with a word for each region.
 fn behind(
@@ -201,7 +201,7 @@ fn marks_are(
 }
 
 /// Mailings, and what their month marks of the units. All pay their upkeep.
-const MARKED: [(&str, &str); 6] = [
+static MARKED: [(&str, &str); 6] = [
     ("#ATLANTIS 1\nUNIT 1\nWORK", "1 2 |1 2 ||||"),
     ("#ATLANTIS 1\nUNIT 1\nSTUDY lumberjack", "1 2 |1 2 |||1:0 |"),
     (

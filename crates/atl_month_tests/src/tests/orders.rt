@@ -45,7 +45,7 @@ fn told_of(alloc: Global, month: &Month) -> Result<String, Fail> {
 }
 
 /// Mailings, and what each phase has of them.
-const ROWS: [(&[&str], &str); 9] = [
+static ROWS: [(&[&str], &str); 9] = [
     (&[], "|||||"),
     // Of month-long orders the last stands, whatever its verb.
     (

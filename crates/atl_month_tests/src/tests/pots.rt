@@ -37,7 +37,7 @@ impl Pots for Places {
 type Taker = (u32, Option<u16>);
 
 /// The units in their order, the pots of the two regions, and each unit's number with its share.
-const SHARED: [(&[Taker], (u16, u16), &str); 8] = [
+static SHARED: [(&[Taker], (u16, u16), &str); 8] = [
     (&[], (100, 100), ""),
     (
         &[(1, Some(50)), (1, Some(60)), (1, Some(70))],

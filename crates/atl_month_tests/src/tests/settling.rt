@@ -11,7 +11,7 @@ use std::test::Fail;
 const MAINTENANCE: u32 = 10;
 
 /// The region, the faction, the men and the money of each unit; the money that each pays, and how many of its men starve.
-const SETTLED: [(&[(u8, u8, u16, u16)], &str); 11] = [
+static SETTLED: [(&[(u8, u8, u16, u16)], &str); 11] = [
     (&[], ""),
     (&[(1, 1, 3, 25), (1, 1, 1, 18)], "25 0;15 0;"),
     (&[(1, 1, 3, 25)], "25 1;"),

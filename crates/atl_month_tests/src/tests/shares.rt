@@ -7,7 +7,7 @@ use std::process::Abort;
 use std::test::Fail;
 
 /// A pot, what is wanted of it, and what is given.
-const SHARED: [(u64, &[u64], &[u64]); 8] = [
+static SHARED: [(u64, &[u64], &[u64]); 8] = [
     (100, &[50, 60, 70], &[27, 34, 39]),
     (100, &[110, 70], &[61, 39]),
     (0, &[3, 4], &[0, 0]),

@@ -4,7 +4,7 @@
 pub(crate) type Change = (&'static str, &'static str, &'static str);
 
 /// Changes of the small world.
-pub(crate) const SMALL_CHANGES: [Change; 24] = [
+pub(crate) static SMALL_CHANGES: [Change; 24] = [
     ("growth = 0", "growth = \"x\"", "3 WrongType rules.growth"),
     ("growth = 0", "growth = 101", "4 OutOfRange rules.growth"),
     (
@@ -60,7 +60,7 @@ pub(crate) const SMALL_CHANGES: [Change; 24] = [
 ];
 
 /// Changes of the small world before its region.
-pub(crate) const HEAD_CHANGES: [Change; 4] = [
+pub(crate) static HEAD_CHANGES: [Change; 4] = [
     ("[rules]", "region = 3\n[rules]", "3 WrongType region"),
     ("[rules]", "region = []\n[rules]", "4 OutOfRange region"),
     ("[rules]", "[rules]", "2 Missing region"),
@@ -68,7 +68,7 @@ pub(crate) const HEAD_CHANGES: [Change; 4] = [
 ];
 
 /// Changes of the rules of the small world.
-pub(crate) const RULES_CHANGES: [Change; 4] = [
+pub(crate) static RULES_CHANGES: [Change; 4] = [
     ("[rules]", "terrain = 3\n[rules]", "3 WrongType terrain"),
     ("[rules]", "terrain = []\n[rules]", "4 OutOfRange terrain"),
     ("[rules]", "[rules]", "2 Missing terrain"),
@@ -80,7 +80,7 @@ pub(crate) const RULES_CHANGES: [Change; 4] = [
 ];
 
 /// Changes of numbers, truths and texts of a world with an item, a skill and a kind.
-pub(crate) const KEY_CHANGES: [Change; 22] = [
+pub(crate) static KEY_CHANGES: [Change; 22] = [
     ("[rules]", "[rules]", "none"),
     ("wage = 12", "", "2 Missing terrain[0].wage"),
     ("wage = 12", "wage = 1.5", "3 WrongType terrain[0].wage"),
@@ -138,7 +138,7 @@ pub(crate) const KEY_CHANGES: [Change; 22] = [
 ];
 
 /// Changes of its names, and of the names that speak of other things.
-pub(crate) const NAME_CHANGES: [Change; 13] = [
+pub(crate) static NAME_CHANGES: [Change; 13] = [
     (
         "growth = 0",
         "growth = 0\nsailing = \"\"",
@@ -195,7 +195,7 @@ pub(crate) const NAME_CHANGES: [Change; 13] = [
 ];
 
 /// Changes of names of things.
-pub(crate) const TITLE_CHANGES: [Change; 19] = [
+pub(crate) static TITLE_CHANGES: [Change; 19] = [
     ("name = \"plain\"", "", "2 Missing terrain[0].name"),
     ("name = \"wood\"", "", "2 Missing item[0].name"),
     ("name = \"carpentry\"", "", "2 Missing skill[0].name"),
@@ -254,7 +254,7 @@ pub(crate) const TITLE_CHANGES: [Change; 19] = [
 ];
 
 /// Changes of truths.
-pub(crate) const TRUTH_CHANGES: [Change; 5] = [
+pub(crate) static TRUTH_CHANGES: [Change; 5] = [
     ("land = true", "", "2 Missing terrain[0].land"),
     ("land = true", "land = 1", "3 WrongType terrain[0].land"),
     ("ship = false", "", "2 Missing kind[0].ship"),
@@ -263,7 +263,7 @@ pub(crate) const TRUTH_CHANGES: [Change; 5] = [
 ];
 
 /// Changes of texts that refer to a name.
-pub(crate) const REFERENCE_CHANGES: [Change; 20] = [
+pub(crate) static REFERENCE_CHANGES: [Change; 20] = [
     (
         "growth = 0",
         "growth = 0\nobservation = 1",
@@ -335,7 +335,7 @@ pub(crate) const REFERENCE_CHANGES: [Change; 20] = [
 ];
 
 /// Changes of the numbers of neighbours.
-pub(crate) const NEIGHBOUR_CHANGES: [Change; 11] = [
+pub(crate) static NEIGHBOUR_CHANGES: [Change; 11] = [
     (
         "money = 500",
         "money = 500\nnorth = \"x\"",
@@ -390,7 +390,7 @@ pub(crate) const NEIGHBOUR_CHANGES: [Change; 11] = [
 ];
 
 /// Changes of what a terrain gives.
-pub(crate) const OUTPUT_CHANGES: [Change; 6] = [
+pub(crate) static OUTPUT_CHANGES: [Change; 6] = [
     ("wage = 12", "wage = 12\noutput = {}", "none"),
     (
         "wage = 12",
@@ -416,7 +416,7 @@ pub(crate) const OUTPUT_CHANGES: [Change; 6] = [
 ];
 
 /// Changes of the market of a world with an item, a skill and a kind.
-pub(crate) const MARKET_CHANGES: [Change; 12] = [
+pub(crate) static MARKET_CHANGES: [Change; 12] = [
     ("item = \"wood\"", "", "2 Missing region[0].market[0].item"),
     (
         "item = \"wood\"",
@@ -468,7 +468,7 @@ pub(crate) const MARKET_CHANGES: [Change; 12] = [
 ];
 
 /// Changes of the same world with two markets of one item.
-pub(crate) const TWIN_CHANGES: [Change; 3] = [
+pub(crate) static TWIN_CHANGES: [Change; 3] = [
     (
         "item = \"wood\"",
         "item = \"Wood\"",
@@ -487,7 +487,7 @@ pub(crate) const TWIN_CHANGES: [Change; 3] = [
 ];
 
 /// Changes of the same world without markets, which put an array in their place.
-pub(crate) const ARRAY_CHANGES: [Change; 13] = [
+pub(crate) static ARRAY_CHANGES: [Change; 13] = [
     (
         "money = 500",
         "money = 500\nmarket = 3",
@@ -556,7 +556,7 @@ pub(crate) const ARRAY_CHANGES: [Change; 13] = [
 pub(crate) type TwoFaults = (&'static str, &'static str, &'static str, &'static str);
 
 /// Changes of the world with one market that make a fault of the market and a later one.
-pub(crate) const TWO_FAULTS: [TwoFaults; 4] = [
+pub(crate) static TWO_FAULTS: [TwoFaults; 4] = [
     (
         "restock = 20",
         "restock = -1\n[[region]]\nnumber = 0",

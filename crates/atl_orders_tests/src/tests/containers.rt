@@ -20,7 +20,7 @@ fn made_in_each_way(rt: &impl Abort, alloc: Global, text: &str) -> Result<(), Fa
     holds(rt, alloc, &Text::from_utf8(alloc, text.as_bytes())?, text)
 }
 
-const TEXTS: [&str; 4] = ["", "a", "Big Bob", "\u{e9}\u{1f600}"];
+static TEXTS: [&str; 4] = ["", "a", "Big Bob", "\u{e9}\u{1f600}"];
 
 #[test]
 fn texts(rt: HostRuntime) -> Result<(), Fail> {
@@ -106,7 +106,7 @@ fn no_entries(rt: HostRuntime) -> Result<(), Fail> {
 }
 
 /// The numbers of the faults (0 for none), their names, and their paths.
-const FAULTS: [(u8, &str, &str); 9] = [
+static FAULTS: [(u8, &str, &str); 9] = [
     (0, "Memory", "none"),
     (1, "NotToml", "none"),
     (2, "Missing", "rules.growth"),

@@ -184,7 +184,7 @@ level = 1
 ";
 
 /// What is put so often behind the small world, and the first fault then: names are equal as long as there are not too many.
-const REPEATED: [(&str, usize, &str); 11] = [
+static REPEATED: [(&str, usize, &str); 11] = [
     (REGION, 1, "5 TwoNames region[1].number"),
     (REGION, 9_999, "5 TwoNames region[1].number"),
     (REGION, 10_000, "4 OutOfRange region"),
@@ -293,7 +293,7 @@ const DOTTED: Nest = Nest {
 };
 
 /// What is nested behind the small world, how deep, and the first fault then. A key that is not named is ignored.
-const NESTED: [(Nest, usize, &str); 15] = [
+static NESTED: [(Nest, usize, &str); 15] = [
     (TABLES, 80, "none"),
     (TABLES, 81, "1 NotToml"),
     (TABLES, 200, "1 NotToml"),

@@ -53,7 +53,7 @@ level = 1
 "#;
 
 /// Words, whether each is quoted, and what it names.
-const NAMES: [(&str, bool, &str); 16] = [
+static NAMES: [(&str, bool, &str); 16] = [
     ("wood", false, "item 0;"),
     ("WOOD", true, "item 0;"),
     ("Long_Bow", false, "item 1;"),
@@ -73,7 +73,7 @@ const NAMES: [(&str, bool, &str); 16] = [
 ];
 
 /// Words that name nothing.
-const NO_NAMES: [(&str, bool, &str); 10] = [
+static NO_NAMES: [(&str, bool, &str); 10] = [
     ("", false, ""),
     ("", true, ""),
     ("woo", false, ""),
@@ -128,7 +128,7 @@ fn names_in_orders(rt: HostRuntime) -> Result<(), Fail> {
 }
 
 /// Numbers, and the names of their regions on the island.
-const REGIONS: [(u32, &str); 8] = [
+static REGIONS: [(u32, &str); 8] = [
     (0, "none"),
     (1, "Shore"),
     (2, "Sound"),

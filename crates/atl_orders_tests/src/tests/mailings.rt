@@ -63,7 +63,7 @@ fn text_tells(
 }
 
 /// A good form of each order, in any case, quoted and bare, with comments, tabs and words too many.
-const GOOD: [(&str, &str); 24] = [
+static GOOD: [(&str, &str); 24] = [
     ("WORK", "Work"),
     ("\"work\" now", "Work"),
     ("TaX", "Tax"),
@@ -109,7 +109,7 @@ const GOOD: [(&str, &str); 24] = [
 ];
 
 /// Orders that name things of the world.
-const NAMING: [(&str, &str); 5] = [
+static NAMING: [(&str, &str); 5] = [
     (
         "GIVE 2 5 LONG_BOW",
         "Give { to: Number(2), amount: 5, item: 1 }",
@@ -124,7 +124,7 @@ const NAMING: [(&str, &str); 5] = [
 ];
 
 /// Bad forms, with the first fault from left to right, up to those of PROMOTE.
-const BAD_NAMES: [(&str, &str); 20] = [
+static BAD_NAMES: [(&str, &str); 20] = [
     ("ATTACK 2", "2 UnknownOrder"),
     ("\"\"", "2 UnknownOrder"),
     ("#ATLANTIS 1", "2 UnknownOrder"),
@@ -151,7 +151,7 @@ const BAD_NAMES: [(&str, &str); 20] = [
 ];
 
 /// Those of GIVE to QUIT.
-const BAD_GOODS: [(&str, &str); 15] = [
+static BAD_GOODS: [(&str, &str); 15] = [
     ("GIVE", "5 MissingWord"),
     ("GIVE 2", "5 MissingWord"),
     ("GIVE 2 0 wood", "3 BadNumber"),
@@ -170,7 +170,7 @@ const BAD_GOODS: [(&str, &str); 15] = [
 ];
 
 /// Those of STUDY to FORM, and bad bytes.
-const BAD_WORK: [(&str, &str); 20] = [
+static BAD_WORK: [(&str, &str); 20] = [
     ("STUDY", "5 MissingWord"),
     ("STUDY wood", "4 UnknownThing"),
     ("PRODUCE", "5 MissingWord"),
@@ -233,7 +233,7 @@ fn bad_forms(rt: HostRuntime) -> Result<(), Fail> {
 }
 
 /// Whole texts, and what is told of each.
-const TEXTS: [(&str, &str); 10] = [
+static TEXTS: [(&str, &str); 10] = [
     // One faulty line.
     (
         "From: a club\r\n\r\n#ATLANTIS 1 secret\r\nUNIT 1 ; the first\r\nATTACK 2\r\nwork\r\n",
@@ -265,7 +265,7 @@ const TEXTS: [(&str, &str); 10] = [
 ];
 
 /// Texts that are no UTF-8.
-const BYTES: [(&[u8], &str); 2] = [
+static BYTES: [(&[u8], &str); 2] = [
     (b"#ATLANTIS 1 \xc8", ""),
     (
         b"#ATLANTIS 1\nUNIT 1\n\xc8\nTAX ",
@@ -274,7 +274,7 @@ const BYTES: [(&[u8], &str); 2] = [
 ];
 
 /// Texts of a front, a piece so many times, and an end.
-const LONG: [(&str, &str, usize, &str, &str); 8] = [
+static LONG: [(&str, &str, usize, &str, &str); 8] = [
     ("#ATLANTIS 1\n", "\n", 65_524, "", ""),
     ("#ATLANTIS 1\n", "\n", 65_525, "", "refused 1"),
     ("#ATLANTIS 1\n", "UNIT 1\n", 20_000, "", "refused 1"),
@@ -364,7 +364,7 @@ fn words_of(alloc: Global, mailing: &Mailing) -> Result<String, Fail> {
 
 /// Mailings, and the keyword of each order with the name that it gives: a name is the part of the text that its span says,
 /// with `_` as a space where it is bare.
-const WORDS: [(&str, &str); 3] = [
+static WORDS: [(&str, &str); 3] = [
     (
         "#ATLANTIS 1\nUNIT 7\nBOARD 1\nFORM 1\nEND\nRECRUIT 3",
         "ENTER|FORM|RECRUIT|",
@@ -400,7 +400,7 @@ fn keywords_and_names(rt: HostRuntime) -> Result<(), Fail> {
 
 /// Spans of `#ATLANTIS 1`, a line feed, `_` and a byte that is no text: where each starts and ends, whether it is quoted, and
 /// its bytes as a name.
-const SPANS: [(usize, usize, bool, &[u8]); 5] = [
+static SPANS: [(usize, usize, bool, &[u8]); 5] = [
     (12, 14, false, b" \xFF"),
     (12, 14, true, b"_\xFF"),
     (10, 900, false, b"1\n \xFF"),

@@ -39,7 +39,7 @@ fn ignores_markets(rt: HostRuntime) -> Result<(), Fail> {
 }
 
 /// Changes of the world with one market that leave all else as it is.
-const ALONE: [(&str, &str); 8] = [
+static ALONE: [(&str, &str); 8] = [
     ("price = 7", "price = 8"),
     ("pays = 5", "pays = 6"),
     ("limit = 30", "limit = 0"),
@@ -51,7 +51,7 @@ const ALONE: [(&str, &str); 8] = [
 ];
 
 /// Changes of other things.
-const OTHERWISE: [(&str, &str); 16] = [
+static OTHERWISE: [(&str, &str); 16] = [
     ("income = 1", "income = 2"),
     ("growth = 0", "growth = 0\nsailing = \"carpentry\""),
     ("wage = 12", "wage = 13"),

@@ -9,7 +9,7 @@ const SPACED: &str = "123456789 123456789 123456789 1234567890";
 const FORTY_ONE: &str = "12345678901234567890123456789012345678901";
 
 /// Texts, whether each may be a name, and whether it may be a pass text.
-const TEXTS: [(&str, bool, bool); 26] = [
+static TEXTS: [(&str, bool, bool); 26] = [
     ("", false, false),
     ("a", true, true),
     (FORTY, true, true),

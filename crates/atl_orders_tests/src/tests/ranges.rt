@@ -10,7 +10,7 @@ use std::test::Fail;
 type Range = (&'static str, &'static str, u32, u32);
 
 /// Those that are needed.
-const NEEDED: [Range; 21] = [
+static NEEDED: [Range; 21] = [
     ("rules.maintenance", "10", 1, 1_000),
     ("rules.tax_per_man", "10", 0, 1_000),
     ("rules.recruit_price", "50", 1, 1_000_000),
@@ -35,7 +35,7 @@ const NEEDED: [Range; 21] = [
 ];
 
 /// Those that may be missing, with a line that they may stand behind in place of a number.
-const OPTIONAL: [Range; 4] = [
+static OPTIONAL: [Range; 4] = [
     ("item[0].level", "carry = 0", 1, 5),
     ("item[0].raw_count", "carry = 0", 1, 1_000),
     ("kind[0].capacity", "level = 1", 0, 999_999_999),
@@ -43,7 +43,7 @@ const OPTIONAL: [Range; 4] = [
 ];
 
 /// Those of a market, which the world has before its other things.
-const OF_MARKET: [Range; 4] = [
+static OF_MARKET: [Range; 4] = [
     ("region[0].market[0].price", "7", 1, 1_000_000),
     ("region[0].market[0].pays", "5", 1, 1_000_000),
     ("region[0].market[0].limit", "30", 0, 999_999_999),

@@ -22,7 +22,7 @@ enum Step {
 }
 
 /// Steps from the map of 1, 20 and 30, with how many values and how many marks there are after each.
-const STEPS: [(Step, usize, usize); 12] = [
+static STEPS: [(Step, usize, usize); 12] = [
     (Step::Remove(2), 3, 0),
     (Step::Change(2, 5), 3, 0),
     (Step::Change(20, 5), 3, 1),
@@ -38,7 +38,7 @@ const STEPS: [(Step, usize, usize); 12] = [
 ];
 
 /// Steps from the map of 1, 20 and 30, with the numbers that are marked after each.
-const MARKS: [(Step, &[u32]); 13] = [
+static MARKS: [(Step, &[u32]); 13] = [
     (Step::Remove(20), &[20]),
     (Step::Unmark, &[]),
     (Step::Mark(20), &[]),

@@ -166,13 +166,13 @@ item \"wood\" total 0
 item \"cart\" total 0
 ";
 
-const OF_SMALL: [(Scene, &str); 3] = [
+static OF_SMALL: [(Scene, &str); 3] = [
     (FIRST_MONTH, OF_FIRST_MONTH),
     (QUITTING, OF_QUITTING),
     (EVERY_ENTRY, OF_EVERY_ENTRY),
 ];
 
-const OF_ISLE: [(Scene, &str); 2] = [(PRODUCTION, OF_PRODUCTION), (NOBODY, OF_THE_ISLE)];
+static OF_ISLE: [(Scene, &str); 2] = [(PRODUCTION, OF_PRODUCTION), (NOBODY, OF_THE_ISLE)];
 
 fn tell(
     rt: &impl Abort,

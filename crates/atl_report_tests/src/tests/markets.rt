@@ -33,7 +33,7 @@ struct Case {
     wanted: &'static str,
 }
 
-const CASES: [Case; 4] = [
+static CASES: [Case; 4] = [
     // Nothing is in stock.
     Case {
         scene: Scene {

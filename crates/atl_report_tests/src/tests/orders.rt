@@ -84,7 +84,7 @@ const OF_ANOTHER: Event = Event {
     outcome: Outcome::Done(50),
 };
 
-const CASES: [Case; 9] = [
+static CASES: [Case; 9] = [
     Case {
         faults: &[],
         events: &[],

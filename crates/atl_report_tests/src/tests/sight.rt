@@ -334,12 +334,12 @@ Exits: north 4, west 2.
     },
 ];
 
-const FAULTS: [FaultyLine; 1] = [FaultyLine {
+static FAULTS: [FaultyLine; 1] = [FaultyLine {
     line: 5,
     fault: LineFault::UnknownOrder,
 }];
 
-const EVENTS: [Event; 4] = [
+static EVENTS: [Event; 4] = [
     Event {
         faction: 1,
         unit: 1,

@@ -12,12 +12,12 @@ use std::alloc::Global;
 use std::process::Abort;
 use std::test::Fail;
 
-const FAULTS: [FaultyLine; 1] = [FaultyLine {
+static FAULTS: [FaultyLine; 1] = [FaultyLine {
     line: 5,
     fault: LineFault::UnknownOrder,
 }];
 
-const EVENTS: [Event; 2] = [
+static EVENTS: [Event; 2] = [
     Event {
         faction: 1,
         unit: 1,

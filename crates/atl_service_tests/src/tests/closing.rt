@@ -31,7 +31,7 @@ Exits: none.
 ";
 
 /// The money is 2,502 (500 founded, 1,000 joined, 1,000 of income, 12 of wages, 10 spent on upkeep) and the people are 1,001.
-pub(crate) const AFTER_MONTH_ONE: [(&str, Option<i64>); 12] = [
+pub(crate) static AFTER_MONTH_ONE: [(&str, Option<i64>); 12] = [
     (MONTH, Some(1)),
     (NEXT, Some(200002)),
     (FACTIONS, Some(1)),
@@ -57,7 +57,7 @@ people joining 1
 people total 1001
 ";
 
-const CLOSED_ONCE: [Step; 4] = [
+static CLOSED_ONCE: [Step; 4] = [
     Step::Told(AVALON, "joined"),
     Step::Closed(MONTH_ONE, 1),
     Step::Told(Asked::Report(1, "pw"), AFTER_WORK),
@@ -69,7 +69,7 @@ fn a_month_is_closed(rt: HostRuntime) -> Result<(), Fail> {
     plays(&rt, rt.alloc(), SMALL, &CLOSED_ONCE, &AFTER_MONTH_ONE)
 }
 
-const ONE_FAULTY: [Step; 5] = [
+static ONE_FAULTY: [Step; 5] = [
     Step::Told(AVALON, "joined"),
     Step::Mailed(Asked::Mail(1, "pw", FAULTY), 1, &[(5, 2)]),
     Step::Closed(MONTH_ONE, 1),
@@ -82,7 +82,7 @@ fn a_faulty_line_is_told_and_the_mail_is_gone(rt: HostRuntime) -> Result<(), Fai
     plays(&rt, rt.alloc(), SMALL, &ONE_FAULTY, &AFTER_MONTH_ONE)
 }
 
-const REFUSED: [Step; 9] = [
+static REFUSED: [Step; 9] = [
     Step::Told(AVALON, "joined"),
     Step::Told(Asked::Close(2, "no", &[]), "wrong pass"),
     Step::Told(Asked::Close(1, "pw", &[0]), "wrong pass"),
@@ -100,7 +100,7 @@ fn a_refused_closing_changes_nothing(rt: HostRuntime) -> Result<(), Fail> {
 }
 
 /// What the tables hold where nobody has joined.
-const AFTER_NOBODY: [(&str, Option<i64>); 5] = [
+static AFTER_NOBODY: [(&str, Option<i64>); 5] = [
     (MONTH, Some(2)),
     (FACTIONS, Some(0)),
     (REPORT_BYTES, None),
@@ -108,7 +108,7 @@ const AFTER_NOBODY: [(&str, Option<i64>); 5] = [
     (REGION_MONEY, Some(2500)),
 ];
 
-const NOBODY: [Step; 2] = [
+static NOBODY: [Step; 2] = [
     Step::Closed(MONTH_ONE, 1),
     Step::Closed(Asked::Close(2, "gm", &[7]), 2),
 ];
@@ -125,7 +125,7 @@ Unit 1, line 0, WORK: done 0.
 Unit 1: 1 starved.
 ";
 
-const STARVED: [Step; 6] = [
+static STARVED: [Step; 6] = [
     Step::Joined(AVALON, 1, 1),
     Step::Closed(MONTH_ONE, 1),
     Step::Told(Asked::Report(1, "pw"), AFTER_STARVING),
@@ -135,7 +135,7 @@ const STARVED: [Step; 6] = [
 ];
 
 /// The 5 money are spent and the man is dead, but the number of his unit isn't given again.
-const AFTER_ALL_STARVED: [(&str, Option<i64>); 6] = [
+static AFTER_ALL_STARVED: [(&str, Option<i64>); 6] = [
     (MONTH, Some(2)),
     (NEXT, Some(200002)),
     (FACTIONS, Some(1)),

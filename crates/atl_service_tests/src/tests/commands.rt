@@ -42,7 +42,7 @@ Exits: north 4, west 2.
 
 pub(crate) const AVALON: Asked = Asked::Join("Avalon", "pw", 0);
 
-const ONE_JOINS: [Step; 2] = [
+static ONE_JOINS: [Step; 2] = [
     Step::Joined(AVALON, 1, 1),
     Step::Told(Asked::Report(1, "pw"), FIRST_REPORT),
 ];
@@ -53,13 +53,13 @@ fn first_report(rt: HostRuntime) -> Result<(), Fail> {
     plays(&rt, rt.alloc(), SMALL, &ONE_JOINS, &AFTER_JOINING)
 }
 
-const TWO_JOIN: [Step; 3] = [
+static TWO_JOIN: [Step; 3] = [
     Step::Told(AVALON, "joined"),
     Step::Told(Asked::Join("Bree", "pb", 0), "joined"),
     Step::Told(Asked::Report(2, "pb"), SECOND_REPORT),
 ];
 
-const AFTER_TWO: [(&str, Option<i64>); 3] = [
+static AFTER_TWO: [(&str, Option<i64>); 3] = [
     (NEXT, Some(300003)),
     (FACTIONS, Some(2)),
     (UNITS, Some(2)),
@@ -70,12 +70,12 @@ fn another_faction_is_seen_without_money(rt: HostRuntime) -> Result<(), Fail> {
     plays(&rt, rt.alloc(), SMALL, &TWO_JOIN, &AFTER_TWO)
 }
 
-const FAR_JOINS: [Step; 2] = [
+static FAR_JOINS: [Step; 2] = [
     Step::Told(Asked::Join("Avalon", "pw", 1), "joined"),
     Step::Told(Asked::Report(1, "pw"), FAR_REPORT),
 ];
 
-const AFTER_FAR: [(&str, Option<i64>); 2] = [(FACTIONS, Some(1)), (UNITS, Some(1))];
+static AFTER_FAR: [(&str, Option<i64>); 2] = [(FACTIONS, Some(1)), (UNITS, Some(1))];
 
 #[test]
 fn the_second_land_region(rt: HostRuntime) -> Result<(), Fail> {
@@ -83,7 +83,7 @@ fn the_second_land_region(rt: HostRuntime) -> Result<(), Fail> {
 }
 
 /// Commands of all kinds, good ones and refused ones.
-const CLUB: [Step; 12] = [
+static CLUB: [Step; 12] = [
     Step::Told(Asked::Join(" x", "pw", 0), "bad name"),
     Step::Told(Asked::Join("Avalon", "a b", 0), "bad pass text"),
     Step::Told(AVALON, "joined"),
@@ -102,7 +102,7 @@ const CLUB: [Step; 12] = [
 ];
 
 /// Once one faction has joined and sent its second mailing.
-const AFTER_CLUB: [(&str, Option<i64>); 8] = [
+static AFTER_CLUB: [(&str, Option<i64>); 8] = [
     (NEXT, Some(200002)),
     (FACTIONS, Some(1)),
     (UNITS, Some(1)),
@@ -146,14 +146,14 @@ fn at_once(rt: &impl Abort, alloc: Global, list: &AtOnce) -> Result<(), Fail> {
 }
 
 /// A month is closed; the same commands one by one stand with the closings.
-const A_MONTH: [Step; 4] = [
+static A_MONTH: [Step; 4] = [
     Step::Told(AVALON, "joined"),
     Step::Told(MONTH_ONE, "month done"),
     Step::Told(MONTH_ONE, "wrong month"),
     Step::Told(Asked::Report(1, "pw"), AFTER_WORK),
 ];
 
-const LISTS: [AtOnce; 2] = [
+static LISTS: [AtOnce; 2] = [
     AtOnce {
         steps: &CLUB,
         after: &AFTER_CLUB,

@@ -53,7 +53,7 @@ fn is_told(rt: &impl Abort, told: Told, wanted: Told, sql: &str) {
 }
 
 /// Statements, and what opening is answered after them. Avalon and Bree have a unit each in region 3, on land.
-const ROWS: [(&str, Told); 23] = [
+static ROWS: [(&str, Told); 23] = [
     ("DELETE FROM mail", Told::Opens),
     ("CREATE TABLE notes (words TEXT)", Told::Opens),
     ("CREATE INDEX units_by_region ON unit (region)", Told::Opens),
@@ -107,7 +107,7 @@ const ROWS: [(&str, Told); 23] = [
 ];
 
 /// The same of the stocks of a market of wood in the first region, of which there are up to 30.
-const STOCKS: [(&str, Told); 9] = [
+static STOCKS: [(&str, Told); 9] = [
     (
         "INSERT INTO market VALUES (1, 0, 30); INSERT INTO books VALUES (16, 2, 30)",
         Told::Opens,
@@ -154,7 +154,7 @@ macro_rules! loose_campaign {
 }
 
 /// The same, where tables and indexes are made otherwise.
-const SHAPES: [(&str, Told); 10] = [
+static SHAPES: [(&str, Told); 10] = [
     ("DROP TABLE campaign", Told::NotACampaign),
     (
         "DROP TABLE campaign; CREATE TABLE campaign (id INTEGER NOT NULL PRIMARY KEY) STRICT",
@@ -181,7 +181,7 @@ const SHAPES: [(&str, Told); 10] = [
 
 /// The same, where two faults meet. In this order are told: the campaign's own row can't be asked for; it breaks the first rule; another
 /// table can't be read; a value of another type; tables made otherwise; rows that break a later rule.
-const MEETINGS: [(&str, Told); 16] = [
+static MEETINGS: [(&str, Told); 16] = [
     ("DROP TABLE campaign; DROP TABLE unit", Told::NotACampaign),
     (
         "DROP TABLE campaign; CREATE VIEW rich AS SELECT number FROM unit",
@@ -240,7 +240,7 @@ const MEETINGS: [(&str, Told); 16] = [
 ];
 
 /// Both join the island.
-const BOTH_JOIN: [Step; 2] = [
+static BOTH_JOIN: [Step; 2] = [
     Step::Joined(Asked::Join("Avalon", "pw", 1), 1, 1),
     Step::Joined(Asked::Join("Bree", "pb", 1), 2, 2),
 ];
@@ -308,7 +308,7 @@ fn an_empty_database_is_no_campaign(rt: HostRuntime) -> Result<(), Fail> {
 }
 
 /// Statements that leave a transaction open, of a good campaign and where other faults meet.
-const BEGUN: [&str; 5] = [
+static BEGUN: [&str; 5] = [
     "BEGIN",
     "BEGIN; DROP TABLE campaign",
     "DELETE FROM campaign; BEGIN",

@@ -47,7 +47,7 @@ pub(crate) fn is_refused<S: Alter>(
 }
 
 /// Statements on an empty database, a world text and a pass text, and the first check that fails.
-const REFUSED: [(&str, &str, &str, &str); 8] = [
+static REFUSED: [(&str, &str, &str, &str); 8] = [
     ("", "a = = b", "a b", "world"),
     ("", SMALL, "a b", "bad pass text"),
     ("BEGIN", "a = = b", "gm", "world"),
@@ -113,10 +113,10 @@ const JOINING_MONEY: &str = "SELECT count(*) FROM books WHERE entry = 2 AND thin
 
 const JOINING_PEOPLE: &str = "SELECT sum(amount) FROM books WHERE entry = 2 AND thing = 1";
 
-const AVALON_JOINS: [Step; 1] = [Step::Told(AVALON, "joined")];
+static AVALON_JOINS: [Step; 1] = [Step::Told(AVALON, "joined")];
 
 /// A faction has joined without money, and no money is booked under joining.
-const AFTER_NO_MONEY: [(&str, Option<i64>); 3] = [
+static AFTER_NO_MONEY: [(&str, Option<i64>); 3] = [
     (JOINING_MONEY, Some(0)),
     (JOINING_PEOPLE, Some(1)),
     (MONEY, Some(0)),

@@ -18,7 +18,7 @@ const MORE_FACTIONS: &str =
     "INSERT INTO faction SELECT number + ?1, 'F' || (number + ?1), 'F' || (number + ?1), 'pw', 1 FROM faction WHERE number + ?1 <= ?2";
 
 /// What the rows are doubled by, until there are all.
-const STEPS: [i64; 17] = [
+static STEPS: [i64; 17] = [
     1, 2, 4, 8, 16, 32, 64, 128, 256, 512, 1024, 2048, 4096, 8192, 16384, 32768, 65536,
 ];
 
@@ -40,9 +40,9 @@ const NUMBERS_ARE_FULL: &str = "UPDATE campaign SET next_unit = 1000000000";
 
 const BREE: Asked = Asked::Join("Bree", "pb", 0);
 
-const BREE_JOINS: [Step; 1] = [Step::Told(BREE, "joined")];
+static BREE_JOINS: [Step; 1] = [Step::Told(BREE, "joined")];
 
-const NOBODY_JOINS: [Step; 1] = [Step::Told(BREE, "full")];
+static NOBODY_JOINS: [Step; 1] = [Step::Told(BREE, "full")];
 
 /// A campaign that is filled by hand: what doubles its rows, up to which number, what makes it good again, a joining then, and
 /// what the tables hold behind it.
@@ -54,7 +54,7 @@ struct Filled {
 }
 
 /// Avalon has 10,000 units, and 100,000; 9,998 more factions joined, and are gone; the last unit number was given.
-const FILLED: [Filled; 4] = [
+static FILLED: [Filled; 4] = [
     Filled {
         more: Some((MORE_UNITS, 10_000)),
         then: MANY_ARE_BOOKED,
@@ -97,7 +97,7 @@ const FILLED: [Filled; 4] = [
     },
 ];
 
-const AVALON_JOINS: [Step; 1] = [Step::Told(AVALON, "joined")];
+static AVALON_JOINS: [Step; 1] = [Step::Told(AVALON, "joined")];
 
 /// The small world's campaign, with Avalon in it.
 fn joined(rt: &impl Abort, alloc: Global) -> Result<Connection<MemStore>, Fail> {

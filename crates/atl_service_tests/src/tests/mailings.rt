@@ -10,34 +10,34 @@ pub(crate) const FAULTY: &str =
 
 const FORMS: &str = "#ATLANTIS 1\nUNIT 1\nFORM 1\nRECRUIT 2\nEND\nPAY NEW 1 100\n#END\n";
 
-const ONE_FAULTY: [Step; 3] = [
+static ONE_FAULTY: [Step; 3] = [
     Step::Told(AVALON, "joined"),
     Step::Mailed(Asked::Mail(1, "pw", FAULTY), 1, &[(5, 2)]),
     Step::Keeps(Some(FAULTY)),
 ];
 
-const AFTER_ONE: [(&str, Option<i64>); 1] = [(MAILINGS, Some(1))];
+static AFTER_ONE: [(&str, Option<i64>); 1] = [(MAILINGS, Some(1))];
 
 #[test]
 fn one_faulty_line(rt: HostRuntime) -> Result<(), Fail> {
     plays(&rt, rt.alloc(), SMALL, &ONE_FAULTY, &AFTER_ONE)
 }
 
-const TWO_SENT: [Step; 4] = [
+static TWO_SENT: [Step; 4] = [
     Step::Told(AVALON, "joined"),
     Step::Mailed(Asked::Mail(1, "pw", FAULTY), 1, &[(5, 2)]),
     Step::Mailed(Asked::Mail(1, "pw", FORMS), 3, &[]),
     Step::Keeps(Some(FORMS)),
 ];
 
-const AFTER_TWO: [(&str, Option<i64>); 2] = [(MAILINGS, Some(1)), (MAIL_BYTES, Some(59))];
+static AFTER_TWO: [(&str, Option<i64>); 2] = [(MAILINGS, Some(1)), (MAIL_BYTES, Some(59))];
 
 #[test]
 fn the_last_mailing_is_kept(rt: HostRuntime) -> Result<(), Fail> {
     plays(&rt, rt.alloc(), SMALL, &TWO_SENT, &AFTER_TWO)
 }
 
-const REFUSED: [Step; 7] = [
+static REFUSED: [Step; 7] = [
     Step::Told(AVALON, "joined"),
     Step::Told(Asked::Mail(9, "no", "hello"), "no faction"),
     Step::Told(Asked::Mail(1, "no", "hello"), "wrong pass"),
@@ -52,14 +52,14 @@ fn a_refused_mailing_is_not_kept(rt: HostRuntime) -> Result<(), Fail> {
     plays(&rt, rt.alloc(), SMALL, &REFUSED, &AFTER_JOINING)
 }
 
-const LIMITS: [Step; 4] = [
+static LIMITS: [Step; 4] = [
     Step::Told(AVALON, "joined"),
     Step::Told(Asked::LongMail("pw", 65_526), "too long"),
     Step::Keeps(None),
     Step::Told(Asked::LongMail("pw", 65_525), "mailed"),
 ];
 
-const AFTER_LONG: [(&str, Option<i64>); 2] = [(MAILINGS, Some(1)), (MAIL_BYTES, Some(65_536))];
+static AFTER_LONG: [(&str, Option<i64>); 2] = [(MAILINGS, Some(1)), (MAIL_BYTES, Some(65_536))];
 
 #[test]
 fn a_mailing_has_65536_bytes_at_most(rt: HostRuntime) -> Result<(), Fail> {

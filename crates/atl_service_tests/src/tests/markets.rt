@@ -54,19 +54,19 @@ Market wood: 30 in stock at 7, 0 wanted at 5.
 * Unit 1 \"Unit 1\": 1 men, 985 money, 3 wood.
 ";
 
-const STOCKED_ONCE: [Step; 3] = [
+static STOCKED_ONCE: [Step; 3] = [
     Step::Joined(AVALON, 1, 1),
     Step::Told(Asked::Report(1, "pw"), NOTHING_IN_STOCK),
     Step::Closed(MONTH_ONE, 1),
 ];
 
-const AFTER_STOCKING: [(&str, Option<i64>); 3] = [
+static AFTER_STOCKING: [(&str, Option<i64>); 3] = [
     (FORMAT, Some(2)),
     (STOCKED, Some(1)),
     (STOCK, Some(20)),
 ];
 
-const NOBODY_THERE: [(&str, Option<i64>); 2] = [(STOCKED, Some(0)), (STOCK, None)];
+static NOBODY_THERE: [(&str, Option<i64>); 2] = [(STOCKED, Some(0)), (STOCK, None)];
 
 #[test]
 fn a_market_is_stocked(rt: HostRuntime) -> Result<(), Fail> {
@@ -74,7 +74,7 @@ fn a_market_is_stocked(rt: HostRuntime) -> Result<(), Fail> {
     plays(&rt, rt.alloc(), MART, &STOCKED_ONCE, &AFTER_STOCKING)
 }
 
-const TRADES: [Step; 9] = [
+static TRADES: [Step; 9] = [
     Step::Joined(AVALON, 1, 1),
     Step::Closed(MONTH_ONE, 1),
     Step::Mailed(BUYS, 1, &[]),
@@ -86,7 +86,7 @@ const TRADES: [Step; 9] = [
     Step::Told(Asked::Report(1, "pw"), AFTER_SELLING),
 ];
 
-const AFTER_TRADES: [(&str, Option<i64>); 6] = [
+static AFTER_TRADES: [(&str, Option<i64>); 6] = [
     (MONTH, Some(3)),
     (MONEY, Some(985)),
     (REGION_MONEY, Some(3500)),

@@ -27,7 +27,7 @@ Exits: none.
 * Unit 1 \"Unit 1\": 1 men, 1002 money.
 ";
 
-const NOBODY_COMES: [Step; 5] = [
+static NOBODY_COMES: [Step; 5] = [
     Step::Joined(AVALON, 1, 1),
     Step::Mailed(Asked::Mail(1, "pw", FORMED), 3, &[]),
     Step::Closed(MONTH_ONE, 1),
@@ -35,7 +35,7 @@ const NOBODY_COMES: [Step; 5] = [
     Step::Numbers(2, 3, 1),
 ];
 
-const AFTER_NOBODY_CAME: [(&str, Option<i64>); 4] = [
+static AFTER_NOBODY_CAME: [(&str, Option<i64>); 4] = [
     (NEXT, Some(200003)),
     (UNITS, Some(1)),
     (MONEY, Some(1002)),
@@ -78,7 +78,7 @@ people left -1
 people total 1000
 ";
 
-const IT_QUITS: [Step; 6] = [
+static IT_QUITS: [Step; 6] = [
     Step::Joined(AVALON, 1, 1),
     Step::Mailed(Asked::Mail(1, "pw", QUITS), 2, &[]),
     Step::Closed(MONTH_ONE, 1),
@@ -87,7 +87,7 @@ const IT_QUITS: [Step; 6] = [
     Step::Books(BOOKS_AFTER_QUITTING),
 ];
 
-const AFTER_IT_QUIT: [(&str, Option<i64>); 4] = [
+static AFTER_IT_QUIT: [(&str, Option<i64>); 4] = [
     (MONTH, Some(1)),
     (FACTIONS, Some(1)),
     (UNITS, Some(0)),

@@ -7,9 +7,9 @@ use atl_service::Refusal;
 use atl_test_worlds::SMALL;
 use std::test::Fail;
 
-const JOINS_ONCE: [Step; 1] = [Step::Told(AVALON, "joined")];
+static JOINS_ONCE: [Step; 1] = [Step::Told(AVALON, "joined")];
 
-const JOINS_TWICE: [Step; 5] = [
+static JOINS_TWICE: [Step; 5] = [
     Step::Told(AVALON, "joined"),
     Step::Numbers(2, 2, 1),
     Step::Told(AVALON, "name taken"),
@@ -23,7 +23,7 @@ fn a_name_is_taken_once(rt: HostRuntime) -> Result<(), Fail> {
     plays(&rt, rt.alloc(), SMALL, &JOINS_TWICE, &AFTER_JOINING)
 }
 
-const NUMBERS: [(Refusal, u8); 14] = [
+static NUMBERS: [(Refusal, u8); 14] = [
     (Refusal::BadName, 1),
     (Refusal::BadPassText, 2),
     (Refusal::NameTaken, 3),

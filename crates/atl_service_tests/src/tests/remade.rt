@@ -11,7 +11,7 @@ const LENGTH: usize = 11776;
 
 /// The bytes of the file that are not 0, with their places. It holds the small world, in which Avalon has joined and sent
 /// its orders.
-const PIECES: [(usize, &[u8]); 28] = [
+static PIECES: [(usize, &[u8]); 28] = [
     (
         0,
         b"SQLite format 3\x00\x02\x00\x02\x02\x00@  \x00\x00\x00\x03\x00\x00\x00\x17",
@@ -128,10 +128,10 @@ fn remade(alloc: Global) -> Result<Files<Memory>, Fail> {
 }
 
 /// The first faction is as it was.
-const AVALON_IS_THERE: [Step; 1] = [Step::Numbers(2, 2, 1)];
+static AVALON_IS_THERE: [Step; 1] = [Step::Numbers(2, 2, 1)];
 
 /// The campaign is opened, goes on, and is opened once more.
-const GOES_ON: [Session; 3] = [
+static GOES_ON: [Session; 3] = [
     Session {
         world: None,
         steps: &AVALON_IS_THERE,

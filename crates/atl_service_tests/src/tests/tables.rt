@@ -57,7 +57,7 @@ pub(crate) fn holds(rt: &impl Abort, tables: &mut impl Tables, wanted: &[(&str, 
 }
 
 /// Once Avalon has joined the small world.
-pub(crate) const AFTER_JOINING: [(&str, Option<i64>); 8] = [
+pub(crate) static AFTER_JOINING: [(&str, Option<i64>); 8] = [
     (NEXT, Some(200002)),
     (FACTIONS, Some(1)),
     (UNITS, Some(1)),

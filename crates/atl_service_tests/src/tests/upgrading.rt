@@ -111,7 +111,7 @@ fn is_upgraded(rt: &impl Abort, alloc: Global, story: &Story) -> Result<(), Fail
     goes_on(rt, alloc, conn, story, rows.as_str())
 }
 
-const FAR_JOINS: [Step; 1] = [Step::Joined(Asked::Join("Avalon", "pw", 1), 1, 1)];
+static FAR_JOINS: [Step; 1] = [Step::Joined(Asked::Join("Avalon", "pw", 1), 1, 1)];
 
 /// The unit stands in the third region, and the market is in the first one.
 const AFTER_BUYING: &str = "Atlantis report, month 1, faction 1 \"Avalon\".
@@ -126,7 +126,7 @@ Exits: north 4, west 2.
 const MONTH_ONE: Asked = Asked::Close(1, "gm", &[0, 0, 0, 0]);
 
 /// The report that was stored before is given still.
-const BUYS_NOTHING: [Step; 4] = [
+static BUYS_NOTHING: [Step; 4] = [
     Step::Told(Asked::Report(1, "pw"), FAR_REPORT),
     Step::Mailed(
         Asked::Mail(1, "pw", "#ATLANTIS 1\nUNIT 1\nBUY 1 wood\n"),
@@ -137,7 +137,7 @@ const BUYS_NOTHING: [Step; 4] = [
     Step::Told(Asked::Report(1, "pw"), AFTER_BUYING),
 ];
 
-const AFTER_NOTHING: [(&str, Option<i64>); 3] = [
+static AFTER_NOTHING: [(&str, Option<i64>); 3] = [
     (FORMAT, Some(2)),
     (STOCKED, Some(1)),
     (STOCK, Some(20)),
@@ -153,7 +153,7 @@ const FAR_FROM_MARKET: Story = Story {
 const SELLS: &str = "#ATLANTIS 1\nUNIT 1\nSELL 3 wood\n";
 
 /// The mail is kept from before the upgrade.
-const SENDS_EARLY: [Step; 2] = [
+static SENDS_EARLY: [Step; 2] = [
     Step::Joined(AVALON, 1, 1),
     Step::Mailed(Asked::Mail(1, "pw", SELLS), 1, &[]),
 ];
@@ -187,14 +187,14 @@ item \"wood\" total 24
 item \"cart\" total 0
 ";
 
-const SELLS_THREE: [Step; 4] = [
+static SELLS_THREE: [Step; 4] = [
     Step::Keeps(Some(SELLS)),
     Step::Closed(MONTH_ONE, 1),
     Step::Told(Asked::Report(1, "pw"), AFTER_SELLING),
     Step::Books(BOOKS_AFTER_SELLING),
 ];
 
-const AFTER_THREE: [(&str, Option<i64>); 2] = [(STOCKED, Some(1)), (STOCK, Some(23))];
+static AFTER_THREE: [(&str, Option<i64>); 2] = [(STOCKED, Some(1)), (STOCK, Some(23))];
 
 const WITH_EARLY_MAIL: Story = Story {
     before: &SENDS_EARLY,
@@ -214,7 +214,7 @@ fn early_mail_is_carried_out(rt: HostRuntime) -> Result<(), Fail> {
 }
 
 /// Statements on the file, why it isn't opened then, and why it isn't upgraded.
-const REFUSED: [(&str, &str, &str); 8] = [
+static REFUSED: [(&str, &str, &str); 8] = [
     ("UPDATE campaign SET month = 10000", "old format", "damaged"),
     ("UPDATE campaign SET world = 'x'", "old format", "damaged"),
     ("UPDATE campaign SET format = 3", "damaged", "damaged"),

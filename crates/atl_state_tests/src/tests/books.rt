@@ -36,7 +36,7 @@ fn books_of_four_things(rt: HostRuntime) -> Result<(), Fail> {
 }
 
 /// Amounts of carts by their entries; of income two after each other.
-const BOOKED: [(Entry, i64); 6] = [
+static BOOKED: [(Entry, i64); 6] = [
     (Entry::Income, 5),
     (Entry::Income, 6),
     (Entry::Lost, -8),

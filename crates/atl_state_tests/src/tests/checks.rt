@@ -55,7 +55,7 @@ const GOOD: Rows = Rows {
 };
 
 /// Rows, and the number of the rule that they break, 0 where they keep them all.
-const CASES: [(Rows, u64); 15] = [
+static CASES: [(Rows, u64); 15] = [
     (GOOD, 0),
     (Rows { days: 450, ..GOOD }, 0),
     (Rows { format: 3, ..GOOD }, 1),

@@ -4,7 +4,7 @@ use atl_state::EventFault;
 use std::process::Abort;
 
 /// Numbers, and the names of their faults.
-const FAULTS: [(u8, &str); 24] = [
+static FAULTS: [(u8, &str); 24] = [
     (1, "NotYours"),
     (2, "NotHere"),
     (3, "NotEnough"),

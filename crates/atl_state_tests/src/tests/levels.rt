@@ -9,7 +9,7 @@ use std::process::Abort;
 use std::test::Fail;
 
 /// Days, men, and their level.
-const LEVELS: [(u32, u32, u32); 22] = [
+static LEVELS: [(u32, u32, u32); 22] = [
     (0, 1, 0),
     (29, 1, 0),
     (30, 1, 1),
@@ -51,7 +51,7 @@ struct Load {
 }
 
 /// On the island a man weighs 10 and carries 5, wood weighs 5, and a cart weighs 50 and carries 100.
-const LOADS: [Load; 6] = [
+static LOADS: [Load; 6] = [
     Load {
         men: 0,
         wood: 0,

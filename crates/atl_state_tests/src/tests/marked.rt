@@ -9,16 +9,16 @@ use std::process::Abort;
 use std::test::Fail;
 
 /// The marked numbers by their places: factions, regions, units, their rows, all their goods, structures, mail, reports.
-const JOINED: [&[u32]; 8] = [&[1], &[], &[1], &[1], &[1], &[], &[], &[]];
+static JOINED: [&[u32]; 8] = [&[1], &[], &[1], &[1], &[1], &[], &[], &[]];
 
 /// Once the money of region 3 and of unit 1 changed.
-const PAID: [&[u32]; 8] = [&[], &[3], &[1], &[1], &[], &[], &[], &[]];
+static PAID: [&[u32]; 8] = [&[], &[3], &[1], &[1], &[], &[], &[], &[]];
 
 /// Once unit 1 is gone, too: what it had is marked.
-const REMOVED: [&[u32]; 8] = [&[], &[3], &[1], &[1], &[1], &[], &[], &[]];
+static REMOVED: [&[u32]; 8] = [&[], &[3], &[1], &[1], &[1], &[], &[], &[]];
 
 /// Once all marks are gone, of what is gone too.
-const NONE: [&[u32]; 8] = [&[], &[], &[], &[], &[], &[], &[], &[]];
+static NONE: [&[u32]; 8] = [&[], &[], &[], &[], &[], &[], &[], &[]];
 
 /// What is marked, by its place.
 fn marked(campaign: &Campaign, place: usize) -> MarkedNumbers<'_> {

@@ -48,7 +48,7 @@ const OLD: Rows = Rows {
 };
 
 /// Rows, and the number of the rule that they break, 0 where they keep them all.
-const CASES: [(Rows, u64); 14] = [
+static CASES: [(Rows, u64); 14] = [
     (GOOD, 0),
     (
         Rows {

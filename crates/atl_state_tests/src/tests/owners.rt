@@ -27,7 +27,7 @@ struct Case {
 
 /// Steps from units 1 and 3 of faction 1 and unit 2 of faction 2, all in region 3, where a boat 1 and a lodge 2 stand
 /// without owners.
-const CASES: [Case; 13] = [
+static CASES: [Case; 13] = [
     // Who enters an ownerless structure owns it.
     Case {
         step: Step::Place(2, 3, 1),
@@ -203,7 +203,7 @@ fn placing_and_removing(rt: HostRuntime) -> Result<(), Fail> {
 }
 
 /// Structure, who leaves it, and who owns it then, where unit 2 owns the boat with units 1 and 3 inside.
-const AFTER: [(u32, u32, u32); 5] = [(1, 2, 1), (1, 1, 2), (1, 3, 2), (2, 1, 0), (9, 1, 0)];
+static AFTER: [(u32, u32, u32); 5] = [(1, 2, 1), (1, 1, 2), (1, 3, 2), (2, 1, 0), (9, 1, 0)];
 
 fn knows_owners(rt: &impl Abort, campaign: &Campaign) {
     for (row, (structure, leaving, wanted)) in AFTER.iter().enumerate() {

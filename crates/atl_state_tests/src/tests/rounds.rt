@@ -10,13 +10,13 @@ use std::process::Abort;
 use std::test::Fail;
 
 /// Who goes, one after another. As each goes another comes, who gets the next number.
-const GOING: [u32; 10] = [3, 2, 5, 4, 8, 6, 10, 7, 11, 9];
+static GOING: [u32; 10] = [3, 2, 5, 4, 8, 6, 10, 7, 11, 9];
 
 /// Who is left.
-const LEFT: [u32; 4] = [1, 12, 13, 14];
+static LEFT: [u32; 4] = [1, 12, 13, 14];
 
 /// Who came since the founding.
-const ALL: [u32; 14] = [1, 2, 3, 4, 5, 6, 7, 8, 9, 10, 11, 12, 13, 14];
+static ALL: [u32; 14] = [1, 2, 3, 4, 5, 6, 7, 8, 9, 10, 11, 12, 13, 14];
 
 /// How many peasants are left in the forest by the sea, once three of them are men of a faction.
 const PEASANTS: u32 = 197;

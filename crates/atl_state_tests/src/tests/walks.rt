@@ -44,7 +44,7 @@ fn walks_structures(rt: &impl Abort, campaign: &Campaign) -> Result<(), Fail> {
 }
 
 /// Money, people and wood: those of four regions, and of one unit.
-const TOTALS: [(Thing, u64); 4] = [
+static TOTALS: [(Thing, u64); 4] = [
     (Thing::Money, 650 + 1000),
     (Thing::People, 1300 + 1),
     (Thing::Item(0), 12),

@@ -93,7 +93,7 @@ fn changes_all(alloc: Global, campaign: &mut Campaign) -> Result<(), Fail> {
 }
 
 /// The row of each change, and the unit as it was changed by hand. The mail is none of the campaign's, and not marked.
-const ALL_CHANGED: [(&str, i64); 8] = [
+static ALL_CHANGED: [(&str, i64); 8] = [
     (
         "SELECT count(*) FROM campaign WHERE month = 3 AND next_structure = 2 AND length(world) > 100",
         1,
@@ -146,19 +146,19 @@ fn learns(campaign: &mut Campaign) -> Result<(), Fail> {
     Ok(())
 }
 
-const LEARNED: [(&str, i64); 3] = [
+static LEARNED: [(&str, i64); 3] = [
     ("SELECT money FROM unit WHERE number = 1", 7),
     ("SELECT count(*) FROM has WHERE unit = 1 AND sort = 1", 2),
     ("SELECT sum(amount) FROM has", 90),
 ];
 
 /// A row of what it has was changed by hand, and stays when its money alone is marked.
-const PAID: [(&str, i64); 2] = [
+static PAID: [(&str, i64); 2] = [
     ("SELECT money FROM unit WHERE number = 1", 8),
     ("SELECT sum(amount) FROM has", 91),
 ];
 
-const GONE: [(&str, i64); 2] = [
+static GONE: [(&str, i64); 2] = [
     ("SELECT count(*) FROM unit", 0),
     ("SELECT count(*) FROM has", 0),
 ];
@@ -226,7 +226,7 @@ fn writes_single_things<S: Alter>(
 }
 
 /// The rows that were changed by hand stay.
-const SINGLE: [(&str, i64); 5] = [
+static SINGLE: [(&str, i64); 5] = [
     (
         "SELECT amount FROM has WHERE unit = 1 AND sort = 1 AND thing = 1",
         31,
@@ -255,7 +255,7 @@ fn writes_none_of_a_thing<S: Alter>(
     holds(rt, conn, &FORGOTTEN)
 }
 
-const FORGOTTEN: [(&str, i64); 4] = [
+static FORGOTTEN: [(&str, i64); 4] = [
     ("SELECT amount FROM has WHERE sort = 1 AND thing = 1", 31),
     ("SELECT amount FROM has WHERE sort = 0 AND thing = 1", 7),
     ("SELECT amount FROM has WHERE sort = 0 AND thing = 2", 5),
@@ -282,7 +282,7 @@ fn a_marked_thing_is_written_alone(rt: HostRuntime) -> Result<(), Fail> {
 }
 
 /// Nothing of the income is left.
-const UNDONE: [(&str, i64); 2] = [
+static UNDONE: [(&str, i64); 2] = [
     ("SELECT count(*) FROM books WHERE entry = 3", 0),
     ("SELECT count(*) FROM books", 4),
 ];
@@ -307,7 +307,7 @@ fn an_amount_of_0_has_no_row(rt: HostRuntime) -> Result<(), Fail> {
     writes_nothing_left(&rt, rt.alloc(), &mut conn)
 }
 
-const REFUSED: [(&str, i64); 2] = [
+static REFUSED: [(&str, i64); 2] = [
     ("SELECT month FROM campaign", 0),
     ("SELECT peasants FROM region", 1000),
 ];

@@ -20,7 +20,7 @@ struct Stock {
     amount: u32,
 }
 
-const FIRST_STOCKS: [Stock; 3] = [
+static FIRST_STOCKS: [Stock; 3] = [
     Stock {
         region: 1,
         item: 0,
@@ -39,7 +39,7 @@ const FIRST_STOCKS: [Stock; 3] = [
 ];
 
 /// One stock is sold out, and another is less.
-const NEXT_STOCKS: [Stock; 2] = [
+static NEXT_STOCKS: [Stock; 2] = [
     Stock {
         region: 1,
         item: 0,
@@ -52,9 +52,9 @@ const NEXT_STOCKS: [Stock; 2] = [
     },
 ];
 
-const NO_ROWS: [(&str, i64); 1] = [("SELECT count(*) FROM market", 0)];
+static NO_ROWS: [(&str, i64); 1] = [("SELECT count(*) FROM market", 0)];
 
-const FIRST_ROWS: [(&str, i64); 4] = [
+static FIRST_ROWS: [(&str, i64); 4] = [
     ("SELECT count(*) FROM market", 3),
     ("SELECT stock FROM market WHERE region = 1 AND item = 0", 12),
     ("SELECT stock FROM market WHERE region = 1 AND item = 1", 5),
@@ -62,7 +62,7 @@ const FIRST_ROWS: [(&str, i64); 4] = [
 ];
 
 /// Of a region that isn't marked the row stays as it was changed by hand.
-const NEXT_ROWS: [(&str, i64); 3] = [
+static NEXT_ROWS: [(&str, i64); 3] = [
     ("SELECT count(*) FROM market", 2),
     ("SELECT stock FROM market WHERE region = 1 AND item = 1", 3),
     ("SELECT stock FROM market WHERE region = 3 AND item = 1", 2),

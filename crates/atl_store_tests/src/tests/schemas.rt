@@ -11,7 +11,7 @@ fn is_truth(rt: &impl Abort, told: bool, wanted: bool) {
 }
 
 /// What is added or taken away, and whether the tables of a campaign still come first.
-const CHANGES: [(&str, bool); 8] = [
+static CHANGES: [(&str, bool); 8] = [
     ("DELETE FROM mail", true),
     ("CREATE TABLE notes (words TEXT)", true),
     ("CREATE INDEX units_by_region ON unit (region)", true),

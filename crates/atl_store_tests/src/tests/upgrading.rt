@@ -71,7 +71,7 @@ fn rows_of_island<S: Alter>(alloc: Global, conn: &mut Connection<S>) -> Result<S
 }
 
 /// The format and the tables of an upgraded file.
-const UPGRADED: [(&str, i64); 4] = [
+static UPGRADED: [(&str, i64); 4] = [
     ("SELECT format FROM campaign", 2),
     ("SELECT count(*) FROM market", 0),
     ("SELECT count(*) FROM unit", 11),
@@ -126,7 +126,7 @@ const LOOSE: &str =
     "DROP TABLE campaign; CREATE TABLE campaign (id INTEGER NOT NULL PRIMARY KEY CHECK (id = 1), format INTEGER NOT NULL, month INTEGER NOT NULL, next_faction INTEGER NOT NULL, next_unit INTEGER NOT NULL, next_structure INTEGER NOT NULL, pass TEXT NOT NULL, world TEXT NOT NULL); INSERT INTO campaign VALUES (1, 1, 'x', 3, 12, 2, 'gm', 'no world')";
 
 /// Files that are as they are to be but for these statements, and worlds.
-const CASES: [Case; 18] = [
+static CASES: [Case; 18] = [
     ("", SMALL, Told::OldFormat, Told::Differs),
     ("", NO_WORLD, Told::OldFormat, Told::World),
     ("", ISLE, Told::OldFormat, Told::Done),
