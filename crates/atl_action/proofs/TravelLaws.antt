@@ -129,7 +129,7 @@ module _ (w : WorldValue) (c : CampaignValue) (units : FinMap nat_cmp Unit) (str
       names =
           named_replaced c units structures (every_unit (λ k x. IsTrue (name_ok x.holding.name)) (λ k u was. let s = are.same_units k u was in rw s.name (old.names.units k u was)))
           (every_structure (λ k x. IsTrue (name_ok x.name)) (λ k y was. let s = are.same_structures k y was in rw s.name (old.names.structures k y was))) old.names;
-      known = record { regions = old.known.regions; markets = old.known.markets; units = placed_kept old.known; structures = built_kept old.known; mail = old.known.mail; reports = old.known.reports };
+      known = record { regions = old.known.regions; markets = old.known.markets; units = placed_kept old.known; structures = built_kept old.known; posts = old.known.posts };
       next = next_kept old.next;
       days = every_unit (λ k x. Every (λ j days. (1 ≤ days) × (days ≤ most_days * x.holding.men)) x.holding.days) (λ k u was. let s = are.same_units k u was in rw (s.days, s.men) (old.days k u was));
       gone = λ m x there gone. are.of_factions m ∙ old.gone m x there gone;

@@ -7,6 +7,7 @@ use Rattle.atl_tables.specs.Names.{name_ok, pass_ok}
 use Rattle.atl_tables.specs.Worlds.{WorldValue}
 use Rattle.atl_records.specs.declared.records.Faction.{Faction}
 use Rattle.atl_records.specs.Every.{Every, IsThere}
+use Rattle.atl_state.proofs.GoodLaws.{posted-there}
 use Rattle.atl_state.specs.Good.{AreInRange, AreKnown, AreNamed, AreNumbered, IsSteady}
 use Rattle.atl_state.specs.Campaign.{CampaignValue, numbers_of, with_faction_name}
 use Rattle.atl_records.proofs.EveryLaws.{every-insert, get-insert_other, none_some, there-insert}
@@ -69,8 +70,7 @@ module _ (c : CampaignValue) (n : ℕ) (x : Faction) (name : List ℕ) (is : get
     markets = old.markets;
     units = λ k u here. let p = old.units k u here in record { faction = there u.faction p.faction; region = p.region; structure = p.structure; items = p.items; skills = p.skills };
     structures = λ k s here. let b = old.structures k s here in record { kind = b.kind; region = b.region; owner = b.owner };
-    mail = λ k text here. there k (old.mail k text here);
-    reports = λ k text here. there k (old.reports k text here);
+    posts = posted-there there old.posts;
   }
 
   next_kept : AreNumbered c → AreNumbered shown

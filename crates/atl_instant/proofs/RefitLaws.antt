@@ -121,8 +121,7 @@ module _ (w : WorldValue) (c : CampaignValue) (n : ℕ) (u : Unit) (s : ℕ) (is
             region = rw r.region b.region;
             owner = λ some. let (v, here, inside) = (refit.owned k y was).owned some in (v, here);
           });
-      mail = old.mail;
-      reports = old.reports;
+      posts = old.posts;
     }
 
     next_kept : AreNumbered c → AreNumbered refitted

@@ -15,7 +15,7 @@ use Rattle.atl_state.specs.Campaign.{CampaignValue}
 use Rattle.atl_state.specs.Totals.{Balances, total}
 use Rattle.atl_orders.specs.Mailing.{Reading}
 use Rattle.atl_records.proofs.EveryLaws.{every-empty}
-use Rattle.atl_state.proofs.GoodLaws.{posted-steady}
+use Rattle.atl_state.proofs.GoodLaws.{posted-steady, posted-unsent}
 use Rattle.atl_instant.specs.Month.{MonthValue}
 use Rattle.atl_instant.specs.Meaning.{Condition, HaveRoom, IsNear, IsSameMonth, LeavesWell, Meaning, Moving}
 use Rattle.atl_instant.proofs.MonthLaws.{mailings_have_no_order}
@@ -27,7 +27,7 @@ use Rattle.atl_month.proofs.MoveLaws.{month_within, moves_in_month, phases_littl
 
 module _ (w : WorldValue) (d : CampaignValue) where
   finished_steady : d.month < last_month → IsSteady w d → IsSteady w (finished d)
-  finished_steady early old = posted-steady w d (d.month + 1) empty d.reports (omega (arith, early)) (every-empty _) old.known.reports old
+  finished_steady early old = posted-steady w d (d.month + 1) empty d.reports (omega (arith, early)) (posted-unsent old.known.posts) old
 
   finished_balances : Balances d → Balances (finished d)
   unfolding total

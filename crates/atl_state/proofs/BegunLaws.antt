@@ -80,8 +80,7 @@ module _ (w : WorldValue) (c : CampaignValue) (s : Structure) (fresh : IsFresh w
         record { faction = p.faction; region = p.region; structure = λ some. let (y, at, here) = p.structure some in (y, stays x.structure y at, here); items = p.items; skills = p.skills };
     structures = every-insert (λ k x. IsBuilt w raised x) c.structures next s (record { kind = fresh.kind; region = fresh.region; owner = λ some. nobody some })
         (λ k y there. let b = old.known.structures k y there in record { kind = b.kind; region = b.region; owner = b.owner });
-    mail = old.known.mail;
-    reports = old.known.reports;
+    posts = old.known.posts;
   }
 
   next_kept : AreNumbered raised
@@ -201,8 +200,7 @@ module _ (w : WorldValue) (c : CampaignValue) (k : ℕ) (s : Structure) (done : 
           record { faction = p.faction; region = p.region; structure = λ some. still (λ y. y.region ≡ x.region) (λ here. here) x.structure (p.structure some); items = p.items; skills = p.skills };
       structures = every-insert (λ j x. IsBuilt w built x) c.structures k further (let b = was.known.structures k s is in record { kind = b.kind; region = b.region; owner = b.owner })
           (λ j y there. let b = was.known.structures j y there in record { kind = b.kind; region = b.region; owner = b.owner });
-      mail = was.known.mail;
-      reports = was.known.reports;
+      posts = was.known.posts;
     }
 
     apart_free : (j : ℕ) → get c.structures j ≡ None → get built.structures j ≡ None

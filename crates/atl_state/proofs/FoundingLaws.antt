@@ -34,6 +34,7 @@ use Rattle.atl_state.specs.Founding.{founded_of, founded_region, things_of}
 use Rattle.atl_records.specs.Held.{IsHolding}
 use Rattle.atl_state.specs.Campaign.{numbers_of}
 use Rattle.atl_records.specs.Every.{Every, IsThere}
+use Rattle.atl_state.proofs.GoodLaws.{posted-nobody}
 use Rattle.atl_state.specs.Good.{IsActive, IsRegion, AreInRange, AreAmountsWithin, AreNamed, IsPlaced, IsBuilt, AreKnown, AreOfMarkets, IsNumbered, IsOwned, is_ship, IsAboard, guards, IsSteady, IsGood}
 use Rattle.atl_records.proofs.EveryLaws.{each-from_every, every-empty, every-mapped, there-mapped}
 use Rattle.atl_state.proofs.AmountLaws.{none_weighed}
@@ -141,8 +142,7 @@ module _ (w : WorldValue) (pass : List ℕ) (world : IsWorld w) where
     markets = every-mapped founded_region (λ n r. AreOfMarkets w n r.stocks) w.regions (λ n p is. every-empty (λ i amount. IsSome (market_of w n i)));
     units = every-empty (λ n u. IsPlaced w (founded_of w pass) u);
     structures = every-empty (λ n s. IsBuilt w (founded_of w pass) s);
-    mail = every-empty (λ n text. IsThere empty n);
-    reports = every-empty (λ n text. IsThere empty n);
+    posts = posted-nobody;
   }
 
   founded-steady : IsTrue (pass_ok pass) → IsSteady w (founded_of w pass)

@@ -10,6 +10,7 @@ use Rattle.atl_state.specs.Covers.{MarksChanges}
 use Rattle.atl_records.specs.declared.books.Thing.{Thing}
 use Rattle.atl_records.specs.declared.records.Faction.{Faction}
 use Rattle.atl_records.specs.Every.{Every, IsThere}
+use Rattle.atl_state.proofs.GoodLaws.{posted-there}
 use Rattle.atl_state.specs.Good.{AreInRange, AreKnown, AreNamed, AreNumbered, IsSteady}
 use Rattle.atl_state.specs.Marking.{mark_faction}
 use Rattle.atl_state.specs.Campaign.{MarkedCampaign, CampaignValue, numbers_of, with_gone}
@@ -73,8 +74,7 @@ module _ (c : CampaignValue) (n : ℕ) (x : Faction) (is : get c.factions n ≡ 
     markets = old.markets;
     units = λ k u here. let p = old.units k u here in record { faction = there u.faction p.faction; region = p.region; structure = p.structure; items = p.items; skills = p.skills };
     structures = λ k s here. let b = old.structures k s here in record { kind = b.kind; region = b.region; owner = b.owner };
-    mail = λ k text here. there k (old.mail k text here);
-    reports = λ k text here. there k (old.reports k text here);
+    posts = posted-there there old.posts;
   }
 
   next_kept : AreNumbered c → AreNumbered left

@@ -3,20 +3,31 @@ use Rattle.std.proofs.Common.{◌≡◌, ◌≤◌, ◌&&◌, ℕ, Bool, true, f
 use Rattle.std.proofs.lemmas.Bool.Decides.{nat_tests}
 use Rattle.std.specs.Cmp.Derive.{both_true}
 use Rattle.std.specs.Ordering.{nat_cmp}
-use Rattle.std.specs.FinMap.{FinMap, insert}
+use Rattle.std.specs.FinMap.{FinMap, empty, insert}
 use Rattle.atl_tables.specs.Worlds.{WorldValue}
 use Rattle.atl_orders.specs.Mailing.{IsMailingOf}
 use Rattle.atl_records.specs.declared.records.JoinFault.{JoinFault}
 use Rattle.atl_records.specs.declared.records.JoinFault.TheVariants.{NameTaken, Full}
+use Rattle.atl_records.specs.declared.records.Faction.{Faction}
 use Rattle.atl_records.specs.Limits.{last_month}
 use Rattle.atl_state.specs.Campaign.{CampaignValue, with_mail, with_report}
 use Rattle.atl_state.specs.Totals.{total}
 use Rattle.atl_records.specs.Every.{Every, IsThere}
-use Rattle.atl_state.specs.Good.{IsActive, AreInRange, AreNamed, IsPlaced, IsBuilt, AreKnown, AreOwned, IsSteady, IsEarly, IsSound, IsGood}
+use Rattle.atl_state.specs.Good.{IsActive, AreInRange, AreNamed, IsPlaced, IsBuilt, AreOfFactions, AreKnown, AreOwned, IsSteady, IsEarly, IsSound, IsGood}
 use Rattle.atl_state.specs.Joining.{joined, join_of, name_taken, is_full, new_faction}
-use Rattle.atl_records.proofs.EveryLaws.{every-insert, there-new, there-insert}
+use Rattle.atl_records.proofs.EveryLaws.{every-empty, every-insert, there-new, there-insert}
 
 -- ---- mail and reports
+
+-- mail and reports are of factions that are there, where each that was is there; without mail, too; and where there are none
+pub posted-there : {factions later : FinMap nat_cmp Faction} {mail reports : FinMap nat_cmp (List ℕ)} → ((n : ℕ) → IsThere factions n → IsThere later n) → AreOfFactions factions mail reports → AreOfFactions later mail reports
+posted-there stays posts = record { mail = λ n text is. stays n (posts.mail n text is); reports = λ n text is. stays n (posts.reports n text is) }
+
+pub posted-unsent : {factions : FinMap nat_cmp Faction} {mail reports : FinMap nat_cmp (List ℕ)} → AreOfFactions factions mail reports → AreOfFactions factions empty reports
+posted-unsent posts = record { mail = every-empty _; reports = posts.reports }
+
+pub posted-nobody : {factions : FinMap nat_cmp Faction} → AreOfFactions factions empty empty
+posted-nobody = record { mail = every-empty _; reports = every-empty _ }
 
 module _ (w : WorldValue) (c : CampaignValue) (month : ℕ) (mail reports : FinMap nat_cmp (List ℕ)) where
   -- the campaign in another month, with other mail and other reports
@@ -51,9 +62,9 @@ module _ (w : WorldValue) (c : CampaignValue) (month : ℕ) (mail reports : FinM
   posted-owned : AreOwned c → AreOwned posted
   posted-owned old n s is = let o = old n s is in record { owned = o.owned; ownerless = o.ownerless }
 
-  module _ (early : month ≤ last_month) (senders : Every (λ n text. IsThere c.factions n) mail) (readers : Every (λ n text. IsThere c.factions n) reports) where
+  module _ (early : month ≤ last_month) (posts : AreOfFactions c.factions mail reports) where
     posted-known : AreKnown w c → AreKnown w posted
-    posted-known old = record { regions = old.regions; markets = old.markets; units = posted-placed old; structures = posted-built old; mail = senders; reports = readers }
+    posted-known old = record { regions = old.regions; markets = old.markets; units = posted-placed old; structures = posted-built old; posts = posts }
 
     pub posted-steady : IsSteady w c → IsSteady w posted
     posted-steady old = record {
@@ -69,11 +80,11 @@ module _ (w : WorldValue) (c : CampaignValue) (month : ℕ) (mail reports : FinM
     }
 
 -- what is so of a sound campaign is so of it with other mail and other reports
-posted-sound : (w : WorldValue) (c : CampaignValue) (mail reports : FinMap nat_cmp (List ℕ)) → Every (λ n text. IsThere c.factions n) mail → Every (λ n text. IsThere c.factions n) reports
+posted-sound : (w : WorldValue) (c : CampaignValue) (mail reports : FinMap nat_cmp (List ℕ)) → AreOfFactions c.factions mail reports
     → Every (λ n text. IsMailingOf n text × IsActive c n) mail → IsSound w c → IsSound w (record c { mail = mail; reports = reports })
 unfolding total
-posted-sound w c mail reports senders readers sent old = record {
-  steady = posted-steady w c c.month mail reports old.steady.numbers.month senders readers old.steady;
+posted-sound w c mail reports posts sent old = record {
+  steady = posted-steady w c c.month mail reports old.steady.numbers.month posts old.steady;
   men = old.men;
   amounts = old.amounts;
   gone = old.gone;
@@ -84,8 +95,8 @@ posted-sound w c mail reports senders readers sent old = record {
 -- a report of a faction that is there keeps a campaign sound
 pub IsSound-with_report : (w : WorldValue) (c : CampaignValue) (faction : ℕ) (text : List ℕ) → IsThere c.factions faction → IsSound w c → IsSound w (with_report c faction text)
 IsSound-with_report w c faction text there old =
-    let known = old.steady.known in
-    posted-sound w c c.mail (insert c.reports faction text) known.mail (every-insert (λ n text. IsThere c.factions n) c.reports faction text there known.reports) old.mail old
+    let posts = old.steady.known.posts in
+    posted-sound w c c.mail (insert c.reports faction text) (record posts { reports = every-insert (λ n text. IsThere c.factions n) c.reports faction text there posts.reports }) old.mail old
 
 pub IsGood-with_report : (w : WorldValue) (c : CampaignValue) (faction : ℕ) (text : List ℕ) → IsThere c.factions faction → IsGood w c → IsGood w (with_report c faction text)
 IsGood-with_report w c faction text there good = record {
@@ -96,10 +107,10 @@ IsGood-with_report w c faction text there good = record {
 -- a mailing of a faction that is not gone keeps a campaign good
 pub IsGood-with_mail : (w : WorldValue) (c : CampaignValue) (faction : ℕ) (text : List ℕ) → IsMailingOf faction text → IsActive c faction → IsGood w c → IsGood w (with_mail c faction text)
 IsGood-with_mail w c faction text sent active good =
-    let known = good.sound.steady.known in
+    let posts = good.sound.steady.known.posts in
     let (f, there, stays) = active in
     record {
-      sound = posted-sound w c (insert c.mail faction text) c.reports (every-insert (λ n text. IsThere c.factions n) c.mail faction text (f, there) known.mail) known.reports
+      sound = posted-sound w c (insert c.mail faction text) c.reports (record { mail = every-insert (λ n text. IsThere c.factions n) c.mail faction text (f, there) posts.mail; reports = posts.reports })
           (every-insert (λ n text. IsMailingOf n text × IsActive c n) c.mail faction text (sent, active) good.sound.mail) good.sound;
       reported = good.reported;
     }

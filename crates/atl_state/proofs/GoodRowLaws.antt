@@ -287,10 +287,10 @@ module _ (w : WorldValue) (world : IsWorld w) (c : CampaignValue) (good : IsGood
     structures_whole n s is = let most : n ≤ most_structures = (few_structures n s is).1 in omega (arith, most)
 
     pub mail_whole : Every (λ n text. n ≤ most_u32) c.mail
-    mail_whole n text is = let most : n ≤ last_faction = faction_small n (good.sound.steady.known.mail n text is) in omega (arith, most)
+    mail_whole n text is = let most : n ≤ last_faction = faction_small n (good.sound.steady.known.posts.mail n text is) in omega (arith, most)
 
     pub reports_whole : Every (λ n text. n ≤ most_u32) c.reports
-    reports_whole n text is = let most : n ≤ last_faction = faction_small n (good.sound.steady.known.reports n text is) in omega (arith, most)
+    reports_whole n text is = let most : n ≤ last_faction = faction_small n (good.sound.steady.known.posts.reports n text is) in omega (arith, most)
 
     factions_said : by_number (λ r. as_u32 r.number) faction_of p.factions ≡ c.factions
     factions_said = table_back faction_row (λ r. r.number) faction_of (λ n f. refl) c.factions factions_whole p.factions factions_listed (λ n f is. faction_back n f (factions_whole n f is) (good.sound.steady.numbers.factions n f is))

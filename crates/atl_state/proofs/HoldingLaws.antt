@@ -93,8 +93,7 @@ module _ (w : WorldValue) (c : CampaignValue) (n : ℕ) (u : Unit) (h : Held) (i
         (let p = old.units n u is in record { faction = p.faction; region = p.region; structure = p.structure; items = items; skills = skills })
         (λ k x there. let p = old.units k x there in record { faction = p.faction; region = p.region; structure = p.structure; items = p.items; skills = p.skills });
     structures = λ k s there. let b = old.structures k s there in record { kind = b.kind; region = b.region; owner = λ owned. there-insert c.units n s.owner new_unit (b.owner owned) };
-    mail = old.mail;
-    reports = old.reports;
+    posts = old.posts;
   }
 
   pub next_kept : AreNumbered c → AreNumbered supplied

@@ -29,6 +29,7 @@ use Rattle.atl_records.specs.Amounts.{held}
 use Rattle.atl_state.specs.Totals.{total, Balances}
 use Rattle.atl_state.specs.Founding.{things_of}
 use Rattle.atl_records.specs.Every.{Every}
+use Rattle.atl_state.proofs.GoodLaws.{posted-there}
 use Rattle.atl_state.specs.Good.{AreInRange, AreAmountsWithin, HaveMen, AreNamed, IsPlaced, AreKnown, IsNumbered, AreNumbered, AreDays, GoneHaveNone, NoneAreGone, AreOwned, IsAboard, AreAfloat, guards, AreOfOneFaction, IsMail, IsSteady, IsSound, amount_bound}
 use Rattle.atl_state.specs.Joining.{joined, new_faction, first_unit, home_of, is_full, name_taken}
 use Rattle.atl_state.specs.Ordered.{put_number, first_above}
@@ -183,8 +184,7 @@ module _ (w : WorldValue) (name pass : List ℕ) (word : ℕ) (c : CampaignValue
           skills = p.skills;
         });
         structures = λ n s is. let b = old.structures n s is in record { kind = b.kind; region = b.region; owner = λ owned. there-insert c.units c.next_unit s.owner unit (b.owner owned) };
-        mail = λ n text is. there-insert c.factions c.next_faction n member (old.mail n text is);
-        reports = λ n text is. there-insert c.factions c.next_faction n member (old.reports n text is);
+        posts = posted-there (λ n. there-insert c.factions c.next_faction n member) old.posts;
       }
 
   joined-next : AreNumbered c → AreNumbered (joined w name pass word c)

@@ -139,7 +139,7 @@ module _ (w : WorldValue) (c : CampaignValue) (n : ℕ) (u : Unit) (is : get c.u
         units = every-remove c.units n _ old.names.units;
         structures = every_owned _ (λ k o y h. h) old.names.structures;
       };
-      known = record { regions = old.known.regions; markets = old.known.markets; units = placed_left old.known; structures = built_left old.known; mail = old.known.mail; reports = old.known.reports };
+      known = record { regions = old.known.regions; markets = old.known.markets; units = placed_left old.known; structures = built_left old.known; posts = old.known.posts };
       next = next_left old.next;
       days = every-remove c.units n _ old.days;
       gone = gone_left old.gone;

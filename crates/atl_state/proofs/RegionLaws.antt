@@ -56,8 +56,7 @@ module _ (w : WorldValue) (c : CampaignValue) (regions : FinMap nat_cmp Region) 
       markets = marketed;
       units = λ n u is. let p = old.units n u is in record { faction = p.faction; region = (there u.region).0 p.region; structure = p.structure; items = p.items; skills = p.skills };
       structures = λ n s is. let b = old.structures n s is in record { kind = b.kind; region = (there s.region).0 b.region; owner = b.owner };
-      mail = old.mail;
-      reports = old.reports;
+      posts = old.posts;
     }
 
     stocked-steady : IsSteady w c → IsSteady w stocked

@@ -302,7 +302,7 @@ module _ (f : Format) (w : WorldValue) (p : Parts) (k : RowsKeep f w p) where
   unfolding campaign_of
   mail_whole =
       each_so (λ r. IsThere (by_number (λ r. as_u32 r.faction) (λ r. r.text) p.mail) (as_u32 r.faction)) (λ r. IsWhole r.faction)
-      (λ r there. let few = there_below (by_number (λ r. as_u32 r.number) faction_of p.factions) (as_u32 r.faction) last_faction few_factions (k.known.mail (as_u32 r.faction) there.0 there.1) in whole_below r.faction (omega arith)) p.mail
+      (λ r there. let few = there_below (by_number (λ r. as_u32 r.number) faction_of p.factions) (as_u32 r.faction) last_faction few_factions (k.known.posts.mail (as_u32 r.faction) there.0 there.1) in whole_below r.faction (omega arith)) p.mail
       (rows_there (λ r. as_u32 r.faction) (λ r. r.text) p.mail)
 
   mail_said : IsPermutation (rows_by mail_row (entries (by_number (λ r. as_u32 r.faction) (λ r. r.text) p.mail))) p.mail
@@ -315,7 +315,7 @@ module _ (f : Format) (w : WorldValue) (p : Parts) (k : RowsKeep f w p) where
   unfolding campaign_of
   reports_whole =
       each_so (λ r. IsThere (by_number (λ r. as_u32 r.faction) (λ r. r.text) p.reports) (as_u32 r.faction)) (λ r. IsWhole r.faction)
-      (λ r there. let few = there_below (by_number (λ r. as_u32 r.number) faction_of p.factions) (as_u32 r.faction) last_faction few_factions (k.known.reports (as_u32 r.faction) there.0 there.1) in whole_below r.faction (omega arith)) p.reports
+      (λ r there. let few = there_below (by_number (λ r. as_u32 r.number) faction_of p.factions) (as_u32 r.faction) last_faction few_factions (k.known.posts.reports (as_u32 r.faction) there.0 there.1) in whole_below r.faction (omega arith)) p.reports
       (rows_there (λ r. as_u32 r.faction) (λ r. r.text) p.reports)
 
   reports_said : IsPermutation (rows_by report_row (entries (by_number (λ r. as_u32 r.faction) (λ r. r.text) p.reports))) p.reports

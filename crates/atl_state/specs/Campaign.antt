@@ -16,7 +16,7 @@ use Rattle.atl_records.specs.declared.books.Entry.{Entry}
 use Rattle.atl_records.specs.declared.books.Thing.{Thing}
 use Rattle.atl_records.specs.Books.{with_booked}
 use Rattle.atl_records.specs.Held.{with_amount_of}
-use Rattle.atl_state.specs.Marks.{Marks, marks_code}
+use Rattle.atl_state.specs.Marks.{Marks, marks_code, no_marks}
 
 -- The month last closed, the moderator's pass text, the numbers that come next; factions, regions, units and structures by their numbers; mail and reports by the factions' numbers; and the books.
 pub record CampaignValue : Type 0 where
@@ -63,6 +63,26 @@ campaign_code =
 
 abbrev pub marked_code : Coded MarkedCampaign
 marked_code = code_by (CampaignValue × Marks) (coded× campaign_code marks_code) (λ m. (m.value, m.marks)) (λ p. record { value = p.0; marks = p.1 }) (λ _. refl)
+
+-- a campaign of nothing
+abbrev pub nothing : CampaignValue
+nothing = record {
+  month = 0;
+  pass = [];
+  next_faction = 1;
+  next_unit = 1;
+  next_structure = 1;
+  factions = empty;
+  regions = empty;
+  units = empty;
+  structures = empty;
+  mail = empty;
+  reports = empty;
+  books = [];
+}
+
+abbrev pub blank : MarkedCampaign
+blank = record { value = nothing; marks = no_marks }
 
 -- the numbers of the factions that aren't gone, in rising order
 abbrev pub active : CampaignValue → List ℕ

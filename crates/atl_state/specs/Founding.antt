@@ -7,9 +7,8 @@ use Rattle.atl_tables.specs.declared.world.RegionPlan.{RegionPlan}
 use Rattle.atl_records.specs.declared.books.Entry.TheVariants.{Founding}
 use Rattle.atl_records.specs.declared.books.Thing.TheVariants.{Money, People}
 use Rattle.atl_records.specs.declared.records.Region.{Region}
-use Rattle.atl_state.specs.Blank.{nothing}
 use Rattle.atl_records.specs.Books.{with_booked, no_amounts}
-use Rattle.atl_state.specs.Campaign.{CampaignValue}
+use Rattle.atl_state.specs.Campaign.{CampaignValue, nothing}
 
 -- a region as it is founded, with nothing in stock
 abbrev pub founded_region : RegionPlan → Region

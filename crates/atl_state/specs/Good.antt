@@ -1,5 +1,5 @@
 -- What is true of every campaign that commands reach, and of one within a month. Each record is one of the rules.
-use Rattle.std.specs.Prelude.{◌≡◌, ◌≢◌, ◌≤◌, ◌<◌, ◌+◌, ◌*◌, ◌&&◌, ◌↔◌, ℕ, Bool, [], IsTrue, true, false, nat_lt, length, Some, None, IsSome}
+use Rattle.std.specs.Prelude.{◌≡◌, ◌≢◌, ◌≤◌, ◌<◌, ◌+◌, ◌*◌, ◌&&◌, ◌↔◌, ℕ, Bool, List, [], IsTrue, true, false, nat_lt, length, Some, None, IsSome}
 use Rattle.std.specs.Ordering.{nat_cmp}
 use Rattle.std.specs.FinMap.{FinMap, empty, get, len}
 use Rattle.atl_tables.specs.ByNumber as of_world
@@ -92,14 +92,21 @@ pub record IsBuilt (w : WorldValue) (c : CampaignValue) (s : Structure) : Type 0
 abbrev pub AreOfMarkets : WorldValue → ℕ → FinMap nat_cmp ℕ → Type 0
 AreOfMarkets w n stocks = Every (λ i amount. IsSome (market_of w n i)) stocks
 
+-- mail and reports are of factions that are there
+pub record AreOfFactions (factions : FinMap nat_cmp Faction) (mail reports : FinMap nat_cmp (List ℕ)) : Type 0 where
+  pub mail : Every (λ n text. IsThere factions n) mail
+  pub reports : Every (λ n text. IsThere factions n) reports
+
+abbrev pub ArePosted : CampaignValue → Type 0
+ArePosted c = AreOfFactions c.factions c.mail c.reports
+
 -- and the regions are the world's, with stocks of their markets
 pub record AreKnown (w : WorldValue) (c : CampaignValue) : Type 0 where
   pub regions : (n : ℕ) → IsThere c.regions n ↔ IsThere w.regions n
   pub markets : Every (λ n r. AreOfMarkets w n r.stocks) c.regions
   pub units : Every (λ n u. IsPlaced w c u) c.units
   pub structures : Every (λ n s. IsBuilt w c s) c.structures
-  pub mail : Every (λ n text. IsThere c.factions n) c.mail
-  pub reports : Every (λ n text. IsThere c.factions n) c.reports
+  pub posts : ArePosted c
 
 -- ---- of the numbers that come next
 

@@ -1,5 +1,4 @@
 pub mod Assembling
-pub mod Blank
 pub mod Checking
 pub mod Covers
 pub mod Deciding

@@ -31,6 +31,7 @@ use Rattle.atl_store.specs.Written.{sort_number}
 use Rattle.atl_store.specs.declared.rows.has.Sort.{Sort}
 use Rattle.atl_store.specs.declared.rows.has.Sort.TheVariants.{Item, Skill}
 use Rattle.atl_state.proofs.StateLaws.{same_state}
+use Rattle.atl_store.proofs.ThingLaws.{same_sort}
 
 -- ---- maps whose rows tell their numbers and values
 
@@ -92,12 +93,6 @@ HaveSome units = Every (λ n u. (sort : Sort) → Every (λ thing amount. amount
 have_some : (w : WorldValue) (c : CampaignValue) → IsGood w c → HaveSome c.units
 have_some w c good n u is Item thing amount there = let range = (good.sound.steady.numbers.units n u is).1.items thing amount there in λ none. omega (arith, range.0, none)
 have_some w c good n u is Skill thing amount there = let range = good.sound.steady.days n u is thing amount there in λ none. omega (arith, range.0, none)
-
-same_sort : (a b : Sort) → sort_number a ≡ sort_number b → a ≡ b
-same_sort Item Item is = refl
-same_sort Item Skill is = absurd (omega (arith, is))
-same_sort Skill Item is = absurd (omega (arith, is))
-same_sort Skill Skill is = refl
 
 module _ (rows : List Row) (m k : FinMap nat_cmp Unit) (a : Is rows (HasRowsOf m)) (b : Is rows (HasRowsOf k)) where
   -- what a unit has of the one it has of the other

@@ -52,8 +52,7 @@ module _ (v : WorldValue) (regions : FinMap nat_cmp RegionPlan) (c : CampaignVal
                   let placed = steady.known.units n u is in
                   record { faction = placed.faction; region = placed.region; structure = placed.structure; items = placed.items; skills = placed.skills };
               structures = λ n s is. let built = steady.known.structures n s is in record { kind = built.kind; region = built.region; owner = built.owner };
-              mail = steady.known.mail;
-              reports = steady.known.reports;
+              posts = steady.known.posts;
             };
             next = steady.next;
             days = steady.days;

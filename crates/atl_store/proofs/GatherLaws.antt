@@ -35,12 +35,6 @@ pub shown_open : (sql : List ℕ) (old new : State) (rows : List Row) → Shown 
 unfolding Shown
 shown_open sql old new rows h = shows_open old new sql h.0 _ rows h.0.returning h.2
 
-same_kept : {A : Type 0} {a b : Option A} → ◌≡◌ {A = Result (Option A) LoadFault} (Ok a) (Ok b) → a ≡ b
-same_kept is = cc
-
-same_fault : {A : Type 0} {a b : LoadFault} → ◌≡◌ {A = Result A LoadFault} (Err a) (Err b) → a ≡ b
-same_fault is = cc
-
 not_store : read.Store ≢ read.OtherType
 not_store is = cc
 

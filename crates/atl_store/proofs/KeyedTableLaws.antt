@@ -14,7 +14,7 @@ use Rattle.sqlite_sql.specs.declared.ops.CompareOp.TheVariants.{Eq}
 use Rattle.sqlite_value.specs.Keys.{first_key}
 use Rattle.sqlite_schema.specs.declared.schema.Constraint.TheVariants.{Datatype, NotNull}
 use Rattle.sqlite_schema.specs.Rules.{passes}
-use Rattle.atl_store.specs.Tables.{Part, Goods, Books, Markets, has_table, has_unique, books_table, books_unique, market_table, market_unique, table_of}
+use Rattle.atl_store.specs.Tables.{Part, Goods, Books, Markets, has_table, has_unique, books_table, books_unique, market_table, market_unique, table_of, key_of}
 use Rattle.atl_store.specs.Shown.{int, has_key, has_row, books_key, books_row, market_row}
 use Rattle.atl_store.specs.Statements.{deletion, upsert}
 use Rattle.atl_store.proofs.KeyLaws.{int_by, cons_is}
@@ -36,10 +36,7 @@ part_of InHas = Goods
 part_of InBooks = Books
 part_of InMarket = Markets
 
--- of how many columns the key is, and how many there are
-abbrev key_count : Part → ℕ
-key_count part = length (table_of part).primary
-
+-- how many columns there are
 abbrev width_of : Part → ℕ
 width_of part = length (table_of part).columns
 
@@ -86,10 +83,10 @@ of_key count = map (λ at. op2 (Compare Eq Binary) (col 1 (at + 1)) (col 0 at)) 
 
 -- an INSERT with an update of what has the key, and the DELETEs of what has the key, and of what has its first number
 record Statements (part : Part) : Type 0 where
-  puts : IsPutUnder (table_of part).tree (place_in part) (table_of part).primary (upsert (table_of part) (key_count part)) (width_of part + 1) (given (width_of part)) (width_of part) (taken_over (key_count part) (width_of part))
-  puts_plain : AlwaysPlain (upsert (table_of part) (key_count part))
-  drops : IsTakeOut (table_of part).tree (place_in part) (deletion (table_of part) (key_count part)) (of_key (key_count part))
-  drops_plain : AlwaysPlain (deletion (table_of part) (key_count part))
+  puts : IsPutUnder (table_of part).tree (place_in part) (table_of part).primary (upsert (table_of part) (key_of part)) (width_of part + 1) (given (width_of part)) (width_of part) (taken_over (key_of part) (width_of part))
+  puts_plain : AlwaysPlain (upsert (table_of part) (key_of part))
+  drops : IsTakeOut (table_of part).tree (place_in part) (deletion (table_of part) (key_of part)) (of_key (key_of part))
+  drops_plain : AlwaysPlain (deletion (table_of part) (key_of part))
   clears : IsTakeOut (table_of part).tree (place_in part) (deletion (table_of part) 1) (of_key 1)
   clears_plain : AlwaysPlain (deletion (table_of part) 1)
 

@@ -53,9 +53,6 @@ module _ (table : Table) (key : ℕ) where
         record { does = towards_rows xs rest all old.now mid.now new.now was.does now.does; tables = now.tables; carries = carries_then old.now mid.now new.now was.carries now.carries },
   )
 
-  pub inside_one : (x : Row) (rest all : List Row) (old mid new : State) → Inside HasTables (Towards table key (x ∷ rest) all) old mid → Inside HasTables (Puts table key x) mid new → Inside HasTables (Towards table key rest all) old new
-  inside_one x rest all old mid new so_far more = inside_rows (x ∷ []) rest all old mid new so_far (more.0, λ has. let did = more.1 has in record { does = puts_one x mid.now new.now did.does; tables = did.tables; carries = did.carries })
-
   -- nothing is put yet
   pub none_yet : (rest all : List Row) → rest ≡ all → (s : State) → Inside HasTables (Towards table key rest all) s s
   none_yet rest all same s = (

@@ -69,13 +69,6 @@ pub record IsGiving {S : Type 0} (g : Ghosts S) (sql : List ℕ) (old : Held S) 
   pub given_so : HasCleanDisk (state g now) → HasGiven g sql [] now given × IsUnchanged (state g old) (state g now)
 
 module _ {S : Type 0} (g : Ghosts S) (sql : List ℕ) (old : Held S) where
-  pub giving_none : (now : Held S) → IsPlain (understood old.schema sql) → now.in_transaction ≡ false → (HasCleanDisk (state g now) → HasBegun g sql [] old now) → Survives (state g old) (state g now) (CommitsShowing sql [] (state g old)) → IsGiving g sql old [] now
-  giving_none now plain idle begun survives = record {
-    idle = idle;
-    survives = commits_nothing sql (state g old) (state g now) plain survives;
-    given_so = λ clean. begun_plain g sql [] old now plain (begun clean);
-  }
-
   module _ {A : Type 0} (forms : List Form) (shown : A → Row) where
     -- it did not begin
     pub not_begun : {Z : Type 0} (now : Held S) (e : Error) (r : Result (Option (Vec A Z)) ReadFault) → IsPlain (understood old.schema sql) → IsErrAnd r (λ fault. fault ≡ read_fault e) → (HasCleanDisk (state g now) → FailsToQuery sql [] (state g old) (state g now) e)

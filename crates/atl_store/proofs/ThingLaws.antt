@@ -43,7 +43,7 @@ module _ (sort : Sort) where
 
 -- ---- one thing
 
-same_sort : (a b : Sort) → sort_number a ≡ sort_number b → a ≡ b
+pub same_sort : (a b : Sort) → sort_number a ≡ sort_number b → a ≡ b
 same_sort Item Item same = refl
 same_sort Item Skill same = absurd (omega (arith, same))
 same_sort Skill Item same = absurd (omega (arith, same))

@@ -145,11 +145,6 @@ module _ {S : Type 0} (g : Ghosts S) where
       → Writes g own First (Ok x) a b → Writes g own Second {A = Z} (Err e) b c → HandsOn e r → Writes g own Does r a c
   stops_second {e = e} one two failed = stops (two_steps {Does = Any} {r = Err e} (λ old mid new first second. tt) one two) failed
 
-  -- it stops at its third step
-  pub stops_third : {own : Statements} {First Second Third Does : State → State → Type 0} {A X Y Z : Type 0} {x : X} {y : Y} {e : Error} {r : Result A Error} {a b c d : MutBor (Held S)}
-      → Writes g own First (Ok x) a b → Writes g own Second (Ok y) b c → Writes g own Third {A = Z} (Err e) c d → HandsOn e r → Writes g own Does r a d
-  stops_third {y = y} one two three failed = stops_second (two_steps {Does = Any} {r = Ok y} (λ old mid new first second. tt) one two) three failed
-
   -- it gives what its third step gives
   pub three_steps : {own : Statements} {First Second Third Does : State → State → Type 0} {A X Y : Type 0} {x : X} {y : Y} {r : Result A Error} {a b c d : MutBor (Held S)}
       → ((old one two new : State) → First old one → Second one two → Third two new → Does old new) → Writes g own First (Ok x) a b → Writes g own Second (Ok y) b c → Writes g own Third r c d → Writes g own Does r a d

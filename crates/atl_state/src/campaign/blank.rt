@@ -1,6 +1,6 @@
 //! A campaign of nothing.
 ghost use Rattle.std.specs.Prelude.{◌≡◌};
-ghost use Rattle.atl_state.specs.Blank.{blank};
+ghost use Rattle.atl_state.specs.Campaign.{blank};
 
 use super::Campaign;
 use crate::lists::UnitLists;

@@ -15,9 +15,7 @@ ghost use Rattle.atl_state.specs.Founding.{founded_of, founded_region};
 ghost use Rattle.atl_state.specs.Good.{IsGood};
 
 use super::Campaign;
-use crate::lists::UnitLists;
 use crate::totals::regions_total;
-use crate::units::Units;
 use atl_records::{Books, ENTRY_COUNT, Entry, FIRST_ITEM, Region, Thing};
 use atl_tables::{Marks, Numbered, RegionPlan, Text, Tracked, World};
 use std::alloc::{AllocError, Global};
@@ -73,22 +71,10 @@ pub fn founded(alloc: Global, world: &World, pass: &[u8]) -> Result<Campaign, Al
     let things = FIRST_ITEM + world.items().len();
     let books = founding_books(alloc, things, &regions)?;
     let amounts_marked = Marks::with_room(alloc, ENTRY_COUNT * things)?;
-    Ok(Campaign {
-        alloc,
-        month: 0,
-        pass,
-        next_faction: 1,
-        next_unit: 1,
-        next_structure: 1,
-        factions: Tracked::new(alloc),
-        regions,
-        units: Units::new(alloc),
-        structures: Tracked::new(alloc),
-        mail: Tracked::new(alloc),
-        reports: Tracked::new(alloc),
-        books,
-        amounts_marked,
-        row_marked: false,
-        lists: UnitLists::new(alloc),
-    })
+    let mut campaign = Campaign::blank(alloc);
+    campaign.pass = pass;
+    campaign.regions = regions;
+    campaign.books = books;
+    campaign.amounts_marked = amounts_marked;
+    Ok(campaign)
 }

@@ -5,7 +5,7 @@ ghost use Rattle.std.specs.FinMap as map;
 ghost use Rattle.atl_tables.specs.ByNumber.{market_of};
 ghost use Rattle.atl_records.specs.declared.records.Structure as builds;
 ghost use Rattle.atl_records.specs.Every.{EachOf, Every, IsThere};
-ghost use Rattle.atl_state.specs.Good.{IsPlaced, IsBuilt, AreKnown, AreOfMarkets};
+ghost use Rattle.atl_state.specs.Good.{IsPlaced, IsBuilt, ArePosted, AreKnown, AreOfMarkets};
 
 use crate::campaign::Campaign;
 use atl_records::{Holding, Region, Structure, Unit};
@@ -216,7 +216,7 @@ fn are_things_known(world: &World, campaign: &Campaign) -> bool
 
 /// Whether the factions of mail and reports are there.
 fn are_posts_known(campaign: &Campaign) -> bool
-    ensures { Decides result (Every (λ n text. IsThere campaign.now.value.factions n) campaign.now.value.mail × Every (λ n text. IsThere campaign.now.value.factions n) campaign.now.value.reports) }
+    ensures { Decides result (ArePosted campaign.now.value) }
 {
     are_mail_known(campaign) && are_reports_known(campaign)
 }

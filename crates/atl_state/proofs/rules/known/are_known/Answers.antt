@@ -6,6 +6,6 @@ returns-then-are_things_known c = (
   λ r.
       let things = c.are_things_known.ensures.0 (search rules) in
       let posts = c.are_posts_known.ensures.0 r in
-      record { regions = things.0.0; markets = things.0.1; units = things.1.0; structures = things.1.1; mail = posts.0; reports = posts.1 },
-  λ known. c.are_posts_known.ensures.1 (known.mail, known.reports),
+      record { regions = things.0.0; markets = things.0.1; units = things.1.0; structures = things.1.1; posts = posts },
+  λ known. c.are_posts_known.ensures.1 known.posts,
 )
