@@ -334,12 +334,12 @@ Exits: north 4, west 2.
     },
 ];
 
-static FAULTS: [FaultyLine; 1] = [FaultyLine {
+const FAULTS: [FaultyLine; 1] = [FaultyLine {
     line: 5,
     fault: LineFault::UnknownOrder,
 }];
 
-static EVENTS: [Event; 4] = [
+const EVENTS: [Event; 4] = [
     Event {
         faction: 1,
         unit: 1,

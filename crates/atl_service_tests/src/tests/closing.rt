@@ -31,7 +31,7 @@ Exits: none.
 ";
 
 /// The money is 2,502 (500 founded, 1,000 joined, 1,000 of income, 12 of wages, 10 spent on upkeep) and the people are 1,001.
-pub(crate) static AFTER_MONTH_ONE: [(&str, Option<i64>); 12] = [
+pub(crate) const AFTER_MONTH_ONE: [(&str, Option<i64>); 12] = [
     (MONTH, Some(1)),
     (NEXT, Some(200002)),
     (FACTIONS, Some(1)),
@@ -125,7 +125,7 @@ Unit 1, line 0, WORK: done 0.
 Unit 1: 1 starved.
 ";
 
-static STARVED: [Step; 6] = [
+const STARVED: [Step; 6] = [
     Step::Joined(AVALON, 1, 1),
     Step::Closed(MONTH_ONE, 1),
     Step::Told(Asked::Report(1, "pw"), AFTER_STARVING),

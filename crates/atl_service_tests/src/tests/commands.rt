@@ -83,7 +83,7 @@ fn the_second_land_region(rt: HostRuntime) -> Result<(), Fail> {
 }
 
 /// Commands of all kinds, good ones and refused ones.
-static CLUB: [Step; 12] = [
+const CLUB: [Step; 12] = [
     Step::Told(Asked::Join(" x", "pw", 0), "bad name"),
     Step::Told(Asked::Join("Avalon", "a b", 0), "bad pass text"),
     Step::Told(AVALON, "joined"),
@@ -102,7 +102,7 @@ static CLUB: [Step; 12] = [
 ];
 
 /// Once one faction has joined and sent its second mailing.
-static AFTER_CLUB: [(&str, Option<i64>); 8] = [
+const AFTER_CLUB: [(&str, Option<i64>); 8] = [
     (NEXT, Some(200002)),
     (FACTIONS, Some(1)),
     (UNITS, Some(1)),
@@ -146,7 +146,7 @@ fn at_once(rt: &impl Abort, alloc: Global, list: &AtOnce) -> Result<(), Fail> {
 }
 
 /// A month is closed; the same commands one by one stand with the closings.
-static A_MONTH: [Step; 4] = [
+const A_MONTH: [Step; 4] = [
     Step::Told(AVALON, "joined"),
     Step::Told(MONTH_ONE, "month done"),
     Step::Told(MONTH_ONE, "wrong month"),

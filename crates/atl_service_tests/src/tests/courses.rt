@@ -25,7 +25,7 @@ const SECOND_MAIL: Asked = Asked::Mail(
 
 const MONTH_TWO: Asked = Asked::Close(2, "gm", &[0]);
 
-static TWO_MONTHS: [Step; 5] = [
+const TWO_MONTHS: [Step; 5] = [
     Step::Joined(AVALON, 1, 1),
     Step::Mailed(FIRST_MAIL, 2, &[]),
     Step::Closed(MONTH_ONE, 1),
@@ -36,7 +36,7 @@ static TWO_MONTHS: [Step; 5] = [
 /// Of 1,000 money unit 1 has 1,002 after its first month, in which it works for 12 and pays 10. It pays 170, takes 10 in tax, works and
 /// pays 10 again, and gets the 100 of unit 2, which is swept: 944. Unit 3 recruits for 50, works and pays 10: 22. The region has 500, gets
 /// 1,000 and, of a peasant less, 999, and gives the tax. The people are 1,001.
-static AFTER_BOTH: [(&str, Option<i64>); 8] = [
+const AFTER_BOTH: [(&str, Option<i64>); 8] = [
     (MONTH, Some(2)),
     (NEXT, Some(200004)),
     (FACTIONS, Some(1)),
@@ -54,7 +54,7 @@ fn both_months_are_closed(rt: HostRuntime) -> Result<(), Fail> {
 
 const CORK: Asked = Asked::Join("Cork", "pc", 0);
 
-static MONTH_OF_TWO: [Step; 4] = [
+const MONTH_OF_TWO: [Step; 4] = [
     Step::Joined(CORK, 3, 12),
     Step::Mailed(Asked::Mail(1, "pw", OF_AVALON), 18, &[]),
     Step::Mailed(Asked::Mail(2, "pb", OF_BREE), 1, &[]),
@@ -65,7 +65,7 @@ static MONTH_OF_TWO: [Step; 4] = [
 /// take 30 in tax, pay 50 for a recruit and 40 for a study, and earn 48, 24, 250, 20 and 12; of 63 men all but the one who starves cost 10
 /// each, and for him 4 are paid. The regions have 650, give the tax and get a coin of each of 1,299 peasants. With 3 of 21 wood a boat is begun, and
 /// the 4 men who are taught get 240 days beside the 1,440 that were there. The people are 1,361.
-static AFTER_MONTH_OF_TWO: [(&str, Option<i64>); 12] = [
+const AFTER_MONTH_OF_TWO: [(&str, Option<i64>); 12] = [
     (MONTH, Some(1)),
     (NEXT, Some(400015)),
     (FACTIONS, Some(3)),
@@ -80,16 +80,9 @@ static AFTER_MONTH_OF_TWO: [(&str, Option<i64>); 12] = [
     (BOOKED, Some(4872)),
 ];
 
-const WITH_ROWS: Course = Course {
-    world: ISLE,
-    rows: ROWS,
-    steps: &MONTH_OF_TWO,
-    after: &AFTER_MONTH_OF_TWO,
-};
-
 #[test]
 fn a_month_of_two_factions_is_closed(rt: HostRuntime) -> Result<(), Fail> {
-    plays_course(&rt, rt.alloc(), &WITH_ROWS)
+    plays_course(&rt, rt.alloc(), &COURSES[1])
 }
 
 /// All courses.
@@ -100,5 +93,10 @@ pub(crate) static COURSES: [Course; 2] = [
         steps: &TWO_MONTHS,
         after: &AFTER_BOTH,
     },
-    WITH_ROWS,
+    Course {
+        world: ISLE,
+        rows: ROWS,
+        steps: &MONTH_OF_TWO,
+        after: &AFTER_MONTH_OF_TWO,
+    },
 ];

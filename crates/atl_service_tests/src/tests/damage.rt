@@ -53,7 +53,7 @@ fn is_told(rt: &impl Abort, told: Told, wanted: Told, sql: &str) {
 }
 
 /// Statements, and what opening is answered after them. Avalon and Bree have a unit each in region 3, on land.
-static ROWS: [(&str, Told); 23] = [
+const ROWS: [(&str, Told); 23] = [
     ("DELETE FROM mail", Told::Opens),
     ("CREATE TABLE notes (words TEXT)", Told::Opens),
     ("CREATE INDEX units_by_region ON unit (region)", Told::Opens),

@@ -40,9 +40,9 @@ const NUMBERS_ARE_FULL: &str = "UPDATE campaign SET next_unit = 1000000000";
 
 const BREE: Asked = Asked::Join("Bree", "pb", 0);
 
-static BREE_JOINS: [Step; 1] = [Step::Told(BREE, "joined")];
+const BREE_JOINS: [Step; 1] = [Step::Told(BREE, "joined")];
 
-static NOBODY_JOINS: [Step; 1] = [Step::Told(BREE, "full")];
+const NOBODY_JOINS: [Step; 1] = [Step::Told(BREE, "full")];
 
 /// A campaign that is filled by hand: what doubles its rows, up to which number, what makes it good again, a joining then, and
 /// what the tables hold behind it.

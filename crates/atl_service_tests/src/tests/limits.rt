@@ -6,15 +6,15 @@ use std::test::Fail;
 
 const LAST_IS_CLOSED: &str = "UPDATE campaign SET month = 9999";
 
-static NO_MONTH_MORE: [Step; 3] = [
+const NO_MONTH_MORE: [Step; 3] = [
     Step::Told(Asked::Close(9999, "gm", &[0]), "wrong month"),
     Step::Told(Asked::Close(10000, "gm", &[0]), "month limit"),
     Step::Told(Asked::Close(10000, "gm", &[]), "month limit"),
 ];
 
-static AFTER_LAST: [(&str, Option<i64>); 1] = [(MONTH, Some(9999))];
+const AFTER_LAST: [(&str, Option<i64>); 1] = [(MONTH, Some(9999))];
 
-const AT_ITS_END: Course = Course {
+static AT_ITS_END: Course = Course {
     world: SMALL,
     rows: LAST_IS_CLOSED,
     steps: &NO_MONTH_MORE,

@@ -28,31 +28,31 @@ pub(crate) struct Session {
 }
 
 /// The first faction joins and sends its orders.
-static AVALON_COMES: [Step; 3] = [
+const AVALON_COMES: [Step; 3] = [
     Step::Joined(AVALON, 1, 1),
     Step::Mailed(Asked::Mail(1, "pw", "#ATLANTIS 1\nUNIT 1\nWORK\n"), 1, &[]),
     Step::Told(Asked::Report(1, "pw"), FIRST_REPORT),
 ];
 
 /// The first faction is as it was, and the second joins.
-pub(crate) static BREE_COMES: [Step; 3] = [
+pub(crate) const BREE_COMES: [Step; 3] = [
     Step::Told(Asked::Report(1, "pw"), FIRST_REPORT),
     Step::Keeps(Some("#ATLANTIS 1\nUNIT 1\nWORK\n")),
     Step::Joined(Asked::Join("Bree", "pb", 0), 2, 2),
 ];
 
 /// Both are as they were.
-pub(crate) static BOTH_ARE_THERE: [Step; 3] = [
+pub(crate) const BOTH_ARE_THERE: [Step; 3] = [
     Step::Numbers(3, 3, 2),
     Step::Told(Asked::Report(1, "pw"), FIRST_REPORT),
     Step::Told(Asked::Report(2, "pb"), SECOND_REPORT),
 ];
 
 /// A faction joins, and its first month is closed.
-static A_MONTH: [Step; 2] = [Step::Joined(AVALON, 1, 1), Step::Closed(MONTH_ONE, 1)];
+const A_MONTH: [Step; 2] = [Step::Joined(AVALON, 1, 1), Step::Closed(MONTH_ONE, 1)];
 
 /// The closed month is as it was, and isn't closed again.
-static AFTER_A_MONTH: [Step; 4] = [
+const AFTER_A_MONTH: [Step; 4] = [
     Step::Month(1),
     Step::Told(MONTH_ONE, "wrong month"),
     Step::Told(Asked::Report(1, "pw"), AFTER_WORK),
@@ -259,7 +259,7 @@ CREATE INDEX notes_by_words ON notes (words);
 INSERT INTO notes (number, words) VALUES (7, 'pay the printer')";
 
 /// The number of the note that is there.
-pub(crate) static NOTED: [(&str, Option<i64>); 2] = [
+pub(crate) const NOTED: [(&str, Option<i64>); 2] = [
     ("SELECT count(*) FROM notes", Some(1)),
     (
         "SELECT number FROM notes WHERE words = 'pay the printer'",

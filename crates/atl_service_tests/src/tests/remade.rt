@@ -128,7 +128,7 @@ fn remade(alloc: Global) -> Result<Files<Memory>, Fail> {
 }
 
 /// The first faction is as it was.
-static AVALON_IS_THERE: [Step; 1] = [Step::Numbers(2, 2, 1)];
+const AVALON_IS_THERE: [Step; 1] = [Step::Numbers(2, 2, 1)];
 
 /// The campaign is opened, goes on, and is opened once more.
 static GOES_ON: [Session; 3] = [

@@ -111,7 +111,7 @@ fn is_upgraded(rt: &impl Abort, alloc: Global, story: &Story) -> Result<(), Fail
     goes_on(rt, alloc, conn, story, rows.as_str())
 }
 
-static FAR_JOINS: [Step; 1] = [Step::Joined(Asked::Join("Avalon", "pw", 1), 1, 1)];
+const FAR_JOINS: [Step; 1] = [Step::Joined(Asked::Join("Avalon", "pw", 1), 1, 1)];
 
 /// The unit stands in the third region, and the market is in the first one.
 const AFTER_BUYING: &str = "Atlantis report, month 1, faction 1 \"Avalon\".
@@ -126,7 +126,7 @@ Exits: north 4, west 2.
 const MONTH_ONE: Asked = Asked::Close(1, "gm", &[0, 0, 0, 0]);
 
 /// The report that was stored before is given still.
-static BUYS_NOTHING: [Step; 4] = [
+const BUYS_NOTHING: [Step; 4] = [
     Step::Told(Asked::Report(1, "pw"), FAR_REPORT),
     Step::Mailed(
         Asked::Mail(1, "pw", "#ATLANTIS 1\nUNIT 1\nBUY 1 wood\n"),
@@ -137,13 +137,13 @@ static BUYS_NOTHING: [Step; 4] = [
     Step::Told(Asked::Report(1, "pw"), AFTER_BUYING),
 ];
 
-static AFTER_NOTHING: [(&str, Option<i64>); 3] = [
+const AFTER_NOTHING: [(&str, Option<i64>); 3] = [
     (FORMAT, Some(2)),
     (STOCKED, Some(1)),
     (STOCK, Some(20)),
 ];
 
-const FAR_FROM_MARKET: Story = Story {
+static FAR_FROM_MARKET: Story = Story {
     before: &FAR_JOINS,
     by_hand: "",
     behind: &BUYS_NOTHING,
@@ -153,7 +153,7 @@ const FAR_FROM_MARKET: Story = Story {
 const SELLS: &str = "#ATLANTIS 1\nUNIT 1\nSELL 3 wood\n";
 
 /// The mail is kept from before the upgrade.
-static SENDS_EARLY: [Step; 2] = [
+const SENDS_EARLY: [Step; 2] = [
     Step::Joined(AVALON, 1, 1),
     Step::Mailed(Asked::Mail(1, "pw", SELLS), 1, &[]),
 ];
@@ -187,16 +187,16 @@ item \"wood\" total 24
 item \"cart\" total 0
 ";
 
-static SELLS_THREE: [Step; 4] = [
+const SELLS_THREE: [Step; 4] = [
     Step::Keeps(Some(SELLS)),
     Step::Closed(MONTH_ONE, 1),
     Step::Told(Asked::Report(1, "pw"), AFTER_SELLING),
     Step::Books(BOOKS_AFTER_SELLING),
 ];
 
-static AFTER_THREE: [(&str, Option<i64>); 2] = [(STOCKED, Some(1)), (STOCK, Some(23))];
+const AFTER_THREE: [(&str, Option<i64>); 2] = [(STOCKED, Some(1)), (STOCK, Some(23))];
 
-const WITH_EARLY_MAIL: Story = Story {
+static WITH_EARLY_MAIL: Story = Story {
     before: &SENDS_EARLY,
     by_hand: HAS_WOOD,
     behind: &SELLS_THREE,

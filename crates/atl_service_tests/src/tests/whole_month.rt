@@ -150,7 +150,7 @@ item \"wood\" total 23
 item \"cart\" total 0
 ";
 
-static MONTH_OF_ORDERS: [Step; 6] = [
+const MONTH_OF_ORDERS: [Step; 6] = [
     Step::Mailed(Asked::Mail(2, "pb", OF_BREE), 7, &[]),
     Step::Mailed(Asked::Mail(1, "pw", OF_AVALON), 16, &[]),
     Step::Closed(Asked::Close(1, "gm", &[0, 0, 0, 0]), 1),
@@ -159,14 +159,14 @@ static MONTH_OF_ORDERS: [Step; 6] = [
     Step::Books(BOOKED),
 ];
 
-static BEHIND: [(&str, Option<i64>); 4] = [
+const BEHIND: [(&str, Option<i64>); 4] = [
     (MONTH, Some(1)),
     (NEXT, Some(300012)),
     (UNITS, Some(11)),
     (MAILINGS, Some(0)),
 ];
 
-const MONTH_OF_TEN: Course = Course {
+static MONTH_OF_TEN: Course = Course {
     world: ISLE,
     rows: BEFORE,
     steps: &MONTH_OF_ORDERS,

@@ -22,7 +22,7 @@ struct Marked<'a> {
     skills: &'a [u32],
 }
 
-const NOTHING: Marked<'static> = Marked {
+static NOTHING: Marked<'static> = Marked {
     units: &[],
     rows: &[],
     goods: &[],
@@ -30,7 +30,7 @@ const NOTHING: Marked<'static> = Marked {
     skills: &[],
 };
 
-const ONE_SKILL: Marked<'static> = Marked {
+static ONE_SKILL: Marked<'static> = Marked {
     units: &[1],
     rows: &[],
     goods: &[],
@@ -38,7 +38,7 @@ const ONE_SKILL: Marked<'static> = Marked {
     skills: &[1, 3],
 };
 
-const TWO_ITEMS: Marked<'static> = Marked {
+static TWO_ITEMS: Marked<'static> = Marked {
     units: &[1],
     rows: &[],
     goods: &[],
@@ -46,7 +46,7 @@ const TWO_ITEMS: Marked<'static> = Marked {
     skills: &[],
 };
 
-const ONE_ITEM: Marked<'static> = Marked {
+static ONE_ITEM: Marked<'static> = Marked {
     units: &[1],
     rows: &[],
     goods: &[],
@@ -55,7 +55,7 @@ const ONE_ITEM: Marked<'static> = Marked {
 };
 
 /// All of a unit, and a skill and an item besides.
-const WHOLE: Marked<'static> = Marked {
+static WHOLE: Marked<'static> = Marked {
     units: &[1],
     rows: &[1],
     goods: &[1],
