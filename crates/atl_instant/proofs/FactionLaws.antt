@@ -69,7 +69,7 @@ module _ (c : CampaignValue) (n : ℕ) (x : Faction) (name : List ℕ) (is : get
     regions = old.regions;
     markets = old.markets;
     units = λ k u here. let p = old.units k u here in record { faction = there u.faction p.faction; region = p.region; structure = p.structure; items = p.items; skills = p.skills };
-    structures = λ k s here. let b = old.structures k s here in record { kind = b.kind; region = b.region; owner = b.owner };
+    structures = old.structures;
     posts = posted-there there old.posts;
   }
 
@@ -88,7 +88,7 @@ module _ (c : CampaignValue) (n : ℕ) (x : Faction) (name : List ℕ) (is : get
     next = next_kept old.next;
     days = old.days;
     gone = every-insert (λ k f. f.gone ≡ true → numbers_of k c.units ≡ []) c.factions n renamed (old.gone n x is) old.gone;
-    owners = λ k s here. let o = old.owners k s here in record { owned = o.owned; ownerless = o.ownerless };
+    owners = old.owners;
     water = record { units = old.water.units; structures = old.water.structures };
     guarded = old.guarded;
   }

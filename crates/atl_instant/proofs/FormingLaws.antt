@@ -103,7 +103,7 @@ module _ (w : WorldValue) (c : CampaignValue) (p : ℕ) (u : Unit) (is : get c.u
         markets = k.markets;
         units = every-insert (λ n x. IsPlaced w begun x) c.units c.next_unit child
             (let q = k.units p u is in record { faction = q.faction; region = q.region; structure = q.structure; items = every-empty (λ i amount. i < length w.items); skills = every-empty (λ s days. s < length w.skills) })
-            (λ n x there. let q = k.units n x there in record { faction = q.faction; region = q.region; structure = q.structure; items = q.items; skills = q.skills });
+            k.units;
         structures = λ n s there. let b = k.structures n s there in record { kind = b.kind; region = b.region; owner = λ owned. there-insert c.units c.next_unit s.owner child (b.owner owned) };
         posts = k.posts;
       }

@@ -79,7 +79,7 @@ module _ (w : WorldValue) (c : CampaignValue) (s : Structure) (fresh : IsFresh w
         let p = old.known.units k x there in
         record { faction = p.faction; region = p.region; structure = λ some. let (y, at, here) = p.structure some in (y, stays x.structure y at, here); items = p.items; skills = p.skills };
     structures = every-insert (λ k x. IsBuilt w raised x) c.structures next s (record { kind = fresh.kind; region = fresh.region; owner = λ some. nobody some })
-        (λ k y there. let b = old.known.structures k y there in record { kind = b.kind; region = b.region; owner = b.owner });
+        old.known.structures;
     posts = old.known.posts;
   }
 
@@ -105,7 +105,7 @@ module _ (w : WorldValue) (c : CampaignValue) (s : Structure) (fresh : IsFresh w
   owners_kept : AreOwned raised
   owners_kept =
       every-insert (λ k x. IsOwned raised k x) c.structures next s (record { owned = λ some. nobody some; ownerless = λ none. nobody_inside })
-      (λ k y there. let o = old.owners k y there in record { owned = o.owned; ownerless = o.ownerless })
+      old.owners
 
   water_kept : AreAfloat w raised
   water_kept = record {
@@ -199,7 +199,7 @@ module _ (w : WorldValue) (c : CampaignValue) (k : ℕ) (s : Structure) (done : 
           let p = was.known.units j x there in
           record { faction = p.faction; region = p.region; structure = λ some. still (λ y. y.region ≡ x.region) (λ here. here) x.structure (p.structure some); items = p.items; skills = p.skills };
       structures = every-insert (λ j x. IsBuilt w built x) c.structures k further (let b = was.known.structures k s is in record { kind = b.kind; region = b.region; owner = b.owner })
-          (λ j y there. let b = was.known.structures j y there in record { kind = b.kind; region = b.region; owner = b.owner });
+          was.known.structures;
       posts = was.known.posts;
     }
 
@@ -220,7 +220,7 @@ module _ (w : WorldValue) (c : CampaignValue) (k : ℕ) (s : Structure) (done : 
     owners_built : AreOwned built
     owners_built =
         every-insert (λ j x. IsOwned built j x) c.structures k further (let o = was.owners k s is in record { owned = o.owned; ownerless = o.ownerless })
-        (λ j y there. let o = was.owners j y there in record { owned = o.owned; ownerless = o.ownerless })
+        was.owners
 
     -- on water it was complete before
     complete : s.done ≡ size_of w s.kind → done ≡ size_of w s.kind

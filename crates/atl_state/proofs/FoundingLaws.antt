@@ -41,9 +41,9 @@ use Rattle.atl_state.proofs.AmountLaws.{none_weighed}
 use Rattle.atl_state.proofs.AmountMarkLaws.{none_marked}
 use Rattle.atl_records.proofs.BookLaws.{booked-with_booked, booked-no_amounts, amount-no_amounts, IsGrid-no_amounts, IsGrid-with_booked, IsWithin-with_booked, share_of}
 
--- what is kept beside nobody, for so many things
-pub AreKept-nobody : (things : ℕ) (lists : UnitLists) (books : List (List ℤ)) → AreUnitLists empty lists → IsGrid things books → AreKept empty lists books (record { numbers = set.empty; room = entry_count * things })
-AreKept-nobody things lists books listed grid = record {
+-- what is kept beside units, with books for so many things of which nothing is marked
+pub AreKept-unmarked : (things : ℕ) (units : FinMap nat_cmp Unit) (lists : UnitLists) (books : List (List ℤ)) → AreUnitLists units lists → IsGrid things books → AreKept units lists books (record { numbers = set.empty; room = entry_count * things })
+AreKept-unmarked things units lists books listed grid = record {
   listed = listed;
   amounts = none_marked (length books) (entry_count * things) (omega (arith, grid.rows));
 }

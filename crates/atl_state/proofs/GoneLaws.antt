@@ -73,7 +73,7 @@ module _ (c : CampaignValue) (n : ℕ) (x : Faction) (is : get c.factions n ≡ 
     regions = old.regions;
     markets = old.markets;
     units = λ k u here. let p = old.units k u here in record { faction = there u.faction p.faction; region = p.region; structure = p.structure; items = p.items; skills = p.skills };
-    structures = λ k s here. let b = old.structures k s here in record { kind = b.kind; region = b.region; owner = b.owner };
+    structures = old.structures;
     posts = posted-there there old.posts;
   }
 
@@ -92,7 +92,7 @@ module _ (c : CampaignValue) (n : ℕ) (x : Faction) (is : get c.factions n ≡ 
     next = next_kept old.next;
     days = old.days;
     gone = every-insert (λ k f. f.gone ≡ true → numbers_of k c.units ≡ []) c.factions n (as_gone x) (λ gone. none) old.gone;
-    owners = λ k s here. let o = old.owners k s here in record { owned = o.owned; ownerless = o.ownerless };
+    owners = old.owners;
     water = record { units = old.water.units; structures = old.water.structures };
     guarded = old.guarded;
   }

@@ -13,7 +13,7 @@ use Rattle.atl_records.specs.Limits.{last_month}
 use Rattle.atl_state.specs.Campaign.{CampaignValue, with_mail, with_report}
 use Rattle.atl_state.specs.Totals.{total}
 use Rattle.atl_records.specs.Every.{Every, IsThere}
-use Rattle.atl_state.specs.Good.{IsActive, AreInRange, AreNamed, IsPlaced, IsBuilt, AreOfFactions, AreKnown, AreOwned, IsSteady, IsEarly, IsSound, IsGood}
+use Rattle.atl_state.specs.Good.{IsActive, AreInRange, AreNamed, AreOfFactions, AreKnown, IsSteady, IsEarly, IsSound, IsGood}
 use Rattle.atl_state.specs.Joining.{joined, join_of, name_taken, is_full, new_faction}
 use Rattle.atl_records.proofs.EveryLaws.{every-empty, every-insert, there-new, there-insert}
 
@@ -53,18 +53,9 @@ module _ (w : WorldValue) (c : CampaignValue) (month : ℕ) (mail reports : FinM
   posted-names : AreNamed c → AreNamed posted
   posted-names old = record { pass = old.pass; factions = old.factions; joined = old.joined; units = old.units; structures = old.structures }
 
-  posted-placed : AreKnown w c → Every (λ n u. IsPlaced w posted u) c.units
-  posted-placed old n u is = let p = old.units n u is in record { faction = p.faction; region = p.region; structure = p.structure; items = p.items; skills = p.skills }
-
-  posted-built : AreKnown w c → Every (λ n s. IsBuilt w posted s) c.structures
-  posted-built old n s is = let b = old.structures n s is in record { kind = b.kind; region = b.region; owner = b.owner }
-
-  posted-owned : AreOwned c → AreOwned posted
-  posted-owned old n s is = let o = old n s is in record { owned = o.owned; ownerless = o.ownerless }
-
   module _ (early : month ≤ last_month) (posts : AreOfFactions c.factions mail reports) where
     posted-known : AreKnown w c → AreKnown w posted
-    posted-known old = record { regions = old.regions; markets = old.markets; units = posted-placed old; structures = posted-built old; posts = posts }
+    posted-known old = record { regions = old.regions; markets = old.markets; units = old.units; structures = old.structures; posts = posts }
 
     pub posted-steady : IsSteady w c → IsSteady w posted
     posted-steady old = record {
@@ -74,7 +65,7 @@ module _ (w : WorldValue) (c : CampaignValue) (month : ℕ) (mail reports : FinM
       next = record { factions = old.next.factions; structures = old.next.structures; units = old.next.units };
       days = old.days;
       gone = old.gone;
-      owners = posted-owned old.owners;
+      owners = old.owners;
       water = record { units = old.water.units; structures = old.water.structures };
       guarded = old.guarded;
     }
@@ -96,7 +87,7 @@ posted-sound w c mail reports posts sent old = record {
 pub IsSound-with_report : (w : WorldValue) (c : CampaignValue) (faction : ℕ) (text : List ℕ) → IsThere c.factions faction → IsSound w c → IsSound w (with_report c faction text)
 IsSound-with_report w c faction text there old =
     let posts = old.steady.known.posts in
-    posted-sound w c c.mail (insert c.reports faction text) (record posts { reports = every-insert (λ n text. IsThere c.factions n) c.reports faction text there posts.reports }) old.mail old
+    posted-sound w c c.mail (insert c.reports faction text) (record { mail = posts.mail; reports = every-insert (λ n text. IsThere c.factions n) c.reports faction text there posts.reports }) old.mail old
 
 pub IsGood-with_report : (w : WorldValue) (c : CampaignValue) (faction : ℕ) (text : List ℕ) → IsThere c.factions faction → IsGood w c → IsGood w (with_report c faction text)
 IsGood-with_report w c faction text there good = record {

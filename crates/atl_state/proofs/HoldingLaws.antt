@@ -91,7 +91,7 @@ module _ (w : WorldValue) (c : CampaignValue) (n : ℕ) (u : Unit) (h : Held) (i
     markets = old.markets;
     units = every-insert (λ k x. IsPlaced w supplied x) c.units n new_unit
         (let p = old.units n u is in record { faction = p.faction; region = p.region; structure = p.structure; items = items; skills = skills })
-        (λ k x there. let p = old.units k x there in record { faction = p.faction; region = p.region; structure = p.structure; items = p.items; skills = p.skills });
+        old.units;
     structures = λ k s there. let b = old.structures k s there in record { kind = b.kind; region = b.region; owner = λ owned. there-insert c.units n s.owner new_unit (b.owner owned) };
     posts = old.posts;
   }

@@ -67,7 +67,7 @@ module _ (w : WorldValue) (c : CampaignValue) (regions : FinMap nat_cmp Region) 
       next = record { factions = old.next.factions; structures = old.next.structures; units = old.next.units };
       days = old.days;
       gone = old.gone;
-      owners = λ n s is. let o = old.owners n s is in record { owned = o.owned; ownerless = o.ownerless };
+      owners = old.owners;
       water = record { units = old.water.units; structures = old.water.structures };
       guarded = old.guarded;
     }

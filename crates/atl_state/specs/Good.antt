@@ -76,26 +76,33 @@ pub record AreNamed (c : CampaignValue) : Type 0 where
 -- ---- of what is named by its number: all of it is there
 
 -- a unit's faction and region, its structure, which stands in the region, and what it holds and studied
-pub record IsPlaced (w : WorldValue) (c : CampaignValue) (u : Unit) : Type 0 where
-  pub faction : IsThere c.factions u.faction
-  pub region : IsThere c.regions u.region
-  pub structure : u.structure ≢ 0 → (s : Structure) × (get c.structures u.structure ≡ Some s) × (s.region ≡ u.region)
+pub record IsPlacedAmong (w : WorldValue) (factions : FinMap nat_cmp Faction) (regions : FinMap nat_cmp Region) (structures : FinMap nat_cmp Structure) (u : Unit) : Type 0 where
+  pub faction : IsThere factions u.faction
+  pub region : IsThere regions u.region
+  pub structure : u.structure ≢ 0 → (s : Structure) × (get structures u.structure ≡ Some s) × (s.region ≡ u.region)
   pub items : Every (λ i amount. i < length w.items) u.holding.items
   pub skills : Every (λ s days. s < length w.skills) u.holding.days
 
-pub record IsBuilt (w : WorldValue) (c : CampaignValue) (s : Structure) : Type 0 where
+abbrev pub IsPlaced : WorldValue → CampaignValue → Unit → Type 0
+IsPlaced w c u = IsPlacedAmong w c.factions c.regions c.structures u
+
+-- a structure's kind and region, and its owner
+pub record IsBuiltAmong (w : WorldValue) (regions : FinMap nat_cmp Region) (units : FinMap nat_cmp Unit) (s : Structure) : Type 0 where
   pub kind : s.kind < length w.kinds
-  pub region : IsThere c.regions s.region
-  pub owner : s.owner ≢ 0 → IsThere c.units s.owner
+  pub region : IsThere regions s.region
+  pub owner : s.owner ≢ 0 → IsThere units s.owner
+
+abbrev pub IsBuilt : WorldValue → CampaignValue → Structure → Type 0
+IsBuilt w c s = IsBuiltAmong w c.regions c.units s
 
 -- each of these stocks is of a market that the world has in the region of this number
 abbrev pub AreOfMarkets : WorldValue → ℕ → FinMap nat_cmp ℕ → Type 0
 AreOfMarkets w n stocks = Every (λ i amount. IsSome (market_of w n i)) stocks
 
 -- mail and reports are of factions that are there
-pub record AreOfFactions (factions : FinMap nat_cmp Faction) (mail reports : FinMap nat_cmp (List ℕ)) : Type 0 where
-  pub mail : Every (λ n text. IsThere factions n) mail
-  pub reports : Every (λ n text. IsThere factions n) reports
+pub record AreOfFactions (factions : FinMap nat_cmp Faction) (sent told : FinMap nat_cmp (List ℕ)) : Type 0 where
+  pub mail : Every (λ n text. IsThere factions n) sent
+  pub reports : Every (λ n text. IsThere factions n) told
 
 abbrev pub ArePosted : CampaignValue → Type 0
 ArePosted c = AreOfFactions c.factions c.mail c.reports
@@ -135,9 +142,12 @@ NoneAreGone c = Every (λ n f. numbers_of n c.units ≡ [] → f.gone ≡ true) 
 -- ---- of owners
 
 -- nobody owns a structure without units; else one of them does
-pub record IsOwned (c : CampaignValue) (n : ℕ) (s : Structure) : Type 0 where
-  pub owned : s.owner ≢ 0 → (u : Unit) × (get c.units s.owner ≡ Some u) × (u.structure ≡ n)
-  pub ownerless : s.owner ≡ 0 → Every (λ m u. u.structure ≢ n) c.units
+pub record IsOwnedAmong (units : FinMap nat_cmp Unit) (n : ℕ) (s : Structure) : Type 0 where
+  pub owned : s.owner ≢ 0 → (u : Unit) × (get units s.owner ≡ Some u) × (u.structure ≡ n)
+  pub ownerless : s.owner ≡ 0 → Every (λ m u. u.structure ≢ n) units
+
+abbrev pub IsOwned : CampaignValue → ℕ → Structure → Type 0
+IsOwned c n s = IsOwnedAmong c.units n s
 
 abbrev pub AreOwned : CampaignValue → Type 0
 AreOwned c = Every (λ n s. IsOwned c n s) c.structures

@@ -4,13 +4,13 @@ use Rattle.std.specs.declared.vec.Vec.{Vec}
 use Rattle.sqlite_trees.specs.declared.store.Store.{Ghosts}
 use Rattle.sqlite.specs.declared.error.Error.{Error}
 use Rattle.sqlite.specs.Effect.{Database}
-use Rattle.sqlite.specs.Given.{HasGiven, HasBegun, Advances, FailsToAdvance, IsPlain}
+use Rattle.sqlite.specs.Given.{HasGiven, Advances, FailsToAdvance, IsPlain}
 use Rattle.sqlite.specs.Held.{Held, state}
 use Rattle.sqlite.specs.Listing.{understood}
 use Rattle.sqlite.specs.Order.{Row}
 use Rattle.sqlite_rules.proofs.ListLemmas.{has_either}
 use Rattle.sqlite.specs.State.{State, HasCleanDisk, IsUnchanged, Survives, CommitsShowing, FailsToQuery}
-use Rattle.sqlite.proofs.Callers.{begun_plain, never_commits}
+use Rattle.sqlite.proofs.Callers.{never_commits}
 use Rattle.sqlite.proofs.StateLemmas.{survives_weaker}
 use Rattle.atl_store.specs.Faults.{read_fault}
 use Rattle.atl_store.specs.Reading.{AddsRow, IsAsked, ReadsRows, RefusesToSelect, Rests, Selects, Streams}
