@@ -50,7 +50,7 @@ struct Filled {
     more: Option<(&'static str, i64)>,
     then: &'static str,
     steps: &'static [Step],
-    rows: [(&'static str, Option<i64>); 3],
+    rows: &'static [(&'static str, Option<i64>)],
 }
 
 /// Avalon has 10,000 units, and 100,000; 9,998 more factions joined, and are gone; the last unit number was given.
@@ -59,7 +59,7 @@ static FILLED: [Filled; 4] = [
         more: Some((MORE_UNITS, 10_000)),
         then: MANY_ARE_BOOKED,
         steps: &BREE_JOINS,
-        rows: [
+        rows: &[
             (NEXT, Some(310002)),
             (FACTIONS, Some(2)),
             (UNITS, Some(10001)),
@@ -69,7 +69,7 @@ static FILLED: [Filled; 4] = [
         more: Some((MORE_UNITS, 100_000)),
         then: UNITS_ARE_FULL,
         steps: &NOBODY_JOINS,
-        rows: [
+        rows: &[
             (NEXT, Some(300001)),
             (FACTIONS, Some(1)),
             (UNITS, Some(100000)),
@@ -79,7 +79,7 @@ static FILLED: [Filled; 4] = [
         more: Some((MORE_FACTIONS, 9_999)),
         then: FACTIONS_ARE_FULL,
         steps: &NOBODY_JOINS,
-        rows: [
+        rows: &[
             (NEXT, Some(1000000002)),
             (FACTIONS, Some(9999)),
             (UNITS, Some(1)),
@@ -89,7 +89,7 @@ static FILLED: [Filled; 4] = [
         more: None,
         then: NUMBERS_ARE_FULL,
         steps: &NOBODY_JOINS,
-        rows: [
+        rows: &[
             (NEXT, Some(1000200000)),
             (FACTIONS, Some(1)),
             (UNITS, Some(1)),
@@ -131,7 +131,7 @@ fn answers(
 ) -> Result<(), Fail> {
     let mut service = opened(alloc, conn)?;
     let done = follow(rt, alloc, &mut service, filled.steps);
-    holds(rt, &mut service.end(), &filled.rows);
+    holds(rt, &mut service.end(), filled.rows);
     done
 }
 
