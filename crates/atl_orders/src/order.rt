@@ -59,9 +59,9 @@ pub enum Order<N = Span> {
     Pay { to: UnitRef, amount: u32 },
     /// So many men to a unit, with their days of study.
     Transfer { to: UnitRef, men: u32 },
-    /// So much of an item to the market of the region. Not in the order table yet.
+    /// Sells so much of an item to the market of the region.
     Sell { amount: u32, item: u16 },
-    /// So much of an item from the market of the region. Not in the order table yet.
+    /// Buys so much of an item from the market of the region.
     Buy { amount: u32, item: u16 },
     /// Takes tax from the region.
     Tax,
