@@ -1,8 +1,8 @@
 #!/usr/bin/env bash
 # Runs the program on worlds, mailings, databases and command lines, many of which it refuses, and compares standard output, standard
 # error and status with what docs/FORMATS.md says; then it upgrades old files (tests/upgrade.sh) and plays what the pages show
-# (tests/pages.sh). Called without arguments, it takes about a minute once the program is built, and ends with 'program: all as expected'. It wants sqlite3: without that the rows that look into
-# a database by it, or make one with it, are passed over, which is said at the end. The gate runs only the first report that crates/atl_gm stores.
+# (tests/pages.sh). Called without arguments, it ends with 'program: all as expected'. Without sqlite3 the rows that look into a database by
+# it, or make one with it, are passed over, which is said at the end.
 set -u
 here=$(cd "$(dirname "$0")/.." && pwd)
 . "$here/tests/checks.sh"
