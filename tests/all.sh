@@ -59,8 +59,11 @@ is_same_crowd() {
 }
 
 [ "${1:-}" = scripts ] || count_gate
+try start '' tests/start.sh
 try first_hour '' examples/first_hour.sh
-try program 'sqlite3 curl' tests/program.sh
+try program sqlite3 tests/program.sh
+try upgrade sqlite3 tests/upgrade.sh
+try pages 'sqlite3 curl' tests/pages.sh
 try http 'sqlite3 curl' tests/http.sh
 try club 'sqlite3 curl' tests/club.sh
 try plain python3 tests/plain.py crates/atl_phase_tests/data/*.txt

@@ -1,8 +1,7 @@
 #!/usr/bin/env bash
 # Runs the program on worlds, mailings, databases and command lines, many of which it refuses, and compares standard output, standard
-# error and status with what docs/FORMATS.md says; then it upgrades old files (tests/upgrade.sh) and plays what the pages show
-# (tests/pages.sh). Called without arguments, it ends with 'program: all as expected'. Without sqlite3 the rows that look into a database by
-# it, or make one with it, are passed over, which is said at the end.
+# error and status with what docs/FORMATS.md says. Called without arguments, it ends with 'program: all as expected'. Without sqlite3 the
+# rows that look into a database by it, or make one with it, are passed over, which is said at the end.
 set -u
 here=$(cd "$(dirname "$0")/.." && pwd)
 . "$here/tests/checks.sh"
@@ -402,11 +401,6 @@ for name in trial found join mail close report books serve upgrade; do
   check "help of $name in another place" 2 '' "$(cat "$work/told")" help "$name"
 done
 whole "$db"
-
-# What old files come to, and what the example and the pages show.
-"$here/tests/upgrade.sh" || failed=1
-"$here/examples/first_hour.sh" >"$out" 2>"$err" && [ ! -s "$err" ] || fail 'the first hour' "$(tail -n 3 "$out" "$err")"
-"$here/tests/pages.sh" || failed=1
 
 [ -n "$has_sqlite" ] || echo 'program: rows that want sqlite3 were passed over'
 [ "$failed" = 0 ] && echo 'program: all as expected'
