@@ -1,6 +1,6 @@
 #!/usr/bin/env bash
 # A club's first hour: a campaign is founded on an island, two players join, one sends orders, the first month is closed, and reports are read. It prints
-# each command and what the program answers, and works in a temporary folder. Called without arguments; the program is built first where it is not.
+# each command and what the program answers, and works in a temporary folder. Called without arguments; the program is built first where it isn't.
 set -eu
 here=$(cd "$(dirname "$0")/.." && pwd)
 club=$(mktemp -d)
@@ -21,7 +21,9 @@ gm() {
   "$here/gm" "$@"
 }
 
-tell 'The moderator founds the campaign, with a pass text of their own.'
+tell 'The moderator founds the campaign, with a pass text of their own. Pass texts are stored as they are, so nobody else may read the files.'
+printf '$ umask 077\n'
+umask 077
 gm found --world isle.toml --db club.db --pass moderator
 
 tell 'Two players join. The seed is the club'"'"'s: it says where each begins, and the closing of a month wants it too.'
@@ -59,11 +61,12 @@ tell 'Line 6 is no order, so it is mended and all is sent again. The last mailin
 sed -i 's/^GAURD 1$/GUARD 1/' avalon.txt
 gm mail --db club.db --faction 1 --pass apple --file avalon.txt
 
-tell 'The campaign is one file, which a copy keeps.'
-cp club.db backup.db
-gm report --db backup.db --faction 1 --pass apple
+tell 'The campaign is one file. A command of gm brings all into it, and then a copy keeps it.'
+printf '$ gm books --db club.db >/dev/null && cp club.db before-1.db\n'
+"$here/gm" books --db club.db >/dev/null && cp club.db before-1.db
+gm report --db before-1.db --faction 1 --pass apple
 
-tell 'The moderator closes the first month: all orders are carried out, and each faction gets a new report.'
+tell 'The moderator closes the first month: all orders are carried out, and each faction gets a new report. examples/close_month.sh does this with the copy.'
 gm close --db club.db --month 1 --pass moderator --seed 3
 
 tell 'The first player reads what came of the orders. The new unit is unit 3, whose four recruits earned what they need.'
