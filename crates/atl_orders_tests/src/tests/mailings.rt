@@ -109,7 +109,7 @@ static GOOD: [(&str, &str); 24] = [
 ];
 
 /// Orders that name things of the world.
-static NAMING: [(&str, &str); 5] = [
+static NAMING: [(&str, &str); 7] = [
     (
         "GIVE 2 5 LONG_BOW",
         "Give { to: Number(2), amount: 5, item: 1 }",
@@ -121,6 +121,8 @@ static NAMING: [(&str, &str); 5] = [
     ("STUDY Tree_Felling", "Study(1)"),
     ("PRODUCE wood", "Produce(0)"),
     ("BUILD Boat", "Build(Some(0))"),
+    ("SELL 4 wood", "Sell { amount: 4, item: 0 }"),
+    ("buy 2 LONG_BOW x", "Buy { amount: 2, item: 1 }"),
 ];
 
 /// Bad forms, with the first fault from left to right, up to those of PROMOTE.
@@ -151,7 +153,7 @@ static BAD_NAMES: [(&str, &str); 20] = [
 ];
 
 /// Those of GIVE to QUIT.
-static BAD_GOODS: [(&str, &str); 15] = [
+static BAD_GOODS: [(&str, &str); 23] = [
     ("GIVE", "5 MissingWord"),
     ("GIVE 2", "5 MissingWord"),
     ("GIVE 2 0 wood", "3 BadNumber"),
@@ -163,6 +165,14 @@ static BAD_GOODS: [(&str, &str); 15] = [
     ("PAY 2", "5 MissingWord"),
     ("TRANSFER +2 1", "3 BadNumber"),
     ("TRANSFER 2", "5 MissingWord"),
+    ("SELL", "5 MissingWord"),
+    ("SELL 0 wood", "3 BadNumber"),
+    ("SELL 1", "5 MissingWord"),
+    ("SELL 1 iron", "4 UnknownThing"),
+    ("BUY", "5 MissingWord"),
+    ("BUY 1000000000 iron", "3 BadNumber"),
+    ("BUY 1", "5 MissingWord"),
+    ("BUY 1 \"long_bow\"", "4 UnknownThing"),
     ("RECRUIT", "5 MissingWord"),
     ("RECRUIT 0", "3 BadNumber"),
     ("QUIT", "5 MissingWord"),
@@ -374,8 +384,8 @@ static WORDS: [(&str, &str); 3] = [
         "NAME Big Bob|NAME a _b|",
     ),
     (
-        "#ATLANTIS 1\nUNIT 7\nguard 1\nenter 4\nleave\ntax\nwork\npromote 12\ngive 2 5 long_bow\npay 12 100\ntransfer NEW 1 3\nrecruit 10\nquit 1\nstudy sailing\nproduce wood\nteach 4 5\nbuild boat\nmove north\nsail east\nform 1",
-        "GUARD|ENTER|LEAVE|TAX|WORK|PROMOTE|GIVE|PAY|TRANSFER|RECRUIT|QUIT|STUDY|PRODUCE|TEACH|BUILD|MOVE|SAIL|FORM|",
+        "#ATLANTIS 1\nUNIT 7\nguard 1\nenter 4\nleave\ntax\nwork\npromote 12\ngive 2 5 long_bow\npay 12 100\ntransfer NEW 1 3\nrecruit 10\nquit 1\nsell 4 wood\nbuy 2 wood\nstudy sailing\nproduce wood\nteach 4 5\nbuild boat\nmove north\nsail east\nform 1",
+        "GUARD|ENTER|LEAVE|TAX|WORK|PROMOTE|GIVE|PAY|TRANSFER|RECRUIT|QUIT|SELL|BUY|STUDY|PRODUCE|TEACH|BUILD|MOVE|SAIL|FORM|",
     ),
 ];
 
