@@ -115,8 +115,8 @@ fn quitting(rt: HostRuntime) -> Result<(), Fail> {
     plays(&rt, rt.alloc(), &QUITTING)
 }
 
-/// Refusals of the campaign, one of each status.
-static REFUSALS: [Case; 7] = [
+/// Refusals of joinings, reports, closings and mailings.
+static REFUSALS: [Case; 9] = [
     (
         "POST /join HTTP/1.1\r\nHost: x\r\nContent-Length: 24\r\n\r\n{\"name\":\" x\",\"pass\":\"p\"}",
         "HTTP/1.1 400 Bad Request\r\nContent-Type: application/json\r\nContent-Length: 30\r\nConnection: close\r\n\r\n{\"error\":\"BadName\",\"number\":1}",
@@ -141,6 +141,14 @@ static REFUSALS: [Case; 7] = [
     (
         "POST /orders/1 HTTP/1.1\r\nHost: x\r\nAtlantis-Pass: pw\r\nContent-Length: 5\r\n\r\nhello",
         "HTTP/1.1 400 Bad Request\r\nContent-Type: application/json\r\nContent-Length: 31\r\nConnection: close\r\n\r\n{\"error\":\"NoHeader\",\"number\":9}",
+    ),
+    (
+        "POST /orders/1 HTTP/1.1\r\nHost: x\r\nAtlantis-Pass: pw\r\nContent-Length: 11\r\n\r\n#ATLANTIS x",
+        "HTTP/1.1 400 Bad Request\r\nContent-Type: application/json\r\nContent-Length: 33\r\nConnection: close\r\n\r\n{\"error\":\"BadHeader\",\"number\":10}",
+    ),
+    (
+        "POST /orders/1 HTTP/1.1\r\nHost: x\r\nAtlantis-Pass: pw\r\nContent-Length: 11\r\n\r\n#ATLANTIS 2",
+        "HTTP/1.1 409 Conflict\r\nContent-Type: application/json\r\nContent-Length: 36\r\nConnection: close\r\n\r\n{\"error\":\"WrongFaction\",\"number\":11}",
     ),
 ];
 
