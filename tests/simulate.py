@@ -94,6 +94,7 @@ def expected(seed, player):
         return
     if player.starved or not player.report.units:
         yield f"{who}: {player.starved} starved"
+        return
     for end in range(HALF, len(player.money), HALF):
         gain = player.money[end] - player.money[end - HALF]
         most = HALF * MOST_OF_A_REGION * max(player.held[end - HALF : end + 1])
