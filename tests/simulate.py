@@ -3,7 +3,7 @@
 
 tests/simulate.py [--seeds N]
 
-It plays the seeds 1 to N (2 by default), and prints what became of the players, what each kind of work brought, and the
+It plays the seeds 1 to N (2 by default, and at least), and prints what became of the players, what each kind of work brought, and the
 books. It ends with 'simulate: as expected' and status 0, or with what differs and status 1."""
 import argparse, os, statistics, sys, tempfile
 from collections import defaultdict
@@ -13,11 +13,11 @@ sys.dont_write_bytecode = True
 
 from simulated import players
 from simulated.club import ROOT, Club
-from simulated.ledger import Ledger
+from simulated.ledger import ROLES, Ledger
 from simulated.report import Report
 from simulated.world import World, complaints
 
-SORTS = ("taxer", "settler", "maker", "trader", "worker", "careless", "haggler")
+KINDS = ("taxer", "settler", "maker", "trader", "worker", "careless", "haggler")
 # the players of the first campaign, the second and the third; the fourth has those of the first again, and so on
 CLUBS = (
     ("taxer", "maker", "trader", "careless", "settler", "worker"),
@@ -35,14 +35,14 @@ GONE_BY = 6
 class Player:
     """A faction, the function that writes its mailings, and what it had after each month."""
 
-    def __init__(self, sort, faction, first):
-        self.sort, self.faction, self.report = sort, faction, first
+    def __init__(self, kind, faction, first):
+        self.kind, self.faction, self.report = kind, faction, first
         self.men, self.money, self.held = [first.men], [first.money], [len(first.regions)]
         self.start, self.starved, self.faulty = first.units[0].region, 0, []
 
     @property
     def careful(self):
-        return self.sort not in ("careless", "haggler")
+        return self.kind not in ("careless", "haggler")
 
     def close(self, report):
         self.report = report
@@ -60,15 +60,15 @@ def campaign(seed, world, path):
 def play(club, seed, world):
     """Plays a campaign, and returns its players, what each kind of work brought, and the books."""
     ledger = Ledger(world)
-    club_of = CLUBS[(seed - 1) % len(CLUBS)]
-    sorts = [club_of[(place - seed) % len(club_of)] for place in range(len(club_of))]
-    joined = [(sort, club.join(sort.capitalize())) for sort in sorts]
-    all_players = [Player(sort, faction, Report(club.report(faction))) for sort, faction in joined]
+    group = CLUBS[(seed - 1) % len(CLUBS)]
+    kinds = [group[(place - seed) % len(group)] for place in range(len(group))]
+    joined = [(kind, club.join(kind.capitalize())) for kind in kinds]
+    all_players = [Player(kind, faction, Report(club.report(faction))) for kind, faction in joined]
     for month in range(1, MONTHS + 1):
         texts = {}
         for player in all_players:
             if player.report.units:
-                texts[player] = getattr(players, player.sort)(player.report, world)
+                texts[player] = getattr(players, player.kind)(player.report, world)
                 player.faulty += club.mail(player.faction, texts[player])
         club.close(month)
         for player, text in texts.items():
@@ -85,10 +85,10 @@ def play(club, seed, world):
 
 def expected(seed, player):
     """What differs from what is expected of a player."""
-    who = f"seed {seed}, {player.sort}"
+    who = f"seed {seed}, {player.kind}"
     for line in player.faulty:
         yield f"{who}: a faulty line in a mailing, {line}"
-    if player.sort == "careless" and (player.report.units or player.report.month > GONE_BY):
+    if player.kind == "careless" and (player.report.units or player.report.month > GONE_BY):
         yield f"{who}: still there after month {GONE_BY}"
     if not player.careful:
         return
@@ -108,6 +108,8 @@ def pays(ledger, world):
     """Each kind of work must pay for a person, but haggling must cost money."""
     if ledger.money["haggling"] > 0:
         yield "haggling: the markets give money away"
+    for work in {"work", "tax", *ROLES.values()}.difference(ledger.months):
+        yield f"{work}: nobody did it"
     for work, months in ledger.months.items():
         if work != "haggling" and ledger.money[work] <= months * world.rules["maintenance"]:
             yield f"{work}: {ledger.money[work]} money in {months} months of a person, who costs more"
@@ -131,11 +133,11 @@ def table(rows):
 def print_players(played):
     ends = range(HALF, MONTHS + 1, HALF)
     rows = [["player", "", *(f"month {month}" for month in ends)]]
-    for sort in SORTS:
-        mine = [player for all_players, _, _ in played for player in all_players if player.sort == sort]
+    for kind in KINDS:
+        mine = [player for all_players, _, _ in played for player in all_players if player.kind == kind]
         for what in ("men", "money"):
             after = lambda player, month: (getattr(player, what) + [0] * MONTHS)[month]
-            rows.append([sort, what, *(spread([after(player, month) for player in mine]) for month in ends)])
+            rows.append([kind, what, *(spread([after(player, month) for player in mine]) for month in ends)])
     table(rows)
 
 
@@ -167,6 +169,8 @@ def main():
     parser = argparse.ArgumentParser(description=__doc__, formatter_class=argparse.RawDescriptionHelpFormatter)
     parser.add_argument("--seeds", type=int, default=2, metavar="N")
     seeds = parser.parse_args().seeds
+    if seeds < 2:
+        parser.error("not all kinds of work are done in one campaign")
     path = os.path.join(ROOT, "worlds", "coast.toml")
     world = World(path)
     sum_of_all, differs = Ledger(world), complaints(world)
