@@ -3,8 +3,8 @@
 
 tests/simulate.py [--seeds N]
 
-It plays the seeds 1 to N (2 by default, and at least), and prints what became of the players, what each kind of work brought, and the
-books. It ends with 'simulate: as expected' and status 0, or with what differs and status 1."""
+It plays the seeds 1 to N (2 by default, and at least), and prints what became of the players, what each kind of work
+brought, and the books. It ends with 'simulate: as expected' and status 0, or with what differs and status 1."""
 import argparse, os, statistics, sys, tempfile
 from collections import defaultdict
 from concurrent.futures import ThreadPoolExecutor
@@ -108,7 +108,7 @@ def pays(ledger, world):
     """Each kind of work must pay for a person, but haggling must cost money."""
     if ledger.money["haggling"] > 0:
         yield "haggling: the markets give money away"
-    for work in {"work", "tax", *ROLES.values()}.difference(ledger.months):
+    for work in sorted({"work", "tax", *ROLES.values()}.difference(ledger.months)):
         yield f"{work}: nobody did it"
     for work, months in ledger.months.items():
         if work != "haggling" and ledger.money[work] <= months * world.rules["maintenance"]:
