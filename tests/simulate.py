@@ -149,7 +149,8 @@ def print_starts(played):
 
 
 def print_work(ledger):
-    rows = [["work", "months of a person", "money for each"]]
+    cost = ledger.world.rules["maintenance"]
+    rows = [["work", "months of a person", f"money for each, at a cost of {cost}"]]
     for work in sorted(ledger.months):
         rows.append([work, str(ledger.months[work]), f"{ledger.money[work] / max(1, ledger.months[work]):.1f}"])
     table(rows)
