@@ -11,11 +11,11 @@ def letter(report, orders):
     return "\n".join([*lines, "#END", ""])
 
 
-def spare(unit, world, more=0):
+def spare(unit, world):
     """How many recruits a careful player hires: the upkeep of some months stays in the purse."""
     rules = world.rules
     kept = RESERVE_MONTHS * rules["maintenance"]
-    return max(0, (unit.money - more - unit.men * kept) // (rules["recruit_price"] + kept))
+    return max(0, (unit.money - unit.men * kept) // (rules["recruit_price"] + kept))
 
 
 def hire(number):
