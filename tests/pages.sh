@@ -1,18 +1,22 @@
 #!/usr/bin/env bash
-# Plays what docs/PLAYER.md, docs/MODERATOR.md and README.md show, each page from its top to its end in a folder of its own with the worlds in
-# it, and compares what the program prints with what the page says. Called without arguments, by tests/program.sh too; it ends with
-# 'pages: all as printed'. A block between fences is played where these words are behind its first fence, and passed over where others are:
+# Plays what docs/PLAYER.md, docs/MODERATOR.md and README.md show, and compares what the program prints with what the
+# page says. Each page is played from its top to its end, in a folder of its own with the worlds and the examples in
+# it. Called without arguments, by tests/program.sh too; it ends with 'pages: all as printed'. A block between fences
+# is played if its first fence has one of these words, and passed over if it has another or none:
+#   campaign W SEED  a new campaign begins, with the world file W and this seed; the block is the answer
 #   join NAME PASS   a faction joins, whose pass text is PASS; the block is the answer
 #   mailing F        the block is mailed for faction F
 #   answer F         the block is the answer to the mailing that was sent last
 #   month N          month N is closed; the block is the answer
 #   report F         the block is the report of faction F
 #   file NAME        the block is the file of that name
-#   console          a line with '$ ' before it is a command, which a backslash at its end carries on in the next line; then comes what it prints
+#   console          a line that begins with '$ ' is a command, which a backslash at its end carries on in the next
+#                    line; the lines after it are what it prints
 #   console http     the same, with curl over port 8080, in the place of which another port is taken
 #   console sqlite3  the same, with sqlite3
-# The seed is 3 and the moderator's pass text 'moderator'. The campaign of PLAYER.md is founded beforehand, and so is that of README.md, where
-# Avalon has joined and month 1 is closed before the report. Where curl or sqlite3 isn't there, a page is played up to where it wants it.
+# The moderator's pass text is 'moderator'. PLAYER.md and README.md begin with a campaign of worlds/isle.toml and the
+# seed 3. In that of README.md Avalon has joined, and month 1 is closed before the report. Without curl or sqlite3 a
+# page is played up to the block that needs it.
 set -u
 here=$(cd "$(dirname "$0")/.." && pwd)
 work=$(mktemp -d)
@@ -21,13 +25,16 @@ port=$((20000 + RANDOM % 20000))
 block=$work/block printed=$work/printed answer=$work/answer
 failed=0
 
-# command_of NAME WORD..: makes a command of this name for the pages, which is these words with more behind them
+# command_of NAME WORD..: makes a command of this name for the pages, which is these words with more after them
 command_of() {
   mkdir -p "$work/bin"
   printf '#!/bin/sh\nexec %s "$@"\n' "$(printf '%q ' "${@:2}")" >"$work/bin/$1"
   chmod +x "$work/bin/$1"
 }
 command_of gm "$here/gm"
+for script in "$here"/examples/*.sh; do
+  command_of "${script##*/}" "$script"
+done
 command_of curl "$(command -v curl)" -s --retry 20 --retry-connrefused --retry-delay 1
 has_curl=$(command -v curl) has_sqlite3=$(command -v sqlite3)
 PATH=$work/bin:$PATH
@@ -48,8 +55,14 @@ run() {
   gm "$1" --db club.db "${@:2}" >"$printed" 2>&1 || stop "status $? and $(cat "$printed")"
 }
 
+campaign() {
+  rm -f club.db*
+  run found --world "$1" --pass moderator
+  seed=$2 passes=(none)
+}
+
 join() {
-  run join --name "$1" --pass "$2" --seed 3
+  run join --name "$1" --pass "$2" --seed "$seed"
   passes+=("$2")
 }
 
@@ -60,7 +73,7 @@ mailing() {
 }
 
 month() {
-  run close --month "$1" --pass moderator --seed 3
+  run close --month "$1" --pass moderator --seed "$seed"
 }
 
 # status_before: the status of the command of the session that was run last, so that the next one finds it as $?
@@ -101,10 +114,11 @@ pass_over() {
   exit 0
 }
 
-# play WORD..: the block, by the words behind its first fence
+# play WORD..: the block, by the words of its first fence
 play() {
   played=$((played + 1))
   case ${1:-} in
+    campaign) campaign "$2" "$3" && same "$printed" ;;
     join) join "$2" "$3" && same "$printed" ;;
     mailing) mailing "$2" ;;
     answer) same "$answer" ;;
@@ -122,15 +136,15 @@ play() {
 # prepare: what was done before the page begins
 prepare() {
   case $page in
-    README.md | docs/PLAYER.md) run found --world worlds/isle.toml --pass moderator ;;
+    README.md | docs/PLAYER.md) campaign worlds/isle.toml 3 ;;
   esac
   [ "$page" != README.md ] || join Avalon apple
 }
 
 # play_page PAGE: each of its blocks, in a folder of its own
 play_page() {
-  local page=$1 begin=0 inside= line number=0 played=0 passes=(none)
-  mkdir "$work/folder" && cd "$work/folder" && cp -r "$here/worlds" .
+  local page=$1 begin=0 inside= line number=0 played=0 seed passes
+  mkdir "$work/folder" && cd "$work/folder" && cp -r "$here/worlds" "$here/examples" .
   prepare
   while IFS= read -r line <&4; do
     number=$((number + 1))
