@@ -297,6 +297,18 @@ CREATE UNIQUE INDEX numbers ON unit (number)
 CREATE TABLE note (unit REFERENCES unit (number))
 PRAGMA auto_vacuum = 1; VACUUM
 PRAGMA auto_vacuum = 2; VACUUM
+CREATE INDEX rich ON unit (money) WHERE money > 9
+CREATE TABLE note (number INTEGER); CREATE INDEX next ON note (number + 1)
+END
+  while read -r statements; do
+    cp "$db" "$work/hidden.db"
+    sqlite3 "$work/hidden.db" "$statements" >"$out"
+    refused "a report after $statements" "$work/hidden.db" 'fault: NotACampaign' report --db "$work/hidden.db" --faction 1 --pass pw
+    refused "a founding after $statements" "$work/hidden.db" 'fault: Store' found --world "$small" --db "$work/hidden.db" --pass gm
+  done <<'END'
+CREATE TRIGGER closed AFTER UPDATE ON campaign BEGIN SELECT 1; END
+CREATE INDEX later ON campaign (month) WHERE month > 0
+CREATE INDEX next ON campaign (month + 1)
 END
   while read -r statements; do
     cp "$db" "$work/like.db"
