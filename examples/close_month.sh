@@ -80,7 +80,7 @@ finish() {
   echo "months/$1 has the reports to send, and before-$1.db is the copy to go back to"
 }
 
-# leave: what is done at the end of the script, however it ends
+# leave: takes an unfinished folder away at the end of the script, or says that it is there
 leave() {
   [ -e "$part" ] || return 0
   if [ -n "$closing" ]; then
