@@ -1,0 +1,283 @@
+// The part that edits and sends the month's mailing.
+
+import { byId, busy, button, el, say } from './dom.js';
+import { accepted, ask, jsonOf, refusalOf, unreadable } from './ask.js';
+import { currentFaction, signedIn } from './signin.js';
+import { counted, lineFaultWords, ORDERS, refusalWords } from './words.js';
+import { badLines, byteLength, emptyMailing, MOST_BYTES, plainSigns, readMailing, splitLines, template } from './mailing.js';
+import { draftOf, forgetDraft, keepDraft, keepMailings, latestMonth, mailingsOf, reportOf } from './store.js';
+import { clearFaults, faultyLines, faultyText, jumpTo, setFaults, setText, text, watchText } from './editor.js';
+import { parseReport } from './report.js';
+
+const MOST_MAILINGS = 30;
+const NEAR = 60000;
+const KEPT = ' Your text is kept in this browser as a draft.';
+
+let before = null;
+const made = { source: null, text: null };
+
+export function lastMailing(faction) {
+  return mailingsOf(faction).pop() || null;
+}
+
+// Whether a mailing may still count for the month to come.
+function isPending(faction, mailing) {
+  const latest = latestMonth(faction);
+  return mailing.month === undefined && (mailing.after === null || latest === null || mailing.after >= latest);
+}
+
+function latestTemplate(faction) {
+  const month = latestMonth(faction);
+  const source = month === null ? null : reportOf(faction, month);
+  if (source !== made.source) Object.assign(made, { source, text: source === null ? null : template(parseReport(source)) });
+  return made.text;
+}
+
+function startText(faction) {
+  return draftOf(faction) ?? pendingText(faction) ?? latestTemplate(faction) ?? emptyMailing(faction);
+}
+
+function pendingText(faction) {
+  const last = lastMailing(faction);
+  return last && isPending(faction, last) ? last.text : null;
+}
+
+// Whether the text of the editor was written by the player and isn't kept elsewhere.
+function isDraft(faction, written) {
+  const known = [emptyMailing(faction), latestTemplate(faction), pendingText(faction)];
+  return written.trim() !== '' && !known.includes(written);
+}
+
+function saveDraft() {
+  const faction = currentFaction();
+  if (faction === null) return true;
+  if (isDraft(faction, text())) return keepDraft(faction, text());
+  forgetDraft(faction);
+  return true;
+}
+
+function edited() {
+  const kept = saveDraft();
+  showState(kept);
+  showNotes();
+  showFaults();
+}
+
+// ---- what is known of the text before it is sent
+
+function showNotes() {
+  const written = text();
+  const bytes = byteLength(written);
+  byId('orders-count').textContent = bytes >= NEAR
+    ? `${bytes.toLocaleString('en')} of ${MOST_BYTES.toLocaleString('en')} bytes` : '';
+  byId('orders-count').classList.toggle('bad', bytes > MOST_BYTES);
+  byId('orders-notes').replaceChildren(...[headerNote(written), signsNote(written)].filter((note) => note !== null));
+}
+
+function headerNote(written) {
+  const faction = currentFaction();
+  const { faction: named, lines } = readMailing(written);
+  if (faction === null || written.trim() === '') return null;
+  if (!lines.some((entry) => entry.kind === 'header')) return missingHeader(faction);
+  if (named === faction) return null;
+  return el('p', { class: 'note warn' }, `The line #ATLANTIS names another faction than ${faction}.`);
+}
+
+function missingHeader(faction) {
+  const add = button(`Put #ATLANTIS ${faction} at the top`, () => replaceText(emptyMailing(faction) + text()));
+  return el('p', { class: 'note warn' }, `No line begins with #ATLANTIS. `, add);
+}
+
+function signsNote(written) {
+  const bad = badLines(written);
+  if (bad.length === 0) return null;
+  const items = bad.slice(0, 20).map(({ line, signs }) => el('li', {}, lineButton(line), `: BadByte: ${signs.map(signName).join(', ')}`));
+  const note = el('div', { class: 'note warn' }, el('p', {}, 'Letters and signs that orders can not have:'), el('ul', {}, ...items));
+  if (bad.length > 20) note.append(el('p', {}, `.. and ${bad.length - 20} more lines.`));
+  if (plainSigns(written) !== written) note.append(button('Replace quotes, dashes and spaces by plain ones', () => replaceText(plainSigns(text()))));
+  return note;
+}
+
+function signName(sign) {
+  const code = sign.codePointAt(0).toString(16).toUpperCase().padStart(4, '0');
+  return /[\p{L}\p{N}\p{P}\p{S}]/u.test(sign) ? sign : `U+${code}`;
+}
+
+function replaceText(fresh) {
+  before = text();
+  setText(fresh);
+  byId('orders-undo').hidden = false;
+  edited();
+  byId('orders-text').focus();
+}
+
+function undo() {
+  const back = before;
+  before = text();
+  setText(back);
+  edited();
+}
+
+// ---- faulty lines
+
+function lineButton(line) {
+  return button(`line ${line}`, () => jumpTo(line), { class: 'link' });
+}
+
+function showFaults() {
+  byId('orders-faults').replaceChildren(...faultyLines().map(({ line, number, changed }) => {
+    const item = el('li', { 'data-line': line }, lineButton(line), `: ${lineFaultWords(number)} `);
+    if (changed) item.append(el('em', {}, '(changed after it was sent)'));
+    else item.append(el('code', {}, faultyText(line).trim()));
+    return item;
+  }));
+}
+
+// ---- what was accepted last
+
+function timeWords(at) {
+  return new Date(at).toLocaleString('en-GB', { dateStyle: 'medium', timeStyle: 'short' });
+}
+
+export function acceptedWords(mailing) {
+  const counts = `${counted(mailing.orders, 'order')}, ${counted(mailing.faults.length, 'fault')}`;
+  return `Accepted at ${timeWords(mailing.at)}: ${counts}`;
+}
+
+function showAccepted() {
+  const faction = currentFaction();
+  const last = faction === null ? null : lastMailing(faction);
+  byId('orders-last').hidden = last === null;
+  byId('orders-last-text').textContent = last ? last.text : '';
+  byId('orders-accepted').textContent = last ? acceptedLast(faction, last) : 'This browser has sent no orders for this faction yet.';
+}
+
+function acceptedLast(faction, last) {
+  if (last.month !== undefined) return `${acceptedWords(last)}, for month ${last.month}. That month is closed.`;
+  if (!isPending(faction, last)) return `${acceptedWords(last)}. A month was closed after that.`;
+  return `${acceptedWords(last)}. The last mailing that is accepted counts, as a whole.`;
+}
+
+function showState(kept = true) {
+  const faction = currentFaction();
+  const draft = faction !== null && isDraft(faction, text());
+  byId('orders-state').textContent = !draft ? '' : kept ? 'Draft, kept in this browser. It is not sent yet.'
+    : 'Draft, not sent yet. This browser can not keep it: do not close the page.';
+}
+
+// ---- sending
+
+function ordersIn(reply) {
+  const value = jsonOf(reply);
+  const pair = (fault) => Array.isArray(fault) && fault.length === 2 && fault.every(Number.isInteger);
+  return value && Number.isInteger(value.orders) && Array.isArray(value.faults) && value.faults.every(pair) ? value : null;
+}
+
+async function send() {
+  const sign = signedIn();
+  if (sign.fault) return refuse(sign.fault);
+  const written = text();
+  if (byteLength(written) > MOST_BYTES) return refuse(refusalWords('TooLong'));
+  saveDraft();
+  clearFaults();
+  showFaults();
+  say(byId('orders-answer'), 'plain', 'Sending ..');
+  const reply = await ask(`/orders/${sign.faction}`, { method: 'POST', pass: sign.pass, body: new TextEncoder().encode(written) });
+  return judge(sign.faction, written, reply);
+}
+
+function judge(faction, written, reply) {
+  if (reply.lost || !accepted(reply)) return refuse(refusalOf(reply) + (perhapsTaken(reply) ? ' It may have been taken: send it again, the last one counts.' : ''));
+  const answer = ordersIn(reply);
+  if (!answer) return refuse(`${unreadable(reply)} The mailing may have been taken: send it again, the last one counts.`);
+  return take(faction, written, answer);
+}
+
+function perhapsTaken(reply) {
+  return reply.lost === 'Timeout' || reply.lost === 'CutOff' || reply.status === 504;
+}
+
+function refuse(words) {
+  const faction = currentFaction();
+  const kept = faction !== null && text().trim() !== '' && keepDraft(faction, text());
+  say(byId('orders-answer'), 'bad', words + (kept ? KEPT : ''));
+}
+
+function take(faction, written, answer) {
+  const mailing = { text: written, at: Date.now(), orders: answer.orders, faults: answer.faults, after: latestMonth(faction) };
+  const kept = keepMailings(faction, [...mailingsOf(faction), mailing].slice(-MOST_MAILINGS));
+  if (draftOf(faction) === written) forgetDraft(faction);
+  if (faction !== currentFaction()) return;
+  if (text() === written) setFaults(answer.faults);
+  showTaken(answer, kept);
+  showAccepted();
+  showFaults();
+  showState();
+}
+
+function showTaken({ orders, faults }, kept) {
+  const counts = `${counted(orders, 'order')}, ${counted(faults.length, 'fault')}`;
+  const hint = faults.length === 0 ? '' : ' The faulty lines give no order, and all other lines count. Mend them, and send the whole text again.';
+  const room = kept ? '' : ' This browser has no room to keep the text: save a copy yourself.';
+  say(byId('orders-answer'), faults.length === 0 ? 'good' : 'mixed', `Accepted: ${counts}.${hint}${room}`);
+}
+
+// ---- the template, and another faction
+
+function useTemplate() {
+  const faction = currentFaction();
+  if (faction === null) return refuse(signedIn().fault);
+  const fresh = latestTemplate(faction);
+  replaceText(fresh ?? emptyMailing(faction));
+  return say(byId('orders-answer'), 'plain', fresh ? '' : 'This browser keeps no report of this faction: fetch the report first, and the template has your units.');
+}
+
+// Text that was written before a faction was named stays, if the faction has no other.
+function changeFaction(event) {
+  const faction = currentFaction();
+  const stray = event.detail.before === null && text().trim() !== '' ? text() : null;
+  const start = faction === null ? '' : startText(faction);
+  const stays = stray !== null && start === emptyMailing(faction);
+  before = stays ? null : stray;
+  byId('orders-undo').hidden = before === null;
+  if (!stays) setText(start);
+  markAccepted(faction);
+  say(byId('orders-answer'), 'plain');
+  edited();
+  showAccepted();
+}
+
+function markAccepted(faction) {
+  const last = faction === null ? null : lastMailing(faction);
+  if (last && last.text === text() && isPending(faction, last)) setFaults(last.faults);
+  else clearFaults();
+}
+
+// A new month begins: the editor starts from its template, unless there is a draft.
+function newMonth() {
+  const faction = currentFaction();
+  if (draftOf(faction) === null) {
+    setText(startText(faction));
+    markAccepted(faction);
+  }
+  edited();
+  showAccepted();
+}
+
+function showHelp() {
+  byId('orders-help').replaceChildren(...ORDERS.flatMap(([form, example, does, needs]) => [
+    el('dt', {}, el('code', {}, form)),
+    el('dd', {}, does, needs === '' ? '' : ` Needs: ${needs}`, example === form ? '' : ' For example ', example === form ? '' : el('code', {}, example)),
+  ]));
+}
+
+export function startOrders() {
+  showHelp();
+  watchText(edited);
+  byId('orders-send').addEventListener('click', () => busy(byId('orders-send'), send));
+  byId('orders-template').addEventListener('click', useTemplate);
+  byId('orders-undo').addEventListener('click', undo);
+  document.addEventListener('faction', changeFaction);
+  document.addEventListener('kept', newMonth);
+  showAccepted();
+}

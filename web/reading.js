@@ -1,0 +1,157 @@
+// The part that fetches a report, keeps it by month, and shows it as text and read.
+
+import { busy, button, byId, el, say } from './dom.js';
+import { accepted, ask, refusalOf, unreadable } from './ask.js';
+import { currentFaction, signedIn } from './signin.js';
+import { parseReport } from './report.js';
+import { fits } from './mailing.js';
+import { showReport } from './view.js';
+import {
+  forgetDraft, forgetMailings, forgetPass, forgetReport, keepMailings, keepReport, latestMonth, mailingsOf, monthsOf, reportOf,
+} from './store.js';
+
+let shown = null;
+
+// The mailing of which a report tells, if this browser has it. It is marked with the month, and older ones go.
+function mailingOf(faction, report) {
+  const list = mailingsOf(faction);
+  const known = list.find((mailing) => mailing.month === report.month);
+  if (known) return known;
+  const found = list.findLast((mailing) => mailing.month === undefined
+    && (mailing.after === null || mailing.after < report.month) && fits(mailing, report));
+  if (!found) return null;
+  found.month = report.month;
+  keepMailings(faction, list.filter((mailing) => mailing.month !== undefined || mailing.at > found.at));
+  return found;
+}
+
+async function fetchReport() {
+  const sign = signedIn();
+  if (sign.fault) return say(byId('report-answer'), 'bad', sign.fault);
+  say(byId('report-answer'), 'plain', 'Fetching ..');
+  const reply = await ask(`/report/${sign.faction}`, { pass: sign.pass });
+  if (sign.faction !== currentFaction()) return undefined;
+  if (reply.lost || !accepted(reply)) return say(byId('report-answer'), 'bad', refusalOf(reply));
+  return take(sign.faction, reply);
+}
+
+function take(faction, reply) {
+  const report = parseReport(reply.text);
+  if (report.month === null || report.faction !== faction) return showStrange(reply);
+  const months = monthsOf(faction);
+  const kept = reportOf(faction, report.month);
+  if (kept === reply.text) return show(faction, report.month, `Month ${report.month} is still the last one that was closed.`);
+  if (kept !== null || months.some((month) => month > report.month)) return askToReplace(faction, report.month, reply.text);
+  return keep(faction, report.month, reply.text);
+}
+
+function showStrange(reply) {
+  display(reply.text, null, null);
+  say(byId('report-answer'), 'bad', reply.text.trim() === '' ? unreadable(reply)
+    : 'The server sent something that is not the report of this faction. It is shown below, and it is not kept.');
+}
+
+function keep(faction, month, text) {
+  const lasting = keepReport(faction, month, text);
+  show(faction, month, '');
+  document.dispatchEvent(new CustomEvent('kept'));
+  say(byId('report-answer'), lasting ? 'good' : 'mixed', lasting ? `The report of month ${month} is here. This browser keeps it.`
+    : `The report of month ${month} is here. This browser has no room to keep it: save it as text.`);
+}
+
+// Reports don't change, so this one is of another campaign, or of one that was put back to an older month.
+function askToReplace(faction, month, text) {
+  display(text, month, null);
+  say(byId('report-answer'), 'mixed',
+    el('p', {}, `This report of month ${month} does not go with the months that this browser keeps. The moderator may have begun
+      another campaign, or put back an older month. It is shown below, and it is not kept yet.`),
+    button(`Keep it, and remove month ${month} and all after it`, () => replaceFrom(faction, month, text)),
+    ' ',
+    button('Keep it, and remove all other months', () => replaceFrom(faction, 0, text, month)));
+}
+
+function replaceFrom(faction, first, text, month = first) {
+  for (const old of monthsOf(faction)) if (old >= first) forgetReport(faction, old);
+  keepMailings(faction, mailingsOf(faction).filter((mailing) => mailing.month !== undefined && mailing.month < first));
+  keep(faction, month, text);
+}
+
+// ---- what is shown
+
+function show(faction, month, words) {
+  const text = month === null ? null : reportOf(faction, month);
+  listMonths(faction, month);
+  if (text === null) display('', null, null);
+  else display(text, month, mailingOf(faction, parseReport(text)));
+  say(byId('report-answer'), 'plain', words);
+}
+
+function display(text, month, mailing) {
+  shown = text === '' ? null : { text, month };
+  byId('report-text').textContent = text;
+  byId('report-text').hidden = byId('report-text-title').hidden = byId('report-save').hidden = text === '';
+  byId('report-read').replaceChildren(...(text === '' ? [emptyNote()] : [showReport(parseReport(text), mailing)]));
+}
+
+function emptyNote() {
+  return el('p', { class: 'note' }, 'This browser keeps no report of this faction yet. Fetch it with your faction number and pass text.');
+}
+
+function listMonths(faction, chosen) {
+  const months = faction === null ? [] : monthsOf(faction).reverse();
+  const options = months.map((month) => el('option', { value: month }, `Month ${month}`));
+  byId('report-month').replaceChildren(...(options.length > 0 ? options : [el('option', { value: '' }, 'none')]));
+  byId('report-month').disabled = options.length === 0;
+  if (chosen !== null) byId('report-month').value = String(chosen);
+}
+
+function showLatest() {
+  const faction = currentFaction();
+  show(faction, faction === null ? null : latestMonth(faction), '');
+}
+
+function showChosen() {
+  const month = byId('report-month').value;
+  if (month !== '') show(currentFaction(), Number(month), '');
+}
+
+function save() {
+  if (!shown) return;
+  const address = URL.createObjectURL(new Blob([shown.text], { type: 'text/plain' }));
+  const name = `faction-${currentFaction() ?? 'unknown'}-month-${shown.month ?? 'unknown'}.txt`;
+  const link = el('a', { href: address, download: name });
+  document.body.append(link);
+  link.click();
+  link.remove();
+  setTimeout(() => URL.revokeObjectURL(address), 10000);
+}
+
+function sure(open) {
+  byId('report-forget-sure').hidden = !open;
+  byId(open ? 'report-forget-no' : 'report-forget').focus();
+}
+
+function forgetAll() {
+  const faction = currentFaction();
+  sure(false);
+  if (faction === null) return;
+  for (const month of monthsOf(faction)) forgetReport(faction, month);
+  forgetMailings(faction);
+  forgetDraft(faction);
+  forgetPass(faction);
+  byId('remember').checked = false;
+  showLatest();
+  document.dispatchEvent(new CustomEvent('kept'));
+  say(byId('report-answer'), 'plain', `This browser keeps nothing of faction ${faction} now.`);
+}
+
+export function startReport() {
+  byId('report-fetch').addEventListener('click', () => busy(byId('report-fetch'), fetchReport));
+  byId('report-month').addEventListener('change', showChosen);
+  byId('report-save').addEventListener('click', save);
+  byId('report-forget').addEventListener('click', () => sure(true));
+  byId('report-forget-no').addEventListener('click', () => sure(false));
+  byId('report-forget-yes').addEventListener('click', forgetAll);
+  document.addEventListener('faction', showLatest);
+  showLatest();
+}
