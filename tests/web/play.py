@@ -1,0 +1,39 @@
+"""Called by tests/web.sh with a folder for its files, and perhaps one for pictures."""
+import os
+import signal
+import sys
+
+from checks import Checks
+from club import HERE, Club, Proxy
+from driver import Browser, Driver
+from lines import Lines
+from page import Cases, hostile_world
+
+
+def play(folder, shots):
+    checks = Checks()
+    clubs, stops = [], []
+    try:
+        world = os.path.join(HERE, 'worlds', 'coast.toml')
+        for name, text in (('lines', world), ('page', world), ('hostile', hostile_world(folder))):
+            clubs.append(Club(folder, name, text))
+            stops.append(clubs[-1].stop)
+            clubs[-1].start()
+        proxy = Proxy(folder)
+        stops.append(proxy.stop)
+        Lines(checks, clubs[0], proxy).all()
+        driver = Driver(folder)
+        stops.append(driver.stop)
+        Cases(checks, Browser(driver), proxy, clubs[1], clubs[2], shots).all()
+    finally:
+        for stop in reversed(stops):
+            stop()
+    return checks.failed
+
+
+if __name__ == '__main__':
+    signal.signal(signal.SIGTERM, lambda *_: sys.exit(1))
+    failed = play(sys.argv[1], sys.argv[2] if len(sys.argv) > 2 else None)
+    if failed:
+        print(f'web: {failed} differences')
+    sys.exit(1 if failed else 0)
