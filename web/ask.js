@@ -10,7 +10,9 @@ export async function ask(path, { method = 'GET', pass = null, body = undefined 
   const headers = pass === null ? {} : { 'Atlantis-Pass': pass };
   let lost = 'Unreachable';
   try {
-    const reply = await fetch(path, { method, headers, body, redirect: 'manual', cache: 'no-store', signal: stop.signal });
+    const reply = await fetch(path, {
+      method, headers, body, redirect: 'manual', cache: 'no-store', signal: stop.signal,
+    });
     if (reply.type === 'opaqueredirect') return { lost: 'Redirect' };
     lost = 'CutOff';
     return { status: reply.status, text: await reply.text() };
@@ -48,7 +50,8 @@ export function refusalOf(reply) {
 
 export function unreadable(reply) {
   const text = reply.text.trim().slice(0, 200);
-  return text === '' ? 'The server sent an empty answer.' : `The server sent an answer that this page can not read: ${text}`;
+  return text === '' ? 'The server sent an empty answer.'
+    : `The server sent an answer that this page cannot read: ${text}`;
 }
 
 // What is wrong with a pass text, in words, or null.

@@ -5,12 +5,12 @@ import { accepted, ask, errorOf, jsonOf, nameFault, passFault, refusalOf, unread
 import { signInAs } from './signin.js';
 import { JOINING_CLOSED } from './words.js';
 
-const PERHAPS = ' You may have joined all the same. If the name is taken when you try again, ask the moderator for your numbers.';
+const PERHAPS = ' You may have joined all the same. If the name is taken when you try again, ask the moderator.';
 
 function refusal(reply) {
   if ([403, 404, 405].includes(reply.status) && errorOf(reply) === null) return JOINING_CLOSED;
-  const words = refusalOf(reply);
-  return reply.lost && reply.lost !== 'Redirect' ? words + PERHAPS : words;
+  const lost = reply.lost ? reply.lost !== 'Redirect' : [502, 504].includes(reply.status);
+  return refusalOf(reply) + (lost ? PERHAPS : '');
 }
 
 function joinedAs(reply) {
@@ -18,10 +18,10 @@ function joinedAs(reply) {
   return value && Number.isInteger(value.faction) && Number.isInteger(value.unit) ? value : null;
 }
 
-function welcome(answer, pass, showTab) {
-  signInAs(answer.faction, pass);
+function welcome({ faction, unit }, pass, showTab) {
+  signInAs(faction, pass);
   say(byId('join-answer'), 'good',
-    el('p', {}, `You have joined. Your faction is faction ${answer.faction}, and your first unit is unit ${answer.unit}.`),
+    el('p', {}, `You have joined. Your faction is faction ${faction}, and your first unit is unit ${unit}.`),
     el('p', {}, 'Write down both numbers and your pass text.'),
     button('Go to the report', () => showTab('report')));
 }

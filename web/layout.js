@@ -9,7 +9,9 @@ const LEAST_WIDTH = 5;
 // that has the region, and null where only a way to it is known.
 export function gather(reports) {
   const regions = new Map();
-  for (const report of reports) for (const region of report.regions) regions.set(region.number, { ...region, seen: report.month });
+  for (const report of reports) {
+    for (const region of report.regions) regions.set(region.number, { ...region, seen: report.month });
+  }
   for (const region of [...regions.values()]) addNeighbours(regions, region);
   return regions;
 }
@@ -34,7 +36,8 @@ export function layOut(regions) {
 
 function startingOrder(regions) {
   const all = [...regions.values()].sort((a, b) => a.number - b.number);
-  return [...all.filter((region) => region.seen !== null), ...all.filter((region) => region.seen === null)].map((region) => region.number);
+  const first = all.filter((region) => region.seen !== null);
+  return [...first, ...all.filter((region) => region.seen === null)].map((region) => region.number);
 }
 
 function walk(start, regions, placed) {
@@ -64,7 +67,7 @@ function pack(parts) {
   const at = { x: 0, y: 0, height: 0, width: 0 };
   for (const box of boxes) {
     if (at.x > 0 && at.x + box.width > most) Object.assign(at, { x: 0, y: at.y + at.height + 1, height: 0 });
-    for (const [number, place] of box.part) places.set(number, { x: at.x + place.x - box.left, y: at.y + place.y - box.top });
+    for (const [number, { x, y }] of box.part) places.set(number, { x: at.x + x - box.left, y: at.y + y - box.top });
     at.width = Math.max(at.width, at.x + box.width);
     at.height = Math.max(at.height, box.height);
     at.x += box.width + 1;
@@ -86,7 +89,8 @@ function sortWays(regions, placed) {
   for (const region of regions.values()) {
     for (const [way, to] of Object.entries(region.exits)) {
       if (!isFirst(regions, region, way, to)) continue;
-      (isStraight(placed.get(region.number), way, placed.get(to)) ? ways : crooked).push({ from: region.number, way, to });
+      const list = isStraight(placed.get(region.number), way, placed.get(to)) ? ways : crooked;
+      list.push({ from: region.number, way, to });
     }
   }
   return { ways, crooked };
@@ -100,5 +104,6 @@ function isFirst(regions, region, way, to) {
 }
 
 function isStraight(here, way, there) {
-  return here.part === there.part && here !== there && here.x + STEPS[way][0] === there.x && here.y + STEPS[way][1] === there.y;
+  const [dx, dy] = STEPS[way];
+  return here.part === there.part && here.x + dx === there.x && here.y + dy === there.y;
 }

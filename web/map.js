@@ -8,8 +8,9 @@ import { gather, layOut } from './layout.js';
 import { exitWords, showRegion } from './view.js';
 import { counted } from './words.js';
 
-const CELL = { width: 112, height: 66, gap: 22 };
-const LETTERS = 15;
+const CELL = { width: 104, height: 64, gap: 18 };
+const LETTERS = 14;
+const NO_REGION = 'The map is drawn from the reports that this browser keeps. There are none of this faction yet.';
 const KEYS = { ArrowUp: 'north', ArrowDown: 'south', ArrowRight: 'east', ArrowLeft: 'west' };
 const TERRAINS = [
   ['water', /ocean|sea|water|lake|river/i], ['forest', /forest|wood|jungle/i], ['mountain', /mountain|hill/i],
@@ -20,6 +21,7 @@ let regions = new Map();
 let latest = null;
 let chosen = null;
 let zoom = null;
+let isOld = true;
 
 function load() {
   const faction = currentFaction();
@@ -32,7 +34,10 @@ function draw() {
   load();
   const { places, ways, crooked, width, height } = layOut(regions);
   const step = { x: CELL.width + CELL.gap, y: CELL.height + CELL.gap };
-  const corner = (number) => ({ x: CELL.gap / 2 + places.get(number).x * step.x, y: CELL.gap / 2 + places.get(number).y * step.y });
+  const corner = (number) => {
+    const { x, y } = places.get(number);
+    return { x: CELL.gap / 2 + x * step.x, y: CELL.gap / 2 + y * step.y };
+  };
   const size = { width: Math.max(1, width) * step.x, height: Math.max(1, height) * step.y };
   byId('map').setAttribute('viewBox', `0 0 ${size.width} ${size.height}`);
   byId('map').dataset.width = String(size.width);
@@ -50,10 +55,14 @@ function drawWay(from, to) {
 }
 
 function drawRegion(region, { x, y }) {
-  const group = svg('g', { class: `region ${terrainClass(region)}`, 'data-region': region.number, role: 'button', tabindex: '-1', 'aria-label': regionLabel(region) },
-    svg('title', {}, regionLabel(region)),
-    svg('rect', { x, y, width: CELL.width, height: CELL.height, rx: 8 }),
-    ...regionLines(region).map(([kind, words], i) => svg('text', { class: kind, x: x + 8, y: y + 19 + 19 * i }, words)));
+  const label = regionLabel(region);
+  const { width, height } = CELL;
+  const lines = regionLines(region)
+    .map(([kind, words], i) => svg('text', { class: kind, x: 8, y: 19 * (i + 1) }, words));
+  const group = svg('g', {
+    class: `region ${terrainClass(region)}`, 'data-region': region.number, role: 'button', 'aria-label': label,
+  }, svg('title', {}, label), svg('rect', { x, y, width, height, rx: 8 }),
+  svg('svg', { x, y, width: width - 2, height }, ...lines));
   group.addEventListener('click', () => choose(region.number));
   group.addEventListener('keydown', (event) => byKey(event, region));
   return group;
@@ -89,7 +98,8 @@ function unitCounts(region) {
 function regionLabel(region) {
   if (region.seen === null) return `Region ${region.number}, not seen yet`;
   const { own, others } = unitCounts(region);
-  const units = region.seen === latest ? `, ${counted(own, 'unit')} of yours, ${others} of others` : `, last seen in month ${region.seen}`;
+  const units = region.seen === latest ? `, ${counted(own, 'unit')} of yours, ${others} of others`
+    : `, last seen in month ${region.seen}`;
   return `Region ${region.number} ${region.name}, ${region.terrain}${units}`;
 }
 
@@ -97,22 +107,25 @@ function regionLabel(region) {
 
 function showNote() {
   const seen = [...regions.values()].filter((region) => region.seen !== null).length;
-  byId('map-note').textContent = seen === 0 ? 'The map is drawn from the reports that this browser keeps. There are none of this faction yet.'
-    : `North is up. ${counted(seen, 'region')} seen so far. ★ counts your units, ○ those of others, in month ${latest}. Choose a region to read about it.`;
+  byId('map-note').textContent = seen === 0 ? NO_REGION : `North is up. ${counted(seen, 'region')} seen so far.`
+    + ` ★ counts your units, ○ those of others, in month ${latest}. Choose a region to read about it.`;
 }
 
 function showCrooked(crooked) {
   const names = regionNames();
-  const items = crooked.map(({ from, way, to }) => el('li', {}, `${nameOf(from, names)}: ${way} to ${nameOf(to, names)}`));
-  byId('map-ways').replaceChildren(...(items.length === 0 ? [] : [el('h3', {}, 'Ways that can not be drawn'), el('ul', {}, ...items)]));
+  const items = crooked
+    .map(({ from, way, to }) => el('li', {}, `${nameOf(from, names)}: ${way} to ${nameOf(to, names)}`));
+  const list = [el('h3', {}, 'Ways that cannot be drawn'), el('ul', {}, ...items)];
+  byId('map-ways').replaceChildren(...(items.length === 0 ? [] : list));
 }
 
 function regionNames() {
-  return new Map([...regions.values()].filter((region) => region.seen !== null).map((region) => [region.number, region.name]));
+  const seen = [...regions.values()].filter((region) => region.seen !== null);
+  return new Map(seen.map((region) => [region.number, region.name]));
 }
 
 function nameOf(number, names) {
-  return names.has(number) ? `${names.get(number)} (${number})` : `region ${number}`;
+  return names.has(number) ? `Region ${number} ${names.get(number)}` : `region ${number}`;
 }
 
 function choose(number) {
@@ -127,7 +140,8 @@ function choose(number) {
 
 function details(region) {
   const names = regionNames();
-  if (region.seen === null) return el('p', {}, `Region ${region.number} was not seen yet. ${exitWords(region.exits, names)}`);
+  const exits = exitWords(region.exits, names);
+  if (region.seen === null) return el('p', {}, `Region ${region.number} was not seen yet. ${exits}`);
   const seen = el('p', { class: 'note' }, `As it was seen in month ${region.seen}:`);
   return el('div', { class: 'report' }, seen, showRegion(region, names));
 }
@@ -160,7 +174,15 @@ export function startMap() {
   byId('map-smaller').addEventListener('click', () => resize(1 / 1.3));
   byId('map-larger').addEventListener('click', () => resize(1.3));
   byId('map-fit').addEventListener('click', fit);
-  document.addEventListener('faction', draw);
-  document.addEventListener('kept', draw);
+  for (const change of ['faction', 'kept']) document.addEventListener(change, () => {
+    isOld = true;
+    drawIfSeen();
+  });
+  document.addEventListener('tab', drawIfSeen);
+}
+
+function drawIfSeen() {
+  if (!isOld || byId('panel-map').hidden) return;
+  isOld = false;
   draw();
 }

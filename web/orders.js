@@ -4,19 +4,23 @@ import { byId, busy, button, el, say } from './dom.js';
 import { accepted, ask, jsonOf, refusalOf, unreadable } from './ask.js';
 import { currentFaction, signedIn } from './signin.js';
 import { counted, lineFaultWords, ORDERS, refusalWords } from './words.js';
-import { badLines, byteLength, emptyMailing, MOST_BYTES, plainSigns, readMailing, splitLines, template } from './mailing.js';
+import { badLines, byteLength, emptyMailing, MOST_BYTES, plainSigns, readMailing, template } from './mailing.js';
 import { draftOf, forgetDraft, keepDraft, keepMailings, latestMonth, mailingsOf, reportOf } from './store.js';
 import { clearFaults, faultyLines, faultyText, jumpTo, setFaults, setText, text, watchText } from './editor.js';
 import { parseReport } from './report.js';
 
 const MOST_MAILINGS = 30;
 const NEAR = 60000;
+const MOST_NOTES = 20;
 const KEPT = ' Your text is kept in this browser as a draft.';
+const NO_TEMPLATE = 'This browser keeps no report of this faction. Fetch it first: then the template has your units.';
+const PERHAPS = ' The mailing may have been taken all the same. Send it again: the last one counts.';
 
 let before = null;
+let draftIsKept = true;
 const made = { source: null, text: null };
 
-export function lastMailing(faction) {
+function lastMailing(faction) {
   return mailingsOf(faction).pop() || null;
 }
 
@@ -29,7 +33,8 @@ function isPending(faction, mailing) {
 function latestTemplate(faction) {
   const month = latestMonth(faction);
   const source = month === null ? null : reportOf(faction, month);
-  if (source !== made.source) Object.assign(made, { source, text: source === null ? null : template(parseReport(source)) });
+  if (source === null) return null;
+  if (source !== made.source) Object.assign(made, { source, text: template(parseReport(source)) });
   return made.text;
 }
 
@@ -50,15 +55,14 @@ function isDraft(faction, written) {
 
 function saveDraft() {
   const faction = currentFaction();
-  if (faction === null) return true;
-  if (isDraft(faction, text())) return keepDraft(faction, text());
-  forgetDraft(faction);
-  return true;
+  const draft = faction !== null && isDraft(faction, text());
+  if (faction !== null && !draft) forgetDraft(faction);
+  draftIsKept = !draft || keepDraft(faction, text());
 }
 
 function edited() {
-  const kept = saveDraft();
-  showState(kept);
+  saveDraft();
+  showState();
   showNotes();
   showFaults();
 }
@@ -85,20 +89,26 @@ function headerNote(written) {
 
 function missingHeader(faction) {
   const add = button(`Put #ATLANTIS ${faction} at the top`, () => replaceText(emptyMailing(faction) + text()));
-  return el('p', { class: 'note warn' }, `No line begins with #ATLANTIS. `, add);
+  return el('p', { class: 'note warn' }, 'No line begins with #ATLANTIS. ', add);
 }
 
 function signsNote(written) {
-  const bad = badLines(written);
+  const known = new Set(faultyLines().filter((fault) => !fault.changed).map((fault) => fault.line));
+  const bad = badLines(written).filter((entry) => !known.has(entry.line));
   if (bad.length === 0) return null;
-  const items = bad.slice(0, 20).map(({ line, signs }) => el('li', {}, lineButton(line), `: BadByte: ${signs.map(signName).join(', ')}`));
-  const note = el('div', { class: 'note warn' }, el('p', {}, 'Letters and signs that orders can not have:'), el('ul', {}, ...items));
-  if (bad.length > 20) note.append(el('p', {}, `.. and ${bad.length - 20} more lines.`));
-  if (plainSigns(written) !== written) note.append(button('Replace quotes, dashes and spaces by plain ones', () => replaceText(plainSigns(text()))));
-  return note;
+  const items = bad.slice(0, MOST_NOTES)
+    .map(({ line, signs }) => el('li', {}, lineButton(line), `: BadByte: ${signs.map(signName).join(' ')}`));
+  const more = bad.length > MOST_NOTES ? el('p', {}, `.. and ${counted(bad.length - MOST_NOTES, 'more line')}.`) : null;
+  return el('div', { class: 'note warn' }, el('p', {}, 'Orders cannot have these letters and signs:'),
+    el('ul', {}, ...items), more, plainSigns(written) === written ? null : replaceButton());
+}
+
+function replaceButton() {
+  return button('Replace quotes, dashes and spaces by plain ones', () => replaceText(plainSigns(text())));
 }
 
 function signName(sign) {
+  if (sign === '\u00a0') return 'no-break space';
   const code = sign.codePointAt(0).toString(16).toUpperCase().padStart(4, '0');
   return /[\p{L}\p{N}\p{P}\p{S}]/u.test(sign) ? sign : `U+${code}`;
 }
@@ -126,10 +136,8 @@ function lineButton(line) {
 
 function showFaults() {
   byId('orders-faults').replaceChildren(...faultyLines().map(({ line, number, changed }) => {
-    const item = el('li', { 'data-line': line }, lineButton(line), `: ${lineFaultWords(number)} `);
-    if (changed) item.append(el('em', {}, '(changed after it was sent)'));
-    else item.append(el('code', {}, faultyText(line).trim()));
-    return item;
+    const now = changed ? el('em', {}, '(changed after it was sent)') : el('code', {}, faultyText(line).trim());
+    return el('li', { 'data-line': line }, lineButton(line), `: ${lineFaultWords(number)} `, now);
   }));
 }
 
@@ -139,7 +147,7 @@ function timeWords(at) {
   return new Date(at).toLocaleString('en-GB', { dateStyle: 'medium', timeStyle: 'short' });
 }
 
-export function acceptedWords(mailing) {
+function acceptedWords(mailing) {
   const counts = `${counted(mailing.orders, 'order')}, ${counted(mailing.faults.length, 'fault')}`;
   return `Accepted at ${timeWords(mailing.at)}: ${counts}`;
 }
@@ -149,7 +157,8 @@ function showAccepted() {
   const last = faction === null ? null : lastMailing(faction);
   byId('orders-last').hidden = last === null;
   byId('orders-last-text').textContent = last ? last.text : '';
-  byId('orders-accepted').textContent = last ? acceptedLast(faction, last) : 'This browser has sent no orders for this faction yet.';
+  byId('orders-accepted').textContent = last ? acceptedLast(faction, last)
+    : 'This browser has sent no orders for this faction yet.';
 }
 
 function acceptedLast(faction, last) {
@@ -158,19 +167,21 @@ function acceptedLast(faction, last) {
   return `${acceptedWords(last)}. The last mailing that is accepted counts, as a whole.`;
 }
 
-function showState(kept = true) {
+function showState() {
   const faction = currentFaction();
   const draft = faction !== null && isDraft(faction, text());
-  byId('orders-state').textContent = !draft ? '' : kept ? 'Draft, kept in this browser. It is not sent yet.'
-    : 'Draft, not sent yet. This browser can not keep it: do not close the page.';
+  const words = draftIsKept ? 'Draft, kept in this browser. It is not sent yet.'
+    : 'Draft, not sent yet. This browser cannot keep it: do not close the page.';
+  byId('orders-state').textContent = draft ? words : '';
 }
 
 // ---- sending
 
 function ordersIn(reply) {
   const value = jsonOf(reply);
-  const pair = (fault) => Array.isArray(fault) && fault.length === 2 && fault.every(Number.isInteger);
-  return value && Number.isInteger(value.orders) && Array.isArray(value.faults) && value.faults.every(pair) ? value : null;
+  const isPair = (fault) => Array.isArray(fault) && fault.length === 2 && fault.every(Number.isInteger);
+  if (!value || !Number.isInteger(value.orders) || !Array.isArray(value.faults)) return null;
+  return value.faults.every(isPair) ? value : null;
 }
 
 async function send() {
@@ -182,15 +193,17 @@ async function send() {
   clearFaults();
   showFaults();
   say(byId('orders-answer'), 'plain', 'Sending ..');
-  const reply = await ask(`/orders/${sign.faction}`, { method: 'POST', pass: sign.pass, body: new TextEncoder().encode(written) });
+  const body = new TextEncoder().encode(written);
+  const reply = await ask(`/orders/${sign.faction}`, { method: 'POST', pass: sign.pass, body });
   return judge(sign.faction, written, reply);
 }
 
 function judge(faction, written, reply) {
-  if (reply.lost || !accepted(reply)) return refuse(refusalOf(reply) + (perhapsTaken(reply) ? ' It may have been taken: send it again, the last one counts.' : ''));
-  const answer = ordersIn(reply);
-  if (!answer) return refuse(`${unreadable(reply)} The mailing may have been taken: send it again, the last one counts.`);
-  return take(faction, written, answer);
+  const answer = accepted(reply) ? ordersIn(reply) : null;
+  if (answer) return take(faction, written, answer);
+  if (faction !== currentFaction()) return undefined;
+  if (accepted(reply)) return refuse(unreadable(reply) + PERHAPS);
+  return refuse(refusalOf(reply) + (perhapsTaken(reply) ? PERHAPS : ''));
 }
 
 function perhapsTaken(reply) {
@@ -204,7 +217,8 @@ function refuse(words) {
 }
 
 function take(faction, written, answer) {
-  const mailing = { text: written, at: Date.now(), orders: answer.orders, faults: answer.faults, after: latestMonth(faction) };
+  const { orders, faults } = answer;
+  const mailing = { text: written, at: Date.now(), orders, faults, after: latestMonth(faction) };
   const kept = keepMailings(faction, [...mailingsOf(faction), mailing].slice(-MOST_MAILINGS));
   if (draftOf(faction) === written) forgetDraft(faction);
   if (faction !== currentFaction()) return;
@@ -212,12 +226,14 @@ function take(faction, written, answer) {
   showTaken(answer, kept);
   showAccepted();
   showFaults();
+  showNotes();
   showState();
 }
 
 function showTaken({ orders, faults }, kept) {
   const counts = `${counted(orders, 'order')}, ${counted(faults.length, 'fault')}`;
-  const hint = faults.length === 0 ? '' : ' The faulty lines give no order, and all other lines count. Mend them, and send the whole text again.';
+  const hint = faults.length === 0 ? ''
+    : ' The faulty lines give no order, and all other lines count. Mend them, and send the whole text again.';
   const room = kept ? '' : ' This browser has no room to keep the text: save a copy yourself.';
   say(byId('orders-answer'), faults.length === 0 ? 'good' : 'mixed', `Accepted: ${counts}.${hint}${room}`);
 }
@@ -229,7 +245,13 @@ function useTemplate() {
   if (faction === null) return refuse(signedIn().fault);
   const fresh = latestTemplate(faction);
   replaceText(fresh ?? emptyMailing(faction));
-  return say(byId('orders-answer'), 'plain', fresh ? '' : 'This browser keeps no report of this faction: fetch the report first, and the template has your units.');
+  return say(byId('orders-answer'), 'plain', fresh ? '' : NO_TEMPLATE);
+}
+
+function restoreAccepted() {
+  replaceText(byId('orders-last-text').textContent);
+  markAccepted(currentFaction());
+  showFaults();
 }
 
 // Text that was written before a faction was named stays, if the faction has no other.
@@ -267,8 +289,16 @@ function newMonth() {
 function showHelp() {
   byId('orders-help').replaceChildren(...ORDERS.flatMap(([form, example, does, needs]) => [
     el('dt', {}, el('code', {}, form)),
-    el('dd', {}, does, needs === '' ? '' : ` Needs: ${needs}`, example === form ? '' : ' For example ', example === form ? '' : el('code', {}, example)),
+    el('dd', {}, does, needs === '' ? '' : ` Needs: ${needs}`, ...exampleOf(form, example)),
   ]));
+}
+
+function exampleOf(form, example) {
+  return example === form ? [] : [' For example ', el('code', {}, example), '.'];
+}
+
+function holdPage(event) {
+  if (!draftIsKept) event.preventDefault();
 }
 
 export function startOrders() {
@@ -277,6 +307,8 @@ export function startOrders() {
   byId('orders-send').addEventListener('click', () => busy(byId('orders-send'), send));
   byId('orders-template').addEventListener('click', useTemplate);
   byId('orders-undo').addEventListener('click', undo);
+  byId('orders-restore').addEventListener('click', restoreAccepted);
+  window.addEventListener('beforeunload', holdPage);
   document.addEventListener('faction', changeFaction);
   document.addEventListener('kept', newMonth);
   showAccepted();

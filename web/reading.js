@@ -7,8 +7,11 @@ import { parseReport } from './report.js';
 import { fits } from './mailing.js';
 import { showReport } from './view.js';
 import {
-  forgetDraft, forgetMailings, forgetPass, forgetReport, keepMailings, keepReport, latestMonth, mailingsOf, monthsOf, reportOf,
+  forgetDraft, forgetMailings, forgetPass, forgetReport, keepMailings, keepReport, latestMonth, mailingsOf, monthsOf,
+  reportOf,
 } from './store.js';
+
+const NO_REPORT = 'The server sent something that is not a report of this faction. It is shown below, and not kept.';
 
 let shown = null;
 
@@ -28,6 +31,7 @@ function mailingOf(faction, report) {
 async function fetchReport() {
   const sign = signedIn();
   if (sign.fault) return say(byId('report-answer'), 'bad', sign.fault);
+  if (shown && shown.month === null) showLatest();
   say(byId('report-answer'), 'plain', 'Fetching ..');
   const reply = await ask(`/report/${sign.faction}`, { pass: sign.pass });
   if (sign.faction !== currentFaction()) return undefined;
@@ -40,31 +44,36 @@ function take(faction, reply) {
   if (report.month === null || report.faction !== faction) return showStrange(reply);
   const months = monthsOf(faction);
   const kept = reportOf(faction, report.month);
-  if (kept === reply.text) return show(faction, report.month, `Month ${report.month} is still the last one that was closed.`);
-  if (kept !== null || months.some((month) => month > report.month)) return askToReplace(faction, report.month, reply.text);
+  if (kept === reply.text && months.at(-1) === report.month) return show(faction, report.month, stillLast(report));
+  if (kept !== null || months.at(-1) > report.month) return askToReplace(faction, report.month, reply.text);
   return keep(faction, report.month, reply.text);
+}
+
+function stillLast({ month }) {
+  return month === 0 ? 'Month 0: no month has been closed yet.'
+    : `Month ${month} is still the last one that was closed.`;
 }
 
 function showStrange(reply) {
   display(reply.text, null, null);
-  say(byId('report-answer'), 'bad', reply.text.trim() === '' ? unreadable(reply)
-    : 'The server sent something that is not the report of this faction. It is shown below, and it is not kept.');
+  say(byId('report-answer'), 'bad', reply.text.trim() === '' ? unreadable(reply) : NO_REPORT);
 }
 
 function keep(faction, month, text) {
   const lasting = keepReport(faction, month, text);
   show(faction, month, '');
   document.dispatchEvent(new CustomEvent('kept'));
-  say(byId('report-answer'), lasting ? 'good' : 'mixed', lasting ? `The report of month ${month} is here. This browser keeps it.`
-    : `The report of month ${month} is here. This browser has no room to keep it: save it as text.`);
+  say(byId('report-answer'), lasting ? 'good' : 'mixed', `The report of month ${month} is here. ${lasting
+    ? 'This browser keeps it.' : 'This browser has no room to keep it: save it as text.'}`);
 }
 
 // Reports don't change, so this one is of another campaign, or of one that was put back to an older month.
 function askToReplace(faction, month, text) {
   display(text, month, null);
   say(byId('report-answer'), 'mixed',
-    el('p', {}, `This report of month ${month} does not go with the months that this browser keeps. The moderator may have begun
-      another campaign, or put back an older month. It is shown below, and it is not kept yet.`),
+    el('p', {}, `This report of month ${month} does not go with the months that this browser keeps.`
+      + ' The moderator may have begun another campaign, or put back an older month.'
+      + ' It is shown below, and not kept yet.'),
     button(`Keep it, and remove month ${month} and all after it`, () => replaceFrom(faction, month, text)),
     ' ',
     button('Keep it, and remove all other months', () => replaceFrom(faction, 0, text, month)));
@@ -90,11 +99,18 @@ function display(text, month, mailing) {
   shown = text === '' ? null : { text, month };
   byId('report-text').textContent = text;
   byId('report-text').hidden = byId('report-text-title').hidden = byId('report-save').hidden = text === '';
-  byId('report-read').replaceChildren(...(text === '' ? [emptyNote()] : [showReport(parseReport(text), mailing)]));
+  byId('report-read').replaceChildren(...readForm(text, mailing));
+}
+
+function readForm(text, mailing) {
+  if (text === '') return [emptyNote()];
+  const report = parseReport(text);
+  return report.month === null ? [] : [showReport(report, mailing)];
 }
 
 function emptyNote() {
-  return el('p', { class: 'note' }, 'This browser keeps no report of this faction yet. Fetch it with your faction number and pass text.');
+  return el('p', { class: 'note' },
+    'This browser keeps no report of this faction yet. Fetch it with your faction number and pass text.');
 }
 
 function listMonths(faction, chosen) {
@@ -126,6 +142,16 @@ function save() {
   setTimeout(() => URL.revokeObjectURL(address), 10000);
 }
 
+function dropMonth() {
+  const faction = currentFaction();
+  if (faction === null || shown === null || reportOf(faction, shown.month) === null) return;
+  const { month } = shown;
+  forgetReport(faction, month);
+  document.dispatchEvent(new CustomEvent('kept'));
+  showLatest();
+  say(byId('report-answer'), 'plain', `This browser no longer keeps month ${month}.`);
+}
+
 function sure(open) {
   byId('report-forget-sure').hidden = !open;
   byId(open ? 'report-forget-no' : 'report-forget').focus();
@@ -149,6 +175,7 @@ export function startReport() {
   byId('report-fetch').addEventListener('click', () => busy(byId('report-fetch'), fetchReport));
   byId('report-month').addEventListener('change', showChosen);
   byId('report-save').addEventListener('click', save);
+  byId('report-drop').addEventListener('click', dropMonth);
   byId('report-forget').addEventListener('click', () => sure(true));
   byId('report-forget-no').addEventListener('click', () => sure(false));
   byId('report-forget-yes').addEventListener('click', forgetAll);

@@ -29,11 +29,11 @@ export function takeFaction() {
 
 function loadPass() {
   const kept = faction === null ? null : keptPass(faction);
-  if (kept !== null) byId('pass').value = kept;
-  else if (passIsKept) byId('pass').value = '';
+  if (kept === null && !passIsKept) return savePass();
+  byId('pass').value = kept ?? '';
+  byId('remember').checked = kept !== null;
   passIsKept = kept !== null;
-  if (faction !== null && (kept !== null || byId('pass').value === '')) byId('remember').checked = kept !== null;
-  else savePass();
+  return undefined;
 }
 
 function savePass() {

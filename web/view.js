@@ -4,12 +4,15 @@ import { el } from './dom.js';
 import { readMailing } from './mailing.js';
 import { counted, doneWords, eventFaultWords, lineFaultWords } from './words.js';
 
+const NO_MAILING = 'This browser has no mailing that goes with this report, so it cannot show the orders themselves.';
+const LATER = 'does not count: a later order of this unit takes its place.';
+
 const numbered = (number) => number.toLocaleString('en');
 
 export function showReport(report, mailing) {
-  const title = report.month === null ? null
-    : el('h3', { class: 'report-title' }, `Month ${report.month}, faction ${report.faction} “${report.name}”`);
-  return el('div', { class: 'report' }, title, ordersPart(report, mailing), ...regionsPart(report), unreadPart(report));
+  const title = `Month ${report.month}, faction ${report.faction} “${report.name}”`;
+  return el('div', { class: 'report' }, el('h3', { class: 'report-title' }, title),
+    ordersPart(report, mailing), ...regionsPart(report), unreadPart(report));
 }
 
 // ---- orders and what came of them
@@ -20,7 +23,7 @@ function ordersPart(report, mailing) {
   if (rows.length > 0) part.append(ordersTable(rows));
   part.append(...loose(report).map((words) => el('p', { class: 'loose' }, words)));
   if (part.children.length === 1) part.append(el('p', {}, 'None.'));
-  else if (!mailing && rows.length > 0) part.append(el('p', { class: 'help' }, 'This browser has no mailing that goes with this report, so the orders are shown by their lines alone.'));
+  else if (!mailing && rows.length > 0) part.append(el('p', { class: 'help' }, NO_MAILING));
   return part;
 }
 
@@ -30,8 +33,8 @@ function ordersTable(rows) {
 }
 
 function outcomeRow(line, order, tone, words) {
-  return el('tr', { class: tone, 'data-line': line }, el('td', { class: 'line' }, String(line)), el('td', { class: 'order' }, order),
-    el('td', { class: 'outcome' }, words));
+  return el('tr', { class: tone, 'data-line': line }, el('td', { class: 'line' }, String(line)),
+    el('td', { class: 'order' }, order), el('td', { class: 'outcome' }, words));
 }
 
 function byLine(list) {
@@ -54,31 +57,37 @@ function isShown(entry, faults) {
 }
 
 function outcomeOf(entry, faults, events) {
-  if (faults) return ['failed', faults.map((fault) => lineFaultWords(fault.number, fault.name)).join(' ')];
-  if (events) return [events.some(isFailed) ? 'failed' : 'done', events.map((event) => eventWords(event, entry.unit)).join(' ')];
-  return entry.kind === 'order' ? ['idle', 'does not count: a later order of this unit takes its place.'] : ['plain', ''];
+  if (faults) return ['failed', faults.map(faultWords).join(' ')];
+  if (events) return [toneOf(events), events.map((event) => eventWords(event, entry.unit)).join(' ')];
+  return entry.kind === 'order' ? ['idle', LATER] : ['plain', ''];
 }
 
-function isFailed(event) {
-  return event.fault !== undefined;
+function toneOf(events) {
+  return events.some((event) => event.fault !== undefined) ? 'failed' : 'done';
+}
+
+function faultWords(fault) {
+  return lineFaultWords(fault.number, fault.name);
 }
 
 function eventWords(event, unit) {
   const who = event.unit === unit || event.unit === 0 ? '' : `unit ${event.unit}: `;
-  return who + (isFailed(event) ? eventFaultWords(event.fault, event.name) : doneWords(event.verb, event.done));
+  if (event.fault === undefined) return who + doneWords(event.verb, event.done);
+  return who + eventFaultWords(event.fault, event.name);
 }
 
 function eventRows(report) {
-  const faults = report.faults.map((fault) => outcomeRow(fault.line, '', 'failed', lineFaultWords(fault.number, fault.name)));
-  const events = report.events.filter((event) => event.line > 0).sort((a, b) => a.line - b.line)
-    .map((event) => outcomeRow(event.line, `unit ${event.unit} ${event.verb}`, isFailed(event) ? 'failed' : 'done', eventWords(event, event.unit)));
-  return [...faults, ...events];
+  const faults = report.faults.map((fault) => [fault.line, '', 'failed', faultWords(fault)]);
+  const events = report.events.filter((event) => event.line > 0)
+    .map((event) => [event.line, `unit ${event.unit} ${event.verb}`, toneOf([event]), eventWords(event, event.unit)]);
+  return [...faults, ...events].sort((a, b) => a[0] - b[0]).map((row) => outcomeRow(...row));
 }
 
+// What came without an order: work, and men who starved.
 function loose(report) {
   return report.events.filter((event) => event.line === 0).map((event) => {
     if (event.starved !== undefined) return `Unit ${event.unit}: ${numbered(event.starved)} starved.`;
-    return `Unit ${event.unit} had no order for the whole month: ${isFailed(event) ? eventFaultWords(event.fault, event.name) : doneWords(event.verb, event.done)}.`;
+    return `Unit ${event.unit} had no order for the whole month: ${eventWords(event, event.unit)}.`;
   });
 }
 
@@ -92,14 +101,17 @@ function regionsPart(report) {
 
 export function showRegion(region, names) {
   return el('section', { class: 'region' },
-    el('h3', {}, `${region.name} `, el('span', { class: 'quiet' }, `region ${region.number}, ${region.terrain}`)),
-    el('p', {}, `${numbered(region.peasants)} peasants, ${numbered(region.money)} money. ${exitWords(region.exits, names)}`),
-    marketsPart(region), structuresPart(region), unitsPart('Your units', region.units.filter((unit) => unit.own)),
+    el('h3', {}, `Region ${region.number} ${region.name}`, el('span', { class: 'quiet' }, `, ${region.terrain}`)),
+    el('p', {}, `${numbered(region.peasants)} peasants, ${numbered(region.money)} money. `,
+      exitWords(region.exits, names)),
+    marketsPart(region), structuresPart(region),
+    unitsPart('Your units', region.units.filter((unit) => unit.own)),
     unitsPart('Units of others', region.units.filter((unit) => !unit.own)));
 }
 
 export function exitWords(exits, names) {
-  const ways = Object.entries(exits).map(([way, number]) => `${way} ${names.has(number) ? `${names.get(number)} (${number})` : number}`);
+  const ways = Object.entries(exits)
+    .map(([way, number]) => `${way} ${number}${names.has(number) ? ` ${names.get(number)}` : ''}`);
   return ways.length === 0 ? 'Exits: none.' : `Exits: ${ways.join(', ')}.`;
 }
 
@@ -113,29 +125,36 @@ function card(title, facts) {
 
 function marketsPart(region) {
   return listPart('Markets', region.markets.map((market) => card(market.item, [
-    `${numbered(market.stock)} in stock at ${numbered(market.price)}`, `${numbered(market.wanted)} wanted at ${numbered(market.pays)}`,
+    `${numbered(market.stock)} in stock at ${numbered(market.price)}`,
+    `${numbered(market.wanted)} wanted at ${numbered(market.pays)}`,
   ])));
 }
 
 function structuresPart(region) {
   const names = new Map(region.units.map((unit) => [unit.number, unit.name]));
-  return listPart('Structures', region.structures.map((structure) => card(`${structure.name} (${structure.number})`, [
-    structure.kind,
-    structure.done === structure.size ? 'complete' : `${numbered(structure.done)} of ${numbered(structure.size)} done`,
-    ownerWords(structure.owner, names),
+  return listPart('Structures', region.structures.map((structure) => card(structureTitle(structure), [
+    structure.kind, doneOf(structure), ownerWords(structure.owner, names),
   ])));
+}
+
+function structureTitle({ number, name }) {
+  return `Structure ${number} ${name}`;
+}
+
+function doneOf({ done, size }) {
+  return done === size ? 'complete' : `${numbered(done)} of ${numbered(size)} done`;
 }
 
 function ownerWords(owner, names) {
   if (owner === 0) return 'no owner seen';
-  return names.has(owner) ? `owner ${names.get(owner)} (${owner})` : `owner unit ${owner}`;
+  return names.has(owner) ? `owner unit ${owner} ${names.get(owner)}` : `owner unit ${owner}`;
 }
 
 function unitsPart(title, units) {
-  return listPart(title, units.map((unit) => card(`${unit.name} (${unit.number})`, unitFacts(unit))));
+  return listPart(title, units.map((unit) => card(`Unit ${unit.number} ${unit.name}`, unitFacts(unit))));
 }
 
-export function unitFacts(unit) {
+function unitFacts(unit) {
   return [
     unit.own ? null : `faction ${unit.faction} “${unit.factionName}”`,
     counted(unit.men, 'man', 'men'),
@@ -152,6 +171,6 @@ export function unitFacts(unit) {
 
 function unreadPart(report) {
   if (report.unread.length === 0) return null;
-  return el('section', {}, el('h3', {}, 'Lines that this page can not read'),
+  return el('section', {}, el('h3', {}, 'Lines that this page cannot read'),
     el('pre', {}, report.unread.map((entry) => entry.text).join('\n')));
 }

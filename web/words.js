@@ -1,10 +1,12 @@
 // What the answers, faults and refusals mean, in words.
 
 export const LINE_FAULTS = {
-  1: ['NoUnit', 'no UNIT line is above this order, or the FORM above it has a fault. Write UNIT and a number above it.'],
+  1: ['NoUnit',
+    'no UNIT line is above this order, or the FORM above it has a fault. Write UNIT and a number above it.'],
   2: ['UnknownOrder', 'the first word is no order, or it is not written whole.'],
   3: ['BadNumber', 'a number is missing here, or it is out of its range.'],
-  4: ['UnknownThing', 'the world has no item, skill or kind of structure of that name. After NAME comes UNIT, FACTION, BUILDING or SHIP.'],
+  4: ['UnknownThing',
+    'the world has no item, skill or kind of that name. After NAME comes UNIT, FACTION, BUILDING or SHIP.'],
   5: ['MissingWord', 'the line ends too early: a word is missing.'],
   6: ['BadByte', 'a letter or sign is not allowed, also in a comment. Use English letters, digits and plain signs.'],
   7: ['BadAlias', 'after FORM or NEW comes a number from 1 to 9,999, and each FORM has its own.'],
@@ -16,9 +18,10 @@ export const LINE_FAULTS = {
 
 export const EVENT_FAULTS = {
   1: ['NotYours', 'the unit is not there, or it is not yours. Look at the numbers in your report.'],
-  2: ['NotHere', 'the other unit or the structure is not in this region, or the unit is not inside. Give first, then go.'],
+  2: ['NotHere',
+    'the other unit or the structure is not in this region, or the unit is not inside. Give first, then go.'],
   3: ['NotEnough', 'the unit has less than the order asks for. PAY or GIVE to it in the same mailing.'],
-  4: ['NoRoom', 'the receiver can not hold so much. Give less.'],
+  4: ['NoRoom', 'the receiver cannot hold so much. Give less.'],
   5: ['Guarded', 'another faction guards the region. Ask them to stop with GUARD 0, or go elsewhere.'],
   6: ['NotOwner', 'another unit owns the structure. Let the owner PROMOTE this one.'],
   7: ['NotInside', 'the unit is inside no structure, or in none of this kind. ENTER in the same mailing.'],
@@ -31,18 +34,20 @@ export const EVENT_FAULTS = {
   14: ['NoMaterial', 'the unit has none of the material, or too little. Let others GIVE it in the same mailing.'],
   15: ['Complete', 'the structure is finished.'],
   16: ['StructureLimit', 'no further structure can be begun.'],
-  17: ['NoWay', 'no region is there, or it can not be entered in this way. Look at the exits.'],
+  17: ['NoWay', 'no region is there, or it cannot be entered in this way. Look at the exits.'],
   18: ['TooHeavy', 'the goods weigh more than can be carried. Give something away first.'],
   19: ['NotComplete', 'this is no ship, or the ship is not finished. BUILD inside it.'],
   20: ['NoCrew', 'the sailors aboard are too few, or their level is too low.'],
-  21: ['NotLearning', 'no unit of the list studies in this region. Let it STUDY in the same month, with money for the fee.'],
+  21: ['NotLearning',
+    'no unit of the list studies in this region. Let it STUDY in the same month, with money for the fee.'],
   22: ['CannotTeach', 'the teacher has no higher level than those who study.'],
   23: ['NoFee', 'the unit has less money than the fee of all its men. PAY to it in the same mailing.'],
   24: ['NoMarket', 'the region has no market for this item. Look at the markets in your report.'],
 };
 
 export const REFUSALS = {
-  BadName: 'a name has 1 to 40 English letters, digits, spaces and signs, no " and no space at its beginning or end. Choose another name.',
+  BadName:
+    'a name has 1 to 40 English letters, digits, spaces and signs. It has no " and no space at its beginning or end.',
   BadPassText: 'a pass text has 1 to 40 English letters, digits and signs, without any space. Choose another one.',
   NameTaken: 'a faction has joined under this name already. Choose another name.',
   Full: 'the campaign takes no further faction. Ask the moderator.',
@@ -59,24 +64,24 @@ export const REFUSALS = {
   Cut: 'the text did not arrive whole. Try again.',
   ReadFault: 'the text did not arrive whole. Try again.',
   WriteFault: 'the answer did not arrive whole. Try again.',
-  BadRequest: 'the program can not read this request. Ask the moderator whether the server is set up for this page.',
+  BadRequest: 'the program cannot read this request. Ask the moderator whether the server is set up for this page.',
   NoRoute: 'the program has nothing at this address. Check the faction number.',
   BadMethod: 'the program does not answer this kind of request. Ask the moderator.',
   NoLength: 'the length of the text did not arrive. Ask the moderator whether the server is set up for this page.',
   BodyTooLong: 'the text has more than 65,536 bytes. Leave out what is not needed.',
   NoPass: 'the pass text did not arrive. Type it again, or ask the moderator.',
-  BadJson: 'the program can not read this request. Ask the moderator.',
+  BadJson: 'the program cannot read this request. Ask the moderator.',
 };
 
 export const LOST = {
   Timeout: 'No answer came in 30 seconds.',
-  Unreachable: 'The server can not be reached. It is down, or you are offline. Try again later.',
+  Unreachable: 'The server cannot be reached. It is down, or you are offline. Try again later.',
   CutOff: 'The answer was cut off. Try again.',
   Redirect: 'The server sent the request elsewhere (a redirect), so it was not followed. Ask the moderator.',
 };
 
 export const STATUSES = {
-  400: 'the server can not read this request. Ask the moderator.',
+  400: 'the server cannot read this request. Ask the moderator.',
   401: 'the server asks for a sign-in of its own. Ask the moderator.',
   403: 'the server does not allow this. Ask the moderator.',
   404: 'the server has nothing at this address. Ask the moderator.',
@@ -133,7 +138,7 @@ export function refusalWords(name) {
 }
 
 export function statusWords(status) {
-  const known = Object.hasOwn(STATUSES, status) ? STATUSES[status] : 'the server gave an answer that this page does not know.';
+  const known = Object.hasOwn(STATUSES, status) ? STATUSES[status] : 'this page does not know what that means.';
   return `Status ${status}: ${known}`;
 }
 
@@ -143,30 +148,44 @@ export function counted(number, one, many = `${one}s`) {
 
 // form, example, what it does, what it needs
 export const ORDERS = [
-  ['FORM a .. END', 'FORM 7', 'forms a new unit, for which the orders up to END are. In this mailing it is NEW 7.', 'Give the new unit men and money in the same month, else it is gone at its end.'],
+  ['FORM a .. END', 'FORM 7',
+    'forms a new unit, for which the orders up to END are. In this mailing it is NEW 7.',
+    'Give the new unit men and money in the same month, else it is gone at its end.'],
   ['NAME UNIT name', 'NAME UNIT "Woodcutters of Far"', 'gives the unit a name.', ''],
   ['NAME FACTION name', 'NAME FACTION Avalon_the_Green', 'gives your faction a name.', ''],
-  ['NAME BUILDING name', 'NAME BUILDING Lodge_of_Far', 'gives the building a name.', 'The unit is inside the building and owns it.'],
+  ['NAME BUILDING name', 'NAME BUILDING Lodge_of_Far',
+    'gives the building a name.', 'The unit is inside the building and owns it.'],
   ['NAME SHIP name', 'NAME SHIP "Sea Lion"', 'gives the ship a name.', 'The unit is inside the ship and owns it.'],
   ['GUARD 1', 'GUARD 1', 'guards the region from now on.', 'Men, and no unit of another faction on guard there.'],
   ['GUARD 0', 'GUARD 0', 'no longer guards.', ''],
   ['ENTER n, BOARD n', 'ENTER 4', 'goes into structure n.', 'The structure is in the same region.'],
   ['LEAVE', 'LEAVE', 'goes out of the structure.', 'The unit is inside one, on land.'],
-  ['PROMOTE u', 'PROMOTE 12', 'makes unit u the owner of the structure.', 'The unit owns the structure, and u is inside.'],
+  ['PROMOTE u', 'PROMOTE 12',
+    'makes unit u the owner of the structure.', 'The unit owns the structure, and u is inside.'],
   ['GIVE u n item', 'GIVE 12 5 wood', 'gives unit u n of an item.', 'u is in the same region; n of the item.'],
   ['PAY u n', 'PAY NEW 7 200', 'gives unit u n money.', 'u is in the same region; n money.'],
-  ['TRANSFER u n', 'TRANSFER NEW 7 2', 'moves n men to unit u, with their part of the days.', 'u is yours and in the same region; n men.'],
-  ['SELL n item', 'SELL 4 wood', 'sells up to n of an item to the market.', 'A market for the item, and at least one of it.'],
-  ['BUY n item', 'BUY 2 wood', 'buys up to n of an item from the market.', 'A market for the item, and money for at least one.'],
+  ['TRANSFER u n', 'TRANSFER NEW 7 2',
+    'moves n men to unit u, with their part of the days.', 'u is yours and in the same region; n men.'],
+  ['SELL n item', 'SELL 4 wood',
+    'sells up to n of an item to the market.', 'A market for the item, and at least one of it.'],
+  ['BUY n item', 'BUY 2 wood',
+    'buys up to n of an item from the market.', 'A market for the item, and money for at least one.'],
   ['TAX', 'TAX', 'takes money from the region that it guards.', 'Men, on guard since an earlier month.'],
   ['RECRUIT n', 'RECRUIT 5', 'hires n of the peasants.', 'The price of a recruit for each.'],
   ['QUIT f', 'QUIT 1', 'takes your whole faction f out of the game.', 'The number of your own faction.'],
   ['STUDY skill', 'STUDY lumberjack', 'learns for the month.', 'Men, and the fee for each of them.'],
-  ['TEACH u ..', 'TEACH 12 NEW 7', 'teaches these units for the month: ten men for each of its own.', 'Men, and a higher level in what the others study.'],
-  ['PRODUCE item', 'PRODUCE wood', 'makes an item for the month.', 'Men with the skill; the raw items, or a region that has the item.'],
-  ['BUILD kind', 'BUILD boat', 'begins a structure, and builds at it for the month.', 'Men with the skill, on land; the material.'],
+  ['TEACH u ..', 'TEACH 12 NEW 7',
+    'teaches these units for the month: ten men for each of its own.',
+    'Men, and a higher level in what the others study.'],
+  ['PRODUCE item', 'PRODUCE wood',
+    'makes an item for the month.', 'Men with the skill; the raw items, or a region that has the item.'],
+  ['BUILD kind', 'BUILD boat',
+    'begins a structure, and builds at it for the month.', 'Men with the skill, on land; the material.'],
   ['BUILD', 'BUILD', 'builds for the month at the structure that it is in.', 'Men with the skill; the material.'],
   ['WORK', 'WORK', 'works for wages for the month.', 'Men, and free places.'],
-  ['MOVE d', 'MOVE north', 'walks to the next region north, south, east or west.', 'Men, land on both sides, goods that it can carry.'],
-  ['SAIL d', 'SAIL west', 'sails its ship to the next region.', 'Men inside a complete ship that the unit owns; crew; water on one side at least.'],
+  ['MOVE d', 'MOVE north',
+    'walks to the next region north, south, east or west.', 'Men, land on both sides, goods that it can carry.'],
+  ['SAIL d', 'SAIL west',
+    'sails its ship to the next region.',
+    'Men inside a complete ship that the unit owns; crew; water on one side at least.'],
 ];
