@@ -5,9 +5,13 @@ import { badLines, splitLines } from './mailing.js';
 
 let lines = [''];
 let faults = [];
+let bad = [];
+const numbers = [];
+const marked = [];
 
 export const text = () => byId('orders-text').value;
 export const faultyLines = () => faults;
+export const badLinesNow = () => bad;
 export const faultyText = (line) => lines[line - 1] ?? '';
 
 export function setText(fresh) {
@@ -28,6 +32,7 @@ function takeLines() {
   const fresh = splitLines(text());
   faults = moved(faults, lines, fresh);
   lines = fresh;
+  bad = badLines(text());
   showLines();
 }
 
@@ -55,16 +60,27 @@ function sameEnd(old, fresh, start) {
 }
 
 function showLines() {
-  const gutter = byId('orders-lines');
-  while (gutter.children.length > lines.length) gutter.lastChild.remove();
-  while (gutter.children.length < lines.length) gutter.append(newLine(gutter.children.length + 1));
-  const faulty = new Set(faults.filter((fault) => !fault.changed).map((fault) => fault.line));
-  const bad = new Set(badLines(text()).map((entry) => entry.line));
-  for (const node of gutter.children) {
-    const line = Number(node.dataset.line);
-    node.className = faulty.has(line) ? 'faulty' : bad.has(line) ? 'warned' : '';
+  for (const node of numbers.splice(lines.length)) node.remove();
+  const fresh = document.createDocumentFragment();
+  while (numbers.length < lines.length) {
+    const node = newLine(numbers.length + 1);
+    numbers.push(node);
+    fresh.append(node);
   }
+  byId('orders-lines').append(fresh);
+  for (const node of marked.splice(0)) node.className = '';
+  mark(bad, 'warned');
+  mark(faults.filter((fault) => !fault.changed), 'faulty');
   scrollLines();
+}
+
+function mark(entries, name) {
+  for (const { line } of entries) {
+    const node = numbers[line - 1];
+    if (!node) continue;
+    node.className = name;
+    marked.push(node);
+  }
 }
 
 function newLine(number) {

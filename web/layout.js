@@ -62,7 +62,9 @@ function walk(start, regions, placed) {
 // Puts the parts beside and below one another, with a free column or row between them.
 function pack(parts) {
   const boxes = parts.map(boxOf);
-  const most = Math.max(LEAST_WIDTH, ...boxes.map((box) => box.width));
+  const area = boxes.reduce((sum, box) => sum + (box.width + 1) * (box.height + 1), 0);
+  const least = Math.max(LEAST_WIDTH, Math.ceil(Math.sqrt(area)));
+  const most = boxes.reduce((width, box) => Math.max(width, box.width), least);
   const places = new Map();
   const at = { x: 0, y: 0, height: 0, width: 0 };
   for (const box of boxes) {

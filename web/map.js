@@ -113,10 +113,14 @@ function showNote() {
 
 function showCrooked(crooked) {
   const names = regionNames();
-  const items = crooked
-    .map(({ from, way, to }) => el('li', {}, `${nameOf(from, names)}: ${way} to ${nameOf(to, names)}`));
-  const list = [el('h3', {}, 'Ways that cannot be drawn'), el('ul', {}, ...items)];
-  byId('map-ways').replaceChildren(...(items.length === 0 ? [] : list));
+  const items = crooked.map((way) => el('li', {}, wayWords(way, names)));
+  const list = el('details', {}, el('summary', {}, `${counted(items.length, 'way')} that the map cannot draw`),
+    el('ul', {}, ...items));
+  byId('map-ways').replaceChildren(...(items.length === 0 ? [] : [list]));
+}
+
+function wayWords({ from, way, to }, names) {
+  return `${nameOf(from, names)}: ${way} ${from === to ? 'leads back to it' : `to ${nameOf(to, names)}`}`;
 }
 
 function regionNames() {

@@ -4,9 +4,11 @@ import { byId, busy, button, el, say } from './dom.js';
 import { accepted, ask, jsonOf, refusalOf, unreadable } from './ask.js';
 import { currentFaction, signedIn } from './signin.js';
 import { counted, lineFaultWords, ORDERS, refusalWords } from './words.js';
-import { badLines, byteLength, emptyMailing, MOST_BYTES, plainSigns, readMailing, template } from './mailing.js';
+import { byteLength, emptyMailing, MOST_BYTES, plainSigns, readMailing, template } from './mailing.js';
 import { draftOf, forgetDraft, keepDraft, keepMailings, latestMonth, mailingsOf, reportOf } from './store.js';
-import { clearFaults, faultyLines, faultyText, jumpTo, setFaults, setText, text, watchText } from './editor.js';
+import {
+  badLinesNow, clearFaults, faultyLines, faultyText, jumpTo, setFaults, setText, text, watchText,
+} from './editor.js';
 import { parseReport } from './report.js';
 
 const MOST_MAILINGS = 30;
@@ -94,7 +96,7 @@ function missingHeader(faction) {
 
 function signsNote(written) {
   const known = new Set(faultyLines().filter((fault) => !fault.changed).map((fault) => fault.line));
-  const bad = badLines(written).filter((entry) => !known.has(entry.line));
+  const bad = badLinesNow().filter((entry) => !known.has(entry.line));
   if (bad.length === 0) return null;
   const items = bad.slice(0, MOST_NOTES)
     .map(({ line, signs }) => el('li', {}, lineButton(line), `: BadByte: ${signs.map(signName).join(' ')}`));
@@ -278,12 +280,19 @@ function markAccepted(faction) {
 // A new month begins: the editor starts from its template, unless there is a draft.
 function newMonth() {
   const faction = currentFaction();
-  if (draftOf(faction) === null) {
-    setText(startText(faction));
-    markAccepted(faction);
-  }
+  if (faction !== null && draftOf(faction) === null) startAnew(faction);
   edited();
   showAccepted();
+}
+
+function startAnew(faction) {
+  const fresh = startText(faction);
+  if (fresh === text()) return;
+  setText(fresh);
+  markAccepted(faction);
+  before = null;
+  byId('orders-undo').hidden = true;
+  say(byId('orders-answer'), 'plain');
 }
 
 function showHelp() {

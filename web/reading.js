@@ -70,6 +70,8 @@ function keep(faction, month, text) {
 // Reports don't change, so this one is of another campaign, or of one that was put back to an older month.
 function askToReplace(faction, month, text) {
   display(text, month, null);
+  byId('report-month').prepend(el('option', { value: '' }, `Month ${month}, not kept`));
+  byId('report-month').value = '';
   say(byId('report-answer'), 'mixed',
     el('p', {}, `This report of month ${month} does not go with the months that this browser keeps.`
       + ' The moderator may have begun another campaign, or put back an older month.'
