@@ -19,9 +19,11 @@ export function setText(fresh) {
   takeLines();
 }
 
-export function setFaults(pairs) {
+// Marks the faulty lines of the text that was sent, which may have been edited since.
+export function setFaults(pairs, sent = text()) {
+  lines = splitLines(sent);
   faults = pairs.map(([line, number]) => ({ line, number, changed: false }));
-  showLines();
+  takeLines();
 }
 
 export function clearFaults() {

@@ -136,8 +136,10 @@ function choose(number) {
   chosen = number;
   const first = number ?? [...regions.values()].find((region) => region.seen === latest)?.number;
   for (const group of byId('map').querySelectorAll('[data-region]')) {
-    group.classList.toggle('chosen', Number(group.dataset.region) === number);
-    group.setAttribute('tabindex', Number(group.dataset.region) === first ? '0' : '-1');
+    const here = Number(group.dataset.region);
+    group.classList.toggle('chosen', here === number);
+    group.setAttribute('aria-pressed', String(here === number));
+    group.setAttribute('tabindex', here === first ? '0' : '-1');
   }
   byId('map-region').replaceChildren(...(number === null ? [] : [details(regions.get(number))]));
 }

@@ -5,7 +5,10 @@ import { accepted, ask, jsonOf, refusalOf, unreadable } from './ask.js';
 import { currentFaction, signedIn } from './signin.js';
 import { counted, lineFaultWords, ORDERS, refusalWords } from './words.js';
 import { byteLength, emptyMailing, MOST_BYTES, plainSigns, readMailing, template } from './mailing.js';
-import { draftOf, forgetDraft, keepDraft, keepMailings, latestMonth, mailingsOf, reportOf } from './store.js';
+import {
+  draftOf, earlierOf, forgetDraft, forgetEarlier, keepDraft, keepEarlier, keepMailings, latestMonth, mailingsOf,
+  reportOf,
+} from './store.js';
 import {
   badLinesNow, clearFaults, faultyLines, faultyText, jumpTo, setFaults, setText, text, watchText,
 } from './editor.js';
@@ -18,7 +21,6 @@ const KEPT = ' Your text is kept in this browser as a draft.';
 const NO_TEMPLATE = 'This browser keeps no report of this faction. Fetch it first: then the template has your units.';
 const PERHAPS = ' The mailing may have been taken all the same. Send it again: the last one counts.';
 
-let before = null;
 let draftIsKept = true;
 const made = { source: null, text: null };
 
@@ -77,7 +79,8 @@ function showNotes() {
   byId('orders-count').textContent = bytes >= NEAR
     ? `${bytes.toLocaleString('en')} of ${MOST_BYTES.toLocaleString('en')} bytes` : '';
   byId('orders-count').classList.toggle('bad', bytes > MOST_BYTES);
-  byId('orders-notes').replaceChildren(...[headerNote(written), signsNote(written)].filter((note) => note !== null));
+  const notes = el('div', {}, headerNote(written), signsNote(written));
+  if (notes.textContent !== byId('orders-notes').textContent) byId('orders-notes').replaceChildren(notes);
 }
 
 function headerNote(written) {
@@ -116,18 +119,19 @@ function signName(sign) {
 }
 
 function replaceText(fresh) {
-  before = text();
+  keepEarlier(currentFaction(), text());
   setText(fresh);
-  byId('orders-undo').hidden = false;
   edited();
+  showEarlier();
   byId('orders-text').focus();
 }
 
-function undo() {
-  const back = before;
-  before = text();
-  setText(back);
-  edited();
+function bringBack() {
+  replaceText(earlierOf(currentFaction()) ?? text());
+}
+
+function showEarlier() {
+  byId('orders-undo').hidden = (earlierOf(currentFaction()) ?? '').trim() === '';
 }
 
 // ---- faulty lines
@@ -223,9 +227,11 @@ function take(faction, written, answer) {
   const mailing = { text: written, at: Date.now(), orders, faults, after: latestMonth(faction) };
   const kept = keepMailings(faction, [...mailingsOf(faction), mailing].slice(-MOST_MAILINGS));
   if (draftOf(faction) === written) forgetDraft(faction);
+  forgetEarlier(faction);
   if (faction !== currentFaction()) return;
-  if (text() === written) setFaults(answer.faults);
+  setFaults(faults, written);
   showTaken(answer, kept);
+  showEarlier();
   showAccepted();
   showFaults();
   showNotes();
@@ -262,9 +268,9 @@ function changeFaction(event) {
   const stray = event.detail.before === null && text().trim() !== '' ? text() : null;
   const start = faction === null ? '' : startText(faction);
   const stays = stray !== null && start === emptyMailing(faction);
-  before = stays ? null : stray;
-  byId('orders-undo').hidden = before === null;
+  if (stray !== null && !stays) keepEarlier(faction, stray);
   if (!stays) setText(start);
+  showEarlier();
   markAccepted(faction);
   say(byId('orders-answer'), 'plain');
   edited();
@@ -290,8 +296,7 @@ function startAnew(faction) {
   if (fresh === text()) return;
   setText(fresh);
   markAccepted(faction);
-  before = null;
-  byId('orders-undo').hidden = true;
+  showEarlier();
   say(byId('orders-answer'), 'plain');
 }
 
@@ -315,7 +320,7 @@ export function startOrders() {
   watchText(edited);
   byId('orders-send').addEventListener('click', () => busy(byId('orders-send'), send));
   byId('orders-template').addEventListener('click', useTemplate);
-  byId('orders-undo').addEventListener('click', undo);
+  byId('orders-undo').addEventListener('click', bringBack);
   byId('orders-restore').addEventListener('click', restoreAccepted);
   window.addEventListener('beforeunload', holdPage);
   document.addEventListener('faction', changeFaction);

@@ -7,8 +7,8 @@ import { parseReport } from './report.js';
 import { fits } from './mailing.js';
 import { showReport } from './view.js';
 import {
-  forgetDraft, forgetMailings, forgetPass, forgetReport, keepMailings, keepReport, latestMonth, mailingsOf, monthsOf,
-  reportOf,
+  forgetDraft, forgetEarlier, forgetMailings, forgetPass, forgetReport, keepMailings, keepReport, latestMonth,
+  mailingsOf, monthsOf, reportOf,
 } from './store.js';
 
 const NO_REPORT = 'The server sent something that is not a report of this faction. It is shown below, and not kept.';
@@ -17,6 +17,7 @@ let shown = null;
 
 // The mailing of which a report tells, if this browser has it. It is marked with the month, and older ones go.
 function mailingOf(faction, report) {
+  if (report.month === 0) return null;
   const list = mailingsOf(faction);
   const known = list.find((mailing) => mailing.month === report.month);
   if (known) return known;
@@ -166,6 +167,7 @@ function forgetAll() {
   for (const month of monthsOf(faction)) forgetReport(faction, month);
   forgetMailings(faction);
   forgetDraft(faction);
+  forgetEarlier(faction);
   forgetPass(faction);
   byId('remember').checked = false;
   showLatest();

@@ -51,6 +51,11 @@ export const draftOf = (faction) => get(`${faction}.draft`);
 export const keepDraft = (faction, text) => set(`${faction}.draft`, text);
 export const forgetDraft = (faction) => remove(`${faction}.draft`);
 
+// The text that was last replaced at the press of a button. Without a faction it is kept under 0.
+export const earlierOf = (faction) => get(`${faction ?? 0}.earlier`);
+export const keepEarlier = (faction, text) => set(`${faction ?? 0}.earlier`, text);
+export const forgetEarlier = (faction) => remove(`${faction ?? 0}.earlier`);
+
 export function monthsOf(faction) {
   const start = `${faction}.report.`;
   const keys = new Set([...keptKeys(), ...held.keys()].filter((key) => key.startsWith(start)));
