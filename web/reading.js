@@ -14,6 +14,7 @@ import {
 const NO_REPORT = 'The server sent something that is not a report of this faction. It is shown below, and not kept.';
 
 let shown = null;
+let removal = null;
 
 // The mailing of which a report tells, if this browser has it. It is marked with the month, and older ones go.
 function mailingOf(faction, report) {
@@ -147,22 +148,28 @@ function save() {
 
 function dropMonth() {
   const faction = currentFaction();
-  if (faction === null || shown === null || reportOf(faction, shown.month) === null) return;
-  const { month } = shown;
-  forgetReport(faction, month);
+  const month = shown === null ? null : shown.month;
+  if (faction !== null && month !== null) forgetReport(faction, month);
   document.dispatchEvent(new CustomEvent('kept'));
   showLatest();
-  say(byId('report-answer'), 'plain', `This browser no longer keeps month ${month}.`);
+  const words = month === null ? 'No month is shown.' : `This browser no longer keeps month ${month}.`;
+  say(byId('report-answer'), 'plain', words);
 }
 
-function sure(open) {
-  byId('report-forget-sure').hidden = !open;
-  byId(open ? 'report-forget-no' : 'report-forget').focus();
+function askSure(remove) {
+  removal = { remove, from: document.activeElement };
+  byId('report-forget-sure').hidden = false;
+  byId('report-forget-no').focus();
+}
+
+function endSure(act) {
+  byId('report-forget-sure').hidden = true;
+  removal.from.focus();
+  if (act) removal.remove();
 }
 
 function forgetAll() {
   const faction = currentFaction();
-  sure(false);
   if (faction === null) return;
   for (const month of monthsOf(faction)) forgetReport(faction, month);
   forgetMailings(faction);
@@ -179,10 +186,10 @@ export function startReport() {
   byId('report-fetch').addEventListener('click', () => busy(byId('report-fetch'), fetchReport));
   byId('report-month').addEventListener('change', showChosen);
   byId('report-save').addEventListener('click', save);
-  byId('report-drop').addEventListener('click', dropMonth);
-  byId('report-forget').addEventListener('click', () => sure(true));
-  byId('report-forget-no').addEventListener('click', () => sure(false));
-  byId('report-forget-yes').addEventListener('click', forgetAll);
+  byId('report-drop').addEventListener('click', () => askSure(dropMonth));
+  byId('report-forget').addEventListener('click', () => askSure(forgetAll));
+  byId('report-forget-no').addEventListener('click', () => endSure(false));
+  byId('report-forget-yes').addEventListener('click', () => endSure(true));
   document.addEventListener('faction', showLatest);
   showLatest();
 }
