@@ -9,7 +9,7 @@ const KINDS = [
   ['None\\.', () => true],
   [`Line ${NUMBER}: ${NUMBER} (\\w+)\\.`, readFault],
   [`Unit ${NUMBER}, line ${NUMBER}, ([A-Z]+): done ${NUMBER}\\.`, readDone],
-  [`Unit ${NUMBER}, line ${NUMBER}, ([A-Z]+): fault ${NUMBER} (\\w+)\\.`, readFailed],
+  [`Unit ${NUMBER}, line ${NUMBER}, ([A-Z]+): fault ${NUMBER} (\\w*)\\.`, readFailed],
   [`Unit ${NUMBER}: ${NUMBER} starved\\.`, readStarved],
   [`Region ${NUMBER} ${NAME}, (.+): ${NUMBER} peasants, ${NUMBER} money\\.`, readRegion],
   ['Exits: (.+)\\.', readExits],
