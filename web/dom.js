@@ -1,4 +1,4 @@
-// Makes elements. Text is put in as text alone.
+// Makes elements. Text is put in as text alone. A child may also be null, or a list of children.
 
 const SVG = 'http://www.w3.org/2000/svg';
 
@@ -14,8 +14,13 @@ export function svg(tag, attributes = {}, ...children) {
 
 function fill(node, attributes, children) {
   for (const [name, value] of Object.entries(attributes)) node.setAttribute(name, value);
-  node.append(...children.filter((child) => child !== null));
+  for (const child of children.flat()) if (child !== null) node.append(child);
   return node;
+}
+
+export function replaceAll(node, children) {
+  node.replaceChildren();
+  return fill(node, {}, children);
 }
 
 export function button(text, act, attributes = {}) {

@@ -2,7 +2,7 @@
 // begin a part of their own.
 
 const STEPS = { north: [0, -1], south: [0, 1], east: [1, 0], west: [-1, 0] };
-export const BACK = { north: 'south', south: 'north', east: 'west', west: 'east' };
+const BACK = { north: 'south', south: 'north', east: 'west', west: 'east' };
 const LEAST_WIDTH = 5;
 
 // All regions of the reports, given from the oldest to the newest, by number. `seen` is the month of the last report

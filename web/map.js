@@ -1,6 +1,6 @@
 // The part that draws the regions of all kept reports.
 
-import { byId, el, svg } from './dom.js';
+import { byId, el, replaceAll, svg } from './dom.js';
 import { currentFaction } from './signin.js';
 import { monthsOf, reportOf } from './store.js';
 import { parseReport } from './report.js';
@@ -41,8 +41,8 @@ function draw() {
   const size = { width: Math.max(1, width) * step.x, height: Math.max(1, height) * step.y };
   byId('map').setAttribute('viewBox', `0 0 ${size.width} ${size.height}`);
   byId('map').dataset.width = String(size.width);
-  byId('map').replaceChildren(...ways.map((way) => drawWay(corner(way.from), corner(way.to))),
-    ...[...places.keys()].map((number) => drawRegion(regions.get(number), corner(number))));
+  replaceAll(byId('map'), [ways.map((way) => drawWay(corner(way.from), corner(way.to))),
+    [...places.keys()].map((number) => drawRegion(regions.get(number), corner(number)))]);
   showNote();
   showCrooked(crooked);
   choose(regions.has(chosen) ? chosen : null);
@@ -62,7 +62,7 @@ function drawRegion(region, { x, y }) {
   const group = svg('g', {
     class: `region ${terrainClass(region)}`, 'data-region': region.number, role: 'button', 'aria-label': label,
   }, svg('title', {}, label), svg('rect', { x, y, width, height, rx: 8 }),
-  svg('svg', { x, y, width: width - 2, height }, ...lines));
+  svg('svg', { x, y, width: width - 2, height }, lines));
   group.addEventListener('click', () => choose(region.number));
   group.addEventListener('keydown', (event) => byKey(event, region));
   return group;
@@ -115,7 +115,7 @@ function showCrooked(crooked) {
   const names = regionNames();
   const items = crooked.map((way) => el('li', {}, wayWords(way, names)));
   const list = el('details', {}, el('summary', {}, `${counted(items.length, 'way')} that the map cannot draw`),
-    el('ul', {}, ...items));
+    el('ul', {}, items));
   byId('map-ways').replaceChildren(...(items.length === 0 ? [] : [list]));
 }
 
@@ -134,7 +134,7 @@ function nameOf(number, names) {
 
 function choose(number) {
   chosen = number;
-  const first = number ?? [...regions.values()].find((region) => region.seen === latest)?.number;
+  const first = number ?? startingRegion();
   for (const group of byId('map').querySelectorAll('[data-region]')) {
     const here = Number(group.dataset.region);
     group.classList.toggle('chosen', here === number);
@@ -142,6 +142,11 @@ function choose(number) {
     group.setAttribute('tabindex', here === first ? '0' : '-1');
   }
   byId('map-region').replaceChildren(...(number === null ? [] : [details(regions.get(number))]));
+}
+
+function startingRegion() {
+  const now = [...regions.values()].find((region) => region.seen === latest);
+  return now ? now.number : [...regions.keys()][0];
 }
 
 function details(region) {
@@ -164,7 +169,6 @@ function byKey(event, region) {
 
 function fit() {
   zoom = null;
-  byId('map').classList.remove('zoomed');
   byId('map').style.width = '';
   byId('map').style.maxWidth = `min(100%, ${byId('map').dataset.width}px)`;
 }

@@ -1,6 +1,6 @@
 // The part that edits and sends the month's mailing.
 
-import { byId, busy, button, el, say } from './dom.js';
+import { byId, busy, button, el, replaceAll, say } from './dom.js';
 import { accepted, ask, jsonOf, refusalOf, unreadable } from './ask.js';
 import { currentFaction, signedIn } from './signin.js';
 import { counted, lineFaultWords, ORDERS, refusalWords } from './words.js';
@@ -19,7 +19,7 @@ const NEAR = 60000;
 const MOST_NOTES = 20;
 const KEPT = ' Your text is kept in this browser as a draft.';
 const NO_TEMPLATE = 'This browser keeps no report of this faction. Fetch it first: then the template has your units.';
-const PERHAPS = ' The mailing may have been taken all the same. Send it again: the last one counts.';
+const PERHAPS = ' The orders may have been taken all the same. Send them again: the last ones count.';
 
 let draftIsKept = true;
 const made = { source: null, text: null };
@@ -105,7 +105,7 @@ function signsNote(written) {
     .map(({ line, signs }) => el('li', {}, lineButton(line), `: BadByte: ${signs.map(signName).join(' ')}`));
   const more = bad.length > MOST_NOTES ? el('p', {}, `.. and ${counted(bad.length - MOST_NOTES, 'more line')}.`) : null;
   return el('div', { class: 'note warn' }, el('p', {}, 'Orders cannot have these letters and signs:'),
-    el('ul', {}, ...items), more, plainSigns(written) === written ? null : replaceButton());
+    el('ul', {}, items), more, plainSigns(written) === written ? null : replaceButton());
 }
 
 function replaceButton() {
@@ -141,7 +141,7 @@ function lineButton(line) {
 }
 
 function showFaults() {
-  byId('orders-faults').replaceChildren(...faultyLines().map(({ line, number, changed }) => {
+  replaceAll(byId('orders-faults'), faultyLines().map(({ line, number, changed }) => {
     const now = changed ? el('em', {}, '(changed after it was sent)') : el('code', {}, faultyText(line).trim());
     return el('li', { 'data-line': line }, lineButton(line), `: ${lineFaultWords(number)} `, now);
   }));
@@ -170,7 +170,7 @@ function showAccepted() {
 function acceptedLast(faction, last) {
   if (last.month !== undefined) return `${acceptedWords(last)}, for month ${last.month}. That month is closed.`;
   if (!isPending(faction, last)) return `${acceptedWords(last)}. A month was closed after that.`;
-  return `${acceptedWords(last)}. The last mailing that is accepted counts, as a whole.`;
+  return `${acceptedWords(last)}. Only the orders that were accepted last count, as a whole.`;
 }
 
 function showState() {
@@ -303,7 +303,7 @@ function startAnew(faction) {
 function showHelp() {
   byId('orders-help').replaceChildren(...ORDERS.flatMap(([form, example, does, needs]) => [
     el('dt', {}, el('code', {}, form)),
-    el('dd', {}, does, needs === '' ? '' : ` Needs: ${needs}`, ...exampleOf(form, example)),
+    el('dd', {}, does, needs === '' ? '' : ` Needs: ${needs}`, exampleOf(form, example)),
   ]));
 }
 

@@ -1,6 +1,6 @@
 // The part that fetches a report, keeps it by month, and shows it as text and read.
 
-import { busy, button, byId, el, say } from './dom.js';
+import { busy, button, byId, el, replaceAll, say } from './dom.js';
 import { accepted, ask, refusalOf, unreadable } from './ask.js';
 import { currentFaction, signedIn } from './signin.js';
 import { parseReport } from './report.js';
@@ -120,7 +120,7 @@ function emptyNote() {
 function listMonths(faction, chosen) {
   const months = faction === null ? [] : monthsOf(faction).reverse();
   const options = months.map((month) => el('option', { value: month }, `Month ${month}`));
-  byId('report-month').replaceChildren(...(options.length > 0 ? options : [el('option', { value: '' }, 'none')]));
+  replaceAll(byId('report-month'), options.length > 0 ? options : [el('option', { value: '' }, 'none')]);
   byId('report-month').disabled = options.length === 0;
   if (chosen !== null) byId('report-month').value = String(chosen);
 }

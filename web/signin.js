@@ -10,7 +10,7 @@ let passIsKept = false;
 
 export const currentFaction = () => faction;
 
-export function numberIn(text) {
+function numberIn(text) {
   const number = /^\d{1,9}$/.test(text.trim()) ? Number(text) : 0;
   return number >= 1 && number <= 9999 ? number : null;
 }

@@ -4,7 +4,7 @@ import { el } from './dom.js';
 import { readMailing } from './mailing.js';
 import { counted, doneWords, eventFaultWords, lineFaultWords } from './words.js';
 
-const NO_MAILING = 'This browser has no mailing that goes with this report, so it cannot show the orders themselves.';
+const NO_MAILING = 'This browser has no orders that go with this report, so only what came of them is shown.';
 const LATER = 'does not count: a later order of this unit takes its place.';
 
 const numbered = (number) => number.toLocaleString('en');
@@ -12,7 +12,7 @@ const numbered = (number) => number.toLocaleString('en');
 export function showReport(report, mailing) {
   const title = `Month ${report.month}, faction ${report.faction} “${report.name}”`;
   return el('div', { class: 'report' }, el('h3', { class: 'report-title' }, title),
-    ordersPart(report, mailing), ...regionsPart(report), unreadPart(report));
+    ordersPart(report, mailing), regionsPart(report), unreadPart(report));
 }
 
 // ---- orders and what came of them
@@ -21,15 +21,15 @@ function ordersPart(report, mailing) {
   const part = el('section', {}, el('h3', {}, 'What came of the orders'));
   const rows = mailing ? mailingRows(report, mailing) : eventRows(report);
   if (rows.length > 0) part.append(ordersTable(rows));
-  part.append(...loose(report).map((words) => el('p', { class: 'loose' }, words)));
+  for (const words of loose(report)) part.append(el('p', { class: 'loose' }, words));
   if (part.children.length === 1) part.append(el('p', {}, 'None.'));
   else if (!mailing && rows.length > 0) part.append(el('p', { class: 'help' }, NO_MAILING));
   return part;
 }
 
 function ordersTable(rows) {
-  const head = el('tr', {}, ...['Line', 'Order', 'What came of it'].map((title) => el('th', { scope: 'col' }, title)));
-  return el('table', { class: 'outcomes' }, el('thead', {}, head), el('tbody', {}, ...rows));
+  const head = el('tr', {}, ['Line', 'Order', 'What came of it'].map((title) => el('th', { scope: 'col' }, title)));
+  return el('table', { class: 'outcomes' }, el('thead', {}, head), el('tbody', {}, rows));
 }
 
 function outcomeRow(line, order, tone, words) {
@@ -79,8 +79,12 @@ function eventWords(event, unit) {
 function eventRows(report) {
   const faults = report.faults.map((fault) => [fault.line, '', 'failed', faultWords(fault)]);
   const events = report.events.filter((event) => event.line > 0)
-    .map((event) => [event.line, `unit ${event.unit} ${event.verb}`, toneOf([event]), eventWords(event, event.unit)]);
+    .map((event) => [event.line, orderWords(event), toneOf([event]), eventWords(event, event.unit)]);
   return [...faults, ...events].sort((a, b) => a[0] - b[0]).map((row) => outcomeRow(...row));
+}
+
+function orderWords({ unit, verb }) {
+  return unit === 0 ? verb : `unit ${unit} ${verb}`;
 }
 
 // What came without an order: work, and men who starved.
@@ -95,7 +99,7 @@ function loose(report) {
 
 function regionsPart(report) {
   const names = new Map(report.regions.map((region) => [region.number, region.name]));
-  if (report.regions.length === 0) return [el('p', {}, 'No unit with men is in any region.')];
+  if (report.regions.length === 0) return el('p', {}, 'No unit with men is in any region.');
   return report.regions.map((region) => showRegion(region, names));
 }
 
@@ -116,7 +120,7 @@ export function exitWords(exits, names) {
 }
 
 function listPart(title, items) {
-  return items.length === 0 ? null : el('div', {}, el('h4', {}, title), el('ul', { class: 'cards' }, ...items));
+  return items.length === 0 ? null : el('div', {}, el('h4', {}, title), el('ul', { class: 'cards' }, items));
 }
 
 function card(title, facts) {
