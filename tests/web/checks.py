@@ -25,6 +25,7 @@ class Checks:
         try:
             case(*arguments)
         except Exception as error:  # a case that breaks must not stop the others
-            step = traceback.extract_tb(error.__traceback__)[1:2]
-            where = f'{step[0].filename.rsplit("/", 1)[-1]}, line {step[0].lineno}: ' if step else ''
-            self.differs(f'{where}{error}')
+            steps = [f'{step.filename.rsplit("/", 1)[-1]}:{step.lineno}'
+                     for step in traceback.extract_tb(error.__traceback__)]
+            where = ' > '.join(step for step in steps if step.startswith(('lines.py', 'page.py')))
+            self.differs(f'{where}: {type(error).__name__} {error}')

@@ -131,8 +131,9 @@ class Browser:
 
     def put(self, css, text):
         """Sets what the field holds at once, as pasting does."""
-        self.run('const field = document.querySelector(arguments[0]); field.focus(); field.select();'
-                 'document.execCommand("insertText", false, arguments[1]);', css, text)
+        self.run('const field = document.querySelector(arguments[0]); field.focus(); field.value = arguments[1];'
+                 'field.dispatchEvent(new InputEvent("input", {bubbles: true, inputType: "insertFromPaste"}))',
+                 css, text)
 
     def press(self, *keys):
         """Presses the keys one after another."""

@@ -130,15 +130,13 @@ class Lines:
 
     def lengths(self):
         folder = self.proxy.folder
-        for length, wanted in ((65536, 200), (65537, 413), (66560, 413), (66561, 413), (2000000, 413)):
+        for length, wanted in ((65536, 200), (65537, 413), (2000000, 413)):
             path = os.path.join(folder, 'mailing')
             with open(path, 'w') as file:
                 file.write('#ATLANTIS 1\n;'.ljust(length, 'x'))
             for _ in range(5):
-                status, _, body = self.ask('/orders/1', '-H', 'Atlantis-Pass: apple', '--data-binary', f'@{path}')
+                status = self.ask('/orders/1', '-H', 'Atlantis-Pass: apple', '--data-binary', f'@{path}')[0]
                 self.checks.same(f'status of {length} bytes', wanted, status)
-                if 65536 < length <= 66560:
-                    self.checks.same(f'answer to {length} bytes', '{"error":"BodyTooLong","number":0}', body)
 
     def odd(self):
         """Requests that `serve` alone would refuse: chunks, many fields, long cookies."""

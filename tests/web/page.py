@@ -4,6 +4,7 @@ import http.server
 import os
 import re
 import threading
+import time
 
 from club import HERE, curl
 from driver import until
@@ -32,6 +33,7 @@ WORK
 '''
 HOSTILE = ['<b>x</b>', '<img src=x onerror=alert(1)>', "Tom & 'Jerry' &lt;i&gt;",
            '</textarea><script>alert(2)</script>']
+SIGNS = '<i>&"\'</i>'
 KEPT = 'return JSON.stringify([Object.entries(localStorage), Object.entries(sessionStorage), document.cookie])'
 CONTRAST = r'''
 const rgb = (text) => (text.match(/[\d.]+/g) || []).map(Number);
@@ -136,14 +138,19 @@ class Cases:
             self.case(name)
         self.proxy.stop()
         self.proxy.start(self.hostile, [FAST])
+        self.case('another campaign')
         self.case('hostile names')
         self.proxy.stop()
 
     def case(self, name):
-        self.checks.run(f'page, {name}', getattr(self, name.replace(' ', '_')))
-        self.checks.case = f'page, {name}'
-        errors = self.browser.errors()
-        self.checks.true('the console has no errors', not errors, *errors)
+        self.checks.run(f'page, {name}', self.watched, getattr(self, name.replace(' ', '_')))
+
+    def watched(self, act):
+        try:
+            act()
+        finally:
+            errors = self.browser.errors()
+            self.checks.true('the console has no errors', not errors, *errors)
 
     def says(self, what, words, text):
         self.checks.true(f'{what} says {words!r}', re.search(words, text, re.I), text)
@@ -319,6 +326,10 @@ class Cases:
         for length in (65537, 70000):
             self.says(f'{length} bytes', r'65,536', self.page.send(text.ljust(length, 'x')))
         self.says('signs of two bytes', r'65,536', self.page.send(text[:-1] + '\u00e9'))
+        self.says('many lines', r'\b10,?000 orders\b', self.page.send('#ATLANTIS 1\nUNIT 1\n' + 'WORK\n' * 10000))
+        begun = time.monotonic()
+        self.browser.type('#orders-text', 'work')
+        self.checks.true('typing in many lines is quick', time.monotonic() - begun < 5, time.monotonic() - begun)
         self.page.send(MENDED)
 
     def keyboard(self):
@@ -381,6 +392,8 @@ class Cases:
         self.again(FAST)
 
     def limit(self):
+        self.again(FAST, (r'client_max_body_size 64k;', 'client_max_body_size 1k;'))
+        self.says('the orders', r'413.*65,536', self.page.send('#ATLANTIS 1\n;'.ljust(1025, 'x')))
         self.again((r'rate=12r/m;', 'rate=1r/m;'), (r'burst=20 ', 'burst=1 '))
         self.page.fetch()
         self.page.fetch()
@@ -468,25 +481,34 @@ class Cases:
         self.checks.true('dark and light differ', grounds['light'] != grounds['dark'], grounds)
         self.browser.scheme('light')
 
-    def hostile_names(self):
-        """Names and texts with signs of HTML are shown as they are written, and nothing of them runs."""
-        self.browser.open(self.proxy.site + '/icon.svg')
+    def another_campaign(self):
+        """The browser keeps months of another campaign under the number of the faction that joins."""
+        self.checks.same('the kept months', ['0', '1'], self.months())
+        self.says('joining', r'faction 1\b', self.page.join(HOSTILE[0], SIGNS))
+        self.says('the answer', 'another\\s+campaign', self.page.fetch())
+        self.checks.same('the report', self.hostile.report(1, SIGNS), self.browser.text('#report-text'))
+        self.browser.run('[...document.querySelectorAll("#report-answer button")].pop().click()')
+        self.checks.same('the kept months then', ['0'], self.months())
+        self.checks.true('the draft of the other campaign is gone', 'Avalon' not in self.browser.value('#orders-text'))
         self.browser.run('localStorage.clear()')
         self.page.open()
+
+    def hostile_names(self):
+        """Names and texts with signs of HTML are shown as they are written, and nothing of them runs."""
         self.browser.run('window.ran = []; window.alert = (text) => window.ran.push(text)')
-        for name in HOSTILE:
-            self.says(f'joining as {name}', r'faction \d+\b', self.page.join(name, '<i>&"\'</i>'))
+        for name in HOSTILE[1:]:
+            self.says(f'joining as {name}', r'faction \d+\b', self.page.join(name, SIGNS))
         self.says('joining again', 'NameTaken', self.page.join(HOSTILE[0], '<i>'))
         mailing = '#ATLANTIS 1\nUNIT 1\n' + ''.join(f'NAME UNIT "{name}"\n' for name in HOSTILE) + \
             '<img src=x onerror=alert(3)>\n<b>x</b> &amp; "\nTAX\n'
-        self.page.sign_in(1, '<i>&"\'</i>')
+        self.page.sign_in(1, SIGNS)
         self.says('the orders', r'\b5 orders\b', self.page.send(mailing))
         self.checks.same('the text that was accepted', mailing, self.browser.text('#orders-last-text'))
         self.harmless('the orders')
         self.page.shot('13-hostile-orders')
         self.hostile.close(1)
         self.page.fetch()
-        text = self.hostile.report(1, '<i>&"\'</i>')
+        text = self.hostile.report(1, SIGNS)
         self.checks.same('the report', text, self.browser.text('#report-text'))
         read = self.browser.text('#report-read')
         for name in [match[1] for match in OWN_UNIT.findall(text)] + [match[1] for match in REGION.findall(text)]:
