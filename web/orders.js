@@ -94,7 +94,8 @@ function headerNote(written) {
 
 function missingHeader(faction) {
   const add = button(`Put #ATLANTIS ${faction} at the top`, () => replaceText(emptyMailing(faction) + text()));
-  return el('p', { class: 'note warn' }, 'No line begins with #ATLANTIS. ', add);
+  return el('p', { class: 'note warn row' }, 'No line begins with #ATLANTIS. ', add,
+    plainSigns(text()) === text() ? null : replaceButton());
 }
 
 function signsNote(written) {
@@ -242,7 +243,7 @@ function showTaken({ orders, faults }, kept) {
   const counts = `${counted(orders, 'order')}, ${counted(faults.length, 'fault')}`;
   const hint = faults.length === 0 ? ''
     : ' The faulty lines give no order, and all other lines count. Mend them, and send the whole text again.';
-  const room = kept ? '' : ' This browser has no room to keep the text: save a copy yourself.';
+  const room = kept ? '' : ' This browser cannot keep the text: save a copy yourself.';
   say(byId('orders-answer'), faults.length === 0 ? 'good' : 'mixed', `Accepted: ${counts}.${hint}${room}`);
 }
 

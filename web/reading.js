@@ -66,7 +66,7 @@ function keep(faction, month, text) {
   show(faction, month, '');
   document.dispatchEvent(new CustomEvent('kept'));
   say(byId('report-answer'), lasting ? 'good' : 'mixed', `The report of month ${month} is here. ${lasting
-    ? 'This browser keeps it.' : 'This browser has no room to keep it: save it as text.'}`);
+    ? 'This browser keeps it.' : 'This browser cannot keep it: save it as text.'}`);
 }
 
 // Reports don't change, so this one is of another campaign, or of one that was put back to an older month.

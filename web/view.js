@@ -27,14 +27,18 @@ function ordersPart(report, mailing) {
   return part;
 }
 
+// The roles stay where the style sheet shows the rows of a table in another way.
 function ordersTable(rows) {
-  const head = el('tr', {}, ['Line', 'Order', 'What came of it'].map((title) => el('th', { scope: 'col' }, title)));
-  return el('table', { class: 'outcomes' }, el('thead', {}, head), el('tbody', {}, rows));
+  const titles = ['Line', 'Order', 'What came of it']
+    .map((title) => el('th', { role: 'columnheader', scope: 'col' }, title));
+  return el('table', { class: 'outcomes', role: 'table' },
+    el('thead', { role: 'rowgroup' }, el('tr', { role: 'row' }, titles)), el('tbody', { role: 'rowgroup' }, rows));
 }
 
 function outcomeRow(line, order, tone, words) {
-  return el('tr', { class: tone, 'data-line': line }, el('td', { class: 'line' }, String(line)),
-    el('td', { class: 'order' }, order), el('td', { class: 'outcome' }, words));
+  const cell = (name, content) => el('td', { class: name, role: 'cell' }, content);
+  return el('tr', { class: tone, role: 'row', 'data-line': line },
+    cell('line', String(line)), cell('order', order), cell('outcome', words));
 }
 
 function byLine(list) {

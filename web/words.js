@@ -55,7 +55,7 @@ export const REFUSALS = {
   WrongPass: 'this faction has another pass text, and capitals count. Type it again, or ask the moderator.',
   Gone: 'your faction has no unit left, and is out of the game.',
   TooLong: 'the text has more than 65,536 bytes. Leave out what is not needed.',
-  NoHeader: 'no line begins with #ATLANTIS. Write #ATLANTIS and your faction number above the orders.',
+  NoHeader: 'no line begins with #ATLANTIS. Write it and your faction number above the orders, with nothing before it.',
   BadHeader: 'after #ATLANTIS comes the number of your faction, from 1 to 9,999. Correct that line.',
   WrongFaction: 'the number after #ATLANTIS is another faction\'s. Correct that line, or the faction above.',
   Memory: 'the program is out of memory and has stopped. Tell the moderator, and try again later.',
