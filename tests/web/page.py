@@ -134,12 +134,13 @@ class Cases:
         self.page.open()
         for name in ('joining', 'keeping', 'taken', 'faults', 'mending', 'drafts', 'closing', 'reading', 'events',
                      'saving', 'map', 'template', 'refusals', 'lengths', 'keyboard', 'remembering', 'down', 'closed',
-                     'limit', 'other site', 'phone', 'schemes'):
+                     'limit', 'other site', 'new unit', 'phone', 'schemes'):
             self.case(name)
         self.proxy.stop()
         self.proxy.start(self.hostile, [FAST])
         self.case('another campaign')
         self.case('hostile names')
+        self.case('gone')
         self.proxy.stop()
 
     def case(self, name):
@@ -441,6 +442,28 @@ class Cases:
             self.page.open()
             self.page.sign_in(1, APPLE)
 
+    def new_unit(self):
+        """A block of FORM: its orders and what came of them, and the unit in the next template."""
+        with open(os.path.join(HERE, 'worlds', 'coast.toml')) as file:
+            price = re.search(r'^recruit_price = (\d+)', file.read(), re.M)[1]
+        mailing = (f'#ATLANTIS 1\nUNIT 1\nFORM 5\n  NAME UNIT "New people"\n  RECRUIT 1\nEND\nPAY NEW 5 {price}\n'
+                   'MOVE north\nWORK\n#END\n')
+        self.says('the orders', r'\b6 orders\b', self.page.send(mailing))
+        self.club.close(2)
+        self.says('the report', r'month 2\b', self.page.fetch())
+        text = self.club.report(1, APPLE)
+        self.checks.same('the units', ['1', '2'], [unit[0] for unit in OWN_UNIT.findall(text)])
+        rows = self.browser.run('return [...document.querySelectorAll("#report-read tr")].map((e) => e.innerText)')
+        for line, words in ((3, r'FORM 5.*unit 2\b'), (4, 'New people"'), (5, r'RECRUIT 1.*\b1\b'),
+                            (7, rf'PAY NEW 5.*{price}\b'), (8, 'MOVE north.*later order'), (9, r'WORK.*\d')):
+            row = [one_line(row) for row in rows if re.match(rf'{line}\b', row.strip())]
+            self.says(f'line {line}', words, ' '.join(row))
+        self.page.shot('10-new-unit')
+        self.page.tab('orders')
+        self.browser.click('#orders-template')
+        template = self.browser.value('#orders-text')
+        self.checks.same('the units of the template', ['1', '2'], re.findall(r'^UNIT (\d+)', template, re.M))
+
     def each_tab(self, act):
         for name in ('join', 'orders', 'report', 'map'):
             self.page.tab(name)
@@ -483,7 +506,7 @@ class Cases:
 
     def another_campaign(self):
         """The browser keeps months of another campaign under the number of the faction that joins."""
-        self.checks.same('the kept months', ['0', '1'], self.months())
+        self.checks.same('the kept months', ['0', '1', '2'], self.months())
         self.says('joining', r'faction 1\b', self.page.join(HOSTILE[0], SIGNS))
         self.says('the answer', 'another\\s+campaign', self.page.fetch())
         self.checks.same('the report', self.hostile.report(1, SIGNS), self.browser.text('#report-text'))
@@ -528,6 +551,17 @@ class Cases:
         self.page.reload()
         self.checks.same('the draft', mailing, self.browser.value('#orders-text'))
         self.harmless('the draft')
+
+    def gone(self):
+        """A faction that leaves the game."""
+        self.page.sign_in(2, SIGNS)
+        self.says('the orders', r'\b1 order\b', self.page.send('#ATLANTIS 2\nUNIT 2\nQUIT 2\n'))
+        self.hostile.close(2)
+        self.says('the report', r'month 2\b', self.page.fetch())
+        self.checks.same('the report', self.hostile.report(2, SIGNS), self.browser.text('#report-text'))
+        self.says('the orders', 'Gone.*no unit', self.page.send('#ATLANTIS 2\nUNIT 2\nWORK\n'))
+        self.page.tab('map')
+        self.checks.same('regions of the map', 0, self.browser.count('#map [data-region]'))
 
     def harmless(self, what):
         self.checks.true(f'{what} ran nothing', not self.browser.has_alert() and not self.browser.run(
