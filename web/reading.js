@@ -149,11 +149,14 @@ function save() {
 function dropMonth() {
   const faction = currentFaction();
   const month = shown === null ? null : shown.month;
-  if (faction !== null && month !== null) forgetReport(faction, month);
+  if (month === null || reportOf(faction, month) !== shown.text) {
+    say(byId('report-answer'), 'plain', 'What is shown is not kept.');
+    return;
+  }
+  forgetReport(faction, month);
   document.dispatchEvent(new CustomEvent('kept'));
   showLatest();
-  const words = month === null ? 'No month is shown.' : `This browser no longer keeps month ${month}.`;
-  say(byId('report-answer'), 'plain', words);
+  say(byId('report-answer'), 'plain', `This browser no longer keeps month ${month}.`);
 }
 
 function askSure(remove) {

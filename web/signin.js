@@ -63,7 +63,7 @@ export function signedIn() {
 
 function takeFactionSoon() {
   clearTimeout(waiting);
-  waiting = setTimeout(takeFaction, 500);
+  waiting = setTimeout(takeFaction, 800);
 }
 
 function showPass() {
