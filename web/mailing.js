@@ -84,16 +84,16 @@ export function badLines(text) {
     .map((entry) => ({ line: entry.line, signs: [...new Set(entry.text.match(/[^\t\x20-\x7e]/gu))] }));
 }
 
-// Whether the report may tell of this mailing: {text, orders, faults: [[line, number], ..]}.
+// Whether the report may be on this mailing: {text, orders, faults: [[line, number], ..]}.
 export function fits(mailing, report) {
   const asked = report.events.filter((event) => event.line > 0);
   return sameFaults(mailing.faults, report.faults) && (asked.length > 0 || mailing.orders === 0)
     && fitsLines(readMailing(mailing.text).lines, asked);
 }
 
-function sameFaults(faults, told) {
-  return faults.length === told.length
-    && faults.every(([line, number], i) => line === told[i].line && number === told[i].number);
+function sameFaults(faults, reported) {
+  return faults.length === reported.length
+    && faults.every(([line, number], i) => line === reported[i].line && number === reported[i].number);
 }
 
 function fitsLines(lines, events) {

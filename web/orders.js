@@ -89,7 +89,8 @@ function headerNote(written) {
   if (faction === null || written.trim() === '') return null;
   if (!lines.some((entry) => entry.kind === 'header')) return missingHeader(faction);
   if (named === faction) return null;
-  return el('p', { class: 'note warn' }, `The line #ATLANTIS names another faction than ${faction}.`);
+  return el('p', { class: 'note warn' }, named === null ? 'After #ATLANTIS comes the number of your faction.'
+    : `The line #ATLANTIS names faction ${named}, and not ${faction}.`);
 }
 
 function missingHeader(faction) {

@@ -16,7 +16,7 @@ const NO_REPORT = 'The server sent something that is not a report of this factio
 let shown = null;
 let removal = null;
 
-// The mailing of which a report tells, if this browser has it. It is marked with the month, and older ones go.
+// The mailing that a report is on, if this browser has it. It gets the month, and older ones without a month go.
 function mailingOf(faction, report) {
   if (report.month === 0) return null;
   const list = mailingsOf(faction);

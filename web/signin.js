@@ -15,7 +15,7 @@ function numberIn(text) {
   return number >= 1 && number <= 9999 ? number : null;
 }
 
-// Takes the faction number from its field, and tells the other parts where it has changed.
+// Takes the faction number from its field, and lets the other parts know where it has changed.
 export function takeFaction() {
   clearTimeout(waiting);
   const number = numberIn(byId('faction').value);

@@ -68,7 +68,7 @@ export const keepReport = (faction, month, text) => set(`${faction}.report.${mon
 export const forgetReport = (faction, month) => remove(`${faction}.report.${month}`);
 
 // Accepted mailings, the oldest first: {text, at, orders, faults, after, month}. `after` is the latest month whose
-// report was kept then, and `month` the one whose report tells of it, as soon as that is known.
+// report was kept then, and `month` is the month that the mailing was for, as soon as that is known.
 export function mailingsOf(faction) {
   try {
     const list = JSON.parse(get(`${faction}.mailings`) || '[]');
