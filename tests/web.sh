@@ -1,7 +1,8 @@
 #!/usr/bin/env bash
-# Serves the page of web/ by nginx with the lines of web/nginx.conf, plays a player's months on it in a headless Chromium, and asks the lines
-# themselves by curl. It takes about a minute once the program is built, and ends with 'web: all as expected'. With '--shots FOLDER' it puts
-# pictures of the page there. Where a program that it needs isn't there it says so, and ends with status 77.
+# Serves the page of web/ by nginx with the lines of web/nginx.conf, plays a player's months on it in a headless
+# Chromium, and asks the lines themselves by curl. It takes about a minute once the program is built, and ends with
+# 'web: all as expected'. With '--shots FOLDER' it puts pictures of the page there. Where a program that it needs is
+# missing, it says so and ends with status 77.
 set -u
 here=$(cd "$(dirname "$0")/.." && pwd)
 PATH=$PATH:/usr/sbin

@@ -62,6 +62,7 @@ return low;
 '''
 OWN_UNIT = re.compile(r'^\* Unit (\d+) "([^"]*)": (\d+) men, (\d+) money', re.M)
 REGION = re.compile(r'^Region (\d+) "([^"]*)", (.+): (\d+) peasants, (\d+) money\.\nExits: (.*)\.$', re.M)
+MARKET = re.compile(r'^Market (.+): (\d+) in stock at (\d+), (\d+) wanted at (\d+)\.$', re.M)
 EVENT = re.compile(r'^Unit (\d+), line (\d+), ([A-Z]+): (?:done (\d+)|fault (\d+) (\w+))\.$', re.M)
 
 
@@ -232,6 +233,8 @@ class Cases:
             self.read_as(f'unit {number}', 400, number, name, men, money)
         for number, name, terrain, peasants, money, exits in REGION.findall(text):
             self.read_as(f'region {number}', 1000, number, name, terrain, peasants, money, *exits.split(', '))
+        for market in MARKET.findall(text):
+            self.read_as(f'the market for {market[0]}', 400, *market)
         self.checks.same('the kept months', ['0', '1'], self.months())
         self.browser.run('const list = document.querySelector("#report-month"); list.value = "0";'
                          'list.dispatchEvent(new Event("change", {bubbles: true}))')
@@ -253,7 +256,7 @@ class Cases:
                                 '.map((o) => o.value).sort()')
 
     def events(self):
-        """The events of the month are shown beside the orders that were accepted."""
+        """The events of the month are shown next to the orders that were accepted."""
         wanted = [(line, fault) for _, line, _, _, _, fault in EVENT.findall(self.club.report(1, APPLE)) if fault]
         self.checks.same('what the report has', [('5', 'NotGuarding')], wanted)
         read = one_line(self.browser.shown('#report-read'))
@@ -265,9 +268,7 @@ class Cases:
         os.mkdir(folder)
         self.browser.devtools('Browser.setDownloadBehavior', behavior='allow', downloadPath=folder)
         self.browser.click('#report-save')
-        until('a file is saved', lambda: [name for name in os.listdir(folder) if not name.endswith('.crdownload')])
-        name, = os.listdir(folder)
-        self.checks.true('its name is that of a text', name.endswith('.txt'), name)
+        name, = until('a text is saved', lambda: [name for name in os.listdir(folder) if name.endswith('.txt')])
         with open(os.path.join(folder, name), newline='') as file:
             self.checks.same('the file', self.club.report(1, APPLE), file.read())
 
