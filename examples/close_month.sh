@@ -6,7 +6,8 @@
 #   pass      the moderator's pass text
 #   seed      the club's seed
 # The script leaves two things. `before-M.db` is the copy to go back to. It holds all pass texts, so keep it private.
-# The folder `months/M` holds what examples/replay.sh needs, and may be published when the campaign is over:
+# The folder `months/M` holds what examples/replay.sh needs, and may be published when the campaign is over. A mailing holds
+# all that the player wrote, so look for pass texts before you publish it.
 #   factions.txt       each faction: its number, 'mail', 'silent' or 'gone', and the name it joined under
 #   mail-F.txt         the mailing of faction F, byte for byte
 #   world.toml, seed   the world text and the seed
