@@ -20,6 +20,7 @@ function joinedAs(reply) {
 
 function welcome({ faction, unit }, pass, showTab) {
   signInAs(faction, pass);
+  byId('join-pass').value = '';
   say(byId('join-answer'), 'good',
     el('p', {}, `You have joined. Your faction is faction ${faction}, and your first unit is unit ${unit}.`),
     el('p', {}, 'Write down both numbers and your pass text.'),

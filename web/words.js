@@ -98,17 +98,19 @@ export const STATUSES = {
 
 export const JOINING_CLOSED = 'The moderator has closed joining: ask them.';
 
+const men = (n) => (n === 1 ? '1 man' : `${n} men`);
+
 const DONE = {
   FORM: (n) => `formed unit ${n}`,
   PAY: (n) => `paid ${n} money`,
   GIVE: (n) => `gave ${n}`,
-  TRANSFER: (n) => `moved ${n} men`,
+  TRANSFER: (n) => `moved ${men(n)}`,
   SELL: (n) => `sold ${n}`,
   BUY: (n) => `bought ${n}`,
   TAX: (n) => `took ${n} money`,
-  RECRUIT: (n) => `hired ${n} men`,
+  RECRUIT: (n) => `hired ${men(n)}`,
   BUILD: (n) => `built ${n}`,
-  TEACH: (n) => `taught ${n} men`,
+  TEACH: (n) => `taught ${men(n)}`,
   STUDY: (n) => `learned ${n} days`,
   PRODUCE: (n) => `made ${n}`,
   WORK: (n) => `earned ${n} money`,
