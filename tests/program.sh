@@ -26,6 +26,9 @@ check 'no TOML' 1 '' 'world: 1 NotToml' trial <<<'a = = b'
 check 'a text for a number' 1 '' 'world: 3 WrongType rules.growth' trial < <(sed 's/^growth = 0$/growth = "0"/' "$small")
 check 'a key that lacks' 1 '' 'world: 2 Missing rules.growth' trial < <(sed '/^growth = 0$/d' "$small")
 check 'a number past its range' 1 '' 'world: 4 OutOfRange rules.growth' trial < <(sed 's/^growth = 0$/growth = 101/' "$small")
+check 'a key with control characters' 1 '' 'world: 6 UnknownName terrain[0].output.a\nb\u{1b}[2J\u{85} \"é' trial < <(
+  sed '/^peasant_limit/a output = { "a\\nb\\u001B[2J\\u0085 \\\\\\"é" = 1 }' "$small"
+)
 check 'bytes that are no text' 1 '' 'file: cannot read' trial < <(printf '\377')
 
 # A campaign in a file.

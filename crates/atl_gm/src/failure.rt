@@ -3,9 +3,9 @@ use atl_service::{Cause, Refusal};
 use atl_tables::WorldFault;
 use sqlite::{Error, ErrorCode};
 use std::alloc::{AllocError, AllocFailed};
-use std::io;
 use std::io::ErrorKind;
 use std::process::ExitCode;
+use std::{fmt, io};
 
 /// Why the program did not do what was asked.
 pub enum Failure {
@@ -101,6 +101,23 @@ impl From<Cause> for Failure {
     }
 }
 
+/// A text that is printed on one line: each control character in it as its escape, all else as it is.
+#[derive(Clone, Copy)]
+struct OneLine<'a>(&'a str);
+
+impl<'a> fmt::Display for OneLine<'a> {
+    fn fmt<W: fmt::Write>(&self, f: &mut fmt::Formatter<W>) -> fmt::Result {
+        for letter in self.0.chars() {
+            if letter.is_control() {
+                write!(f, "{}", letter.escape_default())?;
+            } else {
+                f.write_char(letter)?;
+            }
+        }
+        Ok(())
+    }
+}
+
 fn tell_world_fault<R: Eprint>(rt: &R, fault: &WorldFault) -> io::Result<()> {
     let Some(number) = fault.number() else {
         return eprintln!(rt; "fault: Memory");
@@ -108,7 +125,7 @@ fn tell_world_fault<R: Eprint>(rt: &R, fault: &WorldFault) -> io::Result<()> {
     let name = fault.name();
     match fault.path() {
         Some(path) => {
-            let path = path.as_str();
+            let path = OneLine(path.as_str());
             eprintln!(rt; "world: {number} {name} {path}")
         }
         None => eprintln!(rt; "world: {number} {name}"),
