@@ -231,6 +231,33 @@ check 'a bad pass text of a founding' 1 '' 'refused: 2 BadPassText' found --worl
 check 'no campaign after them' 1 '' 'fault: NotACampaign' report --db "$work/new.db" --faction 1 --pass pw
 check 'a founding after them' 0 'founded, 1 regions' '' found --world "$small" --db "$work/new.db" --pass gm
 whole "$work/new.db"
+
+# untouched BYTES FAULT: each subcommand but `found` refuses a file of this length, and leaves it and what is next to it as they are
+untouched() {
+  local words short=$work/short.db
+  head -c "$1" "$db" >"$short"
+  echo 'a log' >"$short-wal"
+  cp "$short" "$work/short.before"
+  cp "$short-wal" "$work/short.log"
+  while read -r words; do
+    # shellcheck disable=SC2086
+    check "$words in a file of $1 bytes" 1 '' "$2" $words --db "$short"
+    cmp -s "$short" "$work/short.before" && cmp -s "$short-wal" "$work/short.log" && [ "$(echo "$short"*)" = "$short $short-wal" ] ||
+      fail "$words in a file of $1 bytes" 'a file changed'
+  done <<END
+join --name Bree --pass pb --seed 0
+mail --faction 1 --pass pw --file $mailing
+close --month 1 --pass gm --seed 0
+report --faction 1 --pass pw
+books
+serve --port 0 --count 0 --seed 0
+upgrade --world $small
+END
+  rm "$short" "$short-wal"
+}
+untouched 0 'fault: NotACampaign'
+untouched 1 'fault: Store'
+untouched 99 'fault: Store'
 : >"$work/empty.db"
 check 'an empty file' 1 '' 'fault: NotACampaign' report --db "$work/empty.db" --faction 1 --pass pw
 check 'a founding in an empty file' 0 'founded, 1 regions' '' found --world "$small" --db "$work/empty.db" --pass gm

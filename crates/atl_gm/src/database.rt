@@ -5,6 +5,7 @@ use sqlite::{Alter, Connection, FileFrom, FileStore, Start, Wary};
 use sqlite_disk::Disk;
 use std::alloc::Global;
 use std::fs;
+use std::io::ErrorKind;
 
 /// What a subcommand does with a campaign, over any store.
 pub trait Work {
@@ -34,6 +35,9 @@ pub enum Opening<'a> {
     Upgraded { world: &'a str },
 }
 
+/// The number of bytes in the header of a database. A shorter file is no database.
+const HEADER_BYTES: u64 = 100;
+
 /// Whether a file or a folder is at the path.
 fn is_there(rt: &HostRuntime, path: &str) -> Result<bool, Failure> {
     match fs::exists(rt, path) {
@@ -50,13 +54,28 @@ fn has_folder(rt: &HostRuntime, path: &str) -> Result<bool, Failure> {
     }
 }
 
-/// Refuses a path without a file, so that none is made: there is no campaign, or, where the folder isn't there either, no
-/// database could be opened.
+/// Why a path without a file is refused: there is no campaign, or, where the folder isn't there either, no database could be
+/// opened.
+fn without_file(rt: &HostRuntime, path: &str) -> Failure {
+    match has_folder(rt, path) {
+        Ok(true) => Failure::NotACampaign,
+        Ok(false) => Failure::Store,
+        Err(failure) => failure,
+    }
+}
+
+/// Refuses a path without a file, and a file that is too short for a database. Opening would create the first and overwrite the
+/// second. It accepts a folder, which then can't be opened.
 fn confirm_file(rt: &HostRuntime, path: &str) -> Result<(), Failure> {
-    if is_there(rt, path)? {
+    let metadata = match fs::metadata(rt, path) {
+        Ok(metadata) => metadata,
+        Err(error) if error.kind() == ErrorKind::NotFound => return Err(without_file(rt, path)),
+        Err(error) => return Err(Failure::of_system(error, Failure::Store)),
+    };
+    if !metadata.is_file() || HEADER_BYTES <= metadata.len() {
         return Ok(());
     }
-    if has_folder(rt, path)? {
+    if metadata.len() == 0 {
         return Err(Failure::NotACampaign);
     }
     Err(Failure::Store)
@@ -123,8 +142,8 @@ fn done_and_closed<T: Drop>(
 }
 
 /// Has the work done on the campaign of the file at the path, which then holds the campaign alone, whatever came of the work.
-/// Where the closing fails, the work may have been done, and a log stands beside the file. A campaign that isn't founded is
-/// asked for only where a file is.
+/// Where the closing fails, the work may have been done, and a log stands beside the file. Only a founding may work on
+/// a file that is missing or too short for a database.
 pub fn work_on<W: Work>(
     rt: &HostRuntime,
     path: &str,
