@@ -215,6 +215,14 @@ refused 'mail of nobody' "$db" 'refused: 5 NoFaction' mail --db "$db" --faction 
 refused 'mail with another pass text' "$db" 'refused: 6 WrongPass' mail --db "$db" --faction 1 --pass no --file "$mailing"
 { printf '#ATLANTIS 1\n' && head -c 65525 /dev/zero | tr '\0' '"'; } >"$mailing"
 refused 'a mailing that is too long' "$db" 'refused: 8 TooLong' mail --db "$db" --faction 1 --pass pw --file "$mailing"
+truncate -s 1G "$work/huge"
+(ulimit -v 500000 && refused 'a huge mailing' "$db" 'refused: 8 TooLong' mail --db "$db" --faction 1 --pass pw --file "$work/huge" &&
+  exit "$failed") || failed=1
+refused 'a huge mailing of nobody' "$db" 'refused: 5 NoFaction' mail --db "$db" --faction 9 --pass pw --file "$work/huge"
+refused 'a huge mailing with another pass text' "$db" 'refused: 6 WrongPass' mail --db "$db" --faction 1 --pass no --file "$work/huge"
+refused 'a mailing without an end' "$db" 'refused: 8 TooLong' mail --db "$db" --faction 1 --pass pw --file /dev/zero
+check 'a mailing that is a folder' 1 '' 'file: cannot read' mail --db "$db" --faction 1 --pass pw --file "$work"
+rm "$work/huge"
 echo hello >"$mailing"
 refused 'a mailing without a header' "$db" 'refused: 9 NoHeader' mail --db "$db" --faction 1 --pass pw --file "$mailing"
 echo '#ATLANTIS x' >"$mailing"

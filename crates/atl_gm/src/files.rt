@@ -1,6 +1,7 @@
 //! The files that the program reads.
 use crate::failure::Failure;
 use std::alloc::Global;
+use std::io::Read;
 use std::{fs, io};
 
 fn unread(error: io::Error) -> Failure {
@@ -12,9 +13,14 @@ pub fn text_at(rt: &HostRuntime, path: &str) -> Result<String, Failure> {
     fs::read_to_string(rt, path).map_err(unread)
 }
 
-/// The bytes of the file at the path.
-pub fn bytes_at(rt: &HostRuntime, path: &str) -> Result<Vec<u8>, Failure> {
-    fs::read(rt, path).map_err(unread)
+/// The first `most` bytes of the file at the path, or all bytes of a shorter file. Nothing after them is read.
+pub fn first_bytes_at(rt: &HostRuntime, path: &str, most: u64) -> Result<Vec<u8>, Failure> {
+    let file = fs::open(rt, path).map_err(unread)?;
+    let mut bytes = Vec::new(rt.alloc());
+    match file.take(most).read_to_end(&mut bytes) {
+        Ok(_) => Ok(bytes),
+        Err(error) => Err(unread(error)),
+    }
 }
 
 /// The text on standard input.

@@ -1,19 +1,24 @@
 //! A faction sends its orders for the month to come.
 use crate::database::{Opening, work_on};
 use crate::failure::Failure;
-use crate::files::bytes_at;
+use crate::files::first_bytes_at;
 use crate::options;
 use crate::subcommand::Subcommand;
 use crate::told::tell;
+use atl_orders::MOST_BYTES;
 use atl_tables::Sequence;
 use clap::{Arg, ArgMatches};
 use std::alloc::{AllocError, Global};
+
+/// How many bytes of a file are read: one more than a mailing may have, so that a longer one is refused as TooLong.
+const READ_BYTES: u64 = MOST_BYTES as u64 + 1;
 
 /// The command that hands in the mailing of the file.
 fn mailing(rt: &HostRuntime, options: &ArgMatches<'_>) -> Result<atl_service::Command, Failure> {
     let faction = options::number_of(options, options::FACTION)?;
     let pass = options::text_of(options, options::PASS)?;
-    let text = bytes_at(rt, options::text_of(options, options::FILE)?)?;
+    let path = options::text_of(options, options::FILE)?;
+    let text = first_bytes_at(rt, path, READ_BYTES)?;
     Ok(atl_service::Command::Mail {
         faction,
         pass: Sequence::from_slice(rt.alloc(), pass.as_bytes())?,
