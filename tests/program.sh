@@ -398,6 +398,12 @@ cp "$db" "$work/after"
 [ "$(rows "$work/before")" = "$(rows "$work/after")" ] || fail 'a joining past a limit' 'the rows changed'
 whole "$db"
 
+# A limit on the stack that is below what a command may need ends the program before it has begun anything.
+{ (ulimit -s 160 && exec "$here/gm" --help) >"$out"; } 2>/dev/null
+told=$?
+[ "$told" = 139 ] || fail 'a small stack' "status $told"
+(ulimit -s 512 && check 'a report with enough stack' 0 "$report" '' report --db "$db" --faction 1 --pass pw && exit "$failed") || failed=1
+
 # Ports. One program holds a port until two connections were served; the first shows that it does.
 port=$((20000 + RANDOM % 20000))
 "$here/gm" serve --db "$work/isle.db" --port "$port" --count 2 --seed 0 >"$work/held" 2>&1 &

@@ -12,6 +12,7 @@ mod mail;
 mod options;
 mod report;
 mod serve;
+mod stack;
 mod subcommand;
 mod told;
 mod trial;
@@ -90,6 +91,9 @@ fn words(rt: &HostRuntime, command: &mut Command<'_>) -> Result<Vec<String>, Fai
 }
 
 fn run(rt: &HostRuntime) -> Result<(), Failure> {
+    if !stack::has_room() {
+        return Err(Failure::Memory);
+    }
     let mut command = command_line(rt.alloc())?;
     let words = words(rt, &mut command)?;
     match command.try_get_matches_from(words.as_slice()) {
