@@ -32,7 +32,14 @@ impl<'a> Work for Serving<'a> {
     fn run<S: Alter>(&self, service: &mut Service<S>) -> Result<(), Failure> {
         let address = (Ipv4Addr::LOCALHOST, self.port);
         let listener = TcpListener::bind(self.rt, address).map_err(unbound)?;
-        match serve_each(self.rt.alloc(), &listener, service, self.count, self.dice) {
+        match serve_each(
+            self.rt.alloc(),
+            self.rt,
+            &listener,
+            service,
+            self.count,
+            self.dice,
+        ) {
             Ok(()) => Ok(()),
             Err(ListenFault::Net) => Err(Failure::Net),
             Err(ListenFault::Memory) => Err(Failure::Memory),

@@ -10,6 +10,7 @@ pub mod judging;
 pub mod listening;
 pub mod message;
 pub mod moving;
+mod patience;
 pub mod pieces;
 pub mod problem;
 pub mod request;

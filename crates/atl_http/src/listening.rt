@@ -3,16 +3,14 @@ ghost use Rattle.atl_http.specs.Listening.{Attends, ServesEach};
 
 use crate::dice::Dice;
 use crate::moving::HttpFault;
+use crate::patience::{Patience, Sent, Taken};
 use crate::serving::serve_one;
 use atl_service::Service;
 use sqlite::Alter;
 use std::alloc::Global;
 use std::io::ErrorKind;
 use std::net::{TcpListener, TcpStream};
-use std::time::Duration;
-
-/// How long a peer is waited for, at each read and at each write.
-const PATIENCE_SECONDS: u64 = 10;
+use std::rt::Clock;
 
 /// Why no more connections are served.
 #[derive(Drop, Clone, Copy, Debug, PartialEq, Eq)]
@@ -23,21 +21,21 @@ pub enum ListenFault {
     Memory,
 }
 
-/// Serves the one request of a connection. A peer that sends nothing, or takes nothing, is left. Where the system sets no such limit
-/// the peer is served without one, since it has done nothing wrong. A connection without a whole request or reply counts as served.
-fn serve_stream<S: Alter>(
+/// Serves the one request of a connection. A peer that sends or takes too slowly is left. A connection without a whole request or
+/// reply counts as served.
+fn serve_stream<C: Clock, S: Alter>(
     alloc: Global,
+    clock: &C,
     stream: &TcpStream,
     service: &mut Service<S>,
     dice: Dice,
 ) -> Result<(), ListenFault>
     ensures { Attends S.Store dice service.old result service.new }
 {
-    let patience = Duration::from_secs(PATIENCE_SECONDS);
-    let _ = stream.set_read_timeout(Some(patience));
-    let _ = stream.set_write_timeout(Some(patience));
-    let mut reader = stream;
-    let mut writer = stream;
+    let patience = Patience::new(clock);
+    let patience = &patience;
+    let mut reader = Sent { stream, patience };
+    let mut writer = Taken { stream, patience };
     match serve_one(alloc, &mut reader, &mut writer, service, dice) {
         Ok(_) => Ok(()),
         Err(HttpFault::Memory) => Err(ListenFault::Memory),
@@ -47,9 +45,10 @@ fn serve_stream<S: Alter>(
 
 /// Serves so many connections of a bound listener, one after another, one request each. A connection that its peer ends before it is
 /// taken counts among them. Net where no connection can be taken; Memory where there was none for a request or its reply: the
-/// connections before are served, and no more are taken.
-pub fn serve_each<S: Alter>(
+/// connections before are served, and no more are taken. The clock says how long a peer has been waited for.
+pub fn serve_each<C: Clock, S: Alter>(
     alloc: Global,
+    clock: &C,
     listener: &TcpListener,
     service: &mut Service<S>,
     count: u32,
@@ -59,7 +58,7 @@ pub fn serve_each<S: Alter>(
 {
     for _ in 0..count {
         match listener.accept() {
-            Ok((stream, _)) => match serve_stream(alloc, &stream, service, dice) {
+            Ok((stream, _)) => match serve_stream(alloc, clock, &stream, service, dice) {
                 Ok(()) => {}
                 Err(fault) => return Err(fault),
             },

@@ -8,6 +8,7 @@ use std::alloc::Global;
 use std::io::{self, Read, Write};
 use std::net::{Ipv4Addr, Net, Shutdown, SocketAddr, TcpListener, TcpStream};
 use std::process::Abort;
+use std::rt::Clock;
 use std::test::Fail;
 
 /// A body that is too long, of which nothing has come.
@@ -67,14 +68,14 @@ fn are_told(rt: &impl Abort, alloc: Global, streams: &[TcpStream]) -> io::Result
 }
 
 /// All peers have sent their requests before the first is served.
-fn four_are_served<R: Net<Stream = TcpStream> + Abort>(
+fn four_are_served<R: Net<Stream = TcpStream> + Clock + Abort>(
     rt: &R,
     alloc: Global,
     listener: &TcpListener,
     service: &mut impl Served,
 ) -> io::Result<()> {
     let streams = peers(rt, alloc, listener.local_addr()?)?;
-    let done = service.serve_each(alloc, listener, 4);
+    let done = service.serve_each(alloc, rt, listener, 4);
     is_true(rt, done.is_ok());
     are_told(rt, alloc, &streams)
 }
@@ -95,14 +96,14 @@ fn over_a_socket(rt: HostRuntime) -> Result<(), Fail> {
 
 /// Nobody is there at a listener that doesn't wait, so no connection can be taken. No command is run: the faction that joins then is the
 /// first.
-fn nobody_is_served(
-    rt: &impl Abort,
+fn nobody_is_served<R: Clock + Abort>(
+    rt: &R,
     alloc: Global,
     listener: &TcpListener,
     service: &mut impl Served,
 ) -> io::Result<()> {
     listener.set_nonblocking(true)?;
-    let done = service.serve_each(alloc, listener, 4);
+    let done = service.serve_each(alloc, rt, listener, 4);
     is_true(rt, done == Err(ListenFault::Net));
     tells(rt, alloc, service, &mut JOIN.as_bytes(), JOINED);
     Ok(())

@@ -7,6 +7,7 @@ use sqlite::Alter;
 use std::alloc::{AllocError, Global};
 use std::io::{Read, Write};
 use std::net::TcpListener;
+use std::rt::Clock;
 
 /// The dice of all tests.
 const DICE: Dice = Dice { seed: 1 };
@@ -22,9 +23,10 @@ pub(crate) trait Served {
     ) -> Result<u16, HttpFault>;
 
     /// Serves so many connections.
-    fn serve_each(
+    fn serve_each<C: Clock>(
         &mut self,
         alloc: Global,
+        clock: &C,
         listener: &TcpListener,
         count: u32,
     ) -> Result<(), ListenFault>;
@@ -45,13 +47,14 @@ impl<S: Alter> Served for Service<S> {
         serve_one(alloc, reader, writer, self, DICE)
     }
 
-    fn serve_each(
+    fn serve_each<C: Clock>(
         &mut self,
         alloc: Global,
+        clock: &C,
         listener: &TcpListener,
         count: u32,
     ) -> Result<(), ListenFault> {
-        serve_each(alloc, listener, self, count, DICE)
+        serve_each(alloc, clock, listener, self, count, DICE)
     }
 
     fn next_faction(&self) -> u32 {

@@ -1,0 +1,109 @@
+//! The two ends of a connection, whose peer is waited for only so long.
+use std::cell::Cell;
+use std::io;
+use std::io::{ErrorKind, Read, Write};
+use std::net::TcpStream;
+use std::rt::Clock;
+use std::time::{Duration, Instant};
+
+/// How many seconds a peer is waited for at one read or one write.
+const CALL_SECONDS: u64 = 10;
+
+/// How many seconds a peer is waited for in all. In this time a line of 1.1 kB a second carries the longest mailing.
+const WHOLE_SECONDS: u64 = 60;
+
+/// How long a peer is still waited for. The time that the command itself takes doesn't count.
+pub struct Patience<'a, C: Clock> {
+    clock: &'a C,
+    left: Cell<Duration>,
+}
+
+impl<'a, C: Clock> Drop for Patience<'a, C> {
+    fn drop(self) {
+        let Patience { clock: _, left: _ } = self;
+    }
+}
+
+impl<'a, C: Clock> Patience<'a, C> {
+    pub fn new(clock: &'a C) -> Patience<'a, C> {
+        Patience {
+            clock,
+            left: Cell::new(Duration::from_secs(WHOLE_SECONDS)),
+        }
+    }
+
+    /// How long the peer is waited for at the call that begins now, and the time now. TimedOut once nothing is left.
+    fn begin(&self) -> io::Result<(Duration, Instant)> {
+        let left = self.left.get();
+        if left.is_zero() {
+            return Err(io::Error::from(ErrorKind::TimedOut));
+        }
+        let wait = left.min(Duration::from_secs(CALL_SECONDS));
+        Ok((wait, Instant::now(self.clock)?))
+    }
+
+    /// Takes the time since a call began from what is left.
+    fn spend(&self, begun: Instant) -> io::Result<()> {
+        let spent = begun.elapsed(self.clock)?;
+        self.left.set(self.left.get().saturating_sub(spent));
+        Ok(())
+    }
+}
+
+/// The end that the peer sends to. Where the system refuses to set a time-out the call has none, since the peer has done nothing
+/// wrong.
+pub struct Sent<'a, C: Clock> {
+    pub stream: &'a TcpStream,
+    pub patience: &'a Patience<'a, C>,
+}
+
+impl<'a, C: Clock> Drop for Sent<'a, C> {
+    fn drop(self) {
+        let Sent {
+            stream: _,
+            patience: _,
+        } = self;
+    }
+}
+
+impl<'a, C: Clock> Read for Sent<'a, C> {
+    fn read(&mut self, buf: &mut [u8]) -> io::Result<usize> {
+        let (wait, begun) = self.patience.begin()?;
+        let _ = self.stream.set_read_timeout(Some(wait));
+        let mut stream = self.stream;
+        let read = stream.read(buf);
+        self.patience.spend(begun)?;
+        read
+    }
+}
+
+/// The end that the peer takes from, with the same times.
+pub struct Taken<'a, C: Clock> {
+    pub stream: &'a TcpStream,
+    pub patience: &'a Patience<'a, C>,
+}
+
+impl<'a, C: Clock> Drop for Taken<'a, C> {
+    fn drop(self) {
+        let Taken {
+            stream: _,
+            patience: _,
+        } = self;
+    }
+}
+
+impl<'a, C: Clock> Write for Taken<'a, C> {
+    fn write(&mut self, buf: &[u8]) -> io::Result<usize> {
+        let (wait, begun) = self.patience.begin()?;
+        let _ = self.stream.set_write_timeout(Some(wait));
+        let mut stream = self.stream;
+        let written = stream.write(buf);
+        self.patience.spend(begun)?;
+        written
+    }
+
+    fn flush(&mut self) -> io::Result<()> {
+        let mut stream = self.stream;
+        stream.flush()
+    }
+}
