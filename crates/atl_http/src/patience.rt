@@ -50,23 +50,23 @@ impl<'a, C: Clock> Patience<'a, C> {
     }
 }
 
-/// The end that the peer sends to. Where the system refuses to set a time-out the call has none, since the peer has done nothing
-/// wrong.
-pub struct Sent<'a, C: Clock> {
+/// The end that reads what the peer sends. Where the system refuses to set a time-out, the call has none, since the peer has done
+/// nothing wrong.
+pub struct ReadEnd<'a, C: Clock> {
     pub stream: &'a TcpStream,
     pub patience: &'a Patience<'a, C>,
 }
 
-impl<'a, C: Clock> Drop for Sent<'a, C> {
+impl<'a, C: Clock> Drop for ReadEnd<'a, C> {
     fn drop(self) {
-        let Sent {
+        let ReadEnd {
             stream: _,
             patience: _,
         } = self;
     }
 }
 
-impl<'a, C: Clock> Read for Sent<'a, C> {
+impl<'a, C: Clock> Read for ReadEnd<'a, C> {
     fn read(&mut self, buf: &mut [u8]) -> io::Result<usize> {
         let (wait, begun) = self.patience.begin()?;
         let _ = self.stream.set_read_timeout(Some(wait));
@@ -77,22 +77,22 @@ impl<'a, C: Clock> Read for Sent<'a, C> {
     }
 }
 
-/// The end that the peer takes from, with the same times.
-pub struct Taken<'a, C: Clock> {
+/// The end that writes what the peer takes. Its calls have time-outs in the same way.
+pub struct WriteEnd<'a, C: Clock> {
     pub stream: &'a TcpStream,
     pub patience: &'a Patience<'a, C>,
 }
 
-impl<'a, C: Clock> Drop for Taken<'a, C> {
+impl<'a, C: Clock> Drop for WriteEnd<'a, C> {
     fn drop(self) {
-        let Taken {
+        let WriteEnd {
             stream: _,
             patience: _,
         } = self;
     }
 }
 
-impl<'a, C: Clock> Write for Taken<'a, C> {
+impl<'a, C: Clock> Write for WriteEnd<'a, C> {
     fn write(&mut self, buf: &[u8]) -> io::Result<usize> {
         let (wait, begun) = self.patience.begin()?;
         let _ = self.stream.set_write_timeout(Some(wait));
