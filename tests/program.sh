@@ -215,14 +215,18 @@ refused 'mail of nobody' "$db" 'refused: 5 NoFaction' mail --db "$db" --faction 
 refused 'mail with another pass text' "$db" 'refused: 6 WrongPass' mail --db "$db" --faction 1 --pass no --file "$mailing"
 { printf '#ATLANTIS 1\n' && head -c 65525 /dev/zero | tr '\0' '"'; } >"$mailing"
 refused 'a mailing that is too long' "$db" 'refused: 8 TooLong' mail --db "$db" --faction 1 --pass pw --file "$mailing"
-truncate -s 1G "$work/huge"
-(ulimit -v 500000 && refused 'a huge mailing' "$db" 'refused: 8 TooLong' mail --db "$db" --faction 1 --pass pw --file "$work/huge" &&
-  exit "$failed") || failed=1
-refused 'a huge mailing of nobody' "$db" 'refused: 5 NoFaction' mail --db "$db" --faction 9 --pass pw --file "$work/huge"
-refused 'a huge mailing with another pass text' "$db" 'refused: 6 WrongPass' mail --db "$db" --faction 1 --pass no --file "$work/huge"
-refused 'a mailing without an end' "$db" 'refused: 8 TooLong' mail --db "$db" --faction 1 --pass pw --file /dev/zero
-check 'a mailing that is a folder' 1 '' 'file: cannot read' mail --db "$db" --faction 1 --pass pw --file "$work"
-rm "$work/huge"
+huge=$work/huge
+truncate -s 1G "$huge"
+(
+  ulimit -v 500000
+  refused 'a huge mailing' "$db" 'refused: 8 TooLong' mail --db "$db" --faction 1 --pass pw --file "$huge"
+  exit "$failed"
+) || failed=1
+refused 'huge mail of nobody' "$db" 'refused: 5 NoFaction' mail --db "$db" --faction 9 --pass pw --file "$huge"
+refused 'huge mail, another pass' "$db" 'refused: 6 WrongPass' mail --db "$db" --faction 1 --pass no --file "$huge"
+refused 'endless mail' "$db" 'refused: 8 TooLong' mail --db "$db" --faction 1 --pass pw --file /dev/zero
+check 'a folder for a mailing' 1 '' 'file: cannot read' mail --db "$db" --faction 1 --pass pw --file "$work"
+rm "$huge"
 echo hello >"$mailing"
 refused 'a mailing without a header' "$db" 'refused: 9 NoHeader' mail --db "$db" --faction 1 --pass pw --file "$mailing"
 echo '#ATLANTIS x' >"$mailing"
@@ -240,7 +244,7 @@ check 'no campaign after them' 1 '' 'fault: NotACampaign' report --db "$work/new
 check 'a founding after them' 0 'founded, 1 regions' '' found --world "$small" --db "$work/new.db" --pass gm
 whole "$work/new.db"
 
-# untouched BYTES FAULT: each subcommand but `found` refuses a file of this length, and leaves it and what is next to it as they are
+# untouched BYTES FAULT: each subcommand but `found` refuses a file of this length, and leaves it and its log as they are
 untouched() {
   local words short=$work/short.db
   head -c "$1" "$db" >"$short"
@@ -250,8 +254,8 @@ untouched() {
   while read -r words; do
     # shellcheck disable=SC2086
     check "$words in a file of $1 bytes" 1 '' "$2" $words --db "$short"
-    cmp -s "$short" "$work/short.before" && cmp -s "$short-wal" "$work/short.log" && [ "$(echo "$short"*)" = "$short $short-wal" ] ||
-      fail "$words in a file of $1 bytes" 'a file changed'
+    cmp -s "$short" "$work/short.before" && cmp -s "$short-wal" "$work/short.log" &&
+      [ "$(echo "$short"*)" = "$short $short-wal" ] || fail "$words in a file of $1 bytes" 'a file changed'
   done <<END
 join --name Bree --pass pb --seed 0
 mail --faction 1 --pass pw --file $mailing
@@ -402,7 +406,11 @@ whole "$db"
 { (ulimit -s 160 && exec "$here/gm" --help) >"$out"; } 2>/dev/null
 told=$?
 [ "$told" = 139 ] || fail 'a small stack' "status $told"
-(ulimit -s 512 && check 'a report with enough stack' 0 "$report" '' report --db "$db" --faction 1 --pass pw && exit "$failed") || failed=1
+(
+  ulimit -s 512
+  check 'a report with enough stack' 0 "$report" '' report --db "$db" --faction 1 --pass pw
+  exit "$failed"
+) || failed=1
 
 # Ports. One program holds a port until two connections were served; the first shows that it does.
 port=$((20000 + RANDOM % 20000))
