@@ -347,7 +347,8 @@ $(folder_said 4)" close_month.sh
   mailing 1 'UNIT 1' 'RECRUIT 1'
   check 'a closing by hand' 0 'month 5 closed' '' close --db club.db --month 5 --pass moderator --seed "$seed"
   script 'after a closing by hand' 1 'month 5 is closed already, and its folder was not finished
-close_month: month 5 was closed with other mail, or another seed, than months/5.part has. Move that folder away' close_month.sh
+close_month: month 5 was closed with other mail, or another seed, than months/5.part has.'\
+' Move that folder away' close_month.sh
   [ -z "$(find before-*.db months -perm /077)" ] || fail 'the second club' 'others may read what was kept'
 }
 
