@@ -5,10 +5,11 @@
 # status is 0 if there is no fault.
 # It finds what the program can't read. It doesn't know your units, so it can't say whether an order will succeed
 # when the month is closed, nor whether the number after #ATLANTIS is yours: it takes that number for yours.
-# gm is called as $GM, or else the gm on the PATH, or else the gm of this repository.
+# gm is called as $GM, or else the gm of this repository, or else the one on the PATH.
 set -eu
 here=$(cd "$(dirname "$(readlink -f "$0")")/.." && pwd)
-gm=${GM:-$(command -v gm || echo "$here/gm")}
+gm=${GM:-$here/gm}
+[ -n "${GM:-}" ] || [ -x "$gm" ] || gm=gm
 
 [ "$#" = 2 ] || { echo 'check_orders: call it as check_orders.sh WORLD MAILING' >&2; exit 2; }
 world=$1 mailing=$2

@@ -16,11 +16,12 @@
 # The month is closed in a copy first, and all of this is written. Only then it is closed in club.db. So a failure
 # changes nothing, and a script that was stopped on its way is simply called again.
 # MONTH is only needed for a month without any mail. So a second call by mistake closes nothing.
-# It needs sqlite3, and calls gm as $GM, or else the gm on the PATH, or else the gm of this repository.
+# It needs sqlite3, and calls gm as $GM, or else the gm of this repository, or else the one on the PATH.
 set -eu
 umask 077
 here=$(cd "$(dirname "$(readlink -f "$0")")/.." && pwd)
-gm=${GM:-$(command -v gm || echo "$here/gm")}
+gm=${GM:-$here/gm}
+[ -n "${GM:-}" ] || [ -x "$gm" ] || gm=gm
 part='' closing=''
 
 stop() {

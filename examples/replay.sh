@@ -7,10 +7,11 @@
 # status is 1 then.
 # A campaign whose first months were not kept, or that was upgraded, can't be replayed from its founding. The moderator
 # can replay it from COPY, the private file before-M.db: then the months from M on are compared. That alone needs
-# sqlite3. gm is called as $GM, or else the gm on the PATH, or else the gm of this repository.
+# sqlite3. gm is called as $GM, or else the gm of this repository, or else the one on the PATH.
 set -eu
 here=$(cd "$(dirname "$(readlink -f "$0")")/.." && pwd)
-gm=${GM:-$(command -v gm || echo "$here/gm")}
+gm=${GM:-$here/gm}
+[ -n "${GM:-}" ] || [ -x "$gm" ] || gm=gm
 pass=again
 names=() # the names of the factions that have joined
 
