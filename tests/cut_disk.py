@@ -115,7 +115,7 @@ class Record:
 
     def change(self, call, file, words, value):
         if file == "peer" or file == "out" and call in ("write", "writev"):
-            # a reply may be written in pieces; the next one comes behind changes of the files
+            # a reply may be written in pieces, and the files change before the next one
             if not self.events or self.events[-1] != ("answer", None):
                 self.events.append(("answer", None))
         elif call in ("fsync", "fdatasync") and file is not None:
@@ -222,7 +222,7 @@ def sum_of(files):
 
 
 class State:
-    """Files that a power cut leaves, after so many events, so many of which were answers."""
+    """The files that a power cut leaves after the first events, and the number of answers among these."""
 
     def __init__(self, files, events, point, kind, dice):
         self.where = f"after {point} of {len(events)} calls, {kind}"
@@ -231,8 +231,8 @@ class State:
 
 
 def states(files, events, count, dice):
-    """So many states, no two alike, or all that are found. The first half are at syncs and answers, with all lost or all
-    written."""
+    """A number of states, no two alike, or all that are found. The first half are at syncs and answers, with all lost
+    or all written."""
     points = [place for place, event in enumerate(events) if event[0] in ("sync", "answer")] + [len(events)]
     bounds = [(point, kind) for point in points for kind in ("lost", "written")]
     dice.shuffle(bounds)

@@ -156,7 +156,7 @@ FOUNDING = ("found", "--world", ISLE, "--pass", "gm")
 
 
 def played(work, factions):
-    """A campaign with so many factions after a month, each of which has sent a mailing for the next."""
+    """A campaign after a month, in which each faction has sent a mailing for the next."""
     files = work.done(FOUNDING, NO_FILES)
     for faction in range(1, factions + 1):
         files = work.done(joining(f"Faction {faction}"), files)
@@ -185,7 +185,7 @@ def commands(work, files):
 
 
 def cut_command(work, words, files, count, dice):
-    """How many power cuts of a command leave the campaign before it, and how many the one after it; and those states
+    """The numbers of power cuts of a command that leave the campaign before it and the one after it; and the states
     from which the program has to recover, each with its campaign and which of the two it is."""
     events = work.recorded(words, files)
     campaigns = [Campaign(work, files, REPORT), Campaign(work, work.done(words, files), REPORT)]
@@ -211,21 +211,18 @@ NOTHING = "BEGIN TRANSACTION;\nCOMMIT;"
 
 
 def judged_founding(work, files, founded):
-    """Whether the files of a founding hold the campaign (1), or nothing, and another founding takes them (0)."""
+    """Whether the files that a founding left hold the campaign (1), or nothing, and the program founds it there (0)."""
     rows = work.rows(files)
-    put_files(work.run, files)
-    answer = run(BOOKS, work.run)
-    if answer == founded.answer:
-        # SQLite takes no log beside an empty file
-        if rows != founded.rows and (files["db"] or rows != NOTHING):
-            raise Failed("SQLite finds another campaign than the program")
-        if work.rows(read_files(work.run)) != founded.rows:
-            raise Failed("the program leaves another campaign")
+    if rows == founded.rows:
+        judged(work, files, [founded], BOOKS)
         return 1
-    if answer[0] != 1 or rows not in (None, NOTHING):
-        raise Failed(f"a campaign is founded in part: {answer[2].decode().strip()}")
+    if rows not in (None, NOTHING):
+        raise Failed("SQLite finds a part of the campaign")
+    put_files(work.run, files)
+    if run(BOOKS, work.run)[0] != 1:
+        raise Failed("the program finds a campaign, and SQLite none")
     if work.rows(work.done(FOUNDING, files)) != founded.rows:
-        raise Failed("another campaign is founded")
+        raise Failed("the program founds another campaign")
     return 0
 
 
@@ -245,7 +242,7 @@ def cut_founding(work, count, dice):
 
 
 def shared(count, things, most):
-    """So many in all, of some of the things: each with its share."""
+    """The first things, `most` of them, each with its share of a count."""
     some = things[:most]
     return [(thing, count // len(some) + (place < count % len(some))) for place, thing in enumerate(some)]
 
@@ -321,7 +318,7 @@ def requests(work, files, factions, count, dice):
 
 
 class Server:
-    """The program while it serves so many requests on the files of the folder `served`."""
+    """The program while it serves a number of requests on the files of the folder `served`."""
 
     def __init__(self, work, count, *before):
         with socket.socket() as tried:
@@ -388,8 +385,8 @@ def cut_serve(work, files, factions, count, dice):
 
 
 def kill_serve(work, files, factions, kills, dice):
-    """Kills of `serve` at random moments, each over what the one before left, and how many requests were answered
-    before them. A run that ends before its moment is no kill."""
+    """Kills of `serve` at random moments, each over what the one before left, and the number of requests that were
+    answered before them. A run that ends before its moment is no kill."""
     counts, answered = [0, 0], 0
     put_files(work.served, files)
     while sum(counts) < kills:
