@@ -26,6 +26,9 @@ NO_FILES = {"db": None, "wal": None}
 FACTIONS, MOST_FACTIONS = 8, 80
 CUTS, SERVED, AGAIN, KILLS, SERVES = 60, 60, 40, 40, 12
 
+# Factions that are played for much longer starve.
+LAST_MONTH = 20
+
 REPORT = ("report", "--faction", "1", "--pass", "pw")
 BOOKS = ("books",)
 
@@ -296,16 +299,18 @@ def standing(work, files):
 
 
 def requests(work, files, factions, count, dice):
-    """Requests that are all taken by the campaign in these files; mailings are of its first factions."""
+    """Requests of all three kinds that the campaign in these files takes; mailings are of its first factions."""
     members, month = standing(work, files)
+    kinds = ["join", "mail", "close"]
+    kinds += dice.choices(kinds, (4, 5, 1), k=count - len(kinds))
+    dice.shuffle(kinds)
     made = []
-    for number in range(count):
-        what = dice.choices(("join", "mail", "close"), (4, 5, 1))[0]
-        if what == "join":
+    for number, kind in enumerate(kinds):
+        if kind == "join":
             members += 1
             name = f"Guest {members}"
             made.append(Request("/join", joining(name), f'{{"name":"{name}","pass":"pw"}}'))
-        elif what == "mail":
+        elif kind == "mail":
             faction = dice.randrange(1, factions + 1)
             size = dice.choice((10, 3000, 40000)) + dice.randrange(100)
             text = letter(faction, f"Number {number} of month {month}", size)
@@ -387,9 +392,12 @@ def cut_serve(work, files, factions, count, dice):
 def kill_serve(work, files, factions, kills, dice):
     """Kills of `serve` at random moments, each over what the one before left, and the number of requests that were
     answered before them. A run that ends before its moment is no kill."""
-    counts, answered = [0, 0], 0
+    counts, answered, first = [0, 0], 0, files
     put_files(work.served, files)
     while sum(counts) < kills:
+        if standing(work, files)[1] > LAST_MONTH:
+            files = first
+            put_files(work.served, files)
         asked = requests(work, files, factions, 24, dice)
         server = Server(work, len(asked))
         killer = threading.Timer(dice.random() * dice.choice((0.02, 0.1, 0.3)), server.process.kill)
