@@ -244,15 +244,15 @@ def cut_founding(work, count, dice):
 # ---- recoveries: each finds the campaign that the first one found
 
 
-def shared(count, things, most):
-    """The first things, `most` of them, each with its share of a count."""
-    some = things[:most]
+def shared(count, things, share):
+    """As many of the things as it takes for a count, each with its share of it."""
+    some = things[: max(1, count // share)]
     return [(thing, count // len(some) + (place < count % len(some))) for place, thing in enumerate(some)]
 
 
 def cut_recoveries(work, logs, count, dice):
     counts = [0, 0]
-    for (files, campaign, place), share in shared(count, dice.sample(logs, len(logs)), 12):
+    for (files, campaign, place), share in shared(count, dice.sample(logs, len(logs)), 4):
         for state in states(files, work.recorded(REPORT, files), share, dice):
             at(f"a recovery, {state.where}", lambda: judged(work, state.files, [campaign], REPORT))
             counts[place] += 1
@@ -262,11 +262,11 @@ def cut_recoveries(work, logs, count, dice):
 def kill_recoveries(work, logs, count, dice):
     """Each is killed at one of its system calls."""
     counts = [0, 0]
-    for (files, campaign, place), share in shared(count, dice.sample(logs, len(logs)), 6):
+    for (files, campaign, place), share in shared(count, dice.sample(logs, len(logs)), 8):
         put_files(work.run, files)
         subprocess.run([*strace(work.trace), *command(REPORT, work.run)], capture_output=True)
         calls = calls_in(work.trace)
-        stops = [(call, calls[: place + 1].count(call)) for place, call in enumerate(calls) if "exit" not in call]
+        stops = [(call, calls[: last + 1].count(call)) for last, call in enumerate(calls) if "exit" not in call]
         for call, number in dice.sample(stops, min(share, len(stops))):
             put_files(work.run, files)
             kill = strace(work.trace, "-e", f"inject={call}:signal=KILL:when={number}")
@@ -442,6 +442,8 @@ def tried(work, times, dice):
         counts, more = cut_command(work, words, first, CUTS * times, dice)
         table.row(f"power cuts of `{words[0]}`", counts)
         logs += more
+    if not logs:
+        raise Failed("no power cut leaves a log to recover from")
     table.row("power cuts under `serve`", cut_serve(work, files, factions, SERVED * times, dice))
     table.row("power cuts of recoveries", cut_recoveries(work, logs, AGAIN * times, dice))
     table.row("recoveries that are killed", kill_recoveries(work, logs, KILLS * times, dice))
