@@ -430,7 +430,7 @@ class Table:
 
     def row(self, what, counts):
         self.lines.append(f"| {what} | {sum(counts)} | {counts[0]} | {counts[1]} | 0 |")
-        print(f"cuts: {what}: {sum(counts)}", flush=True)
+        print(f"cuts: {what}: {counts[0]} as before, {counts[1]} as after", flush=True)
 
 
 def tried(work, times, dice):
