@@ -106,12 +106,12 @@ def sip(client, ended):
 
 
 def mail_slowly(client, ended):
-    """Sends the longest mailing in 50 seconds, which is fast enough."""
+    """Sends the longest mailing in 44 seconds, which is fast enough."""
     head = b'POST /orders/2 HTTP/1.1\r\nHost: club\r\nAtlantis-Pass: pw\r\nContent-Length: %d\r\n\r\n'
     client.sendall(head % len(MAILING))
-    for start in range(0, len(MAILING), 1_311):
+    for start in range(0, len(MAILING), 1_500):
         time.sleep(1)
-        client.sendall(MAILING[start:start + 1_311])
+        client.sendall(MAILING[start:start + 1_500])
     expect('a slow mailing', receive(client).split(b'\r\n\r\n')[-1], b'{"faults":[],"orders":0}')
 
 
@@ -122,7 +122,7 @@ CASES = [
     ('after a client that takes nothing', [take_nothing], 8, 35),
     ('after a client that sips', [sip], 55, 80),
     ('after four slow clients', [send_nothing, take_nothing, send_nothing, send_nothing], 35, 80),
-    ('after a slow mailing', [mail_slowly], 40, 65),
+    ('after a slow mailing', [mail_slowly], 40, 75),
 ]
 
 
