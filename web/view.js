@@ -158,8 +158,14 @@ function ownerWords(owner, names) {
   return names.has(owner) ? `owner unit ${owner} ${names.get(owner)}` : `owner unit ${owner}`;
 }
 
+// A unit that nobody has named is called by its number.
+function unitTitle({ number, name }) {
+  const bare = `Unit ${number}`;
+  return name === bare ? bare : `${bare} ${name}`;
+}
+
 function unitsPart(title, units) {
-  return listPart(title, units.map((unit) => card(`Unit ${unit.number} ${unit.name}`, unitFacts(unit))));
+  return listPart(title, units.map((unit) => card(unitTitle(unit), unitFacts(unit))));
 }
 
 function unitFacts(unit) {
