@@ -1,7 +1,7 @@
 #!/usr/bin/env bash
 # Plays what docs/PLAYER.md, docs/MODERATOR.md and README.md show, and compares what the program prints with what the
 # page says. Each page is played from its top to its end, in a folder of its own with the worlds and the examples in
-# it. Called without arguments, by tests/program.sh too; it ends with 'pages: all as printed'. A block between fences
+# it. Called without arguments, it ends with 'pages: all as printed'. A block between fences
 # is played if its first fence has one of these words, and passed over if it has another or none:
 #   campaign W SEED  a new campaign begins, with the world file W and this seed; the block is the answer
 #   join NAME PASS   a faction joins, whose pass text is PASS; the block is the answer
