@@ -1,4 +1,4 @@
-//! Tests of atl_instant, atl_market, atl_action and atl_month by their public calls alone.
+//! Tests of atl_instant, atl_market, atl_action, atl_month and atl_report by their public calls alone.
 mod agreeing;
 mod crowd;
 mod former;
@@ -8,6 +8,7 @@ mod months;
 mod orders;
 mod phases;
 mod pots;
+mod reports;
 mod settling;
 mod shares;
 mod telling;

@@ -1,5 +1,0 @@
-//! Tests of reports.
-#![tactic(auto)]
-
-#[cfg(test)]
-mod tests;
