@@ -64,6 +64,9 @@ try first_hour '' examples/first_hour.sh
 try program sqlite3 tests/program.sh
 try upgrade sqlite3 tests/upgrade.sh
 try pages 'sqlite3 curl' tests/pages.sh
+try links python3 tests/links.py
+try believe python3 tests/believe.py --check
+try sentences python3 tests/sentences.py
 try http 'sqlite3 curl' tests/http.sh
 try club 'sqlite3 curl' tests/club.sh
 try plain python3 tests/plain.py crates/atl_phase_tests/data/*.txt

@@ -1,0 +1,220 @@
+#!/usr/bin/env python3
+"""Checks the pages against the repository, and prints each fault with its line:
+
+- Under each heading (##) of docs/RULES.md is a paragraph that says where its definition, its code and its tests are, as
+  `Definition: [Share](../crates/atl_market/specs/Share.antt); code: [shares](../crates/atl_market/src/shares.rt); tests: [shares](..).`
+  Each file is there, some of the code cites one of the definitions, and a definition whose first line names sections of docs/RULES.md is under these.
+- Each link of a page leads to a file, and to a heading where it names one, and each file and folder that a page names is there.
+- Each section of a page that code, definitions, tests or pages name, as in `docs/RULES.md, "Shares"`, is there.
+
+It ends with 'links: all there'."""
+import glob, os, re, sys
+
+RULES = "docs/RULES.md"
+PARTS = ("Definition", "code", "tests")
+LINK = re.compile(r"\[([^\]]*)\]\(([^)\s]*)\)")
+PATH = re.compile(r"(?:\./)?[\w.-]+(?:/[\w.-]+)*/?")
+IN_TEXT = re.compile(r"(?<![\w./-])(?:bench|crates|docs|examples|tests|web|worlds)/[\w./-]*\w")
+FILE = re.compile(r"[\w-]+\.(?:antt|c|conf|edit|md|py|rt|sh|toml|txt)$")
+CITED = re.compile(r"\b((?:docs|web)/\w+\.md), \"([^\"]+)\"(?:(?:,| and|, and) \"([^\"]+)\")*")
+
+# What pages name and the repository doesn't have: files of a club, what the build makes, and what HTTP calls by such names.
+OF_A_CLUB = re.compile(r"(?:mail|months)/.*|(?:books|mailing|orders|club|island)\.\w+")
+NOT_HERE = {"bench/NAME.txt", "crates/atl_gm/out/atl_gm", "text/plain", "HTTP/1.1"}
+
+# Definitions whose first line names the section of a rule that they apply, and not their own.
+APPLY_ANOTHER = {"crates/atl_market/specs/ItemPots.antt": {"Pots"}, "crates/atl_market/specs/Trade.antt": {"Selling", "Buying"}}
+
+
+# ---- the sections of a page
+
+
+class Section:
+    """A section (##) of a page, with the lines under its heading."""
+
+    def __init__(self, page, title, line):
+        self.page, self.title, self.line, self.text = page, title, line, []
+
+    def where(self):
+        """The paragraph that says where it is, or nothing."""
+        lines = self.text[1:]
+        text = " ".join(lines[: lines.index("")] if "" in lines else lines)
+        return text if text.startswith(f"{PARTS[0]}: ") else ""
+
+    def files(self, part):
+        """The files of one part, as paths from the top of the repository."""
+        for piece in self.where().rstrip(".").split("; "):
+            name, _, rest = piece.partition(": ")
+            if name == part:
+                return [os.path.normpath(os.path.join(os.path.dirname(self.page), path)) for _, path in LINK.findall(rest)]
+        return []
+
+
+def pages():
+    return ["README.md", "web/README.md", *sorted(glob.glob("docs/*.md"))]
+
+
+def read(path):
+    with open(path, encoding="utf-8") as file:
+        return file.read()
+
+
+def sections_of(page):
+    sections = []
+    for number, line in enumerate(read(page).split("\n"), 1):
+        if line.startswith("## "):
+            sections.append(Section(page, line[3:], number))
+        elif sections:
+            sections[-1].text.append(line)
+    return sections
+
+
+def faults_of_section(section):
+    """What is wrong with the paragraph under a heading."""
+    form = r"; ".join(rf"{part}: {LINK.pattern}(?:, {LINK.pattern})*" for part in PARTS)
+    if not re.fullmatch(form + r"\.", section.where()):
+        yield "no paragraph of the form 'Definition: [..](..); code: [..](..); tests: [..](..).' is right under the heading"
+        return
+    missing = [path for part in PARTS for path in section.files(part) if not os.path.isfile(path)]
+    yield from (f"{path} isn't there" for path in missing)
+    if not missing:
+        yield from faults_of_files(section)
+
+
+def faults_of_files(section):
+    for path in section.files("Definition"):
+        titles = titles_named(path)
+        if not re.fullmatch(r"crates/\w+/specs/\w+\.antt", path):
+            yield f"{path} is no file of definitions"
+        elif titles and section.title not in titles | APPLY_ANOTHER.get(path, set()):
+            yield f"{path} names other sections: {', '.join(sorted(titles))}"
+    if not any(cites(code, path) for code in section.files("code") for path in section.files("Definition")):
+        yield "none of the code cites one of the definitions"
+
+
+def titles_named(path):
+    """The sections of docs/RULES.md that the first line of a file of definitions names."""
+    return {title for title in re.findall(rf"{RULES}, \"([^\"]*)\"", read(path).split("\n")[0])}
+
+
+def cites(code, path):
+    """Whether a file of code brings in a name of a file of definitions, or holds the numbers that it defines."""
+    _, crate, _, name = path[: -len(".antt")].split("/")
+    return f"Rattle.{crate}.specs.{name}." in read(code) or code == f"crates/{crate}/src/{name.lower()}.rt"
+
+
+def faults_of_rules():
+    sections = sections_of(RULES)
+    for section in sections:
+        yield from (f"{RULES}:{section.line}: {section.title}: {fault}" for fault in faults_of_section(section))
+    for path in sorted(glob.glob("crates/*/specs/*.antt")):
+        for title in titles_named(path):
+            if path not in APPLY_ANOTHER and not any(section.title == title and path in section.files("Definition") for section in sections):
+                yield f"{RULES}: {title}: {path} names this section, and isn't under it"
+
+
+# ---- what pages name
+
+
+def lines_of(page):
+    """The lines of a page outside of its blocks, each with its number."""
+    is_block = False
+    for number, line in enumerate(read(page).split("\n"), 1):
+        if line.startswith("```"):
+            is_block = not is_block
+        elif not is_block:
+            yield number, line
+
+
+def anchors_of(page):
+    """The headings of a page, as links name them."""
+    return {re.sub(r"[^\w -]", "", line.lstrip("#").strip().lower()).replace(" ", "-") for _, line in lines_of(page) if line.startswith("#")}
+
+
+def all_paths():
+    """Each file and folder of the repository, without what is made."""
+    found = set()
+    for folder, folders, files in os.walk("."):
+        folders[:] = [name for name in folders if name not in (".git", "out", "__pycache__")]
+        found.update(os.path.normpath(os.path.join(folder, name)) for name in folders + files)
+    return found
+
+
+def ends_of(paths):
+    """Each way to name one of these paths: itself, and what is left without its first folders; modules and definitions also without their ending."""
+    ends = set()
+    for path in paths:
+        parts = path.split("/")
+        ends.update("/".join(parts[at:]) for at in range(len(parts)))
+    return ends | {re.sub(r"\.(rt|antt)$", "", end) for end in ends if "/" in end}
+
+
+def links_missing(page, line):
+    for _, target in LINK.findall(line):
+        path, _, anchor = target.partition("#")
+        if re.match(r"https?:", target):
+            continue
+        whole = os.path.normpath(os.path.join(os.path.dirname(page), path)) if path else page
+        if not os.path.exists(whole):
+            yield f"{target} leads nowhere"
+        elif anchor and anchor not in anchors_of(whole):
+            yield f"{target}: there is no such heading"
+
+
+def names_in(line):
+    """The names of files and folders in a line: between backquotes the first word that may be one, and elsewhere what begins with a folder of the repository."""
+    for code in re.findall(r"`([^`]+)`", line):
+        word = code.split()[0]
+        if PATH.fullmatch(word) and ("/" in word or FILE.fullmatch(word)):
+            yield word
+    yield from IN_TEXT.findall(re.sub(r"`[^`]*`|\]\([^)]*\)", " ", line))
+
+
+def names_missing(line, ends):
+    for name in names_in(line):
+        is_here = os.path.normpath(name) in ends
+        if not is_here and name not in NOT_HERE and not OF_A_CLUB.fullmatch(name):
+            yield f"{name} isn't in the repository"
+
+
+def faults_of_pages():
+    ends = ends_of(all_paths())
+    for page in pages():
+        for number, line in lines_of(page):
+            yield from (f"{page}:{number}: {fault}" for fault in (*links_missing(page, line), *names_missing(line, ends)))
+
+
+# ---- sections that are named
+
+
+def sources():
+    patterns = ("crates/*/src/**/*.rt", "crates/*/specs/*.antt", "crates/*/proofs/**/*.antt", "tests/*.sh", "tests/*.py", "examples/*.sh")
+    return [*pages(), *(path for pattern in patterns for path in sorted(glob.glob(pattern, recursive=True)) if os.path.isfile(path))]
+
+
+def faults_of_citations():
+    headings = {}
+    for path in sources():
+        for number, line in enumerate(read(path).split("\n"), 1):
+            for cited in CITED.finditer(line):
+                page = cited[1]
+                if page not in headings:
+                    headings[page] = {text.lstrip("#").strip() for _, text in lines_of(page) if text.startswith("#")} if os.path.isfile(page) else set()
+                for title in re.findall(r"\"([^\"]+)\"", cited[0]):
+                    if title not in headings[page]:
+                        yield f"{path}:{number}: {page} has no section \"{title}\""
+
+
+def main():
+    os.chdir(os.path.dirname(os.path.dirname(os.path.abspath(__file__))))
+    if sys.argv[1:]:
+        sys.exit(__doc__)
+    faults = [*faults_of_rules(), *faults_of_pages(), *faults_of_citations()]
+    for fault in faults:
+        print(fault)
+    print(f"links: {len(faults)} faults" if faults else "links: all there")
+    sys.exit(bool(faults))
+
+
+if __name__ == "__main__":
+    main()
