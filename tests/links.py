@@ -22,9 +22,6 @@ CITED = re.compile(r"\b((?:docs|web)/\w+\.md), \"([^\"]+)\"(?:(?:,| and|, and) \
 OF_A_CLUB = re.compile(r"(?:mail|months)/.*|(?:books|mailing|orders|club|island)\.\w+")
 NOT_HERE = {"bench/NAME.txt", "crates/atl_gm/out/atl_gm", "text/plain", "HTTP/1.1"}
 
-# Definitions whose first line names the section of a rule that they apply, and not their own.
-APPLY_ANOTHER = {"crates/atl_market/specs/ItemPots.antt": {"Pots"}, "crates/atl_market/specs/Trade.antt": {"Selling", "Buying"}}
-
 
 # ---- the sections of a page
 
@@ -86,7 +83,7 @@ def faults_of_files(section):
         titles = titles_named(path)
         if not re.fullmatch(r"crates/\w+/specs/\w+\.antt", path):
             yield f"{path} is no file of definitions"
-        elif titles and section.title not in titles | APPLY_ANOTHER.get(path, set()):
+        elif titles and section.title not in titles:
             yield f"{path} names other sections: {', '.join(sorted(titles))}"
     if not any(cites(code, path) for code in section.files("code") for path in section.files("Definition")):
         yield "none of the code cites one of the definitions"
@@ -109,7 +106,7 @@ def faults_of_rules():
         yield from (f"{RULES}:{section.line}: {section.title}: {fault}" for fault in faults_of_section(section))
     for path in sorted(glob.glob("crates/*/specs/*.antt")):
         for title in titles_named(path):
-            if path not in APPLY_ANOTHER and not any(section.title == title and path in section.files("Definition") for section in sections):
+            if not any(section.title == title and path in section.files("Definition") for section in sections):
                 yield f"{RULES}: {title}: {path} names this section, and isn't under it"
 
 
