@@ -48,7 +48,7 @@ class Section:
 
 
 def pages():
-    return ["README.md", "web/README.md", *sorted(glob.glob("docs/*.md"))]
+    return ["README.md", "web/README.md", *sorted(glob.glob("docs/*.md")), *sorted(glob.glob("crates/**/README.md", recursive=True))]
 
 
 def read(path):
