@@ -1,9 +1,12 @@
 #!/usr/bin/env python3
-"""Sees that no sentence of the pages for readers has more than 35 words, and prints those that have, each with the line where its paragraph begins and its count of words.
+"""Sees that no sentence of the pages has more than 35 words, and prints those that have, each with the line where its paragraph begins and its count of words.
 Code blocks, tables and headings are left out, and what is between backquotes counts as one word."""
-import glob, os, re, sys
+import os, re, sys
 
-PAGES = ("README.md", "docs/MODERATOR.md", "docs/PLAYER.md", "docs/PROVED.md", "docs/GATE.md", "docs/ARCHITECTURE.md")
+sys.dont_write_bytecode = True
+
+from links import pages
+
 MOST_WORDS = 35
 ITEM = re.compile(r"\s*([-*]|\d+\.)\s+")
 ENDS = re.compile(r"(?<=[^.\s][.!?])[)\"*]*\s+")
@@ -43,7 +46,7 @@ def main():
     os.chdir(os.path.dirname(os.path.dirname(os.path.abspath(__file__))))
     if sys.argv[1:]:
         sys.exit(__doc__)
-    found = [sentence for page in [*PAGES, *sorted(glob.glob("crates/**/README.md", recursive=True))] for sentence in long_sentences(page)]
+    found = [sentence for page in pages() for sentence in long_sentences(page)]
     for sentence in found:
         print(sentence)
     print(f"sentences: {len(found)} too long" if found else "sentences: none too long")
