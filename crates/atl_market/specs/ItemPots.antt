@@ -1,4 +1,4 @@
--- Pots of items: in each region, those that ask for one item share what the region has of it. See docs/RULES.md, "Shares".
+-- Pots of items: in each region, those that ask for one item share what the region has of it. See docs/RULES.md, "Pots".
 use Rattle.std.specs.Prelude.{◌==◌, ℕ, Bool, false, List, [], ◌∷◌, Option, Some, None}
 use Rattle.std.specs.List.{flat_map}
 use Rattle.std.specs.Ordering.{nat_cmp}

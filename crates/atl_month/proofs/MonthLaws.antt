@@ -1,15 +1,14 @@
 -- A campaign behind the phases of a month is good again once the month is counted and the mail is taken away.
-use Rattle.std.proofs.Common.{◌≡◌, ◌&&◌, ℕ, ◌+◌, ◌*◌, ◌≤◌, ◌<◌, Bool, true, false, List, ap, ◌∙◌, arith}
-use Rattle.std.specs.Prelude.{ℤ, nat_lt}
+use Rattle.std.proofs.Common.{◌≡◌, ℕ, ◌+◌, ◌*◌, ◌≤◌, ◌<◌, List, ap, ◌∙◌, arith}
+use Rattle.std.specs.Prelude.{ℤ}
 use Rattle.std.specs.FinMap.{FinMap, empty, get, len}
 use Rattle.std.specs.Ordering.{nat_cmp}
 use Rattle.std.proofs.lemmas.Int.{ints}
-use Rattle.std.proofs.lemmas.Bool.Decides.{nat_tests}
 use Rattle.atl_tables.specs.Worlds.{WorldValue}
 use Rattle.atl_records.specs.declared.event.Event.{Event}
 use Rattle.atl_records.specs.Books.{IsWithin, amount_in}
 use Rattle.atl_records.specs.Every.{IsThere}
-use Rattle.atl_state.specs.Good.{AreAmountsWithin, IsEarly, IsGood, IsSound, IsSteady, amount_bound}
+use Rattle.atl_state.specs.Good.{AreAmountsWithin, IsGood, IsSound, IsSteady, amount_bound}
 use Rattle.atl_records.specs.Limits.{last_month}
 use Rattle.atl_state.specs.Campaign.{CampaignValue}
 use Rattle.atl_state.specs.Totals.{Balances, total}
@@ -79,20 +78,6 @@ module _ {leaves : Condition} (w : WorldValue) (c d : CampaignValue) (well : Lea
 -- a sound campaign has room for the phases of a month
 pub phases_room : (w : WorldValue) (c : CampaignValue) → IsSound w c → HaveRoom phases_moving c
 phases_room w c sound = room_when_sound w c phases_moving (λ e t. omega (arith, phases_little e t)) sound
-
--- every unit of a sound campaign has men, so that those with a flag guard
-pub sound_early : (w : WorldValue) (c : CampaignValue) → IsSound w c → IsEarly w c
-sound_early w c sound = record {
-  steady = sound.steady;
-  flags = λ n u here m v there flag other. sound.steady.guarded n u here m v there (on_guard u.holding.guard u.holding.men flag (sound.men n u here)) (on_guard v.holding.guard v.holding.men other (sound.men m v there));
-}
-  where
-    above : (men : ℕ) → 1 ≤ men → nat_lt 0 men ≡ true
-    above men some = grind (arith, nat_tests, some)
-
-    on_guard : (flag : Bool) (men : ℕ) → flag ≡ true → 1 ≤ men → (flag && nat_lt 0 men) ≡ true
-    on_guard true men is some = above men some
-    on_guard false men is some = is
 
 -- what comes of some phases over a month that has begun, and the events of it
 told_of : (phases : Meaning) (w : WorldValue) (c d : CampaignValue) (m n : MonthValue) (begin : MonthValue) (events : List Event) → (d, n) ≡ phases w c m → m ≡ begin → events ≡ n.events

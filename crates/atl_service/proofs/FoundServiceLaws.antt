@@ -33,7 +33,7 @@ module _ {S : Type 0} (g : Ghosts S) where
   later_itself conn = record { clean = λ clean. clean; counts = omega arith; shield = λ k. k }
 
   nothing_done : (conn : Held S) (text pass : List ℕ) → FailsToFound g conn text pass conn
-  nothing_done conn text pass = record { tables = λ clean. spares_itself (state g conn); crash = λ clean w is db may. inl may }
+  nothing_done conn text pass = record { tables = λ clean. spares_itself (state g conn); unfounded = λ bad. refl; crash = λ clean w is db may. inl may }
 
   -- a founding that was refused before the store was asked
   pub spared : (conn : Held S) (text pass : List ℕ) (why : Cause) → ((is_there : Bool) → IsCause text pass is_there why) → RefusesFounding g conn text pass why conn
@@ -76,6 +76,7 @@ module _ {S : Type 0} (g : Ghosts S) where
     failed : FailsToCreate g text c old new → FailsToFound g old text pass new
     failed fails = record {
       tables = fails.tables;
+      unfounded = λ bad. elim bad [ inl no_world ↦ absurd (no_world (w, made.world)) | inr no_pass ↦ absurd (false≢true (sym no_pass ∙ made.pass_is_good)) ];
       crash = λ clean v v_is. let same : w ≡ v = ok_same w v (sym made.world ∙ v_is) in subst (λ (d : CampaignValue). MayFound (state g old) text d (state g new)) (made.campaign ∙ ap (λ u. founded_of u pass) same) (fails.crash clean);
     }
       where

@@ -47,9 +47,10 @@ IsCause text pass is_there Differs = ⊥
 IsCause text pass is_there Store = IsWorldText text × (pass_ok pass ≡ true) × (is_there ≡ false)
 IsCause text pass is_there Memory = ⊤
 
--- The database could not be written, or there was no memory: while the connection is open its tables are as they were, and a crash leaves what it left before or the founded campaign.
+-- The database could not be written, or there was no memory: while the connection is open its tables are as they were, and a crash leaves what it left before or the founded campaign. Where the text is no world, or the pass text isn't good, nothing is changed at all.
 pub record FailsToFound {S : Type 0} (g : Ghosts S) (old : Held S) (text pass : List ℕ) (new : Held S) : Type 0 where
   pub tables : HasCleanDisk (state g new) → Spares (state g old) (state g new)
+  pub unfounded : (¬ IsWorldText text) ⊎ (pass_ok pass ≡ false) → new ≡ old
   pub crash : HasCleanDisk (state g new) → (w : WorldValue) → world_of text ≡ Ok w → MayFound (state g old) text (founded_of w pass) (state g new)
 
 -- The database has a table, an index or a view, or the connection is in a transaction, and nothing is changed; or neither is so, and a call of the writing gave another error than want of memory.

@@ -157,9 +157,9 @@ impl<S: Alter> Service<S> {
 /// is the first check that fails: the world's fault, the pass text, a campaign that is there, the database; or Memory at
 /// any of them, before the database was asked to write or where a call of the writing gave want of memory. Store: there is a
 /// table, an index or a view, the connection is in a transaction, or a call of the writing gave another error. After the first
-/// three nothing is changed; after the others the tables are as they were while the connection is open, and a crash leaves
-/// what it left before or the founded campaign. See docs/RULES.md, "Founding", and docs/FORMATS.md, "Faults of a world file"
-/// and "Tables".
+/// three nothing is changed, nor after Memory where the text is no world or the pass text isn't good; after the others the
+/// tables are as they were while the connection is open, and a crash leaves what it left before or the founded campaign. See
+/// docs/RULES.md, "Founding", and docs/FORMATS.md, "Faults of a world file" and "Tables".
 pub fn found<S: Alter>(
     alloc: Global,
     mut conn: Connection<S>,

@@ -13,7 +13,8 @@ use Rattle.atl_records.specs.Limits.{last_month}
 use Rattle.atl_state.specs.Campaign.{CampaignValue, with_mail, with_report}
 use Rattle.atl_state.specs.Totals.{total}
 use Rattle.atl_records.specs.Every.{Every, IsThere}
-use Rattle.atl_state.specs.Good.{IsActive, AreInRange, AreNamed, AreOfFactions, AreKnown, IsSteady, IsEarly, IsSound, IsGood}
+use Rattle.atl_state.specs.Early.{GoodAreEarly, SoundAreEarly}
+use Rattle.atl_state.specs.Good.{IsActive, AreInRange, AreNamed, AreOfFactions, AreKnown, IsSteady, IsSound, IsGood}
 use Rattle.atl_state.specs.Joining.{joined, join_of, name_taken, is_full, new_faction}
 use Rattle.atl_records.proofs.EveryLaws.{every-empty, every-insert, there-new, there-insert}
 
@@ -124,15 +125,16 @@ IsGood-joined w name pass word c d faction unit text is good sound =
     }) in
     whole sound
 
--- ---- a good campaign is early
+-- ---- a sound campaign is early, and so a good one
 
 set_guards : (flag : Bool) (men : ℕ) → 1 ≤ men → flag ≡ true → (flag && nat_lt 0 men) ≡ true
 set_guards flag men h set = let some : nat_lt 0 men ≡ true = grind (arith, nat_tests) in both_true set some
 
-pub IsEarly-good : (w : WorldValue) (c : CampaignValue) → IsGood w c → IsEarly w c
-IsEarly-good w c good =
-    let sound = good.sound in
-    record {
-      steady = sound.steady;
-      flags = λ n u is m v there e f. sound.steady.guarded n u is m v there (set_guards u.holding.guard u.holding.men (sound.men n u is) e) (set_guards v.holding.guard v.holding.men (sound.men m v there) f);
-    }
+pub sound_early : SoundAreEarly
+sound_early w c sound = record {
+  steady = sound.steady;
+  flags = λ n u is m v there e f. sound.steady.guarded n u is m v there (set_guards u.holding.guard u.holding.men (sound.men n u is) e) (set_guards v.holding.guard v.holding.men (sound.men m v there) f);
+}
+
+pub IsEarly-good : GoodAreEarly
+IsEarly-good w c good = sound_early w c good.sound

@@ -12,6 +12,7 @@ use Rattle.atl_tables.proofs.TrackLaws.{Room-empty, Room-of, Room-unmarked, Room
 use Rattle.atl_records.specs.declared.records.Unit.{Unit}
 use Rattle.atl_state.specs.Marks.{Things, AreWithin}
 use Rattle.atl_state.specs.UnitRoom.{AreUnits}
+use Rattle.atl_state.specs.Roster.{Roster}
 
 -- ---- what is marked
 either : (b c d : Bool) → (c ≡ true → d ≡ true) → (b || c) ≡ true → (b || d) ≡ true
@@ -179,3 +180,7 @@ AreUnits-added units marks rows goods marks2 rows2 goods2 items skills n w wider
   rows_fit = HasRoom-added units rows rows2 n w wider2;
   goods_fit = HasRoom-added units goods goods2 n w wider3;
 }
+
+-- units whose values are as they were are the same but for their marks
+pub same_values : (r : Roster) (values : FinMap nat_cmp Unit) → values ≡ r.values → record r { values = values } ≡ r
+same_values r values e = ap (λ (v : FinMap nat_cmp Unit). record r { values = v }) e

@@ -2,6 +2,7 @@ pub mod Assembling
 pub mod Checking
 pub mod Covers
 pub mod Deciding
+pub mod Early
 pub mod Founding
 pub mod FromRows
 pub mod Good

@@ -40,6 +40,13 @@ mark_item c n item = record c.marks { units = marked_with c.marks.units n (get c
 abbrev pub mark_skill : MarkedCampaign → ℕ → ℕ → Marks
 mark_skill c n skill = record c.marks { units = marked_with c.marks.units n (get c.value.units n); skills = thing_marked c.marks.skills n skill (get c.value.units n) }
 
+-- a campaign of which nothing changed, with the mark of an item, or of a skill
+abbrev pub item_marked : MarkedCampaign → ℕ → ℕ → MarkedCampaign
+item_marked c n item = record c { marks = mark_item c n item }
+
+abbrev pub skill_marked : MarkedCampaign → ℕ → ℕ → MarkedCampaign
+skill_marked c n skill = record c { marks = mark_skill c n skill }
+
 abbrev pub mark_faction : MarkedCampaign → ℕ → Marks
 mark_faction c n = record c.marks { factions = marked_with c.marks.factions n (get c.value.factions n) }
 

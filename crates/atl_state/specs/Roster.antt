@@ -54,6 +54,13 @@ with_item_at f r n item = record r { values = changed f r.values n; marks = mark
 abbrev pub with_skill_at : (Unit → Unit) → Roster → ℕ → ℕ → Roster
 with_skill_at f r n skill = record r { values = changed f r.values n; marks = marked_with r.marks n (map.get r.values n); skills = thing_marked r.skills n skill (map.get r.values n) }
 
+-- units of which nothing changed, with the mark of an item of one that is there, or of a skill
+abbrev pub item_marked_at : Roster → ℕ → ℕ → Roster
+item_marked_at r n item = record r { marks = marked_with r.marks n (map.get r.values n); items = thing_marked r.items n item (map.get r.values n) }
+
+abbrev pub skill_marked_at : Roster → ℕ → ℕ → Roster
+skill_marked_at r n skill = record r { marks = marked_with r.marks n (map.get r.values n); skills = thing_marked r.skills n skill (map.get r.values n) }
+
 abbrev pub gone_at : Roster → ℕ → Option Unit → Roster
 gone_at r n None = r
 gone_at r n (Some u) = record (all_marked r n) { values = map.remove r.values n }

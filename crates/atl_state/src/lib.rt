@@ -5,6 +5,7 @@ mod arena;
 mod assembly;
 pub mod campaign;
 mod checking;
+mod early;
 mod index;
 mod lists;
 mod numbers;
@@ -24,5 +25,6 @@ pub use atl_records::{
 };
 pub use campaign::{Campaign, founded};
 pub use checking::{CheckFault, Rule, check, check_as};
+pub use early::good_campaigns_are_early;
 pub use parts::Parts;
 pub use row_rules::are_distinct;

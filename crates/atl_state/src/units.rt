@@ -1,12 +1,12 @@
 //! The units of a campaign.
-ghost use Rattle.std.specs.Prelude.{◌≡◌, ◌≤◌, IfOk, OnOk, OnErr, option_copied, None};
+ghost use Rattle.std.specs.Prelude.{◌≡◌, ◌≤◌, ◌⊎◌, IfOk, OnOk, OnErr, option_copied, None};
 ghost use Rattle.std.specs.FinMap as map;
 ghost use Rattle.std.specs.FinSet as set;
 ghost use Rattle.atl_tables.specs.Tracking.{Lists};
 ghost use Rattle.atl_records.specs.Limits.{holding_limit, men_limit, most_numbered};
 ghost use Rattle.atl_records.specs.Held.{with_amount_of};
 ghost use Rattle.atl_state.specs.Marks.{AreWithin};
-ghost use Rattle.atl_state.specs.Roster.{no_units, unmarked_units, with_unit_at, with_row, with_item_at, with_skill_at, without_unit_at};
+ghost use Rattle.atl_state.specs.Roster.{no_units, unmarked_units, with_unit_at, with_row, with_item_at, with_skill_at, without_unit_at, item_marked_at, skill_marked_at};
 
 use crate::arena::{Arena, SlotEntries};
 use atl_records::Unit;
@@ -239,7 +239,7 @@ impl Units {
     ) -> Result<(), AllocError>
         requires { amount ≤ holding_limit }
         ensures ok { OnOk result (self.new ≡ with_item_at (λ u. record u { holding = record u.holding { items = with_amount_of u.holding.items item amount } }) self.old number item) }
-        ensures err { OnErr result (self.new.values ≡ self.old.values) }
+        ensures err { OnErr result ((self.new ≡ self.old) ⊎ (self.new ≡ item_marked_at self.old number item)) }
     {
         let Some(unit) = self.units.get_mut(number) else {
             return Ok(());
@@ -259,7 +259,7 @@ impl Units {
         days: u32,
     ) -> Result<(), AllocError>
         ensures ok { OnOk result (self.new ≡ with_skill_at (λ u. record u { holding = record u.holding { days = with_amount_of u.holding.days skill days } }) self.old number skill) }
-        ensures err { OnErr result (self.new.values ≡ self.old.values) }
+        ensures err { OnErr result ((self.new ≡ self.old) ⊎ (self.new ≡ skill_marked_at self.old number skill)) }
     {
         let Some(unit) = self.units.get_mut(number) else {
             return Ok(());

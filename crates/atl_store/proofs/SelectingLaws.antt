@@ -1,5 +1,5 @@
 -- What a SELECT inside a transaction leaves, whatever it means, and what is left once the transaction is rolled back.
-use Rattle.std.proofs.Common.{◌≡◌, ◌≢◌, ◌⊎◌, ℕ, Bool, List, [], true, false, cond, IsTrue, Option, Some, None, Result, Ok, Err, IsErrAnd, IfOk, IfErr, map, length, refl, sym, ap, ◌∙◌, subst, inl, inr, arith}
+use Rattle.std.proofs.Common.{◌≡◌, ◌≢◌, ◌≤◌, ◌⊎◌, ℕ, Bool, List, [], true, false, cond, IsTrue, Option, Some, None, Result, Ok, Err, IsErrAnd, IfOk, IfErr, map, length, refl, sym, ap, ◌∙◌, subst, inl, inr, arith}
 use Rattle.std.specs.declared.vec.Vec.{Vec}
 use Rattle.sqlite_trees.specs.declared.store.Store.{Ghosts}
 use Rattle.sqlite_schema.specs.declared.command.Returning.{Returning}
@@ -44,6 +44,9 @@ module _ (old new : State) (inside : IsTrue old.in_transaction) (sql : List ℕ)
 
 -- ---- once the transaction is rolled back
 
+pub no_fewer : (faults : ℕ) → faults ≤ faults
+no_fewer faults = omega arith
+
 module _ {S : Type 0} (g : Ghosts S) (sql : List ℕ) (old begun mid end : Held S) (begins : begun ≡ record old { in_transaction = true }) (ended : end.in_transaction ≡ false)
     (one : Survives (state g begun) (state g mid) (λ _. ⊥)) (back : HasCleanDisk (state g end) → IsRolledBack (state g mid) (state g end)) (two : Survives (state g mid) (state g end) (λ _. ⊥)) where
   begun_inside : IsTrue (state g begun).in_transaction
@@ -64,7 +67,7 @@ module _ {S : Type 0} (g : Ghosts S) (sql : List ℕ) (old begun mid end : Held 
 
   -- it is asked of the tables as they were
   asked : IsAsked (state g old) (state g begun)
-  asked = subst (λ h. IsAsked (state g old) (state g h)) (sym begins) (record { was_open = λ up. up; same = refl; limit = refl })
+  asked = subst (λ h. IsAsked (state g old) (state g h)) (sym begins) (record { was_open = λ up. up; is_open = λ up. up; same = refl; limit = refl; faults = no_fewer (state g old).faults })
 
   -- it showed rows
   pub showed : {Z : Type 0} (rows : Vec Row Z) → (HasCleanDisk (state g mid) → Shown sql [] (state g begun) (state g mid) rows.items) → Asks g sql old {Z = Z} (Ok rows) end

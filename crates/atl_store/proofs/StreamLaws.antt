@@ -19,10 +19,10 @@ use Rattle.atl_store.specs.declared.fault.ReadFault.{ReadFault}
 use Rattle.atl_store.specs.declared.fault.ReadFault.TheVariants.{Memory}
 use Rattle.atl_store.proofs.ConfirmLaws.{refused_rests, rests_unchanged}
 use Rattle.atl_store.proofs.KeepLaws.{survives_more, if_ok, if_err}
-use Rattle.atl_store.proofs.SelectingLaws.{never_other}
+use Rattle.atl_store.proofs.SelectingLaws.{never_other, no_fewer}
 
 asked_unchanged : (old now : State) → IsUnchanged old now → Survives old now (λ _. ⊥) → IsAsked old now
-asked_unchanged old now h survives = record { was_open = λ _. h.0.was_open; same = h.0.now_is; limit = survives.limit }
+asked_unchanged old now h survives = record { was_open = λ _. h.0.was_open; is_open = λ _. h.0.is_open; same = h.0.now_is; limit = survives.limit; faults = survives.counts }
 
 -- what came before changed nothing
 pub rests_then : (old mid new : State) → IsUnchanged old mid → Rests mid new → Rests old new
@@ -46,7 +46,13 @@ rests_both old mid new one two = record {
 }
 
 asked_then : (old mid new : State) → IsAsked old mid → IsAsked mid new → IsAsked old new
-asked_then old mid new one two = record { was_open = λ up. one.was_open (two.was_open up); same = two.same ∙ one.same; limit = two.limit ∙ one.limit }
+asked_then old mid new one two = record {
+  was_open = λ up. one.was_open (two.was_open up);
+  is_open = λ up. two.is_open (one.is_open up);
+  same = two.same ∙ one.same;
+  limit = two.limit ∙ one.limit;
+  faults = omega (arith, one.faults, two.faults);
+}
 
 pub commits_nothing : (sql : List ℕ) (old new : State) → IsPlain (understood old.now.schema sql) → Survives old new (CommitsShowing sql [] old) → Survives old new (λ _. ⊥)
 commits_nothing sql old new plain = survives_weaker old new _ _ (λ _ db. never_commits sql [] old db plain)
@@ -76,7 +82,7 @@ module _ {S : Type 0} (g : Ghosts S) (sql : List ℕ) (old : Held S) where
     not_begun now e (Ok read) plain told err idle survives = absurd told
     not_begun now e (Err fault) plain told err idle survives = record {
       rows = λ _. tt;
-      refused = λ clean. (old, now, e, record { was_open = λ up. up; same = refl; limit = refl }, err clean, told);
+      refused = λ clean. (old, now, e, record { was_open = λ up. up; is_open = λ up. up; same = refl; limit = refl; faults = no_fewer (state g old).faults }, err clean, told);
       same = λ _. tt;
       rests = λ clean. refused_rests sql (state g old) (state g now) plain e (err clean);
       survives = commits_nothing sql (state g old) (state g now) plain survives;

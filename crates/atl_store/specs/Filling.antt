@@ -1,4 +1,4 @@
--- What writing a whole campaign into empty tables does.
+-- For proofs and for private functions: what writing a whole campaign into empty tables does.
 use Rattle.std.specs.Prelude.{◌≡◌, [], ◌∷◌, List, ℕ}
 use Rattle.sqlite.specs.Effect.{Database}
 use Rattle.sqlite.specs.Order.{Row}

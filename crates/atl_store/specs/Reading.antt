@@ -1,5 +1,5 @@
 -- What reading all rows of a table gives.
-use Rattle.std.specs.Prelude.{◌≡◌, ◌≢◌, ◌⊎◌, ◌++◌, ℕ, List, [], ◌∷◌, codes, length, map, IsTrue, IsPermutation, false, Option, Result, IfOk, IfErr, IfSome, OnOk}
+use Rattle.std.specs.Prelude.{◌≡◌, ◌≢◌, ◌≤◌, ◌⊎◌, ◌++◌, ℕ, List, [], ◌∷◌, codes, length, map, IsTrue, IsPermutation, false, Option, Result, IfOk, IfErr, IfSome, OnOk}
 use Rattle.std.specs.declared.vec.Vec.{Vec}
 use Rattle.sqlite_trees.specs.declared.store.Store.{Ghosts}
 use Rattle.sqlite_trees.specs.Tree.{Trees, rowid}
@@ -23,11 +23,13 @@ pub record Rests (old new : State) : Type 0 where
   pub was_open : IsTrue new.is_open → IsTrue old.is_open
   pub same : IsTrue new.is_open → ((new.now ≡ old.committed) ⊎ (new.now ≡ old.now)) × (new.committed ≡ old.committed)
 
--- the connection as a SELECT is asked: of the same tables, with as many steps
+-- the connection as a SELECT is asked: of the same tables, with as many steps, open just where it was, and after no fewer failures of the disk
 pub record IsAsked (old before : State) : Type 0 where
   pub was_open : IsTrue before.is_open → IsTrue old.is_open
+  pub is_open : IsTrue old.is_open → IsTrue before.is_open
   pub same : before.now ≡ old.now
   pub limit : before.step_limit ≡ old.step_limit
+  pub faults : old.faults ≤ before.faults
 
 module _ {S : Type 0} (g : Ghosts S) (sql : List ℕ) (old : Held S) where
   -- what the SELECT shows

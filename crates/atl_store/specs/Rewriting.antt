@@ -1,4 +1,4 @@
--- What the steps of writing a campaign's changes do. For proofs and for private functions.
+-- For proofs and for private functions: what the steps of writing a campaign's changes do.
 use Rattle.std.specs.Prelude.{◌≡◌, ◌+◌, ◌*◌, ◌&&◌, ℕ, Bool, List, [], ◌∷◌, is_some}
 use Rattle.std.specs.List.{list_any}
 use Rattle.std.specs.Ordering.{nat_cmp, eq_by_cmp}

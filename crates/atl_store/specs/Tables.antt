@@ -126,7 +126,7 @@ creation_of Markets = codes "CREATE TABLE market (region INTEGER NOT NULL, item 
 abbrev pub all_parts : List Part
 all_parts = Own ∷ Factions ∷ Regions ∷ Units ∷ Goods ∷ Structures ∷ Mail ∷ Reports ∷ Books ∷ Markets ∷ []
 
--- all but the campaign's own row, in the order in which they are written
+-- For proofs alone: all but the campaign's own row, in the order in which they are written.
 abbrev pub written_parts : List Part
 written_parts = Factions ∷ Reports ∷ Regions ∷ Structures ∷ Books ∷ Markets ∷ Units ∷ Goods ∷ Mail ∷ []
 
@@ -216,7 +216,7 @@ indexes_in Second = index_count
 abbrev pub HasTablesOf : Format → Schema → Type 0
 HasTablesOf f = Begins (tables_in f) (indexes_in f)
 
--- all the tables with their indexes, and what came behind them
+-- For proofs alone: all the tables with their indexes, and what came behind them.
 abbrev pub all_and : List Table → List Index → Schema
 all_and = first_and table_count index_count
 

@@ -1,4 +1,4 @@
--- What the transaction of an upgrade does.
+-- For proofs and for private functions: what the transaction of an upgrade does; and, for all, which schema has just the tables of the first format.
 use Rattle.std.specs.Prelude.{◌≡◌, [], List, ℕ, map}
 use Rattle.sqlite.specs.Effect.{Database}
 use Rattle.sqlite.specs.Schema.{Schema}

@@ -7,10 +7,11 @@ use Rattle.toml.specs.Data.{Members}
 use Rattle.toml.specs.Parse.{parse_document}
 use Rattle.atl_tables.specs.Faults.{first_fault, unless}
 use Rattle.atl_tables.specs.Places.{EachPlace}
+use Rattle.atl_tables.specs.OldWorlds.{OldWorldsAreBare}
 use Rattle.atl_tables.specs.Worlds.{WorldValue, without_market, without_markets}
 use Rattle.atl_tables.specs.RegionTable.{as_draft, region_of}
 use Rattle.atl_tables.specs.Sums.{mapped}
-use Rattle.atl_tables.specs.World.{conditions, world_by, old_world_of, world_of_tables, regions_in, regions_of, tables_of, world_in}
+use Rattle.atl_tables.specs.World.{conditions, world_by, world_of_tables, regions_in, regions_of, tables_of, world_in}
 use Rattle.atl_tables.specs.declared.fault.WorldFault.{WorldFault}
 use Rattle.atl_tables.specs.declared.format.Format.TheVariants.{First}
 use Rattle.atl_tables.specs.declared.region_table.OldRegion.{OldRegion}
@@ -51,6 +52,6 @@ in_document (Some doc) w h =
     let all = tables_of First doc in
     subst (λ (x : WorldValue). without_markets x ≡ x) (given (first_fault (conditions First doc)) (world_of_tables all) w h) (bare all _ refl)
 
-pub old_has_no_markets : (text : List ℕ) (w : WorldValue) → old_world_of text ≡ Ok w → without_markets w ≡ w
+pub old_has_no_markets : OldWorldsAreBare
 unfolding world_by
 old_has_no_markets text w h = in_document (parse_document text) w h

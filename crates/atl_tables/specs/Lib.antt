@@ -21,6 +21,7 @@ pub mod MarketTable
 pub mod RegionTable
 pub mod Neighbours
 pub mod World
+pub mod OldWorlds
 pub mod FaultTexts
 pub mod Formats
 pub mod Lookup

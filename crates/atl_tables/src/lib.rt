@@ -44,7 +44,7 @@ pub use marked::MarkedNumbers;
 pub use marks::Marks;
 pub use names::{name_ok, pass_ok, word_ok};
 pub use numbered::{Entries, Numbered};
-pub use reading::{read_old_world, read_world};
+pub use reading::{old_worlds_have_no_markets, read_old_world, read_world};
 pub use sequence::Sequence;
 pub use text::Text;
 pub use tracked::Tracked;

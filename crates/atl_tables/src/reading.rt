@@ -6,6 +6,7 @@ ghost use Rattle.atl_tables.specs.Drafts.{IsRegionDraft, AreThings, AreTables, H
 ghost use Rattle.atl_tables.specs.Faults.{first_fault, Reads};
 ghost use Rattle.atl_tables.specs.Given.{Gives};
 ghost use Rattle.atl_tables.specs.Limits.{most_regions};
+ghost use Rattle.atl_tables.specs.OldWorlds.{OldWorldsAreBare};
 ghost use Rattle.atl_tables.specs.Parts.{ArePartsOf, parts_of};
 ghost use Rattle.atl_tables.specs.Worlds.{IsWorld, is_land, land_of};
 ghost use Rattle.atl_tables.specs.Sums.{numbers_where};
@@ -268,3 +269,8 @@ pub fn read_old_world(alloc: Global, text: &str) -> Result<World, WorldFault>
 {
     read(alloc, Format::First, text)
 }
+
+/// Does nothing. Its clause is the law that a world of the first format has no markets, whatever its text says of them.
+pub fn old_worlds_have_no_markets()
+    ensures { OldWorldsAreBare }
+{}

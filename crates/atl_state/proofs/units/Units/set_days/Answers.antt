@@ -1,14 +1,15 @@
-use Rattle.std.proofs.Common.{sym, ap, refl, ◌∙◌}
+use Rattle.std.proofs.Common.{sym, ap, refl, inl, inr}
 use Rattle.std.specs.Prelude.{is_some}
 use Rattle.std.specs.FinMap.{insert}
+use Rattle.std.specs.FinSet as set
 use Rattle.std.proofs.lemmas.Result.{on_err_weaker}
 use Rattle.atl_tables.specs.Groups.{group_of}
 use Rattle.atl_tables.proofs.SumLaws.{put_same, put_same_err}
 use Rattle.atl_tables.proofs.TrackLaws.{fits-marked}
 use Rattle.atl_records.specs.Held.{Held}
-use Rattle.atl_state.specs.Roster.{Roster}
 use Rattle.atl_state.proofs.SlotLaws.{on_err}
-use Rattle.atl_state.proofs.UnitLaws.{AreUnits-skill}
+use Rattle.atl_state.specs.Marks.{with_thing}
+use Rattle.atl_state.proofs.UnitLaws.{same_values, AreUnits-skill}
 use Rattle.atl_state.proofs.units.Units.set_days.Goals as goal
 
 pub invariant_of-self-in_err-insert_under : goal.invariant_of-self-in_err-insert_under
@@ -17,7 +18,8 @@ invariant_of-self-in_err-insert_under c =
 
 pub returns-in_err-insert_under-clause-err : goal.returns-in_err-insert_under-clause-err
 returns-in_err-insert_under-clause-err c =
-    on_err c.from_residual.result (put_same c.self.inside.units c.args.number c.in-Some.unit.now c.in-Some.unit.now (sym c.in-Some.ensures.value) refl ∙ ap (λ (r : Roster). r.values) c.self.view_is)
+    on_err c.from_residual.result
+    (inl (rw (put_same c.self.inside.units c.args.number c.in-Some.unit.now c.in-Some.unit.now (sym c.in-Some.ensures.value) refl, c.in_err-insert_under.ensures.err) c.self.view_is))
 
 pub add-requires : goal.add-requires
 add-requires c = fits-marked c.self.inside.units c.self.inside.marks.numbers c.self.inside.marks.room c.args.number (ap is_some (sym c.in-Some.ensures.value)) c.self.invariant.marks_fit
@@ -33,4 +35,6 @@ returns-clause-err c =
     let unit = c.in-Some.unit.now in
     let same = on_err_weaker c.set_days.result (ap (λ (h : Held). record unit { holding = h })) c.set_days.ensures.err in
     let units = put_same_err c.set_days.result c.self.inside.units c.args.number unit (record unit { holding = c.set_days.new.self }) (sym c.in-Some.ensures.value) same in
-    on_err_weaker c.set_days.result (λ e. e ∙ ap (λ (r : Roster). r.values) c.self.view_is) units
+    let marks = set.insert c.self.inside.marks.numbers c.args.number in
+    let marked = same_values (record { values = c.self.inside.units; marks = marks; rows = c.self.inside.rows.numbers; goods = c.self.inside.goods.numbers; items = c.self.inside.items; skills = with_thing c.self.inside.skills c.args.number c.args.skill }) in
+    on_err_weaker c.set_days.result (λ e. inr (rw (← c.self.view_is, c.in_ok-insert_under.ensures.ok, c.add.ensures, ← c.in-Some.ensures.value) (marked _ e))) units
