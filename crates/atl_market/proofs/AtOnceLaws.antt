@@ -3,7 +3,7 @@ use Rattle.std.proofs.Common.{◌≡◌, ◌≢◌, ℕ, ◌+◌, ◌<◌, ◌==
 use Rattle.std.specs.Prelude.{⊤, fold}
 use Rattle.std.specs.List.{AllByRecursion}
 use Rattle.std.specs.Ordering.{nat_cmp}
-use Rattle.std.specs.FinMap.{FinMap, entries, find, get, get-entries}
+use Rattle.std.specs.FinMap.{entries, find, get, get-entries}
 use Rattle.std.proofs.lemmas.Bool.{cases_eq}
 use Rattle.std.proofs.lemmas.List.Sums.{sum_by-cons}
 use Rattle.atl_tables.specs.Worlds.{WorldValue}
@@ -16,7 +16,7 @@ use Rattle.atl_records.proofs.EveryLaws.{each-from_every, first, other_number, s
 use Rattle.atl_instant.specs.declared.written.Written.{Written}
 use Rattle.atl_market.specs.AtOnce.{Gets, Gives, PaysAtOnce, paid_unit, stands_in}
 use Rattle.atl_market.specs.PotPhase.{PotMeaning, given_by, shared_out}
-use Rattle.atl_market.proofs.DrawLaws.{AreUntouched, all_pairs, drawn, still, untouched, who_stand}
+use Rattle.atl_market.proofs.DrawLaws.{AreUntouched, Drawers, all_pairs, drawn, still, untouched, who_stand}
 use Rattle.atl_market.proofs.PotLaws.{found_other}
 
 no_more : (a : ℕ) → 0 + a ≡ a
@@ -111,15 +111,15 @@ module _ {needs : Bool} {step : CampaignValue → ℕ × ℕ → CampaignValue} 
               ∙ sym (ap (λ b. Some (gives q (cond b e.1 0 + drawn (who_stand c.units r) es))) other)
         ]
 
--- what is drawn is all that the units of a region got
-drawn_is : (units : FinMap nat_cmp Unit) (r : ℕ) (es : List (ℕ × ℕ)) → drawn (who_stand units r) es ≡ sum (map (λ e. e.1) (filter (λ e. stands_in r (get units e.0)) es))
-drawn_is units r [] = refl
-drawn_is units r (e ∷ es) = by_test (stands_in r (get units e.0)) (drawn_is units r es)
+-- what is drawn is all that those got who draw
+pub drawn_is : (draws : Drawers) (es : List (ℕ × ℕ)) → drawn draws es ≡ sum (map (λ e. e.1) (filter (λ e. draws e.0) es))
+drawn_is draws [] = refl
+drawn_is draws (e ∷ es) = by_test (draws e.0) (drawn_is draws es)
   where
-    by_test : (b : Bool) → drawn (who_stand units r) es ≡ sum (map (λ f. f.1) (filter (λ f. stands_in r (get units f.0)) es))
-        → cond b e.1 0 + drawn (who_stand units r) es ≡ sum (map (λ f. f.1) (cond b (e ∷ filter (λ f. stands_in r (get units f.0)) es) (filter (λ f. stands_in r (get units f.0)) es)))
-    by_test true rest = ap (λ k. e.1 + k) rest ∙ sym (sum_by-cons (λ x. x) e.1 (map (λ f. f.1) (filter (λ f. stands_in r (get units f.0)) es)))
-    by_test false rest = no_more (drawn (who_stand units r) es) ∙ rest
+    by_test : (b : Bool) → drawn draws es ≡ sum (map (λ f. f.1) (filter (λ f. draws f.0) es))
+        → cond b e.1 0 + drawn draws es ≡ sum (map (λ f. f.1) (cond b (e ∷ filter (λ f. draws f.0) es) (filter (λ f. draws f.0) es)))
+    by_test true rest = ap (λ k. e.1 + k) rest ∙ sym (sum_by-cons (λ x. x) e.1 (map (λ f. f.1) (filter (λ f. draws f.0) es)))
+    by_test false rest = no_more (drawn draws es) ∙ rest
 
 -- each unit that gets something is there, and its region where that is needed
 abbrev pub GivesWhoIsThere : Bool → PotMeaning → WorldValue → CampaignValue → List Written → Type 0
@@ -137,5 +137,5 @@ all_at_once {needs} p w gets gives pays c os gives_them =
     } in
     record {
       units = λ n u is. units_paid pays c c (entries given) ready n u is ∙ ap (λ o. Some (paid_unit (gets n) u o)) (sym (get-entries given n));
-      regions = λ r q is. regions_drained pays c c (entries given) ready r q is ∙ ap (λ k. Some (gives q k)) (drawn_is c.units r (entries given));
+      regions = λ r q is. regions_drained pays c c (entries given) ready r q is ∙ ap (λ k. Some (gives q k)) (drawn_is (who_stand c.units r) (entries given));
     }

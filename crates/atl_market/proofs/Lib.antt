@@ -24,3 +24,4 @@ pub mod ProduceLaws
 pub mod PaidLaws
 pub mod UnmailedMakeLaws
 pub mod TradeLaws
+pub mod TradedLaws

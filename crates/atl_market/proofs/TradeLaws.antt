@@ -188,7 +188,7 @@ module _ (w : WorldValue) (u : Unit) (m : Market) (stock share : ℕ) (there : m
 
 -- ---- one step
 
-stock_is : (c : CampaignValue) (r : ℕ) (q : Region) (i : ℕ) → get c.regions r ≡ Some q → stock_of c r i ≡ amount_of q.stocks i
+pub stock_is : (c : CampaignValue) (r : ℕ) (q : Region) (i : ℕ) → get c.regions r ≡ Some q → stock_of c r i ≡ amount_of q.stocks i
 stock_is c r q i around = ap (λ o. option_map_or (λ (x : Region). amount_of x.stocks i) o 0) around
 
 -- a region has no more of an item than its market takes
@@ -213,7 +213,7 @@ pot_less Sell h limit stock share m same pot = omega (arith, same, pot)
 pot_less Buy h limit stock share m same pot = omega (arith, pot)
 
 module _ (trade : Trade) (items : FinMap nat_cmp ℕ) (w : WorldValue) (c : CampaignValue) (e : ℕ × ℕ) where
-  traded_is : (u : Unit) → get c.units e.0 ≡ Some u → (o : Option Market) → market_for w u (get items e.0) ≡ o → traded trade items w c e ≡ traded_at trade c e u o
+  pub traded_is : (u : Unit) → get c.units e.0 ≡ Some u → (o : Option Market) → market_for w u (get items e.0) ≡ o → traded trade items w c e ≡ traded_at trade c e u o
   unfolding traded
   traded_is u is o at = ap (traded_by trade items w c e) is ∙ ap (traded_at trade c e u) at
 

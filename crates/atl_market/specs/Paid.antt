@@ -3,17 +3,41 @@ use Rattle.std.specs.Prelude.{◌+◌, ◌-◌, ◌*◌, ℕ, List, Option, Some
 use Rattle.std.specs.List.{slice_get}
 use Rattle.std.specs.Ordering.{nat_cmp}
 use Rattle.std.specs.FinMap.{FinMap, get}
-use Rattle.atl_tables.specs.Worlds.{WorldValue}
+use Rattle.atl_tables.specs.Worlds.{IsWorld, WorldValue}
 use Rattle.atl_tables.specs.declared.world.Item.{Item}
+use Rattle.atl_tables.specs.declared.world.Market.{Market}
 use Rattle.atl_records.specs.declared.records.Unit.{Unit}
 use Rattle.atl_records.specs.Held.{Held, amount_of, with_amount_of}
 use Rattle.atl_state.specs.Campaign.{CampaignValue}
 use Rattle.atl_instant.specs.declared.written.Written.{Written}
-use Rattle.atl_market.specs.AtOnce.{Gets, Gives, PaysAtOnce, stays}
+use Rattle.atl_market.specs.AtOnce.{Gets, Gives, PaysAtOnce, PaysItemsAtOnce, stays}
 use Rattle.atl_market.specs.Produce.{produce_pots}
 use Rattle.atl_market.specs.Recruit.{recruit_pots, with_men}
 use Rattle.atl_market.specs.Tax.{tax_pots}
+use Rattle.atl_market.specs.Trade.{market_for, trade_pots}
 use Rattle.atl_market.specs.Work.{earned, work_pots}
+use Rattle.atl_market.specs.declared.trade.Trade.{Trade}
+use Rattle.atl_market.specs.declared.trade.Trade.TheVariants.{Sell, Buy}
+
+-- SELL: so many of the market's item less, and what it pays for them more. BUY: so many more, and their price less.
+abbrev pub with_trade : Trade → Held → (share : ℕ) → Market → Held
+with_trade Sell h share m = record h { money = h.money + share * m.pays; items = with_amount_of h.items m.item (amount_of h.items m.item - share) }
+with_trade Buy h share m = record h { money = h.money - share * m.price; items = with_amount_of h.items m.item (amount_of h.items m.item + share) }
+
+abbrev pub trader_of : Trade → Unit → (share : ℕ) → Option Market → Unit
+trader_of trade u share None = u
+trader_of trade u share (Some m) = record u { holding = with_trade trade u.holding share m }
+
+-- SELL: a stock with so many more. BUY: with so many less.
+abbrev pub stock_behind : Trade → (stock traded : ℕ) → ℕ
+stock_behind Sell stock traded = stock + traded
+stock_behind Buy stock traded = stock - traded
+
+-- SELL and BUY: a unit has its share less or more and the money for it more or less, and a region has of each item all that its units sold of it more, or bought of it less
+abbrev pub TradesAtOnce : Type 0
+TradesAtOnce =
+    (trade : Trade) (items counts : FinMap nat_cmp ℕ) (w : WorldValue) (c : CampaignValue) (os : List Written) → IsWorld w
+    → PaysItemsAtOnce (trade_pots trade items counts) w (get items) (λ n u share. trader_of trade u share (market_for w u (get items n))) (stock_behind trade) c os
 
 -- a unit with more money
 abbrev pub with_more_money : Gets

@@ -22,5 +22,5 @@ pub use produce::ProducePhase;
 pub use recruit::RecruitPhase;
 pub use shares::share;
 pub use tax::TaxPhase;
-pub use trade::{BuyPhase, SellPhase};
+pub use trade::{BuyPhase, SellPhase, units_trade_all_at_once};
 pub use work::{WorkPhase, work_pays_all_at_once};

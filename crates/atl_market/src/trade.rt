@@ -12,6 +12,7 @@ ghost use Rattle.atl_instant.specs.Holdings.{ChangesHolding};
 ghost use Rattle.atl_instant.specs.Meaning.{most_moved};
 ghost use Rattle.atl_market.specs.Trade.{deal_of, dealt, has_too_little, is_trade, limit_of, market_for, most_traded, trade_entry, trade_fault, trade_keeps, trade_meaning, trade_moves, trade_of, trade_pot, trade_pots, traded};
 ghost use Rattle.atl_market.specs.Trading.{CanDeal, CanSettle, CanTrade, HasPot, IsPriced};
+ghost use Rattle.atl_market.specs.Paid.{TradesAtOnce};
 
 use crate::asking::{Counts, Items, asked};
 use crate::item_pots::{ItemPots, item_shares};
@@ -338,3 +339,10 @@ impl<const SELLS: bool> Phase for TradePhase<SELLS> {
         Ok((campaign, month))
     }
 }
+
+/// Does nothing. Its clause is the law that all units sell at once, and all buy at once: each has its share less or
+/// more than as the phase began, and the money for it more or less, and each region has of each item all that its units
+/// sold of it more, or all that they bought of it less. See docs/RULES.md, "Selling" and "Buying".
+pub fn units_trade_all_at_once()
+    ensures { TradesAtOnce }
+{}
