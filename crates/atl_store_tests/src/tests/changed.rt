@@ -85,6 +85,21 @@ fn a_table_that_is_gone_is_refused(rt: HostRuntime) -> Result<(), Fail> {
     finds_no_table(&rt, rt.alloc(), &mut conn)
 }
 
+/// A reading may take no step at first.
+fn takes_too_many_steps<S: Alter>(rt: &impl Abort, alloc: Global, conn: &mut Connection<S>) {
+    conn.set_step_limit(Some(0));
+    is_text(rt, told_of_units(alloc, conn), "store");
+    conn.set_step_limit(None);
+    is_text(rt, told_of_units(alloc, conn), "read");
+}
+
+#[test]
+fn a_reading_that_takes_too_many_steps_is_told(rt: HostRuntime) -> Result<(), Fail> {
+    let mut conn = visited(rt.alloc())?;
+    takes_too_many_steps(&rt, rt.alloc(), &mut conn);
+    Ok(())
+}
+
 /// Names are read as the bytes that they are.
 fn has_odd_name<S: Alter>(
     rt: &impl Abort,

@@ -14,6 +14,11 @@ pub(crate) fn is_count(rt: &impl Abort, told: usize, wanted: usize)
     assert_eq!(rt; told, wanted);
 }
 
+/// Of a fault, which may have none.
+pub(crate) fn is_fault_number(rt: &impl Abort, told: Option<u8>, wanted: Option<u8>) {
+    assert_eq!(rt; told, wanted);
+}
+
 pub(crate) fn is_text(rt: &impl Abort, told: &str, wanted: &str) {
     assert_eq!(rt; told, wanted);
 }

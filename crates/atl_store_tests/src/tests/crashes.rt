@@ -111,6 +111,14 @@ fn visit<S: Alter>(
     }
 }
 
+/// Files as a crash leaves them.
+pub(crate) fn crashed<D: Crash>(files: Files<D>) -> Files<D> {
+    let Files { mut log, mut db } = files;
+    log.crash();
+    db.crash();
+    Files { log, db }
+}
+
 /// Opens the files for a visit. The files come back as a crash leaves them.
 fn visited<D: Crash + Drop>(
     alloc: Global,
@@ -123,10 +131,8 @@ fn visited<D: Crash + Drop>(
         return Ok(None);
     };
     let told = visit(alloc, &mut conn, before, after, aim);
-    let Files { mut log, mut db } = conn.into_store().close();
-    log.crash();
-    db.crash();
-    Ok(Some((told?, Files { log, db })))
+    let left = crashed(conn.into_store().close());
+    Ok(Some((told?, left)))
 }
 
 /// What was answered on these files, and the factions that an open finds after a crash.

@@ -1,7 +1,7 @@
-//! Calls that only state a law.
+//! Calls that only state a law. Nothing is asserted here: their clauses are proved.
 use atl_store::one_database_holds_one_campaign;
 
 #[test]
-fn laws_are_called() {
+fn states_that_one_database_holds_one_campaign() {
     one_database_holds_one_campaign();
 }

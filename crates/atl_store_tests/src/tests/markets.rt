@@ -88,7 +88,7 @@ fn writes<S: Alter>(
 }
 
 /// The campaign of a database in which one was founded.
-fn loaded<S: Alter>(alloc: Global, conn: &mut Connection<S>) -> Result<Campaign, Fail> {
+pub(crate) fn loaded<S: Alter>(alloc: Global, conn: &mut Connection<S>) -> Result<Campaign, Fail> {
     let (_world, campaign) = load(alloc, conn)?;
     Ok(campaign)
 }

@@ -62,12 +62,17 @@ pub(crate) fn old_island<S: Alter>(alloc: Global, conn: &mut Connection<S>) -> R
     Ok(())
 }
 
-/// The rows of the same campaign as the second format has them.
-fn rows_of_island<S: Alter>(alloc: Global, conn: &mut Connection<S>) -> Result<String, Fail> {
+/// A file of the second format with the same campaign.
+pub(crate) fn new_island<S: Alter>(alloc: Global, conn: &mut Connection<S>) -> Result<(), Fail> {
     found_by(alloc, conn, ISLE)?;
     conn.execute_batch(ROWS)?;
-    let (_world, campaign) = load(alloc, conn)?;
-    rows_of(alloc, &campaign)
+    Ok(())
+}
+
+/// The rows of the same campaign as the second format has them.
+fn rows_of_island<S: Alter>(alloc: Global, conn: &mut Connection<S>) -> Result<String, Fail> {
+    new_island(alloc, conn)?;
+    loaded(alloc, conn)
 }
 
 /// The format and the tables of an upgraded file.
@@ -203,12 +208,12 @@ static CASES: [Case; 18] = [
 ];
 
 /// Of a file that these statements changed.
-fn is_answer(rt: &impl Abort, told: Told, wanted: Told, sql: &str) {
+pub(crate) fn is_answer(rt: &impl Abort, told: Told, wanted: Told, sql: &str) {
     assert_eq!(rt; told, wanted, "after {sql}");
 }
 
 /// How many tables there are.
-fn tables<S: Alter>(conn: &Connection<S>) -> usize {
+pub(crate) fn tables<S: Alter>(conn: &Connection<S>) -> usize {
     conn.schema().tables.len()
 }
 

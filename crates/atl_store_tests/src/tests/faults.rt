@@ -1,0 +1,74 @@
+//! The numbers of the faults of an opening and of an upgrade, as docs/FORMATS.md has them under "Tables", and their texts.
+use super::compare::{is_fault_number, is_text};
+use atl_state::Rule;
+use atl_store::{StoreFault, UpgradeFault};
+use atl_tables::WorldFault;
+use std::alloc::Global;
+use std::process::Abort;
+use std::test::Fail;
+
+static OPENINGS: [(StoreFault, Option<u8>, &str); 5] = [
+    (StoreFault::Store, Some(1), "Store"),
+    (StoreFault::Damaged(Rule::Books), Some(2), "Damaged 11"),
+    (StoreFault::NotACampaign, Some(3), "NotACampaign"),
+    (StoreFault::OldFormat, Some(4), "OldFormat"),
+    (StoreFault::Memory, None, "Memory"),
+];
+
+fn opening_is_told(
+    rt: &impl Abort,
+    alloc: Global,
+    case: &(StoreFault, Option<u8>, &str),
+) -> Result<(), Fail> {
+    let (fault, number, text) = *case;
+    is_fault_number(rt, fault.number(), number);
+    is_text(rt, format!(in alloc; "{fault}")?.as_str(), text);
+    Ok(())
+}
+
+#[test]
+fn faults_of_an_opening_have_their_numbers(rt: HostRuntime) -> Result<(), Fail> {
+    for case in OPENINGS.iter() {
+        opening_is_told(&rt, rt.alloc(), case)?;
+    }
+    Ok(())
+}
+
+static UPGRADES: [(Option<u8>, &str); 7] = [
+    (Some(1), "Store"),
+    (Some(2), "Damaged 11"),
+    (Some(3), "NotACampaign"),
+    (Some(4), "NotOld"),
+    (Some(5), "World: 8 NoLand"),
+    (Some(6), "Differs"),
+    (None, "Memory"),
+];
+
+/// The fault that has this number in docs/FORMATS.md, "Upgrading a file".
+fn upgrade_fault(number: Option<u8>) -> UpgradeFault {
+    match number {
+        Some(1) => UpgradeFault::Store,
+        Some(2) => UpgradeFault::Damaged(Rule::Books),
+        Some(3) => UpgradeFault::NotACampaign,
+        Some(4) => UpgradeFault::NotOld,
+        Some(5) => UpgradeFault::World(WorldFault::NoLand),
+        Some(6) => UpgradeFault::Differs,
+        _ => UpgradeFault::Memory,
+    }
+}
+
+fn upgrade_is_told(rt: &impl Abort, alloc: Global, case: &(Option<u8>, &str)) -> Result<(), Fail> {
+    let (number, text) = *case;
+    let fault = upgrade_fault(number);
+    is_fault_number(rt, fault.number(), number);
+    is_text(rt, format!(in alloc; "{fault}")?.as_str(), text);
+    Ok(())
+}
+
+#[test]
+fn faults_of_an_upgrade_have_their_numbers(rt: HostRuntime) -> Result<(), Fail> {
+    for case in UPGRADES.iter() {
+        upgrade_is_told(&rt, rt.alloc(), case)?;
+    }
+    Ok(())
+}
