@@ -6,6 +6,7 @@ mod changes;
 mod containers;
 mod faults;
 mod island;
+mod laws;
 mod lookups;
 mod mailings;
 mod markets;

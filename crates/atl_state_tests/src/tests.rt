@@ -7,6 +7,7 @@ mod coming;
 mod compare;
 mod events;
 mod holdings;
+mod laws;
 mod levels;
 mod making;
 mod marked;

@@ -1,4 +1,4 @@
-//! Calls that only state a law.
+//! Calls that only state a law. Nothing is asserted here: their clauses are proved.
 use atl_action::{nobody_is_taught_twice, units_learn_by_orders, units_study_as_begun};
 use atl_instant::{
     days_go_with_men, mailings_have_no_order, one_order_stands, orders_are_in_mailings,
@@ -8,13 +8,14 @@ use atl_market::produce::units_produce_all_at_once;
 use atl_market::recruit::recruits_join_all_at_once;
 use atl_market::shares::splitting_keeps_others;
 use atl_market::tax::tax_pays_all_at_once;
-use atl_market::work_pays_all_at_once;
+use atl_market::{units_trade_all_at_once, work_pays_all_at_once};
 use atl_month::{
     each_unit_can_spare, months_have_no_order, one_phase_has_room, phases_move_little,
 };
+use atl_report::{only_what_is_seen_is_told, others_events_are_not_told};
 
 #[test]
-fn laws_are_called() {
+fn states_laws_of_the_month() {
     mailings_have_no_order();
     orders_are_in_mailings();
     one_order_stands();
@@ -26,6 +27,7 @@ fn laws_are_called() {
     recruits_join_all_at_once();
     units_produce_all_at_once();
     work_pays_all_at_once();
+    units_trade_all_at_once();
     nobody_is_taught_twice();
     units_learn_by_orders();
     units_study_as_begun();
@@ -33,4 +35,6 @@ fn laws_are_called() {
     phases_move_little();
     one_phase_has_room();
     each_unit_can_spare();
+    only_what_is_seen_is_told();
+    others_events_are_not_told();
 }

@@ -1,9 +1,7 @@
 //! Mailings: what is read of each form of order, of blocks, of line ends and of long texts.
 use super::asserts::{is_number, row_is};
 use super::worlds::{THINGS, world_with};
-use atl_orders::{
-    MailFault, Mailing, Order, Span, read_mailing, readings_keep_bounds, rules_are_the_reading,
-};
+use atl_orders::{MailFault, Mailing, Order, Span, read_mailing};
 use atl_tables::{Text, World};
 use std::alloc::Global;
 use std::process::Abort;
@@ -477,8 +475,6 @@ fn kept_texts(rt: HostRuntime) -> Result<(), Fail> {
 }
 
 #[test]
-fn laws(rt: HostRuntime) {
-    rules_are_the_reading();
-    readings_keep_bounds();
+fn memory_has_no_number(rt: HostRuntime) {
     assert!(rt; MailFault::Memory.number().is_none());
 }
