@@ -27,7 +27,7 @@ fn are_as<T: PartialEq>(rt: &impl Abort, what: &str, told: &[T], wanted: &[T]) {
     }
 }
 
-/// The goods of units and the stocks of regions are the same.
+/// The goods of units, the stocks of regions and the books are the same.
 fn amounts_are(
     rt: &impl Abort,
     alloc: Global,
@@ -45,6 +45,12 @@ fn amounts_are(
         "stocks",
         &told.sorted_stocks(alloc)?,
         &wanted.sorted_stocks(alloc)?,
+    );
+    are_as(
+        rt,
+        "books",
+        &told.sorted_books(alloc)?,
+        &wanted.sorted_books(alloc)?,
     );
     Ok(())
 }

@@ -1,5 +1,5 @@
 //! A campaign as lists of numbers.
-use atl_state::{Campaign, Event, Region, Unit};
+use atl_state::{Campaign, Entry, Event, Region, Thing, Unit};
 use atl_tables::let_go;
 use std::alloc::{AllocError, Global};
 
@@ -39,18 +39,27 @@ pub(crate) struct Stock {
     pub amount: u64,
 }
 
+/// What is booked of a thing under an entry, both by their numbers.
+#[derive(Clone, Copy, Drop, PartialEq, Eq)]
+pub(crate) struct Booked {
+    pub entry: u32,
+    pub thing: u32,
+    pub amount: i64,
+}
+
 /// A campaign, and what came of its orders.
 pub(crate) struct Plain {
     pub people: Vec<Person>,
     pub goods: Vec<Good>,
     pub lands: Vec<Land>,
     pub stocks: Vec<Stock>,
+    pub books: Vec<Booked>,
     pub events: Vec<Event>,
 }
 
 impl Drop for Plain {
     fn drop(self) {
-        let_go!(self: Plain { people, goods, lands, stocks, events });
+        let_go!(self: Plain { people, goods, lands, stocks, books, events });
     }
 }
 
@@ -140,6 +149,27 @@ fn stocks_of(alloc: Global, campaign: &Campaign) -> Result<Vec<Stock>, AllocErro
     Ok(stocks)
 }
 
+/// All amounts of the books that aren't 0.
+fn books_of(alloc: Global, campaign: &Campaign) -> Result<Vec<Booked>, AllocError> {
+    let mut books = Vec::new(alloc);
+    let rows = campaign.parts()?;
+    for row in rows.books.as_slice() {
+        books.push(Booked {
+            entry: u32::try_from(row.entry).unwrap_or(0),
+            thing: u32::try_from(row.thing).unwrap_or(0),
+            amount: row.amount,
+        })?;
+    }
+    Ok(books)
+}
+
+/// By how much an amount rises; below 0 where it falls.
+fn rise(before: u64, after: u64) -> i64 {
+    let before = i64::try_from(before).unwrap_or(0);
+    let after = i64::try_from(after).unwrap_or(0);
+    after.wrapping_sub(before)
+}
+
 impl Plain {
     /// A campaign, of whose orders nothing came yet.
     pub fn of(alloc: Global, campaign: &Campaign) -> Result<Plain, AllocError> {
@@ -147,11 +177,13 @@ impl Plain {
         let goods = goods_of(alloc, campaign)?;
         let lands = lands_of(alloc, campaign)?;
         let stocks = stocks_of(alloc, campaign)?;
+        let books = books_of(alloc, campaign)?;
         Ok(Plain {
             people,
             goods,
             lands,
             stocks,
+            books,
             events: Vec::new(alloc),
         })
     }
@@ -244,6 +276,44 @@ impl Plain {
             self.stocks.push(new)?;
         }
         Ok(())
+    }
+
+    /// Books under an entry by how much an amount of a thing rises.
+    pub fn book(
+        &mut self,
+        entry: Entry,
+        thing: Thing,
+        before: u64,
+        after: u64,
+    ) -> Result<(), AllocError> {
+        let (entry, thing, amount) = (entry.number(), thing.number(), rise(before, after));
+        let mut is_new = true;
+        for booked in self.books.iter_mut() {
+            if booked.entry == entry && booked.thing == thing {
+                booked.amount = booked.amount.wrapping_add(amount);
+                is_new = false;
+            }
+        }
+        if is_new {
+            self.books.push(Booked {
+                entry,
+                thing,
+                amount,
+            })?;
+        }
+        Ok(())
+    }
+
+    /// The amounts of the books that aren't 0, by entry and thing.
+    pub fn sorted_books(&self, alloc: Global) -> Result<Vec<Booked>, AllocError> {
+        let mut books = Vec::new(alloc);
+        for booked in self.books.iter() {
+            if booked.amount != 0 {
+                books.push(*booked)?;
+            }
+        }
+        books.sort_unstable_by_key(|booked| [booked.entry as usize, booked.thing as usize]);
+        Ok(books)
     }
 
     /// The stocks that are there, by region and item.

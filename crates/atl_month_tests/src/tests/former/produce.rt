@@ -4,7 +4,7 @@ use super::pots::{Claim, Given, Pot, own};
 use super::tax::MOST_MONEY;
 use atl_instant::{Month, Written};
 use atl_orders::Order;
-use atl_state::EventFault;
+use atl_state::{Entry, EventFault, Thing};
 use atl_tables::{Item, World};
 use std::alloc::AllocError;
 
@@ -117,7 +117,16 @@ pub(crate) fn add_pots(world: &World, region: u32, pots: &mut Vec<Pot>) -> Resul
 }
 
 /// A unit has so much of an item, which it had less or more of.
-fn set_item(plain: &mut Plain, unit: u32, thing: u32, amount: u64) -> Result<(), AllocError> {
+fn set_item(
+    plain: &mut Plain,
+    unit: u32,
+    item: u16,
+    amount: u64,
+    entry: Entry,
+) -> Result<(), AllocError> {
+    let thing = u32::from(item);
+    let held = plain.amount(unit, false, thing);
+    plain.book(entry, Thing::Item(item), held, amount)?;
     plain.set_amount(Good {
         unit,
         is_skill: false,
@@ -134,13 +143,15 @@ pub(crate) fn pay(world: &World, plain: &mut Plain, given: Given) -> Result<(), 
     if let Some(raw) = item.raw {
         let used = given.amount.wrapping_mul(u64::from(item.raw_count));
         let held = plain.amount(given.unit, false, u32::from(raw));
-        set_item(plain, given.unit, u32::from(raw), held.wrapping_sub(used))?;
+        set_item(plain, given.unit, raw, held.wrapping_sub(used), Entry::Used)?;
     }
+    let made = u16::try_from(given.thing).unwrap_or(0);
     let held = plain.amount(given.unit, false, given.thing);
     set_item(
         plain,
         given.unit,
-        given.thing,
+        made,
         held.wrapping_add(given.amount),
+        Entry::Made,
     )
 }

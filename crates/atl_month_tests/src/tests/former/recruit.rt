@@ -3,8 +3,9 @@ use super::plain::{Land, Person, Plain};
 use super::pots::{Claim, Given, Pot, own};
 use atl_instant::{Month, Written};
 use atl_orders::Order;
-use atl_state::EventFault;
+use atl_state::{Entry, EventFault, Thing};
 use atl_tables::World;
+use std::alloc::AllocError;
 
 /// The most men of a unit.
 const MOST_MEN: u64 = 999_999;
@@ -52,15 +53,17 @@ pub(crate) fn pot(world: &World, land: Land) -> Pot {
 }
 
 /// A unit's recruits leave the region, and are paid for.
-pub(crate) fn pay(world: &World, plain: &mut Plain, given: Given) {
+pub(crate) fn pay(world: &World, plain: &mut Plain, given: Given) -> Result<(), AllocError> {
     let Some(person) = plain.person(given.unit) else {
-        return;
+        return Ok(());
     };
     let cost = given.amount.wrapping_mul(price(world));
+    let money = person.money.wrapping_sub(cost);
     let men = person.men.wrapping_add(given.amount);
-    plain.set_person(given.unit, men, person.money.wrapping_sub(cost));
+    plain.set_person(given.unit, men, money);
     if let Some(land) = plain.land(person.region) {
         let left = land.peasants.wrapping_sub(given.amount);
         plain.set_land(land.number, left, land.money);
     }
+    plain.book(Entry::Recruiting, Thing::Money, person.money, money)
 }

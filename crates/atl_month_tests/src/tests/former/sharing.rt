@@ -128,9 +128,9 @@ fn pay(sharing: Sharing, world: &World, plain: &mut Plain, given: Given) -> Resu
     match sharing {
         Sharing::Trade(trade) => trade::pay(trade, world, plain, given)?,
         Sharing::Tax => tax::pay(plain, given),
-        Sharing::Recruit => recruit::pay(world, plain, given),
+        Sharing::Recruit => recruit::pay(world, plain, given)?,
         Sharing::Produce => produce::pay(world, plain, given)?,
-        Sharing::Work => work::pay(world, plain, given),
+        Sharing::Work => work::pay(world, plain, given)?,
     }
     Ok(())
 }

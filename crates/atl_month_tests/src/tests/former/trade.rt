@@ -4,7 +4,7 @@ use super::pots::{Claim, Given, Pot, own};
 use super::tax::MOST_MONEY;
 use atl_instant::{Month, Written};
 use atl_orders::Order;
-use atl_state::EventFault;
+use atl_state::{Entry, EventFault, Thing};
 use atl_tables::{Market, World};
 use std::alloc::AllocError;
 
@@ -127,6 +127,14 @@ fn money_behind(trade: Trade, person: Person, market: &Market, pieces: u64) -> u
     }
 }
 
+/// What the money of units is booked under.
+fn entry_of(trade: Trade) -> Entry {
+    match trade {
+        Trade::Sell => Entry::Sold,
+        Trade::Buy => Entry::Bought,
+    }
+}
+
 /// A unit trades its share.
 pub(crate) fn pay(
     trade: Trade,
@@ -146,6 +154,7 @@ pub(crate) fn pay(
     let (held, stock) = moved(trade, held, stock, given.amount);
     let money = money_behind(trade, person, market, given.amount);
     plain.set_person(given.unit, person.men, money);
+    plain.book(entry_of(trade), Thing::Money, person.money, money)?;
     plain.set_amount(Good {
         unit: given.unit,
         is_skill: false,

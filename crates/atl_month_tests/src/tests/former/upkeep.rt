@@ -1,6 +1,6 @@
 //! Upkeep, with a look at all units for each unit.
 use super::plain::{Person, Plain};
-use atl_state::{Event, EventVerb, Outcome};
+use atl_state::{Entry, Event, EventVerb, Outcome, Thing};
 use atl_tables::World;
 use std::alloc::{AllocError, Global};
 
@@ -106,13 +106,22 @@ fn keep_days(plain: &mut Plain, one: Taken) {
     }
 }
 
-fn take_all(plain: &mut Plain, all: &[Taken]) {
+/// A unit pays, and those who starve are gone.
+fn take(plain: &mut Plain, one: Taken) -> Result<(), AllocError> {
+    let person = one.person;
+    let men = person.men.wrapping_sub(one.starved);
+    let money = person.money.wrapping_sub(one.paid);
+    keep_days(plain, one);
+    plain.set_person(person.number, men, money);
+    plain.book(Entry::Upkeep, Thing::Money, person.money, money)?;
+    plain.book(Entry::Starved, Thing::People, person.men, men)
+}
+
+fn take_all(plain: &mut Plain, all: &[Taken]) -> Result<(), AllocError> {
     for one in all {
-        keep_days(plain, *one);
-        let men = one.person.men.wrapping_sub(one.starved);
-        let money = one.person.money.wrapping_sub(one.paid);
-        plain.set_person(one.person.number, men, money);
+        take(plain, *one)?;
     }
+    Ok(())
 }
 
 fn tell(plain: &mut Plain, all: &[Taken]) -> Result<(), AllocError> {
@@ -134,6 +143,6 @@ fn tell(plain: &mut Plain, all: &[Taken]) -> Result<(), AllocError> {
 pub(crate) fn play(alloc: Global, world: &World, plain: &mut Plain) -> Result<(), AllocError> {
     let maintenance = u64::from(world.rules().maintenance);
     let all = all_taken(alloc, maintenance, plain)?;
-    take_all(plain, &all);
+    take_all(plain, &all)?;
     tell(plain, &all)
 }

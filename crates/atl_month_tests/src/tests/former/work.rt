@@ -4,7 +4,7 @@ use super::pots::{Claim, Given, Pot, given_to, own};
 use super::tax::MOST_MONEY;
 use atl_instant::Written;
 use atl_orders::Verb;
-use atl_state::EventFault;
+use atl_state::{Entry, EventFault, Thing};
 use atl_tables::World;
 use std::alloc::{AllocError, Global};
 
@@ -107,10 +107,12 @@ pub(crate) fn earned(world: &World, plain: &Plain, given: &[Given], unit: u32) -
 }
 
 /// A unit is paid what it earns.
-pub(crate) fn pay(world: &World, plain: &mut Plain, given: Given) {
+pub(crate) fn pay(world: &World, plain: &mut Plain, given: Given) -> Result<(), AllocError> {
     let Some(person) = plain.person(given.unit) else {
-        return;
+        return Ok(());
     };
     let more = given.amount.wrapping_mul(wage(world, person.region));
-    plain.set_person(given.unit, person.men, person.money.wrapping_add(more));
+    let money = person.money.wrapping_add(more);
+    plain.set_person(given.unit, person.men, money);
+    plain.book(Entry::Wages, Thing::Money, person.money, money)
 }
