@@ -21,5 +21,6 @@ mod script;
 mod serving;
 mod state;
 mod tables;
+mod unchanged;
 mod upgrading;
 mod whole_month;

@@ -3,9 +3,10 @@ use super::commands::AVALON;
 use super::mailings::FAULTY;
 use super::script::{Asked, Step, plays};
 use super::tables::{
-    AFTER_JOINING, BOOKED, FACTIONS, INCOME, MAIL_BYTES, MAILINGS, MONEY, MONTH, NEXT,
-    REGION_MONEY, REPORT_BYTES, UNITS, UPKEEP, WAGES,
+    BOOKED, FACTIONS, INCOME, MAIL_BYTES, MAILINGS, MONEY, MONTH, NEXT, REGION_MONEY, REPORT_BYTES,
+    UNITS, UPKEEP, WAGES,
 };
+use super::unchanged::{EVERY_TABLE, refuses};
 use atl_test_worlds::{BARREN, SMALL};
 use std::test::Fail;
 
@@ -82,8 +83,7 @@ fn a_faulty_line_is_told_and_the_mail_is_gone(rt: HostRuntime) -> Result<(), Fai
     plays(&rt, rt.alloc(), SMALL, &ONE_FAULTY, &AFTER_MONTH_ONE)
 }
 
-static REFUSED: [Step; 9] = [
-    Step::Told(AVALON, "joined"),
+static REFUSED: [Step; 7] = [
     Step::Told(Asked::Close(2, "no", &[]), "wrong pass"),
     Step::Told(Asked::Close(1, "pw", &[0]), "wrong pass"),
     Step::Told(Asked::Close(0, "gm", &[]), "wrong month"),
@@ -91,12 +91,11 @@ static REFUSED: [Step; 9] = [
     Step::Told(Asked::Close(4294967295, "gm", &[0]), "wrong month"),
     Step::Told(Asked::Close(1, "gm", &[]), "wrong dice"),
     Step::Told(Asked::Close(1, "gm", &[0, 0]), "wrong dice"),
-    Step::Month(0),
 ];
 
 #[test]
 fn a_refused_closing_changes_nothing(rt: HostRuntime) -> Result<(), Fail> {
-    plays(&rt, rt.alloc(), SMALL, &REFUSED, &AFTER_JOINING)
+    refuses(&rt, rt.alloc(), EVERY_TABLE, &REFUSED)
 }
 
 /// What the tables hold where nobody has joined.
@@ -125,7 +124,7 @@ Unit 1, line 0, WORK: done 0.
 Unit 1: 1 starved.
 ";
 
-const STARVED: [Step; 6] = [
+static STARVED: [Step; 6] = [
     Step::Joined(AVALON, 1, 1),
     Step::Closed(MONTH_ONE, 1),
     Step::Told(Asked::Report(1, "pw"), AFTER_STARVING),

@@ -53,7 +53,7 @@ fn is_told(rt: &impl Abort, told: Told, wanted: Told, sql: &str) {
 }
 
 /// Statements, and what opening is answered after them. Avalon and Bree have a unit each in region 3, on land.
-const ROWS: [(&str, Told); 23] = [
+static ROWS: [(&str, Told); 23] = [
     ("DELETE FROM mail", Told::Opens),
     ("CREATE TABLE notes (words TEXT)", Told::Opens),
     ("CREATE INDEX units_by_region ON unit (region)", Told::Opens),
@@ -246,7 +246,7 @@ static BOTH_JOIN: [Step; 2] = [
 ];
 
 /// The database of the campaign of an island with a market, in which both have joined, changed by hand.
-fn changed<S: Alter + Drop>(
+pub(crate) fn changed<S: Alter + Drop>(
     rt: &impl Abort,
     alloc: Global,
     conn: Connection<S>,

@@ -1,10 +1,11 @@
 //! Why no campaign is founded.
 use super::commands::AVALON;
 use super::compare::is_text;
-use super::making::begun_in_memory;
+use super::damage::changed;
 use super::script::{Step, plays};
 use super::serving::Tables;
 use super::tables::MONEY;
+use super::unchanged::{EVERY_TABLE, all_rows, has_all_rows};
 use atl_service::{Cause, Refused, Service, found};
 use atl_test_worlds::{POOR, SMALL};
 use sqlite::{Alter, Connection};
@@ -58,7 +59,7 @@ static REFUSED: [(&str, &str, &str, &str); 8] = [
         "bad pass text",
     ),
     (
-        "CREATE TABLE campaign (x INTEGER); BEGIN",
+        "CREATE TABLE campaign (x INTEGER); INSERT INTO campaign VALUES (7); BEGIN",
         SMALL,
         "gm",
         "not empty",
@@ -69,9 +70,30 @@ static REFUSED: [(&str, &str, &str, &str); 8] = [
         "gm",
         "not empty",
     ),
-    ("CREATE TABLE notes (words TEXT)", SMALL, "gm", "store"),
+    (
+        "CREATE TABLE notes (words TEXT); INSERT INTO notes VALUES ('pay the printer')",
+        SMALL,
+        "gm",
+        "store",
+    ),
     ("BEGIN", SMALL, "gm", "store"),
 ];
+
+/// Asserts why no campaign is founded by a world text and a pass text, and that the tables have the same rows before and
+/// after.
+fn founds_nothing<S: Alter + Drop>(
+    rt: &impl Abort,
+    alloc: Global,
+    conn: Connection<S>,
+    by: (&str, &str),
+    words: &str,
+) -> Result<(), Fail> {
+    let (world, pass) = by;
+    let mut conn = conn;
+    let rows = all_rows(alloc, &mut conn)?;
+    let mut conn = is_refused(rt, found(alloc, conn, world, pass.as_bytes()), words);
+    has_all_rows(rt, alloc, &mut conn, rows.as_str())
+}
 
 fn is_refused_after(
     rt: &impl Abort,
@@ -81,8 +103,7 @@ fn is_refused_after(
     let (sql, world, pass, words) = *refused;
     let mut conn = Connection::open_in_memory(alloc)?;
     conn.change(sql)?;
-    is_refused(rt, found(alloc, conn, world, pass.as_bytes()), words);
-    Ok(())
+    founds_nothing(rt, alloc, conn, (world, pass), words)
 }
 
 fn are_refused(rt: &impl Abort, alloc: Global) -> Result<(), Fail> {
@@ -99,9 +120,8 @@ fn the_first_check_that_fails_is_told(rt: HostRuntime) -> Result<(), Fail> {
 
 /// Asserts that no campaign is founded where one is.
 fn refuses_another(rt: &impl Abort, alloc: Global) -> Result<(), Fail> {
-    let conn = begun_in_memory(alloc, SMALL)?.end();
-    is_refused(rt, found(alloc, conn, SMALL, b"gm"), "not empty");
-    Ok(())
+    let conn = changed(rt, alloc, Connection::open_in_memory(alloc)?, EVERY_TABLE)?;
+    founds_nothing(rt, alloc, conn, (SMALL, "gm"), "not empty")
 }
 
 #[test]

@@ -1,7 +1,8 @@
 //! Mailings.
 use super::commands::AVALON;
 use super::script::{Asked, Step, plays};
-use super::tables::{AFTER_JOINING, MAIL_BYTES, MAILINGS};
+use super::tables::{MAIL_BYTES, MAILINGS};
+use super::unchanged::{EVERY_TABLE, refuses};
 use atl_test_worlds::SMALL;
 use std::test::Fail;
 
@@ -38,18 +39,18 @@ fn the_last_mailing_is_kept(rt: HostRuntime) -> Result<(), Fail> {
 }
 
 static REFUSED: [Step; 7] = [
-    Step::Told(AVALON, "joined"),
     Step::Told(Asked::Mail(9, "no", "hello"), "no faction"),
     Step::Told(Asked::Mail(1, "no", "hello"), "wrong pass"),
+    Step::Told(Asked::Mail(2, "pb", "hello"), "gone"),
+    Step::Told(Asked::LongMail("pw", 65_526), "too long"),
     Step::Told(Asked::Mail(1, "pw", "hello"), "no header"),
     Step::Told(Asked::Mail(1, "pw", "#ATLANTIS x"), "bad header"),
     Step::Told(Asked::Mail(1, "pw", "#ATLANTIS 2"), "wrong faction"),
-    Step::Keeps(None),
 ];
 
 #[test]
-fn a_refused_mailing_is_not_kept(rt: HostRuntime) -> Result<(), Fail> {
-    plays(&rt, rt.alloc(), SMALL, &REFUSED, &AFTER_JOINING)
+fn a_refused_mailing_changes_nothing(rt: HostRuntime) -> Result<(), Fail> {
+    refuses(&rt, rt.alloc(), EVERY_TABLE, &REFUSED)
 }
 
 static LIMITS: [Step; 4] = [

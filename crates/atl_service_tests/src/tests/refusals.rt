@@ -3,6 +3,7 @@ use super::commands::{AVALON, FIRST_REPORT};
 use super::compare::is_number;
 use super::script::{Asked, Step, plays};
 use super::tables::AFTER_JOINING;
+use super::unchanged::{EVERY_TABLE, refuses};
 use atl_service::Refusal;
 use atl_test_worlds::SMALL;
 use std::test::Fail;
@@ -21,6 +22,20 @@ static JOINS_TWICE: [Step; 5] = [
 fn a_name_is_taken_once(rt: HostRuntime) -> Result<(), Fail> {
     plays(&rt, rt.alloc(), SMALL, &JOINS_ONCE, &AFTER_JOINING)?;
     plays(&rt, rt.alloc(), SMALL, &JOINS_TWICE, &AFTER_JOINING)
+}
+
+static REFUSED: [Step; 6] = [
+    Step::Told(Asked::Join(" x", "a b", 0), "bad name"),
+    Step::Told(Asked::Join("Avalon", "a b", 0), "bad pass text"),
+    Step::Told(AVALON, "name taken"),
+    Step::Told(Asked::Join("Cork", "pc", 0), "full"),
+    Step::Told(Asked::Report(9, "no"), "no faction"),
+    Step::Told(Asked::Report(1, "no"), "wrong pass"),
+];
+
+#[test]
+fn refused_joinings_and_reports_change_nothing(rt: HostRuntime) -> Result<(), Fail> {
+    refuses(&rt, rt.alloc(), EVERY_TABLE, &REFUSED)
 }
 
 static NUMBERS: [(Refusal, u8); 14] = [
