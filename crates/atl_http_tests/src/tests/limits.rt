@@ -1,0 +1,39 @@
+//! A campaign at its limits.
+use super::making::{Case, begun, tell_each};
+use super::requests::JOIN;
+use atl_service::{Service, open};
+use sqlite::MemStore;
+use std::alloc::Global;
+use std::test::Fail;
+
+/// The last month was closed, and the last unit number was given.
+const LIMITS: &str = "UPDATE campaign SET month = 9999, next_unit = 1000000000";
+
+static AT_LIMITS: [Case; 2] = [
+    (
+        JOIN,
+        "HTTP/1.1 409 Conflict\r\nContent-Type: application/json\r\nContent-Length: 27\r\nConnection: close\r\n\r\n{\"error\":\"Full\",\"number\":4}",
+    ),
+    (
+        "POST /close/10000 HTTP/1.1\r\nHost: x\r\nAtlantis-Pass: gm\r\n\r\n",
+        "HTTP/1.1 409 Conflict\r\nContent-Type: application/json\r\nContent-Length: 34\r\nConnection: close\r\n\r\n{\"error\":\"MonthLimit\",\"number\":13}",
+    ),
+];
+
+/// A new campaign that was changed by hand.
+fn changed(alloc: Global, sql: &str) -> Result<Service<MemStore>, Fail> {
+    let mut conn = begun(alloc)?.end();
+    conn.execute_batch(sql)?;
+    match open(alloc, conn) {
+        Ok(service) => Ok(service),
+        Err(_) => Err(Fail::new("open")),
+    }
+}
+
+#[test]
+fn at_the_limits(rt: HostRuntime) -> Result<(), Fail> {
+    let mut service = changed(rt.alloc(), LIMITS)?;
+    tell_each(&rt, rt.alloc(), &mut service, &AT_LIMITS);
+    let _conn = service.end();
+    Ok(())
+}
