@@ -4,7 +4,6 @@ use super::making::{begun_in_memory, opened};
 use super::script::{Asked, Step, follow};
 use super::serving::Tables;
 use super::tables::{FACTIONS, NEXT, UNITS, holds};
-use super::unchanged::leave_all_rows;
 use atl_test_worlds::SMALL;
 use sqlite::{Connection, MemStore, params};
 use std::alloc::Global;
@@ -41,34 +40,35 @@ const NUMBERS_ARE_FULL: &str = "UPDATE campaign SET next_unit = 1000000000";
 
 const BREE: Asked = Asked::Join("Bree", "pb", 0);
 
-static BREE_JOINS: [Step; 1] = [Step::Told(BREE, "joined")];
+const BREE_JOINS: [Step; 1] = [Step::Told(BREE, "joined")];
 
-static NOBODY_JOINS: [Step; 1] = [Step::Told(BREE, "full")];
+const NOBODY_JOINS: [Step; 1] = [Step::Told(BREE, "full")];
 
-/// A campaign that is filled by hand: what doubles its rows, up to which number, what makes it good again, and what the
-/// tables hold behind a joining.
+/// A campaign that is filled by hand: what doubles its rows, up to which number, what makes it good again, a joining then, and
+/// what the tables hold behind it.
 struct Filled {
     more: Option<(&'static str, i64)>,
     then: &'static str,
+    steps: &'static [Step],
     rows: &'static [(&'static str, Option<i64>)],
 }
 
-/// Avalon has 10,000 units.
-static ROOMY: Filled = Filled {
-    more: Some((MORE_UNITS, 10_000)),
-    then: MANY_ARE_BOOKED,
-    rows: &[
-        (NEXT, Some(310002)),
-        (FACTIONS, Some(2)),
-        (UNITS, Some(10001)),
-    ],
-};
-
-/// Avalon has 100,000 units; 9,998 more factions joined, and are gone; the last unit number was given.
-static FULL: [Filled; 3] = [
+/// Avalon has 10,000 units, and 100,000; 9,998 more factions joined, and are gone; the last unit number was given.
+static FILLED: [Filled; 4] = [
+    Filled {
+        more: Some((MORE_UNITS, 10_000)),
+        then: MANY_ARE_BOOKED,
+        steps: &BREE_JOINS,
+        rows: &[
+            (NEXT, Some(310002)),
+            (FACTIONS, Some(2)),
+            (UNITS, Some(10001)),
+        ],
+    },
     Filled {
         more: Some((MORE_UNITS, 100_000)),
         then: UNITS_ARE_FULL,
+        steps: &NOBODY_JOINS,
         rows: &[
             (NEXT, Some(300001)),
             (FACTIONS, Some(1)),
@@ -78,6 +78,7 @@ static FULL: [Filled; 3] = [
     Filled {
         more: Some((MORE_FACTIONS, 9_999)),
         then: FACTIONS_ARE_FULL,
+        steps: &NOBODY_JOINS,
         rows: &[
             (NEXT, Some(1000000002)),
             (FACTIONS, Some(9999)),
@@ -87,6 +88,7 @@ static FULL: [Filled; 3] = [
     Filled {
         more: None,
         then: NUMBERS_ARE_FULL,
+        steps: &NOBODY_JOINS,
         rows: &[
             (NEXT, Some(1000200000)),
             (FACTIONS, Some(1)),
@@ -120,37 +122,33 @@ fn fill(conn: &mut Connection<MemStore>, filled: &Filled) -> Result<(), Fail> {
     conn.change(filled.then)
 }
 
-/// A campaign that was filled.
-fn filled_by(rt: &impl Abort, alloc: Global, by: &Filled) -> Result<Connection<MemStore>, Fail> {
-    let mut conn = joined(rt, alloc)?;
-    fill(&mut conn, by)?;
-    Ok(conn)
-}
-
-/// Asserts that a faction can join, and what the tables hold behind that.
-fn has_room(rt: &impl Abort, alloc: Global, by: &Filled) -> Result<(), Fail> {
-    let mut service = opened(alloc, filled_by(rt, alloc, by)?)?;
-    let done = follow(rt, alloc, &mut service, &BREE_JOINS);
-    holds(rt, &mut service.end(), by.rows);
+/// Asserts what a joining is answered, and what the tables hold behind it.
+fn answers(
+    rt: &impl Abort,
+    alloc: Global,
+    conn: Connection<MemStore>,
+    filled: &Filled,
+) -> Result<(), Fail> {
+    let mut service = opened(alloc, conn)?;
+    let done = follow(rt, alloc, &mut service, filled.steps);
+    holds(rt, &mut service.end(), filled.rows);
     done
 }
 
-/// Asserts what the tables hold, and that none can join.
-fn is_full(rt: &impl Abort, alloc: Global, by: &Filled) -> Result<(), Fail> {
-    let mut conn = filled_by(rt, alloc, by)?;
-    holds(rt, &mut conn, by.rows);
-    leave_all_rows(rt, alloc, conn, &NOBODY_JOINS)
+fn is_filled(rt: &impl Abort, alloc: Global, filled: &Filled) -> Result<(), Fail> {
+    let mut conn = joined(rt, alloc)?;
+    fill(&mut conn, filled)?;
+    answers(rt, alloc, conn, filled)
 }
 
-fn are_full(rt: &impl Abort, alloc: Global) -> Result<(), Fail> {
-    for by in FULL.iter() {
-        is_full(rt, alloc, by)?;
+fn are_filled(rt: &impl Abort, alloc: Global) -> Result<(), Fail> {
+    for filled in FILLED.iter() {
+        is_filled(rt, alloc, filled)?;
     }
     Ok(())
 }
 
 #[test]
 fn nobody_joins_a_full_campaign(rt: HostRuntime) -> Result<(), Fail> {
-    has_room(&rt, rt.alloc(), &ROOMY)?;
-    are_full(&rt, rt.alloc())
+    are_filled(&rt, rt.alloc())
 }

@@ -88,7 +88,7 @@ fn leaves_all_rows<S: Alter + Drop>(
 }
 
 /// Asserts what each of these commands is answered, and that none changes a row.
-pub(crate) fn leave_all_rows<S: Alter + Drop>(
+fn leave_all_rows<S: Alter + Drop>(
     rt: &impl Abort,
     alloc: Global,
     conn: Connection<S>,
