@@ -70,12 +70,13 @@ try sentences python3 tests/sentences.py
 try http 'sqlite3 curl' tests/http.sh
 try club 'sqlite3 curl' tests/club.sh
 try plain python3 tests/plain.py crates/atl_phase_tests/data/*.txt
+try island '' cmp worlds/isle.toml crates/atl_phase_tests/data/island.toml
 try crowd python3 is_same_crowd
 try simulate python3 tests/simulate.py
 try killed 'sqlite3 strace' tests/killed.sh 40
 try cuts 'strace python3' tests/cuts.py
 try slow python3 tests/slow.sh
 try web 'curl python3 nginx chromium chromedriver' tests/web.sh
-try memory 'sqlite3 cc' tests/memory.sh 11 997
+try memory 'sqlite3 curl cc' tests/memory.sh 11 997
 echo "$passed passed, $failed failed, $skipped skipped"
 [ "$failed" = 0 ]

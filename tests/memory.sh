@@ -5,18 +5,18 @@
 # tests/fuse.c, which is put before the C library's. Called as
 #   tests/memory.sh [STEP [PROGRAM_STEP]]
 # it refuses every STEP-th growth of the calls (1 where none is said) and every PROGRAM_STEP-th of the subcommands (97), each up to a run
-# without a refusal. It wants cc, glibc and sqlite3, takes about two minutes once both programs are built, and ends with
-# 'memory: all as expected'.
+# without a refusal. Of a joining over HTTP it refuses ten times as many growths, from about where `serve` takes its port on. It wants cc,
+# glibc, curl and sqlite3, takes about two minutes once both programs are built, and ends with 'memory: all as expected'.
 set -u
 here=$(cd "$(dirname "$0")/.." && pwd)
 step=${1:-1} program_step=${2:-97}
 [[ $step =~ ^[1-9][0-9]*$ && $program_step =~ ^[1-9][0-9]*$ ]] || { echo 'memory: a step is a number from 1' >&2; exit 2; }
-for tool in cc sqlite3; do
+for tool in cc curl sqlite3; do
   command -v "$tool" >/dev/null || { echo "memory: $tool is not there" >&2; exit 2; }
 done
 work=$(mktemp -d)
 trap 'rm -rf "$work"' EXIT
-failed=0
+failed=0 growths=1 code=
 
 fail() {
   echo "memory: $*"
@@ -57,7 +57,7 @@ copied() {
   [ ! -e "$1" ] || cp "$1" "$work/run.db"
 }
 
-# each FILE INPUT WORD..: every so many-th growth of a subcommand on a copy of the file
+# each FILE INPUT WORD..: every so many-th growth of a subcommand on a copy of the file. The first one that never comes is in `growths`.
 each() {
   local file=$1 input=$2 refused=0 good=0 growth status before after
   shift 2
@@ -84,7 +84,48 @@ each() {
     fi
     [ -e "$work/blown" ] || break
   done
+  growths=$growth
   echo "$1: $refused growths refused, $good made good, and growth $growth never comes"
+}
+
+# join_by_http GROWTH: serves one joining on a copy of the file, where this growth is refused. The status of the reply, or 000 where there is none, is in
+# `code`, its body in out, and what the program said in err.
+join_by_http() {
+  local port=$((20000 + RANDOM % 20000)) server
+  copied "$db"
+  rm -f "$work/blown" "$work/out"
+  FUSE=$1 FUSE_LOG=$work/blown LD_PRELOAD=$heap "$program" serve --db "$work/run.db" --port "$port" --count 1 --seed 0 >/dev/null 2>"$work/err" &
+  server=$!
+  # 7: it doesn't listen yet, or not any more
+  until code=$(curl -s --max-time 20 -o "$work/out" -w '%{http_code}' -d '{"name":"Bree","pass":"pb"}' "http://127.0.0.1:$port/join"); do
+    [ $? = 7 ] && kill -0 "$server" 2>/dev/null || break
+  done
+  wait "$server"
+}
+
+# each_of_http FIRST: growths of such a joining, from this one on. A reply says what was done; without one the command may have been run.
+each_of_http() {
+  local growth after refused=0 told=0 silent=0 before
+  before=$(rows "$db")
+  join_by_http 0
+  after=$(rows "$work/run.db")
+  [ "$code $(cat "$work/out")" = '200 {"faction":2,"unit":2}' ] || fail "a joining over HTTP: $code, $(head -c 80 "$work/out")"
+  for ((growth = $1; ; growth += (program_step + 9) / 10)); do
+    join_by_http "$growth"
+    [ -e "$work/blown" ] || break
+    refused=$((refused + 1))
+    case $code in
+      200) [ "$(cat "$work/out")" = '{"faction":2,"unit":2}' ] && [ "$(rows "$work/run.db")" = "$after" ] ;;
+      500) told=$((told + 1)) && [ "$(cat "$work/out")" = '{"error":"Memory","number":0}' ] && [ "$(rows "$work/run.db")" = "$before" ] ;;
+      000)
+        silent=$((silent + 1))
+        [ "$(cat "$work/err")" = 'fault: Memory' ] && { [ "$(rows "$work/run.db")" = "$before" ] || [ "$(rows "$work/run.db")" = "$after" ]; }
+        ;;
+      *) false ;;
+    esac || fail "a joining over HTTP, growth $growth: $code, $(head -c 80 "$work/out" "$work/err")"
+  done
+  [ "$told" != 0 ] || fail 'a joining over HTTP: no growth was answered 500 Memory'
+  echo "a joining over HTTP: $refused growths refused, $told of them answered 500 Memory and $silent not at all, and growth $growth never comes"
 }
 
 mailing=$work/mailing
@@ -101,6 +142,7 @@ each "$db" /dev/null report --db "$run" --faction 1 --pass pw
 each "$db" /dev/null books --db "$run"
 each "$here/tests/old/trial.db" /dev/null upgrade --db "$run" --world "$here/worlds/small.toml"
 each "$db" /dev/null serve --db "$run" --port 0 --count 0 --seed 0
+each_of_http "$growths"
 
 [ $failed = 0 ] && echo 'memory: all as expected'
 exit $failed
