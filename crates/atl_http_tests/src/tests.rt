@@ -5,6 +5,7 @@ mod compare;
 mod dice;
 mod ends;
 mod interrupted;
+mod judging;
 mod limits;
 mod listening;
 mod making;

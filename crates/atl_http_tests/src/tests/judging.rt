@@ -1,0 +1,48 @@
+//! What the first bytes of a request come to, before any command runs. See docs/FORMATS.md, "HTTP".
+use super::compare::is_text;
+use atl_http::{Verdict, judged, pieces_do_not_matter};
+use std::alloc::{AllocError, Global};
+use std::process::Abort;
+
+/// Bytes, and what they come to.
+static BYTES: [(&str, &str); 5] = [
+    ("", "more"),
+    ("GET /report/1 HTTP/1.0\r\n", "more"),
+    (
+        "POST /orders/1 HTTP/1.0\r\nAtlantis-Pass: pw\r\nContent-Length: 5\r\n\r\nUNIT",
+        "more",
+    ),
+    (
+        "GET /report/1 HTTP/1.0\r\nAtlantis-Pass: pw\r\n\r\n",
+        "asks",
+    ),
+    ("GET /nowhere HTTP/1.0\r\n\r\nmore", "NoRoute"),
+];
+
+fn name_of(verdict: &Verdict) -> &'static str {
+    match verdict {
+        Verdict::More => "more",
+        Verdict::Refused(problem) => problem.name(),
+        Verdict::Asks(_) => "asks",
+    }
+}
+
+fn comes_to(rt: &impl Abort, alloc: Global, bytes: &str, wanted: &str) -> Result<(), AllocError> {
+    let verdict = judged(alloc, bytes.as_bytes())?;
+    is_text(rt, name_of(&verdict), wanted);
+    Ok(())
+}
+
+#[test]
+fn bytes_are_judged(rt: HostRuntime) -> Result<(), AllocError> {
+    for (bytes, wanted) in BYTES.iter() {
+        comes_to(&rt, rt.alloc(), bytes, wanted)?;
+    }
+    Ok(())
+}
+
+/// Nothing is asserted here: the clause of this call is proved.
+#[test]
+fn states_that_pieces_do_not_matter() {
+    pieces_do_not_matter();
+}
