@@ -2,6 +2,7 @@
 use Rattle.std.proofs.Common.{◌≡◌, ℕ, Bool, true, false, cond, List, [], ◌∷◌, Option, Some, None, refl, sym, ap, subst, ◌∙◌}
 use Rattle.std.specs.Prelude.{fold, if◌then◌else◌}
 use Rattle.std.specs.List.{AllByRecursion, Contains}
+use Rattle.std.specs.Option.{option_map_or}
 use Rattle.std.specs.Ordering.{nat_cmp, eq_by_cmp}
 use Rattle.std.specs.Cmp.{nat_cmp_total}
 use Rattle.std.specs.FinMap.{empty, get, get-insert, insert}
@@ -13,12 +14,16 @@ use Rattle.atl_records.proofs.EveryLaws.{every-empty, every-insert}
 use Rattle.atl_state.proofs.RegionLaws.{get-insert_same}
 use Rattle.atl_instant.specs.Month.{MonthValue}
 use Rattle.atl_instant.specs.PhaseOrders.{Task}
-use Rattle.atl_action.specs.Learners.{IsLearning, Learning, UnitsLearnByOrders, learners, learns, skill_of, study_tasks, with_learner, with_skill}
+use Rattle.atl_action.specs.Learners.{IsLearning, Learning, UnitsLearnByOrders, learners, learns, skill_of, study_tasks, with_learner}
 
 module _ (w : WorldValue) (c : CampaignValue) where
   -- what is so of a unit and a skill wherever an order has it learn that
   abbrev IfLearns : (ℕ → ℕ → Type 0) → Task → Type 0
   IfLearns P t = (s : ℕ) → skill_of t.said ≡ Some s → learns w s t.faction (get c.units t.unit) ≡ true → P t.unit s
+
+  -- with the unit of an order by which it learns a skill, or nothing
+  abbrev with_skill : Learning → Task → Option ℕ → Learning
+  with_skill learning t skill = option_map_or (λ s. if learns w s t.faction (get c.units t.unit) then insert learning t.unit s else learning) skill learning
 
   only_one : (P : ℕ → ℕ → Type 0) (t : Task) (learning : Learning) → IfLearns P t → Every P learning → Every P (with_learner w c learning t)
   only_one P t learning so old = by_skill (skill_of t.said) refl
@@ -27,7 +32,7 @@ module _ (w : WorldValue) (c : CampaignValue) where
       by_test s says true can = every-insert P learning t.unit s (so s says can) old
       by_test s says false can = old
 
-      by_skill : (o : Option ℕ) → skill_of t.said ≡ o → Every P (with_skill w c learning t o)
+      by_skill : (o : Option ℕ) → skill_of t.said ≡ o → Every P (with_skill learning t o)
       by_skill None says = old
       by_skill (Some s) says = by_test s says (learns w s t.faction (get c.units t.unit)) refl
 
@@ -50,7 +55,7 @@ module _ (w : WorldValue) (c : CampaignValue) where
       by_test s true = there-insert learning t.unit s n there
       by_test s false = there
 
-      by_skill : (o : Option ℕ) → IsThere (with_skill w c learning t o) n
+      by_skill : (o : Option ℕ) → IsThere (with_skill learning t o) n
       by_skill None = there
       by_skill (Some s) = by_test s (learns w s t.faction (get c.units t.unit))
 
@@ -60,7 +65,7 @@ module _ (w : WorldValue) (c : CampaignValue) where
 
   added : (t : Task) (learning : Learning) → IfLearns (λ n s. IsThere (with_learner w c learning t) n) t
   added t learning s says can =
-      subst (λ o. IsThere (with_skill w c learning t o) t.unit) (sym says)
+      subst (λ o. IsThere (with_skill learning t o) t.unit) (sym says)
       (subst (λ b. IsThere (if b then insert learning t.unit s else learning) t.unit) (sym can) (s, get-insert_same learning t.unit s))
 
   each_all : (ts : List Task) (learning : Learning) → AllByRecursion (IfLearns (λ n s. IsThere (fold (with_learner w c) learning ts) n)) ts

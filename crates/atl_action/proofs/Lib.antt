@@ -3,7 +3,6 @@ pub mod PeopleLaws
 pub mod WalkLaws
 pub mod SailLaws
 pub mod UnmailedTravelLaws
-pub mod LearnerLaws
 pub mod LearningLaws
 pub mod TeachLaws
 pub mod MentionLaws

@@ -46,13 +46,17 @@ use Rattle.atl_instant.proofs.StructureLaws.{at_number, changed_else, equal, get
 use Rattle.atl_instant.proofs.StepLaws.{carried_cases, well_same}
 use Rattle.atl_instant.specs.Staying.{IsUnchanged}
 use Rattle.atl_instant.proofs.UnbookedLaws.{stays_well}
-use Rattle.atl_action.specs.Sail.{AreCarried, IsCarried, SailsWith, capacity, concerns_nobody, crew_needed, crew_of, is_complete_ship, is_sailing, is_way, of_unit, sail, sail_fault, sail_said, sail_step, sail_terms, sailed, sum_inside, taken_along}
+use Rattle.atl_action.specs.Sail.{AreCarried, IsCarried, SailsWith, capacity, concerns_nobody, crew_needed, crew_of, is_complete_ship, is_sailing, is_way, sail, sail_fault, sail_said, sail_step, sail_terms, sailed, sum_inside, taken_along}
 use Rattle.atl_action.specs.Ways.{is_region}
 use Rattle.atl_action.proofs.PeopleLaws.{AreSamePeople, elsewhere, elsewhere_at, elsewhere_inside, elsewhere_people, gone_if, gone_same, guards_stay, people_same, people_twice, total_people}
 use Rattle.atl_action.proofs.TravelLaws.{AreTravelled, IsPut, IsSameStructure, steady-travelled, travelled}
 
 abbrev structure_in : Option Unit → ℕ
 structure_in o = option_map_or (λ (x : Unit). x.structure) o 0
+
+-- what a unit counts, 0 where there is none
+abbrev of_unit : (Held → ℕ) → Option Unit → ℕ
+of_unit f o = option_map_or (λ (x : Unit). f x.holding) o 0
 
 -- ---- lists of units
 

@@ -86,7 +86,7 @@ module _ (w : WorldValue) (taught : Taught) (n : ℕ) (u : Unit) where
   structures_stay d l t = ordered_cases (λ b. b.structures ≡ d.structures) (study_step taught w l.aliases t) d t refl (λ x own. by_said t.said x)
     where
       by_said : (o : Said) (x : Unit) → IfSome (study_said w taught t.unit o) (λ deed. (deed d x).0.structures ≡ d.structures)
-      by_said (orders.Study s) x = study_cases (λ b. b.structures ≡ d.structures) w (amount_of taught t.unit) d t.unit s x refl (λ days payable most. refl)
+      by_said (orders.Study s) x = study_cases (λ b. b.structures ≡ d.structures) w (taught t.unit) d t.unit s x refl (λ days payable most. refl)
       by_said other x = tt
 
   -- other orders leave the unit as it is
@@ -99,7 +99,7 @@ module _ (w : WorldValue) (taught : Taught) (n : ℕ) (u : Unit) where
             | inl same ↦
                 let unit : x ≡ v = same_Some x v (sym its.there ∙ ap (get d.units) (sym same) ∙ there) in
                 absurd (other s says (sym same) (sym its.faction ∙ ap (λ (y : Unit). y.faction) unit ∙ own))
-            | inr apart ↦ study_stays w (amount_of taught t.unit) d t.unit s x n apart ∙ there
+            | inr apart ↦ study_stays w (taught t.unit) d t.unit s x n apart ∙ there
           ]
       by_said o says x its = tt
 
@@ -119,19 +119,19 @@ module _ (w : WorldValue) (taught : Taught) (n : ℕ) (u : Unit) where
         one_apart s other_says unit faction = both_own order t all.0 skill s says other_says (for_unit ∙ sym unit) (own ∙ sym faction)
 
     abbrev deed : Deed
-    deed = study w (amount_of taught n) n skill
+    deed = study w (taught n) n skill
 
     own_study : (d : CampaignValue) (l : MonthValue) → get d.units n ≡ Some u → (step (d, l) order).0 ≡ (deed d u).0
     own_study d l there =
         ap (λ (o : Said). (ordered (study_said w taught order.unit o) d order.faction order.unit).0) says
-        ∙ ap (λ k. (carried (study w (amount_of taught k) k skill) d order.faction k).0) for_unit
+        ∙ ap (λ k. (carried (study w (taught k) k skill) d order.faction k).0) for_unit
         ∙ ap (λ f. (carried deed d f n).0) own
         ∙ ap (λ o. (done_for deed d o).0) (ap (of_faction u.faction) there ∙ ap (λ b. if b then Some u else None) (equal_itself u.faction))
 
     module _ (c : CampaignValue) (begun : get c.units n ≡ Some u) where
       behind_it : (v : Unit) × (get (deed c u).0.units n ≡ Some v) × (v.faction ≡ u.faction)
       behind_it =
-          study_cases (λ d. (v : Unit) × (get d.units n ≡ Some v) × (v.faction ≡ u.faction)) w (amount_of taught n) c n skill u (u, begun, refl)
+          study_cases (λ d. (v : Unit) × (get d.units n ≡ Some v) × (v.faction ≡ u.faction)) w (taught n) c n skill u (u, begun, refl)
           (λ days payable most.
           let v : Unit = record u { holding = with_study u.holding skill (fee_of w skill * u.holding.men) days } in
           (v, get-insert_same c.units n v, refl))
@@ -143,7 +143,7 @@ module _ (w : WorldValue) (taught : Taught) (n : ℕ) (u : Unit) where
       alone (t ∷ ts) p there structures distinct zero low at =
           let (v, is, faction) = behind_it in
           let now : get (step p t).0.units n ≡ get (deed c u).0.units n =
-          ap (λ o. get (step p o).0.units n) at ∙ ap (λ (d : CampaignValue). get d.units n) (own_study p.0 p.1 there) ∙ study_alike w (amount_of taught n) n skill c p.0 u begun there structures in
+          ap (λ o. get (step p o).0.units n) at ∙ ap (λ (d : CampaignValue). get d.units n) (own_study p.0 p.1 there) ∙ study_alike w (taught n) n skill c p.0 u begun there structures in
           all_stay ts (step p t) v (now ∙ is) faction (all_apart ts (subst (λ o. AllByRecursion (λ y. share_slot o y ≡ false) ts) at distinct.0)) ∙ sym is
       alone (t ∷ ts) p there structures distinct (suc k) low at =
           let never : share_slot t order ≡ false = All-contains (λ y. share_slot t y ≡ false) ts order (All-from_recursion (λ y. share_slot t y ≡ false) ts distinct.0) (k, omega (arith, low), at) in

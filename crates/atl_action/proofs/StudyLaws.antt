@@ -185,9 +185,9 @@ study_orderly taught = record {
 }
   where
     well : (w : WorldValue) (c : CampaignValue) (n : ℕ) (x : Unit) → get c.units n ≡ Some x → IsSteady w c → (s : Said) → IsOrderOf w s → IfSome (study_said w taught n s) (λ deed. StepsWell IsSteady study_reserve w c (deed c x).0)
-    well w c n x is steady (orders.Study s) fit = study_well w (amount_of taught n) c n s x is steady fit
+    well w c n x is steady (orders.Study s) fit = study_well w (taught n) c n s x is steady fit
     well w c n x is steady other fit = tt
 
     spared : (w : WorldValue) (c : CampaignValue) (n : ℕ) (x : Unit) (k : ℕ) (v : Unit) → get c.units k ≡ Some v → k ≢ n → (s : Said) → IfSome (study_said w taught n s) (λ deed. IsSpared IsUnchanged (deed c x).0 k v)
-    spared w c n x k v there apart (orders.Study s) = record { unit = v; there = study_stays w (amount_of taught n) c n s x k apart ∙ there; spared = refl }
+    spared w c n x k v there apart (orders.Study s) = record { unit = v; there = study_stays w (taught n) c n s x k apart ∙ there; spared = refl }
     spared w c n x k v there apart other = tt

@@ -1,57 +1,127 @@
--- How a lesson is given, and what all orders of TEACH leave of a month.
-use Rattle.std.proofs.Common.{◌≡◌, ℕ, ◌+◌, ◌-◌, min, List, [], ◌∷◌, map, refl, ap, ◌∙◌, arith}
-use Rattle.std.specs.Prelude.{fold}
-use Rattle.std.specs.Ordering.{nat_cmp}
-use Rattle.std.specs.FinMap.{FinMap, empty, values}
-use Rattle.atl_orders.specs.Mailing.{Reading}
-use Rattle.atl_records.specs.Held.{amount_of}
+-- How a lesson is given: to the first unit that is listed, and then to the rest.
+use Rattle.std.proofs.Common.{◌≡◌, ◌≢◌, ◌==◌, ◌≤◌, ◌||◌, ℕ, ◌+◌, ◌-◌, min, not, Bool, true, false, cond, List, [], ◌∷◌, filter, take, sum_by, refl, sym, ap, subst, ◌∙◌, inl, inr, arith, rules}
+use Rattle.std.specs.Prelude.{nat_eq, if◌then◌else◌}
+use Rattle.std.specs.List.{AllByRecursion, IsDistinct, before_first, list_any, position_or_len}
+use Rattle.std.proofs.lemmas.Bool.{cases_eq}
+use Rattle.std.proofs.lemmas.List.Sums.{sum_by-cons}
+use Rattle.atl_tables.proofs.GeneralLaws.{equal_itself, equal_turned, is_unequal}
+use Rattle.atl_records.proofs.EveryLaws.{other_number}
 use Rattle.atl_state.specs.Campaign.{CampaignValue}
-use Rattle.atl_instant.specs.Month.{MonthValue}
-use Rattle.atl_instant.specs.PhaseOrders.{orders_of, written}
-use Rattle.atl_instant.specs.declared.written.Arrangement.TheVariants.{ByUnit}
-use Rattle.atl_instant.specs.declared.written.Written.{Written}
 use Rattle.atl_instant.specs.Dealing.{dealt}
-use Rattle.atl_instant.specs.Carrying.{found_written}
-use Rattle.atl_instant.proofs.FoundOrderLaws.{found_all, found_stays}
-use Rattle.atl_action.specs.Learners.{Learning}
-use Rattle.atl_action.specs.Teach.{Taught, is_teaching, lesson_behind, taught_out, teach_order, untaught}
+use Rattle.atl_action.specs.Teach.{Taught, first_mentions, taught_now, untaught}
 
--- ---- places that are counted down
+-- ---- lists of units
 
-abbrev pub counted_down : CampaignValue → Taught → (left : ℕ) → List ℕ → List (ℕ × ℕ)
-counted_down c taught left [] = []
-counted_down c taught left (n ∷ ns) = (n, amount_of taught n + min left (untaught c taught n)) ∷ counted_down c taught (left - min left (untaught c taught n)) ns
+-- none of a list is this number
+abbrev pub AreOthers : ℕ → List ℕ → Type 0
+AreOthers n = AllByRecursion (λ y. nat_eq n y ≡ false)
 
-is_dealt : (before want places : ℕ) → min (places - min before places) want ≡ min (before + want) places - min before places
-is_dealt before want places = grind arith
-
-are_left : (before want places : ℕ) → (places - min before places) - min (places - min before places) want ≡ places - min (before + want) places
-are_left before want places = grind arith
-
-down_from : (c : CampaignValue) (taught : Taught) (places before left : ℕ) (ns : List ℕ) → left ≡ places - min before places → counted_down c taught left ns ≡ lesson_behind c taught places before ns
-down_from c taught places before left [] is = refl
-down_from c taught places before left (n ∷ ns) is =
-    let want = untaught c taught n in
-    ap (λ k. (n, amount_of taught n + min k want) ∷ counted_down c taught (k - min k want) ns) is
-    ∙ ap (λ k. (n, amount_of taught n + k) ∷ counted_down c taught ((places - min before places) - min (places - min before places) want) ns) (is_dealt before want places)
-    ∙ ap (λ es. (n, amount_of taught n + dealt places before want) ∷ es) (down_from c taught places (before + want) ((places - min before places) - min (places - min before places) want) ns (are_left before want places))
-
-pub down : (c : CampaignValue) (taught : Taught) (places : ℕ) (ns : List ℕ) → counted_down c taught places ns ≡ lesson_behind c taught places 0 ns
-down c taught places ns = down_from c taught places 0 places ns (all places)
+filtered_others : (n : ℕ) (p : ℕ → Bool) (ns : List ℕ) → AreOthers n ns → AreOthers n (filter p ns)
+filtered_others n p [] all = tt
+filtered_others n p (k ∷ ns) all = by_test (p k) (filtered_others n p ns all.1)
   where
-    all : (k : ℕ) → k ≡ k - min 0 k
-    all k = grind arith
+    by_test : (b : Bool) → AreOthers n (filter p ns) → AreOthers n (cond b (k ∷ filter p ns) (filter p ns))
+    by_test true rest = (all.0, rest)
+    by_test false rest = rest
 
--- ---- the orders
+filtered_distinct : (p : ℕ → Bool) (ns : List ℕ) → IsDistinct nat_eq ns → IsDistinct nat_eq (filter p ns)
+unfolding IsDistinct
+filtered_distinct p [] all = tt
+filtered_distinct p (k ∷ ns) all = by_test (p k) (filtered_distinct p ns all.1)
+  where
+    by_test : (b : Bool) → IsDistinct nat_eq (filter p ns) → IsDistinct nat_eq (cond b (k ∷ filter p ns) (filter p ns))
+    by_test true rest = (filtered_others k p ns all.0, rest)
+    by_test false rest = rest
 
-module _ (c : CampaignValue) (learning : Learning) where
-  -- an order leaves what was read, and the units that were formed
-  pub same_readings : (readings : FinMap nat_cmp Reading) (p : Taught × MonthValue) (o : Written) → (found_written (teach_order c learning) readings p o).1.readings ≡ p.1.readings
-  same_readings = found_stays (teach_order c learning) (λ (p : Taught × MonthValue). p.1.readings) (λ p t. refl)
+without : (n : ℕ) (ns : List ℕ) → AreOthers n (filter (λ k. not (k == n)) ns)
+without n [] = tt
+without n (k ∷ ns) = by_test (k == n) refl (without n ns)
+  where
+    by_test : (b : Bool) → (k == n) ≡ b → AreOthers n (filter (λ k. not (k == n)) ns)
+        → AreOthers n (cond (not b) (k ∷ filter (λ k. not (k == n)) ns) (filter (λ k. not (k == n)) ns))
+    by_test true t rest = rest
+    by_test false t rest = (equal_turned n k ∙ t, rest)
 
-  pub same_aliases : (readings : FinMap nat_cmp Reading) (p : Taught × MonthValue) (o : Written) → (found_written (teach_order c learning) readings p o).1.aliases ≡ p.1.aliases
-  same_aliases = found_stays (teach_order c learning) (λ (p : Taught × MonthValue). p.1.aliases) (λ p t. refl)
+pub mentions_distinct : (ns : List ℕ) → IsDistinct nat_eq (first_mentions ns)
+unfolding IsDistinct
+mentions_distinct [] = tt
+mentions_distinct (n ∷ ns) = (without n (first_mentions ns), filtered_distinct (λ k. not (k == n)) (first_mentions ns) (mentions_distinct ns))
 
-  pub taught_found : (m : MonthValue) → fold (found_written (teach_order c learning) m.readings) (empty, m) (map written (values (orders_of is_teaching ByUnit m.aliases m.readings))) ≡ taught_out c learning m
-  unfolding taught_out
-  taught_found m = found_all (teach_order c learning) m.aliases m.readings is_teaching ByUnit (empty, m)
+not_listed : (n : ℕ) (ns : List ℕ) → AreOthers n ns → list_any (λ k. n == k) ns ≡ false
+not_listed n [] all = refl
+not_listed n (k ∷ ns) all = ap (λ b. b || list_any (λ k. n == k) ns) all.0 ∙ not_listed n ns all.1
+
+before_cons : (p : ℕ → Bool) (n : ℕ) (ns : List ℕ) → before_first p (n ∷ ns) ≡ if p n then [] else n ∷ before_first p ns
+before_cons p n ns = by_test (p n)
+  where
+    by_test : (b : Bool) → take (cond (not b) (1 + position_or_len p ns) 0) (n ∷ ns) ≡ if b then [] else n ∷ take (position_or_len p ns) ns
+    by_test true = refl
+    by_test false = search rules
+
+before_others : (n : ℕ) (p : ℕ → Bool) (ns : List ℕ) → AreOthers n ns → AreOthers n (before_first p ns)
+before_others n p [] all = tt
+before_others n p (k ∷ ns) all = subst (AreOthers n) (sym (before_cons p k ns)) (by_test (p k) (before_others n p ns all.1))
+  where
+    by_test : (b : Bool) → AreOthers n (before_first p ns) → AreOthers n (if b then [] else k ∷ before_first p ns)
+    by_test true rest = tt
+    by_test false rest = (all.0, rest)
+
+-- ---- so many men of the first unit are taught, and then those of the rest
+
+first_is_dealt : (had given want places : ℕ) → given ≡ min places want → (had + given) + 0 ≡ had + (min (0 + want) places - min 0 places)
+first_is_dealt had given want places is = grind (arith, is)
+
+rest_is_dealt : (places given first before want : ℕ) → given ≡ min places first →
+    min (before + want) (places - given) - min before (places - given) ≡ min ((first + before) + want) places - min (first + before) places
+rest_is_dealt places given first before want is = grind (arith, is)
+
+module _ (c : CampaignValue) (taught after : Taught) (n given : ℕ) (here : after n ≡ taught n + given) (away : (k : ℕ) → k ≢ n → after k ≡ taught k) where
+  pub same_sum : (ns : List ℕ) → AreOthers n ns → sum_by (untaught c after) ns ≡ sum_by (untaught c taught) ns
+  same_sum [] all = refl
+  same_sum (k ∷ ns) all =
+      sum_by-cons (untaught c after) k ns
+      ∙ ap (λ t. (untaught c (λ _. t) k) + sum_by (untaught c after) ns) (away k (λ is. is_unequal n k all.0 (sym is)))
+      ∙ ap (λ r. untaught c taught k + r) (same_sum ns all.1) ∙ sym (sum_by-cons (untaught c taught) k ns)
+
+  module _ (places : ℕ) (ns : List ℕ) (is : given ≡ min places (untaught c taught n)) (others : AreOthers n ns) where
+    at_first : after n + taught_now c after (places - given) ns n ≡ taught n + taught_now c taught places (n ∷ ns) n
+    at_first =
+        let want = untaught c taught n in
+        ap (λ b. after n + (if b then dealt (places - given) (sum_by (untaught c after) (before_first (λ j. n == j) ns)) (untaught c after n) else 0)) (not_listed n ns others)
+        ∙ ap (λ a. a + 0) here
+        ∙ first_is_dealt (taught n) given want places is
+        ∙ sym (ap (λ ms. taught n + dealt places (sum_by (untaught c taught) ms) want) (before_cons (λ j. n == j) n ns ∙ ap (λ b. if b then [] else n ∷ before_first (λ j. n == j) ns) (equal_itself n)))
+        ∙ sym (ap (λ b. taught n + (if b || list_any (λ j. n == j) ns then dealt places (sum_by (untaught c taught) (before_first (λ j. n == j) (n ∷ ns))) want else 0)) (equal_itself n))
+
+    at_other : (k : ℕ) → k ≢ n → after k + taught_now c after (places - given) ns k ≡ taught k + taught_now c taught places (n ∷ ns) k
+    at_other k apart =
+        let l = list_any (λ j. k == j) ns in
+        let want = untaught c taught k in
+        let before = before_first (λ j. k == j) ns in
+        let sum = sum_by (untaught c taught) before in
+        let first = untaught c taught n in
+        let not_first = other_number k n apart in
+        let sum_more : sum_by (untaught c taught) (before_first (λ j. k == j) (n ∷ ns)) ≡ first + sum =
+        ap (sum_by (untaught c taught)) (before_cons (λ j. k == j) n ns ∙ ap (λ b. if b then [] else n ∷ before) not_first) ∙ sum_by-cons (untaught c taught) n before in
+        ap (λ a. a + (if l then dealt (places - given) (sum_by (untaught c after) before) (untaught c (λ _. a) k) else 0)) (away k apart)
+        ∙ ap (λ s. taught k + (if l then dealt (places - given) s want else 0)) (same_sum before (before_others n (λ j. k == j) ns others))
+        ∙ by_listed l
+        ∙ sym (ap (λ s. taught k + (if l then dealt places s want else 0)) sum_more)
+        ∙ sym (ap (λ b. taught k + (if b || l then dealt places (sum_by (untaught c taught) (before_first (λ j. k == j) (n ∷ ns))) want else 0)) not_first)
+      where
+        by_listed : (b : Bool)
+            → taught k + (if b then dealt (places - given) (sum_by (untaught c taught) (before_first (λ j. k == j) ns)) (untaught c taught k) else 0)
+            ≡ taught k + (if b then dealt places (untaught c taught n + sum_by (untaught c taught) (before_first (λ j. k == j) ns)) (untaught c taught k) else 0)
+        by_listed true = ap (λ d. taught k + d) (rest_is_dealt places given (untaught c taught n) (sum_by (untaught c taught) (before_first (λ j. k == j) ns)) (untaught c taught k) is)
+        by_listed false = refl
+
+    pub rest_taught : (k : ℕ) → after k + taught_now c after (places - given) ns k ≡ taught k + taught_now c taught places (n ∷ ns) k
+    rest_taught k = elim (cases_eq k n) [
+      | inl same ↦ subst (λ j. after j + taught_now c after (places - given) ns j ≡ taught j + taught_now c taught places (n ∷ ns) j) (sym same) at_first
+      | inr apart ↦ at_other k apart
+    ]
+
+-- how many men are taught: those so far, and those of the rest in the places that are left
+pub men_so_far : (places left given want rest total : ℕ) → left ≤ places → given ≡ min left want → (places - left) + min (want + rest) left ≡ total
+    → (places - (left - given)) + min rest (left - given) ≡ total
+men_so_far places left given want rest total few is all = grind (arith, few, is, all)

@@ -1,7 +1,7 @@
 -- What TEACH and STUDY leave to the units of a faction that sent no mailing.
 use Rattle.std.proofs.Common.{◌≡◌, ◌∷◌, [], List, ◌-◌, ◌*◌, ℕ, Some, None, refl, ap, subst, ◌∙◌, arith}
 use Rattle.std.specs.Prelude.{IfSome, fold}
-use Rattle.std.specs.FinMap.{empty, get, values}
+use Rattle.std.specs.FinMap.{get, values}
 use Rattle.atl_tables.specs.Worlds.{WorldValue}
 use Rattle.atl_tables.specs.ByNumber.{fee_of}
 use Rattle.atl_orders.specs.declared.order.Order.TheVariants as orders
@@ -19,7 +19,7 @@ use Rattle.atl_instant.proofs.UnmailedLaws.{HasItsItems, HaveTheirMen, LeavesUnm
 use Rattle.atl_instant.specs.Staying.{IsUnchanged}
 use Rattle.atl_action.specs.Learners.{Learning, is_studying, learners}
 use Rattle.atl_action.specs.Study.{days_after, is_helpful, learn_keeps, learn_meaning, studied, study, study_fault, study_said, study_step, with_study}
-use Rattle.atl_action.specs.Teach.{Taught, is_teaching, listed, taught_out, teach, teach_order}
+use Rattle.atl_action.specs.Teach.{Taught, is_teaching, taught_out, teach, teach_order}
 
 -- ---- TEACH tells its events and changes nothing else of the month
 
@@ -33,7 +33,7 @@ lesson_told : (c : CampaignValue) (learning : Learning) (p : Taught × MonthValu
 lesson_told c learning (taught, m) t = record {
   readings = refl;
   aliases = refl;
-  starved = λ n. told_of_order m.events t (teach c m.aliases learning taught t.faction t.unit (listed t.said)).1 n;
+  starved = λ n. told_of_order m.events t (teach c m.aliases learning taught t).1 n;
 }
 
 lessons_told : (c : CampaignValue) (learning : Learning) (p : Taught × MonthValue) (ts : List Task) → IsTold p.1 (fold (teach_order c learning) p ts).1
@@ -45,7 +45,7 @@ lessons_told c learning p (t ∷ ts) =
 
 pub taught_told : (c : CampaignValue) (learning : Learning) (m : MonthValue) → IsTold m (taught_out c learning m).1
 unfolding taught_out
-taught_told c learning m = lessons_told c learning (empty, m) (values (orders_of is_teaching ByUnit m.aliases m.readings))
+taught_told c learning m = lessons_told c learning ((λ n. 0), m) (values (orders_of is_teaching ByUnit m.aliases m.readings))
 
 -- ---- STUDY
 
@@ -59,7 +59,7 @@ study_men w taught c n s u is =
     (men_put c (studied c n u s cost days) n u (record u { holding = with_study u.holding s cost days }) is (record { faction = refl; men = refl }) refl)
 
 studied_men : (w : WorldValue) (taught : Taught) (c : CampaignValue) (f n : ℕ) (x : Unit) → get c.units n ≡ Some x → (o : Said) → IfSome (study_said w taught n o) (λ deed. OthersHaveMen f c (deed c x).0)
-studied_men w taught c f n x is (orders.Study s) = others_men f c (study w (amount_of taught n) n s c x).0 (study_men w (amount_of taught n) c n s x is)
+studied_men w taught c f n x is (orders.Study s) = others_men f c (study w (taught n) n s c x).0 (study_men w (taught n) c n s x is)
 studied_men w taught c f n x is other = tt
 
 study_spares : (taught : Taught) → SparesMen (study_step taught)

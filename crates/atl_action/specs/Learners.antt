@@ -1,6 +1,7 @@
 -- Who is learning, as the phase begins. See docs/RULES.md, "Learning".
 use Rattle.std.specs.Prelude.{◌≡◌, ◌*◌, ◌==◌, ◌&&◌, ℕ, nat_le, nat_lt, Bool, true, false, List, fold, Option, Some, None, if◌then◌else◌}
 use Rattle.std.specs.List.{Contains}
+use Rattle.std.specs.Option.{option_map_or}
 use Rattle.std.specs.Ordering.{nat_cmp}
 use Rattle.std.specs.FinMap.{FinMap, empty, get, insert}
 use Rattle.atl_tables.specs.ByNumber.{fee_of}
@@ -25,26 +26,22 @@ abbrev pub skill_of : Said → Option ℕ
 skill_of (orders.Study s) = Some s
 skill_of order = None
 
--- people who can pay for it
+-- there are men, and the fee for all of them
 abbrev pub can_learn : WorldValue → (skill : ℕ) → Held → Bool
 can_learn w s h = nat_lt 0 h.men && nat_le (fee_of w s * h.men) h.money
 
--- a unit of the faction that gives the order
+-- a unit that is there, is of the faction that gives the order, and can learn
 abbrev pub learns : WorldValue → (skill faction : ℕ) → Option Unit → Bool
-learns w s f None = false
-learns w s f (Some u) = u.faction == f && can_learn w s u.holding
+learns w s f unit = option_map_or (λ u. u.faction == f && can_learn w s u.holding) unit false
 
 -- the skill that each unit is learning, by the units' numbers
 abbrev pub Learning : Type 0
 Learning = FinMap nat_cmp ℕ
 
-abbrev pub with_skill : WorldValue → CampaignValue → Learning → Task → Option ℕ → Learning
-with_skill w c learning t None = learning
-with_skill w c learning t (Some s) = if learns w s t.faction (get c.units t.unit) then insert learning t.unit s else learning
-
--- what a STUDY order that stands adds
+-- with the unit of a STUDY order that stands, if it learns by it
 abbrev pub with_learner : WorldValue → CampaignValue → Learning → Task → Learning
-with_learner w c learning t = with_skill w c learning t (skill_of t.said)
+with_learner w c learning t =
+    option_map_or (λ s. if learns w s t.faction (get c.units t.unit) then insert learning t.unit s else learning) (skill_of t.said) learning
 
 -- the orders of STUDY that stand
 abbrev pub study_tasks : MonthValue → List Task

@@ -5,6 +5,7 @@ use Rattle.std.specs.Option.{option_map_or}
 use Rattle.std.specs.FinMap.{get}
 use Rattle.atl_tables.specs.Worlds.{WorldValue}
 use Rattle.atl_tables.specs.declared.direction.Direction.{Direction}
+use Rattle.atl_tables.specs.declared.world.Kind.{Kind}
 use Rattle.atl_tables.specs.ByNumber.{is_land_at, neighbour, size_of}
 use Rattle.atl_orders.specs.declared.order.Order.TheVariants as orders
 use Rattle.atl_orders.specs.declared.verb.Verb.{Verb}
@@ -40,35 +41,32 @@ is_sailing verb = false
 
 -- a ship that is done
 abbrev pub is_complete_ship : WorldValue → Option Structure → Bool
-is_complete_ship w None = false
-is_complete_ship w (Some s) = is_ship w s && s.done == size_of w s.kind
+is_complete_ship w structure = option_map_or (λ s. is_ship w s && s.done == size_of w s.kind) structure false
 
--- the crew that its kind needs, and the load that it can take
+-- a number that the world gives the kind of a structure; 0 where there is none
+abbrev pub of_kind : (Kind → ℕ) → WorldValue → Option Structure → ℕ
+of_kind number w structure = option_map_or (λ s. option_map_or number (slice_get w.kinds s.kind) 0) structure 0
+
+-- the crew that a ship needs, and the load that it can take
 abbrev pub crew_needed : WorldValue → Option Structure → ℕ
-crew_needed w None = 0
-crew_needed w (Some s) = option_map_or (λ k. k.crew) (slice_get w.kinds s.kind) 0
+crew_needed = of_kind (λ k. k.crew)
 
 abbrev pub capacity : WorldValue → Option Structure → ℕ
-capacity w None = 0
-capacity w (Some s) = option_map_or (λ k. k.capacity) (slice_get w.kinds s.kind) 0
+capacity = of_kind (λ k. k.capacity)
 
 -- what people are worth as a crew: each man his level in the world's skill of sailing
 abbrev pub crew_of : WorldValue → Held → ℕ
 crew_of w h = h.men * level_in_any h w.rules.sailing
 
-abbrev pub of_unit : (Held → ℕ) → Option Unit → ℕ
-of_unit f u = option_map_or (λ x. f x.holding) u 0
-
 -- the sum over all units inside
 abbrev pub sum_inside : (Held → ℕ) → CampaignValue → (structure : ℕ) → ℕ
-sum_inside f c s = sum_by (λ n. of_unit f (get c.units n)) (numbers_inside s c.units)
+sum_inside f c s = sum_by (λ n. option_map_or (λ u. f u.holding) (get c.units n) 0) (numbers_inside s c.units)
 
 -- ---- SAIL
 
 -- whether ships sail that way: there is a neighbour, and one of both regions is water
-abbrev pub is_way : WorldValue → (from : ℕ) → (to : Option ℕ) → Bool
-is_way w from None = false
-is_way w from (Some to) = is_region w to && not (is_land_at w from && is_land_at w to)
+abbrev pub is_way : WorldValue → (from : ℕ) → (neighbour : Option ℕ) → Bool
+is_way w from neighbour = option_map_or (λ to. is_region w to && not (is_land_at w from && is_land_at w to)) neighbour false
 
 -- why a unit doesn't sail there in what it is inside: NoMen, NotInside, NotOwner, NotComplete, NoWay, NoCrew, TooHeavy
 abbrev pub sail_fault : WorldValue → CampaignValue → (n : ℕ) → Unit → Option Structure → (to : Option ℕ) → Option EventFault

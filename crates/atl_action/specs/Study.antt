@@ -4,6 +4,7 @@ use Rattle.std.specs.List.{slice_get}
 use Rattle.std.specs.Option.{option_map_or}
 use Rattle.std.specs.FinMap.{get}
 use Rattle.atl_tables.specs.Worlds.{WorldValue}
+use Rattle.atl_tables.specs.declared.world.Kind.{Kind}
 use Rattle.atl_tables.specs.Sums.{sum_over}
 use Rattle.atl_tables.specs.ByNumber.{fee_of, size_of}
 use Rattle.atl_orders.specs.declared.order.Order.TheVariants as orders
@@ -31,14 +32,13 @@ use Rattle.atl_instant.specs.Terms.{PhaseTerms, books_money}
 -- ---- days
 
 -- whether a kind of structure helps a skill
-abbrev pub is_skill : (skill : ℕ) → Option ℕ → Bool
-is_skill s None = false
-is_skill s (Some helps) = helps == s
+abbrev pub helps : (skill : ℕ) → Kind → Bool
+helps s kind = option_map_or (λ helped. helped == s) kind.helps false
 
--- a complete structure whose kind helps
+-- a complete structure whose kind helps the skill
 abbrev pub is_helpful : WorldValue → (skill : ℕ) → Option Structure → Bool
-is_helpful w s None = false
-is_helpful w s (Some b) = b.done == size_of w b.kind && option_map_or (λ k. is_skill s k.helps) (slice_get w.kinds b.kind) false
+is_helpful w s structure =
+    option_map_or (λ b. b.done == size_of w b.kind && option_map_or (helps s) (slice_get w.kinds b.kind) false) structure false
 
 -- the days of so many men behind a month of study, of whom so many were taught
 abbrev pub days_after : (men old taught : ℕ) → (helped : Bool) → ℕ
@@ -66,7 +66,7 @@ study w taught n s c u =
     unless c (study_fault u.holding cost) (studied c n u s cost days, Done (days - old))
 
 abbrev pub study_said : WorldValue → Taught → (n : ℕ) → Said → Option Deed
-study_said w taught n (orders.Study s) = Some (study w (amount_of taught n) n s)
+study_said w taught n (orders.Study s) = Some (study w (taught n) n s)
 study_said w taught n other = None
 
 -- where so many were taught

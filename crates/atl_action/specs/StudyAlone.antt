@@ -5,7 +5,6 @@ use Rattle.std.specs.FinMap.{get}
 use Rattle.atl_tables.specs.Worlds.{WorldValue}
 use Rattle.atl_orders.specs.declared.order.Order.TheVariants as orders
 use Rattle.atl_records.specs.declared.records.Unit.{Unit}
-use Rattle.atl_records.specs.Held.{amount_of}
 use Rattle.atl_state.specs.Campaign.{CampaignValue}
 use Rattle.atl_instant.specs.Month.{MonthValue}
 use Rattle.atl_instant.specs.Fit.{AreFit}
@@ -24,7 +23,7 @@ pub record IsOwnStudy (m : MonthValue) (n faction skill : ℕ) : Type 0 where
 
 -- how many men of a unit are taught
 abbrev pub taught_men : WorldValue → CampaignValue → MonthValue → (n : ℕ) → ℕ
-taught_men w c m n = amount_of (taught_out c (learners w c m) m).0 n
+taught_men w c m n = (taught_out c (learners w c m) m).0 n
 
 -- the unit as this order alone makes it
 abbrev pub studied_alone : WorldValue → CampaignValue → MonthValue → (n skill : ℕ) → Unit → Option Unit

@@ -1,9 +1,9 @@
 //! Who is learning, as the phase of TEACH and STUDY begins.
 ghost use Rattle.std.specs.Prelude.{◌≡◌, ◌*◌, IfOk, List, OnOk, ℕ};
 ghost use Rattle.std.specs.FinMap as map;
-ghost use Rattle.atl_orders.specs.Orders.{Said, said};
-ghost use Rattle.atl_instant.specs.Carrying.{found_written, task_of};
-ghost use Rattle.atl_action.specs.Learners.{UnitsLearnByOrders, can_learn, is_studying, learners, learns, skill_of, with_learner, with_skill};
+ghost use Rattle.atl_orders.specs.Orders.{said};
+ghost use Rattle.atl_instant.specs.PhaseOrders.{task_of};
+ghost use Rattle.atl_action.specs.Learners.{UnitsLearnByOrders, can_learn, is_studying, learners, learns, skill_of, with_learner};
 ghost use Rattle.atl_tables.specs.ByNumber.{fee_of};
 
 use atl_instant::{Arrangement, Month, PhaseVerbs, Written};
@@ -58,38 +58,21 @@ fn learns(world: &World, campaign: &Campaign, skill: u16, faction: u32, unit: u3
     }
 }
 
-/// Notes the skill that a unit is ordered to study, if it learns.
-fn add_skill(
+/// Notes who learns by an order of STUDY.
+fn add_learner(
     world: &World,
     campaign: &Campaign,
-    order: Written,
-    skill: Option<u16>,
+    order: Written<'_>,
     learning: &mut Numbered<u32>,
 ) -> Result<(), AllocError>
-    ensures { OnOk result ((what : Said) → learning.new ≡ with_skill world.now campaign.now.value learning.old (task_of order what) skill) }
+    ensures { OnOk result (learning.new ≡ with_learner world.now campaign.now.value learning.old (task_of order.entry)) }
 {
-    if let Some(skill) = skill
+    if let Some(skill) = skill_of(order.order)
         && learns(world, campaign, skill, order.faction, order.unit)
     {
         learning.insert(order.unit, u32::from(skill))?;
     }
     Ok(())
-}
-
-/// Notes who learns by an order of STUDY.
-fn add_learner(
-    world: &World,
-    campaign: &Campaign,
-    month: &Month,
-    order: Written,
-    learning: &mut Numbered<u32>,
-) -> Result<(), AllocError>
-    ensures { OnOk result (learning.new ≡ found_written (with_learner world.now campaign.now.value) month.now.readings learning.old order) }
-{
-    match month.order(order.faction, order.place) {
-        Some((_, what)) => add_skill(world, campaign, order, skill_of(what), learning),
-        None => Ok(()),
-    }
 }
 
 /// The skill that each unit is learning, by the units' numbers.
@@ -104,7 +87,7 @@ pub(crate) fn learners(
     let orders = month.orders(alloc, &StudyVerbs, Arrangement::ByUnit)?;
     let mut learning = Numbered::new(alloc);
     for order in &orders {
-        add_learner(world, campaign, month, *order, &mut learning)?;
+        add_learner(world, campaign, *order, &mut learning)?;
     }
     Ok(learning)
 }

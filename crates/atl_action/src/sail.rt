@@ -1,6 +1,7 @@
 //! SAIL: ships go to a neighbouring region with all that are inside.
 ghost use Rattle.std.specs.Prelude.{◌≡◌, IfOk, OnOk, fold, option_copied};
 ghost use Rattle.std.specs.List.{slice_get};
+ghost use Rattle.std.specs.Option.{option_map_or};
 ghost use Rattle.std.specs.FinMap as map;
 ghost use Rattle.atl_state.specs.Covers.{MarksChanges};
 ghost use Rattle.atl_state.specs.Good.{IsSteady};
@@ -8,13 +9,13 @@ ghost use Rattle.atl_records.specs.Levels.{load_of};
 ghost use Rattle.atl_state.specs.Owners.{is_owned_by};
 ghost use Rattle.atl_state.specs.Campaign.{with_structure_region};
 ghost use Rattle.atl_instant.specs.Steps.{carried};
-ghost use Rattle.atl_action.specs.Sail.{IsCarried, capacity, concerns_nobody, crew_needed, crew_of, is_complete_ship, is_sailing, is_way, of_unit, sail, sail_fault, sail_keeps, sail_step, sail_terms, sailed, sum_inside, taken_along};
+ghost use Rattle.atl_action.specs.Sail.{IsCarried, capacity, concerns_nobody, crew_needed, crew_of, is_complete_ship, is_sailing, is_way, sail, sail_fault, sail_keeps, sail_step, sail_terms, sailed, sum_inside, taken_along};
 
 use crate::ways::is_region;
 use atl_instant::{
     Month, OrderPhase, Phase, PhaseVerbs, Ran, Written, carry_out_orders, failed, own_unit,
 };
-use atl_orders::{Direction, Mailing, Order, Verb};
+use atl_orders::{Direction, Order, Verb};
 use atl_state::{Campaign, EventFault, Holding, Outcome, Structure, Unit, level_in_any, load};
 use atl_tables::{Kind, World};
 use std::alloc::{AllocError, Global};
@@ -88,7 +89,7 @@ fn crew_of(world: &World, holding: &Holding) -> u64
 
 /// What a unit is worth as a crew.
 fn crew_at(world: &World, unit: Option<&Unit>) -> u64
-    ensures { result ≡ of_unit (crew_of world.now) (option_copied unit.entry) }
+    ensures { result ≡ option_map_or (λ u. crew_of world.now u.holding) (option_copied unit.entry) 0 }
 {
     match unit {
         Some(found) => crew_of(world, &found.holding),
@@ -98,7 +99,7 @@ fn crew_at(world: &World, unit: Option<&Unit>) -> u64
 
 /// What a unit weighs.
 fn load_at(world: &World, unit: Option<&Unit>) -> u64
-    ensures { result ≡ of_unit (load_of world.now) (option_copied unit.entry) }
+    ensures { result ≡ option_map_or (λ u. load_of world.now u.holding) (option_copied unit.entry) 0 }
 {
     match unit {
         Some(found) => load(world, &found.holding),
@@ -216,10 +217,10 @@ fn sail(
     alloc: Global,
     world: &World,
     campaign: &mut Campaign,
-    order: Written,
+    order: Written<'_>,
     direction: Direction,
 ) -> Result<Outcome, AllocError>
-    ensures what { IfOk result (λ outcome. (campaign.new.value, outcome) ≡ carried (sail world.now order.unit direction) campaign.old.value order.faction order.unit) }
+    ensures what { IfOk result (λ outcome. (campaign.new.value, outcome) ≡ carried (sail world.now order.entry.unit direction) campaign.old.value order.entry.faction order.entry.unit) }
     ensures marks { OnOk result (MarksChanges campaign.old campaign.new) }
 {
     let Some(unit) = own_unit(campaign, order) else {
@@ -257,11 +258,9 @@ impl OrderPhase for SailPhase {
         world: &World,
         campaign: &mut Campaign,
         _: &Month,
-        order: Written,
-        _: &Mailing,
-        what: &Order,
+        order: Written<'_>,
     ) -> Result<Option<Outcome>, AllocError> {
-        match what {
+        match order.order {
             Order::Sail(direction) => Ok(Some(sail(alloc, world, campaign, order, *direction)?)),
             _ => Ok(None),
         }

@@ -6,6 +6,7 @@ ghost use Rattle.atl_records.specs.declared.books.Entry.TheVariants.{Study};
 ghost use Rattle.atl_records.specs.declared.books.Thing.TheVariants.{Money};
 ghost use Rattle.atl_records.specs.declared.records.Unit.{Unit};
 ghost use Rattle.atl_state.specs.Good.{IsSteady};
+ghost use Rattle.atl_records.specs.Held.{amount_of};
 ghost use Rattle.atl_records.specs.Limits.{men_limit};
 ghost use Rattle.atl_instant.specs.Holdings.{ChangesHolding};
 ghost use Rattle.atl_instant.specs.Meaning.{HaveRoom};
@@ -18,7 +19,7 @@ use crate::learners::cost_of;
 use crate::limits::{HELPED_DAYS, MONTH_DAYS, TAUGHT_DAYS};
 use crate::teach::taught_at;
 use atl_instant::{Month, OrderPhase, PhaseVerbs, Written, book_taken, failed, own_unit};
-use atl_orders::{Mailing, Order, Verb};
+use atl_orders::{Order, Verb};
 use atl_state::{Campaign, Entry, EventFault, Holding, MOST_DAYS, Outcome, Structure, Thing, Unit};
 use atl_tables::{Numbered, World};
 use std::alloc::{AllocError, Global};
@@ -117,12 +118,12 @@ fn study(
     world: &World,
     campaign: &mut Campaign,
     taught: u32,
-    order: Written,
+    order: Written<'_>,
     skill: u16,
 ) -> Result<Outcome, AllocError>
     requires steady { IsSteady world.now campaign.old.value }
     requires room { HaveRoom (study_reserve campaign.old.value) campaign.old.value }
-    ensures what { IfOk result (λ outcome. (campaign.new.value, outcome) ≡ carried (study world.now taught order.unit skill) campaign.old.value order.faction order.unit) }
+    ensures what { IfOk result (λ outcome. (campaign.new.value, outcome) ≡ carried (study world.now taught order.entry.unit skill) campaign.old.value order.entry.faction order.entry.unit) }
     ensures marks { OnOk result (MarksChanges campaign.old campaign.new) }
 {
     let Some(unit) = own_unit(campaign, order) else {
@@ -149,7 +150,7 @@ impl PhaseVerbs for Studying {
 }
 
 impl OrderPhase for Studying {
-    ghost step = { λ s. study_step s.taught };
+    ghost step = { λ s. study_step (amount_of s.taught) };
 
     ghost holds = { IsSteady };
 
@@ -165,11 +166,9 @@ impl OrderPhase for Studying {
         world: &World,
         campaign: &mut Campaign,
         _: &Month,
-        order: Written,
-        _: &Mailing,
-        what: &Order,
+        order: Written<'_>,
     ) -> Result<Option<Outcome>, AllocError> {
-        match what {
+        match order.order {
             Order::Study(skill) => {
                 let taught = taught_at(&self.taught, order.unit);
                 Ok(Some(study(world, campaign, taught, order, *skill)?))

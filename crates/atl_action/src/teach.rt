@@ -1,16 +1,19 @@
 //! TEACH: people teach units that are learning.
-ghost use Rattle.std.specs.Prelude.{◌≡◌, ◌≤◌, ◌+◌, IfOk, List, OnOk, min, sum_by, ℕ};
-ghost use Rattle.std.specs.FinMap as map;
+ghost use Rattle.std.specs.Prelude.{◌≡◌, ◌≤◌, ◌+◌, IfOk, List, OnOk, filter, map, nat_eq, ℕ};
+ghost use Rattle.std.specs.List.{IsDistinct};
 ghost use Rattle.atl_orders.specs.Orders.{said};
 ghost use Rattle.atl_records.specs.Held.{amount_of};
 ghost use Rattle.atl_records.specs.Limits.{men_limit};
-ghost use Rattle.atl_action.specs.Teach.{NobodyIsTaughtTwice, below_of, first_mentions, is_below, is_pupil, is_teaching, lesson, lesson_behind, level_at, listed, pupils_of, taught_out, teach, teach_fault, teach_order, teach_pupils, untaught, with_taught};
-ghost use Rattle.atl_instant.specs.Carrying.{found_written};
+ghost use Rattle.atl_action.specs.Teach.{NobodyIsTaughtTwice, first_mentions, is_below, is_pupil, is_teaching, lesson, level_at, listed, men_at, taught_out, teach, teach_fault, teach_order, untaught};
+ghost use Rattle.atl_instant.specs.Month.{with_events};
+ghost use Rattle.atl_instant.specs.PhaseOrders.{task_of, unit_of};
+ghost use Rattle.atl_instant.specs.Steps.{is_own};
+ghost use Rattle.atl_records.specs.declared.event.Outcome.TheVariants.{Done};
 
 use crate::limits::PLACES_EACH;
-use atl_instant::{Arrangement, Month, PhaseVerbs, Written, failed, region_of};
+use atl_instant::{Arrangement, Month, PhaseVerbs, Written, failed, region_of, tell_all};
 use atl_orders::{Order, UnitRef, Verb};
-use atl_state::{Campaign, EventFault, Outcome, Unit, level};
+use atl_state::{Campaign, Event, EventFault, Outcome, level};
 use atl_tables::Numbered;
 use std::alloc::{AllocError, Global};
 
@@ -62,7 +65,7 @@ fn is_below(campaign: &Campaign, learning: &Numbered<u32>, teacher: u32, unit: u
     }
 }
 
-/// Of some units that a faction names those that are in a region, and are learning.
+/// The units of those that a faction names that are in a region, and are learning.
 fn pupils_of(
     alloc: Global,
     campaign: &Campaign,
@@ -72,7 +75,9 @@ fn pupils_of(
     faction: u32,
     refs: &[UnitRef],
 ) -> Result<Vec<u32>, AllocError>
-    ensures { IfOk result (λ list. list.items ≡ pupils_of campaign.now.value month.now.aliases learning.now region faction refs.now) }
+    ensures { IfOk result (λ list.
+        list.items ≡ filter (is_pupil campaign.now.value learning.now region)
+        (map (unit_of month.now.aliases faction) refs.now)) }
 {
     let mut list = Vec::new(alloc);
     for target in refs {
@@ -84,7 +89,7 @@ fn pupils_of(
     Ok(list)
 }
 
-/// Of some pupils those that the teacher is above.
+/// The pupils that are below a teacher.
 fn below_of(
     alloc: Global,
     campaign: &Campaign,
@@ -92,7 +97,8 @@ fn below_of(
     teacher: u32,
     pupils: &[u32],
 ) -> Result<Vec<u32>, AllocError>
-    ensures { IfOk result (λ list. list.items ≡ below_of campaign.now.value learning.now teacher pupils.now) }
+    ensures { IfOk result (λ list.
+        list.items ≡ filter (is_below campaign.now.value learning.now teacher) pupils.now) }
 {
     let mut list = Vec::new(alloc);
     for unit in pupils {
@@ -103,7 +109,7 @@ fn below_of(
     Ok(list)
 }
 
-/// Each number at its first mention. It takes n log n steps for n mentions.
+/// Each number where it is first listed. It takes n log n steps for n numbers.
 fn first_mentions(alloc: Global, numbers: &[u32]) -> Result<Vec<u32>, AllocError>
     ensures { IfOk result (λ list. list.items ≡ first_mentions numbers.now) }
 {
@@ -128,61 +134,48 @@ pub(crate) fn taught_at(taught: &Numbered<u32>, unit: u32) -> u32
     }
 }
 
-/// How many men of a unit weren't taught yet.
-fn untaught(campaign: &Campaign, taught: &Numbered<u32>, unit: u32) -> u32
-    ensures value { result ≡ untaught campaign.now.value taught.now unit }
+/// The men of a unit, or 0.
+fn men_at(campaign: &Campaign, unit: u32) -> u32
+    ensures value { result ≡ men_at campaign.now.value unit }
     ensures few { result ≤ men_limit }
-    ensures room { amount_of taught.now unit + result ≤ 4294967295 }
 {
-    let old = taught_at(taught, unit);
     match campaign.unit(unit) {
-        Some(found) => found.holding.men().saturating_sub(old),
+        Some(found) => found.holding.men(),
         None => 0,
     }
 }
 
-/// How many men of all these units weren't taught yet.
-fn untaught_of(campaign: &Campaign, taught: &Numbered<u32>, units: &[u32]) -> u128
-    ensures { result ≡ sum_by (untaught campaign.now.value taught.now) units.now }
+/// How many men of a unit weren't taught yet.
+fn untaught(campaign: &Campaign, taught: &Numbered<u32>, unit: u32) -> u32
+    ensures value { result ≡ untaught campaign.now.value (amount_of taught.now) unit }
+    ensures room { amount_of taught.now unit + result ≤ 4294967295 }
 {
-    let mut sum = 0;
-    for unit in units {
-        sum += u128::from(untaught(campaign, taught, *unit));
-    }
-    sum
+    men_at(campaign, unit).saturating_sub(taught_at(taught, unit))
 }
 
-/// How many men of each unit are taught behind a lesson with so many places, which are counted down.
-fn lesson_of(
-    alloc: Global,
+/// Teaches men of these units, each listed once, in so many places, and returns how many men.
+fn teach_men(
     campaign: &Campaign,
-    taught: &Numbered<u32>,
+    taught: &mut Numbered<u32>,
     places: u32,
     units: &[u32],
-) -> Result<Vec<(u32, u32)>, AllocError>
-    ensures { IfOk result (λ list. list.items ≡ lesson_behind campaign.now.value taught.now places 0 units.now) }
+) -> Result<u32, AllocError>
+    requires { IsDistinct nat_eq units.now }
+    ensures { IfOk result (λ men.
+        (amount_of taught.new, Done men)
+        ≡ lesson campaign.now.value (amount_of taught.old) places units.now) }
 {
     let mut left = places;
-    let mut list = Vec::new(alloc);
     for unit in units {
         let given = left.min(untaught(campaign, taught, *unit));
+        let men = taught_at(taught, *unit) + given;
+        taught.insert(*unit, men)?;
         left -= given;
-        list.push((*unit, taught_at(taught, *unit) + given))?;
     }
-    Ok(list)
+    Ok(places - left)
 }
 
-/// Notes how many men of each unit are taught.
-fn note_taught(taught: &mut Numbered<u32>, list: &[(u32, u32)]) -> Result<(), AllocError>
-    ensures { OnOk result (taught.new ≡ with_taught taught.old list.now) }
-{
-    for (unit, men) in list.iter() {
-        taught.insert(*unit, *men)?;
-    }
-    Ok(())
-}
-
-/// Gives a lesson with so many places to units.
+/// Gives a lesson with so many places to units, to each where it is first listed.
 fn give_lesson(
     alloc: Global,
     campaign: &Campaign,
@@ -190,19 +183,37 @@ fn give_lesson(
     places: u32,
     units: &[u32],
 ) -> Result<Outcome, AllocError>
-    ensures { IfOk result (λ outcome. (taught.new, outcome) ≡ lesson campaign.now.value taught.old places units.now) }
+    ensures { IfOk result (λ outcome.
+        (amount_of taught.new, outcome)
+        ≡ lesson campaign.now.value (amount_of taught.old) places (first_mentions units.now)) }
 {
-    let list = lesson_of(alloc, campaign, taught, places, units)?;
-    let men = untaught_of(campaign, taught, units).min(u128::from(places)) as u64;
-    note_taught(taught, &list)?;
-    Ok(Outcome::Done(men))
+    let each = first_mentions(alloc, units)?;
+    let men = teach_men(campaign, taught, places, &each)?;
+    Ok(Outcome::Done(u64::from(men)))
 }
 
-/// Why a unit can't teach.
-fn teach_fault(unit: &Unit, pupils: &[u32], below: &[u32]) -> Option<EventFault>
-    ensures { result ≡ teach_fault unit.now pupils.now below.now }
+/// Whether the unit of an order is there, and of the faction that wrote it.
+fn is_own(campaign: &Campaign, order: Written<'_>) -> bool
+    ensures { result ≡ is_own campaign.now.value (task_of order.entry) }
 {
-    if unit.holding.men() == 0 {
+    match campaign.unit(order.unit) {
+        Some(unit) => unit.faction == order.faction,
+        None => false,
+    }
+}
+
+/// Why the unit of an order can't teach.
+fn teach_fault(
+    campaign: &Campaign,
+    order: Written<'_>,
+    pupils: &[u32],
+    below: &[u32],
+) -> Option<EventFault>
+    ensures { result ≡ teach_fault campaign.now.value (task_of order.entry) pupils.now below.now }
+{
+    if !is_own(campaign, order) {
+        Some(EventFault::NotYours)
+    } else if men_at(campaign, order.unit) == 0 {
         Some(EventFault::NoMen)
     } else if pupils.is_empty() {
         Some(EventFault::NotLearning)
@@ -213,33 +224,7 @@ fn teach_fault(unit: &Unit, pupils: &[u32], below: &[u32]) -> Option<EventFault>
     }
 }
 
-/// A unit teaches some pupils of its region, or nobody where a fault fits.
-fn teach_pupils(
-    alloc: Global,
-    campaign: &Campaign,
-    learning: &Numbered<u32>,
-    taught: &mut Numbered<u32>,
-    teacher: u32,
-    unit: &Unit,
-    pupils: &[u32],
-) -> Result<Outcome, AllocError>
-    ensures { IfOk result (λ outcome. (taught.new, outcome) ≡ teach_pupils campaign.now.value learning.now taught.old teacher unit.now pupils.now) }
-{
-    let below = below_of(alloc, campaign, learning, teacher, pupils)?;
-    if let Some(fault) = teach_fault(unit, pupils, &below) {
-        return Ok(failed(fault));
-    }
-    let units = first_mentions(alloc, &below)?;
-    give_lesson(
-        alloc,
-        campaign,
-        taught,
-        PLACES_EACH * unit.holding.men(),
-        &units,
-    )
-}
-
-/// A unit teaches by an order of a faction, which lists units.
+/// The unit of an order teaches those whom it lists, or nobody where a fault fits.
 #[tactic(auto, unfolding(crate::specs::Teach::teach))]
 fn teach(
     alloc: Global,
@@ -247,54 +232,51 @@ fn teach(
     month: &Month,
     learning: &Numbered<u32>,
     taught: &mut Numbered<u32>,
-    order: Written,
-    refs: &[UnitRef],
+    order: Written<'_>,
 ) -> Result<Outcome, AllocError>
-    ensures { IfOk result (λ outcome. (taught.new, outcome) ≡ teach campaign.now.value month.now.aliases learning.now taught.old order.faction order.unit refs.now) }
+    ensures { IfOk result (λ outcome.
+        (amount_of taught.new, outcome)
+        ≡ teach campaign.now.value month.now.aliases learning.now (amount_of taught.old)
+        (task_of order.entry)) }
 {
-    let unit = match campaign.unit(order.unit) {
-        Some(unit) if unit.faction == order.faction => unit,
-        _ => return Ok(failed(EventFault::NotYours)),
-    };
+    let teacher = order.unit;
+    let region = region_of(campaign, teacher);
+    let refs = listed(order.order);
     let pupils = pupils_of(
         alloc,
         campaign,
         month,
         learning,
-        unit.region,
+        region,
         order.faction,
         refs,
     )?;
-    teach_pupils(alloc, campaign, learning, taught, order.unit, unit, &pupils)
+    let below = below_of(alloc, campaign, learning, teacher, &pupils)?;
+    if let Some(fault) = teach_fault(campaign, order, &pupils, &below) {
+        return Ok(failed(fault));
+    }
+    let places = PLACES_EACH * men_at(campaign, teacher);
+    give_lesson(alloc, campaign, taught, places, &below)
 }
 
-/// Carries out an order of TEACH, and tells of it.
+/// Carries out an order of TEACH, and puts what came of it behind other events.
 fn teach_one(
     alloc: Global,
     campaign: &Campaign,
-    month: &mut Month,
+    month: &Month,
     learning: &Numbered<u32>,
     taught: &mut Numbered<u32>,
-    order: Written,
+    order: Written<'_>,
+    events: &mut Vec<Event>,
 ) -> Result<(), AllocError>
-    ensures { OnOk result ((taught.new, month.new) ≡ found_written (teach_order campaign.now.value learning.now) month.old.readings (taught.old, month.old) order) }
+    ensures { OnOk result (
+        (amount_of taught.new, with_events month.now events.new.items)
+        ≡ teach_order campaign.now.value learning.now
+        (amount_of taught.old, with_events month.now events.old.items) (task_of order.entry)) }
 {
-    let (verb, outcome) = match month.order(order.faction, order.place) {
-        Some((_, what)) => (
-            what.verb(),
-            teach(
-                alloc,
-                campaign,
-                month,
-                learning,
-                taught,
-                order,
-                listed(what),
-            )?,
-        ),
-        None => return Ok(()),
-    };
-    month.tell(order.event(verb, outcome))
+    let outcome = teach(alloc, campaign, month, learning, taught, order)?;
+    events.push(order.event(outcome))?;
+    Ok(())
 }
 
 /// Carries out all orders of TEACH, and tells of each. The answer is how many men of each unit were taught.
@@ -304,15 +286,27 @@ pub(crate) fn teach_all(
     month: &mut Month,
     learning: &Numbered<u32>,
 ) -> Result<Numbered<u32>, AllocError>
-    ensures meaning { IfOk result (λ taught. (taught, month.new) ≡ taught_out campaign.now.value learning.now month.old) }
+    ensures meaning { IfOk result (λ taught.
+        (amount_of taught, month.new) ≡ taught_out campaign.now.value learning.now month.old) }
     ensures readings { OnOk result (month.new.readings ≡ month.old.readings) }
     ensures aliases { OnOk result (month.new.aliases ≡ month.old.aliases) }
 {
     let orders = month.orders(alloc, &TeachVerbs, Arrangement::ByUnit)?;
     let mut taught = Numbered::new(alloc);
+    let mut events = Vec::new(alloc);
     for order in &orders {
-        teach_one(alloc, campaign, month, learning, &mut taught, *order)?;
+        teach_one(
+            alloc,
+            campaign,
+            month,
+            learning,
+            &mut taught,
+            *order,
+            &mut events,
+        )?;
     }
+    drop(orders);
+    tell_all(month, &events)?;
     Ok(taught)
 }
 

@@ -6,7 +6,7 @@ ghost use Rattle.atl_instant.specs.Steps.{carried};
 ghost use Rattle.atl_action.specs.Walk.{is_land_there, is_walking, walk, walk_fault, walk_step, walked};
 
 use atl_instant::{Month, OrderPhase, PhaseVerbs, PlainPhase, Written, failed, own_unit};
-use atl_orders::{Direction, Mailing, Order, Verb};
+use atl_orders::{Direction, Order, Verb};
 use atl_state::{Campaign, EventFault, Outcome, Unit, carry, goods};
 use atl_tables::World;
 use std::alloc::{AllocError, Global};
@@ -57,10 +57,10 @@ fn put_there(campaign: &mut Campaign, unit: u32, to: u32) -> Result<(), AllocErr
 fn walk(
     world: &World,
     campaign: &mut Campaign,
-    order: Written,
+    order: Written<'_>,
     direction: Direction,
 ) -> Result<Outcome, AllocError>
-    ensures what { IfOk result (λ outcome. (campaign.new.value, outcome) ≡ carried (walk world.now order.unit direction) campaign.old.value order.faction order.unit) }
+    ensures what { IfOk result (λ outcome. (campaign.new.value, outcome) ≡ carried (walk world.now order.entry.unit direction) campaign.old.value order.entry.faction order.entry.unit) }
     ensures marks { OnOk result (MarksChanges campaign.old campaign.new) }
 {
     let Some(unit) = own_unit(campaign, order) else {
@@ -93,11 +93,9 @@ impl OrderPhase for MovePhase {
         world: &World,
         campaign: &mut Campaign,
         _: &Month,
-        order: Written,
-        _: &Mailing,
-        what: &Order,
+        order: Written<'_>,
     ) -> Result<Option<Outcome>, AllocError> {
-        match what {
+        match order.order {
             Order::Move(direction) => Ok(Some(walk(world, campaign, order, *direction)?)),
             _ => Ok(None),
         }

@@ -1,13 +1,10 @@
 -- FORM leaves a campaign well, and each unit as it is.
-use Rattle.std.proofs.Common.{◌≡◌, ℕ, ◌≤◌, Bool, true, false, not, [], ◌∷◌, Option, Some, None, map, refl, sym, ap, subst, ◌∙◌, arith}
+use Rattle.std.proofs.Common.{◌≡◌, ℕ, ◌≤◌, Bool, true, false, not, List, [], ◌∷◌, Option, Some, None, map, refl, sym, ap, subst, ◌∙◌, arith}
 use Rattle.std.specs.Prelude.{fold}
 use Rattle.std.specs.Option.{option_map_or}
-use Rattle.std.specs.Ordering.{nat_cmp}
-use Rattle.std.specs.FinMap.{FinMap, get, values}
+use Rattle.std.specs.FinMap.{get, values}
 use Rattle.atl_tables.specs.Worlds.{WorldValue}
 use Rattle.atl_tables.proofs.GeneralLaws.{is_equal}
-use Rattle.atl_orders.specs.Mailing.{Reading}
-use Rattle.atl_orders.specs.Orders.{Said}
 use Rattle.atl_records.specs.declared.event.EventFault.TheVariants.{NotYours, UnitLimit}
 use Rattle.atl_records.specs.declared.event.Outcome.TheVariants.{Done}
 use Rattle.atl_records.specs.declared.records.Unit.{Unit}
@@ -15,19 +12,18 @@ use Rattle.atl_records.specs.Every.{Every}
 use Rattle.atl_state.specs.Good.{IsEarly}
 use Rattle.atl_records.specs.Limits.{last_unit}
 use Rattle.atl_state.specs.Campaign.{CampaignValue, with_unit_begun}
-use Rattle.atl_instant.specs.Month.{MonthValue, order_at}
+use Rattle.atl_instant.specs.Month.{MonthValue}
 use Rattle.atl_instant.specs.Form.{form_by, form_fault, form_meaning, form_order, formed, is_forming, is_unit_limit, new_unit}
+use Rattle.atl_instant.specs.Forming.{form_apart, forming_of}
 use Rattle.atl_instant.specs.Inside.{inside, region_of}
 use Rattle.atl_instant.specs.Outcomes.{first_fault, unless}
-use Rattle.atl_instant.specs.PhaseOrders.{orders_of, written}
+use Rattle.atl_instant.specs.PhaseOrders.{Task, orders_of}
 use Rattle.atl_instant.specs.Steps.{StepsWell, is_of_faction}
 use Rattle.atl_instant.specs.Unbooked.{books_nothing}
 use Rattle.atl_instant.specs.declared.written.Arrangement.TheVariants.{ByFaction}
-use Rattle.atl_instant.specs.declared.written.Written.{Written}
+use Rattle.atl_instant.specs.declared.form.Forming.{Forming}
 use Rattle.atl_instant.proofs.FormingLaws.{begun_stays, begun_well, room}
 use Rattle.atl_instant.proofs.StepLaws.{well_same}
-use Rattle.atl_instant.specs.Carrying.{found_said, found_written}
-use Rattle.atl_instant.proofs.FoundOrderLaws.{found_all, found_stays}
 
 some_none : {X P : Type 0} (x : X) → Some x ≡ None → P
 some_none x e = cc
@@ -75,22 +71,19 @@ module _ (w : WorldValue) (c : CampaignValue) (early : IsEarly w c) where
     form_fine : Fine (form_by c f n).0
     form_fine = by_unit (get c.units n) refl
 
-  said_fine : (m : MonthValue) (o : Written) (s : Option Said) → Fine 0 0 (found_said form_order (c, m) o s).0
-  said_fine m o None = same_fine 0 0
-  said_fine m o (Some s) = form_fine o.faction o.unit
+  -- an order leaves a campaign well, and each unit as it is
+  pub order_well : (m : MonthValue) (o : Forming) → StepsWell IsEarly books_nothing w c (form_apart (c, m) o).0
+  order_well m o = (form_fine o.faction o.unit).0
 
-  -- an order of the code leaves a campaign well, and each unit as it is
-  pub written_well : (m : MonthValue) (o : Written) → StepsWell IsEarly books_nothing w c (found_written form_order m.readings (c, m) o).0
-  written_well m o = (said_fine m o (order_at m.readings o.faction o.place)).0
+  pub order_stays : (m : MonthValue) (o : Forming) → Every (λ k v. get (form_apart (c, m) o).0.units k ≡ Some v) c.units
+  order_stays m o = (form_fine o.faction o.unit).1
 
-  pub written_stays : (m : MonthValue) (o : Written) → Every (λ k v. get (found_written form_order m.readings (c, m) o).0.units k ≡ Some v) c.units
-  written_stays m o = (said_fine m o (order_at m.readings o.faction o.place)).1
+-- ---- orders apart from the month
 
--- ---- what the code finds is what is written
+pub formed_apart : (p : CampaignValue × MonthValue) (ts : List Task) → fold form_apart p (map forming_of ts) ≡ fold form_order p ts
+formed_apart p [] = refl
+formed_apart p (t ∷ ts) = formed_apart (form_order p t) ts
 
-pub written_readings : (readings : FinMap nat_cmp Reading) (p : CampaignValue × MonthValue) (o : Written) → (found_written form_order readings p o).1.readings ≡ p.1.readings
-written_readings = found_stays form_order (λ (p : CampaignValue × MonthValue). p.1.readings) (λ p t. refl)
-
-pub written_out : (w : WorldValue) (c : CampaignValue) (m : MonthValue) → fold (found_written form_order m.readings) (c, m) (map written (values (orders_of is_forming ByFaction m.aliases m.readings))) ≡ form_meaning w c m
+pub all_formed : (w : WorldValue) (c : CampaignValue) (m : MonthValue) → fold form_apart (c, m) (map forming_of (values (orders_of is_forming ByFaction m.aliases m.readings))) ≡ form_meaning w c m
 unfolding form_meaning
-written_out w c m = found_all form_order m.aliases m.readings is_forming ByFaction (c, m)
+all_formed w c m = formed_apart (c, m) (values (orders_of is_forming ByFaction m.aliases m.readings))

@@ -3,9 +3,10 @@ pub mod MonthLaws
 pub mod StandingLaws
 pub mod MappedLaws
 pub mod OrderLaws
+pub mod PickedLaws
+pub mod GatheringLaws
 pub mod WrittenLaws
 pub mod StandOnceLaws
-pub mod FoundOrderLaws
 pub mod FoldLaws
 pub mod MeaningLaws
 pub mod RoomLaws

@@ -1,5 +1,5 @@
 -- Lists of entries in another order, and the maps that they make.
-use Rattle.std.proofs.Common.{◌≡◌, ℕ, ◌+◌, ◌<◌, cond, ◌&&◌, Bool, true, false, T, List, [], ◌∷◌, map, length, get_or, Option, Some, None, refl, sym, ap, subst, ◌∙◌, Contains, slice_get, IsPermutation, arith}
+use Rattle.std.proofs.Common.{◌≡◌, ℕ, ◌+◌, ◌<◌, cond, ◌&&◌, Bool, true, false, T, List, [], ◌∷◌, map, filter, length, get_or, Option, Some, None, refl, sym, ap, subst, ◌∙◌, Contains, slice_get, IsPermutation, arith}
 use Rattle.std.specs.declared.cmp.Ordering.{Ordering}
 use Rattle.std.specs.declared.cmp.Ordering.TheVariants.{Less, Equal, Greater}
 use Rattle.std.specs.Ordering.{eq_by_cmp, is_eq, is_lt, ordering_reverse}
@@ -7,11 +7,11 @@ use Rattle.std.specs.Cmp.{IsTotalOrder, eq_by_cmp_equiv, Equal-is}
 use Rattle.std.specs.Map.{lookup, keys_of}
 use Rattle.std.specs.List.{IsDistinct, AllByRecursion}
 use Rattle.std.specs.List.Sorted.{IsSortedBy, IsSortedByKey, IsStrictlySortedBy}
-use Rattle.std.specs.FinMap.{find, entries, is_sorted, from_entries, from_sorted, get-from_entries, get-from_sorted, entries-from_sorted, same_map, IsAntisymmetric}
+use Rattle.std.specs.FinMap.{FinMap, find, entries, entries_sorted, is_sorted, from_entries, from_sorted, get-entries, get-from_entries, get-from_sorted, entries-from_sorted, same_map, IsAntisymmetric}
 use Rattle.std.specs.FinMap.Entries.{below_all}
-use Rattle.std.proofs.lemmas.Bool.{false≢true}
-use Rattle.std.proofs.lemmas.Map.Entries.{length-keys_of, place_from_lookup, lookup_from_place}
-use Rattle.std.proofs.lemmas.Map.Keys.{IsDistinct-IsPermutation, apart_from_distinct, sorted_from_all_adjacent, sorted_head, sorted_tail}
+use Rattle.std.proofs.lemmas.Bool.{and_parts, false≢true}
+use Rattle.std.proofs.lemmas.Map.Entries.{length-keys_of, lookup-filter-values, option_filter, place_from_lookup, lookup_from_place}
+use Rattle.std.proofs.lemmas.Map.Keys.{IsDistinct-IsPermutation, IsDistinct-from_sorted, apart_from_distinct, sorted_from_all_adjacent, sorted_head, sorted_tail}
 use Rattle.std.proofs.lemmas.List.{get_or-map, length-map}
 use Rattle.std.proofs.lemmas.List.Sorted.{IsPermutation-map, IsPermutation-sym, Contains-permutation}
 use Rattle.std.proofs.lemmas.Option.{get_or_from_slice_get, slice_get-get_or, slice_get_within}
@@ -34,6 +34,15 @@ module _ {X : Type 0} where
 
 is_true : (b : Bool) → b ≡ true → T b
 is_true b h = subst T (sym h) tt
+
+is_so : (b : Bool) → T b → b ≡ true
+is_so true h = refl
+is_so false h = absurd h
+
+less : (r : Ordering) → is_lt r ≡ true → r ≡ Less
+less Less h = refl
+less Equal h = absurd (false≢true h)
+less Greater h = absurd (false≢true h)
 
 module _ {K : Type 0} {R : K → K → Ordering} (o : IsTotalOrder R) where
   below : (x y : K) → is_lt (R y x) ≡ false → eq_by_cmp R x y ≡ false → R x y ≡ Less
@@ -94,6 +103,58 @@ module _ {K X : Type 0} {R : K → K → Ordering} (o : IsTotalOrder R) (exact :
       let ordered = is_true _ (in_order fs (strictly fs (moved es fs p apart) up)) in
       sym (entries-from_sorted R fs ordered) ∙ ap entries (same_map o exact (from_sorted fs) (from_entries es) (λ q.
       get-from_sorted R fs q ordered ∙ sym (find-permutation es fs p apart q) ∙ sym (get-from_entries o es q)))
+
+  all_less : (x : K) (es : List (K × X)) → below_all R x es ≡ true → AllByRecursion (λ y. R x y ≡ Less) (keys_of es)
+  all_less x [] h = tt
+  all_less x (e ∷ es) h = let parts = and_parts _ _ h in (less _ parts.0, all_less x es parts.1)
+
+  rising : (es : List (K × X)) → is_sorted R es ≡ true → IsStrictlySortedBy R (keys_of es)
+  unfolding IsStrictlySortedBy
+  rising [] h = tt
+  rising (e ∷ es) h = let parts = and_parts _ _ h in (all_less e.0 es parts.0, rising es parts.1)
+
+  -- ---- the entries whose values pass a test
+
+  module _ (p : X → Bool) where
+    abbrev passing : List (K × X) → List (K × X)
+    passing es = filter (λ e. p e.1) es
+
+    below-passing : (x : K) (es : List (K × X)) → below_all R x es ≡ true → below_all R x (passing es) ≡ true
+    below-passing x [] h = refl
+    below-passing x (e ∷ es) h =
+        let parts = and_parts _ _ h in
+        let rest = below-passing x es parts.1 in
+        elim (p e.1) as (λ b. below_all R x (cond b (e ∷ passing es) (passing es)) ≡ true) [
+          | true ↦ λ i. parts.0 i && rest i
+          | false ↦ rest
+        ]
+
+    sorted-passing : (es : List (K × X)) → is_sorted R es ≡ true → is_sorted R (passing es) ≡ true
+    sorted-passing [] h = refl
+    sorted-passing (e ∷ es) h =
+        let parts = and_parts _ _ h in
+        let first = below-passing e.0 es parts.0 in
+        let rest = sorted-passing es parts.1 in
+        elim (p e.1) as (λ b. is_sorted R (cond b (e ∷ passing es) (passing es)) ≡ true) [
+          | true ↦ λ i. first i && rest i
+          | false ↦ rest
+        ]
+
+    find-passing : (es : List (K × X)) → IsDistinct (eq_by_cmp R) (keys_of es) → (q : K) → find R q (passing es) ≡ option_filter p (find R q es)
+    find-passing es apart q = find_is q (passing es) ∙ lookup-filter-values (eq_by_cmp_equiv o) p q es apart ∙ ap (option_filter p) (sym (find_is q es))
+
+    -- are what the map lists of those that pass
+    pub entries-passing : (es : List (K × X)) → IsDistinct (eq_by_cmp R) (keys_of es) → entries (from_entries {R = R} (passing es)) ≡ passing (entries (from_entries {R = R} es))
+    entries-passing es apart =
+        let m : FinMap R X = from_entries es in
+        let fs = entries m in
+        let up = is_so _ (entries_sorted m) in
+        let ordered = is_true _ (sorted-passing fs up) in
+        let found : (q : K) → find R q fs ≡ find R q es = λ q. sym (get-entries m q) ∙ get-from_entries o es q in
+        ap entries (same_map o exact (from_entries (passing es)) (from_sorted (passing fs)) (λ q.
+        get-from_entries o (passing es) q ∙ find-passing es apart q ∙ ap (option_filter p) (sym (found q))
+        ∙ sym (find-passing fs (IsDistinct-from_sorted R (keys_of fs) (rising fs up)) q) ∙ sym (get-from_sorted R (passing fs) q ordered)))
+        ∙ entries-from_sorted R (passing fs) ordered
 
 -- elements in the order of their keys, each behind its key
 module _ {K X : Type 0} (R : K → K → Ordering) (key : X → K) where

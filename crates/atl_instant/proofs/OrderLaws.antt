@@ -1,4 +1,4 @@
--- The orders of a phase: no two have one key, and those that are collected and sorted are what the map lists.
+-- Orders: no two have one key, and those that are collected and sorted are what the map lists.
 use Rattle.std.proofs.Common.{◌≡◌, ℕ, ◌+◌, ◌<◌, ◌≤◌, Bool, true, false, cond, List, [], ◌∷◌, map, filter, get_or, refl, sym, ap, subst, ◌∙◌, arith, IsPermutation, flat_map}
 use Rattle.std.specs.declared.cmp.Ordering.TheVariants.{Less}
 use Rattle.std.specs.Ordering.{nat_cmp, eq_by_cmp}
@@ -10,20 +10,20 @@ use Rattle.std.specs.List.Sorted.{IsSortedByKey, IsStrictlySortedBy}
 use Rattle.std.specs.FinMap.{entries, values, from_entries, slice_cmp-IsAntisymmetric, nat_cmp-IsAntisymmetric}
 use Rattle.std.proofs.lemmas.Map.Keys.{sorted_head, sorted_tail}
 use Rattle.std.proofs.lemmas.List.Folds.{flat_map-map}
-use Rattle.std.proofs.lemmas.List.Sorted.{IsPermutation-map}
+use Rattle.std.proofs.lemmas.List.Sorted.{All-permutation, IsPermutation-map}
 use Rattle.atl_orders.specs.declared.mailing.Mailing.{Mailing}
 use Rattle.atl_orders.specs.declared.verb.Verb.{Verb}
 use Rattle.atl_orders.specs.Mailing.{EntrySaid, Reading, reading_of}
 use Rattle.atl_tables.proofs.Maps.{entries_of}
 use Rattle.atl_state.proofs.KeyLaws.{IsDistinct-map}
 use Rattle.atl_state.proofs.BackLaws.{append_apart, append_each}
+use Rattle.atl_instant.specs.declared.gathering.Placed.{Placed}
 use Rattle.atl_instant.specs.declared.written.Arrangement.{Arrangement}
 use Rattle.atl_instant.specs.declared.written.Arrangement.TheVariants.{ByUnit, ByFaction}
 use Rattle.atl_instant.specs.declared.written.Written.{Written}
 use Rattle.atl_instant.specs.Month.{Aliases, by_faction}
-use Rattle.atl_instant.specs.PhaseOrders.{Task, tasks_from, tasks_of, tasks_for, key_of, orders_of}
-use Rattle.atl_instant.specs.Collecting.{AreByFaction, all_tasks, key_by}
-use Rattle.atl_instant.specs.PhaseOrders.{written}
+use Rattle.atl_instant.specs.PhaseOrders.{Task, task_of, tasks_from, tasks_of, tasks_for, key_of, orders_of}
+use Rattle.atl_instant.specs.Collecting.{AreByFaction, AreCollected, AreGathered, IsThere, all_tasks, every_verb, key_by, task_at}
 use Rattle.atl_instant.proofs.ListedLaws.{entries-sorted, keyed_order}
 use Rattle.atl_instant.proofs.MappedLaws.{with_value, entries-with_value}
 use Rattle.atl_instant.proofs.MonthLaws.{by_its_faction, factions_read, keys_of-factions}
@@ -130,31 +130,45 @@ module _ (aliases : Aliases) (a : Arrangement) where
 
 -- ---- as they are collected, and as the map lists them
 
-abbrev keyed : Arrangement → Written → List ℕ × Written
-keyed a w = (key_by a w, w)
+module _ {X : Type 0} (as_task : X → Task) where
+  values-tasks : (es : List (List ℕ × X)) → map (λ e. e.1) (map (with_value (slice_cmp nat_cmp) as_task) es) ≡ map as_task (map (λ e. e.1) es)
+  values-tasks [] = refl
+  values-tasks (e ∷ es) = ap (λ ts. as_task e.1 ∷ ts) (values-tasks es)
 
-abbrev paired : Arrangement → Task → List ℕ × Task
-paired a t = (key_of a t, t)
+  module _ (key : Task → List ℕ) where
+    abbrev keyed : X → List ℕ × X
+    keyed o = (key (as_task o), o)
 
-key-written : (a : Arrangement) (t : Task) → key_by a (written t) ≡ key_of a t
-key-written ByUnit t = refl
-key-written ByFaction t = refl
+    abbrev paired : Task → List ℕ × Task
+    paired t = (key t, t)
 
-keys-written : (a : Arrangement) (ts : List Task) → keys_of (map (keyed a) (map written ts)) ≡ map (key_of a) ts
-keys-written a [] = refl
-keys-written a (t ∷ ts) = λ i. key-written a t i ∷ keys-written a ts i
+    keys-keyed : (os : List X) → keys_of (map keyed os) ≡ map key (map as_task os)
+    keys-keyed [] = refl
+    keys-keyed (o ∷ os) = ap (λ ks. key (as_task o) ∷ ks) (keys-keyed os)
 
-pairs-written : (a : Arrangement) (ts : List Task) → map (keyed a) (map written ts) ≡ map (with_value (slice_cmp nat_cmp) written) (map (paired a) ts)
-pairs-written a [] = refl
-pairs-written a (t ∷ ts) = λ i. (key-written a t i, written t) ∷ pairs-written a ts i
+    pairs-keyed : (os : List X) → map (with_value (slice_cmp nat_cmp) as_task) (map keyed os) ≡ map paired (map as_task os)
+    pairs-keyed [] = refl
+    pairs-keyed (o ∷ os) = ap (λ es. paired (as_task o) ∷ es) (pairs-keyed os)
 
-unkeyed : (a : Arrangement) (ws : List Written) → map (λ e. e.1) (map (keyed a) ws) ≡ ws
-unkeyed a [] = refl
-unkeyed a (w ∷ ws) = ap (λ vs. w ∷ vs) (unkeyed a ws)
+    unkeyed : (os : List X) → map (λ e. e.1) (map keyed os) ≡ os
+    unkeyed [] = refl
+    unkeyed (o ∷ os) = ap (λ ps. o ∷ ps) (unkeyed os)
 
-values-written : (es : List (List ℕ × Task)) → map (λ e. e.1) (map (with_value (slice_cmp nat_cmp) written) es) ≡ map written (map (λ e. e.1) es)
-values-written [] = refl
-values-written (e ∷ es) = ap (λ ws. written e.1 ∷ ws) (values-written es)
+    -- orders in the order of their keys, of which no two are one, are what the map of them lists
+    listed : (os list : List X) (ts : List Task) → map as_task os ≡ ts → IsDistinct (λ t u. eq_by_cmp (slice_cmp nat_cmp) (key t) (key u)) ts → IsPermutation os list
+        → IsSortedByKey (λ o. key (as_task o)) (slice_cmp nat_cmp) list → map as_task list ≡ values (from_entries {R = slice_cmp nat_cmp} (map paired ts))
+    listed os list ts are apart p up =
+        let keys : keys_of (map keyed os) ≡ map key ts = keys-keyed os ∙ ap (map key) are in
+        let differ = subst (IsDistinct (eq_by_cmp (slice_cmp nat_cmp))) (sym keys) (IsDistinct-map key (eq_by_cmp (slice_cmp nat_cmp)) ts apart) in
+        let sorted = entries-sorted nat_list_cmp_total (slice_cmp-IsAntisymmetric nat_cmp-IsAntisymmetric) (map keyed os) (map keyed list) (IsPermutation-map keyed os list p) differ (keyed_order (slice_cmp nat_cmp) (λ o. key (as_task o)) list up) in
+        ap (map as_task) (sym (unkeyed list) ∙ ap (map (λ e. e.1)) sorted)
+        ∙ sym (values-tasks (entries (from_entries (map keyed os))))
+        ∙ ap (map (λ e. e.1)) (sym (entries-with_value (slice_cmp nat_cmp) as_task nat_list_cmp_total (map keyed os)))
+        ∙ ap (λ es. values (from_entries {R = slice_cmp nat_cmp} es)) (pairs-keyed os ∙ ap (map paired) are)
+
+pub listed_tasks : (key : Task → List ℕ) (os list : List Written) (ts : List Task) → map task_of os ≡ ts → IsDistinct (λ t u. eq_by_cmp (slice_cmp nat_cmp) (key t) (key u)) ts → IsPermutation os list
+    → IsSortedByKey (λ o. key (task_of o)) (slice_cmp nat_cmp) list → map task_of list ≡ values (from_entries {R = slice_cmp nat_cmp} (map (λ t. (key t, t)) ts))
+listed_tasks = listed task_of
 
 module _ (is_of : Verb → Bool) (a : Arrangement) (aliases : Aliases) where
   tasks_of_all : (rs : List Reading) → IsStrictlySortedBy nat_cmp (map (λ r. r.faction) rs) → flat_map (λ e. tasks_for is_of (tasks_of aliases e.0 e.1)) (entries (by_faction rs)) ≡ all_tasks is_of aliases rs
@@ -162,15 +176,22 @@ module _ (is_of : Verb → Bool) (a : Arrangement) (aliases : Aliases) where
       ap (flat_map (λ e. tasks_for is_of (tasks_of aliases e.0 e.1))) (entries_of (map by_its_faction rs) (subst (IsStrictlySortedBy nat_cmp) (sym (keys_of-factions rs)) h))
       ∙ flat_map-map (λ e. tasks_for is_of (tasks_of aliases e.0 e.1)) by_its_faction rs
 
-  pub sorted_orders : (ms : List Mailing) (list : List Written) → AreByFaction ms → IsPermutation (map written (all_tasks is_of aliases (map reading_of ms))) list → IsSortedByKey (key_by a) (slice_cmp nat_cmp) list →
-      list ≡ map written (values (orders_of is_of a aliases (by_faction (map reading_of ms))))
-  sorted_orders ms list h p up =
-      let rs = map reading_of ms in
-      let ts = all_tasks is_of aliases rs in
-      let rise = subst (IsStrictlySortedBy nat_cmp) (sym (factions_read ms)) h in
-      let apart = subst (IsDistinct (eq_by_cmp (slice_cmp nat_cmp))) (sym (keys-written a ts)) (IsDistinct-map (key_of a) (eq_by_cmp (slice_cmp nat_cmp)) ts (all_apart aliases a is_of rs rise)) in
-      let listed = entries-sorted nat_list_cmp_total (slice_cmp-IsAntisymmetric nat_cmp-IsAntisymmetric) (map (keyed a) (map written ts)) (map (keyed a) list) (IsPermutation-map (keyed a) (map written ts) list p) apart (keyed_order (slice_cmp nat_cmp) (key_by a) list up) in
-      sym (unkeyed a list)
-      ∙ ap (map (λ e. e.1)) (listed ∙ ap (λ es. entries (from_entries {R = slice_cmp nat_cmp} es)) (pairs-written a ts) ∙ entries-with_value (slice_cmp nat_cmp) written nat_list_cmp_total (map (paired a) ts))
-      ∙ values-written (entries (from_entries (map (paired a) ts)))
-      ∙ ap (λ us. map written (values (from_entries {R = slice_cmp nat_cmp} (map (paired a) us)))) (sym (tasks_of_all rs rise))
+  -- the map of them, from readings that are sorted
+  pub orders_are : (rs : List Reading) → IsStrictlySortedBy nat_cmp (map (λ r. r.faction) rs) → values (orders_of is_of a aliases (by_faction rs)) ≡ values (from_entries {R = slice_cmp nat_cmp} (map (λ t. (key_of a t, t)) (all_tasks is_of aliases rs)))
+  orders_are rs h = ap (λ us. values (from_entries {R = slice_cmp nat_cmp} (map (λ t. (key_of a t, t)) us))) (tasks_of_all rs h)
+
+-- ---- the places of all orders
+
+by_key : (a : Arrangement) (ms : List Mailing) (list : List Placed) → IsSortedByKey (key_by a) (slice_cmp nat_cmp) list → IsSortedByKey (λ p. key_of a (task_at ms p)) (slice_cmp nat_cmp) list
+by_key ByUnit ms list up = up
+by_key ByFaction ms list up = up
+
+pub sorted_places : (a : Arrangement) (aliases : Aliases) (ms : List Mailing) (os list : List Placed) → AreByFaction ms → AreCollected aliases ms os → IsPermutation os list → IsSortedByKey (key_by a) (slice_cmp nat_cmp) list
+    → AreGathered a aliases ms list
+sorted_places a aliases ms os list h are p up =
+    let rs = map reading_of ms in
+    let rise = subst (IsStrictlySortedBy nat_cmp) (sym (factions_read ms)) h in
+    record {
+      there = All-permutation (IsThere ms) os list p are.there;
+      tasks = listed (task_at ms) (key_of a) os list (all_tasks every_verb aliases rs) are.tasks (all_apart aliases a every_verb rs rise) p (by_key a ms list up) ∙ sym (orders_are every_verb a aliases rs rise);
+    }

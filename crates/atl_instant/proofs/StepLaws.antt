@@ -1,7 +1,7 @@
 -- What a phase leaves that carries its orders out one by one.
-use Rattle.std.proofs.Common.{suc, zero, ◌≡◌, ◌==◌, ◌+◌, ℕ, ◌≤◌, Bool, true, false, List, [], ◌∷◌, Option, Some, None, map, refl, sym, ap, subst, ◌∙◌, arith}
+use Rattle.std.proofs.Common.{suc, zero, ◌≡◌, ◌==◌, ◌+◌, ℕ, ◌≤◌, Bool, true, false, List, [], ◌∷◌, Option, Some, None, refl, sym, ap, subst, ◌∙◌, arith}
 use Rattle.std.proofs.lemmas.Option.{same_Some}
-use Rattle.std.specs.Prelude.{ℤ, fold, IfSome, OnOk, Result, Ok, Err, option_map, if◌then◌else◌}
+use Rattle.std.specs.Prelude.{ℤ, fold, IfSome, OnOk, Result, Ok, Err, if◌then◌else◌}
 use Rattle.std.specs.List.{All, AllByRecursion, slice_get}
 use Rattle.std.proofs.lemmas.List.Elements.{recursion_from_All}
 use Rattle.std.specs.FinMap.{FinMap, get, values}
@@ -12,7 +12,6 @@ use Rattle.atl_tables.proofs.GeneralLaws.{is_equal}
 use Rattle.atl_orders.specs.declared.verb.Verb.{Verb}
 use Rattle.atl_orders.specs.Bounds.{IsEntry, IsOrderOf, IsReading}
 use Rattle.atl_orders.specs.Mailing.{EntrySaid, Reading}
-use Rattle.atl_orders.specs.Orders.{Said}
 use Rattle.atl_records.specs.declared.books.Entry.{Entry}
 use Rattle.atl_records.specs.declared.books.Thing.{Thing}
 use Rattle.atl_records.specs.declared.event.Outcome.{Outcome}
@@ -20,19 +19,16 @@ use Rattle.atl_records.specs.declared.event.Outcome.TheVariants.{Fault}
 use Rattle.atl_records.specs.declared.records.Unit.{Unit}
 use Rattle.atl_records.specs.Books.{amount_in}
 use Rattle.atl_state.specs.Campaign.{CampaignValue}
-use Rattle.atl_instant.specs.Month.{Aliases, MonthValue, order_at, order_in}
+use Rattle.atl_instant.specs.Month.{Aliases, MonthValue}
 use Rattle.atl_instant.specs.Fit.{AreFit}
 use Rattle.atl_instant.specs.Meaning.{Condition, HasRoom, HaveRoom, IsNear, LeavesWell, Moving}
-use Rattle.atl_instant.specs.PhaseOrders.{IsInMailing, Task, orders_of, written}
-use Rattle.atl_instant.specs.Carrying.{found_said, found_written, task_of}
-use Rattle.atl_instant.specs.declared.written.Written.{Written}
+use Rattle.atl_instant.specs.PhaseOrders.{IsInMailing, Task, orders_of}
 use Rattle.atl_instant.specs.Staying.{IsNoWorse}
-use Rattle.atl_instant.specs.Steps.{AreSpared, Concern, IsDrawn, IsOrderly, IsSpared, IsSparing, IsUnitOf, Deed, Reserve, Sparing, Step, StepsWell, carried, carried_out, done_for, of_faction, one_order, ordered, with_told}
+use Rattle.atl_instant.specs.Steps.{AreSpared, Concern, IsDrawn, IsOrderly, IsSpared, IsSparing, IsUnitOf, Deed, Reserve, Sparing, Step, StepsWell, carried, done_for, of_faction, one_order, ordered, with_told}
 use Rattle.atl_instant.specs.declared.written.Arrangement.TheVariants.{ByUnit}
 use Rattle.atl_instant.proofs.MeaningLaws.{less_room, same_month}
 use Rattle.atl_instant.proofs.StayingLaws.{no_worse, no_worse_twice}
 use Rattle.atl_instant.proofs.WrittenLaws.{orders_are_in_mailings}
-use Rattle.atl_instant.proofs.FoundOrderLaws.{found_all, found_stays}
 
 -- ---- amounts
 
@@ -163,43 +159,14 @@ module _ (w : WorldValue) where
     pub orders_fit : (is_of : Verb → Bool) → All (λ t. IsOrderOf w t.said) (values (orders_of is_of ByUnit aliases readings))
     orders_fit is_of k d l = in_mailing_fit _ (orders_are_in_mailings is_of ByUnit aliases readings k d l)
 
-  -- what is said at a place of a faction's mailing
-  pub said_fit : (readings : FinMap nat_cmp Reading) (faction place : ℕ) (s : Said) → AreFit w readings → order_at readings faction place ≡ Some s → IsOrderOf w s
-  said_fit readings faction place s fit is = by_reading (get readings faction) refl is
-    where
-      by_entry : (r : Reading) (o : Option EntrySaid) → get readings faction ≡ Some r → slice_get r.entries place ≡ o → option_map (λ e. e.said) o ≡ Some s → IsOrderOf w s
-      by_entry r None there at none = cc
-      by_entry r (Some e) there at some = subst (IsOrderOf w) (same_Some _ _ some) (entry_fit r place e (fit faction r there) at)
-
-      by_reading : (o : Option Reading) → get readings faction ≡ o → order_in place o ≡ Some s → IsOrderOf w s
-      by_reading None there none = cc
-      by_reading (Some r) there some = by_entry r (slice_get r.entries place) there refl some
-
--- ---- what the code finds is what is written
+-- ---- the mailings stay
 
 told_readings : (m : MonthValue) (t : Task) (o : Option Outcome) → (with_told m t o).readings ≡ m.readings
 told_readings m t None = refl
 told_readings m t (Some outcome) = refl
 
-module _ (step : Step) (w : WorldValue) where
-  pub order_readings : (p : CampaignValue × MonthValue) (t : Task) → (one_order step w p t).1.readings ≡ p.1.readings
-  order_readings p t = told_readings p.1 t (ordered (step w p.1.aliases t) p.0 t.faction t.unit).1
-
-  pub written_readings : (readings : FinMap nat_cmp Reading) (p : CampaignValue × MonthValue) (o : Written) → (found_written (one_order step w) readings p o).1.readings ≡ p.1.readings
-  written_readings = found_stays (one_order step w) (λ (p : CampaignValue × MonthValue). p.1.readings) order_readings
-
-  pub written_out : (is_of : Verb → Bool) (c : CampaignValue) (m : MonthValue) → fold (found_written (one_order step w) m.readings) (c, m) (map written (values (orders_of is_of ByUnit m.aliases m.readings))) ≡ carried_out step is_of w c m
-  unfolding carried_out
-  written_out is_of c m = found_all (one_order step w) m.aliases m.readings is_of ByUnit (c, m)
-
--- a campaign is left well by the order that stands at a place, if one does
-pub written_well : (step : Step) {holds : Condition} {reserve : Reserve} {moving : Moving} {concerns : Concern} {spares : Sparing} (orderly : IsOrderly step holds reserve moving concerns spares) (w : WorldValue)
-    (readings : FinMap nat_cmp Reading) → AreFit w readings → (c : CampaignValue) (m : MonthValue) (o : Written) → holds w c → StepsWell holds reserve w c (found_written (one_order step w) readings (c, m) o).0
-written_well step {holds} {reserve} orderly w readings fit c m o h = by_said (order_at readings o.faction o.place) refl
-  where
-    by_said : (s : Option Said) → order_at readings o.faction o.place ≡ s → StepsWell holds reserve w c (found_said (one_order step w) (c, m) o s).0
-    by_said None at = well_same w c h
-    by_said (Some s) at = order_well step orderly w m.aliases c (task_of o s) h (said_fit w readings o.faction o.place s fit at)
+pub order_readings : (step : Step) (w : WorldValue) (p : CampaignValue × MonthValue) (t : Task) → (one_order step w p t).1.readings ≡ p.1.readings
+order_readings step w p t = told_readings p.1 t (ordered (step w p.1.aliases t) p.0 t.faction t.unit).1
 
 -- ---- what is so in any case is so where a call answers Ok
 

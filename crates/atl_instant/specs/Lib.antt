@@ -1,6 +1,7 @@
 pub mod Month
 pub mod Meaning
 pub mod Terms
+pub mod There
 pub mod Room
 pub mod PhaseOrders
 pub mod Collecting
@@ -8,7 +9,6 @@ pub mod Staying
 pub mod Fit
 pub mod StandOnce
 pub mod Steps
-pub mod Carrying
 pub mod Outcomes
 pub mod Dealing
 pub mod Holdings
@@ -23,6 +23,7 @@ pub mod Unbooked
 pub mod Name
 pub mod Place
 pub mod Form
+pub mod Forming
 pub mod Quit
 pub mod LostItems
 pub mod Unmailed

@@ -1,8 +1,8 @@
 -- What contracts see of a month.
-use Rattle.std.specs.Prelude.{◌≡◌, ℕ, List, map, refl, Option, Some, None, option_map}
-use Rattle.std.specs.Borrow.{Bor, u8}
+use Rattle.std.specs.Prelude.{◌≡◌, ◌++◌, ℕ, List, map, refl, Option}
+use Rattle.std.specs.Borrow.{u8}
 use Rattle.std.specs.Ordering.{nat_cmp, eq_by_cmp}
-use Rattle.std.specs.List.{IsDistinct, slice_get}
+use Rattle.std.specs.List.{IsDistinct}
 use Rattle.std.specs.List.Sorted.{IsPermutation}
 use Rattle.std.specs.Coded.{Coded, code_by, coded×, coded_ℕ, coded_list}
 use Rattle.std.specs.FinMap.{FinMap, code, from_entries, get, insert}
@@ -10,14 +10,12 @@ use Rattle.atl_tables.specs.contracts.sequence.Sequence as sequence
 use Rattle.atl_tables.specs.Groups.{group_of}
 use Rattle.atl_orders.specs.declared.mailing.Mailing.{Mailing}
 use Rattle.atl_orders.specs.declared.fault.FaultyLine.{FaultyLine}
-use Rattle.atl_orders.specs.declared.order.Order.{Order}
-use Rattle.atl_orders.specs.declared.order.Span.{Span}
 use Rattle.atl_orders.specs.declared.order.UnitRef.{UnitRef}
 use Rattle.atl_orders.specs.contracts.fault.FaultyLine as faulty
 use Rattle.atl_orders.specs.contracts.order.Order as order
 use Rattle.atl_orders.specs.contracts.order.UnitRef as target
 use Rattle.atl_orders.specs.Mailing.{EntrySaid, Reading, reading_of}
-use Rattle.atl_orders.specs.Orders.{Said, said}
+use Rattle.atl_orders.specs.Orders.{Said}
 use Rattle.atl_records.specs.declared.event.Event.{Event}
 use Rattle.atl_records.specs.contracts.event.Event as event
 
@@ -70,6 +68,12 @@ alias_unit aliases faction alias = get (group_of aliases faction) alias
 abbrev pub with_alias : Aliases → ℕ → ℕ → ℕ → Aliases
 with_alias aliases faction alias unit = insert aliases faction (insert (group_of aliases faction) alias unit)
 
+-- ---- events
+
+-- the month with further events
+abbrev pub with_events : MonthValue → List Event → MonthValue
+with_events m events = record m { events = m.events ++ events }
+
 -- ---- mailings
 
 -- no two mailings are of one faction
@@ -85,15 +89,3 @@ abbrev pub HaveNoOrder : Type 0
 HaveNoOrder =
     (mailings others : List Mailing) → HaveOwnFactions mailings → IsPermutation mailings others →
     by_faction (map reading_of mailings) ≡ by_faction (map reading_of others)
-
--- what is said at a place of a faction's mailing, from 0 on
-abbrev pub order_in : ℕ → Option Reading → Option Said
-order_in place None = None
-order_in place (Some r) = option_map (λ e. e.said) (slice_get r.entries place)
-
-abbrev pub order_at : FinMap nat_cmp Reading → ℕ → ℕ → Option Said
-order_at readings faction place = order_in place (get readings faction)
-
--- what an order of the code says, by the text of its mailing
-abbrev pub said_of : Bor Mailing × Bor (Order Span) → Said
-said_of p = said p.0.now.text p.1.now

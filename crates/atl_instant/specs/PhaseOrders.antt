@@ -9,7 +9,7 @@ use Rattle.atl_orders.specs.declared.order.UnitRef.TheVariants.{Number, Alias}
 use Rattle.atl_orders.specs.declared.verb.Verb.{Verb}
 use Rattle.atl_orders.specs.declared.verb.Verb.TheVariants as verbs
 use Rattle.atl_orders.specs.Mailing.{EntrySaid, Reading}
-use Rattle.atl_orders.specs.Orders.{Said, verb_of_order}
+use Rattle.atl_orders.specs.Orders.{Said, said, verb_of_order}
 use Rattle.atl_instant.specs.Month.{Aliases, MonthValue, alias_unit}
 use Rattle.atl_instant.specs.declared.standing.Slot.{Slot}
 use Rattle.atl_instant.specs.declared.standing.Slot.TheVariants.{MonthLong, Selling, Buying, Taxing, Recruiting}
@@ -24,6 +24,10 @@ pub record Task : Type 0 where
   pub line : ℕ
   pub place : ℕ
   pub said : Said
+
+-- an order of the code, with what it says by the text of its mailing
+abbrev pub task_of : Written → Task
+task_of o = record { faction = o.faction; unit = o.unit; line = o.line; place = o.place; said = said o.mailing.now.text o.order.now }
 
 -- ---- the orders of a mailing
 
@@ -117,14 +121,6 @@ orders_of is_of arrangement aliases readings =
 -- those of a month, by unit, line and faction
 abbrev pub orders_by_unit : (Verb → Bool) → MonthValue → List Task
 orders_by_unit is_of m = values (orders_of is_of ByUnit m.aliases m.readings)
-
--- what the code knows of an order
-abbrev pub written : Task → Written
-written t = record { unit = t.unit; line = t.line; faction = t.faction; verb = verb_of_order t.said; place = t.place }
-
--- and of those of a month
-abbrev pub written_by_unit : (Verb → Bool) → MonthValue → List Written
-written_by_unit is_of m = map written (orders_by_unit is_of m)
 
 -- ---- a law
 

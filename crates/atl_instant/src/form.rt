@@ -1,12 +1,14 @@
 //! FORM: units form new ones.
-ghost use Rattle.std.specs.Prelude.{◌≡◌, ◌≤◌, IfOk, List, None, OnOk, ℕ};
+ghost use Rattle.std.specs.Prelude.{◌≡◌, ◌≤◌, IfOk, List, None, OnOk, map as each, ℕ};
 ghost use Rattle.std.specs.FinMap as map;
 ghost use Rattle.atl_orders.specs.Orders.{said};
 ghost use Rattle.atl_state.specs.Covers.{MarksChanges};
 ghost use Rattle.atl_state.specs.Good.{IsEarly};
 ghost use Rattle.atl_records.specs.Limits.{last_unit};
-ghost use Rattle.atl_instant.specs.Form.{alias_of, form_by, form_fault, form_keeps, form_meaning, form_order, formed, is_forming, is_unit_limit, new_unit, noted};
-ghost use Rattle.atl_instant.specs.Carrying.{found_written};
+ghost use Rattle.atl_instant.specs.Form.{alias_of, form_by, form_fault, form_keeps, form_meaning, formed, is_forming, is_unit_limit, new_unit, noted};
+ghost use Rattle.atl_instant.specs.Forming.{form_apart, forming_of};
+ghost use Rattle.atl_instant.specs.PhaseOrders.{orders_of, task_of};
+ghost use Rattle.atl_instant.specs.declared.written.Arrangement.TheVariants.{ByFaction};
 
 use crate::inside::{region_of, structure_of};
 use crate::month::Month;
@@ -16,7 +18,9 @@ use crate::phase::{Phase, Ran};
 use crate::steps::is_of_faction;
 use crate::written::{Arrangement, Written};
 use atl_orders::{Order, Verb};
-use atl_state::{Campaign, EventFault, Holding, LAST_UNIT, MOST_UNITS, Outcome, Unit};
+use atl_state::{
+    Campaign, Event, EventFault, EventVerb, Holding, LAST_UNIT, MOST_UNITS, Outcome, Unit,
+};
 use atl_tables::{Numbered, Text, World};
 use std::alloc::{AllocError, Global};
 
@@ -117,23 +121,67 @@ fn alias_of(what: &Order) -> u32
     }
 }
 
+/// An order apart from the month, which gets aliases as orders are carried out.
+#[derive(Drop, Clone, Copy)]
+pub(crate) struct Forming {
+    unit: u32,
+    line: u32,
+    faction: u32,
+    verb: Verb,
+    alias: u32,
+}
+
+/// An order apart from the month.
+fn forming_of(order: Written<'_>) -> Forming
+    ensures { result ≡ forming_of (task_of order.entry) }
+{
+    Forming {
+        unit: order.unit,
+        line: order.line,
+        faction: order.faction,
+        verb: order.order.verb(),
+        alias: alias_of(order.order),
+    }
+}
+
+/// The orders of a month apart from it, by faction and line.
+fn formings(alloc: Global, month: &Month) -> Result<Vec<Forming>, AllocError>
+    ensures { IfOk result (λ list. list.items ≡ each forming_of (map.values (orders_of is_forming ByFaction month.now.aliases month.now.readings))) }
+{
+    let orders = month.orders(alloc, &FormPhase, Arrangement::ByFaction)?;
+    let mut list = Vec::new(alloc);
+    for order in &orders {
+        list.push(forming_of(*order))?;
+    }
+    Ok(list)
+}
+
 /// Carries out an order, and tells of it.
 fn form_one(
     alloc: Global,
     campaign: &mut Campaign,
     month: &mut Month,
-    order: Written,
+    order: Forming,
 ) -> Result<(), AllocError>
     requires free { map.get campaign.old.value.units campaign.old.value.next_unit ≡ None }
-    ensures step { OnOk result ((campaign.new.value, month.new) ≡ found_written form_order month.old.readings (campaign.old.value, month.old) order) }
+    ensures step { OnOk result ((campaign.new.value, month.new) ≡ form_apart (campaign.old.value, month.old) order) }
     ensures marks { OnOk result (MarksChanges campaign.old campaign.new) }
 {
-    let (alias, verb) = match month.order(order.faction, order.place) {
-        Some((_, what)) => (alias_of(what), what.verb()),
-        None => return Ok(()),
-    };
-    let outcome = form(alloc, campaign, month, order.faction, order.unit, alias)?;
-    month.tell(order.event(verb, outcome))
+    let outcome = form(
+        alloc,
+        campaign,
+        month,
+        order.faction,
+        order.unit,
+        order.alias,
+    )?;
+    month.tell(Event {
+        faction: order.faction,
+        unit: order.unit,
+        line: order.line,
+        verb: EventVerb::Order(order.verb),
+        outcome,
+    })
 }
 
 impl PhaseVerbs for FormPhase {
@@ -154,10 +202,11 @@ impl Phase for FormPhase {
     ghost keeps = { form_keeps };
 
     fn run(&self, alloc: Global, _world: &World, mut campaign: Campaign, mut month: Month) -> Ran {
-        let orders = month.orders(alloc, self, Arrangement::ByFaction)?;
+        let orders = formings(alloc, &month)?;
         for order in &orders {
             form_one(alloc, &mut campaign, &mut month, *order)?;
         }
+        month.gather(alloc)?;
         Ok((campaign, month))
     }
 }

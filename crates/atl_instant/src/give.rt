@@ -17,7 +17,7 @@ use crate::orders::PhaseVerbs;
 use crate::outcome::failed;
 use crate::steps::{OrderPhase, PlainPhase, own_unit};
 use crate::written::Written;
-use atl_orders::{Mailing, Order, Verb};
+use atl_orders::{Order, Verb};
 use atl_state::{Campaign, EventFault, HOLDING_LIMIT, Holding, Outcome, Unit};
 use atl_tables::World;
 use std::alloc::{AllocError, Global};
@@ -117,13 +117,13 @@ fn hand_over(
 #[tactic(auto, unfolding(crate::specs::Give::give))]
 fn give(
     campaign: &mut Campaign,
-    order: Written,
+    order: Written<'_>,
     to: u32,
     gift: Gift,
     amount: u32,
 ) -> Result<Outcome, AllocError>
     requires limits { Every (λ n u. IsHolding u.holding) campaign.old.value.units }
-    ensures what { IfOk result (λ outcome. (campaign.new.value, outcome) ≡ carried (give order.unit to gift amount) campaign.old.value order.faction order.unit) }
+    ensures what { IfOk result (λ outcome. (campaign.new.value, outcome) ≡ carried (give order.entry.unit to gift amount) campaign.old.value order.entry.faction order.entry.unit) }
     ensures marks { OnOk result (MarksChanges campaign.old campaign.new) }
 {
     let Some(giver) = own_unit(campaign, order) else {
@@ -158,11 +158,9 @@ impl OrderPhase for GivePhase {
         _: &World,
         campaign: &mut Campaign,
         month: &Month,
-        order: Written,
-        _: &Mailing,
-        what: &Order,
+        order: Written<'_>,
     ) -> Result<Option<Outcome>, AllocError> {
-        match what {
+        match order.order {
             Order::Give { to, amount, item } => {
                 let receiver = month.unit(order.faction, *to);
                 let outcome = give(campaign, order, receiver, Gift::Item(*item), *amount)?;

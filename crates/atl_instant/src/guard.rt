@@ -1,23 +1,23 @@
 //! GUARD 1.
-ghost use Rattle.std.specs.Prelude.{◌≡◌, IfOk, List, OnOk, ℕ};
+ghost use Rattle.std.specs.Prelude.{◌≡◌, IfOk, OnOk};
 ghost use Rattle.atl_tables.specs.Worlds.{WorldValue};
-ghost use Rattle.atl_orders.specs.Orders.{said};
 ghost use Rattle.atl_state.specs.Covers.{MarksChanges};
 ghost use Rattle.atl_state.specs.Campaign.{CampaignValue};
-ghost use Rattle.atl_instant.specs.Carrying.{found_written};
 ghost use Rattle.atl_instant.specs.Guard.{guard, guard_fault, guard_said, guard_step, guard_terms, is_guarding};
 ghost use Rattle.atl_instant.specs.Holders.{AreHolders};
+ghost use Rattle.atl_instant.specs.Month.{MonthValue, with_events};
+ghost use Rattle.atl_instant.specs.PhaseOrders.{task_of};
 ghost use Rattle.atl_instant.specs.Steps.{carried, one_order, ordered};
 
 use crate::holders::Holders;
-use crate::month::Month;
+use crate::month::{Month, tell_all};
 use crate::orders::PhaseVerbs;
 use crate::outcome::failed;
 use crate::phase::{Phase, Ran};
 use crate::steps::own_unit;
 use crate::written::{Arrangement, Written};
 use atl_orders::{Order, Verb};
-use atl_state::{Campaign, EventFault, Outcome, Unit};
+use atl_state::{Campaign, Event, EventFault, Outcome, Unit};
 use atl_tables::World;
 use std::alloc::{AllocError, Global};
 
@@ -43,10 +43,10 @@ fn guard_fault(holders: &Holders, unit: &Unit) -> Option<EventFault>
 fn guard(
     campaign: &mut Campaign,
     holders: &mut Holders,
-    order: Written,
+    order: Written<'_>,
 ) -> Result<Outcome, AllocError>
     requires held { AreHolders campaign.old.value holders.old }
-    ensures what { IfOk result (λ outcome. (campaign.new.value, outcome) ≡ carried (guard order.unit) campaign.old.value order.faction order.unit) }
+    ensures what { IfOk result (λ outcome. (campaign.new.value, outcome) ≡ carried (guard order.entry.unit) campaign.old.value order.entry.faction order.entry.unit) }
     ensures held { OnOk result (AreHolders campaign.new.value holders.new) }
     ensures marks { OnOk result (MarksChanges campaign.old campaign.new) }
 {
@@ -65,40 +65,35 @@ fn guard(
 fn carry_out(
     campaign: &mut Campaign,
     holders: &mut Holders,
-    order: Written,
-    what: &Order,
+    order: Written<'_>,
 ) -> Result<Option<Outcome>, AllocError>
     requires held { AreHolders campaign.old.value holders.old }
-    ensures what { (text : List ℕ) → IfOk result (λ outcome. (campaign.new.value, outcome) ≡ ordered (guard_said order.unit (said text what.now)) campaign.old.value order.faction order.unit) }
+    ensures what { IfOk result (λ outcome. (campaign.new.value, outcome) ≡ ordered (guard_said order.entry.unit (task_of order.entry).said) campaign.old.value order.entry.faction order.entry.unit) }
     ensures held { OnOk result (AreHolders campaign.new.value holders.new) }
     ensures marks { OnOk result (MarksChanges campaign.old campaign.new) }
 {
-    match what {
+    match order.order {
         Order::Guard(true) => Ok(Some(guard(campaign, holders, order)?)),
         _ => Ok(None),
     }
 }
 
-/// Carries out an order, and tells of it.
+/// Carries out an order, and puts what came of it behind other events.
 fn guard_one(
     campaign: &mut Campaign,
     holders: &mut Holders,
-    month: &mut Month,
-    order: Written,
+    order: Written<'_>,
+    events: &mut Vec<Event>,
 ) -> Result<(), AllocError>
     requires held { AreHolders campaign.old.value holders.old }
-    ensures step { (w : WorldValue) → OnOk result ((campaign.new.value, month.new) ≡ found_written (one_order guard_step w) month.old.readings (campaign.old.value, month.old) order) }
+    ensures step { (w : WorldValue) (m : MonthValue) → OnOk result ((campaign.new.value, with_events m events.new.items) ≡ one_order guard_step w (campaign.old.value, with_events m events.old.items) (task_of order.entry)) }
     ensures held { OnOk result (AreHolders campaign.new.value holders.new) }
     ensures marks { OnOk result (MarksChanges campaign.old campaign.new) }
 {
-    let Some((_, what)) = month.order(order.faction, order.place) else {
-        return Ok(());
-    };
-    let verb = what.verb();
-    match carry_out(campaign, holders, order, what)? {
-        Some(outcome) => month.tell(order.event(verb, outcome)),
-        None => Ok(()),
+    if let Some(outcome) = carry_out(campaign, holders, order)? {
+        events.push(order.event(outcome))?;
     }
+    Ok(())
 }
 
 impl PhaseVerbs for GuardPhase {
@@ -117,9 +112,12 @@ impl Phase for GuardPhase {
     fn run(&self, alloc: Global, _world: &World, mut campaign: Campaign, mut month: Month) -> Ran {
         let mut holders = Holders::of(alloc, &campaign)?;
         let orders = month.orders(alloc, self, Arrangement::ByUnit)?;
+        let mut events = Vec::new(alloc);
         for order in &orders {
-            guard_one(&mut campaign, &mut holders, &mut month, *order)?;
+            guard_one(&mut campaign, &mut holders, *order, &mut events)?;
         }
+        drop(orders);
+        tell_all(&mut month, &events)?;
         Ok((campaign, month))
     }
 }

@@ -3,6 +3,7 @@
 
 mod booking;
 mod form;
+mod gathering;
 mod give;
 mod guard;
 mod holders;
@@ -28,7 +29,7 @@ pub use guard::GuardPhase;
 pub use holdings::set_people;
 pub use inside::region_of;
 pub use items::items_of;
-pub use month::{Month, mailings_have_no_order};
+pub use month::{Month, mailings_have_no_order, tell_all};
 pub use name::NamePhase;
 pub use orders::{MonthLongVerbs, PhaseVerbs, one_order_stands, orders_are_in_mailings};
 pub use outcome::failed;

@@ -2,14 +2,15 @@
 ghost use Rattle.std.specs.Prelude.{◌≡◌, ◌++◌, ◌∷◌, [], IfOk, OnOk, OnErr, map, option_copied, option_map};
 ghost use Rattle.std.specs.FinMap.{empty, get, values};
 ghost use Rattle.atl_orders.specs.Mailing.{reading_of};
-ghost use Rattle.atl_instant.specs.Month.{HaveOwnFactions, HaveNoOrder, alias_unit, by_faction, order_at, said_of, with_alias};
-ghost use Rattle.atl_instant.specs.PhaseOrders.{orders_of, unit_of, written};
+ghost use Rattle.atl_instant.specs.Month.{HaveOwnFactions, HaveNoOrder, alias_unit, by_faction, with_alias, with_events};
+ghost use Rattle.atl_instant.specs.PhaseOrders.{orders_of, task_of, unit_of};
 ghost use Rattle.atl_instant.specs.Collecting.{AreByFaction};
 
+use crate::gathering::{Placed, gathered};
 use crate::orders::{PhaseVerbs, orders_of};
 use crate::standing::unit_of;
 use crate::written::{Arrangement, Written};
-use atl_orders::{Mailing, Order, UnitRef};
+use atl_orders::{Mailing, UnitRef};
 use atl_state::Event;
 use atl_tables::{Numbered, let_go};
 use std::alloc::{AllocError, Global};
@@ -24,11 +25,13 @@ pub struct Month {
     aliases: Numbered<Numbered<u32>>,
     words: Vec<u32>,
     events: Vec<Event>,
+    // The places of the orders that stand by these aliases, by unit, line and faction; None until they are gathered.
+    standing: Option<Vec<Placed>>,
 }
 
 impl Drop for Month {
     fn drop(self) {
-        let_go!(self: Month { mailings, aliases, words, events });
+        let_go!(self: Month { mailings, aliases, words, events, standing });
     }
 }
 
@@ -36,7 +39,7 @@ impl Model for Month {
     ghost use Rattle.std.specs.Prelude.{map};
     ghost use Rattle.atl_orders.specs.Mailing.{reading_of};
     ghost use Rattle.atl_instant.specs.Month.{MonthValue, month_code, by_faction};
-    ghost use Rattle.atl_instant.specs.Collecting.{AreByFaction};
+    ghost use Rattle.atl_instant.specs.Collecting.{IsReady};
 
     ghost Value = { MonthValue };
 
@@ -49,7 +52,7 @@ impl Model for Month {
       events = a.events.items;
     } };
 
-    ghost invariant = { λ a. AreByFaction a.mailings.items };
+    ghost invariant = { λ a. IsReady a.aliases a.mailings.items a.standing };
 }
 
 impl Month {
@@ -64,6 +67,7 @@ impl Month {
             aliases: Numbered::new(alloc),
             words,
             events: Vec::new(alloc),
+            standing: None,
         }
     }
 
@@ -90,6 +94,7 @@ impl Month {
             aliases: _,
             words: _,
             events,
+            standing: _,
         } = self;
         events
     }
@@ -114,20 +119,38 @@ impl Month {
         ensures ok { OnOk result (self.new ≡ record self.old { aliases = with_alias self.old.aliases faction alias unit }) }
         ensures err { OnErr result (self.new ≡ self.old) }
     {
+        self.standing = None;
         self.aliases.insert_under(alloc, faction, alias, unit)
     }
 
-    /// The orders of a phase that stand, in the arrangement of the phase. It takes memory for each of them, and n log n steps
-    /// for n orders of all mailings. See docs/RULES.md, "Orders of a month".
+    /// Gathers the orders that stand, for all phases until an alias is set. The month stays the same, also without memory.
+    pub(crate) fn gather(&mut self, alloc: Global) -> Result<(), AllocError>
+        ensures { self.new ≡ self.old }
+    {
+        let places = gathered(alloc, Arrangement::ByUnit, &self.aliases, &self.mailings)?;
+        self.standing = Some(places);
+        Ok(())
+    }
+
+    /// The orders of a phase that stand, in the arrangement of the phase. It takes memory for each of them. If the month's
+    /// orders aren't gathered, or not in this arrangement, it also takes memory for each order of all mailings, and n log n
+    /// steps for n of them. See docs/RULES.md, "Orders of a month".
     pub fn orders<P: PhaseVerbs>(
         &self,
         alloc: Global,
         phase: &P,
         arrangement: Arrangement,
-    ) -> Result<Vec<Written>, AllocError>
-        ensures { IfOk result (λ list. list.items ≡ map written (values (orders_of P.is_of arrangement self.now.aliases self.now.readings))) }
+    ) -> Result<Vec<Written<'_>>, AllocError>
+        ensures { IfOk result (λ list. map task_of list.items ≡ values (orders_of P.is_of arrangement self.now.aliases self.now.readings)) }
     {
-        orders_of(alloc, phase, arrangement, &self.aliases, &self.mailings)
+        orders_of(
+            alloc,
+            phase,
+            arrangement,
+            &self.aliases,
+            &self.mailings,
+            &self.standing,
+        )
     }
 
     /// The mailing of a faction.
@@ -135,15 +158,6 @@ impl Month {
         ensures { option_map reading_of (option_copied result) ≡ get self.now.readings faction }
     {
         mailing_of(&self.mailings, faction)
-    }
-
-    /// The order at a place of a faction's mailing, from 0 on, and the mailing, which has the name that the order gives.
-    pub fn order(&self, faction: u32, place: usize) -> Option<(&Mailing, &Order)>
-        ensures { option_map said_of result ≡ order_at self.now.readings faction place }
-    {
-        let mailing = mailing_of(&self.mailings, faction)?;
-        let entry = mailing.entries.as_slice().get(place)?;
-        Some((mailing, &entry.order))
     }
 
     /// The unit that a faction names; 0 for an alias under which no unit was made.
@@ -159,6 +173,16 @@ impl Month {
     {
         unit_under(&self.aliases, faction, alias)
     }
+}
+
+/// Notes what came of orders. Without memory some of the events may have come to the month.
+pub fn tell_all(month: &mut Month, events: &[Event]) -> Result<(), AllocError>
+    ensures { OnOk result (month.new ≡ with_events month.old events.now) }
+{
+    for event in events {
+        month.tell(*event)?;
+    }
+    Ok(())
 }
 
 /// Sorts mailings by their factions.

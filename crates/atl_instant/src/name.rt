@@ -109,8 +109,8 @@ fn clear_guard(campaign: &mut Campaign, unit: u32)
 }
 
 /// Clears the flag of a unit of the order's faction.
-fn leave_guard(campaign: &mut Campaign, order: Written) -> Outcome
-    ensures what { (campaign.new.value, result) ≡ carried (unguarded order.unit) campaign.old.value order.faction order.unit }
+fn leave_guard(campaign: &mut Campaign, order: Written<'_>) -> Outcome
+    ensures what { (campaign.new.value, result) ≡ carried (unguarded order.entry.unit) campaign.old.value order.entry.faction order.entry.unit }
     ensures marks { MarksChanges campaign.old campaign.new }
 {
     if own_unit(campaign, order).is_none() {
@@ -147,20 +147,19 @@ fn give_name(
     alloc: Global,
     world: &World,
     campaign: &mut Campaign,
-    order: Written,
-    mailing: &Mailing,
+    order: Written<'_>,
     what: NameKind,
     span: Span,
 ) -> Result<Outcome, AllocError>
-    requires fit { IsTrue (name_ok (name_in mailing.now.text span)) }
-    ensures value { IfOk result (λ outcome. (campaign.new.value, outcome) ≡ carried (names world.now order.unit what (name_in mailing.now.text span)) campaign.old.value order.faction order.unit) }
+    requires fit { IsTrue (name_ok (name_in order.mailing.now.text span)) }
+    ensures value { IfOk result (λ outcome. (campaign.new.value, outcome) ≡ carried (names world.now order.entry.unit what (name_in order.entry.mailing.now.text span)) campaign.old.value order.entry.faction order.entry.unit) }
     ensures marks { OnOk result (MarksChanges campaign.old campaign.new) }
 {
     let Some(unit) = own_unit(campaign, order) else {
         return Ok(failed(EventFault::NotYours));
     };
     let (faction, inside) = (unit.faction, unit.structure);
-    let given = name_of(alloc, mailing, span)?;
+    let given = name_of(alloc, order.mailing, span)?;
     Ok(name(world, campaign, order.unit, faction, inside, what, given))
 }
 
@@ -186,15 +185,13 @@ impl OrderPhase for NamePhase {
         world: &World,
         campaign: &mut Campaign,
         _month: &Month,
-        order: Written,
-        mailing: &Mailing,
-        what: &Order,
+        order: Written<'_>,
     ) -> Result<Option<Outcome>, AllocError> {
-        match what {
+        match order.order {
             Order::Name {
                 what: kind,
                 name: span,
-            } => Ok(Some(give_name(alloc, world, campaign, order, mailing, *kind, *span)?)),
+            } => Ok(Some(give_name(alloc, world, campaign, order, *kind, *span)?)),
             Order::Guard(false) => Ok(Some(leave_guard(campaign, order))),
             _ => Ok(None),
         }

@@ -1,17 +1,16 @@
 //! The orders of a phase.
-ghost use Rattle.std.specs.Prelude.{◌≡◌, ◌++◌, map, IfOk, OnOk, Bool};
+ghost use Rattle.std.specs.Prelude.{◌≡◌, map, IfOk, Bool};
+ghost use Rattle.std.specs.List.{All};
 ghost use Rattle.std.specs.FinMap.{values};
-ghost use Rattle.std.specs.List.Sorted.{IsPermutation, IsSortedByKey};
-ghost use Rattle.std.specs.Cmp.Lexicographic.{slice_cmp};
-ghost use Rattle.std.specs.Ordering.{nat_cmp};
 ghost use Rattle.atl_orders.specs.declared.verb.Verb.{Verb};
 ghost use Rattle.atl_orders.specs.Mailing.{reading_of};
 ghost use Rattle.atl_instant.specs.Month.{by_faction};
-ghost use Rattle.atl_instant.specs.PhaseOrders.{OrdersAreInMailings, is_month_long, tasks_of, tasks_for, orders_of, written};
+ghost use Rattle.atl_instant.specs.PhaseOrders.{OrdersAreInMailings, is_month_long, task_of, orders_of};
 ghost use Rattle.atl_instant.specs.StandOnce.{OneOrderStands};
-ghost use Rattle.atl_instant.specs.Collecting.{AreByFaction, AreLastLines, all_tasks, key_by};
+ghost use Rattle.atl_instant.specs.Collecting.{IsReady, IsThere, task_at, tasks_picked};
 
-use crate::standing::{LastLines, Slot, is_slot, last_lines, slot_of, stands, unit_of};
+use crate::gathering::{Placed, gathered};
+use crate::standing::{Slot, is_slot, slot_of};
 use crate::written::{Arrangement, Written};
 use atl_orders::{Mailing, Verb};
 use atl_tables::Numbered;
@@ -39,92 +38,64 @@ impl PhaseVerbs for MonthLongVerbs {
     }
 }
 
-/// Puts the orders of a mailing that stand, and are of a phase, behind others.
-fn collect_standing<P: PhaseVerbs>(
-    phase: &P,
-    aliases: &Numbered<Numbered<u32>>,
-    mailing: &Mailing,
-    lines: &LastLines,
-    list: &mut Vec<Written>,
-) -> Result<(), AllocError>
-    requires { AreLastLines (tasks_of aliases.now mailing.now.faction (reading_of mailing.now)) lines.now }
-    ensures { OnOk result (list.new.items ≡ list.old.items ++ map written (tasks_for P.is_of (tasks_of aliases.now mailing.now.faction (reading_of mailing.now)))) }
+/// The order at a place.
+fn order_at<'m>(mailings: &'m [Mailing], placed: &Placed) -> Written<'m>
+    requires { IsThere mailings.now placed.now }
+    ensures { task_of result ≡ task_at mailings.now placed.now }
 {
-    let entries = mailing.entries.as_slice();
-    for place in 0..entries.len() {
-        let entry = &entries[place];
-        let verb = entry.order.verb();
-        let unit = unit_of(aliases, mailing.faction, entry.target);
-        if phase.has(verb) && stands(lines, unit, entry.line, slot_of(verb)) {
-            list.push(Written {
-                unit,
-                line: entry.line,
-                faction: mailing.faction,
-                verb,
-                place,
-            })?;
-        }
+    let mailing = &mailings[placed.mailing];
+    let entry = &mailing.entries.as_slice()[placed.place];
+    Written {
+        unit: placed.unit,
+        line: placed.line,
+        faction: placed.faction,
+        place: placed.place,
+        mailing,
+        order: &entry.order,
     }
-    Ok(())
 }
 
-/// Puts the orders of a mailing for a phase behind others.
-fn collect_mailing<P: PhaseVerbs>(
+/// The orders at places that are of a phase.
+fn picked<'m, P: PhaseVerbs>(
     alloc: Global,
     phase: &P,
-    aliases: &Numbered<Numbered<u32>>,
-    mailing: &Mailing,
-    list: &mut Vec<Written>,
-) -> Result<(), AllocError>
-    ensures { OnOk result (list.new.items ≡ list.old.items ++ map written (tasks_for P.is_of (tasks_of aliases.now mailing.now.faction (reading_of mailing.now)))) }
-{
-    let lines = last_lines(alloc, aliases, mailing)?;
-    collect_standing(phase, aliases, mailing, &lines, list)
-}
-
-/// The orders of all mailings for a phase, mailing by mailing.
-fn collected<P: PhaseVerbs>(
-    alloc: Global,
-    phase: &P,
-    aliases: &Numbered<Numbered<u32>>,
-    mailings: &[Mailing],
-) -> Result<Vec<Written>, AllocError>
-    ensures { IfOk result (λ list. list.items ≡ map written (all_tasks P.is_of aliases.now (map reading_of mailings.now))) }
+    mailings: &'m [Mailing],
+    places: &[Placed],
+) -> Result<Vec<Written<'m>>, AllocError>
+    requires { All (IsThere mailings.now) places.now }
+    ensures { IfOk result (λ list. map task_of list.items ≡ tasks_picked P.is_of mailings.now places.now) }
 {
     let mut list = Vec::new(alloc);
-    for mailing in mailings {
-        collect_mailing(alloc, phase, aliases, mailing, &mut list)?;
+    for placed in places {
+        let order = order_at(mailings, placed);
+        if phase.has(order.order.verb()) {
+            list.push(order)?;
+        }
     }
     Ok(list)
 }
 
 /// The orders of a phase that stand, in the arrangement of the phase, from mailings that are sorted by faction, no two of
-/// one faction. It takes memory for each order, and n log n steps.
-pub(crate) fn orders_of<P: PhaseVerbs>(
+/// one faction. By unit they are picked from the places that were gathered, if these are there. Else it gathers all orders
+/// for this call alone.
+pub(crate) fn orders_of<'m, P: PhaseVerbs>(
     alloc: Global,
     phase: &P,
     arrangement: Arrangement,
     aliases: &Numbered<Numbered<u32>>,
-    mailings: &[Mailing],
-) -> Result<Vec<Written>, AllocError>
-    requires { AreByFaction mailings.now }
-    ensures { IfOk result (λ list. list.items ≡ map written (values (orders_of P.is_of arrangement aliases.now (by_faction (map reading_of mailings.now))))) }
+    mailings: &'m [Mailing],
+    standing: &Option<Vec<Placed>>,
+) -> Result<Vec<Written<'m>>, AllocError>
+    requires { IsReady aliases.now mailings.now standing.now }
+    ensures { IfOk result (λ list. map task_of list.items ≡ values (orders_of P.is_of arrangement aliases.now (by_faction (map reading_of mailings.now)))) }
 {
-    let mut list = collected(alloc, phase, aliases, mailings)?;
-    sort(&mut list, arrangement);
-    Ok(list)
-}
-
-/// Sorts orders.
-fn sort(list: &mut Vec<Written>, arrangement: Arrangement)
-    ensures moved { IsPermutation list.old.items list.new.items }
-    ensures sorted { IsSortedByKey (key_by arrangement) (slice_cmp nat_cmp) list.new.items }
-{
-    list.sort_unstable_by_key(
-        move |written|
-            ensures { result ≡ key_by arrangement written.now }
-        { written.key(arrangement) },
-    );
+    match (arrangement, standing) {
+        (Arrangement::ByUnit, Some(places)) => picked(alloc, phase, mailings, places),
+        _ => {
+            let places = gathered(alloc, arrangement, aliases, mailings)?;
+            picked(alloc, phase, mailings, &places)
+        }
+    }
 }
 
 /// Each order of a phase stands in the mailing of its faction, at its place there.

@@ -14,7 +14,7 @@ use crate::orders::PhaseVerbs;
 use crate::outcome::failed;
 use crate::steps::{OrderPhase, PlainPhase, own_unit};
 use crate::written::Written;
-use atl_orders::{Mailing, Order, Verb};
+use atl_orders::{Order, Verb};
 use atl_state::{Campaign, EventFault, Outcome, Unit};
 use atl_tables::World;
 use std::alloc::{AllocError, Global};
@@ -72,8 +72,8 @@ fn leave_fault(world: &World, unit: &Unit) -> Option<EventFault>
 
 /// A unit leaves the structure that it is inside.
 #[tactic(auto, unfolding(crate::specs::Place::left))]
-fn leave(world: &World, campaign: &mut Campaign, order: Written) -> Result<Outcome, AllocError>
-    ensures what { IfOk result (λ outcome. (campaign.new.value, outcome) ≡ carried (left world.now order.unit) campaign.old.value order.faction order.unit) }
+fn leave(world: &World, campaign: &mut Campaign, order: Written<'_>) -> Result<Outcome, AllocError>
+    ensures what { IfOk result (λ outcome. (campaign.new.value, outcome) ≡ carried (left world.now order.entry.unit) campaign.old.value order.entry.faction order.entry.unit) }
     ensures marks { OnOk result (MarksChanges campaign.old campaign.new) }
 {
     let Some(unit) = own_unit(campaign, order) else {
@@ -107,8 +107,8 @@ fn enter_other(
 
 /// A unit enters a structure of its region.
 #[tactic(auto, unfolding(crate::specs::Place::entered))]
-fn enter(campaign: &mut Campaign, order: Written, structure: u32) -> Result<Outcome, AllocError>
-    ensures what { IfOk result (λ outcome. (campaign.new.value, outcome) ≡ carried (entered order.unit structure) campaign.old.value order.faction order.unit) }
+fn enter(campaign: &mut Campaign, order: Written<'_>, structure: u32) -> Result<Outcome, AllocError>
+    ensures what { IfOk result (λ outcome. (campaign.new.value, outcome) ≡ carried (entered order.entry.unit structure) campaign.old.value order.entry.faction order.entry.unit) }
     ensures marks { OnOk result (MarksChanges campaign.old campaign.new) }
 {
     let Some(unit) = own_unit(campaign, order) else {
@@ -147,8 +147,8 @@ fn give_to(campaign: &mut Campaign, structure: u32, owner: u32)
 
 /// A unit makes another the owner of the structure that both are inside.
 #[tactic(auto, unfolding(crate::specs::Place::promoted))]
-fn promote(campaign: &mut Campaign, order: Written, to: u32) -> Outcome
-    ensures what { (campaign.new.value, result) ≡ carried (promoted order.unit to) campaign.old.value order.faction order.unit }
+fn promote(campaign: &mut Campaign, order: Written<'_>, to: u32) -> Outcome
+    ensures what { (campaign.new.value, result) ≡ carried (promoted order.entry.unit to) campaign.old.value order.entry.faction order.entry.unit }
     ensures marks { MarksChanges campaign.old campaign.new }
 {
     let Some(unit) = own_unit(campaign, order) else {
@@ -182,11 +182,9 @@ impl OrderPhase for PlacePhase {
         world: &World,
         campaign: &mut Campaign,
         month: &Month,
-        order: Written,
-        _mailing: &Mailing,
-        what: &Order,
+        order: Written<'_>,
     ) -> Result<Option<Outcome>, AllocError> {
-        match what {
+        match order.order {
             Order::Leave => Ok(Some(leave(world, campaign, order)?)),
             Order::Enter(structure) => Ok(Some(enter(campaign, order, *structure)?)),
             Order::Promote(to) => {

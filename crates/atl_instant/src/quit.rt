@@ -21,7 +21,7 @@ use crate::outcome::failed;
 use crate::phase::{Phase, Ran};
 use crate::steps::{OrderPhase, carry_out_orders, own_unit};
 use crate::written::Written;
-use atl_orders::{Mailing, Order, Verb};
+use atl_orders::{Order, Verb};
 use atl_state::{Campaign, Entry, EventFault, Outcome, Thing, Unit};
 use atl_tables::World;
 use std::alloc::{AllocError, Global};
@@ -134,12 +134,12 @@ fn quit(
     alloc: Global,
     world: &World,
     campaign: &mut Campaign,
-    order: Written,
+    order: Written<'_>,
     number: u32,
 ) -> Result<Outcome, AllocError>
     requires steady { IsSteady world.now campaign.old.value }
     requires room { HaveRoom (quit_reserve campaign.old.value) campaign.old.value }
-    ensures what { IfOk result (λ outcome. (campaign.new.value, outcome) ≡ carried (quit number) campaign.old.value order.faction order.unit) }
+    ensures what { IfOk result (λ outcome. (campaign.new.value, outcome) ≡ carried (quit number) campaign.old.value order.entry.faction order.entry.unit) }
     ensures marks { OnOk result (MarksChanges campaign.old campaign.new) }
 {
     let Some(unit) = own_unit(campaign, order) else {
@@ -178,11 +178,9 @@ impl OrderPhase for QuitPhase {
         world: &World,
         campaign: &mut Campaign,
         _: &Month,
-        order: Written,
-        _: &Mailing,
-        what: &Order,
+        order: Written<'_>,
     ) -> Result<Option<Outcome>, AllocError> {
-        match what {
+        match order.order {
             Order::Quit(number) => Ok(Some(quit(alloc, world, campaign, order, *number)?)),
             _ => Ok(None),
         }

@@ -2,7 +2,6 @@
 ghost use Rattle.std.specs.Prelude.{◌≡◌, IfOk, IfSome, OnOk, Some};
 ghost use Rattle.std.specs.FinMap.{get};
 ghost use Rattle.std.specs.Option.{option_copied};
-ghost use Rattle.atl_orders.specs.Orders.{said};
 ghost use Rattle.atl_state.specs.Covers.{MarksChanges};
 ghost use Rattle.atl_orders.specs.Bounds.{IsOrderOf};
 ghost use Rattle.atl_instant.specs.Fit.{AreFit};
@@ -10,14 +9,14 @@ ghost use Rattle.atl_instant.specs.Meaning.{Condition, HaveRoom, LeavesWell, Mov
 ghost use Rattle.atl_instant.specs.Staying.{IsNoWorse};
 ghost use Rattle.atl_instant.specs.Unbooked.{books_nothing, moves_nothing};
 ghost use Rattle.atl_instant.specs.Steps.{Concern, IsOrderly, IsOwnOrder, Reserve, Sparing, Step, carried_out, is_of_faction, of_faction, one_order, ordered, spares_others};
-ghost use Rattle.atl_instant.specs.Carrying.{found_written, task_of};
+ghost use Rattle.atl_instant.specs.Month.{with_events};
+ghost use Rattle.atl_instant.specs.PhaseOrders.{task_of};
 
-use crate::month::Month;
+use crate::month::{Month, tell_all};
 use crate::orders::PhaseVerbs;
 use crate::phase::{Phase, Ran};
 use crate::written::{Arrangement, Written};
-use atl_orders::{Mailing, Order};
-use atl_state::{Campaign, Outcome, Unit};
+use atl_state::{Campaign, Event, Outcome, Unit};
 use atl_tables::World;
 use std::alloc::{AllocError, Global};
 
@@ -50,14 +49,12 @@ pub trait OrderPhase: PhaseVerbs {
         world: &World,
         campaign: &mut Campaign,
         month: &Month,
-        order: Written,
-        mailing: &Mailing,
-        what: &Order,
+        order: Written<'_>,
     ) -> Result<Option<Outcome>, AllocError>
         requires holds { holds world.now campaign.old.value }
         requires room { HaveRoom (reserve campaign.old.value) campaign.old.value }
-        requires fit { IsOrderOf world.now (said mailing.now.text what.now) }
-        ensures step { IfOk result (λ outcome. (campaign.new.value, outcome) ≡ ordered (step self.now world.now month.now.aliases (task_of order (said mailing.now.text what.now))) campaign.old.value order.faction order.unit) }
+        requires fit { IsOrderOf world.now (task_of order).said }
+        ensures step { IfOk result (λ outcome. (campaign.new.value, outcome) ≡ ordered (step self.now world.now month.now.aliases (task_of order.entry)) campaign.old.value order.entry.faction order.entry.unit) }
         ensures marks { OnOk result (MarksChanges campaign.old campaign.new) };
 
     /// What each step leaves, and what it spares.
@@ -76,9 +73,9 @@ pub fn is_of_faction(campaign: &Campaign, unit: u32, faction: u32) -> bool
 }
 
 /// The unit that an order is for; None where it isn't there, or is another faction's.
-pub fn own_unit(campaign: &Campaign, order: Written) -> Option<&Unit>
-    ensures own { option_copied result ≡ of_faction order.faction (get campaign.now.value.units order.unit) }
-    ensures there { IfSome result (λ unit. get campaign.now.value.units order.unit ≡ Some unit.now) }
+pub fn own_unit<'c>(campaign: &'c Campaign, order: Written<'_>) -> Option<&'c Unit>
+    ensures own { option_copied result ≡ of_faction order.entry.faction (get campaign.now.value.units order.entry.unit) }
+    ensures there { IfSome result (λ unit. get campaign.now.value.units order.entry.unit ≡ Some unit.now) }
 {
     match campaign.unit(order.unit) {
         Some(unit) if unit.faction == order.faction => Some(unit),
@@ -86,29 +83,26 @@ pub fn own_unit(campaign: &Campaign, order: Written) -> Option<&Unit>
     }
 }
 
-/// Carries out an order, and tells of it.
+/// Carries out an order, and puts what came of it behind other events.
 fn carry_one<P: OrderPhase>(
     alloc: Global,
     phase: &P,
     world: &World,
     campaign: &mut Campaign,
-    month: &mut Month,
-    order: Written,
+    month: &Month,
+    order: Written<'_>,
+    events: &mut Vec<Event>,
 ) -> Result<(), AllocError>
     requires holds { P.holds world.now campaign.old.value }
     requires room { HaveRoom (P.reserve campaign.old.value) campaign.old.value }
-    requires read { AreFit world.now month.old.readings }
-    ensures step { OnOk result ((campaign.new.value, month.new) ≡ found_written (one_order (P.step phase.now) world.now) month.old.readings (campaign.old.value, month.old) order) }
+    requires fit { IsOrderOf world.now (task_of order).said }
+    ensures step { OnOk result ((campaign.new.value, with_events month.now events.new.items) ≡ one_order (P.step phase.now) world.now (campaign.old.value, with_events month.now events.old.items) (task_of order.entry)) }
     ensures marks { OnOk result (MarksChanges campaign.old campaign.new) }
 {
-    let Some((mailing, what)) = month.order(order.faction, order.place) else {
-        return Ok(());
-    };
-    let verb = what.verb();
-    match phase.carry_out(alloc, world, campaign, month, order, mailing, what)? {
-        Some(outcome) => month.tell(order.event(verb, outcome)),
-        None => Ok(()),
+    if let Some(outcome) = phase.carry_out(alloc, world, campaign, month, order)? {
+        events.push(order.event(outcome))?;
     }
+    Ok(())
 }
 
 /// Carries out the orders of a phase, by unit, line and faction, each over what the one before left, and tells of each.
@@ -131,9 +125,12 @@ pub fn carry_out_orders<P: OrderPhase>(
 {
     phase.is_orderly();
     let orders = month.orders(alloc, phase, Arrangement::ByUnit)?;
+    let mut events = Vec::new(alloc);
     for order in &orders {
-        carry_one(alloc, phase, world, campaign, month, *order)?;
+        carry_one(alloc, phase, world, campaign, month, *order, &mut events)?;
     }
+    drop(orders);
+    tell_all(month, &events)?;
     Ok(())
 }
 

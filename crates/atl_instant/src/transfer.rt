@@ -17,7 +17,7 @@ use crate::orders::PhaseVerbs;
 use crate::outcome::failed;
 use crate::steps::{OrderPhase, PlainPhase, own_unit};
 use crate::written::Written;
-use atl_orders::{Mailing, Order, Verb};
+use atl_orders::{Order, Verb};
 use atl_state::{Campaign, EventFault, Holding, MEN_LIMIT, Outcome, Unit};
 use atl_tables::World;
 use std::alloc::{AllocError, Global};
@@ -130,12 +130,12 @@ fn transfer_fault(
 fn transfer(
     alloc: Global,
     campaign: &mut Campaign,
-    order: Written,
+    order: Written<'_>,
     to: u32,
     going: u32,
 ) -> Result<Outcome, AllocError>
     requires days { AreDays campaign.old.value }
-    ensures what { IfOk result (λ outcome. (campaign.new.value, outcome) ≡ carried (transfer order.unit to going) campaign.old.value order.faction order.unit) }
+    ensures what { IfOk result (λ outcome. (campaign.new.value, outcome) ≡ carried (transfer order.entry.unit to going) campaign.old.value order.entry.faction order.entry.unit) }
     ensures marks { OnOk result (MarksChanges campaign.old campaign.new) }
 {
     let Some(sender) = own_unit(campaign, order) else {
@@ -170,11 +170,9 @@ impl OrderPhase for TransferPhase {
         _: &World,
         campaign: &mut Campaign,
         month: &Month,
-        order: Written,
-        _: &Mailing,
-        what: &Order,
+        order: Written<'_>,
     ) -> Result<Option<Outcome>, AllocError> {
-        match what {
+        match order.order {
             Order::Transfer { to, men } => {
                 let receiver = month.unit(order.faction, *to);
                 Ok(Some(transfer(alloc, campaign, order, receiver, *men)?))

@@ -13,9 +13,9 @@ use Rattle.atl_records.specs.Every.{IsThere}
 use Rattle.atl_state.specs.Campaign.{CampaignValue}
 use Rattle.atl_state.proofs.BackLaws.{Rise, entries_rise}
 use Rattle.atl_records.proofs.EveryLaws.{each-from_every, first, other_number, same_number}
-use Rattle.atl_instant.specs.declared.written.Written.{Written}
+use Rattle.atl_instant.specs.PhaseOrders.{Task}
 use Rattle.atl_market.specs.AtOnce.{Gets, Gives, PaysAtOnce, paid_unit, stands_in}
-use Rattle.atl_market.specs.PotPhase.{PotMeaning, given_by, shared_out}
+use Rattle.atl_market.specs.PotPhase.{PotMeaning, given_by, items_by, shared_out}
 use Rattle.atl_market.proofs.DrawLaws.{AreUntouched, Drawers, all_pairs, drawn, still, untouched, who_stand}
 use Rattle.atl_market.proofs.PotLaws.{found_other}
 
@@ -122,13 +122,13 @@ drawn_is draws (e ∷ es) = by_test (draws e.0) (drawn_is draws es)
     by_test false rest = no_more (drawn draws es) ∙ rest
 
 -- each unit that gets something is there, and its region where that is needed
-abbrev pub GivesWhoIsThere : Bool → PotMeaning → WorldValue → CampaignValue → List Written → Type 0
+abbrev pub GivesWhoIsThere : Bool → PotMeaning → WorldValue → CampaignValue → List Task → Type 0
 GivesWhoIsThere needs p w c os = (n share : ℕ) → get (given_by p w c os) n ≡ Some share → (u : Unit) × (get c.units n ≡ Some u) × Around needs c u
 
-pub all_at_once : {needs : Bool} (p : PotMeaning) (w : WorldValue) (gets : ℕ → Gets) (gives : Gives) → Pays needs (p.paid w) gets gives
-    → (c : CampaignValue) (os : List Written) → GivesWhoIsThere needs p w c os → PaysAtOnce p w gets gives c os
+pub all_at_once : {needs : Bool} (p : PotMeaning) (w : WorldValue) (gets : ℕ → Gets) (gives : Gives) (c : CampaignValue) (os : List Task)
+    → Pays needs (p.paid (items_by p w c os) w) gets gives → GivesWhoIsThere needs p w c os → PaysAtOnce p w gets gives c os
 unfolding shared_out
-all_at_once {needs} p w gets gives pays c os gives_them =
+all_at_once {needs} p w gets gives c os pays gives_them =
     let given = given_by p w c os in
     let ready : AreReady pays c c (entries given) = record {
       rise = entries_rise given;

@@ -45,7 +45,7 @@ use Rattle.atl_instant.proofs.QuitLaws.{sum_within}
 use Rattle.atl_instant.proofs.StepLaws.{no_worse_spares, well_same, well_twice}
 use Rattle.atl_instant.proofs.UnbookedLaws.{stays_spared}
 use Rattle.atl_market.specs.Build.{CanBuild, begin, begin_fault, build_moves, build_reserve, build_said, build_step, built_at, go_on, go_on_at, gone_on, inside_fault, is_structure_limit, new_structure, size_added, started, with_kind, with_new}
-use Rattle.atl_market.specs.Goods.{CanUse}
+use Rattle.atl_market.specs.Making.{CanUse}
 use Rattle.atl_market.proofs.BuildBegunLaws.{built_well, raised_well, sort_name_ok}
 use Rattle.atl_market.proofs.BuildPlaceLaws.{place_well}
 use Rattle.atl_market.proofs.BuildUsedLaws.{others_stay, used, used_for_well, used_room, user, user_there}

@@ -28,8 +28,9 @@ use Rattle.atl_records.proofs.HeldLaws.{alike, set_amount}
 use Rattle.atl_instant.proofs.MeaningLaws.{less_room, near_more}
 use Rattle.atl_instant.proofs.StepLaws.{drawn_near}
 use Rattle.atl_market.specs.Build.{CanBuild, build_reserve, usable}
-use Rattle.atl_market.specs.Goods.{used_by, with_used}
-use Rattle.atl_market.proofs.GoodsLaws.{either_way, item_held, used_is, used_up_to}
+use Rattle.atl_market.specs.Goods.{with_used}
+use Rattle.atl_market.proofs.GoodsLaws.{item_held, used_is, used_up_to}
+use Rattle.atl_market.proofs.ThereLaws.{by_unit}
 
 -- ---- what a unit holds less
 
@@ -129,10 +130,10 @@ module _ (w : WorldValue) (c : CampaignValue) (n item amount : ℕ) (u : Unit) (
 
 -- the structures, and the number that comes next
 pub same_structures : (c : CampaignValue) (n item amount : ℕ) → (with_used c n item amount).structures ≡ c.structures
-same_structures c n item amount = either_way (λ o. (used_by c n item amount o).structures) c.structures refl (λ u. refl) (get c.units n)
+same_structures c n item amount = by_unit c n (λ (d : CampaignValue). d.structures ≡ c.structures) _ refl (λ u is. refl)
 
 pub same_next : (c : CampaignValue) (n item amount : ℕ) → (with_used c n item amount).next_structure ≡ c.next_structure
-same_next c n item amount = either_way (λ o. (used_by c n item amount o).next_structure) c.next_structure refl (λ u. refl) (get c.units n)
+same_next c n item amount = by_unit c n (λ (d : CampaignValue). d.next_structure ≡ c.next_structure) _ refl (λ u is. refl)
 
 -- ---- there is room for what a unit may use
 

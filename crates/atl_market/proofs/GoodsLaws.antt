@@ -1,5 +1,5 @@
 -- A unit uses an item, or makes one.
-use Rattle.std.proofs.Common.{◌≡◌, ◌≢◌, ◌==◌, ℕ, ◌+◌, ◌-◌, ◌≤◌, ◌<◌, Bool, true, false, cond, Option, Some, None, length, refl, sym, ap, subst, ◌∙◌, arith}
+use Rattle.std.proofs.Common.{◌≡◌, ◌≢◌, ◌==◌, ℕ, ◌+◌, ◌-◌, ◌≤◌, ◌<◌, Bool, true, false, cond, Some, length, refl, sym, ap, subst, ◌∙◌, arith}
 use Rattle.std.specs.Prelude.{ℤ, pos, neg_ℤ, ◌+ℤ◌}
 use Rattle.std.specs.Ordering.{nat_cmp, eq_by_cmp}
 use Rattle.std.specs.Cmp.{unsigned_ties}
@@ -30,18 +30,15 @@ use Rattle.atl_records.proofs.HeldLaws.{alike, amount_within, every_amount, set_
 use Rattle.atl_instant.proofs.MeaningLaws.{same_month_by}
 use Rattle.atl_instant.proofs.BookingLaws.{booked-near, within-neg, within-pos}
 use Rattle.atl_instant.proofs.ChangeLaws.{changed_held, others_held}
-use Rattle.atl_market.specs.Goods.{CanMake, CanUse, made_to, used_by, with_made, with_used}
+use Rattle.atl_market.specs.Goods.{with_made, with_used}
+use Rattle.atl_market.specs.Making.{CanMake, CanUse}
+use Rattle.atl_market.proofs.ThereLaws.{by_unit, unit_there}
 
 moved : (x y t k a l : ℕ) (z : ℤ) → x ≡ y → y + k ≡ t + a → k ≡ l → pos a ≡ pos l +ℤ z → pos x ≡ pos t +ℤ z
 moved x y t k a l z e f g h = omega (arith, ints, e, f, g, h)
 
 unmoved : (x y t k : ℕ) → x ≡ y → y + k ≡ t + k → pos x ≡ pos t +ℤ pos 0
 unmoved x y t k e f = omega (arith, ints, e, f)
-
--- what is the same whether a unit is there or not
-pub either_way : {A : Type 0} (of : Option Unit → A) (same : A) → of None ≡ same → ((u : Unit) → of (Some u) ≡ same) → (o : Option Unit) → of o ≡ same
-either_way of same without with None = without
-either_way of same without with (Some u) = with u
 
 -- a unit that is there holds so much of an item
 abbrev pub item_held : CampaignValue → ℕ → Unit → (item amount : ℕ) → CampaignValue
@@ -120,10 +117,10 @@ put_to a k = omega (arith, ints)
 
 module _ (w : WorldValue) (c : CampaignValue) (n i k : ℕ) where
   pub used_is : (u : Unit) → get c.units n ≡ Some u → with_used c n i k ≡ with_amount (item_held c n u i (amount_of u.holding.items i - k)) entries.Used (Item i) (neg_ℤ (pos k))
-  used_is u is = ap (used_by c n i k) is ∙ ap (λ d. with_amount d entries.Used (Item i) (neg_ℤ (pos k))) (item_is c n u i (amount_of u.holding.items i - k) is)
+  used_is u is = unit_there c n _ u is ∙ ap (λ d. with_amount d entries.Used (Item i) (neg_ℤ (pos k))) (item_is c n u i (amount_of u.holding.items i - k) is)
 
   pub made_is : (u : Unit) → get c.units n ≡ Some u → with_made c n i k ≡ with_amount (item_held c n u i (amount_of u.holding.items i + k)) entries.Made (Item i) (pos k)
-  made_is u is = ap (made_to c n i k) is ∙ ap (λ d. with_amount d entries.Made (Item i) (pos k)) (item_is c n u i (amount_of u.holding.items i + k) is)
+  made_is u is = unit_there c n _ u is ∙ ap (λ d. with_amount d entries.Made (Item i) (pos k)) (item_is c n u i (amount_of u.holding.items i + k) is)
 
   held_within : (u : Unit) → get c.units n ≡ Some u → IsSteady w c → amount_of u.holding.items i ≤ holding_limit
   held_within u is steady = amount_within u.holding i (steady.numbers.units n u is).1
@@ -160,18 +157,10 @@ module _ (w : WorldValue) (c : CampaignValue) (n i k : ℕ) where
   item_others amount m apart = others_held (λ u. record u { holding = record u.holding { items = with_amount_of u.holding.items i amount } }) c n m apart
 
   pub used_others : (m : ℕ) → m ≢ n → get (with_used c n i k).units m ≡ get c.units m
-  used_others m apart = by_unit (get c.units n)
-    where
-      by_unit : (o : Option Unit) → get (used_by c n i k o).units m ≡ get c.units m
-      by_unit None = refl
-      by_unit (Some u) = item_others (amount_of u.holding.items i - k) m apart
+  used_others m apart = by_unit c n (λ (d : CampaignValue). get d.units m ≡ get c.units m) _ refl (λ u is. item_others (amount_of u.holding.items i - k) m apart)
 
   pub made_others : (m : ℕ) → m ≢ n → get (with_made c n i k).units m ≡ get c.units m
-  made_others m apart = by_unit (get c.units n)
-    where
-      by_unit : (o : Option Unit) → get (made_to c n i k o).units m ≡ get c.units m
-      by_unit None = refl
-      by_unit (Some u) = item_others (amount_of u.holding.items i + k) m apart
+  made_others m apart = by_unit c n (λ (d : CampaignValue). get d.units m ≡ get c.units m) _ refl (λ u is. item_others (amount_of u.holding.items i + k) m apart)
 
 -- with less of one item a unit has no more of another
 pub no_more : (h : Held) (r i k : ℕ) → amount_of (with_amount_of h.items r (amount_of h.items r - k)) i ≤ amount_of h.items i

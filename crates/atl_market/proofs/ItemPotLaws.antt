@@ -1,7 +1,7 @@
 -- Pots of items: the shares that are put region by region and item by item are those of the definition.
 use Rattle.std.proofs.Common.{◌≡◌, ℕ, ◌≤◌, ◌==◌, ◌||◌, ◌&&◌, Bool, true, false, cond, List, [], ◌∷◌, ◌++◌, map, filter, Option, Some, None, is_some, T, refl, sym, ap, subst, ◌∙◌, inl, inr}
-use Rattle.std.specs.Prelude.{fold, unwrap_or}
-use Rattle.std.specs.List.{AllByRecursion, flat_map, list_any, zip}
+use Rattle.std.specs.Prelude.{fold, option_and_then, option_map, unwrap_or}
+use Rattle.std.specs.List.{AllByRecursion, cons_option, filter_map, flat_map, list_any, zip}
 use Rattle.std.specs.Ordering.{nat_cmp, eq_by_cmp, is_eq, is_lt}
 use Rattle.std.specs.Cmp.{nat_cmp_total}
 use Rattle.std.specs.declared.cmp.Ordering.TheVariants.{Less, Equal, Greater}
@@ -18,8 +18,8 @@ use Rattle.atl_state.proofs.OrderLaws.{each_so}
 use Rattle.atl_state.proofs.RegionLaws.{get-insert_same}
 use Rattle.atl_instant.proofs.MappedLaws.{no_entries}
 use Rattle.atl_market.specs.ItemGroups.{Groups, item_shares_in, region_shares, want_put, with_want}
-use Rattle.atl_market.specs.ItemPots.{is_for, item_share, item_shares, listed, share_for, wants_for}
-use Rattle.atl_market.specs.Pots.{shares_in, takers_in, want_of}
+use Rattle.atl_market.specs.ItemPots.{is_for, item_share, item_shares, wants_for}
+use Rattle.atl_market.specs.Pots.{share_of, shares_in, takers_in, want_of}
 use Rattle.atl_market.specs.Puts.{with_each}
 use Rattle.atl_market.specs.Share.{shares}
 use Rattle.atl_market.proofs.PotLaws.{Entries, IsApart, IsRisen, as_pairs, found_first, found_head, found_is, found_later, found_other, found_put, found_tail, given_apart, given_is, given_takes, left, pots_give, somewhere, takers_risen}
@@ -211,6 +211,10 @@ module _ (item_of : ℕ → Option ℕ) (pot_of : (item region : ℕ) → ℕ) (
   abbrev gets : ℕ → Option ℕ
   gets n = item_share item_of pot_of wants c n
 
+  -- by the item that it asks for
+  abbrev pub share_for : ℕ → Option ℕ → Option ℕ
+  share_for n o = option_and_then (λ i. share_of (pot_of i) (wants_for item_of wants i) c n) o
+
   module _ (r : ℕ) where
     abbrev groups : Groups
     groups = fold (with_want item_of wants) empty (numbers_in r c.units)
@@ -251,7 +255,7 @@ module _ (item_of : ℕ → Option ℕ) (pot_of : (item region : ℕ) → ℕ) (
             each_so (λ e. find nat_cmp e.0 (of_item i) ≡ Some e.1) (λ e. gets e.0 ≡ Some e.1)
             (λ e is.
             let (at, (want, wanted)) = given_takes (pot_of i) (mine item_of wants i) c.units r e.0 e.1 is in
-            ap (share_for item_of pot_of wants c e.0) (asks item_of wants i e.0 want wanted) ∙ given_is (pot_of i) (mine item_of wants i) c r e.0 e.1 there is) (of_item i) (found_all (of_item i) (given_apart (pot_of i) (mine item_of wants i) c.units r))
+            ap (share_for e.0) (asks item_of wants i e.0 want wanted) ∙ given_is (pot_of i) (mine item_of wants i) c r e.0 e.1 there is) (of_item i) (found_all (of_item i) (given_apart (pot_of i) (mine item_of wants i) c.units r))
 
     -- and none is missing
     region_whole : (i n s : ℕ) → find nat_cmp n (of_item i) ≡ Some s → is_some (find nat_cmp n (region_shares item_of pot_of wants c r)) ≡ true
@@ -269,15 +273,18 @@ module _ (item_of : ℕ → Option ℕ) (pot_of : (item region : ℕ) → ℕ) (
   pub items_give : (n s : ℕ) → gets n ≡ Some s → (want : ℕ) × (get wants n ≡ Some want) × (s ≤ want)
   items_give n s is = by_item (item_of n) is
     where
-      by_item : (o : Option ℕ) → share_for item_of pot_of wants c n o ≡ Some s → (want : ℕ) × (get wants n ≡ Some want) × (s ≤ want)
+      by_item : (o : Option ℕ) → share_for n o ≡ Some s → (want : ℕ) × (get wants n ≡ Some want) × (s ≤ want)
       by_item None is = none_some s is
       by_item (Some i) is =
           let (want, wanted, low) = pots_give (pot_of i) c (mine item_of wants i) n s is in
           (want, is_wanted item_of wants i n want wanted, low)
 
   -- what is listed of them by unit
+  abbrev share_at : ℕ → Option ℕ → Option (ℕ × ℕ)
+  share_at n o = option_map (λ s. (n, s)) o
+
   abbrev of_wants : Entries → Entries
-  of_wants es = flat_map (λ e. listed item_of pot_of wants c e.0 (gets e.0)) es
+  of_wants es = filter_map (λ e. share_at e.0 (gets e.0)) es
 
   found_listed : (es : Entries) (n : ℕ) → find nat_cmp n (of_wants es) ≡ cond (is_some (find nat_cmp n es)) (gets n) None
   found_listed [] n = refl
@@ -288,11 +295,11 @@ module _ (item_of : ℕ → Option ℕ) (pot_of : (item region : ℕ) → ℕ) (
     | inr apart ↦ other apart (gets e.0) ∙ found_listed es n ∙ sym (ap (λ o. cond (is_some o) (gets n) None) (found_other e es n apart))
   ]
     where
-      here : n ≡ e.0 → (o : Option ℕ) → gets e.0 ≡ o → find nat_cmp n (of_wants es) ≡ cond (is_some (find nat_cmp n es)) (gets n) None → find nat_cmp n (listed item_of pot_of wants c e.0 o ++ of_wants es) ≡ o
+      here : n ≡ e.0 → (o : Option ℕ) → gets e.0 ≡ o → find nat_cmp n (of_wants es) ≡ cond (is_some (find nat_cmp n es)) (gets n) None → find nat_cmp n (cons_option (share_at e.0 o) (of_wants es)) ≡ o
       here same None is rest = rest ∙ ap (λ o. cond (is_some (find nat_cmp n es)) o None) (ap gets same ∙ is) ∙ either (is_some (find nat_cmp n es)) None
       here same (Some s) is rest = ap (λ k. find nat_cmp k ((e.0, s) ∷ of_wants es)) same ∙ first (e.0, s) (of_wants es)
 
-      other : (n ≡ e.0 → ⊥) → (o : Option ℕ) → find nat_cmp n (listed item_of pot_of wants c e.0 o ++ of_wants es) ≡ find nat_cmp n (of_wants es)
+      other : (n ≡ e.0 → ⊥) → (o : Option ℕ) → find nat_cmp n (cons_option (share_at e.0 o) (of_wants es)) ≡ find nat_cmp n (of_wants es)
       other apart None = refl
       other apart (Some s) = found_other (e.0, s) (of_wants es) n apart
 
@@ -322,7 +329,7 @@ module _ (item_of : ℕ → Option ℕ) (pot_of : (item region : ℕ) → ℕ) (
   none_missing : (n s : ℕ) → gets n ≡ Some s → is_some (find nat_cmp n all_shares) ≡ true
   none_missing n s is = by_item (item_of n) is
     where
-      by_item : (o : Option ℕ) → share_for item_of pot_of wants c n o ≡ Some s → is_some (find nat_cmp n all_shares) ≡ true
+      by_item : (o : Option ℕ) → share_for n o ≡ Some s → is_some (find nat_cmp n all_shares) ≡ true
       by_item None is = none_some s is
       by_item (Some i) is =
           let (r, among, found) = somewhere (of_item_in i) n s (keys c.regions) (sym (found_is (pot_of i) (mine item_of wants i) c n) ∙ is) in

@@ -4,8 +4,8 @@ pub mod TurnLaws
 pub mod WantLaws
 pub mod DrawLaws
 pub mod OrderedLaws
-pub mod FindingLaws
 pub mod AtOnceLaws
+pub mod ThereLaws
 pub mod PurseLaws
 pub mod TaxLaws
 pub mod ExchangeLaws

@@ -10,9 +10,8 @@ use Rattle.atl_tables.specs.Worlds.{WorldValue}
 use Rattle.atl_state.specs.Campaign.{CampaignValue}
 use Rattle.atl_state.proofs.BackLaws.{Rise, entries_rise}
 use Rattle.atl_records.proofs.EveryLaws.{first, none_some}
-use Rattle.atl_market.specs.Outputs.{gathered, made_by, makes, output_at, output_share}
 use Rattle.atl_market.specs.Puts.{with_each}
-use Rattle.atl_market.specs.Produce.{produce_pots}
+use Rattle.atl_market.specs.Produce.{gathered, made_by, makes, output_at, output_share, produce_pots}
 use Rattle.atl_market.proofs.ItemPotLaws.{items_give}
 use Rattle.atl_market.proofs.PotLaws.{found_other, risen_put}
 use Rattle.atl_market.proofs.WantLaws.{GivesToWants}
@@ -64,8 +63,8 @@ module _ (asked : FinMap nat_cmp ℕ) (w : WorldValue) (c : CampaignValue) (want
       by_item true = by_share (output_share w asked c wants n) refl
       by_item false = omega arith
 
-pub makes_give : (asked : FinMap nat_cmp ℕ) (w : WorldValue) (c : CampaignValue) → GivesToWants (produce_pots asked) w c
-makes_give asked w c wants n share is =
+pub makes_give : (w : WorldValue) (c : CampaignValue) → GivesToWants produce_pots w c
+makes_give w c asked wants n share is =
     let all = entries wants in
     let (want, wanted, made) = found_instead (made_by w asked c wants) all n share (sym (get-from_entries nat_cmp_total (instead (made_by w asked c wants) all) n) ∙ is) in
     let there : get wants n ≡ Some want = get-entries wants n ∙ wanted in

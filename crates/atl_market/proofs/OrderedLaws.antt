@@ -1,25 +1,25 @@
 -- A unit without an order of its own faction gets nothing, and stays as it is.
-use Rattle.std.proofs.Common.{◌≡◌, ◌≢◌, ◌==◌, ◌&&◌, ◌||◌, ℕ, Bool, true, false, cond, List, [], ◌∷◌, Option, Some, None, refl, sym, ap, subst, ◌∙◌, arith}
-use Rattle.std.specs.Prelude.{fold}
-use Rattle.std.specs.List.{AllByRecursion, flat_map}
+use Rattle.std.proofs.Common.{◌≡◌, ◌≢◌, ◌==◌, ◌&&◌, ◌||◌, ℕ, Bool, true, false, List, [], ◌∷◌, Some, refl, sym, ap, subst, ◌∙◌, arith}
+use Rattle.std.specs.Prelude.{Result, Ok, Err, fold, option_map}
+use Rattle.std.specs.List.{AllByRecursion, filter_map}
+use Rattle.std.specs.Result.{result_ok}
 use Rattle.std.specs.Ordering.{nat_cmp}
 use Rattle.std.specs.FinMap.{FinMap, empty, entries, get, get-empty}
 use Rattle.std.proofs.lemmas.Bool.{false≢true}
 use Rattle.std.proofs.lemmas.Bool.Decides.{nat_tests}
 use Rattle.atl_tables.specs.Worlds.{WorldValue}
 use Rattle.atl_records.specs.declared.event.EventFault.{EventFault}
-use Rattle.atl_records.specs.declared.event.EventFault.TheVariants.{NotYours}
 use Rattle.atl_records.specs.declared.records.Unit.{Unit}
 use Rattle.atl_state.specs.Campaign.{CampaignValue}
 use Rattle.atl_records.proofs.EveryLaws.{each-from_every, get-insert_other, none_some}
-use Rattle.atl_instant.specs.declared.written.Written.{Written}
+use Rattle.atl_instant.specs.PhaseOrders.{Task}
 use Rattle.atl_instant.proofs.StayingLaws.{no_worse}
-use Rattle.atl_market.specs.PotPhase.{PotMeaning, fault_at, fault_of, given_by, shared_out, want_at, want_by, wants_by}
-use Rattle.atl_market.specs.Puts.{with_each}
+use Rattle.atl_market.specs.PotPhase.{PotMeaning, given_by, items_by, shared_out, unit_for, want_by, wants_by}
+use Rattle.atl_market.specs.Puts.{with_any, with_each}
 use Rattle.atl_market.specs.Unordered.{OthersAreNoWorse, is_ordered}
 use Rattle.atl_market.proofs.DrawLaws.{all_pairs}
 use Rattle.atl_market.proofs.PotLaws.{put_in_turn}
-use Rattle.atl_market.proofs.WantLaws.{GivesToWants, appended_entries}
+use Rattle.atl_market.proofs.WantLaws.{GivesToWants, any_then, carries}
 
 neither : (a b : Bool) → (a || b) ≡ false → (a ≡ false) × (b ≡ false)
 neither true b h = absurd (false≢true (sym h))
@@ -28,44 +28,37 @@ neither false b h = (refl, h)
 -- ---- who wants nothing
 
 module _ (p : PotMeaning) (w : WorldValue) (c : CampaignValue) (n : ℕ) (u : Unit) (there : get c.units n ≡ Some u) where
-  abbrev own : Written → Bool
+  abbrev own : Task → Bool
   own o = o.unit == n && o.faction == u.faction
 
-  same_faction : (o : Written) → fault_at p w c o (Some u) ≡ None → (u.faction == o.faction) ≡ true
-  same_faction o is = by_test (u.faction == o.faction) is
-    where
-      by_test : (b : Bool) → cond b (p.fault w u o) (Some NotYours) ≡ None → b ≡ true
-      by_test true h = refl
-      by_test false h = none_some NotYours (sym h)
-
-  no_order : (o : Written) → o.unit ≡ n → (u.faction == o.faction) ≡ true → own o ≡ false → ⊥
+  no_order : (o : Task) → o.unit ≡ n → (u.faction == o.faction) ≡ true → own o ≡ false → ⊥
   no_order o unit faction is = false≢true (sym (clash o.unit n o.faction u.faction unit faction is))
     where
       clash : (a b f g : ℕ) → a ≡ b → (g == f) ≡ true → (a == b && f == g) ≡ false → true ≡ false
       clash a b f g same one none = grind (arith, nat_tests)
 
-  unwanted_by : (m : FinMap nat_cmp ℕ) (o : Written) (f : Option EventFault) (v : Option Unit) → fault_at p w c o v ≡ f → get c.units o.unit ≡ v → own o ≡ false → get (with_each m (want_at p w c o f v)) n ≡ get m n
-  unwanted_by m o (Some f) v is at none = refl
-  unwanted_by m o None None is at none = refl
-  unwanted_by m o None (Some v) is at none =
+  unwanted_by : (m : FinMap nat_cmp ℕ) (o : Task) (r : Result Unit EventFault) → unit_for p w c o ≡ r → own o ≡ false → get (with_any m (option_map (λ v. (o.unit, p.want w v o)) (result_ok r))) n ≡ get m n
+  unwanted_by m o (Err f) is none = refl
+  unwanted_by m o (Ok v) is none =
+      let of = carries p w c o v is in
       get-insert_other m o.unit n (p.want w v o) (λ same.
-      let one : Some v ≡ Some u = sym at ∙ ap (get c.units) (sym same) ∙ there in
+      let one : Some v ≡ Some u = sym of.there ∙ ap (get c.units) (sym same) ∙ there in
       let unit : v ≡ u = cc in
-      no_order o (sym same) (same_faction o (subst (λ x. fault_at p w c o (Some x) ≡ None) unit is)) none)
+      no_order o (sym same) (subst (λ (x : Unit). (x.faction == o.faction) ≡ true) unit of.own) none)
 
-  unwanted : (m : FinMap nat_cmp ℕ) (os : List Written) → is_ordered os n u ≡ false → get (with_each m (flat_map (want_by p w c) os)) n ≡ get m n
+  unwanted : (m : FinMap nat_cmp ℕ) (os : List Task) → is_ordered os n u ≡ false → get (with_each m (filter_map (want_by p w c) os)) n ≡ get m n
   unwanted m [] none = refl
   unwanted m (o ∷ os) none =
       let (first, rest) = neither _ _ none in
-      ap (λ (k : FinMap nat_cmp ℕ). get k n) (appended_entries m (want_by p w c o) (flat_map (want_by p w c) os))
-      ∙ unwanted (with_each m (want_by p w c o)) os rest
-      ∙ unwanted_by m o (fault_of p w c o) (get c.units o.unit) refl refl first
+      ap (λ (k : FinMap nat_cmp ℕ). get k n) (any_then m (want_by p w c o) (filter_map (want_by p w c) os))
+      ∙ unwanted (with_any m (want_by p w c o)) os rest
+      ∙ unwanted_by m o (unit_for p w c o) refl first
 
   -- gets nothing
-  not_given : GivesToWants p w c → (os : List Written) → is_ordered os n u ≡ false → (share : ℕ) → get (given_by p w c os) n ≡ Some share → ⊥
+  not_given : GivesToWants p w c → (os : List Task) → is_ordered os n u ≡ false → (share : ℕ) → get (given_by p w c os) n ≡ Some share → ⊥
   not_given gives os none share is =
-      let (want, wanted, low) = gives (wants_by p w c os) n share is in
-      none_some want (sym (get-empty nat_cmp n) ∙ sym (unwanted empty os none) ∙ ap (λ (m : FinMap nat_cmp ℕ). get m n) (put_in_turn (flat_map (want_by p w c) os)) ∙ wanted)
+      let (want, wanted, low) = gives (items_by p w c os) (wants_by p w c os) n share is in
+      none_some want (sym (get-empty nat_cmp n) ∙ sym (unwanted empty os none) ∙ ap (λ (m : FinMap nat_cmp ℕ). get m n) (put_in_turn (filter_map (want_by p w c) os)) ∙ wanted)
 
 -- ---- and nothing happens to it
 
@@ -74,14 +67,14 @@ module _ (step : CampaignValue → ℕ × ℕ → CampaignValue) (others : (c : 
   passed_over c [] n apart = refl
   passed_over c (e ∷ es) n apart = passed_over (step c e) es n apart.1 ∙ others c e n apart.0
 
-pub unordered_stays : (p : PotMeaning) (w : WorldValue) → ((c : CampaignValue) (e : ℕ × ℕ) (k : ℕ) → k ≢ e.0 → get (p.paid w c e).units k ≡ get c.units k)
-    → (c : CampaignValue) → GivesToWants p w c → (os : List Written) (n : ℕ) (u : Unit) → get c.units n ≡ Some u → is_ordered os n u ≡ false → get (shared_out p w c os).units n ≡ get c.units n
+pub unordered_stays : (p : PotMeaning) (w : WorldValue) → ((items : FinMap nat_cmp ℕ) (c : CampaignValue) (e : ℕ × ℕ) (k : ℕ) → k ≢ e.0 → get (p.paid items w c e).units k ≡ get c.units k)
+    → (c : CampaignValue) → GivesToWants p w c → (os : List Task) (n : ℕ) (u : Unit) → get c.units n ≡ Some u → is_ordered os n u ≡ false → get (shared_out p w c os).units n ≡ get c.units n
 unfolding shared_out
 unordered_stays p w others c gives os n u there none =
     let given = given_by p w c os in
     let apart = each-from_every (λ k share. n ≢ k) given (λ k share is same. not_given p w c n u there gives os none share (ap (get given) same ∙ is)) in
-    passed_over (p.paid w) others c (entries given) n (all_pairs (λ e. n ≢ e.0) (entries given) apart)
+    passed_over (p.paid (items_by p w c os) w) (others (items_by p w c os)) c (entries given) n (all_pairs (λ e. n ≢ e.0) (entries given) apart)
 
-pub others_no_worse : (p : PotMeaning) (w : WorldValue) → ((c : CampaignValue) (e : ℕ × ℕ) (k : ℕ) → k ≢ e.0 → get (p.paid w c e).units k ≡ get c.units k)
-    → (c : CampaignValue) → GivesToWants p w c → (os : List Written) → OthersAreNoWorse os c (shared_out p w c os)
+pub others_no_worse : (p : PotMeaning) (w : WorldValue) → ((items : FinMap nat_cmp ℕ) (c : CampaignValue) (e : ℕ × ℕ) (k : ℕ) → k ≢ e.0 → get (p.paid items w c e).units k ≡ get c.units k)
+    → (c : CampaignValue) → GivesToWants p w c → (os : List Task) → OthersAreNoWorse os c (shared_out p w c os)
 others_no_worse p w others c gives os n u there none = (u, unordered_stays p w others c gives os n u there none ∙ there, no_worse u)

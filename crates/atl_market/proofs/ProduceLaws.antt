@@ -2,6 +2,7 @@
 use Rattle.std.proofs.Common.{◌≡◌, ◌≢◌, ◌==◌, ℕ, ◌+◌, ◌-◌, ◌*◌, ◌/◌, ◌≤◌, ◌<◌, Bool, true, false, List, [], ◌∷◌, length, Option, Some, None, refl, sym, subst, ◌∙◌, arith}
 use Rattle.std.specs.Prelude.{ℤ, IfSome, fold, min, if◌then◌else◌}
 use Rattle.std.specs.List.{AllByRecursion, slice_get}
+use Rattle.std.specs.Option.{option_map_or}
 use Rattle.std.specs.Ordering.{nat_cmp}
 use Rattle.std.specs.FinMap.{FinMap, entries, get}
 use Rattle.std.proofs.lemmas.Bool.Decides.{nat_tests}
@@ -13,6 +14,7 @@ use Rattle.atl_records.specs.declared.books.Entry.{Entry}
 use Rattle.atl_records.specs.declared.books.Entry.TheVariants as booked
 use Rattle.atl_records.specs.declared.books.Thing.{Thing}
 use Rattle.atl_records.specs.declared.books.Thing.TheVariants as things
+use Rattle.atl_records.specs.declared.event.EventFault.TheVariants.{NoMen, NoSkill}
 use Rattle.atl_records.specs.declared.records.Unit.{Unit}
 use Rattle.atl_records.specs.Books.{amount_in, amount_number}
 use Rattle.atl_records.specs.Every.{Every}
@@ -23,22 +25,23 @@ use Rattle.atl_records.specs.Limits.{holding_limit, most_units}
 use Rattle.atl_state.specs.Campaign.{CampaignValue}
 use Rattle.atl_state.proofs.BackLaws.{Rise, entries_rise}
 use Rattle.atl_records.proofs.EveryLaws.{each-from_every, none_some, same_number}
+use Rattle.atl_instant.specs.Outcomes.{first_fault}
 use Rattle.atl_instant.specs.Meaning.{HasRoom, HaveRoom, LeavesWell, Moving, both_move, most_moved, moved_times, moves_only}
-use Rattle.atl_instant.specs.declared.written.Written.{Written}
+use Rattle.atl_instant.specs.PhaseOrders.{Task}
 use Rattle.atl_records.proofs.HeldLaws.{amount_within}
 use Rattle.atl_instant.proofs.MeaningLaws.{MovesLess, both_leave_well, less_room, room_behind, room_less, well_unchanged, well_within}
-use Rattle.atl_market.specs.Making.{CanMakeOf, CanProduce, Fits}
-use Rattle.atl_market.specs.PotPhase.{CanInTurn, given_by, shared_out}
-use Rattle.atl_market.specs.Produce.{produce_moves, produce_pots, produced, produced_by, produced_of, with_raw_used}
-use Rattle.atl_market.specs.Goods.{CanMake, CanUse, with_made, with_used}
+use Rattle.atl_market.specs.Making.{CanMake, CanMakeOf, CanProduce, CanUse, Fits}
+use Rattle.atl_market.specs.PotPhase.{CanInTurn, given_by, item_in, items_by, shared_out}
+use Rattle.atl_market.specs.Produce.{can_make, can_make_of, item_of, make_fault, produce_moves, produce_pots, produced, up_to_raw, with_raw_used}
+use Rattle.atl_market.specs.Goods.{with_made, with_used}
 use Rattle.atl_market.specs.Unordered.{OthersAreNoWorse}
 use Rattle.atl_market.proofs.DrawLaws.{all_pairs}
 use Rattle.atl_market.proofs.MakesLaws.{makes_give}
 use Rattle.atl_market.proofs.OrderedLaws.{others_no_worse}
 use Rattle.atl_market.proofs.GoodsLaws.{made_others, made_well, no_more, used_others, used_unit, used_well}
+use Rattle.atl_market.proofs.ThereLaws.{by_option}
 use Rattle.atl_market.proofs.TurnLaws.{first_room, later_room, turns_leave_well}
-use Rattle.atl_market.proofs.WantLaws.{few_given, given_is_wanted}
-use Rattle.atl_market.specs.Craft.{can_make, can_make_of, up_to_raw}
+use Rattle.atl_market.proofs.WantLaws.{few_given, given_is_named}
 
 -- ---- what is moved
 
@@ -161,47 +164,53 @@ module _ (asked : FinMap nat_cmp ℕ) (w : WorldValue) (c : CampaignValue) (e : 
 
   pub produced_well : CanProduce asked w c e → LeavesWell IsSteady (produce_moves holding_limit) w c (produced asked w c e)
   unfolding produced
-  produced_well can = by_item (get asked e.0) refl
-    where
-      by_world : (i : ℕ) → get asked e.0 ≡ Some i → (o : Option Item) → slice_get w.items i ≡ o → LeavesWell IsSteady (produce_moves holding_limit) w c (produced_of c e i o)
-      by_world i told None is = well_unchanged (produce_moves holding_limit) w c can.steady
-      by_world i told (Some x) is = item_well can i x told is
-
-      by_item : (o : Option ℕ) → get asked e.0 ≡ o → LeavesWell IsSteady (produce_moves holding_limit) w c (produced_by w c e o)
-      by_item None is = well_unchanged (produce_moves holding_limit) w c can.steady
-      by_item (Some i) is = by_world i is (slice_get w.items i) refl
+  produced_well can =
+      let unchanged = well_unchanged (produce_moves holding_limit) w c can.steady in
+      by_option (λ d. LeavesWell IsSteady (produce_moves holding_limit) w c d) _ (get asked e.0) c unchanged (λ i told.
+      by_option (λ d. LeavesWell IsSteady (produce_moves holding_limit) w c d) _ (slice_get w.items i) c unchanged (λ x is. item_well can i x told is))
 
   -- nothing changes for other units
+  abbrev IsStill : ℕ → CampaignValue → Type 0
+  IsStill k d = get d.units k ≡ get c.units k
+
   pub produced_others : (k : ℕ) → k ≢ e.0 → get (produced asked w c e).units k ≡ get c.units k
   unfolding produced
-  produced_others k apart = by_item (get asked e.0)
-    where
-      by_raw : (i amount : ℕ) (o : Option ℕ) → get (with_made (with_raw_used c e.0 amount o) e.0 i e.1).units k ≡ get c.units k
-      by_raw i amount None = made_others w c e.0 i e.1 k apart
-      by_raw i amount (Some r) = made_others w (with_used c e.0 r amount) e.0 i e.1 k apart ∙ used_others w c e.0 r amount k apart
+  produced_others k apart =
+      by_option (IsStill k) _ (get asked e.0) c refl (λ i told.
+      by_option (IsStill k) _ (slice_get w.items i) c refl (λ x is.
+      let amount = e.1 * x.raw_count in
+      made_others w (with_raw_used c e.0 amount x.raw) e.0 i e.1 k apart
+      ∙ by_option (IsStill k) (λ r. with_used c e.0 r amount) x.raw c refl (λ r raw. used_others w c e.0 r amount k apart)))
 
-      by_world : (i : ℕ) (o : Option Item) → get (produced_of c e i o).units k ≡ get c.units k
-      by_world i None = refl
-      by_world i (Some x) = by_raw i (e.1 * x.raw_count) x.raw
-
-      by_item : (o : Option ℕ) → get (produced_by w c e o).units k ≡ get c.units k
-      by_item None = refl
-      by_item (Some i) = by_world i (slice_get w.items i)
-
-pub produce_keeps_others : (asked : FinMap nat_cmp ℕ) (w : WorldValue) (c : CampaignValue) (os : List Written) → OthersAreNoWorse os c (shared_out (produce_pots asked) w c os)
-produce_keeps_others asked w c os = others_no_worse (produce_pots asked) w (produced_others asked w) c (makes_give asked w c) os
+pub produce_keeps_others : (w : WorldValue) (c : CampaignValue) (os : List Task) → OthersAreNoWorse os c (shared_out produce_pots w c os)
+produce_keeps_others w c os = others_no_worse produce_pots w (λ items. produced_others items w) c (makes_give w c) os
 
 -- ---- what a unit makes it can make
 
-module _ (asked : FinMap nat_cmp ℕ) (w : WorldValue) (c : CampaignValue) where
+-- who makes something without an item has a fault
+needs_item : (w : WorldValue) (h : Held) → make_fault h (item_of w None) ≡ None → ⊥
+needs_item w h fine = by_men (h.men == 0) fine
+  where
+    by_men : (b : Bool) → first_fault ((b, NoMen) ∷ (true, NoSkill) ∷ []) ≡ None → ⊥
+    by_men true never = none_some NoMen (sym never)
+    by_men false never = none_some NoSkill (sym never)
+
+module _ (w : WorldValue) (c : CampaignValue) (os : List Task) where
+  abbrev items : FinMap nat_cmp ℕ
+  items = items_by produce_pots w c os
+
   -- a unit makes what it can make at most
   abbrev Makes : ℕ × ℕ → Type 0
-  Makes e = (u : Unit) × (get c.units e.0 ≡ Some u) × (e.1 ≤ can_make w u.holding (get asked e.0))
+  Makes e = (u : Unit) × (get c.units e.0 ≡ Some u) × (e.1 ≤ can_make w u.holding (get items e.0))
 
-  pub given_can : (os : List Written) → Every (λ n made. Makes (n, made)) (given_by (produce_pots asked) w c os)
-  given_can os n made is =
-      let (u, o, there, own, low) = given_is_wanted (produce_pots asked) w c (makes_give asked w c) os n made is in
-      (u, there, subst (λ k. made ≤ can_make w u.holding (get asked k)) own low)
+  pub given_can : Every (λ n made. Makes (n, made)) (given_by produce_pots w c os)
+  given_can n made is =
+      let (u, t, there, own, low, fine, named) = given_is_named produce_pots w c (makes_give w c) os n made is in
+      (u, there, by_item u (item_in t.said) low fine named)
+    where
+      by_item : (u : Unit) (s : Option ℕ) → made ≤ can_make w u.holding s → make_fault u.holding (item_of w s) ≡ None → ((i : ℕ) → s ≡ Some i → get items n ≡ Some i) → made ≤ can_make w u.holding (get items n)
+      by_item u None low fine named = absurd (needs_item w u.holding fine)
+      by_item u (Some i) low fine named = subst (λ o. made ≤ can_make w u.holding o) (sym (named i refl)) low
 
 up_to_most : (h : Held) (count : ℕ) (raw : Option ℕ) (most : ℕ) → up_to_raw h count raw most ≤ most
 up_to_most h count None most = omega arith
@@ -223,7 +232,7 @@ raw_in items r (Some k) is known = let same : k ≡ r = cc in subst (λ m. m < i
 module _ (asked : FinMap nat_cmp ℕ) (w : WorldValue) (c : CampaignValue) (world : IsWorld w) (steady : IsSteady w c) where
   fits_by : (n made : ℕ) (u : Unit) → get c.units n ≡ Some u → made ≤ can_make w u.holding (get asked n) → (i : ℕ) (x : Item) → get asked n ≡ Some i → slice_get w.items i ≡ Some x → Fits w u made i x
   fits_by n made u there low i x told is =
-      let all : made ≤ can_make_of u.holding i (Some x) = subst (λ o. made ≤ can_make_of u.holding i o) is (subst (λ o. made ≤ can_make w u.holding o) told low) in
+      let all : made ≤ can_make_of u.holding i x = subst (λ o. made ≤ option_map_or (can_make_of u.holding i) o 0) is (subst (λ o. made ≤ can_make w u.holding o) told low) in
       let skilled = u.holding.men * level_in_any u.holding x.skill in
       let most = min skilled (holding_limit - amount_of u.holding.items i) in
       record {
@@ -257,28 +266,31 @@ module _ (asked : FinMap nat_cmp ℕ) (w : WorldValue) where
             (still c (produced asked w c e) e.0 es (produced_others asked w c e) rise.0 all),
       )
 
-  module _ (c : CampaignValue) (world : IsWorld w) (steady : IsSteady w c) (os : List Written) where
-    abbrev shares : List (ℕ × ℕ)
-    shares = entries (given_by (produce_pots asked) w c os)
+module _ (w : WorldValue) (c : CampaignValue) (world : IsWorld w) (steady : IsSteady w c) (os : List Task) where
+  abbrev shares : List (ℕ × ℕ)
+  shares = entries (given_by produce_pots w c os)
 
-    each_fits : Every (λ n made. HasRoomFor asked w c (n, made)) (given_by (produce_pots asked) w c os)
-    each_fits n made is =
-        let (u, there, low) = given_can asked w c os n made is in
-        (u, there, fits_by asked w c world steady n made u there low)
+  abbrev named : FinMap nat_cmp ℕ
+  named = items_by produce_pots w c os
 
-    few : length shares ≤ most_units
-    few = omega (arith, few_given (produce_pots asked) w c (makes_give asked w c) os, steady.numbers.few_units)
+  each_fits : Every (λ n made. HasRoomFor named w c (n, made)) (given_by produce_pots w c os)
+  each_fits n made is =
+      let (u, there, low) = given_can w c os n made is in
+      (u, there, fits_by named w c world steady n made u there low)
 
-    little : MovesLess (moved_times (length shares) step_moves) (produce_moves most_moved)
-    little e t = scaled (length shares) holding_limit most_moved (omega (arith, few)) e t
+  few : length shares ≤ most_units
+  few = omega (arith, few_given produce_pots w c (makes_give w c) os, steady.numbers.few_units)
 
-    pub can_share_out : HaveRoom (produce_moves most_moved) c → CanInTurn (CanProduce asked w) (produced asked w) c shares
-    can_share_out room =
-        produce_in_turn c shares (entries_rise (given_by (produce_pots asked) w c os)) steady (room_less (moved_times (length shares) step_moves) (produce_moves most_moved) c little room)
-        (all_pairs (HasRoomFor asked w c) shares (each-from_every (λ n made. HasRoomFor asked w c (n, made)) (given_by (produce_pots asked) w c os) each_fits))
+  little : MovesLess (moved_times (length shares) (produce_moves holding_limit)) (produce_moves most_moved)
+  little e t = scaled (length shares) holding_limit most_moved (omega (arith, few)) e t
 
-    pub produce_leaves_well : HaveRoom (produce_moves most_moved) c → LeavesWell IsSteady (produce_moves most_moved) w c (shared_out (produce_pots asked) w c os)
-    unfolding shared_out
-    produce_leaves_well room =
-        well_within (moved_times (length shares) step_moves) (produce_moves most_moved) w c (fold (produced asked w) c shares) little
-        (turns_leave_well step_moves w (CanProduce asked w) (produced asked w) (produced_well asked w) c shares steady (can_share_out room))
+  pub can_share_out : HaveRoom (produce_moves most_moved) c → CanInTurn (CanProduce named w) (produced named w) c shares
+  can_share_out room =
+      produce_in_turn named w c shares (entries_rise (given_by produce_pots w c os)) steady (room_less (moved_times (length shares) (produce_moves holding_limit)) (produce_moves most_moved) c little room)
+      (all_pairs (HasRoomFor named w c) shares (each-from_every (λ n made. HasRoomFor named w c (n, made)) (given_by produce_pots w c os) each_fits))
+
+  pub produce_leaves_well : HaveRoom (produce_moves most_moved) c → LeavesWell IsSteady (produce_moves most_moved) w c (shared_out produce_pots w c os)
+  unfolding shared_out
+  produce_leaves_well room =
+      well_within (moved_times (length shares) (produce_moves holding_limit)) (produce_moves most_moved) w c (fold (produced named w) c shares) little
+      (turns_leave_well (produce_moves holding_limit) w (CanProduce named w) (produced named w) (produced_well named w) c shares steady (can_share_out room))

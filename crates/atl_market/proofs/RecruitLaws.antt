@@ -1,6 +1,7 @@
 -- Recruiting leaves a campaign well.
-use Rattle.std.proofs.Common.{◌≡◌, ◌≢◌, ℕ, ◌+◌, ◌-◌, ◌*◌, ◌/◌, ◌≤◌, Option, Some, None, List, [], ◌∷◌, length, refl, sym, ap, subst, ◌∙◌, arith}
+use Rattle.std.proofs.Common.{◌≡◌, ◌≢◌, ℕ, ◌+◌, ◌-◌, ◌*◌, ◌/◌, ◌≤◌, Some, List, [], ◌∷◌, length, refl, sym, ap, subst, ◌∙◌, arith}
 use Rattle.std.specs.Prelude.{ℤ, fold, pos, neg_ℤ, min}
+use Rattle.std.specs.Option.{option_map_or}
 use Rattle.std.specs.Ordering.{nat_cmp}
 use Rattle.std.specs.FinMap.{FinMap, entries, get, insert}
 use Rattle.std.proofs.lemmas.Int.{ints}
@@ -30,17 +31,18 @@ use Rattle.atl_records.proofs.EveryLaws.{each-from_every, get-insert_other}
 use Rattle.atl_state.proofs.HoldingLaws.{marks-unit_row}
 use Rattle.atl_state.proofs.RegionLaws.{IsRegion-peasants, get-insert_same, steady-region}
 use Rattle.atl_instant.specs.Meaning.{HaveRoom, LeavesWell, Moving, moved_times, most_moved}
-use Rattle.atl_instant.specs.declared.written.Written.{Written}
+use Rattle.atl_instant.specs.PhaseOrders.{Task}
 use Rattle.atl_instant.proofs.BookingLaws.{within-neg}
 use Rattle.atl_instant.proofs.MarkLaws.{marks_by}
 use Rattle.atl_instant.proofs.MeaningLaws.{room_less, well_within}
 use Rattle.atl_market.specs.PotPhase.{CanInTurn, given_by, shared_out}
-use Rattle.atl_market.specs.Recruit.{recruit_moves, recruit_pots, recruited, recruited_by, recruited_from, recruits_at, recruits_in, with_men, with_recruits}
+use Rattle.atl_market.specs.Recruit.{recruit_moves, recruit_pots, recruited, recruits_at, with_men}
 use Rattle.atl_market.specs.Unordered.{OthersAreNoWorse}
 use Rattle.atl_market.proofs.DrawLaws.{AreReady, Drains, DrawnPots, HaveEnough, all_pairs, drawn, one_drains, one_draws, pot_is_enough, ready_behind, region_pots, untouched, who_stand}
 use Rattle.atl_state.proofs.HavingLaws.{MayHave, may_have}
 use Rattle.atl_market.proofs.ExchangeLaws.{KeepsTogether, exchange_well}
 use Rattle.atl_market.proofs.OrderedLaws.{others_no_worse}
+use Rattle.atl_market.proofs.ThereLaws.{by_region, by_unit, region_there, unit_there}
 use Rattle.atl_market.proofs.TurnLaws.{few_holdings, first_room, later_room, turns_leave_well}
 use Rattle.atl_market.proofs.PotLaws.{pots_give}
 use Rattle.atl_market.proofs.WantLaws.{few_given, given_is_wanted}
@@ -73,7 +75,7 @@ module _ (w : WorldValue) (c : CampaignValue) (n : ℕ) (u : Unit) (q : Region) 
   abbrev left : CampaignValue
   left = region_changed (leave q recruits) peopled u.region
 
-  pub recruits_are : with_recruits c n u q recruits cost ≡ after
+  recruits_are : with_amount (with_peasants (with_holding c n more) u.region (q.peasants - recruits)) Recruiting Money (neg_ℤ (pos cost)) ≡ after
   recruits_are = ap (λ o. with_amount (with_peasants (with_held c n more o) u.region (q.peasants - recruits)) Recruiting Money (neg_ℤ (pos cost))) is
 
   module _ (fits : u.holding.men + recruits ≤ men_limit) (payable : cost ≤ u.holding.money) (enough : recruits ≤ q.peasants) (early : IsEarly w c) where
@@ -137,12 +139,12 @@ module _ (w : WorldValue) (c : CampaignValue) (e : ℕ × ℕ) where
   abbrev price : ℕ
   price = e.1 * w.rules.recruit_price
 
-  pub recruited_is : (u : Unit) (q : Region) → get c.units e.0 ≡ Some u → get c.regions u.region ≡ Some q → recruited w c e ≡ with_recruits c e.0 u q e.1 price
+  pub recruited_is : (u : Unit) (q : Region) → get c.units e.0 ≡ Some u → get c.regions u.region ≡ Some q → recruited w c e ≡ recruited_to c e.0 u q e.1 price
   unfolding recruited
-  recruited_is u q is around = ap (recruited_by w c e) is ∙ ap (recruited_from w c e u) around
+  recruited_is u q is around = unit_there c e.0 _ u is ∙ region_there c u.region _ q around ∙ recruits_are w c e.0 u q e.1 price is around
 
   made_is : (can : CanRecruit w c e) → recruited w c e ≡ recruited_to c e.0 can.at.unit can.at.region e.1 price
-  made_is can = recruited_is can.at.unit can.at.region can.at.there can.at.around ∙ recruits_are w c e.0 can.at.unit can.at.region e.1 price can.at.there can.at.around
+  made_is can = recruited_is can.at.unit can.at.region can.at.there can.at.around
 
   pub recruited_well : CanRecruit w c e → LeavesWell IsEarly (recruit_moves holding_limit) w c (recruited w c e)
   recruited_well can =
@@ -158,18 +160,14 @@ module _ (w : WorldValue) (c : CampaignValue) (e : ℕ × ℕ) where
 
   pub recruited_others : (k : ℕ) → k ≢ e.0 → get (recruited w c e).units k ≡ get c.units k
   unfolding recruited
-  recruited_others k apart = by_unit (get c.units e.0) refl
-    where
-      by_region : (u : Unit) → get c.units e.0 ≡ Some u → (o : Option Region) → get (recruited_from w c e u o).units k ≡ get c.units k
-      by_region u is None = refl
-      by_region u is (Some q) = ap (λ o. get (with_held c e.0 (with_men u.holding e.1 price) o).units k) is ∙ get-insert_other c.units e.0 k (record u { holding = with_men u.holding e.1 price }) apart
+  recruited_others k apart =
+      by_unit c e.0 (λ (d : CampaignValue). get d.units k ≡ get c.units k) _ refl (λ u is.
+      by_region c u.region (λ (d : CampaignValue). get d.units k ≡ get c.units k) _ refl (λ q around.
+      ap (λ o. get (with_held c e.0 (with_men u.holding e.1 price) o).units k) is
+      ∙ get-insert_other c.units e.0 k (record u { holding = with_men u.holding e.1 price }) apart))
 
-      by_unit : (o : Option Unit) → get c.units e.0 ≡ o → get (recruited_by w c e o).units k ≡ get c.units k
-      by_unit None is = refl
-      by_unit (Some u) is = by_region u is (get c.regions u.region)
-
-pub recruit_keeps_others : (asked : FinMap nat_cmp ℕ) (w : WorldValue) (c : CampaignValue) (os : List Written) → OthersAreNoWorse os c (shared_out (recruit_pots asked) w c os)
-recruit_keeps_others asked w c os = others_no_worse (recruit_pots asked) w (recruited_others w) c (pots_give (recruits_at w c) c) os
+pub recruit_keeps_others : (w : WorldValue) (c : CampaignValue) (os : List Task) → OthersAreNoWorse os c (shared_out recruit_pots w c os)
+recruit_keeps_others w c os = others_no_worse recruit_pots w (λ items. recruited_others w) c (λ items. pots_give (recruits_at w c) c) os
 
 -- ---- all steps can be taken
 
@@ -211,9 +209,9 @@ module _ (w : WorldValue) (c : CampaignValue) where
             (later_room step_moves w d joined e es well room),
       )
 
-  module _ (early : IsEarly w c) (asked : FinMap nat_cmp ℕ) (os : List Written) (room : HaveRoom (recruit_moves most_moved) c) where
+  module _ (early : IsEarly w c) (os : List Task) (room : HaveRoom (recruit_moves most_moved) c) where
     abbrev shares : List (ℕ × ℕ)
-    shares = entries (given_by (recruit_pots asked) w c os)
+    shares = entries (given_by recruit_pots w c os)
 
     wanted_fits : (count payable men share : ℕ) → men ≤ men_limit → share ≤ min count (min payable (men_limit - men)) → men + share ≤ men_limit
     wanted_fits count payable men share fits low = omega (arith, fits, low)
@@ -223,9 +221,9 @@ module _ (w : WorldValue) (c : CampaignValue) where
         let few : share ≤ money / price = omega (arith, low) in
         omega (arith, mul-le-mul_right price few, mul-div-le money price, mul_comm (money / price) price)
 
-    each_fits : Every (λ n share. CanHave (n, share)) (given_by (recruit_pots asked) w c os)
+    each_fits : Every (λ n share. CanHave (n, share)) (given_by recruit_pots w c os)
     each_fits n share is =
-        let (u, o, there, own, low) = given_is_wanted (recruit_pots asked) w c (pots_give (recruits_at w c) c) os n share is in
+        let (u, o, there, own, low) = given_is_wanted recruit_pots w c (λ items. pots_give (recruits_at w c) c) os n share is in
         (u, there, wanted_fits _ _ u.holding.men share (early.steady.numbers.units n u there).1.men low, wanted_payable _ u.holding.money w.rules.recruit_price _ share low)
 
     part : (all one : ℕ) → all / one ≤ all
@@ -233,11 +231,11 @@ module _ (w : WorldValue) (c : CampaignValue) where
 
     all_enough : HaveEnough pots c shares
     all_enough r q around =
-        let few : drawn (who_stand c.units r) shares ≤ q.peasants / w.rules.recruit_fraction = subst (λ pot. drawn (who_stand c.units r) shares ≤ pot) (ap (recruits_in w) around) (pot_is_enough _ _ c r (q, around)) in
+        let few : drawn (who_stand c.units r) shares ≤ q.peasants / w.rules.recruit_fraction = subst (λ pot. drawn (who_stand c.units r) shares ≤ pot) (ap (λ o. option_map_or (λ (x : Region). x.peasants / w.rules.recruit_fraction) o 0) around) (pot_is_enough _ _ c r (q, around)) in
         omega (arith, few, part q.peasants w.rules.recruit_fraction)
 
     few : length shares ≤ most_units
-    few = omega (arith, few_given (recruit_pots asked) w c (pots_give (recruits_at w c) c) os, early.steady.numbers.few_units)
+    few = omega (arith, few_given recruit_pots w c (λ items. pots_give (recruits_at w c) c) os, early.steady.numbers.few_units)
 
     little : (e : Entry) (t : Thing) → moved_times (length shares) step_moves e t ≤ recruit_moves most_moved e t
     little e t = few_holdings (length shares) few Recruiting Money e t
@@ -245,13 +243,13 @@ module _ (w : WorldValue) (c : CampaignValue) where
     pub can_share_out : CanInTurn (CanRecruit w) (recruited w) c shares
     can_share_out = all_can c shares (record {
       early = early;
-      rise = entries_rise (given_by (recruit_pots asked) w c os);
+      rise = entries_rise (given_by recruit_pots w c os);
       same = untouched c shares;
-      fits = all_pairs CanHave shares (each-from_every (λ n share. CanHave (n, share)) (given_by (recruit_pots asked) w c os) each_fits);
+      fits = all_pairs CanHave shares (each-from_every (λ n share. CanHave (n, share)) (given_by recruit_pots w c os) each_fits);
       enough = all_enough;
     }) (room_less (moved_times (length shares) step_moves) (recruit_moves most_moved) c little room)
 
-    pub all_recruits_leave_well : LeavesWell IsEarly (recruit_moves most_moved) w c (shared_out (recruit_pots asked) w c os)
+    pub all_recruits_leave_well : LeavesWell IsEarly (recruit_moves most_moved) w c (shared_out recruit_pots w c os)
     unfolding shared_out
     all_recruits_leave_well =
         well_within (moved_times (length shares) step_moves) (recruit_moves most_moved) w c (fold (recruited w) c shares) little

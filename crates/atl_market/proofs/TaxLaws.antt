@@ -1,5 +1,5 @@
 -- Tax leaves a campaign well.
-use Rattle.std.proofs.Common.{◌≡◌, ◌≢◌, ℕ, ◌+◌, ◌-◌, ◌≤◌, Option, Some, None, List, [], ◌∷◌, length, refl, sym, ap, subst, ◌∙◌, arith}
+use Rattle.std.proofs.Common.{◌≡◌, ◌≢◌, ℕ, ◌+◌, ◌-◌, ◌≤◌, Some, List, [], ◌∷◌, length, refl, sym, ap, subst, ◌∙◌, arith}
 use Rattle.std.specs.Prelude.{fold, pos, min}
 use Rattle.std.specs.Option.{option_map_or}
 use Rattle.std.specs.Ordering.{nat_cmp}
@@ -27,14 +27,15 @@ use Rattle.atl_state.proofs.RegionLaws.{IsRegion-money, steady-region, total-reg
 use Rattle.atl_instant.specs.Meaning.{LeavesWell, moved_times}
 use Rattle.atl_instant.specs.Staying.{AreNoWorse}
 use Rattle.atl_instant.specs.Unbooked.{moves_nothing}
-use Rattle.atl_instant.specs.declared.written.Written.{Written}
+use Rattle.atl_instant.specs.PhaseOrders.{Task}
 use Rattle.atl_instant.proofs.MarkLaws.{marks_by}
 use Rattle.atl_instant.proofs.MeaningLaws.{near_same, same_month_by, well_within}
 use Rattle.atl_instant.proofs.StayingLaws.{are_no_worse, are_no_worse_twice}
 use Rattle.atl_market.specs.PotPhase.{CanInTurn, given_by, shared_out}
-use Rattle.atl_market.specs.Tax.{money_at, tax_pots, taxed, taxed_by, taxed_from, with_tax}
+use Rattle.atl_market.specs.Tax.{money_at, tax_pots, taxed}
 use Rattle.atl_market.proofs.DrawLaws.{AreReady, Drains, DrawnPots, HaveEnough, all_pairs, drawn, one_drains, one_draws, pot_is_enough, ready_behind, region_pots, untouched, who_stand}
 use Rattle.atl_market.proofs.PurseLaws.{others_stay, paid, richer, richer_is, richer_no_worse}
+use Rattle.atl_market.proofs.ThereLaws.{by_region, by_unit, region_there, unit_there}
 use Rattle.atl_market.proofs.TurnLaws.{turns_leave_well}
 use Rattle.atl_market.proofs.PotLaws.{pots_give}
 use Rattle.atl_market.proofs.WantLaws.{given_is_wanted}
@@ -55,7 +56,7 @@ module _ (w : WorldValue) (c : CampaignValue) (n : ℕ) (u : Unit) (q : Region) 
   abbrev after : CampaignValue
   after = drained c n u q share
 
-  pub tax_is : with_tax c n u q share ≡ after
+  pub tax_is : with_region_money (with_money c n (u.holding.money + share)) u.region (q.money - share) ≡ after
   tax_is = ap (λ d. with_region_money d u.region (q.money - share)) (richer_is c n u share is)
 
   module _ (enough : share ≤ q.money) where
@@ -96,7 +97,7 @@ tax_marks c d e n money region left d_is d_marks e_is e_marks =
 module _ (w : WorldValue) (c : CampaignValue) (e : ℕ × ℕ) where
   pub taxed_is : (u : Unit) (q : Region) → get c.units e.0 ≡ Some u → get c.regions u.region ≡ Some q → taxed c e ≡ drained c e.0 u q e.1
   unfolding taxed
-  taxed_is u q is around = ap (taxed_by c e) is ∙ ap (taxed_from c e u) around ∙ tax_is w c e.0 u q e.1 is around
+  taxed_is u q is around = unit_there c e.0 _ u is ∙ region_there c u.region _ q around ∙ tax_is w c e.0 u q e.1 is around
 
   pub taxed_well : CanTax w c e → LeavesWell IsEarly moves_nothing w c (taxed c e)
   taxed_well can =
@@ -116,21 +117,17 @@ module _ (w : WorldValue) (c : CampaignValue) (e : ℕ × ℕ) where
 
   taxed_no_worse : AreNoWorse c (taxed c e)
   unfolding taxed
-  taxed_no_worse = by_unit (get c.units e.0) refl
-    where
-      by_region : (u : Unit) → get c.units e.0 ≡ Some u → (o : Option Region) → AreNoWorse c (taxed_from c e u o)
-      by_region u is None = are_no_worse c
-      by_region u is (Some q) = subst (λ (d : CampaignValue). AreNoWorse c (with_region_money d u.region (q.money - e.1))) (sym (richer_is c e.0 u e.1 is)) (λ k v there. richer_no_worse c e.0 u e.1 is k v there)
-
-      by_unit : (o : Option Unit) → get c.units e.0 ≡ o → AreNoWorse c (taxed_by c e o)
-      by_unit None is = are_no_worse c
-      by_unit (Some u) is = by_region u is (get c.regions u.region)
+  taxed_no_worse =
+      by_unit c e.0 (AreNoWorse c) _ (are_no_worse c) (λ u is.
+      by_region c u.region (AreNoWorse c) _ (are_no_worse c) (λ q around.
+      subst (λ (d : CampaignValue). AreNoWorse c (with_region_money d u.region (q.money - e.1))) (sym (richer_is c e.0 u e.1 is))
+      (λ k v there. richer_no_worse c e.0 u e.1 is k v there)))
 
 each_no_worse : (w : WorldValue) (c : CampaignValue) (es : List (ℕ × ℕ)) → AreNoWorse c (fold taxed c es)
 each_no_worse w c [] = are_no_worse c
 each_no_worse w c (e ∷ es) = are_no_worse_twice c (taxed c e) (fold taxed (taxed c e) es) (taxed_no_worse w c e) (each_no_worse w (taxed c e) es)
 
-pub tax_keeps_units : (w : WorldValue) (c : CampaignValue) (os : List Written) → AreNoWorse c (shared_out tax_pots w c os)
+pub tax_keeps_units : (w : WorldValue) (c : CampaignValue) (os : List Task) → AreNoWorse c (shared_out tax_pots w c os)
 unfolding shared_out
 tax_keeps_units w c os = each_no_worse w c (entries (given_by tax_pots w c os))
 
@@ -165,7 +162,7 @@ module _ (w : WorldValue) (c : CampaignValue) where
         all_can (taxed d e) es (ready_behind pots w c d e es (taxed d e) ready early (taxed_others w d e can) (taxed_drains w d e can c.units (sym ready.same.0 ∙ can.at.there))),
       )
 
-  module _ (early : IsEarly w c) (os : List Written) where
+  module _ (early : IsEarly w c) (os : List Task) where
     abbrev shares : List (ℕ × ℕ)
     shares = entries (given_by tax_pots w c os)
 
@@ -174,7 +171,7 @@ module _ (w : WorldValue) (c : CampaignValue) where
 
     each_fits : Every (λ n share. HasRoomFor (n, share)) (given_by tax_pots w c os)
     each_fits n share is =
-        let (u, o, there, own, low) = given_is_wanted tax_pots w c (pots_give (money_at c) c) os n share is in
+        let (u, o, there, own, low) = given_is_wanted tax_pots w c (λ items. pots_give (money_at c) c) os n share is in
         (u, there, wanted_fits u.holding.money _ share (early.steady.numbers.units n u there).1.money low)
 
     all_enough : HaveEnough pots c shares

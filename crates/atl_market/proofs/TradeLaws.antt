@@ -18,6 +18,7 @@ use Rattle.atl_tables.specs.declared.world.RegionPlan.{RegionPlan}
 use Rattle.atl_records.specs.declared.books.Entry.{Entry}
 use Rattle.atl_records.specs.declared.books.Thing.{Thing}
 use Rattle.atl_records.specs.declared.books.Thing.TheVariants.{Money}
+use Rattle.atl_records.specs.declared.event.EventFault.TheVariants.{NoMarket}
 use Rattle.atl_records.specs.declared.records.Region.{Region}
 use Rattle.atl_records.specs.declared.records.Unit.{Unit}
 use Rattle.atl_records.specs.Books.{IsWithin, amount_in}
@@ -39,15 +40,15 @@ use Rattle.atl_records.proofs.HeldLaws.{alike, amount_within, every_amount, set_
 use Rattle.atl_state.proofs.StockLaws.{restocked, steady-stock}
 use Rattle.atl_instant.specs.Meaning.{HasRoom, HaveRoom, LeavesWell, Moving, moved_times, moves_only, most_moved}
 use Rattle.atl_instant.specs.Holdings.{ChangesHolding}
-use Rattle.atl_instant.specs.declared.written.Written.{Written}
+use Rattle.atl_instant.specs.PhaseOrders.{Task}
 use Rattle.atl_instant.proofs.BookingLaws.{within-neg, within-pos}
 use Rattle.atl_instant.proofs.ChangeLaws.{changed_held}
 use Rattle.atl_instant.proofs.MarkLaws.{marks_by}
 use Rattle.atl_instant.proofs.MeaningLaws.{room_less, well_unchanged, well_within}
 use Rattle.atl_market.specs.AtOnce.{stands_in}
-use Rattle.atl_market.specs.ItemPots.{is_for, share_for, wants_for}
-use Rattle.atl_market.specs.PotPhase.{CanInTurn, given_by, shared_out, wants_by}
-use Rattle.atl_market.specs.Trade.{deal_of, dealt, limit_of, market_for, pot_by, trade_entry, trade_moves, trade_pot, trade_pots, trade_wanted, traded, traded_at, traded_by, with_deal}
+use Rattle.atl_market.specs.ItemPots.{is_for, wants_for}
+use Rattle.atl_market.specs.PotPhase.{CanInTurn, count_in, given_by, item_in, items_by, shared_out, wants_by}
+use Rattle.atl_market.specs.Trade.{deal_of, dealt, limit_of, market_for, pot_by, trade_entry, trade_fault, trade_moves, trade_pot, trade_pots, trade_wanted, traded, with_deal}
 use Rattle.atl_market.specs.Trading.{CanDeal, CanSettle, CanTrade, HasPot}
 use Rattle.atl_market.specs.Unordered.{OthersAreNoWorse}
 use Rattle.atl_market.specs.declared.trade.Deal.{Deal}
@@ -55,11 +56,12 @@ use Rattle.atl_market.specs.declared.trade.Trade.{Trade}
 use Rattle.atl_market.specs.declared.trade.Trade.TheVariants.{Sell, Buy}
 use Rattle.atl_market.proofs.DrawLaws.{AreReady, Drains, DrawnPots, HaveEnough, all_pairs, drawn, first_draws, nothing_drains, ready_behind, region_drains, shares_are_enough, untouched}
 use Rattle.atl_market.proofs.ExchangeLaws.{KeepsTogether, exchange_well}
-use Rattle.atl_market.proofs.ItemPotLaws.{items_give, shares_at}
+use Rattle.atl_market.proofs.ItemPotLaws.{items_give, share_for, shares_at}
 use Rattle.atl_market.proofs.OrderedLaws.{others_no_worse}
 use Rattle.atl_market.proofs.ProduceLaws.{only_room}
+use Rattle.atl_market.proofs.ThereLaws.{by_option, by_unit, unit_there}
 use Rattle.atl_market.proofs.TurnLaws.{few_holdings, first_room, later_room, turns_leave_well}
-use Rattle.atl_market.proofs.WantLaws.{GivesToWants, few_given, given_is_wanted}
+use Rattle.atl_market.proofs.WantLaws.{GivesToWants, few_given, given_is_named}
 
 -- ---- a deal that keeps the goods and the money together
 
@@ -212,10 +214,14 @@ pot_less : (trade : Trade) (h : Held) (limit stock share : ℕ) (m : Market) →
 pot_less Sell h limit stock share m same pot = omega (arith, same, pot)
 pot_less Buy h limit stock share m same pot = omega (arith, pot)
 
+-- what a unit makes of a campaign by the market that it trades with, if there is one
+abbrev pub traded_at : Trade → CampaignValue → ℕ × ℕ → Unit → Option Market → CampaignValue
+traded_at trade c e u o = option_map_or (λ m. dealt c e.0 u m.item (trade_entry trade) (deal_of trade u.holding (stock_of c u.region m.item) e.1 m)) o c
+
 module _ (trade : Trade) (items : FinMap nat_cmp ℕ) (w : WorldValue) (c : CampaignValue) (e : ℕ × ℕ) where
   pub traded_is : (u : Unit) → get c.units e.0 ≡ Some u → (o : Option Market) → market_for w u (get items e.0) ≡ o → traded trade items w c e ≡ traded_at trade c e u o
   unfolding traded
-  traded_is u is o at = ap (traded_by trade items w c e) is ∙ ap (traded_at trade c e u) at
+  traded_is u is o at = unit_there c e.0 _ u is ∙ ap (traded_at trade c e u) at
 
   module _ (can : CanTrade trade items w c e) (m : Market) (at : market_for w can.at.unit (get items e.0) ≡ Some m) where
     abbrev deal : Deal
@@ -291,25 +297,19 @@ module _ (trade : Trade) (items : FinMap nat_cmp ℕ) (w : WorldValue) (c : Camp
 
   pub traded_others : (k : ℕ) → k ≢ e.0 → get (traded trade items w c e).units k ≡ get c.units k
   unfolding traded
-  traded_others k apart = by_unit (get c.units e.0) refl
-    where
-      by_market : (u : Unit) → get c.units e.0 ≡ Some u → (o : Option Market) → get (traded_at trade c e u o).units k ≡ get c.units k
-      by_market u is None = refl
-      by_market u is (Some m) =
-          let h = with_deal u.holding m.item (deal_of trade u.holding (stock_of c u.region m.item) e.1 m) in
-          ap (λ o. get (with_held c e.0 h o).units k) is ∙ get-insert_other c.units e.0 k (record u { holding = h }) apart
-
-      by_unit : (o : Option Unit) → get c.units e.0 ≡ o → get (traded_by trade items w c e o).units k ≡ get c.units k
-      by_unit None is = refl
-      by_unit (Some u) is = by_market u is (market_for w u (get items e.0))
+  traded_others k apart =
+      by_unit c e.0 (λ (d : CampaignValue). get d.units k ≡ get c.units k) _ refl (λ u is.
+      by_option (λ (d : CampaignValue). get d.units k ≡ get c.units k) _ (market_for w u (get items e.0)) c refl (λ m at.
+      let h = with_deal u.holding m.item (deal_of trade u.holding (stock_of c u.region m.item) e.1 m) in
+      ap (λ o. get (with_held c e.0 h o).units k) is ∙ get-insert_other c.units e.0 k (record u { holding = h }) apart))
 
 -- ---- who gets something
 
-pub trades_give : (trade : Trade) (items counts : FinMap nat_cmp ℕ) (w : WorldValue) (c : CampaignValue) → GivesToWants (trade_pots trade items counts) w c
-trades_give trade items counts w c wants n share is = items_give (get items) (trade_pot trade w c) wants c n share (sym (shares_at (get items) (trade_pot trade w c) wants c n) ∙ is)
+pub trades_give : (trade : Trade) (w : WorldValue) (c : CampaignValue) → GivesToWants (trade_pots trade) w c
+trades_give trade w c items wants n share is = items_give (get items) (trade_pot trade w c) wants c n share (sym (shares_at (get items) (trade_pot trade w c) wants c n) ∙ is)
 
-pub trade_keeps_others : (trade : Trade) (items counts : FinMap nat_cmp ℕ) (w : WorldValue) (c : CampaignValue) (os : List Written) → OthersAreNoWorse os c (shared_out (trade_pots trade items counts) w c os)
-trade_keeps_others trade items counts w c os = others_no_worse (trade_pots trade items counts) w (traded_others trade items w) c (trades_give trade items counts w c) os
+pub trade_keeps_others : (trade : Trade) (w : WorldValue) (c : CampaignValue) (os : List Task) → OthersAreNoWorse os c (shared_out (trade_pots trade) w c os)
+trade_keeps_others trade w c os = others_no_worse (trade_pots trade) w (λ items. traded_others trade items w) c (trades_give trade w c) os
 
 -- what a unit wants it can trade
 module _ (h : Held) (m : Market) (told share : ℕ) (holds : IsHolding h) where
@@ -390,55 +390,71 @@ module _ (trade : Trade) (items : FinMap nat_cmp ℕ) (w : WorldValue) (world : 
             (later_room step_moves w d next e es well room),
       )
 
-  module _ (early : IsEarly w c) (counts : FinMap nat_cmp ℕ) (os : List Written) (room : HaveRoom (trade_moves trade most_moved) c) where
-    abbrev given : FinMap nat_cmp ℕ
-    given = given_by (trade_pots trade items counts) w c os
+module _ (trade : Trade) (w : WorldValue) (world : IsWorld w) (c : CampaignValue) (early : IsEarly w c) (os : List Task) (room : HaveRoom (trade_moves trade most_moved) c) where
+  abbrev named : FinMap nat_cmp ℕ
+  named = items_by (trade_pots trade) w c os
 
-    abbrev shares : List (ℕ × ℕ)
-    shares = entries given
+  abbrev given : FinMap nat_cmp ℕ
+  given = given_by (trade_pots trade) w c os
 
-    each_fits : Every (λ n share. CanHave (n, share)) given
-    each_fits n share is =
-        let (u, o, there, own, low) = given_is_wanted (trade_pots trade items counts) w c (trades_give trade items counts w c) os n share is in
-        (u, there, subst (λ k. CanDeal trade u.holding share (market_for w u (get items k))) own (by_market (amount_of counts o.unit) u there (market_for w u (get items o.unit)) low))
-      where
-        by_market : (told : ℕ) (u : Unit) → get c.units n ≡ Some u → (m : Option Market) → share ≤ trade_wanted trade u.holding told m → CanDeal trade u.holding share m
-        by_market told u there None low = omega (arith, low)
-        by_market told u there (Some m) low = wanted_fits u.holding m told share (early.steady.numbers.units n u there).1 trade low
+  abbrev shares : List (ℕ × ℕ)
+  shares = entries given
 
-    all_enough : HaveEnough pots c shares
-    all_enough k q around =
-        let wants = wants_by (trade_pots trade items counts) w c os in
-        subst (λ stock. drawn (told_there c.units items k) shares ≤ pot_by trade (limit_of w k.1 k.0) stock) (stock_is c k.0 q k.1 around)
-        (shares_are_enough (trade_pot trade w c k.1) (wants_for (get items) wants k.1) c k.0 (told_there c.units items k) given (λ n share is drawing.
-        let parts = and_parts _ _ drawing in
-        let told = for_item k.1 (get items n) parts.1 in
-        (sym (ap (share_for (get items) (trade_pot trade w c) wants c n) told) ∙ sym (shares_at (get items) (trade_pot trade w c) wants c n) ∙ is, parts.0)) (q, around))
-      where
-        for_item : (i : ℕ) (o : Option ℕ) → is_for i o ≡ true → o ≡ Some i
-        for_item i None never = cc
-        for_item i (Some j) same = ap Some (eqb-true j i same)
+  abbrev moves : Moving
+  moves = trade_moves trade holding_limit
 
-    few : length shares ≤ most_units
-    few = omega (arith, few_given (trade_pots trade items counts) w c (trades_give trade items counts w c) os, early.steady.numbers.few_units)
+  abbrev drawn_pots : DrawnPots (ℕ × ℕ)
+  drawn_pots = item_pots trade w c.units named
 
-    little : (e : Entry) (t : Thing) → moved_times (length shares) step_moves e t ≤ trade_moves trade most_moved e t
-    little e t = few_holdings (length shares) few (trade_entry trade) Money e t
+  abbrev MayTrade : ℕ × ℕ → Type 0
+  MayTrade = CanHave trade named w world c
 
-    pub can_share_out : CanInTurn (CanTrade trade items w) (traded trade items w) c shares
-    can_share_out = all_can c shares (record {
-      early = early;
-      rise = entries_rise given;
-      same = untouched c shares;
-      fits = all_pairs CanHave shares (each-from_every (λ n share. CanHave (n, share)) given each_fits);
-      enough = all_enough;
-    }) (room_less (moved_times (length shares) step_moves) (trade_moves trade most_moved) c little room)
+  each_fits : Every (λ n share. MayTrade (n, share)) given
+  each_fits n share is =
+      let (u, t, there, own, low, fine, told) = given_is_named (trade_pots trade) w c (trades_give trade w c) os n share is in
+      (u, there, by_item u there (count_in t.said) (item_in t.said) low fine told)
+    where
+      by_market : (asked : ℕ) (u : Unit) → get c.units n ≡ Some u → (m : Option Market) → share ≤ trade_wanted trade u.holding asked m → CanDeal trade u.holding share m
+      by_market asked u there None low = omega (arith, low)
+      by_market asked u there (Some m) low = wanted_fits u.holding m asked share (early.steady.numbers.units n u there).1 trade low
 
-    pub all_trades_leave_well : LeavesWell IsEarly (trade_moves trade most_moved) w c (shared_out (trade_pots trade items counts) w c os)
-    unfolding shared_out
-    all_trades_leave_well =
-        well_within (moved_times (length shares) step_moves) (trade_moves trade most_moved) w c (fold (traded trade items w) c shares) little
-        (turns_leave_well step_moves w (CanTrade trade items w) (traded trade items w) (traded_well trade items w) c shares early can_share_out)
+      by_item : (u : Unit) → get c.units n ≡ Some u → (asked : ℕ) (s : Option ℕ) → share ≤ trade_wanted trade u.holding asked (market_for w u s) → trade_fault trade u.holding (market_for w u s) ≡ None → ((i : ℕ) → s ≡ Some i → get named n ≡ Some i) → CanDeal trade u.holding share (market_for w u (get named n))
+      by_item u there asked None low fine told = none_some NoMarket (sym fine)
+      by_item u there asked (Some i) low fine told = subst (λ o. CanDeal trade u.holding share (market_for w u o)) (sym (told i refl)) (by_market asked u there (market_for w u (Some i)) low)
+
+  all_enough : HaveEnough drawn_pots c shares
+  all_enough k q around =
+      let wants = wants_by (trade_pots trade) w c os in
+      subst (λ stock. drawn (told_there c.units named k) shares ≤ pot_by trade (limit_of w k.1 k.0) stock) (stock_is c k.0 q k.1 around)
+      (shares_are_enough (trade_pot trade w c k.1) (wants_for (get named) wants k.1) c k.0 (told_there c.units named k) given (λ n share is drawing.
+      let parts = and_parts _ _ drawing in
+      let told = for_item k.1 (get named n) parts.1 in
+      (sym (ap (share_for (get named) (trade_pot trade w c) wants c n) told) ∙ sym (shares_at (get named) (trade_pot trade w c) wants c n) ∙ is, parts.0)) (q, around))
+    where
+      for_item : (i : ℕ) (o : Option ℕ) → is_for i o ≡ true → o ≡ Some i
+      for_item i None never = cc
+      for_item i (Some j) same = ap Some (eqb-true j i same)
+
+  few : length shares ≤ most_units
+  few = omega (arith, few_given (trade_pots trade) w c (trades_give trade w c) os, early.steady.numbers.few_units)
+
+  little : (e : Entry) (t : Thing) → moved_times (length shares) moves e t ≤ trade_moves trade most_moved e t
+  little e t = few_holdings (length shares) few (trade_entry trade) Money e t
+
+  pub can_share_out : CanInTurn (CanTrade trade named w) (traded trade named w) c shares
+  can_share_out = all_can trade named w world c c shares (record {
+    early = early;
+    rise = entries_rise given;
+    same = untouched c shares;
+    fits = all_pairs MayTrade shares (each-from_every (λ n share. MayTrade (n, share)) given each_fits);
+    enough = all_enough;
+  }) (room_less (moved_times (length shares) moves) (trade_moves trade most_moved) c little room)
+
+  pub all_trades_leave_well : LeavesWell IsEarly (trade_moves trade most_moved) w c (shared_out (trade_pots trade) w c os)
+  unfolding shared_out
+  all_trades_leave_well =
+      well_within (moved_times (length shares) moves) (trade_moves trade most_moved) w c (fold (traded trade named w) c shares) little
+      (turns_leave_well moves w (CanTrade trade named w) (traded trade named w) (traded_well trade named w) c shares early can_share_out)
 
 -- ---- what the code does
 

@@ -21,12 +21,12 @@ use Rattle.atl_records.proofs.HeldLaws.{set_other, set_same}
 use Rattle.atl_state.proofs.BackLaws.{Rise, entries_rise}
 use Rattle.atl_state.proofs.RegionLaws.{changed-known, get-insert_same}
 use Rattle.atl_state.proofs.StockLaws.{restocked}
-use Rattle.atl_instant.specs.declared.written.Written.{Written}
+use Rattle.atl_instant.specs.PhaseOrders.{Task}
 use Rattle.atl_instant.proofs.StructureLaws.{changed_else}
 use Rattle.atl_market.specs.AtOnce.{Gets, HasNewStocks, paid_unit, stands_in}
 use Rattle.atl_market.specs.ItemPots.{is_for}
-use Rattle.atl_market.specs.Paid.{TradesAtOnce, stock_behind, trader_of, with_trade}
-use Rattle.atl_market.specs.PotPhase.{given_by, shared_out}
+use Rattle.atl_market.specs.Paid.{TradesAtOnce, stock_after, trader_of, with_trade}
+use Rattle.atl_market.specs.PotPhase.{count_in, given_by, item_in, items_by, shared_out}
 use Rattle.atl_market.specs.Trade.{deal_of, dealt, market_for, trade_entry, trade_pots, trade_wanted, traded, with_deal}
 use Rattle.atl_market.specs.declared.trade.Deal.{Deal}
 use Rattle.atl_market.specs.declared.trade.Trade.{Trade}
@@ -35,7 +35,7 @@ use Rattle.atl_market.proofs.AtOnceLaws.{drawn_is}
 use Rattle.atl_market.proofs.DrawLaws.{AreUntouched, all_pairs, drawn, still, untouched}
 use Rattle.atl_market.proofs.PotLaws.{found_other}
 use Rattle.atl_market.proofs.TradeLaws.{market_is, stock_is, told_there, traded_is, traded_others, trades_give}
-use Rattle.atl_market.proofs.WantLaws.{given_is_wanted}
+use Rattle.atl_market.proofs.WantLaws.{given_is_named}
 
 -- ---- what a deal leaves
 
@@ -45,15 +45,15 @@ trade_is Sell h stock share m = refl
 trade_is Buy h stock share m = refl
 
 -- of the stock, whatever the unit holds
-stock_traded : (trade : Trade) (h : Held) (stock share : ℕ) (m : Market) → (deal_of trade h stock share m).stock ≡ stock_behind trade stock share
+stock_traded : (trade : Trade) (h : Held) (stock share : ℕ) (m : Market) → (deal_of trade h stock share m).stock ≡ stock_after trade stock share
 stock_traded Sell h stock share m = refl
 stock_traded Buy h stock share m = refl
 
-none_traded : (trade : Trade) (stock : ℕ) → stock_behind trade stock 0 ≡ stock
+none_traded : (trade : Trade) (stock : ℕ) → stock_after trade stock 0 ≡ stock
 none_traded Sell stock = omega arith
 none_traded Buy stock = omega arith
 
-traded_twice : (trade : Trade) (stock s t : ℕ) → stock_behind trade (stock_behind trade stock s) t ≡ stock_behind trade stock (s + t)
+traded_twice : (trade : Trade) (stock s t : ℕ) → stock_after trade (stock_after trade stock s) t ≡ stock_after trade stock (s + t)
 traded_twice Sell stock s t = omega arith
 traded_twice Buy stock s t = omega arith
 
@@ -89,7 +89,7 @@ module _ (trade : Trade) (items : FinMap nat_cmp ℕ) (w : WorldValue) (units : 
   drawn_here r i = cond (told_there units items (r, i) e.0) e.1 0
 
   abbrev IsTraded : ℕ → Region → Type 0
-  IsTraded r q = HasNewStocks q (stock_behind trade) (drawn_here r) (get (traded trade items w d e).regions r)
+  IsTraded r q = HasNewStocks q (stock_after trade) (drawn_here r) (get (traded trade items w d e).regions r)
 
   none_drawn : (b : Bool) (share : ℕ) → share ≡ 0 → cond b share 0 ≡ 0
   none_drawn true share none = none
@@ -99,7 +99,7 @@ module _ (trade : Trade) (items : FinMap nat_cmp ℕ) (w : WorldValue) (units : 
   without_market at none r q around = record {
     stocks = q.stocks;
     region = ap (λ (s : CampaignValue). get s.regions r) (traded_is trade items w d e u is None at) ∙ around;
-    amounts = λ i. sym (ap (stock_behind trade (amount_of q.stocks i)) (none_drawn (told_there units items (r, i) e.0) e.1 none) ∙ none_traded trade (amount_of q.stocks i));
+    amounts = λ i. sym (ap (stock_after trade (amount_of q.stocks i)) (none_drawn (told_there units items (r, i) e.0) e.1 none) ∙ none_traded trade (amount_of q.stocks i));
   }
 
   module _ (m : Market) (at : market_for w u (get items e.0) ≡ Some m) (told : get items e.0 ≡ Some m.item) where
@@ -117,8 +117,8 @@ module _ (trade : Trade) (items : FinMap nat_cmp ℕ) (w : WorldValue) (units : 
     draws : (r i : ℕ) → told_there units items (r, i) e.0 ≡ (u.region == r && m.item == i)
     draws r i = ap (λ o. stands_in r o && is_for i (get items e.0)) there ∙ ap (λ o. u.region == r && is_for i o) told
 
-    undrawn : (r i stock : ℕ) → told_there units items (r, i) e.0 ≡ false → stock ≡ stock_behind trade stock (drawn_here r i)
-    undrawn r i stock other = sym (ap (λ b. stock_behind trade stock (cond b e.1 0)) other ∙ none_traded trade stock)
+    undrawn : (r i stock : ℕ) → told_there units items (r, i) e.0 ≡ false → stock ≡ stock_after trade stock (drawn_here r i)
+    undrawn r i stock other = sym (ap (λ b. stock_after trade stock (cond b e.1 0)) other ∙ none_traded trade stock)
 
     -- the region where the unit stands
     here : (r : ℕ) (q : Region) → r ≡ u.region → get d.regions r ≡ Some q → IsTraded r q
@@ -133,17 +133,17 @@ module _ (trade : Trade) (items : FinMap nat_cmp ℕ) (w : WorldValue) (units : 
         mine : (i : ℕ) → told_there units items (r, i) e.0 ≡ (m.item == i)
         mine i = draws r i ∙ ap (λ b. b && m.item == i) (ap (λ k. u.region == k) same ∙ same_number u.region)
 
-        stock : deal.stock ≡ stock_behind trade (amount_of q.stocks m.item) e.1
+        stock : deal.stock ≡ stock_after trade (amount_of q.stocks m.item) e.1
         stock =
             stock_traded trade u.holding (stock_of d u.region m.item) e.1 m
-            ∙ ap (λ k. stock_behind trade k e.1) (stock_is d u.region q m.item (ap (get d.regions) (sym same) ∙ around))
+            ∙ ap (λ k. stock_after trade k e.1) (stock_is d u.region q m.item (ap (get d.regions) (sym same) ∙ around))
 
-        amounts : (i : ℕ) → amount_of (with_amount_of q.stocks m.item deal.stock) i ≡ stock_behind trade (amount_of q.stocks i) (drawn_here r i)
+        amounts : (i : ℕ) → amount_of (with_amount_of q.stocks m.item deal.stock) i ≡ stock_after trade (amount_of q.stocks i) (drawn_here r i)
         amounts i = elim (cases_eq i m.item) [
           | inl one ↦
               let drawing : told_there units items (r, i) e.0 ≡ true = mine i ∙ ap (λ k. m.item == k) one ∙ same_number m.item in
               ap (amount_of (with_amount_of q.stocks m.item deal.stock)) one ∙ set_same q.stocks m.item deal.stock ∙ stock
-              ∙ ap (λ k. stock_behind trade (amount_of q.stocks k) e.1) (sym one) ∙ ap (λ b. stock_behind trade (amount_of q.stocks i) (cond b e.1 0)) (sym drawing)
+              ∙ ap (λ k. stock_after trade (amount_of q.stocks k) e.1) (sym one) ∙ ap (λ b. stock_after trade (amount_of q.stocks i) (cond b e.1 0)) (sym drawing)
           | inr apart ↦
               set_other q.stocks m.item deal.stock i apart
               ∙ undrawn r i (amount_of q.stocks i) (mine i ∙ other_number m.item i (λ one. apart (sym one)))
@@ -196,7 +196,7 @@ module _ (trade : Trade) (items : FinMap nat_cmp ℕ) (w : WorldValue) where
     Trades e = (u : Unit) × (get c.units e.0 ≡ Some u) × (market_for w u (get items e.0) ≡ None → e.1 ≡ 0)
 
     regions_traded : IsWorld w → (d : CampaignValue) (es : List (ℕ × ℕ)) → Rise es → AreUntouched c d es → AllByRecursion Trades es → (r : ℕ) (q : Region) → get d.regions r ≡ Some q
-        → HasNewStocks q (stock_behind trade) (λ i. drawn (told_there c.units items (r, i)) es) (get (fold (traded trade items w) d es).regions r)
+        → HasNewStocks q (stock_after trade) (λ i. drawn (told_there c.units items (r, i)) es) (get (fold (traded trade items w) d es).regions r)
     regions_traded world d [] rise same all r q around = record { stocks = q.stocks; region = around; amounts = λ i. sym (none_traded trade (amount_of q.stocks i)) }
     regions_traded world d (e ∷ es) rise same all r q around =
         let (u, there, none) = all.0 in
@@ -208,32 +208,47 @@ module _ (trade : Trade) (items : FinMap nat_cmp ℕ) (w : WorldValue) where
           region = rest.region;
           amounts = λ i.
               let later = drawn (told_there c.units items (r, i)) es in
-              rest.amounts i ∙ ap (λ a. stock_behind trade a later) (one.amounts i)
+              rest.amounts i ∙ ap (λ a. stock_after trade a later) (one.amounts i)
               ∙ traded_twice trade (amount_of q.stocks i) (cond (told_there c.units items (r, i) e.0) e.1 0) later;
         }
 
-    none_left : (share : ℕ) → share ≤ 0 → share ≡ 0
-    none_left share low = omega (arith, low)
+module _ (trade : Trade) (w : WorldValue) (c : CampaignValue) (os : List Task) where
+  abbrev named : FinMap nat_cmp ℕ
+  named = items_by (trade_pots trade) w c os
 
-    each_trades : (counts : FinMap nat_cmp ℕ) (os : List Written) → Every (λ n share. Trades (n, share)) (given_by (trade_pots trade items counts) w c os)
-    each_trades counts os n share is =
-        let (u, o, there, own, low) = given_is_wanted (trade_pots trade items counts) w c (trades_give trade items counts w c) os n share is in
-        (u, there, λ at. none_left share (subst (λ k. share ≤ trade_wanted trade u.holding (amount_of counts o.unit) k) (ap (λ j. market_for w u (get items j)) own ∙ at) low))
+  abbrev given : FinMap nat_cmp ℕ
+  given = given_by (trade_pots trade) w c os
+
+  none_left : (share : ℕ) → share ≤ 0 → share ≡ 0
+  none_left share low = omega (arith, low)
+
+  -- who wants something by an order has the market of the item that the order names
+  without_share : (n share : ℕ) (u : Unit) (asked : ℕ) (s : Option ℕ) → share ≤ trade_wanted trade u.holding asked (market_for w u s)
+      → ((i : ℕ) → s ≡ Some i → get named n ≡ Some i) → market_for w u (get named n) ≡ None → share ≡ 0
+  without_share n share u asked None low told at = none_left share low
+  without_share n share u asked (Some i) low told at =
+      none_left share (subst (λ k. share ≤ trade_wanted trade u.holding asked k) (ap (market_for w u) (sym (told i refl)) ∙ at) low)
+
+  each_trades : Every (λ n share. Trades trade named w c (n, share)) given
+  each_trades n share is =
+      let (u, t, there, own, low, fine, told) = given_is_named (trade_pots trade) w c (trades_give trade w c) os n share is in
+      (u, there, λ at. without_share n share u (count_in t.said) (item_in t.said) low told at)
 
 pub trades_at_once : TradesAtOnce
 unfolding shared_out
-trades_at_once trade items counts w c os world =
-    let given = given_by (trade_pots trade items counts) w c os in
-    let all = all_pairs (Trades trade items w c) (entries given) (each-from_every (λ n share. Trades trade items w c (n, share)) given (each_trades trade items w c counts os)) in
+trades_at_once trade w c os world =
+    let items = named trade w c os in
+    let shares = entries (given trade w c os) in
+    let all = all_pairs (Trades trade items w c) shares (each-from_every (λ n share. Trades trade items w c (n, share)) (given trade w c os) (each_trades trade w c os)) in
     record {
       units = λ n u is.
-          units_traded trade items w c (entries given) (entries_rise given) n u is
-          ∙ ap (λ o. Some (paid_unit (trader trade items w n) u o)) (sym (get-entries given n));
+          units_traded trade items w c shares (entries_rise (given trade w c os)) n u is
+          ∙ ap (λ o. Some (paid_unit (trader trade items w n) u o)) (sym (get-entries (given trade w c os) n));
       regions = λ r q is.
-          let after = regions_traded trade items w c world c (entries given) (entries_rise given) (untouched c (entries given)) all r q is in
+          let after = regions_traded trade items w c world c shares (entries_rise (given trade w c os)) (untouched c shares) all r q is in
           record {
             stocks = after.stocks;
             region = after.region;
-            amounts = λ i. after.amounts i ∙ ap (stock_behind trade (amount_of q.stocks i)) (drawn_is (told_there c.units items (r, i)) (entries given));
+            amounts = λ i. after.amounts i ∙ ap (stock_after trade (amount_of q.stocks i)) (drawn_is (told_there c.units items (r, i)) shares);
           };
     }

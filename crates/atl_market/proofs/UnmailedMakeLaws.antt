@@ -1,32 +1,30 @@
 -- What BUILD and PRODUCE leave to the units of a faction that sent no mailing.
-use Rattle.std.proofs.Common.{◌≡◌, ◌+◌, ◌-◌, ◌*◌, ℕ, Option, Some, None, refl}
-use Rattle.std.specs.Prelude.{IfSome, option_and_then, option_map}
+use Rattle.std.proofs.Common.{◌+◌, ◌-◌, ◌*◌, ℕ, Option, Some, None, refl}
+use Rattle.std.specs.Prelude.{IfSome, neg_ℤ, option_and_then, option_map, pos}
 use Rattle.std.specs.List.{slice_get}
 use Rattle.std.specs.Ordering.{nat_cmp}
 use Rattle.std.specs.FinMap.{FinMap, get}
 use Rattle.atl_tables.specs.Worlds.{WorldValue}
-use Rattle.atl_tables.specs.declared.world.Item.{Item}
 use Rattle.atl_tables.specs.declared.world.Kind.{Kind}
 use Rattle.atl_orders.specs.declared.order.Order.TheVariants as orders
 use Rattle.atl_orders.specs.Orders.{Said}
+use Rattle.atl_records.specs.declared.books.Entry.TheVariants.{Made, Used}
+use Rattle.atl_records.specs.declared.books.Thing.TheVariants.{Item}
 use Rattle.atl_records.specs.declared.event.Outcome.TheVariants.{Done}
 use Rattle.atl_records.specs.declared.records.Structure.{Structure}
 use Rattle.atl_records.specs.declared.records.Unit.{Unit}
 use Rattle.atl_records.specs.Held.{amount_of, with_amount_of}
 use Rattle.atl_state.specs.Owners.{with_place}
-use Rattle.atl_state.specs.Campaign.{CampaignValue}
-use Rattle.atl_instant.specs.Month.{MonthValue}
-use Rattle.atl_instant.specs.PhaseOrders.{orders_by_unit}
+use Rattle.atl_state.specs.Campaign.{CampaignValue, with_amount, with_item}
 use Rattle.atl_state.proofs.RegionLaws.{changed-known}
 use Rattle.atl_instant.proofs.TermsLaws.{Leaves}
 use Rattle.atl_instant.proofs.UnmailedLaws.{HaveTheirMen, OthersHaveMen, SparesMen, carried_leaves, items_of_no_worse, men_put, men_same, men_stay, men_twice, men_unless, others_men, own_faction, unmailed_spared}
 use Rattle.atl_instant.proofs.UnmailedStepLaws.{place_men}
 use Rattle.atl_market.specs.Build.{begin, begin_fault, build_said, build_step, build_terms, go_on, go_on_at, gone_on, inside_fault, is_building, outside_fault, size_added, started, with_kind, with_new}
-use Rattle.atl_market.specs.Goods.{made_to, used_by, with_made, with_used}
-use Rattle.atl_market.specs.Asking.{asked_of, asked_pots, item_in}
-use Rattle.atl_market.specs.PotPhase.{PotMeaning}
+use Rattle.atl_market.specs.Goods.{with_made, with_used}
 use Rattle.atl_market.specs.Produce as produce
-use Rattle.atl_market.proofs.UnmailedPotLaws.{others_items, paid_men, shared_leave, written_of}
+use Rattle.atl_market.proofs.ThereLaws.{by_option, by_unit}
+use Rattle.atl_market.proofs.UnmailedPotLaws.{ordered_for, others_items, paid_men, shared_leave}
 
 -- ---- what a unit uses
 
@@ -35,12 +33,10 @@ abbrev item_set : (item amount : ℕ) → Unit → Unit
 item_set i amount u = record u { holding = record u.holding { items = with_amount_of u.holding.items i amount } }
 
 used_men : (c : CampaignValue) (n i amount : ℕ) → HaveTheirMen c (with_used c n i amount)
-used_men c n i amount = by_unit (get c.units n) refl
-  where
-    by_unit : (o : Option Unit) → get c.units n ≡ o → HaveTheirMen c (used_by c n i amount o)
-    by_unit None is = men_stay c
-    by_unit (Some u) is = men_put c (used_by c n i amount (Some u)) n u (item_set i (amount_of u.holding.items i - amount) u) is (record { faction = refl; men = refl })
-        (changed-known (item_set i (amount_of u.holding.items i - amount)) c.units n u is)
+used_men c n i amount =
+    by_unit c n (HaveTheirMen c) _ (men_stay c) (λ u is.
+    let left = amount_of u.holding.items i - amount in
+    men_put c (with_amount (with_item c n i left) Used (Item i) (neg_ℤ (pos amount))) n u (item_set i left u) is (record { faction = refl; men = refl }) (changed-known (item_set i left) c.units n u is))
 
 -- ---- BUILD
 
@@ -88,36 +84,23 @@ build_leaves = carried_leaves build_step is_building build_spares (unmailed_spar
 -- ---- PRODUCE
 
 made_men : (c : CampaignValue) (n i amount : ℕ) → HaveTheirMen c (with_made c n i amount)
-made_men c n i amount = by_unit (get c.units n) refl
-  where
-    by_unit : (o : Option Unit) → get c.units n ≡ o → HaveTheirMen c (made_to c n i amount o)
-    by_unit None is = men_stay c
-    by_unit (Some u) is = men_put c (made_to c n i amount (Some u)) n u (item_set i (amount_of u.holding.items i + amount) u) is (record { faction = refl; men = refl })
-        (changed-known (item_set i (amount_of u.holding.items i + amount)) c.units n u is)
+made_men c n i amount =
+    by_unit c n (HaveTheirMen c) _ (men_stay c) (λ u is.
+    let more = amount_of u.holding.items i + amount in
+    men_put c (with_amount (with_item c n i more) Made (Item i) (pos amount)) n u (item_set i more u) is (record { faction = refl; men = refl }) (changed-known (item_set i more) c.units n u is))
 
 produced_men : (asked : FinMap nat_cmp ℕ) (w : WorldValue) (c : CampaignValue) (e : ℕ × ℕ) → HaveTheirMen c (produce.produced asked w c e)
 unfolding produce.produced
-produced_men asked w c e = by_item (get asked e.0)
-  where
-    by_raw : (amount : ℕ) (o : Option ℕ) → HaveTheirMen c (produce.with_raw_used c e.0 amount o)
-    by_raw amount None = men_stay c
-    by_raw amount (Some raw) = used_men c e.0 raw amount
-
-    by_kind : (i : ℕ) (o : Option Item) → HaveTheirMen c (produce.produced_of c e i o)
-    by_kind i None = men_stay c
-    by_kind i (Some x) =
-        let used = produce.with_raw_used c e.0 (e.1 * x.raw_count) x.raw in
-        men_twice c used (with_made used e.0 i e.1) (by_raw (e.1 * x.raw_count) x.raw) (made_men used e.0 i e.1)
-
-    by_item : (o : Option ℕ) → HaveTheirMen c (produce.produced_by w c e o)
-    by_item None = men_stay c
-    by_item (Some i) = by_kind i (slice_get w.items i)
-
-abbrev as_asked : CampaignValue → MonthValue → PotMeaning
-as_asked = asked_pots produce.produce_pots item_in produce.is_produce
+produced_men asked w c e =
+    by_option (HaveTheirMen c) _ (get asked e.0) c (men_stay c) (λ i told.
+    by_option (HaveTheirMen c) _ (slice_get w.items i) c (men_stay c) (λ x is.
+    let used = produce.with_raw_used c e.0 (e.1 * x.raw_count) x.raw in
+    men_twice c used (with_made used e.0 i e.1)
+    (by_option (HaveTheirMen c) (λ r. with_used c e.0 r (e.1 * x.raw_count)) x.raw c (men_stay c) (λ r raw. used_men c e.0 r (e.1 * x.raw_count)))
+    (made_men used e.0 i e.1)))
 
 pub produce_leaves : Leaves produce.produce_terms
 produce_leaves =
-    shared_leave as_asked (written_of produce.is_produce)
-    (paid_men as_asked (written_of produce.is_produce) (λ w c m. produced_men (asked_of item_in c (orders_by_unit produce.is_produce m)) w))
+    shared_leave produce.produce_pots (ordered_for produce.is_produce)
+    (paid_men produce.produce_pots (ordered_for produce.is_produce) (λ w items. produced_men items w))
     (λ w c d m. others_items produce.is_produce m c d)

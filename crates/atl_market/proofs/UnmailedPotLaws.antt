@@ -1,6 +1,6 @@
 -- What TAX, RECRUIT, WORK, SELL and BUY leave to the units of a faction that sent no mailing.
-use Rattle.std.proofs.Common.{◌≡◌, ◌≢◌, ◌==◌, ◌&&◌, ◌||◌, ◌+◌, ℕ, Bool, true, false, List, [], ◌∷◌, ◌++◌, map, Option, Some, None, refl, ap, ◌∙◌, arith}
-use Rattle.std.specs.Prelude.{if◌then◌else◌}
+use Rattle.std.proofs.Common.{◌≡◌, ◌≢◌, ◌==◌, ◌&&◌, ◌||◌, ◌+◌, ◌-◌, ℕ, Bool, true, false, List, [], ◌∷◌, ◌++◌, map, None, refl, ap, ◌∙◌, arith}
+use Rattle.std.specs.Prelude.{if◌then◌else◌, pos}
 use Rattle.std.specs.List.{AllByRecursion, list_any}
 use Rattle.std.specs.Ordering.{nat_cmp}
 use Rattle.std.specs.FinMap.{FinMap, entries, get}
@@ -8,41 +8,41 @@ use Rattle.std.proofs.lemmas.List.Elements.{recursion_from_All}
 use Rattle.std.proofs.lemmas.List.Sums.{sum_by-append, sum_by-cons}
 use Rattle.atl_tables.specs.Worlds.{WorldValue}
 use Rattle.atl_orders.specs.declared.verb.Verb.{Verb}
+use Rattle.atl_records.specs.declared.books.Entry.TheVariants.{Wages}
+use Rattle.atl_records.specs.declared.books.Thing.TheVariants.{Money}
 use Rattle.atl_records.specs.declared.event.Event.{Event}
-use Rattle.atl_records.specs.declared.records.Region.{Region}
 use Rattle.atl_records.specs.declared.records.Unit.{Unit}
-use Rattle.atl_state.specs.Campaign.{CampaignValue}
+use Rattle.atl_state.specs.Campaign.{CampaignValue, with_amount, with_money, with_region_money}
 use Rattle.atl_records.proofs.EveryLaws.{other_number}
 use Rattle.atl_instant.specs.Month.{MonthValue}
 use Rattle.atl_instant.specs.Meaning.{Keeping, Meaning}
-use Rattle.atl_instant.specs.PhaseOrders.{Task, orders_by_unit, written, written_by_unit}
+use Rattle.atl_instant.specs.PhaseOrders.{Task, orders_by_unit}
 use Rattle.atl_instant.specs.Staying.{AreNoWorse}
 use Rattle.atl_instant.specs.Unmailed.{starved_in, starved_told}
 use Rattle.atl_instant.specs.declared.written.Arrangement.TheVariants.{ByUnit}
-use Rattle.atl_instant.specs.declared.written.Written.{Written}
 use Rattle.atl_instant.proofs.TermsLaws.{Leaves}
 use Rattle.atl_instant.proofs.UnmailedLaws.{HasItsItems, HasItsMen, HaveTheirMen, LeavesUnmailed, UnmailedAre, items_of_no_worse, men_changed, men_in_turn, men_stay, none_ordered, whole_leaves}
-use Rattle.atl_market.specs.PotPhase.{PotMeaning, event_of, events_by, given_by, pots_meaning, shared_out}
-use Rattle.atl_market.specs.Asking.{asked_of, asked_pots, count_in, item_in}
+use Rattle.atl_market.specs.PotPhase.{PotMeaning, event_of, events_by, given_by, items_by, pots_meaning, shared_out}
 use Rattle.atl_market.specs.Recruit.{is_recruit, recruit_pots, recruit_terms, recruits_at}
-use Rattle.atl_market.specs.Tax.{is_tax, tax_pots, tax_terms, taxed, taxed_by, taxed_from}
-use Rattle.atl_market.specs.Trade.{buy_terms, is_trade, sell_terms, trade_asked, trade_keeps, trade_meaning}
+use Rattle.atl_market.specs.Tax.{is_tax, tax_pots, tax_terms, taxed}
+use Rattle.atl_market.specs.Trade.{buy_terms, is_trade, sell_terms, trade_keeps, trade_meaning, trade_pots}
 use Rattle.atl_market.specs.declared.trade.Trade.{Trade}
 use Rattle.atl_market.specs.declared.trade.Trade.TheVariants.{Buy, Sell}
 use Rattle.atl_market.specs.Unordered.{OthersAreNoWorse, is_ordered}
-use Rattle.atl_market.specs.Work.{earned, work_orders, work_pots, work_terms, worked, worked_by}
+use Rattle.atl_market.specs.Work.{earned, work_orders, work_pots, work_terms, worked}
 use Rattle.atl_market.proofs.OrderedLaws.{unordered_stays}
 use Rattle.atl_market.proofs.PotLaws.{pots_give}
 use Rattle.atl_market.proofs.RecruitLaws.{recruited_others}
+use Rattle.atl_market.proofs.ThereLaws.{by_region, by_unit}
 use Rattle.atl_market.proofs.TradeLaws.{traded_others, trades_give}
 
 -- ---- all phases with pots
 
-abbrev pub written_of : (Verb → Bool) → CampaignValue → MonthValue → List Written
-written_of is_of c = written_by_unit is_of
+abbrev pub ordered_for : (Verb → Bool) → CampaignValue → MonthValue → List Task
+ordered_for is_of c = orders_by_unit is_of
 
 module _ (p : PotMeaning) (w : WorldValue) (c : CampaignValue) where
-  none_starve : (given : FinMap nat_cmp ℕ) (os : List Written) (n : ℕ) → starved_in (map (event_of p w c given) os) n ≡ 0
+  none_starve : (given : FinMap nat_cmp ℕ) (os : List Task) (n : ℕ) → starved_in (map (event_of p w c given) os) n ≡ 0
   none_starve given [] n = refl
   none_starve given (o ∷ os) n =
       sum_by-cons (λ (e : Event). if e.unit == n then starved_told e.verb e.outcome else 0) (event_of p w c given o) (map (event_of p w c given) os)
@@ -53,7 +53,7 @@ module _ (p : PotMeaning) (w : WorldValue) (c : CampaignValue) where
       nobody false = refl
 
   -- what is told of the orders tells of nobody who starved
-  told_of_pots : (events : List Event) (os : List Written) (n : ℕ) → starved_in (events ++ events_by p w c os) n ≡ starved_in events n
+  told_of_pots : (events : List Event) (os : List Task) (n : ℕ) → starved_in (events ++ events_by p w c os) n ≡ starved_in events n
   unfolding events_by
   told_of_pots events os n =
       sum_by-append (λ (e : Event). if e.unit == n then starved_told e.verb e.outcome else 0) events (map (event_of p w c (given_by p w c os)) os)
@@ -62,19 +62,19 @@ module _ (p : PotMeaning) (w : WorldValue) (c : CampaignValue) where
       plus_none : (x : ℕ) → x + 0 ≡ x
       plus_none x = omega arith
 
--- a phase with pots, which may be of what the mailings say
-module _ (p : CampaignValue → MonthValue → PotMeaning) (orders : CampaignValue → MonthValue → List Written) where
+-- a phase with pots
+module _ (p : PotMeaning) (orders : CampaignValue → MonthValue → List Task) where
   abbrev pub shared : Meaning
   shared = pots_meaning p orders
 
   pub shared_leave : {keeps : Keeping} → ((w : WorldValue) (c : CampaignValue) (m : MonthValue) → UnmailedAre HasItsMen m c (shared w c m).0) → ((w : WorldValue) (c d : CampaignValue) (m : MonthValue) → keeps w m c d → UnmailedAre HasItsItems m c d) → LeavesUnmailed shared keeps
   shared_leave {keeps} men items =
-      whole_leaves {meaning = shared} {keeps = keeps} (λ w c m. refl) (λ w c m n. told_of_pots (p c m) w c m.events (orders c m) n) (λ w c m h. men w c m) (λ w c m h. items w c (shared w c m).0 m h)
+      whole_leaves {meaning = shared} {keeps = keeps} (λ w c m. refl) (λ w c m n. told_of_pots p w c m.events (orders c m) n) (λ w c m h. men w c m) (λ w c m h. items w c (shared w c m).0 m h)
 
   -- payments that keep the men of all units
-  pub paid_men : ((w : WorldValue) (c : CampaignValue) (m : MonthValue) (d : CampaignValue) (e : ℕ × ℕ) → HaveTheirMen d ((p c m).paid w d e)) → (w : WorldValue) (c : CampaignValue) (m : MonthValue) → UnmailedAre HasItsMen m c (shared w c m).0
+  pub paid_men : ((w : WorldValue) (items : FinMap nat_cmp ℕ) (d : CampaignValue) (e : ℕ × ℕ) → HaveTheirMen d (p.paid items w d e)) → (w : WorldValue) (c : CampaignValue) (m : MonthValue) → UnmailedAre HasItsMen m c (shared w c m).0
   unfolding shared_out
-  paid_men paid w c m n u there none = men_in_turn ((p c m).paid w) (paid w c m) c (entries (given_by (p c m) w c (orders c m))) n u there
+  paid_men paid w c m n u there none = let items = items_by p w c (orders c m) in men_in_turn (p.paid items w) (paid w items) c (entries (given_by p w c (orders c m))) n u there
 
 -- a phase that takes nothing from any unit
 pub none_worse : (w : WorldValue) (c d : CampaignValue) (m : MonthValue) → AreNoWorse c d → UnmailedAre HasItsItems m c d
@@ -84,35 +84,31 @@ none_worse w c d m h n u there none = let (v, behind, better) = h n u there in r
 
 tax_men : (w : WorldValue) (c : CampaignValue) (e : ℕ × ℕ) → HaveTheirMen c (taxed c e)
 unfolding taxed
-tax_men w c e = by_unit (get c.units e.0)
-  where
-    by_region : (u : Unit) (o : Option Region) → HaveTheirMen c (taxed_from c e u o)
-    by_region u None = men_stay c
-    by_region u (Some q) = men_changed (λ v. record v { holding = record v.holding { money = u.holding.money + e.1 } }) (λ v. record { faction = refl; men = refl }) c (taxed_from c e u (Some q)) e.0 refl
-
-    by_unit : (o : Option Unit) → HaveTheirMen c (taxed_by c e o)
-    by_unit None = men_stay c
-    by_unit (Some u) = by_region u (get c.regions u.region)
+tax_men w c e =
+    by_unit c e.0 (HaveTheirMen c) _ (men_stay c) (λ u is.
+    by_region c u.region (HaveTheirMen c) _ (men_stay c) (λ q around.
+    men_changed (λ v. record v { holding = record v.holding { money = u.holding.money + e.1 } }) (λ v. record { faction = refl; men = refl })
+    c (with_region_money (with_money c e.0 (u.holding.money + e.1)) u.region (q.money - e.1)) e.0 refl))
 
 pub tax_leaves : Leaves tax_terms
-tax_leaves = shared_leave (λ c m. tax_pots) (written_of is_tax) (paid_men (λ c m. tax_pots) (written_of is_tax) (λ w c m. tax_men w)) none_worse
+tax_leaves = shared_leave tax_pots (ordered_for is_tax) (paid_men tax_pots (ordered_for is_tax) (λ w items. tax_men w)) none_worse
 
 -- ---- WORK
 
 work_men : (w : WorldValue) (c : CampaignValue) (e : ℕ × ℕ) → HaveTheirMen c (worked w c e)
 unfolding worked
-work_men w c e = by_unit (get c.units e.0)
-  where
-    by_unit : (o : Option Unit) → HaveTheirMen c (worked_by w c e o)
-    by_unit None = men_stay c
-    by_unit (Some u) = men_changed (λ v. record v { holding = record v.holding { money = u.holding.money + earned w u.region e.1 } }) (λ v. record { faction = refl; men = refl }) c (worked_by w c e (Some u)) e.0 refl
+work_men w c e =
+    by_unit c e.0 (HaveTheirMen c) _ (men_stay c) (λ u is.
+    let wages = earned w u.region e.1 in
+    men_changed (λ v. record v { holding = record v.holding { money = u.holding.money + wages } }) (λ v. record { faction = refl; men = refl })
+    c (with_amount (with_money c e.0 (u.holding.money + wages)) Wages Money (pos wages)) e.0 refl)
 
 pub work_leaves : Leaves work_terms
-work_leaves = shared_leave (λ c m. work_pots) work_orders (paid_men (λ c m. work_pots) work_orders (λ w c m. work_men w)) none_worse
+work_leaves = shared_leave work_pots work_orders (paid_men work_pots work_orders (λ w items. work_men w)) none_worse
 
 -- ---- RECRUIT
 
-none_listed : (n f : ℕ) (ts : List Task) → AllByRecursion (λ t. t.faction ≢ f) ts → list_any (λ o. o.unit == n && o.faction == f) (map written ts) ≡ false
+none_listed : (n f : ℕ) (ts : List Task) → AllByRecursion (λ t. t.faction ≢ f) ts → list_any (λ o. o.unit == n && o.faction == f) ts ≡ false
 none_listed n f [] h = refl
 none_listed n f (t ∷ ts) h = neither (t.unit == n) (t.faction == f) _ (other_number t.faction f h.0) (none_listed n f ts h.1)
   where
@@ -122,25 +118,22 @@ none_listed n f (t ∷ ts) h = neither (t.unit == n) (t.faction == f) _ (other_n
 
 module _ (is_of : Verb → Bool) (m : MonthValue) where
   -- a unit of a faction that sent no mailing has no order
-  pub unordered : (n : ℕ) (u : Unit) → get m.readings u.faction ≡ None → is_ordered (written_by_unit is_of m) n u ≡ false
+  pub unordered : (n : ℕ) (u : Unit) → get m.readings u.faction ≡ None → is_ordered (orders_by_unit is_of m) n u ≡ false
   unordered n u none =
       let ts = orders_by_unit is_of m in
       none_listed n u.faction ts (recursion_from_All (λ t. t.faction ≢ u.faction) ts (none_ordered is_of ByUnit m u.faction none))
 
   -- a phase that takes nothing from units without an order takes nothing from it
-  pub others_items : (c d : CampaignValue) → OthersAreNoWorse (written_by_unit is_of m) c d → UnmailedAre HasItsItems m c d
+  pub others_items : (c d : CampaignValue) → OthersAreNoWorse (orders_by_unit is_of m) c d → UnmailedAre HasItsItems m c d
   others_items c d h n u there none = let (v, behind, better) = h n u there (unordered n u none) in record { unit = v; there = behind; spared = items_of_no_worse u v better }
-
-abbrev recruit_asked : CampaignValue → MonthValue → PotMeaning
-recruit_asked = asked_pots recruit_pots count_in is_recruit
 
 pub recruit_leaves : Leaves recruit_terms
 recruit_leaves =
-    shared_leave recruit_asked (written_of is_recruit)
+    shared_leave recruit_pots (ordered_for is_recruit)
     (λ w c m n u there none.
     record {
       unit = u;
-      there = unordered_stays (recruit_asked c m) w (recruited_others w) c (pots_give (recruits_at w c) c) (written_of is_recruit c m) n u there (unordered is_recruit m n u none) ∙ there;
+      there = unordered_stays recruit_pots w (λ items. recruited_others w) c (λ items. pots_give (recruits_at w c) c) (ordered_for is_recruit c m) n u there (unordered is_recruit m n u none) ∙ there;
       spared = record { faction = refl; men = refl };
     })
     (λ w c d m. others_items is_recruit m c d)
@@ -148,19 +141,13 @@ recruit_leaves =
 -- ---- SELL and BUY
 
 module _ (trade : Trade) where
-  abbrev items_of : CampaignValue → MonthValue → FinMap nat_cmp ℕ
-  items_of c m = asked_of item_in c (orders_by_unit (is_trade trade) m)
-
-  abbrev counts_of : CampaignValue → MonthValue → FinMap nat_cmp ℕ
-  counts_of c m = asked_of count_in c (orders_by_unit (is_trade trade) m)
-
   trade_leaves : LeavesUnmailed (trade_meaning trade) (trade_keeps trade)
   trade_leaves =
-      shared_leave (trade_asked trade) (written_of (is_trade trade))
+      shared_leave (trade_pots trade) (ordered_for (is_trade trade))
       (λ w c m n u there none.
       record {
         unit = u;
-        there = unordered_stays (trade_asked trade c m) w (traded_others trade (items_of c m) w) c (trades_give trade (items_of c m) (counts_of c m) w c) (written_of (is_trade trade) c m) n u there (unordered (is_trade trade) m n u none) ∙ there;
+        there = unordered_stays (trade_pots trade) w (λ items. traded_others trade items w) c (trades_give trade w c) (ordered_for (is_trade trade) c m) n u there (unordered (is_trade trade) m n u none) ∙ there;
         spared = record { faction = refl; men = refl };
       })
       (λ w c d m. others_items (is_trade trade) m c d)

@@ -1,11 +1,15 @@
 -- Who gets something of a pot in a phase: each by an order, and at most what it wants.
-use Rattle.std.proofs.Common.{◌≡◌, ℕ, ◌==◌, ◌<◌, ◌≤◌, true, false, List, [], ◌∷◌, ◌++◌, length, Option, Some, None, is_some, refl, sym, ap, subst, ◌∙◌, arith}
-use Rattle.std.specs.List.{AllByRecursion, IsDistinct, flat_map}
+use Rattle.std.proofs.Common.{◌≡◌, ◌≢◌, ℕ, ◌==◌, ◌<◌, ◌≤◌, Bool, true, false, cond, List, [], ◌∷◌, ◌++◌, length, Option, Some, None, is_some, refl, sym, ap, subst, ◌∙◌, inl, inr, arith}
+use Rattle.std.specs.Prelude.{Result, Ok, Err, is_ok, option_map}
+use Rattle.std.specs.List.{AllByRecursion, IsDistinct, cons_option, filter_map}
+use Rattle.std.specs.Option.{option_map_or}
+use Rattle.std.specs.Result.{result_ok}
 use Rattle.std.specs.Map.{keys_of}
 use Rattle.std.specs.Ordering.{nat_cmp, eq_by_cmp}
 use Rattle.std.specs.Cmp.{nat_cmp_total, eq_by_cmp_equiv, unsigned_ties}
 use Rattle.std.specs.FinMap.{FinMap, contains_key-keys, empty, entries, get, get-entries, insert, len, len-entries, nat_cmp-IsAntisymmetric}
-use Rattle.std.proofs.lemmas.Bool.{false≢true}
+use Rattle.std.proofs.lemmas.Bool.{cases_eq, false≢true}
+use Rattle.std.proofs.lemmas.Option.{same_Some}
 use Rattle.std.proofs.lemmas.List.Sums.{fold-append}
 use Rattle.std.proofs.lemmas.Bool.Decides.{nat_tests}
 use Rattle.std.proofs.lemmas.Map.Entries.{length-keys_of}
@@ -13,27 +17,35 @@ use Rattle.std.proofs.lemmas.Map.Steps.{length-le_from_keys}
 use Rattle.atl_tables.specs.Limits.{most_amount}
 use Rattle.atl_tables.specs.Worlds.{WorldValue}
 use Rattle.atl_records.specs.declared.event.EventFault.{EventFault}
+use Rattle.atl_records.specs.declared.event.EventFault.TheVariants.{NotYours}
 use Rattle.atl_records.specs.declared.records.Unit.{Unit}
 use Rattle.atl_records.specs.Every.{Every}
 use Rattle.atl_state.specs.Campaign.{CampaignValue}
 use Rattle.atl_state.proofs.BackLaws.{Rise, entries_rise}
-use Rattle.atl_records.proofs.EveryLaws.{every-empty, every-insert}
-use Rattle.atl_instant.specs.declared.written.Written.{Written}
+use Rattle.atl_records.proofs.EveryLaws.{every-empty, every-insert, get-insert_other, none_some}
+use Rattle.atl_state.proofs.RegionLaws.{get-insert_same}
+use Rattle.atl_instant.specs.PhaseOrders.{Task}
+use Rattle.atl_instant.specs.Steps.{of_faction}
 use Rattle.atl_instant.proofs.ListedLaws.{find_is}
 use Rattle.atl_market.proofs.PotLaws.{put_in_turn}
-use Rattle.atl_market.specs.PotPhase.{PotMeaning, fault_of, given_by, want_at, want_by, wants_by}
+use Rattle.atl_market.specs.PotPhase.{PotMeaning, given_by, item_by, item_in, items_by, unit_for, want_by, wants_by}
 use Rattle.atl_market.specs.Pots.{AreWants}
-use Rattle.atl_market.specs.Puts.{with_each}
+use Rattle.atl_market.specs.Puts.{with_any, with_each}
 
 -- who gets something wants that much at least
 abbrev pub GivesToWants : PotMeaning → WorldValue → CampaignValue → Type 0
 GivesToWants p w c =
-    (wants : FinMap nat_cmp ℕ) (n share : ℕ) → get (p.given w c wants) n ≡ Some share
+    (items wants : FinMap nat_cmp ℕ) (n share : ℕ) → get (p.given items w c wants) n ≡ Some share
     → (want : ℕ) × (get wants n ≡ Some want) × (share ≤ want)
 
 -- entries put one list behind the other
 pub appended_entries : {V : Type 0} (m : FinMap nat_cmp V) (es fs : List (ℕ × V)) → with_each m (es ++ fs) ≡ with_each (with_each m es) fs
 appended_entries m es fs = fold-append (λ so_far entry. insert so_far entry.0 entry.1) m es fs
+
+-- an entry, if there is one, and others behind it
+pub any_then : {V : Type 0} (m : FinMap nat_cmp V) (o : Option (ℕ × V)) (es : List (ℕ × V)) → with_each m (cons_option o es) ≡ with_each (with_any m o) es
+any_then m None es = refl
+any_then m (Some e) es = refl
 
 pub every-with_each : (P : ℕ → ℕ → Type 0) (m : FinMap nat_cmp ℕ) (es : List (ℕ × ℕ)) → AllByRecursion (λ e. P e.0 e.1) es → Every P m → Every P (with_each m es)
 every-with_each P m [] each old = old
@@ -56,41 +68,102 @@ rise_apart (e ∷ es) h = (others e.0 es h.0, rise_apart es h.1)
     others k (f ∷ es) h = (differs k f.0 h.0, others k es h.1)
 
 module _ (p : PotMeaning) (w : WorldValue) (c : CampaignValue) where
-  -- a unit wants so much by some order for it
-  abbrev pub IsWanted : ℕ → ℕ → Type 0
-  IsWanted n want = (u : Unit) × (o : Written) × (get c.units n ≡ Some u) × (o.unit ≡ n) × (want ≡ p.want w u o)
+  -- a unit wants so much by some order for it without fault, and the item that this names is the unit's
+  abbrev IsWanted : FinMap nat_cmp ℕ → ℕ → ℕ → Type 0
+  IsWanted items n want =
+      (u : Unit) × (t : Task) × (get c.units n ≡ Some u) × (t.unit ≡ n) × (want ≡ p.want w u t) × (p.fault w u t ≡ None) × ((i : ℕ) → item_in t.said ≡ Some i → get items n ≡ Some i)
 
-  wanted_at : (o : Written) (f : Option EventFault) (u : Option Unit) → get c.units o.unit ≡ u → AllByRecursion (λ e. IsWanted e.0 e.1) (want_at p w c o f u)
-  wanted_at o (Some f) u is = tt
-  wanted_at o None (Some u) is = ((u, o, is, refl, refl), tt)
-  wanted_at o None None is = tt
+  -- a unit that carries an order out
+  pub record Carries (t : Task) (u : Unit) : Type 0 where
+    pub there : get c.units t.unit ≡ Some u
+    pub own : (u.faction == t.faction) ≡ true
+    pub fine : p.fault w u t ≡ None
 
-  all_wanted : (m : FinMap nat_cmp ℕ) (os : List Written) → Every IsWanted m → Every IsWanted (with_each m (flat_map (want_by p w c) os))
-  all_wanted m [] old = old
-  all_wanted m (o ∷ os) old =
-      subst (Every IsWanted) (sym (appended_entries m (want_by p w c o) (flat_map (want_by p w c) os)))
-      (all_wanted (with_each m (want_by p w c o)) os (every-with_each IsWanted m (want_by p w c o) (wanted_at o (fault_of p w c o) (get c.units o.unit) refl) old))
+  abbrev unless_fault : Task → Option Unit → Result Unit EventFault
+  unless_fault t o = option_map_or (λ v. option_map_or Err (p.fault w v t) (Ok v)) o (Err NotYours)
 
-  pub wants_are_wanted : (os : List Written) → Every IsWanted (wants_by p w c os)
-  wants_are_wanted os = subst (Every IsWanted) (put_in_turn (flat_map (want_by p w c) os)) (all_wanted empty os (every-empty IsWanted))
+  pub carries : (t : Task) (u : Unit) → unit_for p w c t ≡ Ok u → Carries t u
+  unfolding unit_for
+  carries t u is = by_unit (get c.units t.unit) refl is
+    where
+      by_fault : (v : Unit) → get c.units t.unit ≡ Some v → (v.faction == t.faction) ≡ true → (f : Option EventFault) → p.fault w v t ≡ f → option_map_or Err f (Ok v) ≡ Ok u → Carries t u
+      by_fault v at own (Some f) fault h = none_some u (ap result_ok h)
+      by_fault v at own None fault h = subst (Carries t) (same_Some _ _ (ap result_ok h)) (record { there = at; own = own; fine = fault })
+
+      by_test : (v : Unit) → get c.units t.unit ≡ Some v → (b : Bool) → (v.faction == t.faction) ≡ b → unless_fault t (cond b (Some v) None) ≡ Ok u → Carries t u
+      by_test v at true own h = by_fault v at own (p.fault w v t) refl h
+      by_test v at false own h = none_some u (ap result_ok h)
+
+      by_unit : (o : Option Unit) → get c.units t.unit ≡ o → unless_fault t (of_faction t.faction o) ≡ Ok u → Carries t u
+      by_unit None at h = none_some u (ap result_ok h)
+      by_unit (Some v) at h = by_test v at (v.faction == t.faction) refl h
+
+  module _ (m items : FinMap nat_cmp ℕ) (t : Task) where
+    abbrev wanting : Result Unit EventFault → Option (ℕ × ℕ)
+    wanting r = option_map (λ u. (t.unit, p.want w u t)) (result_ok r)
+
+    abbrev named : Option ℕ → Option (ℕ × ℕ)
+    named s = option_map (λ i. (t.unit, i)) s
+
+    item_put : (s : Option ℕ) (i : ℕ) → s ≡ Some i → get (with_any items (named s)) t.unit ≡ Some i
+    item_put s i is = ap (λ o. get (with_any items (named o)) t.unit) is ∙ get-insert_same items t.unit i
+
+    item_elsewhere : (s : Option ℕ) (n : ℕ) → n ≢ t.unit → get (with_any items (named s)) n ≡ get items n
+    item_elsewhere None n apart = refl
+    item_elsewhere (Some i) n apart = get-insert_other items t.unit n i apart
+
+    wanted_by : (r : Result Unit EventFault) → unit_for p w c t ≡ r → Every (IsWanted items) m → Every (IsWanted (with_any items (cond (is_ok r) (named (item_in t.said)) None))) (with_any m (wanting r))
+    wanted_by (Err f) is old = old
+    wanted_by (Ok u) is old = λ n want there. elim (cases_eq n t.unit) [
+      | inl same ↦
+          let of = carries t u is in
+          let mine : Some (p.want w u t) ≡ Some want = sym (get-insert_same m t.unit (p.want w u t)) ∙ ap (get (insert m t.unit (p.want w u t))) (sym same) ∙ there in (
+            u,
+            t,
+            ap (get c.units) same ∙ of.there,
+            sym same,
+            sym (same_Some _ _ mine),
+            of.fine,
+            λ i is_i. ap (get (with_any items (named (item_in t.said)))) same ∙ item_put (item_in t.said) i is_i,
+          )
+      | inr apart ↦
+          let (v, o, here, own, wanted, fine, names) = old n want (sym (get-insert_other m t.unit n (p.want w u t) apart) ∙ there) in
+          (v, o, here, own, wanted, fine, λ i is_i. item_elsewhere (item_in t.said) n apart ∙ names i is_i)
+    ]
+
+  all_wanted : (m items : FinMap nat_cmp ℕ) (ts : List Task) → Every (IsWanted items) m → Every (IsWanted (with_each items (filter_map (item_by p w c) ts))) (with_each m (filter_map (want_by p w c) ts))
+  all_wanted m items [] old = old
+  all_wanted m items (t ∷ ts) old =
+      subst (λ k. Every (IsWanted k) (with_each m (filter_map (want_by p w c) (t ∷ ts)))) (sym (any_then items (item_by p w c t) (filter_map (item_by p w c) ts)))
+      (subst (Every (IsWanted (with_each (with_any items (item_by p w c t)) (filter_map (item_by p w c) ts)))) (sym (any_then m (want_by p w c t) (filter_map (want_by p w c) ts)))
+      (all_wanted (with_any m (want_by p w c t)) (with_any items (item_by p w c t)) ts (wanted_by m items t (unit_for p w c t) refl old)))
+
+  wants_are_wanted : (ts : List Task) → Every (IsWanted (items_by p w c ts)) (wants_by p w c ts)
+  wants_are_wanted ts =
+      subst (Every (IsWanted (items_by p w c ts))) (put_in_turn (filter_map (want_by p w c) ts))
+      (subst (λ k. Every (IsWanted k) (with_each empty (filter_map (want_by p w c) ts))) (put_in_turn (filter_map (item_by p w c) ts)) (all_wanted empty empty ts (every-empty (IsWanted empty))))
 
   module _ (gives : GivesToWants p w c) where
-    -- a unit gets at most what it wants by some order
-    pub given_is_wanted : (os : List Written) → Every (λ n share. (u : Unit) × (o : Written) × (get c.units n ≡ Some u) × (o.unit ≡ n) × (share ≤ p.want w u o)) (given_by p w c os)
-    given_is_wanted os n share is =
-        let (want, wanted, low) = gives (wants_by p w c os) n share is in
-        let (u, o, there, own, same) = wants_are_wanted os n want wanted in
-        (u, o, there, own, subst (λ k. share ≤ k) same low)
+    -- a unit gets at most what it wants by some order without fault, and the item that this names is the unit's
+    pub given_is_named : (ts : List Task) →
+        Every (λ n share. (u : Unit) × (t : Task) × (get c.units n ≡ Some u) × (t.unit ≡ n) × (share ≤ p.want w u t) × (p.fault w u t ≡ None) × ((i : ℕ) → item_in t.said ≡ Some i → get (items_by p w c ts) n ≡ Some i)) (given_by p w c ts)
+    given_is_named ts n share is =
+        let (want, wanted, low) = gives (items_by p w c ts) (wants_by p w c ts) n share is in
+        let (u, t, there, own, same, fine, named) = wants_are_wanted ts n want wanted in
+        (u, t, there, own, subst (λ k. share ≤ k) same low, fine, named)
+
+    pub given_is_wanted : (ts : List Task) → Every (λ n share. (u : Unit) × (t : Task) × (get c.units n ≡ Some u) × (t.unit ≡ n) × (share ≤ p.want w u t)) (given_by p w c ts)
+    given_is_wanted ts n share is = let (u, t, there, own, low, fine, named) = given_is_named ts n share is in (u, t, there, own, low)
 
     -- no more units get something than there are
-    in_units : (os : List Written) (n : ℕ) → is_some (get (given_by p w c os) n) ≡ true → is_some (get c.units n) ≡ true
+    in_units : (os : List Task) (n : ℕ) → is_some (get (given_by p w c os) n) ≡ true → is_some (get c.units n) ≡ true
     in_units os n got = by_share (get (given_by p w c os) n) refl got
       where
         by_share : (o : Option ℕ) → get (given_by p w c os) n ≡ o → is_some o ≡ true → is_some (get c.units n) ≡ true
         by_share None is h = absurd (false≢true h)
         by_share (Some share) is h = let (u, o, there, own, low) = given_is_wanted os n share is in ap is_some there
 
-    pub few_given : (os : List Written) → length (entries (given_by p w c os)) ≤ len c.units
+    pub few_given : (os : List Task) → length (entries (given_by p w c os)) ≤ len c.units
     few_given os =
         let m = given_by p w c os in
         let few = length-le_from_keys (eq_by_cmp_equiv nat_cmp_total) (keys_of (entries m)) (entries c.units) (rise_apart (entries m) (entries_rise m)) (λ q h.

@@ -34,15 +34,16 @@ use Rattle.atl_state.proofs.HoldingLaws.{marks-unit_row, may_hold_money, steady-
 use Rattle.atl_state.proofs.RegionLaws.{steady-amount, total-amount}
 use Rattle.atl_instant.specs.Meaning.{HaveRoom, LeavesWell, Moving, moved_times, most_moved}
 use Rattle.atl_instant.specs.Staying.{AreNoWorse}
-use Rattle.atl_instant.specs.declared.written.Written.{Written}
+use Rattle.atl_instant.specs.PhaseOrders.{Task}
 use Rattle.atl_instant.proofs.BookingLaws.{booked-near, within-pos}
 use Rattle.atl_instant.proofs.MarkLaws.{marks_by}
 use Rattle.atl_instant.proofs.MeaningLaws.{room_less, same_month_by, well_within}
 use Rattle.atl_instant.proofs.StayingLaws.{are_no_worse, are_no_worse_twice}
 use Rattle.atl_market.specs.PotPhase.{CanInTurn, given_by, shared_out}
-use Rattle.atl_market.specs.Work.{earned, places_at, places_wanted, with_wages, work_moves, work_pots, worked, worked_by}
+use Rattle.atl_market.specs.Work.{earned, places_at, places_wanted, work_moves, work_pots, worked}
 use Rattle.atl_market.proofs.DrawLaws.{all_pairs}
 use Rattle.atl_market.proofs.PurseLaws.{others_stay, paid, richer, richer_is, richer_no_worse}
+use Rattle.atl_market.proofs.ThereLaws.{by_unit, unit_there}
 use Rattle.atl_market.proofs.TurnLaws.{few_holdings, first_room, later_room, turns_leave_well}
 use Rattle.atl_market.proofs.PotLaws.{pots_give}
 use Rattle.atl_market.proofs.WantLaws.{few_given, given_is_wanted}
@@ -60,7 +61,7 @@ module _ (w : WorldValue) (c : CampaignValue) (n : ℕ) (u : Unit) (money : ℕ)
   abbrev pub wages_paid : CampaignValue
   wages_paid = with_amount given Wages Money (pos money)
 
-  pub wages_are : with_wages c n u.holding.money money ≡ wages_paid
+  wages_are : with_amount (with_money c n (u.holding.money + money)) Wages Money (pos money) ≡ wages_paid
   wages_are = ap (λ d. with_amount d Wages Money (pos money)) (richer_is c n u money is)
 
   total_paid : (t : Thing) → pos (total wages_paid t) ≡ pos (total c t) +ℤ share_of t Money (pos money)
@@ -110,33 +111,31 @@ wages_marks things c d e n money held d_is d_marks e_is e_marks grid two =
 -- ---- one step
 
 module _ (w : WorldValue) (c : CampaignValue) (e : ℕ × ℕ) where
-  pub worked_is : (u : Unit) → get c.units e.0 ≡ Some u → worked w c e ≡ with_wages c e.0 u.holding.money (earned w u.region e.1)
+  pub worked_is : (u : Unit) (is : get c.units e.0 ≡ Some u) → worked w c e ≡ wages_paid w c e.0 u (earned w u.region e.1) is
   unfolding worked
-  worked_is u is = ap (worked_by w c e) is
+  worked_is u is = unit_there c e.0 _ u is ∙ wages_are w c e.0 u (earned w u.region e.1) is
 
   pub worked_well : CanWork w c e → LeavesWell IsSteady (work_moves holding_limit) w c (worked w c e)
   worked_well can =
-      subst (λ d. LeavesWell IsSteady (work_moves holding_limit) w c d) (sym (worked_is can.unit can.there ∙ wages_are w c e.0 can.unit (earned w can.unit.region e.1) can.there))
+      subst (λ d. LeavesWell IsSteady (work_moves holding_limit) w c d) (sym (worked_is can.unit can.there))
       (wages_leave_well w c e.0 can.unit (earned w can.unit.region e.1) can.there can.fits can.steady)
 
   pub worked_others : CanWork w c e → (k : ℕ) → k ≢ e.0 → get (worked w c e).units k ≡ get c.units k
   worked_others can k apart =
-      ap (λ (d : CampaignValue). get d.units k) (worked_is can.unit can.there ∙ wages_are w c e.0 can.unit (earned w can.unit.region e.1) can.there)
+      ap (λ (d : CampaignValue). get d.units k) (worked_is can.unit can.there)
       ∙ wages_leave_others w c e.0 can.unit (earned w can.unit.region e.1) can.there k apart
 
   pub worked_no_worse : AreNoWorse c (worked w c e)
   unfolding worked
-  worked_no_worse = by_unit (get c.units e.0) refl
-    where
-      by_unit : (o : Option Unit) → get c.units e.0 ≡ o → AreNoWorse c (worked_by w c e o)
-      by_unit None is = are_no_worse c
-      by_unit (Some u) is = subst (λ d. AreNoWorse c d) (sym (wages_are w c e.0 u (earned w u.region e.1) is)) (wages_no_worse w c e.0 u (earned w u.region e.1) is)
+  worked_no_worse =
+      by_unit c e.0 (AreNoWorse c) _ (are_no_worse c) (λ u is.
+      subst (λ d. AreNoWorse c d) (sym (wages_are w c e.0 u (earned w u.region e.1) is)) (wages_no_worse w c e.0 u (earned w u.region e.1) is))
 
 each_no_worse : (w : WorldValue) (c : CampaignValue) (es : List (ℕ × ℕ)) → AreNoWorse c (fold (worked w) c es)
 each_no_worse w c [] = are_no_worse c
 each_no_worse w c (e ∷ es) = are_no_worse_twice c (worked w c e) (fold (worked w) (worked w c e) es) (worked_no_worse w c e) (each_no_worse w (worked w c e) es)
 
-pub work_keeps_units : (w : WorldValue) (c : CampaignValue) (os : List Written) → AreNoWorse c (shared_out work_pots w c os)
+pub work_keeps_units : (w : WorldValue) (c : CampaignValue) (os : List Task) → AreNoWorse c (shared_out work_pots w c os)
 unfolding shared_out
 work_keeps_units w c os = each_no_worse w c (entries (given_by work_pots w c os))
 
@@ -171,17 +170,17 @@ module _ (w : WorldValue) where
       let cost : t.wage * places ≤ t.wage * (room / t.wage) = mul-le-mul_left t.wage few in
       omega (arith, split, cost, fits, mul_comm places t.wage)
 
-  module _ (c : CampaignValue) (steady : IsSteady w c) (os : List Written) where
+  module _ (c : CampaignValue) (steady : IsSteady w c) (os : List Task) where
     abbrev shares : List (ℕ × ℕ)
     shares = entries (given_by work_pots w c os)
 
     each_fits : Every (λ n places. HasRoomFor w c (n, places)) (given_by work_pots w c os)
     each_fits n places is =
-        let (u, o, there, own, low) = given_is_wanted work_pots w c (pots_give (places_at w) c) os n places is in
+        let (u, o, there, own, low) = given_is_wanted work_pots w c (λ items. pots_give (places_at w) c) os n places is in
         (u, there, wanted_fits u (terrain_of w u.region) places (steady.numbers.units n u there).1.money low)
 
     few : length shares ≤ most_units
-    few = omega (arith, few_given work_pots w c (pots_give (places_at w) c) os, steady.numbers.few_units)
+    few = omega (arith, few_given work_pots w c (λ items. pots_give (places_at w) c) os, steady.numbers.few_units)
 
     little : (e : Entry) (t : Thing) → moved_times (length shares) step_moves e t ≤ work_moves most_moved e t
     little e t = few_holdings (length shares) few Wages Money e t

@@ -6,15 +6,12 @@ use Rattle.std.specs.declared.cmp.Ordering.TheVariants.{Less, Equal, Greater}
 use Rattle.std.specs.Ordering.{nat_cmp, eq_by_cmp, is_eq, is_lt}
 use Rattle.std.specs.Cmp.{IsTotalOrder, Equal-is}
 use Rattle.std.specs.Cmp.Lexicographic.{slice_cmp, nat_list_cmp_total}
-use Rattle.std.specs.Map.{keys_of}
 use Rattle.std.specs.List.{AllByRecursion, IsDistinct}
 use Rattle.std.specs.List.Sorted.{IsSortedByKey}
 use Rattle.std.specs.FinMap.{FinMap, IsAntisymmetric, empty, entries, entries-insert, entries_sorted, from_entries, get, get-empty, insert, is_sorted, put, values, slice_cmp-IsAntisymmetric, nat_cmp-IsAntisymmetric}
 use Rattle.std.specs.FinMap.Entries.{below_all, by_order}
 use Rattle.std.proofs.lemmas.Bool.{and_parts, cases_eq, false_from_ne_true, false≢true, not-true}
 use Rattle.std.proofs.lemmas.Bool.Decides.{nat_tests}
-use Rattle.std.proofs.lemmas.List.{map-append}
-use Rattle.std.proofs.lemmas.List.Sorted.{IsPermutation-map}
 use Rattle.atl_tables.proofs.GeneralLaws.{equal_turned}
 use Rattle.atl_records.specs.Every.{EachOf}
 use Rattle.atl_state.specs.Campaign.{CampaignValue}
@@ -22,21 +19,19 @@ use Rattle.atl_records.specs.declared.records.Unit.{Unit}
 use Rattle.atl_state.proofs.BackLaws.{append_apart, append_each, entries_rise, flat_apart}
 use Rattle.atl_state.proofs.GroupLaws.{filter_apart, filter_each}
 use Rattle.atl_records.proofs.EveryLaws.{each-from_every, get-insert_other, other_number, same_number}
-use Rattle.atl_state.proofs.KeyLaws.{IsDistinct-map}
 use Rattle.atl_state.proofs.OrderLaws.{each_so}
-use Rattle.atl_orders.specs.declared.verb.Verb.TheVariants as verbs
 use Rattle.atl_orders.specs.Orders.{verb_of_order}
 use Rattle.atl_instant.specs.Month.{MonthValue}
-use Rattle.atl_instant.specs.PhaseOrders.{Task, is_month_long, key_of, orders_by_unit, orders_of, written}
+use Rattle.atl_instant.specs.PhaseOrders.{Task, is_month_long, key_of, orders_by_unit, task_of}
 use Rattle.atl_instant.specs.declared.written.Arrangement.TheVariants.{ByUnit}
 use Rattle.atl_instant.specs.declared.written.Written.{Written}
-use Rattle.atl_instant.proofs.ListedLaws.{entries-sorted, keyed_order}
-use Rattle.atl_instant.proofs.MappedLaws.{entries-with_value, no_entries, with_value}
+use Rattle.atl_instant.proofs.MappedLaws.{no_entries}
+use Rattle.atl_instant.proofs.OrderLaws.{listed_tasks}
 use Rattle.atl_instant.specs.Steps.{is_of_faction}
 use Rattle.atl_market.specs.Puts.{with_each}
-use Rattle.atl_market.specs.Idle.{all_idle, all_written, idle_written, own_unit, own_writers, work_key}
+use Rattle.atl_market.specs.Idle.{all_found, all_idle, idle_by, own_unit, own_writers}
 use Rattle.atl_market.specs.Unordered.{is_ordered}
-use Rattle.atl_market.specs.Work.{all_work, idle_at, idle_task, idle_work, is_work, work_orders}
+use Rattle.atl_market.specs.Work.{idle_task, idle_work, is_idle, is_work, sorted_by_unit, work_orders, written_work}
 use Rattle.atl_market.proofs.PotLaws.{some_new, still_some}
 use Rattle.atl_market.proofs.WantLaws.{appended_entries}
 
@@ -85,27 +80,28 @@ module _ {K X : Type 0} (R : K → K → Ordering) (exact : IsAntisymmetric R) (
 
 -- ---- keys that differ
 
-abbrev same_work : Written → Written → Bool
+abbrev work_key : Task → List ℕ
+work_key = key_of ByUnit
+
+abbrev same_work : Task → Task → Bool
 same_work a b = eq_by_cmp (slice_cmp nat_cmp) (work_key a) (work_key b)
 
-keys_tie : (a b : Written) → same_work a b ≡ true → work_key a ≡ work_key b
+keys_tie : (a b : Task) → same_work a b ≡ true → work_key a ≡ work_key b
 keys_tie a b h = slice_cmp-IsAntisymmetric nat_cmp-IsAntisymmetric (work_key a) (work_key b) ((Equal-is (slice_cmp nat_cmp (work_key a) (work_key b))).0 h)
 
-apart_by : (a b : Written) → (a.unit ≡ b.unit → a.faction ≡ b.faction → ⊥) → same_work a b ≡ false
+apart_by : (a b : Task) → (a.unit ≡ b.unit → a.faction ≡ b.faction → ⊥) → same_work a b ≡ false
 apart_by a b differ = false_from_ne_true (same_work a b) (λ h. let e = keys_tie a b h in differ (ap (λ k. get_or k 0 0) e) (ap (λ k. get_or k 2 0) e))
 
-long_apart : (m : MonthValue) → IsDistinct same_work (map written (orders_by_unit is_month_long m))
-long_apart m =
-    let ts = values (orders_of is_month_long ByUnit m.aliases m.readings) in
-    IsDistinct-map written same_work ts (values_apart (slice_cmp nat_cmp) (slice_cmp-IsAntisymmetric nat_cmp-IsAntisymmetric) (key_of ByUnit) nat_list_cmp_total _)
+long_apart : (m : MonthValue) → IsDistinct same_work (orders_by_unit is_month_long m)
+long_apart m = values_apart (slice_cmp nat_cmp) (slice_cmp-IsAntisymmetric nat_cmp-IsAntisymmetric) (key_of ByUnit) nat_list_cmp_total _
 
 -- ---- the units that have an order of their own faction
 
 module _ (c : CampaignValue) where
-  abbrev IsListed : FinMap nat_cmp ℕ → Written → Type 0
+  abbrev IsListed : FinMap nat_cmp ℕ → Task → Type 0
   IsListed writers o = is_of_faction o.faction (get c.units o.unit) ≡ true → is_some (get writers o.unit) ≡ true
 
-  own_is_listed : (m : FinMap nat_cmp ℕ) (os : List Written) → AllByRecursion (IsListed (with_each m (flat_map (own_unit c) os))) os
+  own_is_listed : (m : FinMap nat_cmp ℕ) (os : List Task) → AllByRecursion (IsListed (with_each m (flat_map (own_unit c) os))) os
   own_is_listed m [] = tt
   own_is_listed m (o ∷ os) =
       let rest = flat_map (own_unit c) os in
@@ -116,40 +112,37 @@ module _ (c : CampaignValue) where
 
   -- ---- the work of units without an order
 
-  module _ (os : List Written) where
+  module _ (os : List Task) where
     abbrev writers : FinMap nat_cmp ℕ
     writers = own_writers c os
 
-    pub record IsIdle (o : Written) : Type 0 where
+    pub record IsIdle (o : Task) : Type 0 where
       pub unit : Unit
       pub there : get c.units o.unit ≡ Some unit
       pub own : o.faction ≡ unit.faction
       pub unordered : is_some (get writers o.unit) ≡ false
 
-    abbrev idle_one : ℕ → Unit → Written
-    idle_one n u = record { unit = n; line = 0; faction = u.faction; verb = verbs.Work; place = 0 }
-
-    idle_if : (n : ℕ) (u : Unit) (b : Bool) → (nat_lt 0 u.holding.men && not (is_some (get writers n))) ≡ b → get c.units n ≡ Some u → AllByRecursion IsIdle (cond b (idle_one n u ∷ []) [])
+    idle_if : (n : ℕ) (u : Unit) (b : Bool) → (nat_lt 0 u.holding.men && not (is_some (get writers n))) ≡ b → get c.units n ≡ Some u → AllByRecursion IsIdle (cond b (idle_task n u.faction ∷ []) [])
     idle_if n u true is there = (record { unit = u; there = there; own = refl; unordered = not-true _ (and_parts _ _ is).1 }, tt)
     idle_if n u false is there = tt
 
-    idle_each : (es : List (ℕ × Unit)) → EachOf (λ n u. get c.units n ≡ Some u) es → AllByRecursion IsIdle (flat_map (idle_written writers) es)
+    idle_each : (es : List (ℕ × Unit)) → EachOf (λ n u. get c.units n ≡ Some u) es → AllByRecursion IsIdle (flat_map (idle_by writers) es)
     idle_each [] h = tt
-    idle_each ((n, u) ∷ es) h = append_each IsIdle (idle_written writers (n, u)) (flat_map (idle_written writers) es) (idle_if n u _ refl h.0) (idle_each es h.1)
+    idle_each ((n, u) ∷ es) h = append_each IsIdle (idle_by writers (n, u)) (flat_map (idle_by writers) es) (idle_if n u _ refl h.0) (idle_each es h.1)
 
     each_idle : AllByRecursion IsIdle (all_idle c os)
     each_idle = idle_each (entries c.units) (each-from_every (λ n u. get c.units n ≡ Some u) c.units (λ n u is. is))
 
-    of_unit : (e : ℕ × Unit) → AllByRecursion (λ o. o.unit ≡ e.0) (idle_written writers e)
-    of_unit (n, u) = elim (nat_lt 0 u.holding.men && not (is_some (get writers n))) as (λ b. AllByRecursion (λ (o : Written). o.unit ≡ n) (cond b (idle_one n u ∷ []) [])) [ true ↦ (refl, tt) | false ↦ tt ]
+    of_unit : (e : ℕ × Unit) → AllByRecursion (λ o. o.unit ≡ e.0) (idle_by writers e)
+    of_unit (n, u) = elim (nat_lt 0 u.holding.men && not (is_some (get writers n))) as (λ b. AllByRecursion (λ (o : Task). o.unit ≡ n) (cond b (idle_task n u.faction ∷ []) [])) [ true ↦ (refl, tt) | false ↦ tt ]
 
-    just_one : (e : ℕ × Unit) → IsDistinct same_work (idle_written writers e)
+    just_one : (e : ℕ × Unit) → IsDistinct same_work (idle_by writers e)
     unfolding IsDistinct
-    just_one (n, u) = elim (nat_lt 0 u.holding.men && not (is_some (get writers n))) as (λ b. IsDistinct same_work (cond b (idle_one n u ∷ []) [])) [ true ↦ (tt, tt) | false ↦ tt ]
+    just_one (n, u) = elim (nat_lt 0 u.holding.men && not (is_some (get writers n))) as (λ b. IsDistinct same_work (cond b (idle_task n u.faction ∷ []) [])) [ true ↦ (tt, tt) | false ↦ tt ]
 
     idle_apart : IsDistinct same_work (all_idle c os)
     idle_apart =
-        flat_apart same_work (idle_written writers) (λ (e f : ℕ × Unit). e.0 < f.0) (λ e o. o.unit ≡ e.0)
+        flat_apart same_work (idle_by writers) (λ (e f : ℕ × Unit). e.0 < f.0) (λ e o. o.unit ≡ e.0)
         (λ e f a b low mine other. apart_by a b (λ same _. absurd (omega (arith, low, mine, other, same)))) of_unit just_one (entries c.units) (entries_rise c.units)
 
     -- ---- and the written ones
@@ -157,36 +150,23 @@ module _ (c : CampaignValue) where
     same_faction : (a b : ℕ) → a ≡ b → (a == b) ≡ true
     same_faction a b e = grind (arith, nat_tests)
 
-    written_idle : (o i : Written) → IsListed writers o → IsIdle i → same_work o i ≡ false
+    written_idle : (o i : Task) → IsListed writers o → IsIdle i → same_work o i ≡ false
     written_idle o i listed idle =
         apart_by o i (λ unit faction.
         let there : get c.units o.unit ≡ Some idle.unit = ap (get c.units) unit ∙ idle.there in
         let own : is_of_faction o.faction (get c.units o.unit) ≡ true = ap (is_of_faction o.faction) there ∙ same_faction idle.unit.faction o.faction (sym idle.own ∙ sym faction) in
         false≢true (sym (ap (λ n. is_some (get writers n)) unit ∙ idle.unordered) ∙ listed own))
 
-    work_apart : IsDistinct same_work os → IsDistinct same_work (all_written c os)
+    work_apart : IsDistinct same_work os → IsDistinct same_work (all_found c os)
     work_apart apart =
-        let chosen = filter (λ (o : Written). is_work o.verb) os in
-        append_apart same_work chosen (all_idle c os) (filter_apart (λ o. is_work o.verb) same_work os apart) idle_apart
+        let chosen = filter (λ (o : Task). is_work (verb_of_order o.said)) os in
+        append_apart same_work chosen (all_idle c os) (filter_apart (λ o. is_work (verb_of_order o.said)) same_work os apart) idle_apart
         (each_so (IsListed writers) (λ o. AllByRecursion (λ i. same_work o i ≡ false) (all_idle c os)) (λ o listed. each_so IsIdle (λ i. same_work o i ≡ false) (λ i idle. written_idle o i listed idle) (all_idle c os) each_idle) chosen
-        (filter_each (λ o. is_work o.verb) (IsListed writers) os (own_is_listed empty os)))
+        (filter_each (λ o. is_work (verb_of_order o.said)) (IsListed writers) os (own_is_listed empty os)))
 
--- ---- as they are collected and sorted, and as the map lists them
+-- ---- who has an order
 
-abbrev keyed : Written → List ℕ × Written
-keyed o = (work_key o, o)
-
-keys-keyed : (os : List Written) → keys_of (map keyed os) ≡ map work_key os
-keys-keyed [] = refl
-keys-keyed (o ∷ os) = ap (λ ks. work_key o ∷ ks) (keys-keyed os)
-
-unkeyed : (os : List Written) → map (λ e. e.1) (map keyed os) ≡ os
-unkeyed [] = refl
-unkeyed (o ∷ os) = ap (λ ps. o ∷ ps) (unkeyed os)
-
--- ---- what is written of the tasks
-
-writes_own : (c : CampaignValue) (os : List Written) (n : ℕ) (u : Unit) → get c.units n ≡ Some u → (m : FinMap nat_cmp ℕ) → is_some (get (with_each m (flat_map (own_unit c) os)) n) ≡ (is_ordered os n u || is_some (get m n))
+writes_own : (c : CampaignValue) (os : List Task) (n : ℕ) (u : Unit) → get c.units n ≡ Some u → (m : FinMap nat_cmp ℕ) → is_some (get (with_each m (flat_map (own_unit c) os)) n) ≡ (is_ordered os n u || is_some (get m n))
 writes_own c [] n u is m = refl
 writes_own c (o ∷ os) n u is m =
     ap (λ (k : FinMap nat_cmp ℕ). is_some (get k n)) (appended_entries m (own_unit c o) (flat_map (own_unit c) os))
@@ -219,63 +199,36 @@ writes_own c (o ∷ os) n u is m =
           ∙ sym (ap (λ b. (b && o.faction == u.faction) || is_some (get m n)) (other_number o.unit n (λ same. apart (sym same))))
     ]
 
-is_writer : (c : CampaignValue) (os : List Written) (n : ℕ) (u : Unit) → get c.units n ≡ Some u → is_some (get (own_writers c os) n) ≡ is_ordered os n u
+is_writer : (c : CampaignValue) (os : List Task) (n : ℕ) (u : Unit) → get c.units n ≡ Some u → is_some (get (own_writers c os) n) ≡ is_ordered os n u
 is_writer c os n u is = writes_own c os n u is empty ∙ ap (λ o. is_ordered os n u || is_some o) (get-empty nat_cmp n) ∙ or_false (is_ordered os n u)
   where
     or_false : (b : Bool) → (b || false) ≡ b
     or_false true = refl
     or_false false = refl
 
-work_written : (ts : List Task) → filter (λ o. is_work o.verb) (map written ts) ≡ map written (filter (λ t. is_work (verb_of_order t.said)) ts)
-work_written [] = refl
-work_written (t ∷ ts) = by_test (is_work (verb_of_order t.said)) (work_written ts)
-  where
-    by_test : (b : Bool) → filter (λ o. is_work o.verb) (map written ts) ≡ map written (filter (λ t. is_work (verb_of_order t.said)) ts)
-        → cond b (written t ∷ filter (λ o. is_work o.verb) (map written ts)) (filter (λ o. is_work o.verb) (map written ts)) ≡ map written (cond b (t ∷ filter (λ t. is_work (verb_of_order t.said)) ts) (filter (λ t. is_work (verb_of_order t.said)) ts))
-    by_test true rest = ap (λ os. written t ∷ os) rest
-    by_test false rest = rest
-
 module _ (c : CampaignValue) (ts : List Task) where
-  one_idle : (n : ℕ) (u : Unit) → get c.units n ≡ Some u → idle_written (own_writers c (map written ts)) (n, u) ≡ map written (idle_at ts (n, u))
-  one_idle n u is = ap (λ b. cond (nat_lt 0 u.holding.men && not b) (record { unit = n; line = 0; faction = u.faction; verb = verbs.Work; place = 0 } ∷ []) []) (is_writer c (map written ts) n u is) ∙ by_test (nat_lt 0 u.holding.men && not (is_ordered (map written ts) n u))
+  abbrev of_idle : List (ℕ × Unit) → List Task
+  of_idle es = map (λ e. idle_task e.0 e.1.faction) (filter (is_idle ts) es)
+
+  one_idle : (n : ℕ) (u : Unit) → get c.units n ≡ Some u → idle_by (own_writers c ts) (n, u) ≡ cond (is_idle ts (n, u)) (idle_task n u.faction ∷ []) []
+  one_idle n u is = ap (λ b. cond (nat_lt 0 u.holding.men && not b) (idle_task n u.faction ∷ []) []) (is_writer c ts n u is)
+
+  idle_are : (es : List (ℕ × Unit)) → EachOf (λ n u. get c.units n ≡ Some u) es → flat_map (idle_by (own_writers c ts)) es ≡ of_idle es
+  idle_are [] h = refl
+  idle_are ((n, u) ∷ es) h =
+      ap (λ os. os ++ flat_map (idle_by (own_writers c ts)) es) (one_idle n u h.0)
+      ∙ ap (λ os. cond (is_idle ts (n, u)) (idle_task n u.faction ∷ []) [] ++ os) (idle_are es h.1) ∙ by_test (is_idle ts (n, u))
     where
-      by_test : (b : Bool) → cond b (record { unit = n; line = 0; faction = u.faction; verb = verbs.Work; place = 0 } ∷ []) [] ≡ map written (cond b (idle_task n u.faction ∷ []) [])
+      by_test : (b : Bool) → cond b (idle_task n u.faction ∷ []) [] ++ of_idle es ≡ map (λ e. idle_task e.0 e.1.faction) (cond b ((n, u) ∷ filter (is_idle ts) es) (filter (is_idle ts) es))
       by_test true = refl
       by_test false = refl
 
-  idle_are : (es : List (ℕ × Unit)) → EachOf (λ n u. get c.units n ≡ Some u) es → flat_map (idle_written (own_writers c (map written ts))) es ≡ map written (flat_map (idle_at ts) es)
-  idle_are [] h = refl
-  idle_are (e ∷ es) h =
-      ap (λ os. os ++ flat_map (idle_written (own_writers c (map written ts))) es) (one_idle e.0 e.1 h.0) ∙ ap (λ os. map written (idle_at ts e) ++ os) (idle_are es h.1)
-      ∙ sym (map-append written (idle_at ts e) (flat_map (idle_at ts) es))
+  all_are : all_found c ts ≡ written_work ts ++ idle_work c ts
+  all_are = ap (λ os. written_work ts ++ os) (idle_are (entries c.units) (each-from_every (λ n u. get c.units n ≡ Some u) c.units (λ n u is. is)))
 
-  all_are : all_written c (map written ts) ≡ map written (all_work c ts)
-  all_are =
-      let idle = idle_are (entries c.units) (each-from_every (λ n u. get c.units n ≡ Some u) c.units (λ n u is. is)) in
-      ap (λ os. os ++ all_idle c (map written ts)) (work_written ts) ∙ ap (λ os. map written (filter (λ t. is_work (verb_of_order t.said)) ts) ++ os) idle
-      ∙ sym (map-append written (filter (λ t. is_work (verb_of_order t.said)) ts) (idle_work c ts))
-
-abbrev keyed_task : Task → List ℕ × Task
-keyed_task t = (key_of ByUnit t, t)
-
-keyed_written : (ts : List Task) → map keyed (map written ts) ≡ map (with_value (slice_cmp nat_cmp) written) (map keyed_task ts)
-keyed_written [] = refl
-keyed_written (t ∷ ts) = ap (λ es. keyed (written t) ∷ es) (keyed_written ts)
-
-values_written : (es : List (List ℕ × Task)) → map (λ e. e.1) (map (with_value (slice_cmp nat_cmp) written) es) ≡ map written (map (λ e. e.1) es)
-values_written [] = refl
-values_written (e ∷ es) = ap (λ os. written e.1 ∷ os) (values_written es)
-
-by_keys : (ts : List Task) → values (from_entries {R = slice_cmp nat_cmp} (map keyed (map written ts))) ≡ map written (values (from_entries {R = slice_cmp nat_cmp} (map keyed_task ts)))
-by_keys ts =
-    ap (λ es. values (from_entries {R = slice_cmp nat_cmp} es)) (keyed_written ts) ∙ ap (map (λ e. e.1)) (entries-with_value (slice_cmp nat_cmp) written nat_list_cmp_total (map keyed_task ts))
-    ∙ values_written (entries (from_entries (map keyed_task ts)))
-
-pub work_sorted : (c : CampaignValue) (m : MonthValue) (list : List Written) → IsPermutation (all_written c (map written (orders_by_unit is_month_long m))) list → IsSortedByKey work_key (slice_cmp nat_cmp) list → list ≡ work_orders c m
+pub work_sorted : (c : CampaignValue) (m : MonthValue) (os list : List Written) → map task_of os ≡ all_found c (orders_by_unit is_month_long m) → IsPermutation os list → IsSortedByKey (λ o. key_of ByUnit (task_of o)) (slice_cmp nat_cmp) list → map task_of list ≡ work_orders c m
 unfolding work_orders
-work_sorted c m list moved up =
-    let os = map written (orders_by_unit is_month_long m) in
-    let all = all_written c os in
-    let apart = subst (IsDistinct (eq_by_cmp (slice_cmp nat_cmp))) (sym (keys-keyed all)) (IsDistinct-map work_key (eq_by_cmp (slice_cmp nat_cmp)) all (work_apart c os (long_apart m))) in
-    let listed = entries-sorted nat_list_cmp_total (slice_cmp-IsAntisymmetric nat_cmp-IsAntisymmetric) (map keyed all) (map keyed list) (IsPermutation-map keyed all list moved) apart (keyed_order (slice_cmp nat_cmp) work_key list up) in
-    sym (unkeyed list) ∙ ap (map (λ e. e.1)) listed ∙ ap (λ ws. values (from_entries {R = slice_cmp nat_cmp} (map keyed ws))) (all_are c (orders_by_unit is_month_long m)) ∙ by_keys (all_work c (orders_by_unit is_month_long m))
+work_sorted c m os list are moved up =
+    let ts = orders_by_unit is_month_long m in
+    listed_tasks (key_of ByUnit) os list (all_found c ts) are (work_apart c ts (long_apart m)) moved up
+    ∙ ap sorted_by_unit (all_are c ts)

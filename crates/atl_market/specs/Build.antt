@@ -61,6 +61,7 @@ begin_fault w c u k = first_fault (
     ∷ (is_structure_limit c, StructureLimit)
     ∷ [])
 
+-- what a structure's first name begins with
 abbrev pub sort_of : Kind → List ℕ
 sort_of k = if k.ship then codes "Ship " else codes "Building "
 
@@ -68,7 +69,7 @@ sort_of k = if k.ship then codes "Ship " else codes "Building "
 abbrev pub new_structure : (number kind : ℕ) → Kind → (region size : ℕ) → Structure
 new_structure number kind k region size = record { kind = kind; name = sort_of k ++ decimal number; region = region; done = size; owner = 0 }
 
--- with one structure more
+-- a campaign with one structure more
 abbrev pub with_new : CampaignValue → (kind : ℕ) → Kind → (region size : ℕ) → CampaignValue
 with_new c kind k region size = with_structure_begun c (new_structure c.next_structure kind k region size)
 
@@ -76,6 +77,7 @@ with_new c kind k region size = with_structure_begun c (new_structure c.next_str
 abbrev pub started : CampaignValue → (n kind : ℕ) → Kind → (region size : ℕ) → CampaignValue
 started c n kind k region size = with_place (with_new (with_used c n k.material size) kind k region size) n region c.next_structure
 
+-- BUILD kind: nothing changes where a fault fits
 unfoldable pub begin : WorldValue → (n kind : ℕ) → Kind → Deed
 begin w n kind k c u =
     let size = size_added k u.holding 0 in
@@ -108,12 +110,14 @@ with_kind w s = option_map (λ k. (s, k)) (slice_get w.kinds s.kind)
 abbrev pub built_at : WorldValue → CampaignValue → (place : ℕ) → Option (Structure × Kind)
 built_at w c place = option_and_then (with_kind w) (get c.structures place)
 
+-- a unit goes on with the structure that it is inside, of its kind, if it is inside one
 abbrev pub go_on_at : CampaignValue → (n : ℕ) → Unit → Option (Structure × Kind) → CampaignValue × Outcome
 go_on_at c n u None = unless c (outside_fault u) (c, Done 0)
 go_on_at c n u (Some (s, k)) =
     let size = size_added k u.holding s.done in
     unless c (inside_fault u s k) (gone_on c n k.material size u.structure (s.done + size), Done size)
 
+-- BUILD: nothing changes where a fault fits
 unfoldable pub go_on : WorldValue → (n : ℕ) → Deed
 go_on w n c u = go_on_at c n u (built_at w c u.structure)
 

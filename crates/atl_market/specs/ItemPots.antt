@@ -1,14 +1,15 @@
 -- Pots of items: in each region, those that ask for one item share what the region has of it. See docs/RULES.md, "Pots".
-use Rattle.std.specs.Prelude.{◌==◌, ℕ, Bool, false, List, [], ◌∷◌, Option, Some, None}
-use Rattle.std.specs.List.{flat_map}
+use Rattle.std.specs.Prelude.{◌==◌, ℕ, Bool, false, Option, option_and_then, option_map}
+use Rattle.std.specs.List.{filter_map}
+use Rattle.std.specs.Option.{option_map_or}
 use Rattle.std.specs.Ordering.{nat_cmp}
 use Rattle.std.specs.FinMap.{FinMap, entries, from_entries, retain_keys}
 use Rattle.atl_state.specs.Campaign.{CampaignValue}
 use Rattle.atl_market.specs.Pots.{share_of}
 
+-- whether an item is asked for
 abbrev pub is_for : ℕ → Option ℕ → Bool
-is_for item None = false
-is_for item (Some other) = other == item
+is_for item asked = option_map_or (λ other. other == item) asked false
 
 module _ (item_of : ℕ → Option ℕ) where
   -- the wants of the units that ask for an item
@@ -16,18 +17,12 @@ module _ (item_of : ℕ → Option ℕ) where
   wants_for wants item = retain_keys wants (λ number. is_for item (item_of number))
 
   module _ (pot_of : (item region : ℕ) → ℕ) (wants : FinMap nat_cmp ℕ) (c : CampaignValue) where
-    abbrev pub share_for : ℕ → Option ℕ → Option ℕ
-    share_for number None = None
-    share_for number (Some item) = share_of (pot_of item) (wants_for wants item) c number
-
     -- What a unit, by its number, gets: its share of what its region has of the item that it asks for.
     abbrev pub item_share : ℕ → Option ℕ
-    item_share number = share_for number (item_of number)
-
-    abbrev pub listed : ℕ → Option ℕ → List (ℕ × ℕ)
-    listed number None = []
-    listed number (Some share) = (number, share) ∷ []
+    item_share number =
+        option_and_then (λ item. share_of (pot_of item) (wants_for wants item) c number) (item_of number)
 
     -- and by unit, what each gets that has a want
     abbrev pub item_shares : FinMap nat_cmp ℕ
-    item_shares = from_entries (flat_map (λ e. listed e.0 (item_share e.0)) (entries wants))
+    item_shares =
+        from_entries (filter_map (λ e. option_map (λ share. (e.0, share)) (item_share e.0)) (entries wants))

@@ -7,8 +7,6 @@ pub mod ItemGroups
 pub mod PotPhase
 pub mod AtOnce
 pub mod Unordered
-pub mod Asking
-pub mod Finding
 pub mod Tax
 pub mod Recruit
 pub mod Work
@@ -16,8 +14,6 @@ pub mod Idle
 pub mod Payable
 pub mod Goods
 pub mod Build
-pub mod Craft
-pub mod Outputs
 pub mod Produce
 pub mod Making
 pub mod Paid

@@ -1,18 +1,37 @@
--- For proofs alone: when a unit can make something.
+-- For proofs alone: when a unit can use and make items.
 use Rattle.std.specs.Prelude.{◌≡◌, ◌≤◌, ◌<◌, ◌+◌, ◌*◌, ℕ, length, Some}
 use Rattle.std.specs.List.{slice_get}
 use Rattle.std.specs.Ordering.{nat_cmp}
 use Rattle.std.specs.FinMap.{FinMap, get}
 use Rattle.atl_tables.specs.Worlds.{WorldValue}
 use Rattle.atl_tables.specs.declared.world.Item.{Item}
+use Rattle.atl_records.specs.declared.books.Entry.TheVariants.{Made, Used}
+use Rattle.atl_records.specs.declared.books.Thing.TheVariants as things
 use Rattle.atl_records.specs.declared.records.Unit.{Unit}
+use Rattle.atl_records.specs.Books.{amount_in}
 use Rattle.atl_state.specs.Good.{IsSteady}
 use Rattle.atl_records.specs.Held.{amount_of}
 use Rattle.atl_records.specs.Limits.{holding_limit}
 use Rattle.atl_state.specs.Campaign.{CampaignValue}
-use Rattle.atl_instant.specs.Meaning.{HaveRoom}
+use Rattle.atl_instant.specs.Meaning.{HasRoom, HaveRoom}
 use Rattle.atl_market.specs.Produce.{produce_moves, with_raw_used}
-use Rattle.atl_market.specs.Goods.{CanMake, CanUse}
+
+-- ---- a unit, by its number, can use and make so much of an item: it is there, holds enough or has room, and so have the books
+pub record CanUse (w : WorldValue) (c : CampaignValue) (n i amount : ℕ) : Type 0 where
+  pub unit : Unit
+  pub there : get c.units n ≡ Some unit
+  pub known : i < length w.items
+  pub enough : amount ≤ amount_of unit.holding.items i
+  pub steady : IsSteady w c
+  pub room : HasRoom amount (amount_in c.books Used (things.Item i))
+
+pub record CanMake (w : WorldValue) (c : CampaignValue) (n i amount : ℕ) : Type 0 where
+  pub unit : Unit
+  pub there : get c.units n ≡ Some unit
+  pub known : i < length w.items
+  pub fits : amount_of unit.holding.items i + amount ≤ holding_limit
+  pub steady : IsSteady w c
+  pub room : HasRoom amount (amount_in c.books Made (things.Item i))
 
 -- it can use the raw items of so many, and make them then
 pub record CanMakeOf (w : WorldValue) (c : CampaignValue) (n made i : ℕ) (x : Item) : Type 0 where

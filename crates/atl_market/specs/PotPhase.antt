@@ -1,91 +1,120 @@
 -- A phase in which the units of each region share a pot. Who takes part and what there is to share is read from the campaign as the phase
 -- began, and all pots and all units change at once. See docs/RULES.md, "Pots".
-use Rattle.std.specs.Prelude.{⊤, ℕ, ◌==◌, ◌++◌, List, [], ◌∷◌, map, reverse, Option, Some, None, unwrap_or, if◌then◌else◌}
-use Rattle.std.specs.List.{flat_map, fold}
+use Rattle.std.specs.Prelude.{⊤, ℕ, Bool, List, [], ◌∷◌, map, reverse, Option, Some, None, option_map, unwrap_or, Result, Ok, Err, if◌then◌else◌}
+use Rattle.std.specs.List.{filter_map, fold}
+use Rattle.std.specs.Option.{option_map_or}
+use Rattle.std.specs.Result.{is_ok, result_ok}
 use Rattle.std.specs.Ordering.{nat_cmp}
 use Rattle.std.specs.FinMap.{FinMap, entries, from_entries, get}
 use Rattle.atl_tables.specs.Worlds.{WorldValue}
+use Rattle.atl_orders.specs.declared.order.Order.TheVariants as orders
+use Rattle.atl_orders.specs.declared.verb.Verb.{Verb}
+use Rattle.atl_orders.specs.Orders.{Said}
 use Rattle.atl_records.specs.declared.event.Event.{Event}
 use Rattle.atl_records.specs.declared.event.EventFault.{EventFault}
 use Rattle.atl_records.specs.declared.event.EventFault.TheVariants.{NotYours}
-use Rattle.atl_records.specs.declared.event.EventVerb.TheVariants.{Order}
 use Rattle.atl_records.specs.declared.event.Outcome.{Outcome}
 use Rattle.atl_records.specs.declared.event.Outcome.TheVariants.{Done, Fault}
 use Rattle.atl_records.specs.declared.records.Unit.{Unit}
 use Rattle.atl_records.specs.Events.{event_fault_number}
 use Rattle.atl_state.specs.Campaign.{CampaignValue}
-use Rattle.atl_instant.specs.Month.{MonthValue}
-use Rattle.atl_instant.specs.declared.written.Written.{Written}
+use Rattle.atl_instant.specs.Month.{MonthValue, with_events}
+use Rattle.atl_instant.specs.PhaseOrders.{Task, orders_by_unit}
+use Rattle.atl_instant.specs.Steps.{of_faction, told}
 use Rattle.atl_instant.specs.Meaning.{Meaning}
+
+-- ---- what an order names
+
+-- the item, if it names one
+abbrev pub item_in : Said → Option ℕ
+item_in (orders.Produce i) = Some i
+item_in (orders.Sell n i) = Some i
+item_in (orders.Buy n i) = Some i
+item_in other = None
+
+-- how many it asks for; 0 where it names no number
+abbrev pub count_in : Said → ℕ
+count_in (orders.Recruit n) = n
+count_in (orders.Sell n i) = n
+count_in (orders.Buy n i) = n
+count_in other = 0
+
+-- ---- what a phase says of its pots
 
 pub record PotMeaning : Type 0 where
   -- why a unit doesn't carry out an order of its own faction
-  pub fault : WorldValue → Unit → Written → Option EventFault
+  pub fault : WorldValue → Unit → Task → Option EventFault
   -- how much of the pot of its region a unit wants by an order
-  pub want : WorldValue → Unit → Written → ℕ
-  -- what the units get by what they want
-  pub given : WorldValue → CampaignValue → FinMap nat_cmp ℕ → FinMap nat_cmp ℕ
-  -- what a unit that got so much of the pot is told
+  pub want : WorldValue → Unit → Task → ℕ
+  -- what the units get by the items that their orders name, and by what they want
+  pub given : (items : FinMap nat_cmp ℕ) → WorldValue → CampaignValue → (wants : FinMap nat_cmp ℕ) → FinMap nat_cmp ℕ
+  -- what the event says of a unit that got so much of the pot
   pub told : WorldValue → Unit → ℕ → ℕ
-  -- a unit, by its number, gets so much of the pot of its region
-  pub paid : WorldValue → CampaignValue → ℕ × ℕ → CampaignValue
+  -- a unit, by its number, gets so much of the pot of its region, or of that of its item there
+  pub paid : (items : FinMap nat_cmp ℕ) → WorldValue → CampaignValue → ℕ × ℕ → CampaignValue
+
+-- Entries by unit. If a unit had several, the last would count. It has one at most: of the orders of a phase that its own
+-- faction wrote for it only one stands.
+abbrev pub by_unit : List (ℕ × ℕ) → FinMap nat_cmp ℕ
+by_unit es = from_entries (reverse es)
 
 module _ (p : PotMeaning) (w : WorldValue) (c : CampaignValue) where
   -- ---- who takes part
 
-  abbrev pub fault_at : Written → Option Unit → Option EventFault
-  fault_at o None = Some NotYours
-  fault_at o (Some u) = if u.faction == o.faction then p.fault w u o else Some NotYours
+  -- The unit that carries an order out, or why none does: the unit is there, its own faction wrote the order, and the
+  -- phase finds no fault.
+  unfoldable pub unit_for : Task → Result Unit EventFault
+  unit_for t =
+      option_map_or (λ u. option_map_or Err (p.fault w u t) (Ok u)) (of_faction t.faction (get c.units t.unit)) (Err NotYours)
 
-  -- why an order isn't carried out
-  abbrev pub fault_of : Written → Option EventFault
-  fault_of o = fault_at o (get c.units o.unit)
+  -- the unit that carries an order out, by its number, with what it wants
+  abbrev pub want_by : Task → Option (ℕ × ℕ)
+  want_by t = option_map (λ u. (t.unit, p.want w u t)) (result_ok (unit_for t))
 
-  abbrev pub want_at : Written → Option EventFault → Option Unit → List (ℕ × ℕ)
-  want_at o (Some fault) u = []
-  want_at o None (Some u) = (o.unit, p.want w u o) ∷ []
-  want_at o None None = []
+  -- the same with the item that the order names, if it names one
+  abbrev pub item_by : Task → Option (ℕ × ℕ)
+  item_by t = if is_ok (unit_for t) then option_map (λ item. (t.unit, item)) (item_in t.said) else None
 
-  -- the unit of an order without fault, with what it wants
-  abbrev pub want_by : Written → List (ℕ × ℕ)
-  want_by o = want_at o (fault_of o) (get c.units o.unit)
+  -- by unit, what each wants
+  abbrev pub wants_by : List Task → FinMap nat_cmp ℕ
+  wants_by ts = by_unit (filter_map want_by ts)
 
-  -- By unit, what it wants by its order without fault: by the last, if it had more than one.
-  abbrev pub wants_by : List Written → FinMap nat_cmp ℕ
-  wants_by os = from_entries (reverse (flat_map want_by os))
+  -- by unit, the item that its order names
+  abbrev pub items_by : List Task → FinMap nat_cmp ℕ
+  items_by ts = by_unit (filter_map item_by ts)
 
-  -- what they get
-  abbrev pub given_by : List Written → FinMap nat_cmp ℕ
-  given_by os = p.given w c (wants_by os)
+  -- ---- what they get
+
+  -- by unit, how much each gets
+  abbrev pub given_by : List Task → FinMap nat_cmp ℕ
+  given_by ts = p.given (items_by ts) w c (wants_by ts)
 
   -- the campaign in which each has got it
-  unfoldable pub shared_out : List Written → CampaignValue
-  shared_out os = fold (p.paid w) c (entries (given_by os))
+  unfoldable pub shared_out : List Task → CampaignValue
+  shared_out ts = fold (p.paid (items_by ts) w) c (entries (given_by ts))
 
-  -- ---- what is told
+  -- ---- what is reported
 
-  abbrev pub outcome_at : FinMap nat_cmp ℕ → Written → Option EventFault → Option Unit → Outcome
-  outcome_at given o (Some fault) u = Fault (event_fault_number fault)
-  outcome_at given o None (Some u) = Done (p.told w u (unwrap_or (get given o.unit) 0))
-  outcome_at given o None None = Done 0
+  -- the fault of an order; or what its event says of its unit, where so much was given
+  abbrev pub outcome_of : FinMap nat_cmp ℕ → Task → Result Unit EventFault → Outcome
+  outcome_of given t (Err fault) = Fault (event_fault_number fault)
+  outcome_of given t (Ok u) = Done (p.told w u (unwrap_or (get given t.unit) 0))
 
   -- what came of an order, where so much was given
-  abbrev pub event_of : FinMap nat_cmp ℕ → Written → Event
-  event_of given o = record {
-    faction = o.faction;
-    unit = o.unit;
-    line = o.line;
-    verb = Order o.verb;
-    outcome = outcome_at given o (fault_of o) (get c.units o.unit);
-  }
+  abbrev pub event_of : FinMap nat_cmp ℕ → Task → Event
+  event_of given t = told t (outcome_of given t (unit_for t))
 
   -- an event for each order, in the order of the orders
-  unfoldable pub events_by : List Written → List Event
-  events_by os = map (event_of (given_by os)) os
+  unfoldable pub events_by : List Task → List Event
+  events_by ts = map (event_of (given_by ts)) ts
 
--- what a phase makes of a campaign and of what the month carries, by what it is there, with the orders that it finds
-abbrev pub pots_meaning : (CampaignValue → MonthValue → PotMeaning) → (CampaignValue → MonthValue → List Written) → Meaning
-pots_meaning p orders w c m = (shared_out (p c m) w c (orders c m), record m { events = m.events ++ events_by (p c m) w c (orders c m) })
+-- what a phase makes of a campaign and of what the month carries, with the orders that it finds
+abbrev pub pots_meaning : PotMeaning → (CampaignValue → MonthValue → List Task) → Meaning
+pots_meaning p orders w c m = (shared_out p w c (orders c m), with_events m (events_by p w c (orders c m)))
+
+-- with the orders of its verbs
+abbrev pub pots_by_orders : PotMeaning → (Verb → Bool) → Meaning
+pots_by_orders p is_of = pots_meaning p (λ c m. orders_by_unit is_of m)
 
 -- ---- steps in turn, each of which can be taken when its turn comes
 abbrev pub CanInTurn : {X : Type 0} → (CampaignValue → X → Type 0) → (CampaignValue → X → CampaignValue) → CampaignValue → List X → Type 0

@@ -1,59 +1,124 @@
--- PRODUCE: units make items, of raw items (specs/Craft) or of what the terrain of their region gives (specs/Outputs). See docs/RULES.md, "Producing".
-use Rattle.std.specs.Prelude.{◌*◌, ℕ, Bool, true, false, Option, Some, None, [], ◌∷◌}
+-- PRODUCE: units make items, of raw items that they hold, or of what the terrain of their region gives. See docs/RULES.md, "Producing".
+use Rattle.std.specs.Prelude.{◌-◌, ◌*◌, ◌/◌, ◌==◌, ℕ, Bool, true, false, map, min, nat_lt, Option, Some, None, is_some, option_and_then, unwrap_or, if◌then◌else◌, [], ◌∷◌}
 use Rattle.std.specs.List.{slice_get}
 use Rattle.std.specs.Ordering.{nat_cmp}
-use Rattle.std.specs.FinMap.{FinMap, get}
+use Rattle.std.specs.Option.{option_map_or}
+use Rattle.std.specs.FinMap.{FinMap, entries, from_entries, get}
 use Rattle.atl_tables.specs.Worlds.{WorldValue}
 use Rattle.atl_tables.specs.declared.world.Item.{Item}
+use Rattle.atl_tables.specs.ByNumber.{terrain_of}
 use Rattle.atl_orders.specs.declared.verb.Verb.{Verb}
 use Rattle.atl_orders.specs.declared.verb.Verb.TheVariants as verbs
 use Rattle.atl_records.specs.declared.books.Entry.TheVariants.{Made, Used}
 use Rattle.atl_records.specs.declared.books.Thing.TheVariants as things
+use Rattle.atl_records.specs.declared.event.EventFault.{EventFault}
+use Rattle.atl_records.specs.declared.event.EventFault.TheVariants.{NoMaterial, NoMen, NoSkill}
+use Rattle.atl_records.specs.Held.{Held, amount_of}
+use Rattle.atl_records.specs.Levels.{level_in_any}
+use Rattle.atl_records.specs.Limits.{holding_limit}
 use Rattle.atl_state.specs.Campaign.{CampaignValue}
 use Rattle.atl_instant.specs.Meaning.{Keeping, Meaning, Moving, most_moved}
-use Rattle.atl_market.specs.Asking.{asked_meaning, item_in}
-use Rattle.atl_market.specs.PotPhase.{PotMeaning}
-use Rattle.atl_market.specs.Unordered.{spares_unordered}
-use Rattle.atl_market.specs.Goods.{with_made, with_used}
-use Rattle.atl_market.specs.Craft.{can_make, item_of, make_fault}
-use Rattle.atl_market.specs.Outputs.{makes}
+use Rattle.atl_instant.specs.Outcomes.{first_fault}
 use Rattle.atl_instant.specs.Terms.{PhaseTerms}
+use Rattle.atl_market.specs.Goods.{with_made, with_used}
+use Rattle.atl_market.specs.ItemPots.{item_share}
+use Rattle.atl_market.specs.PotPhase.{PotMeaning, item_in, pots_by_orders}
+use Rattle.atl_market.specs.Unordered.{spares_unordered}
 
 abbrev pub is_produce : Verb → Bool
 is_produce verbs.Produce = true
 is_produce verb = false
 
+-- the item that a unit is told to make, where it is one of the world
+abbrev pub item_of : WorldValue → Option ℕ → Option Item
+item_of w asked = option_and_then (slice_get w.items) asked
+
+-- ---- how much a unit can make
+
+-- no more than so many, nor than the raw items that it holds are enough for, if the item is made of any
+abbrev pub up_to_raw : Held → (count : ℕ) → (raw : Option ℕ) → (most : ℕ) → ℕ
+up_to_raw h count raw most = option_map_or (λ r. min (amount_of h.items r / count) most) raw most
+
+-- as much as its men can, as it has room for, and as its raw items are enough for
+abbrev pub can_make_of : Held → (item : ℕ) → Item → ℕ
+can_make_of h i x =
+    up_to_raw h x.raw_count x.raw (min (h.men * level_in_any h x.skill) (holding_limit - amount_of h.items i))
+
+-- of what it is told to make; 0 of what is no item of the world
+abbrev pub can_make : WorldValue → Held → Option ℕ → ℕ
+can_make w h asked = option_map_or (λ i. option_map_or (can_make_of h i) (slice_get w.items i) 0) asked 0
+
+-- ---- what the terrains give
+
+-- the item that a unit makes out of what its region gives: the one that it is told to make, if no raw item goes into it
+abbrev pub gathered : WorldValue → FinMap nat_cmp ℕ → ℕ → Option ℕ
+gathered w asked n = option_and_then (λ x. if is_some x.raw then None else get asked n) (item_of w (get asked n))
+
+-- how much of an item a region's terrain gives
+abbrev pub output_at : WorldValue → (item region : ℕ) → ℕ
+output_at w i region = option_map_or (λ t. unwrap_or (slice_get t.output i) 0) (terrain_of w region) 0
+
+-- what a unit gets, by its number, of what its region gives of the item that it makes so
+abbrev pub output_share : WorldValue → FinMap nat_cmp ℕ → CampaignValue → FinMap nat_cmp ℕ → ℕ → Option ℕ
+output_share w asked c wants n = item_share (gathered w asked) (output_at w) wants c n
+
+-- ---- who makes how much
+
+-- how much a unit makes, by its number and its want: its share of what its region gives of the item, or, out of raw items,
+-- what it wants
+abbrev pub made_by : WorldValue → FinMap nat_cmp ℕ → CampaignValue → FinMap nat_cmp ℕ → ℕ × ℕ → ℕ
+made_by w asked c wants (n, want) =
+    if is_some (gathered w asked n) then unwrap_or (output_share w asked c wants n) 0 else want
+
+-- by unit, how much each makes that wants to
+abbrev pub makes : FinMap nat_cmp ℕ → WorldValue → CampaignValue → FinMap nat_cmp ℕ → FinMap nat_cmp ℕ
+makes asked w c wants = from_entries (map (λ e. (e.0, made_by w asked c wants e)) (entries wants))
+
 -- ---- what changes
 
--- so much of the raw item is used, where one is named
-abbrev pub with_raw_used : CampaignValue → ℕ → (amount : ℕ) → Option ℕ → CampaignValue
-with_raw_used c n amount None = c
-with_raw_used c n amount (Some raw) = with_used c n raw amount
+-- a unit uses so much of a raw item, if there is one
+abbrev pub with_raw_used : CampaignValue → ℕ → (amount : ℕ) → (raw : Option ℕ) → CampaignValue
+with_raw_used c n amount raw = option_map_or (λ r. with_used c n r amount) raw c
 
-abbrev pub produced_of : CampaignValue → ℕ × ℕ → ℕ → Option Item → CampaignValue
-produced_of c e i None = c
-produced_of c e i (Some x) = with_made (with_raw_used c e.0 (e.1 * x.raw_count) x.raw) e.0 i e.1
+-- a unit makes so many of an item, and uses the raw items for them
+abbrev pub with_item_made : CampaignValue → ℕ → (made item : ℕ) → Item → CampaignValue
+with_item_made c n made i x = with_made (with_raw_used c n (made * x.raw_count) x.raw) n i made
 
-abbrev pub produced_by : WorldValue → CampaignValue → ℕ × ℕ → Option ℕ → CampaignValue
-produced_by w c e None = c
-produced_by w c e (Some i) = produced_of c e i (slice_get w.items i)
-
--- a unit, by its number, makes so much of its item
+-- a unit, by its number, makes so many of the item that it is told to make
 unfoldable pub produced : FinMap nat_cmp ℕ → WorldValue → CampaignValue → ℕ × ℕ → CampaignValue
-produced asked w c e = produced_by w c e (get asked e.0)
+produced asked w c (n, made) =
+    option_map_or (λ i. option_map_or (with_item_made c n made i) (slice_get w.items i) c) (get asked n) c
 
--- By the item that each unit is told to make. A unit is told how much it made.
-abbrev pub produce_pots : FinMap nat_cmp ℕ → PotMeaning
-produce_pots asked = record {
-  fault = λ w u o. make_fault u.holding (item_of w (get asked o.unit));
-  want = λ w u o. can_make w u.holding (get asked o.unit);
-  given = makes asked;
+-- ---- the faults
+
+-- no skill makes the item, or the unit's level is too low
+abbrev pub is_unskilled : Held → Item → Bool
+is_unskilled h x = if is_some x.skill then nat_lt (level_in_any h x.skill) x.level else true
+
+-- the raw items that it holds are enough for none
+abbrev pub lacks_raw : Held → (count : ℕ) → (raw : Option ℕ) → Bool
+lacks_raw h count raw = option_map_or (λ r. amount_of h.items r / count == 0) raw false
+
+-- Why a unit doesn't make an item. A thing that is none of the world's items, no skill makes.
+abbrev pub make_fault : Held → Option Item → Option EventFault
+make_fault h None = first_fault ((h.men == 0, NoMen) ∷ (true, NoSkill) ∷ [])
+make_fault h (Some x) =
+    first_fault ((h.men == 0, NoMen) ∷ (is_unskilled h x, NoSkill) ∷ (lacks_raw h x.raw_count x.raw, NoMaterial) ∷ [])
+
+-- ---- the phase
+
+-- By the item that each order names. The event says how many were made.
+abbrev pub produce_pots : PotMeaning
+produce_pots = record {
+  fault = λ w u t. make_fault u.holding (item_of w (item_in t.said));
+  want = λ w u t. can_make w u.holding (item_in t.said);
+  given = makes;
   told = λ w u made. made;
-  paid = produced asked;
+  paid = produced;
 }
 
 abbrev pub produce_meaning : Meaning
-produce_meaning = asked_meaning produce_pots item_in is_produce
+produce_meaning = pots_by_orders produce_pots is_produce
 
 -- what is made and what is used is of items
 abbrev pub produce_moves : ℕ → Moving

@@ -20,16 +20,14 @@ use Rattle.atl_records.specs.Limits.{holding_limit}
 use Rattle.atl_state.specs.Stocks.{stock_of}
 use Rattle.atl_state.specs.Campaign.{CampaignValue, with_amount, with_stock}
 use Rattle.atl_instant.specs.Meaning.{Keeping, Meaning, Moving, moves_only}
-use Rattle.atl_instant.specs.Month.{MonthValue}
 use Rattle.atl_instant.specs.Outcomes.{first_fault}
-use Rattle.atl_instant.specs.PhaseOrders.{orders_by_unit, written_by_unit}
+use Rattle.atl_instant.specs.There.{at_unit}
 use Rattle.atl_instant.specs.Terms.{PhaseTerms, books_money}
 use Rattle.atl_market.specs.declared.trade.Deal.{Deal}
 use Rattle.atl_market.specs.declared.trade.Trade.{Trade}
 use Rattle.atl_market.specs.declared.trade.Trade.TheVariants.{Sell, Buy}
-use Rattle.atl_market.specs.Asking.{asked_of, count_in, item_in}
 use Rattle.atl_market.specs.ItemPots.{item_shares}
-use Rattle.atl_market.specs.PotPhase.{PotMeaning, pots_meaning}
+use Rattle.atl_market.specs.PotPhase.{PotMeaning, count_in, item_in, pots_by_orders}
 use Rattle.atl_market.specs.Unordered.{spares_unordered}
 
 -- the trade of a phase
@@ -65,8 +63,7 @@ most_traded Buy h m = min (h.money / m.price) (holding_limit - amount_of h.items
 
 -- how many of them a unit wants to trade that is told to trade so many
 abbrev pub trade_wanted : Trade → Held → (told : ℕ) → Option Market → ℕ
-trade_wanted trade h told None = 0
-trade_wanted trade h told (Some m) = min told (most_traded trade h m)
+trade_wanted trade h told market = option_map_or (λ m. min told (most_traded trade h m)) market 0
 
 -- ---- the pots
 
@@ -105,44 +102,38 @@ abbrev pub trade_entry : Trade → Entry
 trade_entry Sell = Sold
 trade_entry Buy = Bought
 
+-- what a unit holds as a deal leaves it
 abbrev pub with_deal : Held → (item : ℕ) → Deal → Held
 with_deal h item d = record h { money = d.money; items = with_amount_of h.items item d.amount }
 
 -- a unit, the stock of its region, and the books as a deal leaves them
 abbrev pub dealt : CampaignValue → ℕ → Unit → (item : ℕ) → Entry → Deal → CampaignValue
-dealt c n u item entry d = with_amount (with_stock (with_holding c n (with_deal u.holding item d)) u.region item d.stock) entry Money d.booked
+dealt c n u item entry d =
+    let paid = with_holding c n (with_deal u.holding item d) in
+    with_amount (with_stock paid u.region item d.stock) entry Money d.booked
 
-abbrev pub traded_at : Trade → CampaignValue → ℕ × ℕ → Unit → Option Market → CampaignValue
-traded_at trade c e u None = c
-traded_at trade c e u (Some m) = dealt c e.0 u m.item (trade_entry trade) (deal_of trade u.holding (stock_of c u.region m.item) e.1 m)
-
-abbrev pub traded_by : Trade → FinMap nat_cmp ℕ → WorldValue → CampaignValue → ℕ × ℕ → Option Unit → CampaignValue
-traded_by trade items w c e None = c
-traded_by trade items w c e (Some u) = traded_at trade c e u (market_for w u (get items e.0))
-
--- a unit, by its number, trades so many of its item
+-- a unit, by its number, trades so many of its item, where its region has a market for that
 unfoldable pub traded : Trade → FinMap nat_cmp ℕ → WorldValue → CampaignValue → ℕ × ℕ → CampaignValue
-traded trade items w c e = traded_by trade items w c e (get c.units e.0)
+traded trade items w c (n, share) =
+    at_unit c n (λ u.
+    option_map_or
+    (λ m. dealt c n u m.item (trade_entry trade) (deal_of trade u.holding (stock_of c u.region m.item) share m))
+    (market_for w u (get items n)) c)
 
 -- ---- the phases
 
--- By the item that each unit is told to trade, and by how many. A unit is told how many it traded.
-abbrev pub trade_pots : Trade → (items counts : FinMap nat_cmp ℕ) → PotMeaning
-trade_pots trade items counts = record {
-  fault = λ w u o. trade_fault trade u.holding (market_for w u (get items o.unit));
-  want = λ w u o. trade_wanted trade u.holding (amount_of counts o.unit) (market_for w u (get items o.unit));
-  given = λ w c wants. item_shares (get items) (trade_pot trade w c) wants c;
+-- By the item that each order names, and by how many it asks for. The event says how many were traded.
+abbrev pub trade_pots : Trade → PotMeaning
+trade_pots trade = record {
+  fault = λ w u t. trade_fault trade u.holding (market_for w u (item_in t.said));
+  want = λ w u t. trade_wanted trade u.holding (count_in t.said) (market_for w u (item_in t.said));
+  given = λ items w c wants. item_shares (get items) (trade_pot trade w c) wants c;
   told = λ w u share. share;
-  paid = traded trade items;
+  paid = traded trade;
 }
 
-abbrev pub trade_asked : Trade → CampaignValue → MonthValue → PotMeaning
-trade_asked trade c m =
-    let orders = orders_by_unit (is_trade trade) m in
-    trade_pots trade (asked_of item_in c orders) (asked_of count_in c orders)
-
 abbrev pub trade_meaning : Trade → Meaning
-trade_meaning trade = pots_meaning (trade_asked trade) (λ c m. written_by_unit (is_trade trade) m)
+trade_meaning trade = pots_by_orders (trade_pots trade) (is_trade trade)
 
 abbrev pub trade_moves : Trade → ℕ → Moving
 trade_moves trade most = moves_only most (trade_entry trade) Money

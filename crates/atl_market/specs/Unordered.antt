@@ -7,18 +7,17 @@ use Rattle.atl_records.specs.Every.{Every}
 use Rattle.atl_state.specs.Campaign.{CampaignValue}
 use Rattle.atl_orders.specs.declared.verb.Verb.{Verb}
 use Rattle.atl_instant.specs.Meaning.{Keeping}
-use Rattle.atl_instant.specs.PhaseOrders.{written_by_unit}
+use Rattle.atl_instant.specs.PhaseOrders.{Task, orders_by_unit}
 use Rattle.atl_instant.specs.Staying.{IsNoWorse}
-use Rattle.atl_instant.specs.declared.written.Written.{Written}
 
 -- whether a unit, by its number, has an order of its own faction
-abbrev pub is_ordered : List Written → ℕ → Unit → Bool
+abbrev pub is_ordered : List Task → ℕ → Unit → Bool
 is_ordered os n u = list_any (λ o. o.unit == n && o.faction == u.faction) os
 
 -- each unit without one is still there, and no worse off
-abbrev pub OthersAreNoWorse : List Written → CampaignValue → CampaignValue → Type 0
+abbrev pub OthersAreNoWorse : List Task → CampaignValue → CampaignValue → Type 0
 OthersAreNoWorse os before after = Every (λ n u. is_ordered os n u ≡ false → (v : Unit) × (get after.units n ≡ Some v) × IsNoWorse u v) before.units
 
 -- a phase that takes nothing from a unit for which its own faction wrote no order of it
 abbrev pub spares_unordered : (Verb → Bool) → Keeping
-spares_unordered is_of w m before after = OthersAreNoWorse (written_by_unit is_of m) before after
+spares_unordered is_of w m before after = OthersAreNoWorse (orders_by_unit is_of m) before after

@@ -1,10 +1,9 @@
 -- WORK: the places of each region's terrain are shared among the units that work, and each place pays the wage. See docs/RULES.md, "Work".
-use Rattle.std.specs.Prelude.{◌+◌, ◌-◌, ◌*◌, ◌/◌, ◌==◌, ◌&&◌, ◌++◌, ℕ, pos, Bool, true, false, List, [], ◌∷◌, map, filter, min, nat_lt, Option, Some, None, not, if◌then◌else◌}
-use Rattle.std.specs.List.{flat_map}
+use Rattle.std.specs.Prelude.{◌+◌, ◌-◌, ◌*◌, ◌/◌, ◌==◌, ◌&&◌, ◌++◌, ℕ, pos, Bool, true, false, List, [], ◌∷◌, map, filter, min, nat_lt, Option, not}
 use Rattle.std.specs.Option.{option_map_or}
 use Rattle.std.specs.Ordering.{nat_cmp}
 use Rattle.std.specs.Cmp.Lexicographic.{slice_cmp}
-use Rattle.std.specs.FinMap.{entries, from_entries, get, values}
+use Rattle.std.specs.FinMap.{entries, from_entries, values}
 use Rattle.atl_tables.specs.Worlds.{WorldValue}
 use Rattle.atl_tables.specs.declared.world.Terrain.{Terrain}
 use Rattle.atl_tables.specs.ByNumber.{terrain_of}
@@ -21,11 +20,11 @@ use Rattle.atl_records.specs.Limits.{holding_limit}
 use Rattle.atl_state.specs.Campaign.{CampaignValue, with_amount, with_money}
 use Rattle.atl_instant.specs.Month.{MonthValue}
 use Rattle.atl_instant.specs.Meaning.{Meaning, Moving, moves_only}
-use Rattle.atl_instant.specs.PhaseOrders.{Task, is_month_long, key_of, orders_by_unit, written}
+use Rattle.atl_instant.specs.PhaseOrders.{Task, is_month_long, key_of, orders_by_unit}
 use Rattle.atl_instant.specs.Staying.{spares_all}
 use Rattle.atl_instant.specs.declared.written.Arrangement.TheVariants.{ByUnit}
-use Rattle.atl_instant.specs.declared.written.Written.{Written}
 use Rattle.atl_instant.specs.Outcomes.{first_fault}
+use Rattle.atl_instant.specs.There.{at_unit}
 use Rattle.atl_market.specs.Unordered.{is_ordered}
 use Rattle.atl_market.specs.PotPhase.{PotMeaning, pots_meaning}
 use Rattle.atl_market.specs.Pots.{pot_shares}
@@ -37,23 +36,31 @@ use Rattle.atl_instant.specs.Terms.{PhaseTerms, books_money}
 abbrev pub idle_task : (unit faction : ℕ) → Task
 idle_task unit faction = record { faction = faction; unit = unit; line = 0; place = 0; said = orders.Work }
 
--- a unit with men works where its own faction wrote no month-long order for it
-abbrev pub idle_at : List Task → ℕ × Unit → List Task
-idle_at ts (n, u) = if nat_lt 0 u.holding.men && not (is_ordered (map written ts) n u) then idle_task n u.faction ∷ [] else []
+-- a unit with men for which its own faction wrote none of these orders
+abbrev pub is_idle : List Task → ℕ × Unit → Bool
+is_idle ts (n, u) = nat_lt 0 u.holding.men && not (is_ordered ts n u)
 
+-- the work of those units
 abbrev pub idle_work : CampaignValue → List Task → List Task
-idle_work c ts = flat_map (idle_at ts) (entries c.units)
+idle_work c ts = map (λ e. idle_task e.0 e.1.faction) (filter (is_idle ts) (entries c.units))
 
 abbrev pub is_work : Verb → Bool
 is_work verbs.Work = true
 is_work verb = false
 
-abbrev pub all_work : CampaignValue → List Task → List Task
-all_work c ts = filter (λ t. is_work (verb_of_order t.said)) ts ++ idle_work c ts
+-- those of some orders that are WORK
+abbrev pub written_work : List Task → List Task
+written_work ts = filter (λ t. is_work (verb_of_order t.said)) ts
 
--- The orders of WORK, in the order of their keys: those that are written, and the work of those who have none.
-unfoldable pub work_orders : CampaignValue → MonthValue → List Written
-work_orders c m = map written (values (from_entries {R = slice_cmp nat_cmp} (map (λ t. (key_of ByUnit t, t)) (all_work c (orders_by_unit is_month_long m)))))
+-- by unit, line and faction, as the orders of a phase are
+abbrev pub sorted_by_unit : List Task → List Task
+sorted_by_unit ts = values (from_entries {R = slice_cmp nat_cmp} (map (λ t. (key_of ByUnit t, t)) ts))
+
+-- who works: by the month-long orders that are WORK, and the units without a month-long order
+unfoldable pub work_orders : CampaignValue → MonthValue → List Task
+work_orders c m =
+    let month_long = orders_by_unit is_month_long m in
+    sorted_by_unit (written_work month_long ++ idle_work c month_long)
 
 -- ---- what they earn
 
@@ -63,41 +70,37 @@ wage_at w region = option_map_or (λ t. t.wage) (terrain_of w region) 0
 abbrev pub places_at : WorldValue → ℕ → ℕ
 places_at w region = option_map_or (λ t. t.places) (terrain_of w region) 0
 
+-- a place for each of a unit's men, as far as it has room for the wages
 abbrev pub places_wanted : Unit → Option Terrain → ℕ
-places_wanted u None = 0
-places_wanted u (Some t) = min u.holding.men ((holding_limit - u.holding.money) / t.wage)
+places_wanted u terrain =
+    option_map_or (λ t. min u.holding.men ((holding_limit - u.holding.money) / t.wage)) terrain 0
 
 -- what so many places in a region pay
 abbrev pub earned : WorldValue → ℕ → ℕ → ℕ
 earned w region places = places * wage_at w region
 
--- a unit that held so much, with its wages, which are booked
-abbrev pub with_wages : CampaignValue → ℕ → (held money : ℕ) → CampaignValue
-with_wages c n held money = with_amount (with_money c n (held + money)) Wages Money (pos money)
-
-abbrev pub worked_by : WorldValue → CampaignValue → ℕ × ℕ → Option Unit → CampaignValue
-worked_by w c e None = c
-worked_by w c e (Some u) = with_wages c e.0 u.holding.money (earned w u.region e.1)
-
--- a unit that got so many places, by its number, is paid its wages
+-- a unit, by its number, is paid its wages for so many places, which are booked
 unfoldable pub worked : WorldValue → CampaignValue → ℕ × ℕ → CampaignValue
-worked w c e = worked_by w c e (get c.units e.0)
+worked w c (n, places) =
+    at_unit c n (λ u.
+    let wages = earned w u.region places in
+    with_amount (with_money c n (u.holding.money + wages)) Wages Money (pos wages))
 
 abbrev pub work_fault : Unit → Option EventFault
 work_fault u = first_fault ((u.holding.men == 0, NoMen) ∷ [])
 
--- A unit wants a place for each of its men, as far as it has room for the wages, and is told what it earned.
+-- The event says how much money was paid.
 abbrev pub work_pots : PotMeaning
 work_pots = record {
-  fault = λ w u o. work_fault u;
-  want = λ w u o. places_wanted u (terrain_of w u.region);
-  given = λ w c wants. pot_shares (places_at w) wants c;
+  fault = λ w u t. work_fault u;
+  want = λ w u t. places_wanted u (terrain_of w u.region);
+  given = λ items w c wants. pot_shares (places_at w) wants c;
   told = λ w u places. earned w u.region places;
-  paid = worked;
+  paid = λ items. worked;
 }
 
 abbrev pub work_meaning : Meaning
-work_meaning = pots_meaning (λ c m. work_pots) work_orders
+work_meaning = pots_meaning work_pots work_orders
 
 -- wages are of money
 abbrev pub work_moves : ℕ → Moving

@@ -11,13 +11,13 @@ ghost use Rattle.atl_records.specs.declared.records.Unit.{Unit};
 ghost use Rattle.atl_instant.specs.Meaning.{HaveRoom};
 ghost use Rattle.atl_instant.specs.Steps.{carried};
 ghost use Rattle.atl_market.specs.Build.{CanBuild, begin, begin_fault, build_moves, build_reserve, build_step, build_terms, go_on, gone_on, inside_fault, is_building, is_structure_limit, outside_fault, size_added, sort_of, started, with_new};
-ghost use Rattle.atl_market.specs.Goods.{CanUse};
+ghost use Rattle.atl_market.specs.Making.{CanUse};
 
 use crate::goods::use_item;
 use atl_instant::{
     Month, OrderPhase, Phase, PhaseVerbs, Ran, Written, carry_out_orders, failed, own_unit,
 };
-use atl_orders::{Mailing, Order, Verb};
+use atl_orders::{Order, Verb};
 use atl_state::{
     Campaign, EventFault, Holding, MOST_STRUCTURES, Outcome, Structure, Unit, level_in,
 };
@@ -168,14 +168,14 @@ fn begin(
     alloc: Global,
     world: &World,
     campaign: &mut Campaign,
-    order: Written,
+    order: Written<'_>,
     number: u16,
     kind: &Kind,
 ) -> Result<Outcome, AllocError>
     requires kind { slice_get world.now.kinds number ≡ Some kind.now }
     requires can { CanBuild world.now campaign.old.value }
     requires room { HaveRoom (build_reserve campaign.old.value) campaign.old.value }
-    ensures what { IfOk result (λ outcome. (campaign.new.value, outcome) ≡ carried (begin world.now order.unit number kind.now) campaign.old.value order.faction order.unit) }
+    ensures what { IfOk result (λ outcome. (campaign.new.value, outcome) ≡ carried (begin world.now order.entry.unit number kind.now) campaign.old.value order.entry.faction order.entry.unit) }
     ensures marks { OnOk result (MarksChanges campaign.old campaign.new) }
 {
     let Some(unit) = own_unit(campaign, order) else {
@@ -213,10 +213,10 @@ fn add(
 
 /// A unit goes on with the structure that it is inside, or nothing changes where a fault fits.
 #[tactic(auto, unfolding(crate::specs::Build::go_on))]
-fn go_on(world: &World, campaign: &mut Campaign, order: Written) -> Result<Outcome, AllocError>
+fn go_on(world: &World, campaign: &mut Campaign, order: Written<'_>) -> Result<Outcome, AllocError>
     requires can { CanBuild world.now campaign.old.value }
     requires room { HaveRoom (build_reserve campaign.old.value) campaign.old.value }
-    ensures what { IfOk result (λ outcome. (campaign.new.value, outcome) ≡ carried (go_on world.now order.unit) campaign.old.value order.faction order.unit) }
+    ensures what { IfOk result (λ outcome. (campaign.new.value, outcome) ≡ carried (go_on world.now order.entry.unit) campaign.old.value order.entry.faction order.entry.unit) }
     ensures marks { OnOk result (MarksChanges campaign.old campaign.new) }
 {
     let Some(unit) = own_unit(campaign, order) else {
@@ -269,11 +269,9 @@ impl OrderPhase for BuildPhase {
         world: &World,
         campaign: &mut Campaign,
         _: &Month,
-        order: Written,
-        _: &Mailing,
-        what: &Order,
+        order: Written<'_>,
     ) -> Result<Option<Outcome>, AllocError> {
-        match what {
+        match order.order {
             Order::Build(Some(number)) => match kind_of(world, *number) {
                 Some(kind) => Ok(Some(begin(alloc, world, campaign, order, *number, kind)?)),
                 None => Ok(None),

@@ -4,7 +4,8 @@ ghost use Rattle.std.specs.FinMap as map;
 ghost use Rattle.atl_state.specs.Covers.{MarksChanges};
 ghost use Rattle.atl_records.specs.Held.{amount_of};
 ghost use Rattle.atl_records.specs.declared.records.Unit.{Unit};
-ghost use Rattle.atl_market.specs.Goods.{CanMake, CanUse, with_made, with_used};
+ghost use Rattle.atl_market.specs.Goods.{with_made, with_used};
+ghost use Rattle.atl_market.specs.Making.{CanMake, CanUse};
 
 use atl_instant::book_taken;
 use atl_state::{Campaign, Entry, Thing};

@@ -1,7 +1,6 @@
 //! Pots, what is shared of them, and the phases in which units share them.
 #![tactic(auto)]
 
-mod asking;
 mod build;
 mod goods;
 mod item_pots;

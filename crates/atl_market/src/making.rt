@@ -1,15 +1,13 @@
 //! How much a unit can make of an item, and that it makes it.
 ghost use Rattle.std.specs.Prelude.{ℕ, ◌≡◌, ◌≤◌, ◌*◌, IfSome, OnOk};
-ghost use Rattle.std.specs.Option.{option_copied};
+ghost use Rattle.std.specs.Option.{option_copied, option_map_or};
 ghost use Rattle.std.specs.List.{slice_get};
 ghost use Rattle.atl_tables.specs.Limits.{most_amount};
 ghost use Rattle.atl_state.specs.Covers.{MarksChanges};
 ghost use Rattle.atl_records.specs.Limits.{holding_limit};
 ghost use Rattle.atl_tables.specs.declared.world.Item.{Item};
-ghost use Rattle.atl_market.specs.Making.{CanMakeOf};
-ghost use Rattle.atl_market.specs.Produce.{produced_of, with_raw_used};
-ghost use Rattle.atl_market.specs.Goods.{CanUse};
-ghost use Rattle.atl_market.specs.Craft.{can_make, can_make_of, is_unskilled, item_of, lacks_raw, make_fault, up_to_raw};
+ghost use Rattle.atl_market.specs.Making.{CanMakeOf, CanUse};
+ghost use Rattle.atl_market.specs.Produce.{can_make, can_make_of, is_unskilled, item_of, lacks_raw, make_fault, up_to_raw, with_item_made, with_raw_used};
 
 use crate::goods::{make_item, use_item};
 use atl_state::{Campaign, EventFault, HOLDING_LIMIT, Holding, level_in_any};
@@ -76,7 +74,7 @@ pub(crate) fn make_fault(world: &World, holding: &Holding, asked: Option<u16>) -
 /// How much of an item a unit can make, at most 999,999,999.
 fn can_make_of(holding: &Holding, number: u16, item: &Item) -> u32
     requires { 1 ≤ item.now.raw_count }
-    ensures value { result ≡ can_make_of holding.now number (Some item.now) }
+    ensures value { result ≡ can_make_of holding.now number item.now }
     ensures bound { result ≤ most_amount }
 {
     let skilled = holding.men() * level_in_any(holding, item.skill);
@@ -124,7 +122,7 @@ fn make_of(
     made: u32,
 ) -> Result<(), AllocError>
     requires { CanMakeOf world.now campaign.old.value number made item found.now }
-    ensures what { OnOk result (campaign.new.value ≡ produced_of campaign.old.value (number, made) item (Some found.now)) }
+    ensures what { OnOk result (campaign.new.value ≡ with_item_made campaign.old.value number made item found.now) }
     ensures marks { OnOk result (MarksChanges campaign.old campaign.new) }
 {
     use_raw(world, campaign, number, found, made)?;
@@ -141,7 +139,7 @@ pub(crate) fn make(
     made: u32,
 ) -> Result<(), AllocError>
     requires { (x : Item) → slice_get world.now.items item ≡ Some x → CanMakeOf world.now campaign.old.value number made item x }
-    ensures what { OnOk result (campaign.new.value ≡ produced_of campaign.old.value (number, made) item (slice_get world.now.items item)) }
+    ensures what { OnOk result (campaign.new.value ≡ option_map_or (with_item_made campaign.old.value number made item) (slice_get world.now.items item) campaign.old.value) }
     ensures marks { OnOk result (MarksChanges campaign.old campaign.new) }
 {
     match item_of(world, Some(item)) {

@@ -1,8 +1,8 @@
 //! What units make out of what the terrains of their regions give.
 ghost use Rattle.std.specs.Prelude.{⊤, ℕ, ◌≡◌, map, IfOk};
 ghost use Rattle.std.specs.FinMap as finmap;
-ghost use Rattle.atl_market.specs.Outputs.{gathered, made_by, makes, output_at, output_share};
 ghost use Rattle.atl_market.specs.Pots.{AreWants};
+ghost use Rattle.atl_market.specs.Produce.{gathered, made_by, makes, output_at, output_share};
 ghost use Rattle.atl_market.specs.Puts.{with_each};
 
 use crate::item_pots::{ItemPots, item_shares};

@@ -1,15 +1,19 @@
 //! A phase in which the units of each region share a pot.
-ghost use Rattle.std.specs.Prelude.{ℕ, ◌≡◌, ◌≤◌, ◌++◌, IfOk, OnOk, fold, map};
-ghost use Rattle.std.specs.FinMap.{entries};
+ghost use Rattle.std.specs.Prelude.{ℕ, ◌≡◌, ◌≤◌, IfOk, OnOk, fold, map};
+ghost use Rattle.std.specs.FinMap.{FinMap, entries};
+ghost use Rattle.std.specs.Result.{result_map_both};
 ghost use Rattle.atl_tables.specs.Limits.{most_amount};
 ghost use Rattle.atl_tables.specs.Worlds.{WorldValue};
 ghost use Rattle.atl_state.specs.Covers.{MarksChanges};
 ghost use Rattle.atl_state.specs.Campaign.{CampaignValue};
-ghost use Rattle.atl_market.specs.PotPhase.{CanInTurn, PotMeaning, event_of, events_by, fault_of, given_by, shared_out, want_by, wants_by};
+ghost use Rattle.std.specs.Ordering.{nat_cmp};
+ghost use Rattle.atl_instant.specs.PhaseOrders.{task_of};
+ghost use Rattle.atl_market.specs.PotPhase.{CanInTurn, PotMeaning, count_in, event_of, events_by, given_by, item_by, item_in, items_by, shared_out, unit_for, want_by, wants_by};
 ghost use Rattle.atl_market.specs.Pots.{AreWants};
-ghost use Rattle.atl_market.specs.Puts.{with_each};
+ghost use Rattle.atl_market.specs.Puts.{with_any};
 
-use atl_instant::{Month, Written};
+use atl_instant::{Written, own_unit};
+use atl_orders::Order;
 use atl_state::{Campaign, Event, EventFault, Outcome, Unit};
 use atl_tables::{Numbered, World};
 use std::alloc::{AllocError, Global};
@@ -21,31 +25,32 @@ pub(crate) trait PotPhase {
     // What it needs of the campaign.
     ghost needs: { Self → WorldValue → CampaignValue → Type 0 };
 
-    // When a unit, by its number, can get so much of its pot.
-    ghost can_pay: { Self → WorldValue → CampaignValue → ℕ × ℕ → Type 0 };
+    // When a unit, by its number, can get so much of its pot, by the items that orders name.
+    ghost can_pay: { Self → FinMap nat_cmp ℕ → WorldValue → CampaignValue → ℕ × ℕ → Type 0 };
 
     /// Why a unit doesn't carry out an order of its own faction.
-    fn fault(&self, world: &World, unit: &Unit, order: Written) -> Option<EventFault>
-        ensures { result ≡ PotMeaning.fault (meaning self.now) world.now unit.now order };
+    fn fault(&self, world: &World, unit: &Unit, order: Written<'_>) -> Option<EventFault>
+        ensures { result ≡ PotMeaning.fault (meaning self.now) world.now unit.now (task_of order.entry) };
 
     /// How much of the pot of its region a unit wants by an order, at most 999,999,999.
-    fn want(&self, world: &World, unit: &Unit, order: Written) -> u32
-        ensures value { result ≡ PotMeaning.want (meaning self.now) world.now unit.now order }
+    fn want(&self, world: &World, unit: &Unit, order: Written<'_>) -> u32
+        ensures value { result ≡ PotMeaning.want (meaning self.now) world.now unit.now (task_of order.entry) }
         ensures bound { result ≤ most_amount };
 
-    /// What the units get by what they want. AllocError without memory.
+    /// What the units get by the items that their orders name, and by what they want. AllocError without memory.
     fn given(
         &self,
         alloc: Global,
         world: &World,
         campaign: &Campaign,
+        items: &Numbered<u16>,
         wants: &Numbered<u32>,
     ) -> Result<Numbered<u32>, AllocError>
         requires needs { needs self.now world.now campaign.now.value }
         requires wants { AreWants wants.now }
-        ensures { IfOk result (λ given. given ≡ PotMeaning.given (meaning self.now) world.now campaign.now.value wants.now) };
+        ensures { IfOk result (λ given. given ≡ PotMeaning.given (meaning self.now) items.now world.now campaign.now.value wants.now) };
 
-    /// What a unit that got so much of the pot is told.
+    /// What the event says of a unit that got so much of the pot.
     fn told(&self, world: &World, unit: &Unit, share: u32) -> u64
         ensures { result ≡ PotMeaning.told (meaning self.now) world.now unit.now share };
 
@@ -54,59 +59,87 @@ pub(crate) trait PotPhase {
         &self,
         world: &World,
         campaign: &mut Campaign,
+        items: &Numbered<u16>,
         unit: u32,
         share: u32,
     ) -> Result<(), AllocError>
-        requires can { can_pay self.now world.now campaign.old.value (unit, share) }
-        ensures what { OnOk result (campaign.new.value ≡ PotMeaning.paid (meaning self.now) world.now campaign.old.value (unit, share)) }
+        requires can { can_pay self.now items.now world.now campaign.old.value (unit, share) }
+        ensures what { OnOk result (campaign.new.value ≡ PotMeaning.paid (meaning self.now) items.now world.now campaign.old.value (unit, share)) }
         ensures marks { OnOk result (MarksChanges campaign.old campaign.new) };
 }
 
-/// Why an order isn't carried out.
-fn fault_of<P: PotPhase>(
-    phase: &P,
-    world: &World,
-    campaign: &Campaign,
-    order: Written,
-) -> Option<EventFault>
-    ensures { result ≡ fault_of (P.meaning phase.now) world.now campaign.now.value order }
+/// The item that an order names.
+pub(crate) fn named_item(order: Written<'_>) -> Option<u16>
+    ensures { result ≡ item_in (task_of order.entry).said }
 {
-    match campaign.unit(order.unit) {
-        Some(unit) if unit.faction == order.faction => phase.fault(world, unit, order),
-        _ => Some(EventFault::NotYours),
+    match order.order {
+        Order::Produce(item) => Some(*item),
+        Order::Sell { item, .. } => Some(*item),
+        Order::Buy { item, .. } => Some(*item),
+        _ => None,
     }
 }
 
-/// Notes what the unit of an order wants, where the order has no fault.
+/// How many an order asks for; 0 where it names no number.
+pub(crate) fn named_count(order: Written<'_>) -> u32
+    ensures { result ≡ count_in (task_of order.entry).said }
+{
+    match order.order {
+        Order::Recruit(men) => *men,
+        Order::Sell { amount, .. } => *amount,
+        Order::Buy { amount, .. } => *amount,
+        _ => 0,
+    }
+}
+
+/// The unit that carries an order out, or why none does.
+#[tactic(auto, unfolding(crate::specs::PotPhase::unit_for))]
+fn unit_for<'c, P: PotPhase>(
+    phase: &P,
+    world: &World,
+    campaign: &'c Campaign,
+    order: Written<'_>,
+) -> Result<&'c Unit, EventFault>
+    ensures { result_map_both (λ unit. unit.now) (λ fault. fault) result ≡ unit_for (P.meaning phase.now) world.now campaign.now.value (task_of order.entry) }
+{
+    let Some(unit) = own_unit(campaign, order) else {
+        return Err(EventFault::NotYours);
+    };
+    match phase.fault(world, unit, order) {
+        Some(fault) => Err(fault),
+        None => Ok(unit),
+    }
+}
+
+/// Notes what a unit wants by an order, if it carries the order out.
 #[tactic(auto, using(crate::proofs::WantLaws::one_want))]
 fn note_want<P: PotPhase>(
     phase: &P,
     world: &World,
     campaign: &Campaign,
-    order: Written,
+    order: Written<'_>,
     wants: &mut Numbered<u32>,
 ) -> Result<(), AllocError>
     requires { AreWants wants.old }
-    ensures value { OnOk result (wants.new ≡ with_each wants.old (want_by (P.meaning phase.now) world.now campaign.now.value order)) }
+    ensures value { OnOk result (wants.new ≡ with_any wants.old (want_by (P.meaning phase.now) world.now campaign.now.value (task_of order.entry))) }
     ensures bound { OnOk result (AreWants wants.new) }
 {
-    let fault = fault_of(phase, world, campaign, order);
-    if let (None, Some(unit)) = (fault, campaign.unit(order.unit)) {
+    if let Ok(unit) = unit_for(phase, world, campaign, order) {
         wants.insert(order.unit, phase.want(world, unit, order))?;
     }
     Ok(())
 }
 
 /// What the units want by their orders, by unit.
-#[tactic(auto, using(crate::proofs::WantLaws::appended_entries))]
+#[tactic(auto, using(crate::proofs::WantLaws::any_then))]
 fn wants_of<P: PotPhase>(
     alloc: Global,
     phase: &P,
     world: &World,
     campaign: &Campaign,
-    orders: &[Written],
+    orders: &[Written<'_>],
 ) -> Result<Numbered<u32>, AllocError>
-    ensures value { IfOk result (λ wants. wants ≡ wants_by (P.meaning phase.now) world.now campaign.now.value orders.now) }
+    ensures value { IfOk result (λ wants. wants ≡ wants_by (P.meaning phase.now) world.now campaign.now.value (map task_of orders.now)) }
     ensures bound { IfOk result (λ wants. AreWants wants) }
 {
     let mut wants = Numbered::new(alloc);
@@ -116,19 +149,54 @@ fn wants_of<P: PotPhase>(
     Ok(wants)
 }
 
+/// Notes the item that an order names, if a unit carries the order out.
+fn note_item<P: PotPhase>(
+    phase: &P,
+    world: &World,
+    campaign: &Campaign,
+    order: Written<'_>,
+    items: &mut Numbered<u16>,
+) -> Result<(), AllocError>
+    ensures { OnOk result (items.new ≡ with_any items.old (item_by (P.meaning phase.now) world.now campaign.now.value (task_of order.entry))) }
+{
+    if let (Ok(_), Some(item)) = (unit_for(phase, world, campaign, order), named_item(order)) {
+        items.insert(order.unit, item)?;
+    }
+    Ok(())
+}
+
+/// The items that the orders name which are carried out, by unit.
+#[tactic(auto, using(crate::proofs::WantLaws::any_then))]
+fn items_of<P: PotPhase>(
+    alloc: Global,
+    phase: &P,
+    world: &World,
+    campaign: &Campaign,
+    orders: &[Written<'_>],
+) -> Result<Numbered<u16>, AllocError>
+    ensures { IfOk result (λ items. items ≡ items_by (P.meaning phase.now) world.now campaign.now.value (map task_of orders.now)) }
+{
+    let mut items = Numbered::new(alloc);
+    for order in orders {
+        note_item(phase, world, campaign, *order, &mut items)?;
+    }
+    Ok(items)
+}
+
 /// What the units get, by unit.
 fn given_of<P: PotPhase>(
     alloc: Global,
     phase: &P,
     world: &World,
     campaign: &Campaign,
-    orders: &[Written],
+    items: &Numbered<u16>,
+    orders: &[Written<'_>],
 ) -> Result<Numbered<u32>, AllocError>
     requires { P.needs phase.now world.now campaign.now.value }
-    ensures { IfOk result (λ given. given ≡ given_by (P.meaning phase.now) world.now campaign.now.value orders.now) }
+    ensures { IfOk result (λ given. given ≡ PotMeaning.given (P.meaning phase.now) items.now world.now campaign.now.value (wants_by (P.meaning phase.now) world.now campaign.now.value (map task_of orders.now))) }
 {
     let wants = wants_of(alloc, phase, world, campaign, orders)?;
-    phase.given(alloc, world, campaign, &wants)
+    phase.given(alloc, world, campaign, items, &wants)
 }
 
 /// What came of an order, where so much was given.
@@ -137,22 +205,18 @@ fn event_of<P: PotPhase>(
     world: &World,
     campaign: &Campaign,
     given: &Numbered<u32>,
-    order: Written,
+    order: Written<'_>,
 ) -> Event
-    ensures { result ≡ event_of (P.meaning phase.now) world.now campaign.now.value given.now order }
+    ensures { result ≡ event_of (P.meaning phase.now) world.now campaign.now.value given.now (task_of order.entry) }
 {
-    let outcome = match (
-        fault_of(phase, world, campaign, order),
-        campaign.unit(order.unit),
-    ) {
-        (Some(fault), _) => Outcome::Fault(fault.number()),
-        (None, Some(unit)) => {
+    let outcome = match unit_for(phase, world, campaign, order) {
+        Ok(unit) => {
             let share = given.get(order.unit).copied().unwrap_or(0);
             Outcome::Done(phase.told(world, unit, share))
         }
-        (None, None) => Outcome::Done(0),
+        Err(fault) => Outcome::Fault(fault.number()),
     };
-    order.event(order.verb, outcome)
+    order.event(outcome)
 }
 
 /// What came of each order, where so much was given.
@@ -161,10 +225,10 @@ fn events_of<P: PotPhase>(
     phase: &P,
     world: &World,
     campaign: &Campaign,
-    orders: &[Written],
+    orders: &[Written<'_>],
     given: &Numbered<u32>,
 ) -> Result<Vec<Event>, AllocError>
-    ensures { IfOk result (λ events. events.items ≡ map (event_of (P.meaning phase.now) world.now campaign.now.value given.now) orders.now) }
+    ensures { IfOk result (λ events. events.items ≡ map (event_of (P.meaning phase.now) world.now campaign.now.value given.now) (map task_of orders.now)) }
 {
     let mut events = Vec::new(alloc);
     for order in orders {
@@ -178,14 +242,15 @@ fn pay_all<P: PotPhase>(
     phase: &P,
     world: &World,
     campaign: &mut Campaign,
+    items: &Numbered<u16>,
     given: &Numbered<u32>,
 ) -> Result<(), AllocError>
-    requires can { CanInTurn (P.can_pay phase.now world.now) (PotMeaning.paid (P.meaning phase.now) world.now) campaign.old.value (entries given.now) }
-    ensures what { OnOk result (campaign.new.value ≡ fold (PotMeaning.paid (P.meaning phase.now) world.now) campaign.old.value (entries given.now)) }
+    requires can { CanInTurn (P.can_pay phase.now items.now world.now) (PotMeaning.paid (P.meaning phase.now) items.now world.now) campaign.old.value (entries given.now) }
+    ensures what { OnOk result (campaign.new.value ≡ fold (PotMeaning.paid (P.meaning phase.now) items.now world.now) campaign.old.value (entries given.now)) }
     ensures marks { OnOk result (MarksChanges campaign.old campaign.new) }
 {
     for (unit, share) in given.iter() {
-        phase.pay(world, campaign, unit, *share)?;
+        phase.pay(world, campaign, items, unit, *share)?;
     }
     Ok(())
 }
@@ -199,26 +264,17 @@ pub(crate) fn share_out<P: PotPhase>(
     phase: &P,
     world: &World,
     campaign: &mut Campaign,
-    orders: &[Written],
+    orders: &[Written<'_>],
 ) -> Result<Vec<Event>, AllocError>
     requires needs { P.needs phase.now world.now campaign.old.value }
-    requires can { CanInTurn (P.can_pay phase.now world.now) (PotMeaning.paid (P.meaning phase.now) world.now) campaign.old.value (entries (given_by (P.meaning phase.now) world.now campaign.old.value orders.now)) }
-    ensures what { OnOk result (campaign.new.value ≡ shared_out (P.meaning phase.now) world.now campaign.old.value orders.now) }
-    ensures events { IfOk result (λ events. events.items ≡ events_by (P.meaning phase.now) world.now campaign.old.value orders.now) }
+    requires can { CanInTurn (P.can_pay phase.now (items_by (P.meaning phase.now) world.now campaign.old.value (map task_of orders.now)) world.now) (PotMeaning.paid (P.meaning phase.now) (items_by (P.meaning phase.now) world.now campaign.old.value (map task_of orders.now)) world.now) campaign.old.value (entries (given_by (P.meaning phase.now) world.now campaign.old.value (map task_of orders.now))) }
+    ensures what { OnOk result (campaign.new.value ≡ shared_out (P.meaning phase.now) world.now campaign.old.value (map task_of orders.now)) }
+    ensures events { IfOk result (λ events. events.items ≡ events_by (P.meaning phase.now) world.now campaign.old.value (map task_of orders.now)) }
     ensures marks { OnOk result (MarksChanges campaign.old campaign.new) }
 {
-    let given = given_of(alloc, phase, world, campaign, orders)?;
+    let items = items_of(alloc, phase, world, campaign, orders)?;
+    let given = given_of(alloc, phase, world, campaign, &items, orders)?;
     let events = events_of(alloc, phase, world, campaign, orders, &given)?;
-    pay_all(phase, world, campaign, &given)?;
+    pay_all(phase, world, campaign, &items, &given)?;
     Ok(events)
-}
-
-/// Tells what came of the orders. AllocError without memory; some of the events may have come to the month.
-pub(crate) fn tell_all(month: &mut Month, events: &[Event]) -> Result<(), AllocError>
-    ensures { OnOk result (month.new ≡ record month.old { events = month.old.events ++ events.now }) }
-{
-    for event in events {
-        month.tell(*event)?;
-    }
-    Ok(())
 }

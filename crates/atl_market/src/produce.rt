@@ -6,11 +6,10 @@ ghost use Rattle.atl_market.specs.Making.{CanProduce};
 ghost use Rattle.atl_market.specs.Produce.{is_produce, produce_keeps, produce_meaning, produce_moves, produce_pots, produced};
 ghost use Rattle.atl_market.specs.Paid.{ProducesAtOnce};
 
-use crate::asking::{Items, asked};
 use crate::making::{can_make, make, make_fault};
 use crate::outputs::makes;
-use crate::pot_phase::{PotPhase, share_out, tell_all};
-use atl_instant::{Arrangement, Month, Phase, PhaseVerbs, Ran, Written};
+use crate::pot_phase::{PotPhase, named_item, share_out};
+use atl_instant::{Arrangement, Month, Phase, PhaseVerbs, Ran, Written, tell_all};
 use atl_orders::Verb;
 use atl_state::{Campaign, EventFault, Unit};
 use atl_tables::{Numbered, World};
@@ -28,25 +27,19 @@ impl PhaseVerbs for ProducePhase {
     }
 }
 
-/// Production by the item that each unit is told to make.
-#[derive(Drop, Clone, Copy)]
-struct MailedProducing<'a> {
-    asked: &'a Numbered<u16>,
-}
-
-impl<'a> PotPhase for MailedProducing<'a> {
-    ghost meaning = { λ p. produce_pots p.asked.now };
+impl PotPhase for ProducePhase {
+    ghost meaning = { λ _. produce_pots };
 
     ghost needs = { λ _. IsSteady };
 
-    ghost can_pay = { λ p. CanProduce p.asked.now };
+    ghost can_pay = { λ _. CanProduce };
 
-    fn fault(&self, world: &World, unit: &Unit, order: Written) -> Option<EventFault> {
-        make_fault(world, &unit.holding, self.asked.get(order.unit).copied())
+    fn fault(&self, world: &World, unit: &Unit, order: Written<'_>) -> Option<EventFault> {
+        make_fault(world, &unit.holding, named_item(order))
     }
 
-    fn want(&self, world: &World, unit: &Unit, order: Written) -> u32 {
-        can_make(world, &unit.holding, self.asked.get(order.unit).copied())
+    fn want(&self, world: &World, unit: &Unit, order: Written<'_>) -> u32 {
+        can_make(world, &unit.holding, named_item(order))
     }
 
     fn given(
@@ -54,9 +47,10 @@ impl<'a> PotPhase for MailedProducing<'a> {
         alloc: Global,
         world: &World,
         campaign: &Campaign,
+        items: &Numbered<u16>,
         wants: &Numbered<u32>,
     ) -> Result<Numbered<u32>, AllocError> {
-        makes(alloc, world, campaign, self.asked, wants)
+        makes(alloc, world, campaign, items, wants)
     }
 
     fn told(&self, _world: &World, _unit: &Unit, share: u32) -> u64 {
@@ -68,10 +62,11 @@ impl<'a> PotPhase for MailedProducing<'a> {
         &self,
         world: &World,
         campaign: &mut Campaign,
+        items: &Numbered<u16>,
         number: u32,
         share: u32,
     ) -> Result<(), AllocError> {
-        match self.asked.get(number) {
+        match items.get(number) {
             Some(item) => make(world, campaign, number, *item, share),
             None => Ok(()),
         }
@@ -94,10 +89,9 @@ impl Phase for ProducePhase {
 
     fn run(&self, alloc: Global, world: &World, mut campaign: Campaign, mut month: Month) -> Ran {
         let orders = month.orders(alloc, self, Arrangement::ByUnit)?;
-        let asked = asked::<Items, Self>(alloc, &campaign, &month, &orders)?;
         world_is_sound(world);
-        let producing = MailedProducing { asked: &asked };
-        let events = share_out(alloc, &producing, world, &mut campaign, &orders)?;
+        let events = share_out(alloc, self, world, &mut campaign, &orders)?;
+        drop(orders);
         tell_all(&mut month, &events)?;
         Ok((campaign, month))
     }

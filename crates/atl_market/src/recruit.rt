@@ -15,10 +15,9 @@ ghost use Rattle.atl_market.specs.Recruit.{is_recruit, recruit_keeps, recruit_me
 ghost use Rattle.atl_market.specs.Payable.{CanRecruit};
 ghost use Rattle.atl_market.specs.Paid.{RecruitsAtOnce};
 
-use crate::asking::{Counts, asked};
-use crate::pot_phase::{PotPhase, share_out, tell_all};
+use crate::pot_phase::{PotPhase, named_count, share_out};
 use crate::pots::{Pots, pot_shares};
-use atl_instant::{Arrangement, Month, Phase, PhaseVerbs, Ran, Written, book_taken};
+use atl_instant::{Arrangement, Month, Phase, PhaseVerbs, Ran, Written, book_taken, tell_all};
 use atl_orders::Verb;
 use atl_state::{Campaign, Entry, EventFault, MEN_LIMIT, Thing, Unit};
 use atl_tables::{Numbered, World};
@@ -34,12 +33,6 @@ impl PhaseVerbs for RecruitPhase {
     fn has(&self, verb: Verb) -> bool {
         matches!(verb, Verb::Recruit)
     }
-}
-
-/// Recruiting by how many each unit is told to recruit.
-#[derive(Drop, Clone, Copy)]
-struct MailedRecruiting<'a> {
-    asked: &'a Numbered<u32>,
 }
 
 /// How many peasants can be recruited in the regions.
@@ -90,14 +83,14 @@ fn leave_region(campaign: &mut Campaign, region: u32, peasants: u32, cost: u32)
     book_taken(campaign, Entry::Recruiting, Thing::Money, cost);
 }
 
-impl<'a> PotPhase for MailedRecruiting<'a> {
-    ghost meaning = { λ p. recruit_pots p.asked.now };
+impl PotPhase for RecruitPhase {
+    ghost meaning = { λ _. recruit_pots };
 
     ghost needs = { λ _. IsEarly };
 
-    ghost can_pay = { λ _. CanRecruit };
+    ghost can_pay = { λ _ _. CanRecruit };
 
-    fn fault(&self, world: &World, unit: &Unit, _order: Written) -> Option<EventFault> {
+    fn fault(&self, world: &World, unit: &Unit, _order: Written<'_>) -> Option<EventFault> {
         if unit.holding.money() < world.rules().recruit_price {
             Some(EventFault::NotEnough)
         } else {
@@ -105,11 +98,10 @@ impl<'a> PotPhase for MailedRecruiting<'a> {
         }
     }
 
-    fn want(&self, world: &World, unit: &Unit, order: Written) -> u32 {
+    fn want(&self, world: &World, unit: &Unit, order: Written<'_>) -> u32 {
         let payable = unit.holding.money() / world.rules().recruit_price;
         let room = MEN_LIMIT - unit.holding.men();
-        let asked = self.asked.get(order.unit).copied().unwrap_or(0);
-        asked.min(payable.min(room))
+        named_count(order).min(payable.min(room))
     }
 
     fn given(
@@ -117,6 +109,7 @@ impl<'a> PotPhase for MailedRecruiting<'a> {
         alloc: Global,
         world: &World,
         campaign: &Campaign,
+        _items: &Numbered<u16>,
         wants: &Numbered<u32>,
     ) -> Result<Numbered<u32>, AllocError> {
         pot_shares(alloc, campaign, &Recruitable { world, campaign }, wants)
@@ -131,6 +124,7 @@ impl<'a> PotPhase for MailedRecruiting<'a> {
         &self,
         world: &World,
         campaign: &mut Campaign,
+        _items: &Numbered<u16>,
         number: u32,
         share: u32,
     ) -> Result<(), AllocError> {
@@ -162,9 +156,8 @@ impl Phase for RecruitPhase {
 
     fn run(&self, alloc: Global, world: &World, mut campaign: Campaign, mut month: Month) -> Ran {
         let orders = month.orders(alloc, self, Arrangement::ByUnit)?;
-        let asked = asked::<Counts, Self>(alloc, &campaign, &month, &orders)?;
-        let recruiting = MailedRecruiting { asked: &asked };
-        let events = share_out(alloc, &recruiting, world, &mut campaign, &orders)?;
+        let events = share_out(alloc, self, world, &mut campaign, &orders)?;
+        drop(orders);
         tell_all(&mut month, &events)?;
         Ok((campaign, month))
     }

@@ -11,9 +11,9 @@ ghost use Rattle.atl_market.specs.Tax.{is_tax, money_at, tax_meaning, tax_pots, 
 ghost use Rattle.atl_market.specs.Payable.{CanTax};
 ghost use Rattle.atl_market.specs.Paid.{TaxesAtOnce};
 
-use crate::pot_phase::{PotPhase, share_out, tell_all};
+use crate::pot_phase::{PotPhase, share_out};
 use crate::pots::{Pots, pot_shares};
-use atl_instant::{Arrangement, Month, Phase, PhaseVerbs, Ran, Written};
+use atl_instant::{Arrangement, Month, Phase, PhaseVerbs, Ran, Written, tell_all};
 use atl_orders::Verb;
 use atl_state::{Campaign, EventFault, HOLDING_LIMIT, Unit};
 use atl_tables::{Numbered, World};
@@ -66,9 +66,9 @@ impl PotPhase for TaxPhase {
 
     ghost needs = { λ _. IsEarly };
 
-    ghost can_pay = { λ _. CanTax };
+    ghost can_pay = { λ _ _. CanTax };
 
-    fn fault(&self, _world: &World, unit: &Unit, _order: Written) -> Option<EventFault> {
+    fn fault(&self, _world: &World, unit: &Unit, _order: Written<'_>) -> Option<EventFault> {
         if unit.holding.men() == 0 {
             Some(EventFault::NoMen)
         } else if !unit.holding.guard() {
@@ -78,7 +78,7 @@ impl PotPhase for TaxPhase {
         }
     }
 
-    fn want(&self, world: &World, unit: &Unit, _order: Written) -> u32 {
+    fn want(&self, world: &World, unit: &Unit, _order: Written<'_>) -> u32 {
         let room = HOLDING_LIMIT - unit.holding.money();
         (unit.holding.men() * world.rules().tax_per_man).min(room)
     }
@@ -88,6 +88,7 @@ impl PotPhase for TaxPhase {
         alloc: Global,
         _world: &World,
         campaign: &Campaign,
+        _items: &Numbered<u16>,
         wants: &Numbered<u32>,
     ) -> Result<Numbered<u32>, AllocError> {
         pot_shares(alloc, campaign, &RegionMoney { campaign }, wants)
@@ -102,6 +103,7 @@ impl PotPhase for TaxPhase {
         &self,
         _world: &World,
         campaign: &mut Campaign,
+        _items: &Numbered<u16>,
         number: u32,
         share: u32,
     ) -> Result<(), AllocError> {
@@ -130,6 +132,7 @@ impl Phase for TaxPhase {
     fn run(&self, alloc: Global, world: &World, mut campaign: Campaign, mut month: Month) -> Ran {
         let orders = month.orders(alloc, self, Arrangement::ByUnit)?;
         let events = share_out(alloc, self, world, &mut campaign, &orders)?;
+        drop(orders);
         tell_all(&mut month, &events)?;
         Ok((campaign, month))
     }

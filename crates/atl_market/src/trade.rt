@@ -14,11 +14,10 @@ ghost use Rattle.atl_market.specs.Trade.{deal_of, dealt, has_too_little, is_trad
 ghost use Rattle.atl_market.specs.Trading.{CanDeal, CanSettle, CanTrade, HasPot, IsPriced};
 ghost use Rattle.atl_market.specs.Paid.{TradesAtOnce};
 
-use crate::asking::{Counts, Items, asked};
 use crate::item_pots::{ItemPots, item_shares};
-use crate::pot_phase::{PotPhase, share_out, tell_all};
+use crate::pot_phase::{PotPhase, named_count, named_item, share_out};
 use crate::produce::world_is_sound;
-use atl_instant::{Arrangement, Month, Phase, PhaseVerbs, Ran, Written};
+use atl_instant::{Arrangement, Month, Phase, PhaseVerbs, Ran, Written, tell_all};
 use atl_orders::Verb;
 use atl_state::{Campaign, Entry, EventFault, HOLDING_LIMIT, Holding, Thing, Unit};
 use atl_tables::{Market, Numbered, World};
@@ -223,30 +222,24 @@ impl<'a> ItemPots for Tradable<'a> {
     }
 }
 
-/// Trading by the item that each unit is told to trade, and by how many.
-#[derive(Drop, Clone, Copy)]
-struct MailedTrading<'a> {
-    trade: Trade,
-    items: &'a Numbered<u16>,
-    counts: &'a Numbered<u32>,
-}
-
-impl<'a> PotPhase for MailedTrading<'a> {
-    ghost meaning = { λ p. trade_pots p.trade p.items.now p.counts.now };
+impl PotPhase for Trade {
+    ghost meaning = { trade_pots };
 
     ghost needs = { λ _. IsEarly };
 
-    ghost can_pay = { λ p. CanTrade p.trade p.items.now };
+    ghost can_pay = { CanTrade };
 
-    fn fault(&self, world: &World, unit: &Unit, order: Written) -> Option<EventFault> {
-        let market = market_for(world, unit, self.items.get(order.unit).copied());
-        trade_fault(self.trade, &unit.holding, market)
+    fn fault(&self, world: &World, unit: &Unit, order: Written<'_>) -> Option<EventFault> {
+        trade_fault(
+            *self,
+            &unit.holding,
+            market_for(world, unit, named_item(order)),
+        )
     }
 
-    fn want(&self, world: &World, unit: &Unit, order: Written) -> u32 {
-        let told = self.counts.get(order.unit).copied().unwrap_or(0);
-        match market_for(world, unit, self.items.get(order.unit).copied()) {
-            Some(market) => told.min(most_traded(self.trade, &unit.holding, market)),
+    fn want(&self, world: &World, unit: &Unit, order: Written<'_>) -> u32 {
+        match market_for(world, unit, named_item(order)) {
+            Some(market) => named_count(order).min(most_traded(*self, &unit.holding, market)),
             None => 0,
         }
     }
@@ -256,13 +249,14 @@ impl<'a> PotPhase for MailedTrading<'a> {
         alloc: Global,
         world: &World,
         campaign: &Campaign,
+        items: &Numbered<u16>,
         wants: &Numbered<u32>,
     ) -> Result<Numbered<u32>, AllocError> {
         let pots = Tradable {
-            trade: self.trade,
+            trade: *self,
             world,
             campaign,
-            items: self.items,
+            items,
         };
         let given = item_shares(alloc, campaign, &pots, wants)?;
         Ok(given)
@@ -277,20 +271,21 @@ impl<'a> PotPhase for MailedTrading<'a> {
         &self,
         world: &World,
         campaign: &mut Campaign,
+        items: &Numbered<u16>,
         number: u32,
         share: u32,
     ) -> Result<(), AllocError> {
         let Some(unit) = campaign.unit(number) else {
             return Ok(());
         };
-        let Some(market) = market_for(world, unit, self.items.get(number).copied()) else {
+        let Some(market) = market_for(world, unit, items.get(number).copied()) else {
             return Ok(());
         };
         let region = unit.region;
         let item = u32::from(market.item);
         let stock = campaign.stock(region, item);
-        let deal = deal_of(self.trade, &unit.holding, stock, share, market);
-        settle(campaign, number, region, item, self.trade.entry(), deal)
+        let deal = deal_of(*self, &unit.holding, stock, share, market);
+        settle(campaign, number, region, item, self.entry(), deal)
     }
 }
 
@@ -325,16 +320,10 @@ impl<const SELLS: bool> Phase for TradePhase<SELLS> {
 
     fn run(&self, alloc: Global, world: &World, mut campaign: Campaign, mut month: Month) -> Ran {
         let orders = month.orders(alloc, self, Arrangement::ByUnit)?;
-        let items = asked::<Items, Self>(alloc, &campaign, &month, &orders)?;
-        let counts = asked::<Counts, Self>(alloc, &campaign, &month, &orders)?;
         world_is_sound(world);
         let trade = trade_of(SELLS);
-        let trading = MailedTrading {
-            trade,
-            items: &items,
-            counts: &counts,
-        };
-        let events = share_out(alloc, &trading, world, &mut campaign, &orders)?;
+        let events = share_out(alloc, &trade, world, &mut campaign, &orders)?;
+        drop(orders);
         tell_all(&mut month, &events)?;
         Ok((campaign, month))
     }

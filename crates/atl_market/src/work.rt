@@ -1,27 +1,35 @@
 //! WORK: units take the places of their region's terrain, each of which pays the wage.
-ghost use Rattle.std.specs.Prelude.{⊤, ℕ, ◌≡◌, ◌≤◌, ◌+◌, ◌++◌, filter, IfOk, OnOk};
+ghost use Rattle.std.specs.Prelude.{⊤, ℕ, pos, ◌≡◌, ◌≤◌, ◌+◌, ◌++◌, map, IfOk, OnOk};
 ghost use Rattle.std.specs.List.Sorted.{IsPermutation, IsSortedByKey};
 ghost use Rattle.std.specs.Cmp.Lexicographic.{slice_cmp};
 ghost use Rattle.std.specs.Ordering.{nat_cmp};
+ghost use Rattle.atl_records.specs.declared.books.Entry.TheVariants.{Wages};
+ghost use Rattle.atl_records.specs.declared.books.Thing.TheVariants.{Money};
 ghost use Rattle.atl_records.specs.Books.{IsGrid};
 ghost use Rattle.atl_state.specs.Covers.{MarksChanges};
 ghost use Rattle.atl_state.specs.Good.{IsSteady};
 ghost use Rattle.atl_records.specs.Limits.{holding_limit};
+ghost use Rattle.atl_state.specs.Campaign.{with_amount, with_money};
 ghost use Rattle.atl_instant.specs.Holdings.{MarksNoGoods};
 ghost use Rattle.atl_instant.specs.Meaning.{HaveRoom, most_moved};
 ghost use Rattle.atl_instant.specs.Staying.{spares_all};
 ghost use Rattle.atl_tables.specs.ByNumber.{terrain_of};
-ghost use Rattle.atl_market.specs.Work.{earned, is_work, places_at, wage_at, with_wages, work_meaning, work_moves, work_orders, work_pots};
-ghost use Rattle.atl_market.specs.Idle.{all_idle, own_writers, work_key};
+ghost use Rattle.atl_market.specs.Work.{earned, is_work, places_at, wage_at, work_meaning, work_moves, work_orders, work_pots, written_work};
+ghost use Rattle.atl_orders.specs.declared.order.Order.TheVariants.{Work};
+ghost use Rattle.atl_instant.specs.PhaseOrders.{key_of, task_of};
+ghost use Rattle.atl_instant.specs.declared.written.Arrangement.TheVariants.{ByUnit};
+ghost use Rattle.atl_market.specs.Idle.{all_idle, own_writers};
 ghost use Rattle.atl_market.specs.Paid.{WorksAtOnce};
 ghost use Rattle.atl_market.specs.Payable.{CanWork};
 
-use crate::pot_phase::{PotPhase, share_out, tell_all};
+use crate::pot_phase::{PotPhase, share_out};
 use crate::pots::{Pots, pot_shares};
-use atl_instant::{Arrangement, Month, MonthLongVerbs, Phase, Ran, Written, is_of_faction};
-use atl_orders::Verb;
+use atl_instant::{
+    Arrangement, Month, MonthLongVerbs, Phase, Ran, Written, is_of_faction, tell_all,
+};
+use atl_orders::{Mailing, Order, Verb};
 use atl_state::{Campaign, Entry, EventFault, HOLDING_LIMIT, Thing, Unit};
-use atl_tables::{Numbered, World};
+use atl_tables::{Numbered, Sequence, World};
 use std::alloc::{AllocError, Global};
 
 /// Work for wages: by orders, and of the units with men that have no month-long order. See docs/RULES.md, "Work".
@@ -32,9 +40,9 @@ pub struct WorkPhase;
 fn own_writers(
     alloc: Global,
     campaign: &Campaign,
-    orders: &[Written],
+    orders: &[Written<'_>],
 ) -> Result<Numbered<u32>, AllocError>
-    ensures { IfOk result (λ writers. writers ≡ own_writers campaign.now.value orders.now) }
+    ensures { IfOk result (λ writers. writers ≡ own_writers campaign.now.value (map task_of orders.now)) }
 {
     let mut writers = Numbered::new(alloc);
     for order in orders {
@@ -52,26 +60,29 @@ fn is_work(verb: Verb) -> bool
 }
 
 /// The orders of WORK among the month-long ones.
-fn written_work(alloc: Global, orders: &[Written]) -> Result<Vec<Written>, AllocError>
-    ensures { IfOk result (λ list. list.items ≡ filter (λ o. is_work o.verb) orders.now) }
+fn written_work<'m>(alloc: Global, orders: &[Written<'m>]) -> Result<Vec<Written<'m>>, AllocError>
+    ensures { IfOk result (λ list. map task_of list.items ≡ written_work (map task_of orders.now)) }
 {
     let mut list = Vec::new(alloc);
     for order in orders {
-        if is_work(order.verb) {
+        if is_work(order.order.verb()) {
             list.push(*order)?;
         }
     }
     Ok(list)
 }
 
-/// Puts the work of the units without an order behind other orders.
-fn add_idle(
+/// Puts the work of the units without an order behind other orders, each as if it stood in a mailing.
+fn add_idle<'m>(
     alloc: Global,
     campaign: &Campaign,
-    orders: &[Written],
-    list: &mut Vec<Written>,
+    orders: &[Written<'m>],
+    mailing: &'m Mailing,
+    work: &'m Order,
+    list: &mut Vec<Written<'m>>,
 ) -> Result<(), AllocError>
-    ensures { OnOk result (list.new.items ≡ list.old.items ++ all_idle campaign.now.value orders.now) }
+    requires { work.now ≡ Work }
+    ensures { OnOk result (map task_of list.new.items ≡ map task_of list.old.items ++ all_idle campaign.now.value (map task_of orders.now)) }
 {
     let writers = own_writers(alloc, campaign, orders)?;
     for (number, unit) in campaign.units() {
@@ -80,8 +91,9 @@ fn add_idle(
                 unit: number,
                 line: 0,
                 faction: unit.faction,
-                verb: Verb::Work,
                 place: 0,
+                mailing,
+                order: work,
             })?;
         }
     }
@@ -89,13 +101,13 @@ fn add_idle(
 }
 
 /// Sorts orders by unit, line and faction, and last by their place.
-fn sort(list: &mut Vec<Written>)
+fn sort(list: &mut Vec<Written<'_>>)
     ensures moved { IsPermutation list.old.items list.new.items }
-    ensures sorted { IsSortedByKey work_key (slice_cmp nat_cmp) list.new.items }
+    ensures sorted { IsSortedByKey (λ o. key_of ByUnit (task_of o)) (slice_cmp nat_cmp) list.new.items }
 {
     list.sort_unstable_by_key(
         |written|
-            ensures { result ≡ work_key written.now }
+            ensures { result ≡ key_of ByUnit (task_of written.now) }
         {
             [
                 written.unit as usize,
@@ -107,19 +119,32 @@ fn sort(list: &mut Vec<Written>)
     );
 }
 
-/// The orders of WORK, with the work of the units that have none.
-fn work_orders(
+/// The orders of WORK, with the work of the units that have none, each as if it stood in a mailing.
+fn work_orders<'m>(
     alloc: Global,
     campaign: &Campaign,
-    month: &Month,
-) -> Result<Vec<Written>, AllocError>
-    ensures { IfOk result (λ list. list.items ≡ work_orders campaign.now.value month.now) }
+    month: &'m Month,
+    mailing: &'m Mailing,
+    work: &'m Order,
+) -> Result<Vec<Written<'m>>, AllocError>
+    requires { work.now ≡ Work }
+    ensures { IfOk result (λ list. map task_of list.items ≡ work_orders campaign.now.value month.now) }
 {
     let orders = month.orders(alloc, &MonthLongVerbs, Arrangement::ByUnit)?;
     let mut list = written_work(alloc, &orders)?;
-    add_idle(alloc, campaign, &orders, &mut list)?;
+    add_idle(alloc, campaign, &orders, mailing, work, &mut list)?;
     sort(&mut list);
     Ok(list)
+}
+
+/// A mailing that says nothing.
+fn no_mailing(alloc: Global) -> Mailing {
+    Mailing {
+        faction: 0,
+        text: Sequence::new(alloc),
+        entries: Sequence::new(alloc),
+        faults: Sequence::new(alloc),
+    }
 }
 
 /// The places to work in the regions.
@@ -163,7 +188,7 @@ fn pay_wages(campaign: &mut Campaign, number: u32, held: u32, money: u32)
     requires fits { held + money ≤ holding_limit }
     requires grid { (things : ℕ) × (2 ≤ things) × IsGrid things campaign.old.value.books }
     requires room { HaveRoom (work_moves holding_limit) campaign.old.value }
-    ensures what { campaign.new.value ≡ with_wages campaign.old.value number held money }
+    ensures what { campaign.new.value ≡ with_amount (with_money campaign.old.value number (held + money)) Wages Money (pos money) }
     ensures marks { MarksChanges campaign.old campaign.new }
     ensures goods { MarksNoGoods campaign.old.marks campaign.new.marks }
 {
@@ -176,9 +201,9 @@ impl PotPhase for WorkPhase {
 
     ghost needs = { λ _. IsSteady };
 
-    ghost can_pay = { λ _. CanWork };
+    ghost can_pay = { λ _ _. CanWork };
 
-    fn fault(&self, _world: &World, unit: &Unit, _order: Written) -> Option<EventFault> {
+    fn fault(&self, _world: &World, unit: &Unit, _order: Written<'_>) -> Option<EventFault> {
         if unit.holding.men() == 0 {
             Some(EventFault::NoMen)
         } else {
@@ -186,7 +211,7 @@ impl PotPhase for WorkPhase {
         }
     }
 
-    fn want(&self, world: &World, unit: &Unit, _order: Written) -> u32 {
+    fn want(&self, world: &World, unit: &Unit, _order: Written<'_>) -> u32 {
         match world.terrain_of(unit.region) {
             Some(terrain) => {
                 let room = HOLDING_LIMIT - unit.holding.money();
@@ -201,6 +226,7 @@ impl PotPhase for WorkPhase {
         alloc: Global,
         world: &World,
         campaign: &Campaign,
+        _items: &Numbered<u16>,
         wants: &Numbered<u32>,
     ) -> Result<Numbered<u32>, AllocError> {
         pot_shares(alloc, campaign, &WorkPlaces { world }, wants)
@@ -215,6 +241,7 @@ impl PotPhase for WorkPhase {
         &self,
         world: &World,
         campaign: &mut Campaign,
+        _items: &Numbered<u16>,
         number: u32,
         share: u32,
     ) -> Result<(), AllocError> {
@@ -236,8 +263,11 @@ impl Phase for WorkPhase {
     ghost keeps = { spares_all };
 
     fn run(&self, alloc: Global, world: &World, mut campaign: Campaign, mut month: Month) -> Ran {
-        let orders = work_orders(alloc, &campaign, &month)?;
+        let mailing = no_mailing(alloc);
+        let work = Order::Work;
+        let orders = work_orders(alloc, &campaign, &month, &mailing, &work)?;
         let events = share_out(alloc, self, world, &mut campaign, &orders)?;
+        drop(orders);
         tell_all(&mut month, &events)?;
         Ok((campaign, month))
     }

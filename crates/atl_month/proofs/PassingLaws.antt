@@ -5,6 +5,7 @@ use Rattle.std.proofs.lemmas.Int.{ints}
 use Rattle.std.proofs.lemmas.Bool.Decides.{nat_tests}
 use Rattle.std.proofs.lemmas.Option.{same_Some}
 use Rattle.std.specs.declared.cmp.Ordering.TheVariants.{Less, Equal, Greater}
+use Rattle.std.specs.Option.{option_map_or}
 use Rattle.std.specs.Ordering.{nat_cmp, is_eq}
 use Rattle.std.specs.Cmp.{ranked}
 use Rattle.std.specs.FinMap.{FinMap, get, insert, nat_cmp-IsAntisymmetric}
@@ -21,7 +22,7 @@ use Rattle.atl_state.specs.Good.{IsSteady}
 use Rattle.atl_records.specs.Held.{Held, amount_of, with_amount_of}
 use Rattle.atl_state.specs.Lending.{with_held}
 use Rattle.atl_records.specs.Limits.{holding_limit}
-use Rattle.atl_state.specs.Campaign.{CampaignValue}
+use Rattle.atl_state.specs.Campaign.{CampaignValue, with_item, with_money}
 use Rattle.atl_records.specs.Amounts.{held}
 use Rattle.atl_state.specs.Totals.{total}
 use Rattle.atl_records.proofs.BookLaws.{booked-with_booked}
@@ -35,7 +36,7 @@ use Rattle.atl_instant.proofs.BookingLaws.{booked-near, within-neg}
 use Rattle.atl_instant.proofs.QuitLaws.{owing_items, part_of}
 use Rattle.atl_instant.proofs.StayingLaws.{no_worse, no_worse_twice}
 use Rattle.atl_instant.specs.LostItems.{moving_items}
-use Rattle.atl_month.specs.Sweep.{IsKept, item_to, money_to, passed_item, passed_money, taken_of, with_lost}
+use Rattle.atl_month.specs.Sweep.{IsKept, passed_item, passed_money, taken_of, with_lost}
 
 -- ---- more than is booked
 
@@ -230,12 +231,24 @@ module _ (w : WorldValue) (c : CampaignValue) (n k : ℕ) (apart : n ≢ k) (ste
   more_money h n People = nothing_added false h.men n refl
   more_money h n (Item i) = nothing_added (2 + i == 0) (amount_of h.items i) n (let e : (2 + i == 0) ≡ false = grind (arith, nat_tests) in e)
 
+  -- all of an amount is left, where nothing is taken of it
+  all_left : (t : Thing) (amount : ℕ) → Passed t amount (with_lost c t amount) → Passed t amount (with_lost c t (amount - 0))
+  all_left t amount lost = subst (λ a. Passed t amount (with_lost c t a)) (same amount) lost
+    where
+      same : (x : ℕ) → x ≡ x - 0
+      same x = omega arith
+
+  abbrev money_to : (amount : ℕ) → Option Unit → CampaignValue
+  money_to amount o =
+      let taken = option_map_or (λ v. taken_of amount v.holding.money) o 0 in
+      with_lost (option_map_or (λ v. with_money c k (v.holding.money + taken)) o c) Money (amount - taken)
+
   pub pass_money : (amount : ℕ) → Passed Money amount (passed_money c k amount)
   unfolding passed_money
   pass_money amount = by_unit (get c.units k) refl
     where
-      by_unit : (o : Option Unit) → get c.units k ≡ o → Passed Money amount (money_to c k amount o)
-      by_unit None is = all_lost w c n Money (omega arith) steady amount
+      by_unit : (o : Option Unit) → get c.units k ≡ o → Passed Money amount (money_to amount o)
+      by_unit None is = all_left Money amount (all_lost w c n Money (omega arith) steady amount)
       by_unit (Some v) is =
           let taken = taken_of amount v.holding.money in
           let money = v.holding.money + taken in
@@ -255,6 +268,11 @@ module _ (w : WorldValue) (c : CampaignValue) (n k : ℕ) (apart : n ≢ k) (ste
   more_item h i n People = nothing_added (1 == 2 + i) h.men n (let e : (1 == 2 + i) ≡ false = grind (arith, nat_tests) in e)
   more_item h i n (Item j) = more_amount h.items i n j
 
+  abbrev item_to : (i amount : ℕ) → Option Unit → CampaignValue
+  item_to i amount o =
+      let taken = option_map_or (λ v. taken_of amount (amount_of v.holding.items i)) o 0 in
+      with_lost (option_map_or (λ v. with_item c k i (amount_of v.holding.items i + taken)) o c) (Item i) (amount - taken)
+
   pub pass_item : (i amount : ℕ) → i < length w.items → Passed (Item i) amount (passed_item k c (i, amount))
   unfolding passed_item
   pass_item i amount known = by_unit (get c.units k) refl
@@ -262,8 +280,8 @@ module _ (w : WorldValue) (c : CampaignValue) (n k : ℕ) (apart : n ≢ k) (ste
       inside : thing_place (Item i) < things_of w
       inside = omega (arith, known)
 
-      by_unit : (o : Option Unit) → get c.units k ≡ o → Passed (Item i) amount (item_to c k i amount o)
-      by_unit None is = all_lost w c n (Item i) inside steady amount
+      by_unit : (o : Option Unit) → get c.units k ≡ o → Passed (Item i) amount (item_to i amount o)
+      by_unit None is = all_left (Item i) amount (all_lost w c n (Item i) inside steady amount)
       by_unit (Some v) is =
           let have = amount_of v.holding.items i in
           let taken = taken_of amount have in
@@ -271,7 +289,10 @@ module _ (w : WorldValue) (c : CampaignValue) (n k : ℕ) (apart : n ≢ k) (ste
           let most = fits amount have (amount_within v.holding i (steady.numbers.units k v is).1) in
           let place = steady.known.units k v is in
           let holding = (steady.numbers.units k v is).1 in
-          subst (λ a. Passed (Item i) a (with_lost (with_held c k (record v.holding { items = items }) (Some v)) (Item i) (amount - taken)))
+          subst (Passed (Item i) amount)
+          (ap (λ m. with_lost (record c { units = m }) (Item i) (amount - taken))
+          (sym (changed-known (λ u. record u { holding = record u.holding { items = with_amount_of u.holding.items i (have + taken) } }) c.units k v is)))
+          (subst (λ a. Passed (Item i) a (with_lost (with_held c k (record v.holding { items = items }) (Some v)) (Item i) (amount - taken)))
           (whole amount have)
           (part_lost w c n (Item i) inside steady k v (record v.holding { items = items }) is apart
           (record {
@@ -287,7 +308,7 @@ module _ (w : WorldValue) (c : CampaignValue) (n k : ℕ) (apart : n ≢ k) (ste
             guard = λ g. g;
           })
           (kept-with v v.holding.money items (omega arith) (λ j. omega (arith, more_amount v.holding.items i taken j)))
-          taken (amount - taken) (more_item v.holding i taken))
+          taken (amount - taken) (more_item v.holding i taken)))
 
 -- ---- all that a unit has
 

@@ -40,7 +40,7 @@ use Rattle.atl_instant.specs.Meaning.{HasRoom, HaveRoom, LeavesWell, Moving, mov
 use Rattle.atl_instant.proofs.BookingLaws.{booked-near, within-pos}
 use Rattle.atl_instant.proofs.MarkLaws.{marks_by}
 use Rattle.atl_instant.proofs.MeaningLaws.{both_leave_well, room_behind, room_less, same_month_by, well_unchanged, well_within}
-use Rattle.atl_month.specs.Restock.{market_restocked, markets_of, restock, restocked, stocks_by, with_more_stock}
+use Rattle.atl_month.specs.Restock.{market_restocked, markets_of, restock, restocked, stocks_by}
 
 -- ---- how far new goods move the books
 
@@ -211,7 +211,7 @@ module _ (w : WorldValue) (c : CampaignValue) (n i : ℕ) (m : Market) (r : Regi
   pub market_leaves_well : LeavesWell IsSteady (moves_only most_amount Stocked (Item i)) w c (market_restocked n c (i, m))
   unfolding market_restocked
   market_leaves_well =
-      subst (λ s. LeavesWell IsSteady (moves_only most_amount Stocked (Item i)) w c (with_more_stock c n i s (restock m s))) (sym stock_is)
+      subst (λ s. LeavesWell IsSteady (moves_only most_amount Stocked (Item i)) w c (with_amount (with_stock c n i (s + restock m s)) Stocked (Item i) (pos (restock m s)))) (sym stock_is)
       (record {
         leaves_it = steady-amount w filled Stocked (Item i) (pos more) filled_steady;
         same_month = same_month_by refl;

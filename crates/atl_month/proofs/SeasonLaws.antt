@@ -3,6 +3,7 @@ use Rattle.std.proofs.Common.{◌≡◌, ◌==◌, ◌&&◌, ℕ, ◌+◌, ◌-�
 use Rattle.std.specs.Prelude.{ℤ, pos, ◌+ℤ◌, fold, zip, option_and_then, if◌then◌else◌}
 use Rattle.std.specs.List.{slice_get}
 use Rattle.std.specs.FinMap.{entries, get, len-entries}
+use Rattle.std.specs.Option.{option_map_or}
 use Rattle.std.proofs.lemmas.List.{length-map}
 use Rattle.std.proofs.lemmas.Int.{ints}
 use Rattle.std.proofs.lemmas.Bool.Decides.{nat_tests}
@@ -30,11 +31,12 @@ use Rattle.atl_state.proofs.CoverLaws.{marks-amount, marks-region, marks-trans}
 use Rattle.atl_state.proofs.RegionLaws.{IsRegion-money, IsRegion-peasants, region-changed, steady-amount, steady-region, total-amount, total-region}
 use Rattle.atl_records.proofs.EveryLaws.{none_some}
 use Rattle.atl_instant.specs.Meaning.{HaveRoom, IsNear, LeavesWell, both_move, most_moved, moved_times, moves_only}
+use Rattle.atl_instant.specs.There.{at_region}
 use Rattle.atl_instant.proofs.MarkLaws.{marks_by}
 use Rattle.atl_instant.proofs.MeaningLaws.{both_leave_well, fold_leaves_well, near_more, near_twice, room_behind_one, room_for_one, room_less, same_month_by, well_unchanged, well_within}
 use Rattle.atl_instant.proofs.BookingLaws.{booked-near, within-pos}
 use Rattle.atl_month.specs.Restock.{is_item, markets_of, restocked, stocks_by}
-use Rattle.atl_month.specs.Season.{births, grows_by, income, season, season_at, season_in, season_moves, with_growth}
+use Rattle.atl_month.specs.Season.{births, grows_by, income, season, season_at, season_moves, season_of, with_growth}
 use Rattle.atl_month.proofs.RestockLaws.{restocked_keeps, restocked_leaves_well}
 
 -- ---- how much there is
@@ -182,7 +184,7 @@ season_at_leaves_well w world c (n, word) steady = by_terrain (terrain_of w n) r
     same : LeavesWell IsSteady (season_moves most_amount) w c c
     same = well_unchanged (season_moves most_amount) w c steady
 
-    by_region : (t : Terrain) → terrain_of w n ≡ Some t → (o : Option Region) → get c.regions n ≡ o → LeavesWell IsSteady (season_moves most_amount) w c (season_in w c n word (Some t) o)
+    by_region : (t : Terrain) → terrain_of w n ≡ Some t → (o : Option Region) → get c.regions n ≡ o → LeavesWell IsSteady (season_moves most_amount) w c (option_map_or (season_of w c n word t) o c)
     by_region t here None is = same
     by_region t here (Some r) is =
         let born = births w.rules.growth t.peasant_limit word r.peasants in
@@ -192,7 +194,7 @@ season_at_leaves_well w world c (n, word) steady = by_terrain (terrain_of w n) r
         both_leave_well (grows_by most_amount) (stocks_by most_amount) w c grown (restocked n grown (entries (markets_of w n))) growth
         (restocked_leaves_well w world n grown growth.leaves_it)
 
-    by_terrain : (o : Option Terrain) → terrain_of w n ≡ o → LeavesWell IsSteady (season_moves most_amount) w c (season_in w c n word o (get c.regions n))
+    by_terrain : (o : Option Terrain) → terrain_of w n ≡ o → LeavesWell IsSteady (season_moves most_amount) w c (option_map_or (λ t. at_region c n (season_of w c n word t)) o c)
     by_terrain None is = same
     by_terrain (Some t) is = by_region t is (get c.regions n) refl
 
@@ -229,16 +231,20 @@ season_leaves_well w world c words steady =
     (fold_leaves_well (season_moves most_amount) w (season_at w) (season_at_leaves_well w world) c pairs steady)
 
 -- the season changes no unit
-season_in_keeps : (w : WorldValue) (c : CampaignValue) (n word : ℕ) (o : Option Terrain) (p : Option Region) → (season_in w c n word o p).units ≡ c.units
-season_in_keeps w c n word (Some t) (Some r) =
-    let born = births w.rules.growth t.peasant_limit word r.peasants in
-    restocked_keeps n (with_growth c n r.peasants r.money born (income w.rules.income t.money_limit (r.peasants + born) r.money)) (entries (markets_of w n))
-season_in_keeps w c n word (Some t) None = refl
-season_in_keeps w c n word None p = refl
-
-pub season_at_keeps : (w : WorldValue) (c : CampaignValue) (x : ℕ × ℕ) → (season_at w c x).units ≡ c.units
+season_at_keeps : (w : WorldValue) (c : CampaignValue) (x : ℕ × ℕ) → (season_at w c x).units ≡ c.units
 unfolding season_at
-season_at_keeps w c (n, word) = season_in_keeps w c n word (terrain_of w n) (get c.regions n)
+season_at_keeps w c (n, word) = by_terrain (terrain_of w n)
+  where
+    by_region : (t : Terrain) (o : Option Region) → (option_map_or (season_of w c n word t) o c).units ≡ c.units
+    by_region t None = refl
+    by_region t (Some r) =
+        let born = births w.rules.growth t.peasant_limit word r.peasants in
+        let earned = income w.rules.income t.money_limit (r.peasants + born) r.money in
+        restocked_keeps n (with_growth c n r.peasants r.money born earned) (entries (markets_of w n))
+
+    by_terrain : (o : Option Terrain) → (option_map_or (λ t. at_region c n (season_of w c n word t)) o c).units ≡ c.units
+    by_terrain None = refl
+    by_terrain (Some t) = by_region t (get c.regions n)
 
 each_keeps : (w : WorldValue) (c : CampaignValue) (xs : List (ℕ × ℕ)) → (fold (season_at w) c xs).units ≡ c.units
 each_keeps w c [] = refl

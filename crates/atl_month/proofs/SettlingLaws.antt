@@ -1,5 +1,6 @@
 -- The accounts of upkeep, unit by unit.
-use Rattle.std.proofs.Common.{◌≡◌, ◌≢◌, ◌==◌, ◌&&◌, ◌++◌, ℕ, ◌+◌, ◌-◌, ◌*◌, ◌≤◌, ◌<◌, min, Bool, true, false, cond, List, [], ◌∷◌, filter, sum_by, Option, unwrap_or, refl, sym, ap, ◌∙◌, mul_comm, add-zero, arith}
+use Rattle.std.proofs.Common.{◌≡◌, ◌≢◌, ◌==◌, ◌&&◌, ◌++◌, ℕ, zero, suc, ◌+◌, ◌-◌, ◌*◌, ◌≤◌, ◌<◌, min, Bool, true, false, cond, List, [], ◌∷◌, length, get_or, take, filter, sum_by, Option, unwrap_or, refl, sym, ap, ◌∙◌, mul_comm, add-zero, arith}
+use Rattle.std.specs.Prelude.{All, nat_lt}
 use Rattle.std.specs.Ordering.{nat_cmp}
 use Rattle.std.specs.FinMap.{FinMap, empty, get, insert, get-empty}
 use Rattle.std.proofs.Math.Nat.{div-lt_iff_lt-mul}
@@ -15,9 +16,9 @@ use Rattle.atl_state.proofs.RegionLaws.{get-insert_same}
 use Rattle.atl_month.specs.declared.accounts.Account.{Account}
 use Rattle.atl_month.specs.declared.settling.Purse.{Purse}
 use Rattle.atl_month.specs.declared.settling.Settled.{Settled}
-use Rattle.atl_month.specs.Accounts.{AccountMap, IsOpen, account_at, account_behind, account_of, counted, no_account, settled_by, with_account}
+use Rattle.atl_month.specs.Accounts.{AccountMap, IsOpen, account_at, account_behind, account_of, counted, left_among, no_account, settled_by, short_among, with_account}
 use Rattle.atl_instant.specs.Dealing.{dealt}
-use Rattle.atl_month.specs.Settling.{EachCanSpare, given_among, is_purse_of, left_among, left_of, paid_by, settled_one, short_among, short_of, starved_of}
+use Rattle.atl_month.specs.Settling.{AreInOrder, EachCanSpare, given_among, is_purse_of, left_of, paid_by, peers_of, settled_among, short_of, starved_of}
 
 -- ---- an account that is put
 
@@ -146,6 +147,54 @@ few_more m n accounts p a left short each is =
     (rw is (record { left = omega (arith, old.left, left); short = omega (arith, old.short, short) }))
     (λ s g apart. let o = each s g in record { left = omega (arith, o.left); short = omega (arith, o.short) })
 
+-- ---- the units of lower numbers
+
+module _ {A : Type 0} where
+  -- an element before a list, if a test says so
+  abbrev if_so : Bool → A → List A → List A
+  if_so b x xs = cond b (x ∷ xs) xs
+
+  -- two filters in either order
+  filters_swap : (t q : A → Bool) (xs : List A) → filter q (filter t xs) ≡ filter t (filter q xs)
+  filters_swap t q [] = refl
+  filters_swap t q (x ∷ xs) = either (filters_swap t q xs) (t x) (q x) refl refl
+    where
+      either : filter q (filter t xs) ≡ filter t (filter q xs) → (b d : Bool) → t x ≡ b → q x ≡ d
+          → filter q (if_so b x (filter t xs)) ≡ filter t (if_so d x (filter q xs))
+      either same true true is as_well =
+          ap (λ d. if_so d x (filter q (filter t xs))) as_well ∙ ap (λ l. x ∷ l) same
+          ∙ sym (ap (λ b. if_so b x (filter t (filter q xs))) is)
+      either same true false is not_so = ap (λ d. if_so d x (filter q (filter t xs))) not_so ∙ same
+      either same false true is as_well = same ∙ sym (ap (λ b. if_so b x (filter t (filter q xs))) is)
+      either same false false is not_so = same
+
+  none_pass : (t : A → Bool) (xs : List A) → All (λ x. t x ≡ false) xs → filter t xs ≡ []
+  none_pass t [] h = refl
+  none_pass t (x ∷ xs) h =
+      ap (λ b. if_so b x (filter t xs)) (h 0 x (omega arith))
+      ∙ none_pass t xs (λ k d l. h (suc k) d (omega (arith, l)))
+
+abbrev is_lower : ℕ → Purse → Bool
+is_lower n p = nat_lt p.unit n
+
+lower : (a b : ℕ) → a < b → nat_lt a b ≡ true
+lower a b l = grind (arith, nat_tests, l)
+
+no_lower : (a b : ℕ) → b < a + 1 → nat_lt a b ≡ false
+no_lower a b l = grind (arith, nat_tests, l)
+
+-- in a list in the order of their numbers they are those that come first
+pub lower_first : (all : List Purse) (i : ℕ) (d : Purse) → AreInOrder all → i < length all
+    → filter (is_lower (get_or all i d).unit) all ≡ take i all
+lower_first [] i d order l = absurd (omega (arith, l))
+lower_first (p ∷ ps) zero d order l =
+    ap (λ b. if_so b p (filter (is_lower p.unit) ps)) (no_lower p.unit p.unit (omega arith))
+    ∙ none_pass (is_lower p.unit) ps (λ k e h. no_lower _ p.unit (omega (arith, order 0 (suc k) e (omega arith) (omega (arith, h)))))
+lower_first (p ∷ ps) (suc i) d order l =
+    let n = (get_or ps i d).unit in
+    ap (λ b. if_so b p (filter (is_lower n) ps)) (lower p.unit n (order 0 (suc i) d (omega arith) l))
+    ∙ ap (λ l. p ∷ l) (lower_first ps i d (λ j k e h m. order (suc j) (suc k) e (omega (arith, h)) (omega (arith, m))) (omega (arith, l)))
+
 -- ---- the units are settled
 
 next_dealt : (before want amount : ℕ) → min before amount + min (amount - min before amount) want ≡ min (before + want) amount
@@ -159,8 +208,11 @@ module _ (m : ℕ) (all before : List Purse) (p : Purse) (accounts : AccountMap)
   abbrev now : Account
   now = account_of m all before p.region p.faction
 
+  abbrev peers : List Purse
+  peers = peers_of p.region p.faction all
+
   abbrev amount : ℕ
-  amount = given_among m p.region p.faction all
+  amount = given_among m peers
 
   pub settled_more : (a : Account) → a ≡ account_behind m (account_at accounts p.region p.faction) p
       → (s g : ℕ) → account_at (with_account accounts p.region p.faction a) s g ≡ account_of m all (before ++ p ∷ []) s g
@@ -171,15 +223,25 @@ module _ (m : ℕ) (all before : List Purse) (p : Purse) (accounts : AccountMap)
       (next_dealt (left_among m p.region p.faction before) (left_of m p) amount ∙ sym (ap (λ n. min n amount) (left_own m before p)))
       (next_dealt (short_among m p.region p.faction before) (short_of m p) amount ∙ sym (ap (λ n. min n amount) (short_own m before p))))
       (λ s g apart. each s g ∙ account_is _ _ _ _ _ _ _ _ refl refl
-      (sym (ap (λ n. min n (given_among m s g all)) (left_other m before p s g apart)))
-      (sym (ap (λ n. min n (given_among m s g all)) (short_other m before p s g apart))))
+      (sym (ap (λ n. min n (given_among m (peers_of s g all))) (left_other m before p s g apart)))
+      (sym (ap (λ n. min n (given_among m (peers_of s g all))) (short_other m before p s g apart))))
 
-  pub settled_is : settled_by m (account_at accounts p.region p.faction) p ≡ settled_one m all before p
-  settled_is =
+  -- those of them before the unit are those of lower numbers
+  before_among : filter (is_lower p.unit) all ≡ before → filter (is_lower p.unit) peers ≡ peers_of p.region p.faction before
+  before_among first =
+      filters_swap (is_purse_of p.region p.faction) (is_lower p.unit) all ∙ ap (peers_of p.region p.faction) first
+
+  pub settled_is : filter (is_lower p.unit) all ≡ before → settled_by m (account_at accounts p.region p.faction) p ≡ settled_among m peers p
+  settled_is first =
       ap (λ b. settled_by m b p) (each p.region p.faction)
-      ∙ same_settled _ _ _ _ (ap (λ n. paid_by m p + n) (is_dealt (left_among m p.region p.faction before) (left_of m p) amount))
-      (ap (λ n. starved_of m (short_of m p - n)) (is_dealt (short_among m p.region p.faction before) (short_of m p) amount))
+      ∙ same_settled _ _ _ _ (ap (λ n. paid_by m p + n) (part_of (left_of m))) (ap (λ n. starved_of m (short_of m p - n)) (part_of (short_of m)))
     where
+      -- what the unit gets or gives of an amount of all
+      part_of : (f : Purse → ℕ) → min (amount - min (sum_by f (peers_of p.region p.faction before)) amount) (f p) ≡ dealt amount (sum_by f (filter (is_lower p.unit) peers)) (f p)
+      part_of f =
+          is_dealt (sum_by f (peers_of p.region p.faction before)) (f p) amount
+          ∙ ap (λ xs. dealt amount (sum_by f xs) (f p)) (sym (before_among first))
+
       settled : (paid starved : ℕ) → Settled
       settled paid starved = record { unit = p.unit; faction = p.faction; paid = paid; starved = starved }
 
@@ -199,10 +261,12 @@ few_starve m men short some most =
     omega arith
 
 pub can_spare : EachCanSpare
-can_spare m some all before p =
-    let short = short_of m p - dealt (given_among m p.region p.faction all) (short_among m p.region p.faction before) (short_of m p) in
+can_spare m some peers p =
+    let given = given_among m peers in
+    let before = filter (is_lower p.unit) peers in
+    let short = short_of m p - dealt given (sum_by (short_of m) before) (short_of m p) in
     record {
-      paid = within (given_among m p.region p.faction all) (left_among m p.region p.faction before) p.money (m * p.men);
+      paid = within given (sum_by (left_of m) before) p.money (m * p.men);
       starved = few_starve m p.men short some (omega arith);
     }
   where

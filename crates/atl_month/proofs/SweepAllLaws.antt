@@ -4,6 +4,7 @@ use Rattle.std.specs.Prelude.{pos, fold, if◌then◌else◌}
 use Rattle.std.proofs.lemmas.Bool.Decides.{nat_tests}
 use Rattle.std.proofs.lemmas.Bool.{cases_eq}
 use Rattle.std.proofs.lemmas.Option.{same_Some}
+use Rattle.std.specs.Option.{option_map_or}
 use Rattle.std.specs.Ordering.{nat_cmp}
 use Rattle.std.specs.FinMap.{FinMap, entries, get, len-entries}
 use Rattle.atl_tables.specs.Worlds.{WorldValue}
@@ -24,7 +25,7 @@ use Rattle.atl_state.specs.Campaign.{CampaignValue, active, numbers_of, with_gon
 use Rattle.atl_records.proofs.EveryLaws.{none_some}
 use Rattle.atl_instant.specs.Meaning.{LeavesWell, Moving, both_move, moved_times, most_moved}
 use Rattle.atl_instant.proofs.MeaningLaws.{both_leave_well, fold_leaves_well, near_same, same_month_among, well_unchanged, well_within}
-use Rattle.atl_month.specs.Sweep.{IsKept, faction_swept, is_empty, loses_by, menless, passed_on, receiver, sweep, swept_at, swept_in}
+use Rattle.atl_month.specs.Sweep.{IsKept, faction_swept, is_empty, loses_by, menless, passed_on, receiver, sweep, swept_at}
 use Rattle.atl_month.specs.Swept.{IsSwept}
 use Rattle.atl_state.proofs.NumberListLaws.{IsListed, passing_listed}
 use Rattle.atl_state.proofs.GoneLaws.{as_gone, count-gone, get-gone, get-gone_other, known-gone, none-gone, steady-gone, total-gone}
@@ -33,6 +34,10 @@ use Rattle.atl_month.proofs.SweepLaws.{others_keep, others_were, swept_leaves_we
 use Rattle.atl_records.specs.Limits.{most_units}
 
 -- ---- one unit
+
+abbrev swept_in : CampaignValue → ℕ → Option Unit → CampaignValue
+swept_in c n o =
+    option_map_or (λ u. if u.holding.men == 0 then without_unit (passed_on c (receiver c u.region u.faction) u) n else c) o c
 
 module _ (w : WorldValue) (c : CampaignValue) (n : ℕ) (steady : IsSteady w c) where
   pub swept_at_leaves_well : LeavesWell IsSteady (loses_by most_amount) w c (swept_at c n)

@@ -1,7 +1,8 @@
 -- What the code of the sweep marks, and how far it may book.
-use Rattle.std.proofs.Common.{◌≡◌, ◌≢◌, ℕ, suc, ◌≤◌, ◌<◌, List, ◌∷◌, length, Some, refl, sym, ap, arith}
+use Rattle.std.proofs.Common.{◌≡◌, ◌≢◌, ℕ, suc, ◌+◌, ◌-◌, ◌≤◌, ◌<◌, List, ◌∷◌, length, Option, Some, refl, sym, ap, arith}
 use Rattle.std.specs.Prelude.{pos, neg_ℤ}
 use Rattle.std.specs.FinMap.{entries, get}
+use Rattle.std.specs.Option.{option_map_or}
 use Rattle.atl_tables.specs.Worlds.{WorldValue}
 use Rattle.atl_tables.specs.Limits.{most_amount}
 use Rattle.atl_records.specs.Books.{IsGrid, amount_in, thing_place}
@@ -11,9 +12,10 @@ use Rattle.atl_records.specs.declared.books.Entry.TheVariants.{Lost}
 use Rattle.atl_records.specs.declared.books.Thing.{Thing}
 use Rattle.atl_records.specs.declared.books.Thing.TheVariants.{Item, Money}
 use Rattle.atl_records.specs.declared.records.Unit.{Unit}
+use Rattle.atl_records.specs.Held.{amount_of}
 use Rattle.atl_state.specs.Good.{IsSteady}
 use Rattle.atl_state.specs.Marking.{mark_amount, mark_faction, mark_unit_row}
-use Rattle.atl_state.specs.Campaign.{MarkedCampaign, CampaignValue, with_gone, with_money}
+use Rattle.atl_state.specs.Campaign.{MarkedCampaign, CampaignValue, with_gone, with_item, with_money}
 use Rattle.atl_state.proofs.CoverLaws.{marks-amount, marks-trans}
 use Rattle.atl_state.proofs.HoldingLaws.{marks-unit_row}
 use Rattle.atl_instant.specs.Meaning.{HaveRoom, IsNear, Moving, both_move, moves_only}
@@ -21,7 +23,7 @@ use Rattle.atl_instant.proofs.MarkLaws.{marks_by}
 use Rattle.atl_instant.proofs.MeaningLaws.{near_room, room_less}
 use Rattle.atl_instant.proofs.QuitLaws.{part_of}
 use Rattle.atl_instant.specs.LostItems.{moving_items}
-use Rattle.atl_month.specs.Sweep.{item_to, loses_by, passed_item, passed_money, with_lost}
+use Rattle.atl_month.specs.Sweep.{loses_by, passed_item, passed_money, taken_of, with_lost}
 use Rattle.atl_state.proofs.GoneLaws.{marks-gone_faction}
 use Rattle.atl_month.proofs.PassingLaws.{PassesOn, pass_item, pass_money}
 use Rattle.atl_month.proofs.SweepLaws.{moves_little, moving_all}
@@ -50,9 +52,15 @@ gone_marks c d n what marks = marks_by c d (record { value = with_gone c.value n
 -- ---- an item that is passed on
 
 pub passed_item_is : (c : CampaignValue) (to item amount : ℕ) (v : Unit) → get c.units to ≡ Some v
-    → item_to c to item amount (Some v) ≡ passed_item to c (item, amount)
+    → with_lost (with_item c to item (amount_of v.holding.items item + taken_of amount (amount_of v.holding.items item))) (Item item) (amount - taken_of amount (amount_of v.holding.items item))
+    ≡ passed_item to c (item, amount)
 unfolding passed_item
-passed_item_is c to item amount v is = sym (ap (item_to c to item amount) is)
+passed_item_is c to item amount v is = sym (ap given is)
+  where
+    given : Option Unit → CampaignValue
+    given o =
+        let taken = option_map_or (λ u. taken_of amount (amount_of u.holding.items item)) o 0 in
+        with_lost (option_map_or (λ u. with_item c to item (amount_of u.holding.items item + taken)) o c) (Item item) (amount - taken)
 
 -- ---- room
 

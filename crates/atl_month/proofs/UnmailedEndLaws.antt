@@ -21,7 +21,8 @@ use Rattle.atl_instant.proofs.UnmailedLaws.{ClosesUnmailed, LeavesUnmailed, men_
 use Rattle.atl_month.specs.declared.settling.Settled.{Settled}
 use Rattle.atl_month.specs.Season.{season_keeps, season_meaning}
 use Rattle.atl_month.specs.Sweep.{sweep_keeps, sweep_meaning}
-use Rattle.atl_month.specs.Upkeep.{days_with, settlements, starved_event, starves, supplied, upkeep_at, upkeep_in, upkeep_keeps, upkeep_meaning}
+use Rattle.atl_month.specs.Upkeep.{settlements, starved_event, starves, supplied, upkeep_at, upkeep_keeps, upkeep_meaning}
+use Rattle.atl_month.proofs.UpkeepLaws.{days_left, upkeep_in}
 
 -- ---- upkeep
 
@@ -47,7 +48,7 @@ abbrev men_left : Settled → Unit → ℕ
 men_left s u = u.holding.men - s.starved
 
 abbrev held_by : Settled → Unit → Bool → Held
-held_by s u b = record (if b then u.holding else record u.holding { men = men_left s u; days = days_with (men_left s u) u.holding.men u.holding.days }) { money = u.holding.money - s.paid }
+held_by s u b = record (if b then u.holding else record u.holding { men = men_left s u; days = days_left (men_left s u) u.holding }) { money = u.holding.money - s.paid }
 
 fewer_by : (s : Settled) (u : Unit) → IsLessBy s.starved u (supplied_unit s u)
 fewer_by s u = by_test (men_left s u == u.holding.men) refl

@@ -1,11 +1,14 @@
 -- Upkeep leaves a campaign well.
-use Rattle.std.proofs.Common.{◌≡◌, ◌≢◌, ◌==◌, ℕ, suc, ◌+◌, ◌-◌, ◌*◌, ◌/◌, ◌≤◌, ◌<◌, Bool, true, false, cond, Option, Some, None, List, [], ◌∷◌, ◌++◌, length, map, refl, sym, ap, subst, ◌∙◌, arith}
-use Rattle.std.specs.Prelude.{IsTrue, nat_lt, ◌&&◌, ℤ, pos, neg_ℤ, ◌+ℤ◌, fold, if◌then◌else◌}
-use Rattle.std.specs.List.{AllByRecursion}
-use Rattle.std.specs.Ordering.{nat_cmp}
-use Rattle.std.specs.FinMap.{FinMap, empty, entries, get, len-entries}
+use Rattle.std.proofs.Common.{◌≡◌, ◌≢◌, ◌==◌, ℕ, ◌+◌, ◌-◌, ◌*◌, ◌/◌, ◌≤◌, ◌<◌, Bool, true, false, cond, Option, Some, None, List, [], ◌∷◌, length, map, refl, sym, ap, subst, ◌∙◌, arith}
+use Rattle.std.specs.Prelude.{IsTrue, nat_lt, ◌&&◌, ℤ, pos, neg_ℤ, ◌+ℤ◌, fold, is_some, unwrap_or, if◌then◌else◌}
+use Rattle.std.specs.List.{AllByRecursion, list_any}
+use Rattle.std.specs.Option.{option_map_or}
+use Rattle.std.specs.Ordering.{eq_by_cmp, nat_cmp}
+use Rattle.std.specs.FinMap.{FinMap, contains_key-keys, empty, entries, get, get-empty, keys, len-entries}
 use Rattle.std.proofs.Math.Nat.{div-le_of_le-mul, mul-le-mul_right, zero-div, zero-mul}
 use Rattle.std.proofs.lemmas.List.{length-map}
+use Rattle.std.proofs.lemmas.List.Elements.{All-from_recursion, All-map}
+use Rattle.std.proofs.lemmas.List.Kept.{AllPairs-cons}
 use Rattle.std.proofs.lemmas.Int.{ints}
 use Rattle.std.proofs.lemmas.Bool.Decides.{nat_tests}
 use Rattle.atl_tables.specs.Worlds.{WorldValue}
@@ -37,8 +40,11 @@ use Rattle.atl_records.proofs.EveryLaws.{each-from_every, every-empty, get-inser
 use Rattle.atl_state.proofs.HoldingLaws.{MayHold, steady-held, total-held}
 use Rattle.atl_state.proofs.RegionLaws.{steady-amount, total-amount}
 use Rattle.atl_instant.specs.Meaning.{HaveRoom, IsNear, LeavesWell, Moving, moved_times, moves_only, most_moved}
+use Rattle.atl_instant.specs.Amounts.{amounts_for}
 use Rattle.atl_instant.specs.Holdings.{with_days}
-use Rattle.atl_instant.proofs.DaysLaws.{set_again}
+use Rattle.atl_instant.specs.Transfer.{going_of}
+use Rattle.atl_instant.proofs.AmountsForLaws.{as_said, each_said, same_amounts}
+use Rattle.atl_instant.proofs.DaysLaws.{none_go, set_again, set_each}
 use Rattle.atl_instant.proofs.MarkLaws.{marks_by}
 use Rattle.atl_instant.proofs.MeaningLaws.{MovesLess, near_twice, room_less, same_month_by, well_within}
 use Rattle.atl_records.proofs.HeldLaws.{every_amount}
@@ -47,9 +53,9 @@ use Rattle.atl_market.specs.PotPhase.{CanInTurn}
 use Rattle.atl_market.proofs.TurnLaws.{first_room, later_room, turns_leave_well}
 use Rattle.atl_month.specs.declared.settling.Purse.{Purse}
 use Rattle.atl_month.specs.declared.settling.Settled.{Settled}
-use Rattle.atl_month.specs.Settling.{CanSpare, settled_behind, settled_one}
+use Rattle.atl_month.specs.Settling.{AreInOrder, CanSpare, peers_of, settled_among}
 use Rattle.atl_month.specs.Sparing.{CanSettle, staying_list}
-use Rattle.atl_month.specs.Upkeep.{days_with, purse_of, purses_of, settlements, supplied, takes_up_to, upkeep, upkeep_at, upkeep_in, with_men_left}
+use Rattle.atl_month.specs.Upkeep.{purse_of, purses_of, settlements, supplied, takes_up_to, upkeep, upkeep_at, with_men_left}
 use Rattle.atl_month.proofs.SettlingLaws.{can_spare}
 
 -- ---- what a unit may hold behind it
@@ -71,30 +77,49 @@ module _ (w : WorldValue) (left men : ℕ) (fewer : left ≤ men) where
           times : (a b l : ℕ) → a ≤ b → a * l ≤ b * l
           times a b l h = mul-le-mul_right l h
 
-  days_kept : (es : List (ℕ × ℕ)) (kept : FinMap nat_cmp ℕ) → Every (IsStudied w left) kept → EachOf (IsStudied w men) es
-      → Every (IsStudied w left) (fold (λ (m : FinMap nat_cmp ℕ) (e : ℕ × ℕ). with_amount_of m e.0 (e.1 * left / men)) kept es)
-  days_kept [] kept old each = old
-  days_kept ((skill, days) ∷ es) kept old ((known, some, most), each) =
-      let stay = days * left / men in
-      days_kept es (with_amount_of kept skill stay) (every_amount (IsStudied w left) kept skill stay (λ enough. (known, enough, part days most)) old) each
+-- the days of each skill that go with those who are left
+abbrev pub days_left : ℕ → Held → FinMap nat_cmp ℕ
+days_left left h = amounts_for (going_of left h) (keys h.days)
 
 -- with fewer men it has their part of the days, and all else as it was
 module _ (w : WorldValue) (h : Held) (left : ℕ) (fewer : left ≤ h.men) (days : Every (IsStudied w h.men) h.days) where
+  studied_left : Every (IsStudied w left) (days_left left h)
+  studied_left k d is =
+      let (some, said) = each_said (going_of left h) (keys h.days) k d is in
+      by_option (get h.days k) refl some said
+    where
+      nothing : 0 * left / h.men ≡ 0
+      nothing = ap (λ n. n / h.men) (zero-mul left) ∙ zero-div h.men
+
+      by_option : (o : Option ℕ) → get h.days k ≡ o → 1 ≤ d → d ≡ unwrap_or o 0 * left / h.men → IsStudied w left k d
+      by_option None there some said = let none : d ≡ 0 = said ∙ nothing in absurd (omega (arith, some, none))
+      by_option (Some had) there some said =
+          let (known, _, most) = days k had there in
+          (known, some, subst (λ n. n ≤ most_days * left) (sym said) (part w left h.men fewer had most))
+
   abbrev IsWithMen : Held → Type 0
   IsWithMen k = (k.men ≡ left) × Every (IsStudied w left) k.days × (k.name ≡ h.name) × (k.guard ≡ h.guard) × (k.items ≡ h.items)
 
   less_men : IsWithMen (with_men_left left h)
   less_men = by_men (left == h.men) refl
     where
-      by_men : (b : Bool) → (left == h.men) ≡ b → IsWithMen (if b then h else record h { men = left; days = days_with left h.men h.days })
+      by_men : (b : Bool) → (left == h.men) ≡ b → IsWithMen (if b then h else record h { men = left; days = days_left left h })
       by_men true is =
           let same : h.men ≡ left = grind (arith, nat_tests) in
           (same, subst (λ n. Every (IsStudied w n) h.days) same days, refl, refl, refl)
-      by_men false is =
-          let kept = days_kept w left h.men fewer (entries h.days) empty (every-empty (IsStudied w left)) (each-from_every (IsStudied w h.men) h.days days) in
-          (refl, kept, refl, refl, refl)
+      by_men false is = (refl, studied_left, refl, refl, refl)
 
 -- ---- the upkeep of a unit that is there
+
+abbrev upkeep_of : CampaignValue → Settled → Unit → CampaignValue
+upkeep_of c s u =
+    let held = with_held c s.unit (supplied s u.holding) (Some u) in
+    let paid = with_amount held Upkeep Money (neg_ℤ (pos s.paid)) in
+    with_amount paid Starved People (neg_ℤ (pos s.starved))
+
+-- where it is there
+abbrev pub upkeep_in : CampaignValue → Settled → Option Unit → CampaignValue
+upkeep_in c s o = option_map_or (upkeep_of c s) o c
 
 module _ (w : WorldValue) (c : CampaignValue) (s : Settled) (u : Unit) (is : get c.units s.unit ≡ Some u) (spare : CanSpare s u.holding.men u.holding.money)
     (steady : IsSteady w c) where
@@ -249,44 +274,58 @@ pub each_still : (c : CampaignValue) (s : Settled) (es : List (ℕ × Unit)) →
 each_still c s [] above there = tt
 each_still c s (e ∷ es) above there = (other_unit c s e.0 (λ same. omega (arith, above.0, same)) ∙ there.0, each_still c s es above.1 there.1)
 
+-- what upkeep takes from one of all units
+abbrev pub settled_one : ℕ → (all : List Purse) → Purse → Settled
+settled_one m all p = settled_among m (peers_of p.region p.faction all) p
+
+-- and from some of them
+abbrev pub settled_each : ℕ → (all : List Purse) → List (ℕ × Unit) → List Settled
+settled_each m all es = map (settled_one m all) (map purse_of es)
+
 module _ (w : WorldValue) (some : 1 ≤ w.rules.maintenance) (all : List Purse) where
   abbrev step_moves : Moving
   step_moves = takes_up_to most_amount
 
-  abbrev behind : List Purse → List (ℕ × Unit) → List Settled
-  behind before es = settled_behind w.rules.maintenance all before (map purse_of es)
+  abbrev each_of : List (ℕ × Unit) → List Settled
+  each_of es = settled_each w.rules.maintenance all es
 
-  settled_in_turn : (before : List Purse) (es : List (ℕ × Unit)) (c : CampaignValue) → Rise es → EachOf (λ n u. get c.units n ≡ Some u) es
-      → IsSteady w c → HaveRoom (moved_times (length (behind before es)) step_moves) c → CanInTurn (CanSettle w) upkeep_at c (behind before es)
-  settled_in_turn before [] c rise there steady room = tt
-  settled_in_turn before ((n, u) ∷ es) c rise there steady room =
-      let s = settled_one w.rules.maintenance all before (purse_of (n, u)) in
-      let rest = behind (before ++ purse_of (n, u) ∷ []) es in
+  settled_in_turn : (es : List (ℕ × Unit)) (c : CampaignValue) → Rise es → EachOf (λ n u. get c.units n ≡ Some u) es
+      → IsSteady w c → HaveRoom (moved_times (length (each_of es)) step_moves) c → CanInTurn (CanSettle w) upkeep_at c (each_of es)
+  settled_in_turn [] c rise there steady room = tt
+  settled_in_turn ((n, u) ∷ es) c rise there steady room =
+      let p = purse_of (n, u) in
+      let s = settled_one w.rules.maintenance all p in
+      let rest = each_of es in
       let can : CanSettle w c s = record {
         unit = u;
         there = there.0;
-        spare = can_spare w.rules.maintenance some all before (purse_of (n, u));
+        spare = can_spare w.rules.maintenance some (peers_of p.region p.faction all) p;
         steady = steady;
         room = first_room step_moves c s rest room;
       } in
       let well = upkeep_at_leaves_well w c s can in (
         can,
-        settled_in_turn (before ++ purse_of (n, u) ∷ []) es (upkeep_at c s) rise.1 (each_still c s es rise.0 there.1) well.leaves_it
+        settled_in_turn es (upkeep_at c s) rise.1 (each_still c s es rise.0 there.1) well.leaves_it
             (later_room step_moves w c (upkeep_at c s) s rest well room),
       )
 
-length-settled : (m : ℕ) (all before rest : List Purse) → length (settled_behind m all before rest) ≡ length rest
-length-settled m all before [] = refl
-length-settled m all before (p ∷ rest) = ap suc (length-settled m all (before ++ p ∷ []) rest)
+-- what the units have comes in the order of their numbers
+module _ (c : CampaignValue) where
+  in_order : (es : List (ℕ × Unit)) → Rise es → AreInOrder (map purse_of es)
+  in_order [] rise = λ i j d h l. absurd (omega (arith, l))
+  in_order (e ∷ es) rise =
+      AllPairs-cons (λ (p q : Purse). p.unit < q.unit) (purse_of e) (map purse_of es)
+      (All-map (λ (q : Purse). e.0 < q.unit) purse_of es (All-from_recursion (λ (f : ℕ × Unit). e.0 < f.0) es rise.0)) (in_order es rise.1)
+
+  pub purses_in_order : AreInOrder (purses_of c)
+  purses_in_order = in_order (entries c.units) (entries_rise c.units)
 
 module _ (w : WorldValue) (c : CampaignValue) (some : 1 ≤ w.rules.maintenance) (steady : IsSteady w c) (room : HaveRoom (takes_up_to most_moved) c) where
   abbrev list : List Settled
   list = settlements w c
 
   few : length list ≤ most_units
-  few =
-      let settled = length-settled w.rules.maintenance (purses_of c) [] (purses_of c) in
-      omega (arith, settled, length-map (entries c.units) purse_of, len-entries c.units, steady.numbers.few_units)
+  few = omega (arith, length-map (purses_of c) (settled_one w.rules.maintenance (purses_of c)), length-map (entries c.units) purse_of, len-entries c.units, steady.numbers.few_units)
 
   little : MovesLess (moved_times (length list) (takes_up_to most_amount)) (takes_up_to most_moved)
   little e t = scaled (length list) few (amount_number e t == amount_number Upkeep Money) (amount_number e t == amount_number Starved People)
@@ -301,7 +340,7 @@ module _ (w : WorldValue) (c : CampaignValue) (some : 1 ≤ w.rules.maintenance)
   -- each unit can spare what is taken from it when its turn comes
   pub all_settle : CanInTurn (CanSettle w) upkeep_at c list
   all_settle =
-      settled_in_turn w some (purses_of c) [] (entries c.units) c (entries_rise c.units)
+      settled_in_turn w some (purses_of c) (entries c.units) c (entries_rise c.units)
       (each-from_every (λ n u. get c.units n ≡ Some u) c.units (λ n u is. is)) steady
       (room_less (moved_times (length list) (takes_up_to most_amount)) (takes_up_to most_moved) c little room)
 
@@ -316,7 +355,7 @@ module _ (w : WorldValue) (c : CampaignValue) (some : 1 ≤ w.rules.maintenance)
 men_stay : (h : Held) (left : ℕ) → left ≡ h.men → with_men_left left h ≡ h
 men_stay h left is = by_men (left == h.men) refl
   where
-    by_men : (b : Bool) → (left == h.men) ≡ b → (if b then h else record h { men = left; days = days_with left h.men h.days }) ≡ h
+    by_men : (b : Bool) → (left == h.men) ≡ b → (if b then h else record h { men = left; days = days_left left h }) ≡ h
     by_men true test = refl
     by_men false test = grind (arith, nat_tests)
 
@@ -337,18 +376,50 @@ pays_nothing c s u is fed none =
 
 -- ---- where somebody starves
 
--- fewer men stay, with their part of the days, each set where it stands
+every_set : (f : ℕ → ℕ → ℕ) (es : List (ℕ × ℕ)) (had : FinMap nat_cmp ℕ) → Every (λ k d. 1 ≤ d) had
+    → Every (λ k d. 1 ≤ d) (fold (λ (m : FinMap nat_cmp ℕ) (e : ℕ × ℕ). with_amount_of m e.0 (f e.0 e.1)) had es)
+every_set f [] had old = old
+every_set f (e ∷ es) had old =
+    every_set f es (with_amount_of had e.0 (f e.0 e.1)) (every_amount (λ k d. 1 ≤ d) had e.0 (f e.0 e.1) (λ some. some) old)
+
+-- the days of those who are left, each set where it is, are those that go with them
+days_set : (left : ℕ) (h : Held) → Every (λ k d. 1 ≤ d) h.days → with_days h.days (staying_list left h.men h.days) ≡ days_left left h
+days_set left h listed =
+    set_again h.days stays none listed
+    ∙ same_amounts anew (days_left left h)
+    (every_set stays (entries h.days) empty (every-empty (λ k d. 1 ≤ d)))
+    (λ k d there. (each_said (going_of left h) (keys h.days) k d there).0)
+    (λ k. set_each h.days stays k empty (λ free. ap (λ (o : Option ℕ). unwrap_or o 0) (get-empty nat_cmp k) ∙ sym (none k))
+    ∙ sym (as_said (going_of left h) (keys h.days) k (λ other. none_go left h k (not_listed k other))))
+  where
+    stays : ℕ → ℕ → ℕ
+    stays k d = d * left / h.men
+
+    none : (k : ℕ) → stays k 0 ≡ 0
+    none k = ap (λ d. d / h.men) (zero-mul left) ∙ zero-div h.men
+
+    anew : FinMap nat_cmp ℕ
+    anew = fold (λ (m : FinMap nat_cmp ℕ) (e : ℕ × ℕ). with_amount_of m e.0 (stays e.0 e.1)) empty (entries h.days)
+
+    not_listed : (k : ℕ) → list_any (eq_by_cmp nat_cmp k) (keys h.days) ≡ false → amount_of h.days k ≡ 0
+    not_listed k other = by_option (get h.days k) (contains_key-keys h.days k ∙ other)
+      where
+        by_option : (o : Option ℕ) → is_some o ≡ false → unwrap_or o 0 ≡ 0
+        by_option None is = refl
+        by_option (Some d) is = cc
+
+-- fewer men stay, with their part of the days, each set where it is
 pub starved_supplied : (s : Settled) (h : Held) → 1 ≤ s.starved → s.starved ≤ h.men → Every (λ k d. 1 ≤ d) h.days
     → record h { men = h.men - s.starved; money = h.money - s.paid; days = with_days h.days (staying_list (h.men - s.starved) h.men h.days) } ≡ supplied s h
 starved_supplied s h some fewer listed = by_men ((h.men - s.starved) == h.men) refl
   where
     by_men : (b : Bool) → ((h.men - s.starved) == h.men) ≡ b
         → record h { men = h.men - s.starved; money = h.money - s.paid; days = with_days h.days (staying_list (h.men - s.starved) h.men h.days) }
-        ≡ record (if b then h else record h { men = h.men - s.starved; days = days_with (h.men - s.starved) h.men h.days }) { money = h.money - s.paid }
+        ≡ record (if b then h else record h { men = h.men - s.starved; days = days_left (h.men - s.starved) h }) { money = h.money - s.paid }
     by_men true is = let same : h.men - s.starved ≡ h.men = grind (arith, nat_tests) in absurd (omega (arith, same, some, fewer))
     by_men false is =
         ap (λ days. record h { men = h.men - s.starved; money = h.money - s.paid; days = days })
-        (set_again h.days (λ k d. d * (h.men - s.starved) / h.men) (λ k. ap (λ d. d / h.men) (zero-mul (h.men - s.starved)) ∙ zero-div h.men) listed)
+        (days_set (h.men - s.starved) h listed)
 
 -- ---- what is marked
 

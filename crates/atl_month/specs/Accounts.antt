@@ -2,10 +2,11 @@
 use Rattle.std.specs.Prelude.{List, min, unwrap_or, ℕ, ◌+◌, ◌-◌, ◌≤◌}
 use Rattle.std.specs.Ordering.{nat_cmp}
 use Rattle.std.specs.FinMap.{FinMap, get, insert}
+use Rattle.std.specs.List.{sum_by}
 use Rattle.atl_month.specs.declared.accounts.Account.{Account}
 use Rattle.atl_month.specs.declared.settling.Purse.{Purse}
 use Rattle.atl_month.specs.declared.settling.Settled.{Settled}
-use Rattle.atl_month.specs.Settling.{given_among, left_among, left_of, paid_by, short_among, short_of, starved_of}
+use Rattle.atl_month.specs.Settling.{given_among, left_of, paid_by, peers_of, short_of, starved_of}
 use Rattle.atl_tables.specs.Groups.{group_of}
 
 abbrev pub AccountMap : Type 0
@@ -20,6 +21,13 @@ account_at m region faction = unwrap_or (get (group_of m region) faction) no_acc
 
 abbrev pub with_account : AccountMap → (region faction : ℕ) → Account → AccountMap
 with_account m region faction a = insert m region (insert (group_of m region) faction a)
+
+-- what those of some units that are of a faction and in a region have left, and what they are short of
+abbrev pub left_among : ℕ → (region faction : ℕ) → List Purse → ℕ
+left_among maintenance region faction purses = sum_by (left_of maintenance) (peers_of region faction purses)
+
+abbrev pub short_among : ℕ → (region faction : ℕ) → List Purse → ℕ
+short_among maintenance region faction purses = sum_by (short_of maintenance) (peers_of region faction purses)
 
 -- what is to be given of an account
 abbrev pub to_give : Account → ℕ
@@ -52,9 +60,11 @@ pub record IsOpen (a : Account) : Type 0 where
 
 -- the accounts of all these units, of which so many were settled
 abbrev pub account_of : ℕ → (all before : List Purse) → (region faction : ℕ) → Account
-account_of maintenance all before region faction = record {
-  left = left_among maintenance region faction all;
-  short = short_among maintenance region faction all;
-  given = min (left_among maintenance region faction before) (given_among maintenance region faction all);
-  covered = min (short_among maintenance region faction before) (given_among maintenance region faction all);
-}
+account_of maintenance all before region faction =
+    let given = given_among maintenance (peers_of region faction all) in
+    record {
+      left = left_among maintenance region faction all;
+      short = short_among maintenance region faction all;
+      given = min (left_among maintenance region faction before) given;
+      covered = min (short_among maintenance region faction before) given;
+    }

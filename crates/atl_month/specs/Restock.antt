@@ -21,13 +21,12 @@ markets_of w region = option_map_or (λ p. p.markets) (get w.regions region) emp
 abbrev pub restock : Market → (stock : ℕ) → ℕ
 restock m stock = min m.restock (m.limit - stock)
 
--- a stock of a region with so much more, which is booked
-abbrev pub with_more_stock : CampaignValue → (region item stock more : ℕ) → CampaignValue
-with_more_stock c region item stock more = with_amount (with_stock c region item (stock + more)) Stocked (Item item) (pos more)
-
--- a market of a region, by its item, gets new goods
+-- a market of a region, by its item, gets new goods, which are booked
 unfoldable pub market_restocked : (region : ℕ) → CampaignValue → ℕ × Market → CampaignValue
-market_restocked region c (item, m) = let stock = stock_of c region item in with_more_stock c region item stock (restock m stock)
+market_restocked region c (item, m) =
+    let stock = stock_of c region item in
+    let more = restock m stock in
+    with_amount (with_stock c region item (stock + more)) Stocked (Item item) (pos more)
 
 -- each of some markets, in the order of their items
 abbrev pub restocked : (region : ℕ) → CampaignValue → List (ℕ × Market) → CampaignValue

@@ -1,6 +1,7 @@
 -- The season of a month: what each region has of births and of income, and what its markets get. See docs/RULES.md, "Season".
-use Rattle.std.specs.Prelude.{◌≡◌, ℕ, pos, ◌+◌, ◌-◌, ◌*◌, ◌/◌, ◌%◌, min, List, [], ◌∷◌, map, fold, zip, Option, Some, None}
-use Rattle.std.specs.FinMap.{entries, get}
+use Rattle.std.specs.Prelude.{◌≡◌, ℕ, pos, ◌+◌, ◌-◌, ◌*◌, ◌/◌, ◌%◌, min, List, [], ◌∷◌, map, fold, zip}
+use Rattle.std.specs.FinMap.{entries}
+use Rattle.std.specs.Option.{option_map_or}
 use Rattle.atl_tables.specs.Worlds.{WorldValue}
 use Rattle.atl_tables.specs.declared.world.Terrain.{Terrain}
 use Rattle.atl_tables.specs.ByNumber.{terrain_of}
@@ -12,6 +13,7 @@ use Rattle.atl_instant.specs.Month.{MonthValue}
 use Rattle.atl_instant.specs.Meaning.{Keeping, Moving, both_move, most_moved, moves_only}
 use Rattle.atl_month.specs.Limits.{per_hundred}
 use Rattle.atl_instant.specs.Terms.{PhaseTerms}
+use Rattle.atl_instant.specs.There.{at_region}
 use Rattle.atl_month.specs.Restock.{markets_of, restocked, stocks_by}
 
 -- So many of a hundred peasants are born as the word says, from 0 to the growth; at most up to the terrain's limit.
@@ -28,18 +30,17 @@ with_growth c n peasants money born earned =
     let grown = with_region_money (with_peasants c n (peasants + born)) n (money + earned) in
     with_amount (with_amount grown Births People (pos born)) Income Money (pos earned)
 
--- The births come first, and those who are born bring income as well. Then the region's markets get new goods.
-abbrev pub season_in : WorldValue → CampaignValue → (n word : ℕ) → Option Terrain → Option Region → CampaignValue
-season_in w c n word (Some t) (Some r) =
+-- The births of a region come first, and those who are born bring income as well. Then its markets get new goods.
+abbrev pub season_of : WorldValue → CampaignValue → (n word : ℕ) → Terrain → Region → CampaignValue
+season_of w c n word t r =
     let born = births w.rules.growth t.peasant_limit word r.peasants in
-    let grown = with_growth c n r.peasants r.money born (income w.rules.income t.money_limit (r.peasants + born) r.money) in
-    restocked n grown (entries (markets_of w n))
-season_in w c n word (Some t) None = c
-season_in w c n word None r = c
+    let earned = income w.rules.income t.money_limit (r.peasants + born) r.money in
+    restocked n (with_growth c n r.peasants r.money born earned) (entries (markets_of w n))
 
 -- the season of a region, by its number, with its word
 unfoldable pub season_at : WorldValue → CampaignValue → ℕ × ℕ → CampaignValue
-season_at w c (n, word) = season_in w c n word (terrain_of w n) (get c.regions n)
+season_at w c (n, word) =
+    option_map_or (λ t. at_region c n (season_of w c n word t)) (terrain_of w n) c
 
 -- The season of all regions, in the order of their numbers, each with its word.
 abbrev pub season : WorldValue → CampaignValue → List ℕ → CampaignValue

@@ -1,6 +1,6 @@
 -- The upkeep of units. See docs/RULES.md, "Upkeep".
-use Rattle.std.specs.Prelude.{ℕ, ◌+◌, ◌-◌, ◌*◌, ◌/◌, ◌++◌, ◌==◌, ◌&&◌, Bool, List, [], ◌∷◌, filter, min, ◌≤◌}
-use Rattle.std.specs.List.{sum_by}
+use Rattle.std.specs.Prelude.{ℕ, nat_lt, ◌+◌, ◌-◌, ◌*◌, ◌/◌, ◌==◌, ◌&&◌, Bool, List, filter, map, min, ◌≤◌, ◌<◌}
+use Rattle.std.specs.List.{AllPairs, sum_by}
 use Rattle.atl_records.specs.Limits.{holding_limit, men_limit}
 use Rattle.atl_month.specs.declared.settling.Purse.{Purse}
 use Rattle.atl_month.specs.declared.settling.Settled.{Settled}
@@ -10,6 +10,10 @@ use Rattle.atl_instant.specs.Dealing.{dealt}
 pub record IsPurse (purse : Purse) : Type 0 where
   pub men : purse.men ≤ men_limit
   pub money : purse.money ≤ holding_limit
+
+-- the units come in the order of their numbers
+abbrev pub AreInOrder : List Purse → Type 0
+AreInOrder purses = AllPairs (λ p q. p.unit < q.unit) purses
 
 -- ---- a unit by itself
 
@@ -30,15 +34,13 @@ short_of maintenance purse = maintenance * purse.men - paid_by maintenance purse
 abbrev pub is_purse_of : (region faction : ℕ) → Purse → Bool
 is_purse_of region faction purse = (purse.region == region) && (purse.faction == faction)
 
-abbrev pub left_among : ℕ → (region faction : ℕ) → List Purse → ℕ
-left_among maintenance region faction purses = sum_by (left_of maintenance) (filter (is_purse_of region faction) purses)
-
-abbrev pub short_among : ℕ → (region faction : ℕ) → List Purse → ℕ
-short_among maintenance region faction purses = sum_by (short_of maintenance) (filter (is_purse_of region faction) purses)
+abbrev pub peers_of : (region faction : ℕ) → List Purse → List Purse
+peers_of region faction purses = filter (is_purse_of region faction) purses
 
 -- what those with money left give to those who are short
-abbrev pub given_among : ℕ → (region faction : ℕ) → List Purse → ℕ
-given_among maintenance region faction purses = min (left_among maintenance region faction purses) (short_among maintenance region faction purses)
+abbrev pub given_among : ℕ → (peers : List Purse) → ℕ
+given_among maintenance peers =
+    min (sum_by (left_of maintenance) peers) (sum_by (short_of maintenance) peers)
 
 -- ---- a unit among them
 
@@ -46,27 +48,24 @@ given_among maintenance region faction purses = min (left_among maintenance regi
 abbrev pub starved_of : (maintenance short : ℕ) → ℕ
 starved_of maintenance short = (short + (maintenance - 1)) / maintenance
 
--- one of all units, behind those of lower numbers
-abbrev pub settled_one : ℕ → (all before : List Purse) → Purse → Settled
-settled_one maintenance all before purse =
-    let given = given_among maintenance purse.region purse.faction all in
-    let left = left_of maintenance purse in
-    let short = short_of maintenance purse in
+-- what upkeep takes from a unit: those of lower numbers give before it, and are covered before it
+abbrev pub settled_among : ℕ → (peers : List Purse) → Purse → Settled
+settled_among maintenance peers purse =
+    let given = given_among maintenance peers in
+    let before = filter (λ p. nat_lt p.unit purse.unit) peers in
+    let gives = dealt given (sum_by (left_of maintenance) before) (left_of maintenance purse) in
+    let gets = dealt given (sum_by (short_of maintenance) before) (short_of maintenance purse) in
     record {
       unit = purse.unit;
       faction = purse.faction;
-      paid = paid_by maintenance purse + dealt given (left_among maintenance purse.region purse.faction before) left;
-      starved = starved_of maintenance (short - dealt given (short_among maintenance purse.region purse.faction before) short);
+      paid = paid_by maintenance purse + gives;
+      starved = starved_of maintenance (short_of maintenance purse - gets);
     }
 
-abbrev pub settled_behind : ℕ → (all before rest : List Purse) → List Settled
-settled_behind maintenance all before [] = []
-settled_behind maintenance all before (purse ∷ rest) =
-    settled_one maintenance all before purse ∷ settled_behind maintenance all (before ++ purse ∷ []) rest
-
--- all units, in the order of their numbers
+-- what it takes from all units: from each by those of its faction in its region alone
 abbrev pub settled_of : ℕ → List Purse → List Settled
-settled_of maintenance purses = settled_behind maintenance purses [] purses
+settled_of maintenance purses =
+    map (λ p. settled_among maintenance (peers_of p.region p.faction purses) p) purses
 
 -- ---- what a unit can spare
 
@@ -78,5 +77,5 @@ pub record CanSpare (settled : Settled) (men money : ℕ) : Type 0 where
 -- each unit can
 abbrev pub EachCanSpare : Type 0
 EachCanSpare =
-    (maintenance : ℕ) → 1 ≤ maintenance → (all before : List Purse) (purse : Purse) →
-    CanSpare (settled_one maintenance all before purse) purse.men purse.money
+    (maintenance : ℕ) → 1 ≤ maintenance → (peers : List Purse) (purse : Purse) →
+    CanSpare (settled_among maintenance peers purse) purse.men purse.money

@@ -1,6 +1,7 @@
 -- The sweep of a month: units without men go, and factions without units. See docs/RULES.md, "Sweep".
-use Rattle.std.specs.Prelude.{◌≡◌, ◌≤◌, ◌+◌, ◌-◌, ◌==◌, ◌&&◌, not, min, ℕ, pos, neg_ℤ, nat_lt, Bool, true, false, List, [], ◌∷◌, fold, Option, Some, None, if◌then◌else◌}
+use Rattle.std.specs.Prelude.{◌≡◌, ◌≤◌, ◌+◌, ◌-◌, ◌==◌, ◌&&◌, not, min, ℕ, pos, neg_ℤ, nat_lt, Bool, true, false, List, [], ◌∷◌, fold, Some, if◌then◌else◌}
 use Rattle.std.specs.FinMap.{entries, get}
+use Rattle.std.specs.Option.{option_map_or}
 use Rattle.atl_tables.specs.Worlds.{WorldValue}
 use Rattle.atl_tables.specs.Sums.{numbers_where}
 use Rattle.atl_records.specs.Books.{entry_place, thing_place}
@@ -9,15 +10,15 @@ use Rattle.atl_records.specs.declared.books.Thing.{Thing}
 use Rattle.atl_records.specs.declared.books.Thing.TheVariants.{Item, Money, People}
 use Rattle.atl_records.specs.declared.records.Unit.{Unit}
 use Rattle.atl_records.specs.Every.{Every}
-use Rattle.atl_records.specs.Held.{amount_of, with_amount_of}
-use Rattle.atl_state.specs.Lending.{with_held}
+use Rattle.atl_records.specs.Held.{amount_of}
 use Rattle.atl_records.specs.Limits.{holding_limit}
 use Rattle.atl_state.specs.Owners.{first_or_zero, without_unit}
-use Rattle.atl_state.specs.Campaign.{CampaignValue, active, numbers_of, with_amount, with_gone, with_money}
+use Rattle.atl_state.specs.Campaign.{CampaignValue, active, numbers_of, with_amount, with_gone, with_item, with_money}
 use Rattle.atl_instant.specs.Month.{MonthValue}
 use Rattle.atl_instant.specs.Meaning.{Keeping, Moving, most_moved}
 use Rattle.atl_instant.specs.Staying.{IsNoWorse}
 use Rattle.atl_instant.specs.Terms.{PhaseTerms}
+use Rattle.atl_instant.specs.There.{at_unit}
 
 -- ---- who gets what a unit leaves
 
@@ -38,26 +39,20 @@ with_lost c t amount = with_amount c Lost t (neg_ℤ (pos amount))
 abbrev pub taken_of : (amount have : ℕ) → ℕ
 taken_of amount have = min amount (holding_limit - have)
 
-abbrev pub money_to : CampaignValue → (to amount : ℕ) → Option Unit → CampaignValue
-money_to c to amount None = with_lost c Money amount
-money_to c to amount (Some v) =
-    let taken = taken_of amount v.holding.money in
-    with_lost (with_money c to (v.holding.money + taken)) Money (amount - taken)
-
--- money that goes to a unit, where it is there; the rest is lost
+-- Money goes to a unit, up to its room, and the rest is lost: all of it if the unit isn't there.
 unfoldable pub passed_money : CampaignValue → (to amount : ℕ) → CampaignValue
-passed_money c to amount = money_to c to amount (get c.units to)
+passed_money c to amount =
+    let taken = option_map_or (λ v. taken_of amount v.holding.money) (get c.units to) 0 in
+    let given = at_unit c to (λ v. with_money c to (v.holding.money + taken)) in
+    with_lost given Money (amount - taken)
 
-abbrev pub item_to : CampaignValue → (to item amount : ℕ) → Option Unit → CampaignValue
-item_to c to item amount None = with_lost c (Item item) amount
-item_to c to item amount (Some v) =
-    let have = amount_of v.holding.items item in
-    let taken = taken_of amount have in
-    with_lost (with_held c to (record v.holding { items = with_amount_of v.holding.items item (have + taken) }) (Some v)) (Item item) (amount - taken)
-
--- so much of an item
+-- the same of an item
 unfoldable pub passed_item : ℕ → CampaignValue → ℕ × ℕ → CampaignValue
-passed_item to c (item, amount) = item_to c to item amount (get c.units to)
+passed_item to c (item, amount) =
+    let taken =
+    option_map_or (λ v. taken_of amount (amount_of v.holding.items item)) (get c.units to) 0 in
+    let given = at_unit c to (λ v. with_item c to item (amount_of v.holding.items item + taken)) in
+    with_lost given (Item item) (amount - taken)
 
 -- ---- units without men
 
@@ -65,12 +60,10 @@ abbrev pub passed_on : CampaignValue → ℕ → Unit → CampaignValue
 passed_on c to u = fold (passed_item to) (passed_money c to u.holding.money) (entries u.holding.items)
 
 -- A unit without men gives its money and each item to the lowest-numbered unit with men of its faction in its region, and is removed.
-abbrev pub swept_in : CampaignValue → ℕ → Option Unit → CampaignValue
-swept_in c n None = c
-swept_in c n (Some u) = if u.holding.men == 0 then without_unit (passed_on c (receiver c u.region u.faction) u) n else c
-
 unfoldable pub swept_at : CampaignValue → ℕ → CampaignValue
-swept_at c n = swept_in c n (get c.units n)
+swept_at c n = at_unit c n (λ u.
+    if u.holding.men == 0 then without_unit (passed_on c (receiver c u.region u.faction) u) n
+    else c)
 
 -- the units without men, in the order of their numbers
 abbrev pub menless : CampaignValue → List ℕ

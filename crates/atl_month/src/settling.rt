@@ -2,7 +2,7 @@
 ghost use Rattle.std.specs.Prelude.{◌≡◌, ◌≤◌, [], ℕ, All, IfOk};
 ghost use Rattle.atl_tables.specs.Limits.{most_per_head};
 ghost use Rattle.atl_month.specs.Accounts.{IsOpen, account_at, account_behind, account_of, settled_by};
-ghost use Rattle.atl_month.specs.Settling.{EachCanSpare, IsPurse, left_of, settled_of, short_of};
+ghost use Rattle.atl_month.specs.Settling.{AreInOrder, EachCanSpare, IsPurse, left_of, settled_of, short_of};
 
 use crate::accounts::{Account, Accounts, account_of, put_account};
 use atl_tables::Numbered;
@@ -88,6 +88,7 @@ pub fn settle(alloc: Global, maintenance: u32, purses: &[Purse]) -> Result<Vec<S
     requires some { 1 ≤ maintenance }
     requires most { maintenance ≤ most_per_head }
     requires purses { All IsPurse purses.now }
+    requires order { AreInOrder purses.now }
     ensures definition { IfOk result (λ list. list.items ≡ settled_of maintenance purses.now) }
 {
     let mut accounts = open(alloc, maintenance, purses)?;

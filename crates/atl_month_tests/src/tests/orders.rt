@@ -25,7 +25,7 @@ fn tell<P: PhaseVerbs>(
             order.unit,
             order.line,
             order.faction,
-            order.verb.keyword()
+            order.order.verb().keyword()
         )?;
         told.push_str(&line)?;
     }
@@ -213,8 +213,8 @@ fn is_verb(rt: &impl Abort, told: Option<Verb>, wanted: Option<Verb>) {
 
 /// The verb of the order at a place of a faction's mailing.
 fn verb_at(month: &Month, faction: u32, place: usize) -> Option<Verb> {
-    let (_, order) = month.order(faction, place)?;
-    Some(order.verb())
+    let entry = month.mailing(faction)?.entries.as_slice().get(place)?;
+    Some(entry.order.verb())
 }
 
 /// The orders at places, as far as there are any, and the mailings.

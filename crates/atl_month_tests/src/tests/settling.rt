@@ -1,6 +1,6 @@
 //! What upkeep takes from units of two factions and two regions, worked out by hand.
 ghost use Rattle.std.specs.Prelude.{All, IfOk};
-ghost use Rattle.atl_month.specs.Settling.{IsPurse};
+ghost use Rattle.atl_month.specs.Settling.{AreInOrder, IsPurse};
 
 use super::telling::{row_is, tell_pair};
 use atl_month::{Purse, settle};
@@ -34,13 +34,20 @@ static SETTLED: [(&[(u8, u8, u16, u16)], &str); 11] = [
     ),
 ];
 
+/// These units, with the numbers from 1 on.
 fn purses_of(alloc: Global, units: &[(u8, u8, u16, u16)]) -> Result<Vec<Purse>, AllocError>
-    ensures { IfOk result (λ purses. All IsPurse purses.items) }
+    ensures each { IfOk result (λ purses. All IsPurse purses.items) }
+    ensures order { IfOk result (λ purses. AreInOrder purses.items) }
 {
     let mut purses = Vec::new(alloc);
+    let mut last: u32 = 0;
     for (region, faction, men, money) in units {
+        let Some(unit) = last.checked_add(1) else {
+            return Ok(purses);
+        };
+        last = unit;
         purses.push(Purse {
-            unit: 1,
+            unit,
             region: u32::from(*region),
             faction: u32::from(*faction),
             men: u32::from(*men),

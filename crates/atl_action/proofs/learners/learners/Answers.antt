@@ -1,17 +1,15 @@
-use Rattle.std.proofs.Common.{◌≡◌, [], ap, sym, ◌∙◌, drop, arith}
-use Rattle.std.proofs.lemmas.List.{drop_all}
+use Rattle.std.proofs.Common.{ap, ◌∙◌, map, arith}
 use Rattle.std.specs.Prelude.{fold}
 use Rattle.std.specs.FinMap.{empty}
-use Rattle.atl_action.specs.Learners.{with_learner}
-use Rattle.atl_action.proofs.LearnerLaws.{learners_found}
+use Rattle.atl_instant.specs.PhaseOrders.{task_of}
+use Rattle.atl_instant.proofs.FoldLaws.{fold_ended, fold_mapped}
+use Rattle.atl_action.specs.Learners.{learners, with_learner}
 use Rattle.atl_action.proofs.learners.learners.Goals as goal
-use Rattle.atl_instant.specs.Carrying.{found_written}
 
 pub returns : goal.returns
+unfolding learners
 returns c =
-    let w = c.args.world.now in
-    let f = found_written (with_learner w c.args.campaign.now.value) c.args.month.now.readings in
+    let f = with_learner c.args.world.now c.args.campaign.now.value in
     let xs = c.deref-order-items.result.now in
-    let i = c.loop-order.order-index in
-    let past : drop i xs ≡ [] = drop_all i xs (omega (arith, c.loop-order-test.false)) in
-    sym (ap (fold f c.loop-order.learning) past) ∙ c.loop-order.invariant ∙ ap (fold f empty) (c.deref-order-items.ensures.value ∙ c.in_ok-orders.ensures) ∙ learners_found w c.args.campaign.now.value c.args.month.now
+    fold_ended (λ m o. f m (task_of o)) xs c.loop-order.order-index c.loop-order.learning (omega (arith, c.loop-order-test.false)) c.loop-order.invariant
+    ∙ fold_mapped f task_of empty xs ∙ ap (fold f empty) (ap (map task_of) c.deref-order-items.ensures.value ∙ c.in_ok-orders.ensures)

@@ -1,11 +1,12 @@
 use Rattle.std.proofs.Common.{◌≡◌, ◌≤◌, ◌+◌, ◌*◌, drop, sum_by}
+use Rattle.std.specs.Option.{option_map_or}
 use Rattle.std.specs.FinMap.{get}
 use Rattle.atl_state.specs.Campaign.{numbers_inside}
-use Rattle.atl_action.specs.Sail.{crew_of, of_unit, sum_inside}
+use Rattle.atl_action.specs.Sail.{crew_of, sum_inside}
 use Rattle.atl_action.proofs.sail.crew_inside.Given as goal
 
 abbrev pub invariant-loop-number : goal.invariant-loop-number
 invariant-loop-number l = record {
-  rest : l.sum + sum_by (λ n. of_unit (crew_of l.world) (get l.campaign.value.units n)) (drop l.number-index (numbers_inside l.structure l.campaign.value.units)) ≡ sum_inside (crew_of l.world) l.campaign.value l.structure;
+  rest : l.sum + sum_by (λ n. option_map_or (λ u. crew_of l.world u.holding) (get l.campaign.value.units n) 0) (drop l.number-index (numbers_inside l.structure l.campaign.value.units)) ≡ sum_inside (crew_of l.world) l.campaign.value l.structure;
   small : l.sum ≤ 18446744073709551615 * l.number-index;
 }

@@ -1,7 +1,7 @@
 use Rattle.std.proofs.Common.{◌≡◌, ◌++◌, drop, filter}
-use Rattle.atl_action.specs.Teach.{below_of, is_below}
+use Rattle.atl_action.specs.Teach.{is_below}
 use Rattle.atl_action.proofs.teach.below_of.Given as goal
 
 abbrev pub invariant-loop-unit : goal.invariant-loop-unit
 invariant-loop-unit l =
-    l.list.items ++ filter (is_below l.campaign.value l.learning l.teacher) (drop l.unit-index l.pupils) ≡ below_of l.campaign.value l.learning l.teacher l.pupils
+    l.list.items ++ filter (is_below l.campaign.value l.learning l.teacher) (drop l.unit-index l.pupils) ≡ filter (is_below l.campaign.value l.learning l.teacher) l.pupils

@@ -1,34 +1,48 @@
-use Rattle.std.proofs.Common.{ap, ◌∙◌, get_or, arith}
-use Rattle.std.specs.Prelude.{fold}
-use Rattle.std.specs.FinMap.{empty}
-use Rattle.atl_instant.specs.Month.{MonthValue}
-use Rattle.atl_instant.specs.Carrying.{found_written}
-use Rattle.atl_instant.proofs.FoldLaws.{fold_behind, fold_ended}
-use Rattle.atl_instant.proofs.FoundOrderLaws.{no_order}
-use Rattle.atl_action.specs.Teach.{Taught, teach_order}
-use Rattle.atl_action.proofs.TeachLaws.{same_aliases, same_readings, taught_found}
+use Rattle.std.proofs.Common.{◌≡◌, ℕ, [], Option, ap, ◌∙◌, map, arith}
+use Rattle.std.proofs.Math.Path.{fun_ext}
+use Rattle.std.proofs.lemmas.List.{append-nil}
+use Rattle.std.specs.Prelude.{fold, unwrap_or}
+use Rattle.std.specs.Ordering.{nat_cmp}
+use Rattle.std.specs.FinMap.{empty, get-empty}
+use Rattle.atl_records.specs.Held.{amount_of}
+use Rattle.atl_instant.specs.Month.{MonthValue, with_events}
+use Rattle.atl_instant.specs.PhaseOrders.{orders_by_unit, task_of}
+use Rattle.atl_instant.specs.declared.written.Written.{Written}
+use Rattle.atl_instant.proofs.FoldLaws.{fold_behind, fold_ended, fold_mapped}
+use Rattle.atl_action.specs.Teach.{Taught, is_teaching, taught_out, teach_order}
 use Rattle.atl_action.proofs.teach.teach_all.Goals as goal
+
+-- before the first lesson nobody is taught
+nobody_yet : amount_of empty ≡ (λ n. 0)
+nobody_yet = fun_ext (λ n. ap (λ (o : Option ℕ). unwrap_or o 0) (get-empty nat_cmp n))
+
+pub loop-order-init : goal.loop-order-init
+loop-order-init c =
+    let step = teach_order c.args.campaign.now.value c.args.learning.now in
+    let xs = c.deref-order-items.result.now in
+    let m = c.args.month.now in
+    ap (λ t. fold (λ p o. step p (task_of o)) (t, with_events m c.new-events.result.items) xs) (ap amount_of c.new-taught.ensures ∙ nobody_yet)
+    ∙ ap (λ es. fold (λ p o. step p (task_of o)) ((λ n. 0), with_events m es) xs) c.new-events.ensures.items
 
 pub loop-order-preserved : goal.loop-order-preserved
 loop-order-preserved c =
-    let readings = c.args.month.now.readings in
-    let order = teach_order c.args.campaign.now.value c.args.learning.now in
-    let f = found_written order readings in
-    let before : Taught × MonthValue = (c.loop-order.taught, c.loop-order.month) in
-    let xs = c.deref-order-items.result.now in
-    let i = c.loop-order.order-index in
-    let o = get_or xs i no_order in
-    let step = c.in_ok-teach_one.ensures ∙ ap (λ r. found_written order r before o) c.loop-order.invariant.readings in
-    record {
-      orders = fold_behind f xs i no_order before c.loop-order-test.true step c.loop-order.invariant.orders;
-      readings = ap (λ (p : Taught × MonthValue). p.1.readings) step ∙ same_readings c.args.campaign.now.value c.args.learning.now readings before o ∙ c.loop-order.invariant.readings;
-      aliases = ap (λ (p : Taught × MonthValue). p.1.aliases) step ∙ same_aliases c.args.campaign.now.value c.args.learning.now readings before o ∙ c.loop-order.invariant.aliases;
-    }
+    let step = teach_order c.args.campaign.now.value c.args.learning.now in
+    let before : Taught × MonthValue = (amount_of c.loop-order.taught, with_events c.args.month.now c.loop-order.events.items) in
+    let one = λ (p : Taught × MonthValue) (x : Written). step p (task_of x) in
+    fold_behind one c.deref-order-items.result.now c.loop-order.order-index c.order-item.result before c.loop-order-test.true (c.in_ok-teach_one.ensures ∙ ap (one before) c.order-item.is) c.loop-order.invariant
 
 pub returns-clause-meaning : goal.returns-clause-meaning
+unfolding taught_out
 returns-clause-meaning c =
-    let f = found_written (teach_order c.args.campaign.now.value c.args.learning.now) c.args.month.now.readings in
-    let start : Taught × MonthValue = (empty, c.args.month.now) in
-    let behind : Taught × MonthValue = (c.loop-order.taught, c.loop-order.month) in
-    fold_ended f c.deref-order-items.result.now c.loop-order.order-index behind (omega (arith, c.loop-order-test.false)) c.loop-order.invariant.orders
-    ∙ ap (fold f start) (c.deref-order-items.ensures.value ∙ c.in_ok-orders.ensures) ∙ taught_found c.args.campaign.now.value c.args.learning.now c.args.month.now
+    let step = teach_order c.args.campaign.now.value c.args.learning.now in
+    let m = c.args.month.now in
+    let xs = c.deref-order-items.result.now in
+    let start : Taught × MonthValue = ((λ n. 0), with_events m []) in
+    let behind : Taught × MonthValue = (amount_of c.loop-order.taught, with_events m c.loop-order.events.items) in
+    let none : start ≡ ((λ n. 0), m) = ap (λ es. ((λ n. 0), record m { events = es })) (append-nil m.events) in
+    ap (λ n. (amount_of c.loop-order.taught, n)) c.in_ok-tell_all.ensures
+    ∙ ap (λ es. (amount_of c.loop-order.taught, with_events m es)) c.deref.ensures.value
+    ∙ fold_ended (λ p o. step p (task_of o)) xs c.loop-order.order-index behind (omega (arith, c.loop-order-test.false)) c.loop-order.invariant
+    ∙ fold_mapped step task_of start xs
+    ∙ ap (fold step start) (ap (map task_of) c.deref-order-items.ensures.value ∙ c.in_ok-orders.ensures)
+    ∙ ap (λ p. fold step p (orders_by_unit is_teaching m)) none

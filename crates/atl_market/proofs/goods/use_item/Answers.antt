@@ -6,7 +6,7 @@ use Rattle.atl_records.specs.declared.books.Entry.TheVariants.{Used}
 use Rattle.atl_records.specs.declared.books.Thing.TheVariants.{Item}
 use Rattle.atl_instant.proofs.ChangeLaws.{item_changes}
 use Rattle.atl_instant.proofs.MarkLaws.{booked_marks}
-use Rattle.atl_market.specs.Goods.{used_by}
+use Rattle.atl_market.proofs.ThereLaws.{unit_there}
 use Rattle.atl_market.proofs.goods.use_item.Goals as goal
 
 pub book_taken-requires-clause-there : goal.book_taken-requires-clause-there
@@ -25,7 +25,7 @@ returns-clause-what c =
     c.book_taken.ensures.what
     ∙ ap (λ (d : CampaignValue). with_amount d Used (Item c.args.item) (neg_ℤ (pos c.args.amount)))
     (c.in_ok-set_item.ensures.ok ∙ ap (λ i. with_item old n i (c.held_of.result - c.args.amount)) c.from.ensures ∙ ap (λ a. with_item old n c.args.item (a - c.args.amount)) (c.held_of.ensures can.unit can.there))
-    ∙ sym (ap (used_by old n c.args.item c.args.amount) can.there)
+    ∙ sym (unit_there old n _ can.unit can.there)
 
 pub returns-clause-marks : goal.returns-clause-marks
 returns-clause-marks c =

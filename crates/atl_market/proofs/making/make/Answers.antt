@@ -1,7 +1,8 @@
 use Rattle.std.proofs.Common.{◌≡◌, Some, sym, subst, rules}
 use Rattle.std.specs.Prelude.{OnOk}
 use Rattle.std.specs.List.{slice_get}
-use Rattle.atl_market.specs.Produce.{produced_of}
+use Rattle.std.specs.Option.{option_map_or}
+use Rattle.atl_market.specs.Produce.{with_item_made}
 use Rattle.atl_market.proofs.making.make.Goals as goal
 
 pub make_of-requires : goal.make_of-requires
@@ -12,4 +13,5 @@ make_of-requires c =
 pub returns-in-Some-clause-what : goal.returns-in-Some-clause-what
 returns-in-Some-clause-what c =
     let there : slice_get c.args.world.now.items c.args.item ≡ Some c.in-Some.found.now = search rules in
-    subst (λ o. OnOk c.make_of.result (c.make_of.new.campaign.value ≡ produced_of c.args.campaign.now.value (c.args.number, c.args.made) c.args.item o)) (sym there) c.make_of.ensures.what
+    let before = c.args.campaign.now.value in
+    subst (λ o. OnOk c.make_of.result (c.make_of.new.campaign.value ≡ option_map_or (with_item_made before c.args.number c.args.made c.args.item) o before)) (sym there) c.make_of.ensures.what

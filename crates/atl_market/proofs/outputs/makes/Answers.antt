@@ -1,5 +1,5 @@
 use Rattle.std.proofs.Common.{◌≡◌, [], ◌∙◌, ap, map, rules, sym}
-use Rattle.atl_market.specs.Outputs.{made_by}
+use Rattle.atl_market.specs.Produce.{made_by}
 use Rattle.atl_market.specs.Puts.{with_each}
 use Rattle.atl_market.proofs.MakesLaws.{makes_are}
 use Rattle.atl_market.proofs.outputs.makes.Goals as goal

@@ -1,6 +1,6 @@
 use Rattle.std.proofs.Common.{◌≡◌, map}
 use Rattle.std.specs.FinMap.{empty, entries}
-use Rattle.atl_market.specs.Outputs.{made_by}
+use Rattle.atl_market.specs.Produce.{made_by}
 use Rattle.atl_market.specs.Puts.{with_each}
 use Rattle.atl_market.proofs.outputs.makes.Given as goal
 

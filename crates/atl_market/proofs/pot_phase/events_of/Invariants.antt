@@ -1,6 +1,9 @@
-use Rattle.std.proofs.Common.{◌≡◌, map, take}
+use Rattle.std.proofs.Common.{◌≡◌, ◌++◌, drop, map}
+use Rattle.atl_instant.specs.PhaseOrders.{task_of}
 use Rattle.atl_market.specs.PotPhase.{event_of}
 use Rattle.atl_market.proofs.pot_phase.events_of.Given as goal
 
 abbrev pub invariant-loop-order : goal.invariant-loop-order
-invariant-loop-order g l = l.events.items ≡ map (event_of (g.P.PotPhase.meaning l.phase) l.world l.campaign.value l.given) (take l.order-index l.orders)
+invariant-loop-order g l =
+    l.events.items ++ map (event_of (g.P.PotPhase.meaning l.phase) l.world l.campaign.value l.given) (map task_of (drop l.order-index l.orders))
+    ≡ map (event_of (g.P.PotPhase.meaning l.phase) l.world l.campaign.value l.given) (map task_of l.orders)

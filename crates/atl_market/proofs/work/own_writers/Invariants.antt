@@ -1,8 +1,9 @@
-use Rattle.std.proofs.Common.{◌≡◌, drop}
+use Rattle.std.proofs.Common.{◌≡◌, drop, map}
 use Rattle.std.specs.List.{flat_map}
+use Rattle.atl_instant.specs.PhaseOrders.{task_of}
 use Rattle.atl_market.specs.Puts.{with_each}
 use Rattle.atl_market.specs.Idle.{own_unit, own_writers}
 use Rattle.atl_market.proofs.work.own_writers.Given as goal
 
 abbrev pub invariant-loop-order : goal.invariant-loop-order
-invariant-loop-order l = with_each l.writers (flat_map (own_unit l.campaign.value) (drop l.order-index l.orders)) ≡ own_writers l.campaign.value l.orders
+invariant-loop-order l = with_each l.writers (flat_map (own_unit l.campaign.value) (map task_of (drop l.order-index l.orders))) ≡ own_writers l.campaign.value (map task_of l.orders)

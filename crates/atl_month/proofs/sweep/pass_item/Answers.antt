@@ -4,9 +4,8 @@ use Rattle.atl_records.specs.declared.books.Entry.TheVariants.{Lost}
 use Rattle.atl_records.specs.declared.books.Thing.TheVariants.{Item}
 use Rattle.atl_records.specs.Books.{amount_in}
 use Rattle.atl_state.specs.Founding.{things_of}
-use Rattle.atl_records.specs.Held.{with_amount_of}
 use Rattle.atl_state.specs.Campaign.{CampaignValue}
-use Rattle.atl_instant.proofs.ChangeLaws.{changed_held, item_changes}
+use Rattle.atl_instant.proofs.ChangeLaws.{item_changes}
 use Rattle.atl_instant.proofs.MarkLaws.{booked_marks}
 use Rattle.atl_instant.proofs.MeaningLaws.{less_room}
 use Rattle.atl_month.proofs.SweepRunLaws.{lost_marks, passed_item_is}
@@ -31,10 +30,9 @@ returns-in_ok-set_item-in-Some c =
     let mid = c.set_item.new.self in
     let have = c.amount-have.result + c.taken_of-taken.result in
     let set = item_changes old mid c.args.to c.from-number.result have c.in_ok-set_item-in-Some.ensures.ok c.in_ok-set_item-in-Some.ensures.marks in
-    let what = changed_held (λ h. record h { items = with_amount_of h.items c.from-number.result have }) old.value mid.value c.args.to set.value u there in
     record {
       what =
-          rw (c.lose.ensures.what, what, c.taken_of-taken.ensures, c.amount-have.ensures, c.from-number.ensures)
+          rw (c.lose.ensures.what, c.in_ok-set_item-in-Some.ensures.ok, c.taken_of-taken.ensures, c.amount-have.ensures, c.from-number.ensures)
           (passed_item_is old.value c.args.to c.args.item c.args.amount u there);
       marks =
           booked_marks (things_of c.args.world.now) old mid c.lose.new.campaign Lost (Item c.args.item) (neg_ℤ (pos (c.args.amount - c.taken_of-taken.result))) set.marks

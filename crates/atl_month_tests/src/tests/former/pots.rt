@@ -22,8 +22,8 @@ pub(crate) enum Claim {
 
 /// An order with what it comes to.
 #[derive(Clone, Copy, Drop)]
-pub(crate) struct Claimed {
-    pub order: Written,
+pub(crate) struct Claimed<'m> {
+    pub order: Written<'m>,
     pub claim: Claim,
 }
 
@@ -36,7 +36,7 @@ pub(crate) struct Given {
 }
 
 /// The unit of an order, where the order's faction has it.
-pub(crate) fn own(plain: &Plain, order: Written) -> Option<Person> {
+pub(crate) fn own(plain: &Plain, order: Written<'_>) -> Option<Person> {
     let person = plain.person(order.unit)?;
     if person.faction == order.faction {
         Some(person)
@@ -46,7 +46,7 @@ pub(crate) fn own(plain: &Plain, order: Written) -> Option<Person> {
 }
 
 /// What a unit wants of a thing, where it wants some.
-fn want_of(claims: &[Claimed], unit: u32, thing: u32) -> Option<u64> {
+fn want_of(claims: &[Claimed<'_>], unit: u32, thing: u32) -> Option<u64> {
     let mut wanted = None;
     for claimed in claims {
         if let Claim::Want(of, want) = claimed.claim
@@ -61,7 +61,7 @@ fn want_of(claims: &[Claimed], unit: u32, thing: u32) -> Option<u64> {
 
 /// Notes the taker of a pot and what it wants.
 fn note_taker(
-    claims: &[Claimed],
+    claims: &[Claimed<'_>],
     pot: Pot,
     person: Person,
     takers: &mut Vec<u32>,
@@ -80,7 +80,7 @@ fn note_taker(
 fn add_shares(
     alloc: Global,
     plain: &Plain,
-    claims: &[Claimed],
+    claims: &[Claimed<'_>],
     pot: Pot,
     given: &mut Vec<Given>,
 ) -> Result<(), AllocError> {
@@ -112,7 +112,7 @@ fn add_given(
 pub(crate) fn shared(
     alloc: Global,
     plain: &Plain,
-    claims: &[Claimed],
+    claims: &[Claimed<'_>],
     pots: &[Pot],
 ) -> Result<Vec<Given>, AllocError> {
     let mut given = Vec::new(alloc);

@@ -2,7 +2,7 @@
 use super::plain::{Good, Person, Plain};
 use super::pots::{Claim, Given, Pot, own};
 use super::tax::MOST_MONEY;
-use atl_instant::{Month, Written};
+use atl_instant::Written;
 use atl_orders::Order;
 use atl_state::{Entry, EventFault, Thing};
 use atl_tables::{Item, World};
@@ -46,9 +46,9 @@ fn raw_for(plain: &Plain, person: Person, item: &Item) -> Option<u64> {
 }
 
 /// The item that an order names.
-fn item_of(month: &Month, order: Written) -> u32 {
-    match month.order(order.faction, order.place) {
-        Some((_, Order::Produce(item))) => u32::from(*item),
+fn item_of(order: Written<'_>) -> u32 {
+    match order.order {
+        Order::Produce(item) => u32::from(*item),
         _ => 0,
     }
 }
@@ -76,8 +76,8 @@ fn fault(plain: &Plain, person: Person, item: &Item) -> Option<EventFault> {
 }
 
 /// What an order comes to.
-pub(crate) fn claim(world: &World, plain: &Plain, month: &Month, order: Written) -> Claim {
-    let number = item_of(month, order);
+pub(crate) fn claim(world: &World, plain: &Plain, order: Written<'_>) -> Claim {
+    let number = item_of(order);
     let (Some(person), Some(item)) = (own(plain, order), world.items().get(number as usize)) else {
         return Claim::Fault(EventFault::NotYours);
     };

@@ -1,7 +1,7 @@
 //! RECRUIT: peasants join, at a price.
 use super::plain::{Land, Person, Plain};
 use super::pots::{Claim, Given, Pot, own};
-use atl_instant::{Month, Written};
+use atl_instant::Written;
 use atl_orders::Order;
 use atl_state::{Entry, EventFault, Thing};
 use atl_tables::World;
@@ -18,28 +18,28 @@ fn price(world: &World) -> u64 {
 }
 
 /// How many an order asks for.
-fn asked(month: &Month, order: Written) -> u64 {
-    match month.order(order.faction, order.place) {
-        Some((_, Order::Recruit(men))) => u64::from(*men),
+fn asked(order: Written<'_>) -> u64 {
+    match order.order {
+        Order::Recruit(men) => u64::from(*men),
         _ => 0,
     }
 }
 
-fn want(world: &World, month: &Month, person: Person, order: Written) -> u64 {
+fn want(world: &World, person: Person, order: Written<'_>) -> u64 {
     let payable = person.money.checked_div(price(world)).unwrap_or(0);
     let room = MOST_MEN.saturating_sub(person.men);
-    asked(month, order).min(payable).min(room)
+    asked(order).min(payable).min(room)
 }
 
 /// What an order comes to.
-pub(crate) fn claim(world: &World, plain: &Plain, month: &Month, order: Written) -> Claim {
+pub(crate) fn claim(world: &World, plain: &Plain, order: Written<'_>) -> Claim {
     let Some(person) = own(plain, order) else {
         return Claim::Fault(EventFault::NotYours);
     };
     if person.money < price(world) {
         return Claim::Fault(EventFault::NotEnough);
     }
-    Claim::Want(PEOPLE, want(world, month, person, order))
+    Claim::Want(PEOPLE, want(world, person, order))
 }
 
 /// Those who can be recruited in a region.

@@ -5,7 +5,8 @@ use super::trade::Trade;
 use super::{produce, recruit, tax, trade, work};
 use atl_instant::{Arrangement, Month, MonthLongVerbs, Written};
 use atl_market::{BuyPhase, ProducePhase, RecruitPhase, SellPhase, TaxPhase};
-use atl_tables::World;
+use atl_orders::{Mailing, Order};
+use atl_tables::{Sequence, World};
 use std::alloc::{AllocError, Global};
 
 /// A phase that shares pots.
@@ -19,12 +20,13 @@ pub(crate) enum Sharing {
 }
 
 /// The orders of a phase.
-fn orders(
+fn orders<'m>(
     alloc: Global,
     sharing: Sharing,
     plain: &Plain,
-    month: &Month,
-) -> Result<Vec<Written>, AllocError> {
+    month: &'m Month,
+    work: Written<'m>,
+) -> Result<Vec<Written<'m>>, AllocError> {
     let arrangement = Arrangement::ByUnit;
     match sharing {
         Sharing::Trade(Trade::Sell) => month.orders(alloc, &SellPhase {}, arrangement),
@@ -34,34 +36,35 @@ fn orders(
         Sharing::Produce => month.orders(alloc, &ProducePhase, arrangement),
         Sharing::Work => {
             let orders = month.orders(alloc, &MonthLongVerbs, arrangement)?;
-            work::tasks(alloc, plain, &orders)
+            work::tasks(alloc, plain, &orders, work)
         }
     }
 }
 
-fn claim(sharing: Sharing, world: &World, plain: &Plain, month: &Month, order: Written) -> Claim {
+fn claim(sharing: Sharing, world: &World, plain: &Plain, order: Written<'_>) -> Claim {
     match sharing {
-        Sharing::Trade(trade) => trade::claim(trade, world, plain, month, order),
+        Sharing::Trade(trade) => trade::claim(trade, world, plain, order),
         Sharing::Tax => tax::claim(world, plain, order),
-        Sharing::Recruit => recruit::claim(world, plain, month, order),
-        Sharing::Produce => produce::claim(world, plain, month, order),
+        Sharing::Recruit => recruit::claim(world, plain, order),
+        Sharing::Produce => produce::claim(world, plain, order),
         Sharing::Work => work::claim(world, plain, order),
     }
 }
 
 /// What the orders come to.
-fn claims(
+fn claims<'m>(
     alloc: Global,
     sharing: Sharing,
     world: &World,
     plain: &Plain,
-    month: &Month,
-) -> Result<Vec<Claimed>, AllocError> {
+    month: &'m Month,
+    work: Written<'m>,
+) -> Result<Vec<Claimed<'m>>, AllocError> {
     let mut claims = Vec::new(alloc);
-    for order in orders(alloc, sharing, plain, month)?.iter() {
+    for order in orders(alloc, sharing, plain, month, work)?.iter() {
         claims.push(Claimed {
             order: *order,
-            claim: claim(sharing, world, plain, month, *order),
+            claim: claim(sharing, world, plain, *order),
         })?;
     }
     Ok(claims)
@@ -111,13 +114,13 @@ fn tell(
     sharing: Sharing,
     world: &World,
     plain: &mut Plain,
-    claims: &[Claimed],
+    claims: &[Claimed<'_>],
     given: &[Given],
 ) -> Result<(), AllocError> {
     for claimed in claims {
         let order = claimed.order;
         let told = told_of(sharing, world, plain, given, order.unit);
-        let event = order.event(order.verb, outcome(claimed.claim, told));
+        let event = order.event(outcome(claimed.claim, told));
         plain.events.push(event)?;
     }
     Ok(())
@@ -155,7 +158,22 @@ pub(crate) fn play(
     plain: &mut Plain,
     month: &Month,
 ) -> Result<(), AllocError> {
-    let claims = claims(alloc, sharing, world, plain, month)?;
+    let mailing = Mailing {
+        faction: 0,
+        text: Sequence::new(alloc),
+        entries: Sequence::new(alloc),
+        faults: Sequence::new(alloc),
+    };
+    let order = Order::Work;
+    let work = Written {
+        unit: 0,
+        line: 0,
+        faction: 0,
+        place: 0,
+        mailing: &mailing,
+        order: &order,
+    };
+    let claims = claims(alloc, sharing, world, plain, month, work)?;
     let pots = pots(alloc, sharing, world, plain)?;
     let given = shared(alloc, plain, &claims, &pots)?;
     tell(sharing, world, plain, &claims, &given)?;

@@ -12,7 +12,7 @@ pub(crate) const MOST_MONEY: u64 = 999_999_999;
 const MONEY: u32 = 0;
 
 /// What an order comes to.
-pub(crate) fn claim(world: &World, plain: &Plain, order: Written) -> Claim {
+pub(crate) fn claim(world: &World, plain: &Plain, order: Written<'_>) -> Claim {
     let Some(person) = own(plain, order) else {
         return Claim::Fault(EventFault::NotYours);
     };

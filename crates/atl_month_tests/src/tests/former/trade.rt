@@ -2,7 +2,7 @@
 use super::plain::{Good, Person, Plain, Stock};
 use super::pots::{Claim, Given, Pot, own};
 use super::tax::MOST_MONEY;
-use atl_instant::{Month, Written};
+use atl_instant::Written;
 use atl_orders::Order;
 use atl_state::{Entry, EventFault, Thing};
 use atl_tables::{Market, World};
@@ -19,11 +19,9 @@ pub(crate) enum Trade {
 }
 
 /// How many of which item an order is about.
-fn asked(month: &Month, order: Written) -> (u64, u16) {
-    match month.order(order.faction, order.place) {
-        Some((_, Order::Sell { amount, item } | Order::Buy { amount, item })) => {
-            (u64::from(*amount), *item)
-        }
+fn asked(order: Written<'_>) -> (u64, u16) {
+    match order.order {
+        Order::Sell { amount, item } | Order::Buy { amount, item } => (u64::from(*amount), *item),
         _ => (0, 0),
     }
 }
@@ -53,17 +51,11 @@ fn is_short(trade: Trade, plain: &Plain, person: Person, market: &Market) -> boo
 }
 
 /// What an order comes to.
-pub(crate) fn claim(
-    trade: Trade,
-    world: &World,
-    plain: &Plain,
-    month: &Month,
-    order: Written,
-) -> Claim {
+pub(crate) fn claim(trade: Trade, world: &World, plain: &Plain, order: Written<'_>) -> Claim {
     let Some(person) = own(plain, order) else {
         return Claim::Fault(EventFault::NotYours);
     };
-    let (amount, item) = asked(month, order);
+    let (amount, item) = asked(order);
     let Some(market) = world.market(person.region, item) else {
         return Claim::Fault(EventFault::NoMarket);
     };

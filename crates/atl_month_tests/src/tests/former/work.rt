@@ -3,7 +3,7 @@ use super::plain::{Person, Plain};
 use super::pots::{Claim, Given, Pot, given_to, own};
 use super::tax::MOST_MONEY;
 use atl_instant::Written;
-use atl_orders::Verb;
+use atl_orders::Order;
 use atl_state::{Entry, EventFault, Thing};
 use atl_tables::World;
 use std::alloc::{AllocError, Global};
@@ -28,7 +28,7 @@ fn places(world: &World, region: u32) -> u64 {
 }
 
 /// What an order comes to.
-pub(crate) fn claim(world: &World, plain: &Plain, order: Written) -> Claim {
+pub(crate) fn claim(world: &World, plain: &Plain, order: Written<'_>) -> Claim {
     let Some(person) = own(plain, order) else {
         return Claim::Fault(EventFault::NotYours);
     };
@@ -41,7 +41,7 @@ pub(crate) fn claim(world: &World, plain: &Plain, order: Written) -> Claim {
 }
 
 /// Whether a unit with men has no month-long order of its own faction.
-fn is_idle(person: Person, orders: &[Written]) -> bool {
+fn is_idle(person: Person, orders: &[Written<'_>]) -> bool {
     for order in orders {
         if order.unit == person.number && order.faction == person.faction {
             return false;
@@ -50,16 +50,22 @@ fn is_idle(person: Person, orders: &[Written]) -> bool {
     person.men != 0
 }
 
-/// Adds the work of the units that have no order.
-fn add_idle(plain: &Plain, orders: &[Written], tasks: &mut Vec<Written>) -> Result<(), AllocError> {
+/// Adds the work of the units that have no order, each as another order of WORK.
+fn add_idle<'m>(
+    plain: &Plain,
+    orders: &[Written<'m>],
+    work: Written<'m>,
+    tasks: &mut Vec<Written<'m>>,
+) -> Result<(), AllocError> {
     for person in plain.people.iter() {
         if is_idle(*person, orders) {
             tasks.push(Written {
                 unit: person.number,
                 line: 0,
                 faction: person.faction,
-                verb: Verb::Work,
                 place: 0,
+                mailing: work.mailing,
+                order: work.order,
             })?;
         }
     }
@@ -67,18 +73,19 @@ fn add_idle(plain: &Plain, orders: &[Written], tasks: &mut Vec<Written>) -> Resu
 }
 
 /// Who works, by unit, line and faction.
-pub(crate) fn tasks(
+pub(crate) fn tasks<'m>(
     alloc: Global,
     plain: &Plain,
-    orders: &[Written],
-) -> Result<Vec<Written>, AllocError> {
+    orders: &[Written<'m>],
+    work: Written<'m>,
+) -> Result<Vec<Written<'m>>, AllocError> {
     let mut tasks = Vec::new(alloc);
     for order in orders {
-        if matches!(order.verb, Verb::Work) {
+        if matches!(order.order, Order::Work) {
             tasks.push(*order)?;
         }
     }
-    add_idle(plain, orders, &mut tasks)?;
+    add_idle(plain, orders, work, &mut tasks)?;
     tasks.sort_unstable_by_key(|task| {
         [
             task.unit as usize,

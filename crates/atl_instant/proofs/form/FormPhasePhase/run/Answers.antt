@@ -8,12 +8,12 @@ use Rattle.atl_instant.specs.Month.{MonthValue}
 use Rattle.atl_instant.specs.Steps.{StepsWell}
 use Rattle.atl_instant.specs.Unbooked.{books_nothing}
 use Rattle.atl_instant.proofs.FoldLaws.{fold_behind, fold_ended}
-use Rattle.atl_instant.proofs.FoundOrderLaws.{no_order}
-use Rattle.atl_instant.proofs.FormLaws.{free_number, written_out, written_readings, written_stays, written_well}
+use Rattle.atl_instant.proofs.FormLaws.{all_formed, free_number, order_stays, order_well}
 use Rattle.atl_instant.proofs.StepLaws.{leaves_well, well_same, well_twice}
 use Rattle.atl_instant.proofs.form.FormPhasePhase.run.Goals as goal
-use Rattle.atl_instant.specs.Form.{form_order}
-use Rattle.atl_instant.specs.Carrying.{found_written}
+use Rattle.atl_orders.specs.declared.verb.Verb.TheVariants.{Form}
+use Rattle.atl_instant.specs.Forming.{form_apart}
+use Rattle.atl_instant.specs.declared.form.Forming.{Forming}
 
 pub loop-order-init : goal.loop-order-init
 loop-order-init c = record {
@@ -35,16 +35,16 @@ loop-order-preserved c =
     let before : CampaignValue × MonthValue = (now, c.loop-order.month) in
     let xs = c.deref-order-items.result.now in
     let i = c.loop-order.order-index in
-    let o = get_or xs i no_order in
-    let one = found_written form_order c.args.month.readings in
-    let step = c.in_ok-form_one.ensures.step ∙ ap (λ r. found_written form_order r before o) c.loop-order.invariant.readings in
+    let none : Forming = record { unit = 0; line = 0; faction = 0; verb = Form; alias = 0 } in
+    let o = get_or xs i none in
+    let step = c.in_ok-form_one.ensures.step in
     let what = ap (λ (p : CampaignValue × MonthValue). p.0) c.in_ok-form_one.ensures.step in
     let early = c.loop-order.invariant.well.holds_still in
     record {
-      orders = fold_behind one xs i no_order before c.loop-order-test.true step c.loop-order.invariant.orders;
-      readings = ap (λ (p : CampaignValue × MonthValue). p.1.readings) step ∙ written_readings c.args.month.readings before o ∙ c.loop-order.invariant.readings;
-      well = well_twice w old now _ c.loop-order.invariant.well (subst (λ d. StepsWell IsEarly books_nothing w now d) (sym what) (written_well w now early c.loop-order.month o));
-      stays = λ n u there. subst (λ (d : CampaignValue). get d.units n ≡ Some u) (sym what) (written_stays w now early c.loop-order.month o n u (c.loop-order.invariant.stays n u there));
+      orders = fold_behind form_apart xs i none before c.loop-order-test.true step c.loop-order.invariant.orders;
+      readings = ap (λ (p : CampaignValue × MonthValue). p.1.readings) step ∙ c.loop-order.invariant.readings;
+      well = well_twice w old now _ c.loop-order.invariant.well (subst (λ d. StepsWell IsEarly books_nothing w now d) (sym what) (order_well w now early c.loop-order.month o));
+      stays = λ n u there. subst (λ (d : CampaignValue). get d.units n ≡ Some u) (sym what) (order_stays w now early c.loop-order.month o n u (c.loop-order.invariant.stays n u there));
       marks = marks-trans c.args.campaign c.loop-order.campaign _ c.loop-order.invariant.marks c.in_ok-form_one.ensures.marks;
     }
 
@@ -52,10 +52,11 @@ pub returns-clause-meaning : goal.returns-clause-meaning
 returns-clause-meaning c =
     let start : CampaignValue × MonthValue = (c.args.campaign.value, c.args.month) in
     let behind : CampaignValue × MonthValue = (c.loop-order.campaign.value, c.loop-order.month) in
-    let one = found_written form_order c.args.month.readings in
-    fold_ended one c.deref-order-items.result.now c.loop-order.order-index behind (omega (arith, c.loop-order-test.false)) c.loop-order.invariant.orders
-    ∙ ap (fold one start) (c.deref-order-items.ensures.value ∙ c.in_ok-orders.ensures)
-    ∙ written_out c.args._world.now c.args.campaign.value c.args.month
+    let same : ◌≡◌ {A = CampaignValue × MonthValue} (c.loop-order.campaign.value, c.gather.new.self) behind = ap (λ (m : MonthValue). (c.loop-order.campaign.value, m)) c.gather.ensures in
+    same
+    ∙ fold_ended form_apart c.deref-order-items.result.now c.loop-order.order-index behind (omega (arith, c.loop-order-test.false)) c.loop-order.invariant.orders
+    ∙ ap (fold form_apart start) (c.deref-order-items.ensures.value ∙ c.in_ok-orders.ensures)
+    ∙ all_formed c.args._world.now c.args.campaign.value c.args.month
 
 pub returns-clause-leaves : goal.returns-clause-leaves
 returns-clause-leaves c = leaves_well c.args._world.now c.args.campaign.value c.loop-order.campaign.value (λ e t. omega arith) c.loop-order.invariant.well
@@ -64,7 +65,7 @@ pub returns-clause-keeps : goal.returns-clause-keeps
 returns-clause-keeps c = c.loop-order.invariant.stays
 
 pub returns-clause-readings : goal.returns-clause-readings
-returns-clause-readings c = c.loop-order.invariant.readings
+returns-clause-readings c = ap (λ (m : MonthValue). m.readings) c.gather.ensures ∙ c.loop-order.invariant.readings
 
 pub returns-clause-marks : goal.returns-clause-marks
 returns-clause-marks c = c.loop-order.invariant.marks

@@ -7,12 +7,11 @@ use Rattle.atl_state.specs.Good.{IsEarly}
 use Rattle.atl_instant.specs.Steps.{StepsWell}
 use Rattle.atl_instant.specs.Unbooked.{books_nothing}
 use Rattle.atl_instant.proofs.form.FormPhasePhase.run.Given as goal
-use Rattle.atl_instant.specs.Form.{form_order}
-use Rattle.atl_instant.specs.Carrying.{found_written}
+use Rattle.atl_instant.specs.Forming.{form_apart}
 
 abbrev pub invariant-loop-order : goal.invariant-loop-order
 invariant-loop-order l = record {
-  orders : fold (found_written form_order l.fn.month.readings) (l.campaign.value, l.month) (drop l.order-index l.order-items) ≡ fold (found_written form_order l.fn.month.readings) (l.fn.campaign.value, l.fn.month) l.order-items;
+  orders : fold form_apart (l.campaign.value, l.month) (drop l.order-index l.order-items) ≡ fold form_apart (l.fn.campaign.value, l.fn.month) l.order-items;
   readings : l.month.readings ≡ l.fn.month.readings;
   well : StepsWell IsEarly books_nothing l._world l.fn.campaign.value l.campaign.value;
   stays : Every (λ n u. get l.campaign.value.units n ≡ Some u) l.fn.campaign.value.units;

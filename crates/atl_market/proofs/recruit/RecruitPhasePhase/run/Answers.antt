@@ -1,22 +1,22 @@
-use Rattle.std.proofs.Common.{◌≡◌, subst, sym, rules}
+use Rattle.std.proofs.Common.{◌≡◌, map, subst, sym, rules}
 use Rattle.atl_state.specs.Good.{IsEarly}
 use Rattle.atl_instant.specs.Meaning.{LeavesWell, most_moved}
-use Rattle.atl_instant.specs.PhaseOrders.{written_by_unit}
+use Rattle.atl_instant.specs.PhaseOrders.{orders_by_unit, task_of}
 use Rattle.atl_market.specs.Recruit.{is_recruit, recruit_moves}
 use Rattle.atl_market.specs.Unordered.{OthersAreNoWorse}
 use Rattle.atl_market.proofs.RecruitLaws.{all_recruits_leave_well, can_share_out, recruit_keeps_others}
 use Rattle.atl_market.proofs.recruit.RecruitPhasePhase.run.Goals as goal
 
 pub share_out-requires-clause-can : goal.share_out-requires-clause-can
-share_out-requires-clause-can c = can_share_out c.args.world.now c.args.campaign.value c.requires.needs c.in_ok-asked.asked c.deref-2.result.now c.requires.room
+share_out-requires-clause-can c = can_share_out c.args.world.now c.args.campaign.value c.requires.needs (map task_of c.deref.result.now) c.requires.room
 
 pub returns-clause-leaves : goal.returns-clause-leaves
 returns-clause-leaves c =
     subst (λ d. LeavesWell IsEarly (recruit_moves most_moved) c.args.world.now c.args.campaign.value d) (sym c.in_ok-events.ensures.what)
-    (all_recruits_leave_well c.args.world.now c.args.campaign.value c.requires.needs c.in_ok-asked.asked c.deref-2.result.now c.requires.room)
+    (all_recruits_leave_well c.args.world.now c.args.campaign.value c.requires.needs (map task_of c.deref.result.now) c.requires.room)
 
 pub returns-clause-keeps : goal.returns-clause-keeps
 returns-clause-keeps c =
-    let orders : c.deref-2.result.now ≡ written_by_unit is_recruit c.args.month = search rules in
-    let kept = recruit_keeps_others c.in_ok-asked.asked c.args.world.now c.args.campaign.value c.deref-2.result.now in
-    subst (λ os. OthersAreNoWorse os c.args.campaign.value c.share_out.new.campaign.value) orders (subst (λ d. OthersAreNoWorse c.deref-2.result.now c.args.campaign.value d) (sym c.in_ok-events.ensures.what) kept)
+    let orders : map task_of c.deref.result.now ≡ orders_by_unit is_recruit c.args.month = search rules in
+    let kept = recruit_keeps_others c.args.world.now c.args.campaign.value (map task_of c.deref.result.now) in
+    subst (λ os. OthersAreNoWorse os c.args.campaign.value c.share_out.new.campaign.value) orders (subst (λ d. OthersAreNoWorse (map task_of c.deref.result.now) c.args.campaign.value d) (sym c.in_ok-events.ensures.what) kept)

@@ -1,7 +1,7 @@
-use Rattle.std.proofs.Common.{◌≡◌, subst, sym, rules}
+use Rattle.std.proofs.Common.{◌≡◌, map, subst, sym, rules}
 use Rattle.atl_state.specs.Good.{IsEarly}
 use Rattle.atl_instant.specs.Meaning.{HaveRoom, LeavesWell, most_moved}
-use Rattle.atl_instant.specs.PhaseOrders.{written_by_unit}
+use Rattle.atl_instant.specs.PhaseOrders.{orders_by_unit, task_of}
 use Rattle.atl_market.specs.Trade.{is_trade, trade_moves}
 use Rattle.atl_market.specs.Unordered.{OthersAreNoWorse}
 use Rattle.atl_market.proofs.TradeLaws.{all_trades_leave_well, can_share_out, trade_keeps_others}
@@ -10,7 +10,7 @@ use Rattle.atl_market.proofs.trade.TradePhasePhase.run.Goals as goal
 pub share_out-requires-clause-can : goal.share_out-requires-clause-can
 share_out-requires-clause-can g c =
     let room : HaveRoom (trade_moves c.trade_of-trade.result most_moved) c.args.campaign.value = rw c.trade_of-trade.ensures c.requires.room in
-    can_share_out c.trade_of-trade.result c.in_ok-items.items c.args.world.now c.world_is_sound.ensures c.args.campaign.value c.requires.needs c.in_ok-counts.counts c.deref-3.result.now room
+    can_share_out c.trade_of-trade.result c.args.world.now c.world_is_sound.ensures c.args.campaign.value c.requires.needs (map task_of c.deref.result.now) room
 
 pub returns-clause-leaves : goal.returns-clause-leaves
 returns-clause-leaves g c =
@@ -18,12 +18,12 @@ returns-clause-leaves g c =
     let room : HaveRoom (trade_moves trade most_moved) c.args.campaign.value = rw c.trade_of-trade.ensures c.requires.room in
     subst (λ t. LeavesWell IsEarly (trade_moves t most_moved) c.args.world.now c.args.campaign.value c.share_out.new.campaign.value) c.trade_of-trade.ensures
     (subst (λ d. LeavesWell IsEarly (trade_moves trade most_moved) c.args.world.now c.args.campaign.value d) (sym c.in_ok-events.ensures.what)
-    (all_trades_leave_well trade c.in_ok-items.items c.args.world.now c.world_is_sound.ensures c.args.campaign.value c.requires.needs c.in_ok-counts.counts c.deref-3.result.now room))
+    (all_trades_leave_well trade c.args.world.now c.world_is_sound.ensures c.args.campaign.value c.requires.needs (map task_of c.deref.result.now) room))
 
 pub returns-clause-keeps : goal.returns-clause-keeps
 returns-clause-keeps g c =
     let trade = c.trade_of-trade.result in
-    let orders : c.deref-3.result.now ≡ written_by_unit (is_trade trade) c.args.month = rw c.trade_of-trade.ensures (search rules) in
-    let kept = trade_keeps_others trade c.in_ok-items.items c.in_ok-counts.counts c.args.world.now c.args.campaign.value c.deref-3.result.now in
-    subst (λ t. OthersAreNoWorse (written_by_unit (is_trade t) c.args.month) c.args.campaign.value c.share_out.new.campaign.value) c.trade_of-trade.ensures
-    (subst (λ os. OthersAreNoWorse os c.args.campaign.value c.share_out.new.campaign.value) orders (subst (λ d. OthersAreNoWorse c.deref-3.result.now c.args.campaign.value d) (sym c.in_ok-events.ensures.what) kept))
+    let orders : map task_of c.deref.result.now ≡ orders_by_unit (is_trade trade) c.args.month = rw c.trade_of-trade.ensures (search rules) in
+    let kept = trade_keeps_others trade c.args.world.now c.args.campaign.value (map task_of c.deref.result.now) in
+    subst (λ t. OthersAreNoWorse (orders_by_unit (is_trade t) c.args.month) c.args.campaign.value c.share_out.new.campaign.value) c.trade_of-trade.ensures
+    (subst (λ os. OthersAreNoWorse os c.args.campaign.value c.share_out.new.campaign.value) orders (subst (λ d. OthersAreNoWorse (map task_of c.deref.result.now) c.args.campaign.value d) (sym c.in_ok-events.ensures.what) kept))

@@ -1,5 +1,6 @@
-use Rattle.std.proofs.Common.{subst, sym}
+use Rattle.std.proofs.Common.{map, subst, sym}
 use Rattle.atl_state.specs.Good.{IsSteady}
+use Rattle.atl_instant.specs.PhaseOrders.{task_of}
 use Rattle.atl_instant.specs.Meaning.{LeavesWell, most_moved}
 use Rattle.atl_instant.specs.Staying.{AreNoWorse}
 use Rattle.atl_market.specs.Work.{work_moves}
@@ -7,12 +8,12 @@ use Rattle.atl_market.proofs.WorkLaws.{can_share_out, work_keeps_units, work_lea
 use Rattle.atl_market.proofs.work.WorkPhasePhase.run.Goals as goal
 
 pub share_out-requires : goal.share_out-requires
-share_out-requires c = record { needs = c.requires.needs; can = can_share_out c.args.world.now c.args.campaign.value c.requires.needs c.deref.result.now c.requires.room }
+share_out-requires c = record { needs = c.requires.needs; can = can_share_out c.args.world.now c.args.campaign.value c.requires.needs (map task_of c.deref.result.now) c.requires.room }
 
 pub returns-clause-leaves : goal.returns-clause-leaves
 returns-clause-leaves c =
     subst (λ d. LeavesWell IsSteady (work_moves most_moved) c.args.world.now c.args.campaign.value d) (sym c.in_ok-events.ensures.what)
-    (work_leaves_well c.args.world.now c.args.campaign.value c.requires.needs c.deref.result.now c.requires.room)
+    (work_leaves_well c.args.world.now c.args.campaign.value c.requires.needs (map task_of c.deref.result.now) c.requires.room)
 
 pub returns-clause-keeps : goal.returns-clause-keeps
-returns-clause-keeps c = subst (λ d. AreNoWorse c.args.campaign.value d) (sym c.in_ok-events.ensures.what) (work_keeps_units c.args.world.now c.args.campaign.value c.deref.result.now)
+returns-clause-keeps c = subst (λ d. AreNoWorse c.args.campaign.value d) (sym c.in_ok-events.ensures.what) (work_keeps_units c.args.world.now c.args.campaign.value (map task_of c.deref.result.now))

@@ -1,8 +1,13 @@
 use Rattle.std.proofs.Common.{rules, ◌≡◌}
-use Rattle.atl_month.specs.Upkeep.{settlements, upkeep}
+use Rattle.atl_month.specs.Upkeep.{purses_of, settlements, upkeep}
 use Rattle.atl_month.proofs.AloneLaws.{upkeep_is_of_peers}
-use Rattle.atl_month.proofs.UpkeepLaws.{all_settle, upkeep_leaves_well}
+use Rattle.atl_month.proofs.UpkeepLaws.{all_settle, purses_in_order, upkeep_leaves_well}
 use Rattle.atl_month.proofs.upkeep.UpkeepPhasePhase.run.Goals as goal
+
+pub settle-requires-clause-order : goal.settle-requires-clause-order
+settle-requires-clause-order c =
+    let list : c.deref.result.now ≡ purses_of c.args.campaign.value = search rules in
+    rw list (purses_in_order c.args.campaign.value)
 
 pub upkeep_of_all-requires : goal.upkeep_of_all-requires
 upkeep_of_all-requires c =

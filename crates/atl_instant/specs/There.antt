@@ -1,0 +1,15 @@
+-- What is made of a campaign for a unit or a region, if it is there.
+use Rattle.std.specs.Prelude.{ℕ}
+use Rattle.std.specs.Option.{option_map_or}
+use Rattle.std.specs.FinMap.{get}
+use Rattle.atl_records.specs.declared.records.Region.{Region}
+use Rattle.atl_records.specs.declared.records.Unit.{Unit}
+use Rattle.atl_state.specs.Campaign.{CampaignValue}
+
+-- what a change makes of a campaign for a unit, by its number; nothing changes where it isn't there
+abbrev pub at_unit : CampaignValue → ℕ → (Unit → CampaignValue) → CampaignValue
+at_unit c n change = option_map_or change (get c.units n) c
+
+-- the same for a region
+abbrev pub at_region : CampaignValue → ℕ → (Region → CampaignValue) → CampaignValue
+at_region c n change = option_map_or change (get c.regions n) c

@@ -1,9 +1,0 @@
-use Rattle.std.proofs.Common.{◌≡◌, Some, rules}
-use Rattle.std.specs.FinMap.{get}
-use Rattle.atl_market.proofs.ProduceLaws.{can_make_item}
-use Rattle.atl_market.proofs.produce.MailedProducingPotPhase.pay.Goals as goal
-
-pub make-requires : goal.make-requires
-make-requires c = λ x is.
-    let told : get c.args.self.now.asked.now c.args.number ≡ Some c.in-Some.item.now = search rules in
-    can_make_item c.args.self.now.asked.now c.args.world.now c.args.campaign.now.value (c.args.number, c.args.share) c.requires.can c.in-Some.item.now x told is
