@@ -1,3 +1,4 @@
 pub mod SightLaws
 pub mod SiteLaws
 pub mod EventLaws
+pub mod ExitLaws

@@ -1,7 +1,8 @@
 -- The text of the books, line by line. See docs/FORMATS.md, "Books".
-use Rattle.std.specs.Prelude.{◌<◌, ℕ, zero, suc, ℤ, pos, List, [], codes, length, if◌then◌else◌, Option, Some, None}
+use Rattle.std.specs.Prelude.{◌<◌, ℕ, zero, suc, ℤ, pos, List, [], codes, length, if◌then◌else◌, Option}
 use Rattle.std.specs.Fmt.{decimal, signed_decimal}
 use Rattle.std.specs.List.{slice_get}
+use Rattle.std.specs.Option.{option_map_or}
 use Rattle.std.specs.Ordering.{int_eq}
 use Rattle.atl_tables.specs.Texts.{◌▸◌}
 use Rattle.atl_tables.specs.Worlds.{WorldValue}
@@ -34,8 +35,7 @@ entry_name Sold = codes "sold"
 entry_name Stocked = codes "stocked"
 
 abbrev pub item_name : Option ItemPlan → List ℕ
-item_name None = []
-item_name (Some item) = codes "item \"" ▸ item.name ▸ codes "\""
+item_name item = option_map_or (λ x. codes "item \"" ▸ x.name ▸ codes "\"") item []
 
 abbrev pub thing_name : WorldValue → Thing → List ℕ
 thing_name w Money = codes "money"

@@ -6,3 +6,8 @@ use Rattle.atl_tables.specs.Texts.{◌▸◌}
 abbrev pub each_text : {A : Type 0} → (A → List ℕ) → List A → List ℕ
 each_text text [] = []
 each_text text (x ∷ xs) = text x ▸ each_text text xs
+
+-- these texts, with a separator between each two
+abbrev pub joined : (separator : List ℕ) → List (List ℕ) → List ℕ
+joined separator [] = []
+joined separator (text ∷ texts) = text ▸ each_text (λ t. separator ▸ t) texts

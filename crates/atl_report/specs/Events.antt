@@ -1,11 +1,11 @@
 -- The lines of a report on faulty lines and on events.
-use Rattle.std.specs.Prelude.{◌==◌, ℕ, List, [], codes, find, filter, Option, Some, None}
+use Rattle.std.specs.Prelude.{◌==◌, ℕ, List, [], codes, find, filter}
 use Rattle.std.specs.Fmt.{decimal}
+use Rattle.std.specs.Option.{option_map_or}
 use Rattle.atl_tables.specs.Texts.{◌▸◌}
 use Rattle.atl_orders.specs.Faulting.{fault_number, fault_name}
 use Rattle.atl_orders.specs.declared.fault.FaultyLine.{FaultyLine}
 use Rattle.atl_records.specs.declared.event.Event.{Event}
-use Rattle.atl_records.specs.declared.event.EventFault.{EventFault}
 use Rattle.atl_records.specs.declared.event.Outcome.{Outcome}
 use Rattle.atl_records.specs.declared.event.Outcome.TheVariants.{Done, Fault, Starved}
 use Rattle.atl_records.specs.Events.{event_keyword, event_fault_number, event_fault_name, event_faults}
@@ -21,13 +21,9 @@ faulty_lines = each_text faulty_line
 
 -- ---- an event
 
-abbrev pub name_of : Option EventFault → List ℕ
-name_of None = []
-name_of (Some fault) = event_fault_name fault
-
--- a number that is no fault's has an empty name
+-- the name of the fault with this number; a number that is no fault's has an empty name
 abbrev pub name_of_number : ℕ → List ℕ
-name_of_number number = name_of (find (λ fault. event_fault_number fault == number) event_faults)
+name_of_number number = option_map_or event_fault_name (find (λ fault. event_fault_number fault == number) event_faults) []
 
 abbrev pub event_text : Event → Outcome → List ℕ
 event_text e (Done n) = codes "Unit " ▸ decimal e.unit ▸ codes ", line " ▸ decimal e.line ▸ codes ", " ▸ event_keyword e.verb ▸ codes ": done " ▸ decimal n ▸ codes ".\n"

@@ -1,21 +1,20 @@
 -- The text of a report, line by line. See docs/FORMATS.md, "Reports".
-use Rattle.std.specs.Prelude.{◌≡◌, ℕ, Bool, true, false, ◌&&◌, ◌==◌, is_none, if◌then◌else◌, List, [], codes, Option, Some, None}
+use Rattle.std.specs.Prelude.{◌≡◌, ℕ, Bool, true, false, ◌==◌, if◌then◌else◌, List, [], ◌∷◌, codes, Option, option_map}
 use Rattle.std.specs.Fmt.{decimal}
 use Rattle.std.specs.FinMap.{get}
-use Rattle.std.specs.List.{slice_get}
+use Rattle.std.specs.List.{filter_map, slice_get}
+use Rattle.std.specs.Option.{option_map_or}
 use Rattle.atl_tables.specs.Texts.{◌▸◌}
 use Rattle.atl_tables.specs.ByNumber.{market_of}
 use Rattle.atl_tables.specs.Worlds.{WorldValue}
 use Rattle.atl_tables.specs.declared.world.Market.{Market}
 use Rattle.atl_tables.specs.declared.world.RegionPlan.{RegionPlan}
-use Rattle.atl_tables.specs.declared.world.Terrain.{Terrain}
 use Rattle.atl_tables.specs.declared.world.Item.{Item}
-use Rattle.atl_tables.specs.declared.world.Skill.{Skill}
 use Rattle.atl_tables.specs.declared.world.Kind.{Kind}
 use Rattle.atl_orders.specs.declared.fault.FaultyLine.{FaultyLine}
 use Rattle.atl_records.specs.declared.event.Event.{Event}
 use Rattle.atl_state.specs.Campaign.{CampaignValue}
-use Rattle.atl_report.specs.Each.{each_text}
+use Rattle.atl_report.specs.Each.{each_text, joined}
 use Rattle.atl_report.specs.Events.{own_events, orders_part}
 use Rattle.atl_report.specs.Sight.{view_of}
 use Rattle.atl_report.specs.declared.views.View.{View}
@@ -44,24 +43,18 @@ guard_text false = []
 abbrev pub inside_text : ℕ → List ℕ
 inside_text structure = if structure == 0 then [] else codes ", in " ▸ decimal structure
 
--- so much of an item, by the name that the world gives it
-abbrev pub item_named : ItemView → Option Item → List ℕ
-item_named e None = []
-item_named e (Some item) = codes ", " ▸ decimal e.amount ▸ codes " " ▸ item.name
-
+-- an amount of an item, with the item's name in the world
 unfoldable pub item_text : WorldValue → ItemView → List ℕ
-item_text w e = item_named e (slice_get w.items e.item)
+item_text w e = option_map_or (λ item. codes ", " ▸ decimal e.amount ▸ codes " " ▸ item.name) (slice_get w.items e.item) []
 
 abbrev pub item_texts : WorldValue → List ItemView → List ℕ
 item_texts w = each_text (item_text w)
 
--- a skill with its level and days, by the name that the world gives it
-abbrev pub skill_named : SkillView → Option Skill → List ℕ
-skill_named e None = []
-skill_named e (Some skill) = codes ", " ▸ skill.name ▸ codes " " ▸ decimal e.level ▸ codes " (" ▸ decimal e.days ▸ codes ")"
-
+-- the name of a skill in the world, with the unit's level and days
 unfoldable pub skill_text : WorldValue → SkillView → List ℕ
-skill_text w e = skill_named e (slice_get w.skills e.skill)
+skill_text w e =
+    option_map_or (λ skill. codes ", " ▸ skill.name ▸ codes " " ▸ decimal e.level ▸ codes " (" ▸ decimal e.days ▸ codes ")")
+    (slice_get w.skills e.skill) []
 
 abbrev pub skill_texts : WorldValue → List SkillView → List ℕ
 skill_texts w = each_text (skill_text w)
@@ -79,68 +72,60 @@ unit_lines w = each_text (unit_line w)
 
 -- ---- a structure that is seen
 
--- by the name and the full size of its kind
-abbrev pub structure_text : StructureView → Option Kind → List ℕ
-structure_text s None = []
-structure_text s (Some kind) =
-    codes "Structure " ▸ decimal s.number ▸ codes " \"" ▸ s.name ▸ codes "\", " ▸ kind.name ▸ codes ", " ▸ decimal s.done ▸ codes " of " ▸ decimal kind.size ▸ codes ", owner " ▸ decimal s.owner ▸ codes ".\n"
+-- with the name and the full size of its kind
+abbrev pub structure_text : StructureView → Kind → List ℕ
+structure_text s kind =
+    codes "Structure " ▸ decimal s.number ▸ codes " \"" ▸ s.name ▸ codes "\", " ▸ kind.name ▸ codes ", " ▸ decimal s.done ▸ codes " of "
+    ▸ decimal kind.size ▸ codes ", owner " ▸ decimal s.owner ▸ codes ".\n"
 
 unfoldable pub structure_line : WorldValue → StructureView → List ℕ
-structure_line w s = structure_text s (slice_get w.kinds s.kind)
+structure_line w s = option_map_or (structure_text s) (slice_get w.kinds s.kind) []
 
 abbrev pub structure_lines : WorldValue → List StructureView → List ℕ
 structure_lines w = each_text (structure_line w)
 
 -- ---- a region that is seen
 
-abbrev pub terrain_name : Option Terrain → List ℕ
-terrain_name None = []
-terrain_name (Some t) = t.name
+-- with the name and the terrain that the world gives the region
+abbrev pub region_text : RegionView → RegionPlan → (terrain : List ℕ) → List ℕ
+region_text r plan terrain =
+    codes "Region " ▸ decimal r.number ▸ codes " \"" ▸ plan.name ▸ codes "\", " ▸ terrain ▸ codes ": " ▸ decimal r.peasants ▸ codes " peasants, "
+    ▸ decimal r.money ▸ codes " money.\n"
 
-abbrev pub region_text : WorldValue → RegionView → Option RegionPlan → List ℕ
-region_text w r None = []
-region_text w r (Some plan) =
-    codes "Region " ▸ decimal r.number ▸ codes " \"" ▸ plan.name ▸ codes "\", " ▸ terrain_name (slice_get w.terrains plan.terrain) ▸ codes ": " ▸ decimal r.peasants ▸ codes " peasants, " ▸ decimal r.money ▸ codes " money.\n"
+abbrev pub terrain_name : WorldValue → RegionPlan → List ℕ
+terrain_name w plan = option_map_or (λ t. t.name) (slice_get w.terrains plan.terrain) []
 
--- a region by the name and the terrain that the world gives it
 unfoldable pub region_line : WorldValue → RegionView → List ℕ
-region_line w r = region_text w r (get w.regions r.number)
+region_line w r = option_map_or (λ plan. region_text r plan (terrain_name w plan)) (get w.regions r.number) []
 
--- an exit that is there; behind another one a comma comes first
-abbrev pub exit_text : Bool → List ℕ → Option ℕ → List ℕ
-exit_text is_first direction None = []
-exit_text is_first direction (Some n) = (if is_first then codes " " else codes ", ") ▸ direction ▸ codes " " ▸ decimal n
+-- the region to which an exit leads
+abbrev pub exit_text : (direction : List ℕ) → (to : ℕ) → List ℕ
+exit_text direction to = direction ▸ codes " " ▸ decimal to
 
 -- the exits that are there, in the order north, south, east, west
-unfoldable pub directions : RegionPlan → List ℕ
-directions p =
-    exit_text true (codes "north") p.north
-    ▸ exit_text (is_none p.north) (codes "south") p.south
-    ▸ exit_text (is_none p.north && is_none p.south) (codes "east") p.east
-    ▸ exit_text ((is_none p.north && is_none p.south) && is_none p.east) (codes "west") p.west
+unfoldable pub exit_texts : RegionPlan → List (List ℕ)
+exit_texts p =
+    filter_map (λ (e : List ℕ × Option ℕ). option_map (exit_text e.0) e.1)
+    ((codes "north", p.north) ∷ (codes "south", p.south) ∷ (codes "east", p.east) ∷ (codes "west", p.west) ∷ [])
 
-abbrev pub has_no_exit : RegionPlan → Bool
-has_no_exit p = ((is_none p.north && is_none p.south) && is_none p.east) && is_none p.west
+abbrev pub joined_or_none : List (List ℕ) → List ℕ
+joined_or_none [] = codes "none"
+joined_or_none (text ∷ texts) = joined (codes ", ") (text ∷ texts)
 
-abbrev pub exits_text : Option RegionPlan → List ℕ
-exits_text None = []
-exits_text (Some p) = codes "Exits:" ▸ (if has_no_exit p then codes " none" else directions p) ▸ codes ".\n"
+abbrev pub exits_text : RegionPlan → List ℕ
+exits_text p = codes "Exits: " ▸ joined_or_none (exit_texts p) ▸ codes ".\n"
 
 unfoldable pub exits_line : WorldValue → RegionView → List ℕ
-exits_line w r = exits_text (get w.regions r.number)
+exits_line w r = option_map_or exits_text (get w.regions r.number) []
 
--- a market by the name that the world gives its item
-abbrev pub market_named : MarketView → Market → Option Item → List ℕ
-market_named e m None = []
-market_named e m (Some item) = codes "Market " ▸ item.name ▸ codes ": " ▸ decimal e.stock ▸ codes " in stock at " ▸ decimal m.price ▸ codes ", " ▸ decimal e.wanted ▸ codes " wanted at " ▸ decimal m.pays ▸ codes ".\n"
-
--- and with the prices that the world sets in the region
-abbrev pub market_text : WorldValue → MarketView → Option Market → List ℕ
-market_text w e None = []
-market_text w e (Some m) = market_named e m (slice_get w.items e.item)
+-- with the prices that the world sets in the region, and the item's name in the world
+abbrev pub market_text : MarketView → Market → Item → List ℕ
+market_text e m item =
+    codes "Market " ▸ item.name ▸ codes ": " ▸ decimal e.stock ▸ codes " in stock at " ▸ decimal m.price ▸ codes ", " ▸ decimal e.wanted
+    ▸ codes " wanted at " ▸ decimal m.pays ▸ codes ".\n"
 
 unfoldable pub market_line : WorldValue → ℕ → MarketView → List ℕ
-market_line w region e = market_text w e (market_of w region e.item)
+market_line w region e = option_map_or (λ m. option_map_or (market_text e m) (slice_get w.items e.item) []) (market_of w region e.item) []
 
 abbrev pub market_lines : WorldValue → ℕ → List MarketView → List ℕ
 market_lines w region = each_text (market_line w region)

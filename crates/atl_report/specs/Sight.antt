@@ -1,6 +1,7 @@
 -- What a faction sees of a campaign. See docs/RULES.md, "Sight".
-use Rattle.std.specs.Prelude.{◌==◌, ◌-◌, ℕ, List, [], map, filter, if◌then◌else◌, Option, Some, None, option_map}
+use Rattle.std.specs.Prelude.{◌==◌, ◌-◌, ℕ, List, [], map, filter, if◌then◌else◌, Option, Some, None, option_and_then, option_map}
 use Rattle.std.specs.List.{filter_map}
+use Rattle.std.specs.Option.{option_map_or}
 use Rattle.std.specs.Ordering.{nat_cmp}
 use Rattle.std.specs.FinMap.{FinMap, get, entries}
 use Rattle.atl_tables.specs.Worlds.{WorldValue}
@@ -29,8 +30,7 @@ use Rattle.atl_report.specs.Watching.{watch_over, is_seen, is_seen_there, sees_r
 
 -- the name that a faction shows
 abbrev pub shown_name : Option Faction → List ℕ
-shown_name None = []
-shown_name (Some f) = f.name
+shown_name faction = option_map_or (λ f. f.name) faction []
 
 -- ---- units
 
@@ -58,8 +58,7 @@ abbrev pub unit_view : CampaignValue → ℕ → ℕ → Unit → UnitView
 unit_view c faction number u = record { number = number; name = u.holding.name; men = u.holding.men; guard = guards u; structure = u.structure; side = side_of c faction u }
 
 abbrev pub seen_unit : WorldValue → CampaignValue → Watch → ℕ → Option Unit → Option UnitView
-seen_unit w c watch number None = None
-seen_unit w c watch number (Some u) = if is_seen w watch u then Some (unit_view c watch.faction number u) else None
+seen_unit w c watch number unit = option_and_then (λ u. if is_seen w watch u then Some (unit_view c watch.faction number u) else None) unit
 
 -- the units of the region that are seen, by number
 abbrev pub unit_views : WorldValue → CampaignValue → Watch → List UnitView
@@ -93,8 +92,7 @@ abbrev pub market_views : Region → RegionPlan → List MarketView
 market_views r p = map (market_view r) (entries p.markets)
 
 abbrev pub region_market_views : Region → Option RegionPlan → List MarketView
-region_market_views r None = []
-region_market_views r (Some p) = market_views r p
+region_market_views r plan = option_map_or (market_views r) plan []
 
 -- ---- the whole
 

@@ -1,6 +1,7 @@
 -- Who sees, and who is seen. See docs/RULES.md, "Sight".
-use Rattle.std.specs.Prelude.{◌==◌, ◌&&◌, ◌||◌, ℕ, Bool, false, nat_lt, nat_le, max, List, [], ◌∷◌, map, if◌then◌else◌, Option, Some, None}
+use Rattle.std.specs.Prelude.{◌==◌, ◌&&◌, ◌||◌, ℕ, Bool, false, nat_lt, nat_le, max, List, [], ◌∷◌, map, if◌then◌else◌, Option}
 use Rattle.std.specs.List.{list_any}
+use Rattle.std.specs.Option.{option_map_or}
 use Rattle.std.specs.FinMap.{get}
 use Rattle.atl_tables.specs.Worlds.{WorldValue}
 use Rattle.atl_records.specs.declared.records.Unit.{Unit}
@@ -13,8 +14,7 @@ use Rattle.atl_report.specs.declared.watch.Watch.{Watch}
 
 -- a unit of the faction, with men
 abbrev pub is_watching : ℕ → Option Unit → Bool
-is_watching faction None = false
-is_watching faction (Some u) = u.faction == faction && nat_lt 0 u.holding.men
+is_watching faction unit = option_map_or (λ u. u.faction == faction && nat_lt 0 u.holding.men) unit false
 
 -- the faction has a unit with men in the region
 abbrev pub sees_region : CampaignValue → ℕ → ℕ → Bool
@@ -24,8 +24,7 @@ sees_region c faction region = list_any (λ n. is_watching faction (get c.units 
 
 -- how well a unit observes, where it is the faction's own
 abbrev pub observation_of : WorldValue → ℕ → Option Unit → ℕ
-observation_of w faction None = 0
-observation_of w faction (Some u) = if u.faction == faction then level_in_any u.holding w.rules.observation else 0
+observation_of w faction unit = option_map_or (λ u. if u.faction == faction then level_in_any u.holding w.rules.observation else 0) unit 0
 
 abbrev pub greatest : List ℕ → ℕ
 greatest [] = 0
@@ -44,5 +43,4 @@ is_seen w watch u = u.faction == watch.faction || (guards u || nat_le (level_in_
 
 -- a unit that is seen, and stands in the region
 abbrev pub is_seen_there : WorldValue → Watch → Option Unit → Bool
-is_seen_there w watch None = false
-is_seen_there w watch (Some u) = u.region == watch.region && is_seen w watch u
+is_seen_there w watch unit = option_map_or (λ u. u.region == watch.region && is_seen w watch u) unit false

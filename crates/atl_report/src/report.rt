@@ -1,7 +1,8 @@
 //! The text of a report.
-ghost use Rattle.std.specs.Prelude.{◌≡◌, ◌++◌, IfOk, OnOk, Some, string_bytes};
-ghost use Rattle.atl_report.specs.Each.{each_text};
-ghost use Rattle.atl_report.specs.Report.{header_line, unit_head, guard_text, inside_text, item_text, skill_text, goods_text, unit_line, structure_text, structure_line, region_line, exit_text, directions, has_no_exit, exits_text, exits_line, market_named, market_line, market_lines, region_part, report_of, OthersEventsAreNotTold, OnlyWhatIsSeenIsTold};
+ghost use Rattle.std.specs.Prelude.{◌≡◌, ◌++◌, ◌&&◌, IfOk, OnOk, [], codes, if◌then◌else◌, is_none, string_bytes};
+ghost use Rattle.std.specs.Option.{option_map_or};
+ghost use Rattle.atl_report.specs.Each.{each_text, joined};
+ghost use Rattle.atl_report.specs.Report.{header_line, unit_head, guard_text, inside_text, item_text, skill_text, goods_text, unit_line, structure_text, structure_line, region_line, exit_text, exit_texts, exits_text, exits_line, market_text, market_line, market_lines, region_part, report_of, OthersEventsAreNotTold, OnlyWhatIsSeenIsTold};
 
 use crate::events::write_orders;
 use crate::views::{
@@ -156,7 +157,7 @@ impl InReport for UnitView {
 
 /// A structure of a kind.
 fn write_built(out: &mut String, structure: &StructureView, kind: &Kind) -> Result<(), AllocError>
-    ensures { OnOk result (string_bytes out.new ≡ string_bytes out.old ++ structure_text structure.now (Some kind.now)) }
+    ensures { OnOk result (string_bytes out.new ≡ string_bytes out.old ++ structure_text structure.now kind.now) }
 {
     let number = structure.number;
     let name = structure.name.as_str();
@@ -203,19 +204,22 @@ fn write_region(out: &mut String, world: &World, region: &RegionView) -> Result<
     )
 }
 
+/// Writes an exit that is there, after a comma if it isn't the first.
 fn write_exit(
     out: &mut String,
     is_first: bool,
     direction: &str,
     exit: Option<u32>,
 ) -> Result<(), AllocError>
-    ensures { OnOk result (string_bytes out.new ≡ string_bytes out.old ++ exit_text is_first direction.now exit) }
+    ensures { OnOk result (
+        string_bytes out.new ≡ string_bytes out.old
+        ++ option_map_or (λ to. (if is_first then [] else codes ", ") ++ exit_text direction.now to) exit []) }
 {
     match exit {
         None => Ok(()),
         Some(number) => {
             if is_first {
-                write!(out, " {direction} {number}")
+                write!(out, "{direction} {number}")
             } else {
                 write!(out, ", {direction} {number}")
             }
@@ -223,9 +227,10 @@ fn write_exit(
     }
 }
 
-#[tactic(auto, unfolding(crate::specs::Report::directions))]
+/// Writes the exits that are there, with commas between them.
 fn write_directions(out: &mut String, plan: &RegionPlan) -> Result<(), AllocError>
-    ensures { OnOk result (string_bytes out.new ≡ string_bytes out.old ++ directions plan.now) }
+    ensures { OnOk result (
+        string_bytes out.new ≡ string_bytes out.old ++ joined (codes ", ") (exit_texts plan.now)) }
 {
     let north = plan.north.is_none();
     let south = plan.south.is_none();
@@ -238,17 +243,19 @@ fn write_directions(out: &mut String, plan: &RegionPlan) -> Result<(), AllocErro
 }
 
 fn has_no_exit(plan: &RegionPlan) -> bool
-    ensures { result ≡ has_no_exit plan.now }
+    ensures { result
+        ≡ (((is_none plan.now.north && is_none plan.now.south) && is_none plan.now.east)
+        && is_none plan.now.west) }
 {
     plan.north.is_none() && plan.south.is_none() && plan.east.is_none() && plan.west.is_none()
 }
 
 fn write_known_exits(out: &mut String, plan: &RegionPlan) -> Result<(), AllocError>
-    ensures { OnOk result (string_bytes out.new ≡ string_bytes out.old ++ exits_text (Some plan.now)) }
+    ensures { OnOk result (string_bytes out.new ≡ string_bytes out.old ++ exits_text plan.now) }
 {
-    out.push_str("Exits:")?;
+    out.push_str("Exits: ")?;
     if has_no_exit(plan) {
-        out.push_str(" none")?;
+        out.push_str("none")?;
     } else {
         write_directions(out, plan)?;
     }
@@ -273,7 +280,7 @@ fn write_traded(
     market: &Market,
     item: &Item,
 ) -> Result<(), AllocError>
-    ensures { OnOk result (string_bytes out.new ≡ string_bytes out.old ++ market_named seen market.now (Some item.now)) }
+    ensures { OnOk result (string_bytes out.new ≡ string_bytes out.old ++ market_text seen market.now item.now) }
 {
     let name = item.name.as_str();
     let stock = seen.stock;
