@@ -2,8 +2,8 @@
 use crate::database::{Opening, Work, work_on};
 use crate::failure::Failure;
 use crate::options;
+use crate::printing::print_result;
 use crate::subcommand::Subcommand;
-use crate::told::printed;
 use atl_service::Service;
 use clap::{Arg, ArgMatches};
 use sqlite::Alter;
@@ -39,6 +39,6 @@ impl Subcommand for Books {
     fn run(rt: &HostRuntime, options: &ArgMatches<'_>) -> Result<(), Failure> {
         let path = options::text_of(options, options::DB)?;
         let text = work_on(rt, path, Opening::Kept, &Asking)?;
-        printed(rt.print(text.as_str()))
+        print_result(rt.print(text.as_str()))
     }
 }

@@ -1,4 +1,4 @@
-//! The campaign of a file.
+//! The campaign in a database file: it is opened, worked on, and closed.
 use crate::failure::Failure;
 use atl_service::{Answer, Command, Refused, Service, found, open, upgrade};
 use sqlite::{Alter, Connection, FileFrom, FileStore, Start, Wary};
@@ -9,7 +9,7 @@ use std::io::ErrorKind;
 
 /// What a subcommand does with a campaign, over any store.
 pub trait Work {
-    /// What the work gives to be told.
+    /// What is printed of the work.
     type Done: Drop;
 
     fn run<S: Alter>(&self, service: &mut Service<S>) -> Result<Self::Done, Failure>;
@@ -24,14 +24,14 @@ impl Work for Command {
     }
 }
 
-/// How a file comes by its campaign.
+/// How the campaign of a file is opened.
 #[derive(Clone, Copy)]
 pub enum Opening<'a> {
     /// It is founded by a world text, with the moderator's pass text. The file may be made for it.
     Founded { world: &'a str, pass: &'a str },
-    /// It stands in the file.
+    /// It is in the file.
     Kept,
-    /// It stands in the file in the first format, and is upgraded by a new world text.
+    /// It is in the file in the first format, and is upgraded by a new world text.
     Upgraded { world: &'a str },
 }
 
@@ -83,7 +83,7 @@ fn confirm_file(rt: &HostRuntime, path: &str) -> Result<(), Failure> {
 
 /// Opens the file as a database, or makes it. A file that is made has no sums on its pages, which a `sqlite3` without that
 /// extension would spoil.
-fn connected<S: Start>(
+fn connect<S: Start>(
     rt: &HostRuntime,
     path: &str,
     start: S,
@@ -95,7 +95,7 @@ fn connected<S: Start>(
 }
 
 /// The campaign of a database, with its service.
-fn opened<S: Alter>(
+fn open_service<S: Alter>(
     alloc: Global,
     conn: Connection<S>,
     opening: Opening<'_>,
@@ -107,14 +107,14 @@ fn opened<S: Alter>(
     }
 }
 
-/// Has the work done on the campaign, and gives its database back.
-fn worked<S: Alter + Drop, W: Work>(
+/// Does the work on the campaign, and returns its result and the connection.
+fn run_work<S: Alter + Drop, W: Work>(
     alloc: Global,
     conn: Connection<S>,
     opening: Opening<'_>,
     work: &W,
 ) -> (Result<W::Done, Failure>, Connection<S>) {
-    match opened(alloc, conn, opening) {
+    match open_service(alloc, conn, opening) {
         Ok(mut service) => {
             let done = work.run(&mut service);
             (done, service.end())
@@ -124,15 +124,15 @@ fn worked<S: Alter + Drop, W: Work>(
 }
 
 /// Copies the log into the file and closes both, so that the file alone holds all that was done.
-fn closed<D: Disk + Drop>(conn: Connection<FileStore<D>>) -> Result<(), Failure> {
+fn close<D: Disk + Drop>(conn: Connection<FileStore<D>>) -> Result<(), Failure> {
     match conn.close() {
         Ok(()) => Ok(()),
         Err(error) => Err(Failure::from(error)),
     }
 }
 
-/// What came of the work, and then of the closing.
-fn done_and_closed<T: Drop>(
+/// The result of the work, or the first failure: that of the work, then that of closing the file.
+fn both_results<T: Drop>(
     done: Result<T, Failure>,
     closing: Result<(), Failure>,
 ) -> Result<T, Failure> {
@@ -141,9 +141,9 @@ fn done_and_closed<T: Drop>(
     Ok(done)
 }
 
-/// Has the work done on the campaign of the file at the path, which then holds the campaign alone, whatever came of the work.
-/// Where the closing fails, the work may have been done, and a log stands beside the file. Only a founding may work on
-/// a file that is missing or too short for a database.
+/// Does the work on the campaign of the file at the path. Afterwards the file alone holds the campaign, whatever came of the
+/// work. If closing the file fails, the work may have been done, and a log is next to the file. Only `found` works on a file
+/// that is missing or too short for a database.
 pub fn work_on<W: Work>(
     rt: &HostRuntime,
     path: &str,
@@ -153,7 +153,7 @@ pub fn work_on<W: Work>(
     if !matches!(&opening, Opening::Founded { .. }) {
         confirm_file(rt, path)?;
     }
-    let conn = connected(rt, path, Wary)?;
-    let (done, conn) = worked(rt.alloc(), conn, opening, work);
-    done_and_closed(done, closed(conn))
+    let conn = connect(rt, path, Wary)?;
+    let (done, conn) = run_work(rt.alloc(), conn, opening, work);
+    both_results(done, close(conn))
 }

@@ -1,4 +1,4 @@
-//! What the program tells on standard error.
+//! Why the program fails, and what it prints of that on standard error. See docs/FORMATS.md, "The program".
 use atl_service::{Cause, Refusal};
 use atl_tables::WorldFault;
 use sqlite::{Error, ErrorCode};
@@ -118,7 +118,7 @@ impl<'a> fmt::Display for OneLine<'a> {
     }
 }
 
-fn tell_world_fault<R: Eprint>(rt: &R, fault: &WorldFault) -> io::Result<()> {
+fn print_world_fault<R: Eprint>(rt: &R, fault: &WorldFault) -> io::Result<()> {
     let Some(number) = fault.number() else {
         return eprintln!(rt; "fault: Memory");
     };
@@ -133,7 +133,7 @@ fn tell_world_fault<R: Eprint>(rt: &R, fault: &WorldFault) -> io::Result<()> {
 }
 
 impl Failure {
-    /// Memory, where the system had none, and else the other failure.
+    /// Memory if the system had none, else the other failure.
     pub fn of_system(error: io::Error, other: Failure) -> Failure {
         match error.kind() {
             ErrorKind::OutOfMemory => Failure::Memory,
@@ -141,15 +141,15 @@ impl Failure {
         }
     }
 
-    /// Tells the failure in one line, or a bad command line in the words of its parser, and gives the status: 2 for a
+    /// Prints the failure in one line, or a bad command line in the words of its parser, and returns the status: 2 for a
     /// bad command line, else 1.
-    pub fn tell<R: Eprint>(self, rt: &R) -> ExitCode {
+    pub fn report<R: Eprint>(self, rt: &R) -> ExitCode {
         let _ = match &self {
             Failure::CommandLine(error) => eprint!(rt; "{error}"),
             Failure::NoSubcommand => eprintln!(rt; "error: no subcommand was asked for"),
             Failure::NoValue => eprintln!(rt; "error: an option has no value"),
             Failure::File => eprintln!(rt; "file: cannot read"),
-            Failure::World(fault) => tell_world_fault(rt, fault),
+            Failure::World(fault) => print_world_fault(rt, fault),
             Failure::Refused(refusal) => {
                 let (number, name) = (refusal.number(), refusal.name());
                 eprintln!(rt; "refused: {number} {name}")

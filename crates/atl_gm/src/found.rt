@@ -3,8 +3,8 @@ use crate::database::{Opening, Work, work_on};
 use crate::failure::Failure;
 use crate::files::text_at;
 use crate::options;
+use crate::printing::print_result;
 use crate::subcommand::Subcommand;
-use crate::told::printed;
 use atl_service::Service;
 use clap::{Arg, ArgMatches};
 use sqlite::Alter;
@@ -57,6 +57,6 @@ impl Subcommand for Found {
             opening,
             &CountRegions,
         )?;
-        printed(println!(rt; "founded, {regions} regions"))
+        print_result(println!(rt; "founded, {regions} regions"))
     }
 }

@@ -2,8 +2,8 @@
 use crate::database::{Opening, Work, work_on};
 use crate::failure::Failure;
 use crate::options;
+use crate::printing::print_answer;
 use crate::subcommand::Subcommand;
-use crate::told::tell;
 use atl_http::{Dice, Request, run_request};
 use atl_service::{Answer, Service};
 use atl_tables::Sequence;
@@ -62,6 +62,6 @@ impl Subcommand for Join {
             dice: options::dice_of(options)?,
         };
         let answer = work_on(rt, path, Opening::Kept, &joining)?;
-        tell(rt, &answer)
+        print_answer(rt, &answer)
     }
 }

@@ -3,8 +3,8 @@ use crate::database::{Opening, work_on};
 use crate::failure::Failure;
 use crate::files::first_bytes_at;
 use crate::options;
+use crate::printing::print_answer;
 use crate::subcommand::Subcommand;
-use crate::told::tell;
 use atl_orders::MOST_BYTES;
 use atl_tables::Sequence;
 use clap::{Arg, ArgMatches};
@@ -47,6 +47,6 @@ impl Subcommand for Mail {
         let path = options::text_of(options, options::DB)?;
         let mail = mailing(rt, options)?;
         let answer = work_on(rt, path, Opening::Kept, &mail)?;
-        tell(rt, &answer)
+        print_answer(rt, &answer)
     }
 }

@@ -10,11 +10,11 @@ mod found;
 mod join;
 mod mail;
 mod options;
+mod printing;
 mod report;
 mod serve;
 mod stack;
 mod subcommand;
-mod told;
 mod trial;
 mod upgrade;
 
@@ -52,7 +52,7 @@ fn command_line<'a>(alloc: Global) -> Result<Command<'a>, AllocError> {
     let line = Command::new(alloc, "atl_gm")
         .about("Moderates a campaign of Atlantis 1.0, the peaceful profile")
         .subcommand_required(true);
-    All::added(alloc, line)
+    All::add_to(alloc, line)
 }
 
 /// Runs the subcommand that was asked for.
@@ -105,6 +105,6 @@ fn run(rt: &HostRuntime) -> Result<(), Failure> {
 fn main(rt: HostRuntime) -> ExitCode {
     match run(&rt) {
         Ok(()) => ExitCode::SUCCESS,
-        Err(failure) => failure.tell(&rt),
+        Err(failure) => failure.report(&rt),
     }
 }

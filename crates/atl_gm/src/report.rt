@@ -2,8 +2,8 @@
 use crate::database::{Opening, work_on};
 use crate::failure::Failure;
 use crate::options;
+use crate::printing::print_answer;
 use crate::subcommand::Subcommand;
-use crate::told::tell;
 use atl_tables::Sequence;
 use clap::{Arg, ArgMatches};
 use std::alloc::{AllocError, Global};
@@ -38,6 +38,6 @@ impl Subcommand for Report {
         let path = options::text_of(options, options::DB)?;
         let request = request(rt, options)?;
         let answer = work_on(rt, path, Opening::Kept, &request)?;
-        tell(rt, &answer)
+        print_answer(rt, &answer)
     }
 }

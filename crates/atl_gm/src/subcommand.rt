@@ -18,7 +18,7 @@ pub trait Subcommand {
 /// A list of subcommands: a pair of the first and the rest, or () where there is none.
 pub trait Subcommands {
     /// The command line with these subcommands after its own.
-    fn added<'a>(alloc: Global, line: Command<'a>) -> Result<Command<'a>, AllocError>;
+    fn add_to<'a>(alloc: Global, line: Command<'a>) -> Result<Command<'a>, AllocError>;
 
     /// Runs the subcommand of this name. Where there is none, that is a bad command line.
     fn run(rt: &HostRuntime, name: &str, options: &ArgMatches<'_>) -> Result<(), Failure>;
@@ -33,7 +33,7 @@ fn command_of<'a, S: Subcommand>(alloc: Global) -> Result<Command<'a>, AllocErro
 }
 
 impl Subcommands for () {
-    fn added<'a>(_alloc: Global, line: Command<'a>) -> Result<Command<'a>, AllocError> {
+    fn add_to<'a>(_alloc: Global, line: Command<'a>) -> Result<Command<'a>, AllocError> {
         Ok(line)
     }
 
@@ -43,9 +43,9 @@ impl Subcommands for () {
 }
 
 impl<First: Subcommand, Rest: Subcommands> Subcommands for (First, Rest) {
-    fn added<'a>(alloc: Global, line: Command<'a>) -> Result<Command<'a>, AllocError> {
+    fn add_to<'a>(alloc: Global, line: Command<'a>) -> Result<Command<'a>, AllocError> {
         let first = command_of::<First>(alloc)?;
-        Rest::added(alloc, line.subcommand(first)?)
+        Rest::add_to(alloc, line.subcommand(first)?)
     }
 
     fn run(rt: &HostRuntime, name: &str, options: &ArgMatches<'_>) -> Result<(), Failure> {

@@ -1,8 +1,8 @@
 //! A first report, in memory.
 use crate::failure::Failure;
 use crate::files::text_on_input;
+use crate::printing::print_answer;
 use crate::subcommand::Subcommand;
-use crate::told::tell;
 use atl_service::{Answer, Refused, Service, found};
 use atl_tables::Sequence;
 use clap::{Arg, ArgMatches};
@@ -25,7 +25,7 @@ fn report(alloc: Global) -> Result<atl_service::Command, Failure> {
 }
 
 /// The answer to a report after a joining, or to the joining where it fails.
-fn reported(
+fn report_after_join(
     service: &mut Service<MemStore>,
     join: &atl_service::Command,
     report: &atl_service::Command,
@@ -45,7 +45,7 @@ fn first_report(
     report: &atl_service::Command,
 ) -> Result<Answer, Failure> {
     match found(alloc, conn, world_text, b"gm") {
-        Ok(mut service) => Ok(reported(&mut service, join, report)),
+        Ok(mut service) => Ok(report_after_join(&mut service, join, report)),
         Err(Refused { why, conn: _ }) => Err(Failure::from(why)),
     }
 }
@@ -76,6 +76,6 @@ impl Subcommand for Trial {
         let alloc = rt.alloc();
         let text = text_on_input(rt, alloc)?;
         let answer = answer(alloc, text.as_str())?;
-        tell(rt, &answer)
+        print_answer(rt, &answer)
     }
 }

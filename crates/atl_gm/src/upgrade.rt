@@ -3,8 +3,8 @@ use crate::database::{Opening, Work, work_on};
 use crate::failure::Failure;
 use crate::files::text_at;
 use crate::options;
+use crate::printing::print_result;
 use crate::subcommand::Subcommand;
-use crate::told::printed;
 use atl_service::Service;
 use clap::{Arg, ArgMatches};
 use sqlite::Alter;
@@ -52,6 +52,6 @@ impl Subcommand for Upgrade {
             world: world.as_str(),
         };
         let markets = work_on(rt, path, opening, &CountMarkets)?;
-        printed(println!(rt; "upgraded, {markets} markets"))
+        print_result(println!(rt; "upgraded, {markets} markets"))
     }
 }

@@ -13,33 +13,33 @@ use Rattle.std.specs.Char.{is_ascii_digit}
 use Rattle.std.specs.Str.{IsUtf8}
 use Rattle.std.proofs.lemmas.Str.{IsUtf8-from_ascii}
 use Rattle.std.proofs.lemmas.Str.Ascii.{IsAscii-from_all}
-use Rattle.atl_http.specs.Routes.{behind, number_of}
+use Rattle.atl_http.specs.Routes.{after_prefix, number_of}
 use Rattle.std.proofs.lemmas.List.Folds.{list_all_at}
 use Rattle.std.specs.Str.Parse.{digits_value}
 use Rattle.std.specs.Prelude.{nat_lt, nat_le}
 
 -- ---- what stands behind a front
 
-behind_step : (x y : ℕ) (w p : List ℕ) → behind (x ∷ w) (y ∷ p) ≡ cond (y == x) (behind w p) None
+behind_step : (x y : ℕ) (w p : List ℕ) → after_prefix (x ∷ w) (y ∷ p) ≡ cond (y == x) (after_prefix w p) None
 behind_step x y w p =
-    elim (y == x) as (λ t. cond (t && pointwise nat_eq (take (length w) p) w) (Some (drop (length w) p)) None ≡ cond t (behind w p) None) [
+    elim (y == x) as (λ t. cond (t && pointwise nat_eq (take (length w) p) w) (Some (drop (length w) p)) None ≡ cond t (after_prefix w p) None) [
       | true ↦ refl
       | false ↦ refl
     ]
 
-behind_by : (x y : ℕ) (w p rest : List ℕ) (t : Bool) → (y == x) ≡ t → (behind w p ≡ Some rest → p ≡ w ++ rest) → cond t (behind w p) None ≡ Some rest → y ∷ p ≡ x ∷ (w ++ rest)
+behind_by : (x y : ℕ) (w p rest : List ℕ) (t : Bool) → (y == x) ≡ t → (after_prefix w p ≡ Some rest → p ≡ w ++ rest) → cond t (after_prefix w p) None ≡ Some rest → y ∷ p ≡ x ∷ (w ++ rest)
 behind_by x y w p rest true e ih k =
     let same : y ≡ x = grind (arith, nat_tests) in
     rw (same, ih k) refl
 behind_by x y w p rest false e ih k = cc
 
-pub behind_is : (w p rest : List ℕ) → behind w p ≡ Some rest → p ≡ w ++ rest
+pub behind_is : (w p rest : List ℕ) → after_prefix w p ≡ Some rest → p ≡ w ++ rest
 behind_is [] p rest h = cc
 behind_is (x ∷ w) [] rest h = cc
 behind_is (x ∷ w) (y ∷ p) rest h = behind_by x y w p rest (y == x) refl (λ k. behind_is w p rest k) (sym (behind_step x y w p) ∙ h)
 
 -- rows with a common front
-front_by : (x y : ℕ) (w p : List ℕ) (t : Rows) (v : Bool) → (y == x) ≡ v → first (prepend w t) p ≡ option_and_then (λ rest. first t rest) (behind w p) → seek 0 (step y (prepend (x ∷ w) t)) p ≡ option_and_then (λ rest. first t rest) (cond v (behind w p) None)
+front_by : (x y : ℕ) (w p : List ℕ) (t : Rows) (v : Bool) → (y == x) ≡ v → first (prepend w t) p ≡ option_and_then (λ rest. first t rest) (after_prefix w p) → seek 0 (step y (prepend (x ∷ w) t)) p ≡ option_and_then (λ rest. first t rest) (cond v (after_prefix w p) None)
 front_by x y w p t true e ih =
     let same : y ≡ x = grind (arith, nat_tests) in
     rw (same, step-hit x w t) ih
@@ -47,7 +47,7 @@ front_by x y w p t false e ih =
     let differ : x ≢ y = λ q. grind (arith, nat_tests) in
     rw (step-miss y x w t differ) (seek-empty 0 p)
 
-pub first_behind : (w : List ℕ) (t : Rows) (path : List ℕ) → IsText w → first (prepend w t) path ≡ option_and_then (λ rest. first t rest) (behind w path)
+pub first_behind : (w : List ℕ) (t : Rows) (path : List ℕ) → IsText w → first (prepend w t) path ≡ option_and_then (λ rest. first t rest) (after_prefix w path)
 unfolding seek
 first_behind [] t path h = ap (λ r. first r path) (prepend-nil t)
 first_behind (x ∷ w) t [] h = own-prepend x w t

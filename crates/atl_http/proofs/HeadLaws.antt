@@ -11,10 +11,10 @@ use Rattle.httparse.proofs.GrammarLemmas.{ReadsRequest-append}
 use Rattle.atl_http.specs.declared.problem.Problem.TheVariants.{BadRequest}
 use Rattle.atl_http.specs.declared.problem.Problem.{Problem}
 use Rattle.atl_http.specs.declared.route.Route.{Route}
-use Rattle.atl_http.specs.declared.request.SoFar.{SoFar}
-use Rattle.atl_http.specs.declared.request.SoFar.TheVariants.{Lacks, Ends}
+use Rattle.atl_http.specs.declared.request.Progress.{Progress}
+use Rattle.atl_http.specs.declared.request.Progress.TheVariants.{Lacks, Ends}
 use Rattle.atl_http.specs.declared.request.Verdict.TheVariants.{More, Refused}
-use Rattle.atl_http.specs.Checks.{head_checks, ended, verdict_of}
+use Rattle.atl_http.specs.Checks.{head_checks, verdict_with_body, verdict_of}
 use Rattle.atl_http.specs.Finding.{seen, EndsAs}
 use Rattle.atl_http.specs.Heads.{most_head, most_fields, HasHead, IsRefused, IsUnfinished, Judges, whole, too_long, refused, unfinished, ComesTo, verdict_by}
 
@@ -54,7 +54,7 @@ whole_head input headers spans head lies at room =
 pub head_stays : (input more : List ℕ) (head : RequestHead) (rest : List ℕ) → HasHead input head rest → HasHead (input ++ more) head (rest ++ more)
 head_stays input more head rest h = record { reads = ReadsRequest-append input head rest more h.reads; bytes = h.bytes; fields = h.fields }
 
-verdict_is : (input : List ℕ) (headers : List HeaderSpan) (spans : RequestSpans) (head : RequestHead) (rest : List ℕ) → IsRequestAt (take most_head input) headers spans head → ended (head_checks spans.version (span_bytes (take most_head input) spans.method) (span_bytes (take most_head input) spans.path) (seen (take most_head input) (take spans.headers headers))) rest ≡ verdict_of head rest
+verdict_is : (input : List ℕ) (headers : List HeaderSpan) (spans : RequestSpans) (head : RequestHead) (rest : List ℕ) → IsRequestAt (take most_head input) headers spans head → verdict_with_body (head_checks spans.version (span_bytes (take most_head input) spans.method) (span_bytes (take most_head input) spans.path) (seen (take most_head input) (take spans.headers headers))) rest ≡ verdict_of head rest
 verdict_is input headers spans head rest at = rw (at.version, at.method, at.path, at.fields) refl
 
 -- ---- a head that isn't one
@@ -85,7 +85,7 @@ short_front input h none goes_on =
 
 -- a head was found, of these checks, and these bytes behind it
 abbrev Finds : (input rest : List ℕ) → Result (Route × ℕ × List ℕ) Problem → Type 0
-Finds input rest checks = (head : RequestHead) × HasHead input head rest × ((behind : List ℕ) → ended checks behind ≡ verdict_of head behind)
+Finds input rest checks = (head : RequestHead) × HasHead input head rest × ((behind : List ℕ) → verdict_with_body checks behind ≡ verdict_of head behind)
 
 pub finds_head : (input front method target rest : List ℕ) (headers fields : List HeaderSpan) (spans : RequestSpans) → front ≡ take most_head input → IsRequestWithin front headers spans × IsRequestOf front headers spans → length headers ≡ most_fields → method ≡ span_bytes front spans.method → target ≡ span_bytes front spans.path → fields ≡ take spans.headers headers → rest ≡ drop spans.len input → Finds input rest (head_checks spans.version method target (seen front fields))
 finds_head input front method target rest headers fields spans e (lies, (head, at)) room method_is target_is fields_are rest_is =
@@ -96,9 +96,9 @@ finds_head input front method target rest headers fields spans e (lies, (head, a
     ∙ ap (λ t. head_checks spans.version (span_bytes front spans.method) t (seen front fields)) target_is
     ∙ ap (λ fs. head_checks spans.version (span_bytes front spans.method) (span_bytes front spans.path) (seen front fs)) fields_are
     ∙ ap (λ l. head_checks spans.version (span_bytes l spans.method) (span_bytes l spans.path) (seen l (take spans.headers headers))) e in
-    (head, subst (λ l. HasHead input head l) (sym rest_is) (whole_head input headers spans head lies_front at_front room), λ behind. ap (λ c. ended c behind) checked ∙ verdict_is input headers spans head behind at_front)
+    (head, subst (λ l. HasHead input head l) (sym rest_is) (whole_head input headers spans head lies_front at_front room), λ behind. ap (λ c. verdict_with_body c behind) checked ∙ verdict_is input headers spans head behind at_front)
 
-pub comes_whole : (input rest : List ℕ) (checks : Result (Route × ℕ × List ℕ) Problem) (told : SoFar) → Finds input rest checks → EndsAs checks rest told → ComesTo input told
+pub comes_whole : (input rest : List ℕ) (checks : Result (Route × ℕ × List ℕ) Problem) (told : Progress) → Finds input rest checks → EndsAs checks rest told → ComesTo input told
 comes_whole input rest checks (Ends outcome) (head, has, same) e = whole head rest has (e ∙ same rest)
 comes_whole input rest checks (Lacks count) (head, has, same) (some, short) = (some, λ more few. whole head (rest ++ more) (head_stays input more head rest has) (sym (short more few) ∙ same (rest ++ more)))
 
@@ -124,6 +124,6 @@ if_ok (Ok x) f h = f x h
 if_ok (Err e) f h = tt
 
 -- what is lacking is more than nothing
-pub judges_by : (input : List ℕ) (told : SoFar) → ComesTo input told → Judges input (verdict_by told)
+pub judges_by : (input : List ℕ) (told : Progress) → ComesTo input told → Judges input (verdict_by told)
 judges_by input (Ends outcome) h = h
 judges_by input (Lacks count) (some, short) = subst (λ l. Judges l More) (append-nil input) (short [] some)

@@ -2,7 +2,7 @@ mod FrontLaws
 pub mod HeadLaws
 pub mod JsonLaws
 pub mod ListeningLaws
-pub mod MovingLaws
+pub mod IoLaws
 pub mod PieceLaws
 pub mod DigitLaws
 pub mod RouteLaws

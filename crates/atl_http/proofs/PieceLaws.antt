@@ -10,7 +10,7 @@ use Rattle.atl_http.specs.declared.problem.Problem.{Problem}
 use Rattle.atl_http.specs.declared.route.Route.{Route}
 use Rattle.atl_http.specs.declared.request.Verdict.{Verdict}
 use Rattle.atl_http.specs.declared.request.Verdict.TheVariants.{More}
-use Rattle.atl_http.specs.Checks.{ended, told, request_of, verdict_of, head_checks}
+use Rattle.atl_http.specs.Checks.{verdict_with_body, verdict_on_request, request_of, verdict_of, head_checks}
 use Rattle.atl_http.specs.Fields.{fields_of}
 use Rattle.atl_http.specs.Heads.{most_head, HasHead, IsRefused, IsTooLong, Judges, whole, too_long, refused, unfinished, IsFinal}
 use Rattle.atl_http.proofs.HeadLaws.{head_stays, refused_stays}
@@ -18,15 +18,15 @@ use Rattle.atl_http.proofs.HeadLaws.{head_stays, refused_stays}
 -- ---- more bytes
 
 -- a body that is whole stays what it is
-ended_at : (short : Bool) (route : Route) (size : ℕ) (pass rest more : List ℕ) → nat_lt (length rest) size ≡ short → IsFinal (cond short More (told (request_of route pass (take size rest)))) → cond (nat_lt (length (rest ++ more)) size) More (told (request_of route pass (take size (rest ++ more)))) ≡ cond short More (told (request_of route pass (take size rest)))
+ended_at : (short : Bool) (route : Route) (size : ℕ) (pass rest more : List ℕ) → nat_lt (length rest) size ≡ short → IsFinal (cond short More (verdict_on_request (request_of route pass (take size rest)))) → cond (nat_lt (length (rest ++ more)) size) More (verdict_on_request (request_of route pass (take size (rest ++ more)))) ≡ cond short More (verdict_on_request (request_of route pass (take size rest)))
 ended_at true route size pass rest more e final = absurd final
 ended_at false route size pass rest more e final =
     let long : size ≤ length rest = grind (arith, nat_tests) in
     let longer : nat_lt (length (rest ++ more)) size ≡ false = (let k = length-append rest more in grind (arith, nat_tests)) in
-    ap (λ t. cond t More (told (request_of route pass (take size (rest ++ more))))) longer
-    ∙ ap (λ body. told (request_of route pass body)) (take-append-le size rest more long)
+    ap (λ t. cond t More (verdict_on_request (request_of route pass (take size (rest ++ more))))) longer
+    ∙ ap (λ body. verdict_on_request (request_of route pass body)) (take-append-le size rest more long)
 
-ended_still : (wanted : Result (Route × ℕ × List ℕ) Problem) (rest more : List ℕ) → IsFinal (ended wanted rest) → ended wanted (rest ++ more) ≡ ended wanted rest
+ended_still : (wanted : Result (Route × ℕ × List ℕ) Problem) (rest more : List ℕ) → IsFinal (verdict_with_body wanted rest) → verdict_with_body wanted (rest ++ more) ≡ verdict_with_body wanted rest
 ended_still (Err problem) rest more final = refl
 ended_still (Ok (route, size, pass)) rest more final = ended_at (nat_lt (length rest) size) route size pass rest more refl final
 

@@ -10,11 +10,11 @@ use Rattle.std.specs.List.{list_all}
 use Rattle.std.proofs.lemmas.Slice.Eq.{bytes_eq-Decides}
 use Rattle.std.specs.Str.{IsUtf8}
 use Rattle.std.proofs.lemmas.Str.{IsUtf8-append, IsUtf8-drop, IsCharBoundary-after_ascii}
-use Rattle.atl_http.specs.Routes.{behind, numbered, number_of, route_of}
+use Rattle.atl_http.specs.Routes.{after_prefix, numbered, number_of, route_of}
 use Rattle.atl_http.specs.Routing.{rows, kept, kept_at, route_in}
 use Rattle.atl_http.specs.declared.route.Route.{Route}
 use Rattle.atl_http.specs.declared.route.Route.TheVariants as route
-use Rattle.atl_http.specs.declared.route.Place.{Place}
+use Rattle.atl_http.specs.declared.route.RouteKey.{RouteKey}
 use Rattle.matchit.specs.Router.{RouteOf, map_key}
 use Rattle.matchit.proofs.RenameLemmas.{first-rename}
 use Rattle.matchit.specs.Params.{walk, wild_from, part_of, named, AllText}
@@ -122,14 +122,14 @@ leads_number key front path rest p f a b (inl (e, inr text)) =
     to_number key rest (a ∙ e) (subst (λ l. Takes key l rest) (sym p) (f.takes_rest rest)) (λ u. f.cut rest (subst IsUtf8 p u)) (inr (subst IsUtf8 (sym p) (f.joins rest text))) b
 leads_number key front path rest p f a b (inr (e, none)) = nowhere (a ∙ e) (b ∙ f.without rest none)
 
-leads_by : (key c : ℕ) (w q : List ℕ) (found : Option (List ℕ)) → behind w q ≡ found → Fronted key (47 ∷ c ∷ w) → first rows (47 ∷ c ∷ q) ≡ option_and_then (λ rest. first (number_row key) rest) found → route_of (47 ∷ c ∷ q) ≡ in_found key found → Leads (47 ∷ c ∷ q)
+leads_by : (key c : ℕ) (w q : List ℕ) (found : Option (List ℕ)) → after_prefix w q ≡ found → Fronted key (47 ∷ c ∷ w) → first rows (47 ∷ c ∷ q) ≡ option_and_then (λ rest. first (number_row key) rest) found → route_of (47 ∷ c ∷ q) ≡ in_found key found → Leads (47 ∷ c ∷ q)
 leads_by key c w q None h f a b = nowhere a b
 leads_by key c w q (Some rest) h f a b = leads_number key (47 ∷ c ∷ w) (47 ∷ c ∷ q) rest (ap (λ l. 47 ∷ c ∷ l) (behind_is w q rest h)) f a b (number_says key rest)
 
 abbrev after_slash : Rows
 after_slash = (codes "close/" ++ param_token ∷ [], 0) ∷ (codes "join", 1) ∷ (codes "orders/" ++ param_token ∷ [], 2) ∷ (codes "report/" ++ param_token ∷ [], 3) ∷ []
 
-slash_first : (path : List ℕ) → first rows path ≡ option_and_then (λ rest. first after_slash rest) (behind (codes "/") path)
+slash_first : (path : List ℕ) → first rows path ≡ option_and_then (λ rest. first after_slash rest) (after_prefix (codes "/") path)
 slash_first path = first_behind (codes "/") after_slash path (lit< tt, tt)
 
 letter_step : (c : ℕ) (q : List ℕ) → first after_slash (c ∷ q) ≡ seek 0 (step c after_slash) q
@@ -143,24 +143,24 @@ leads_close : (q : List ℕ) → Leads (47 ∷ 99 ∷ q)
 unfolding route_of
 leads_close q =
     let same : (x : Option (List ℕ)) → numbered route.Close x None ≡ in_found 0 x = λ x. elim x as (λ x. numbered route.Close x None ≡ in_found 0 x) [ None ↦ refl | Some r ↦ refl ] in
-    leads_by 0 99 (codes "lose/") q (behind (codes "lose/") q) refl fronted_close (letter_first 99 q ∙ first_behind (codes "lose/") (number_row 0) q (is_text (codes "lose/") refl)) (same (behind (codes "lose/") q))
+    leads_by 0 99 (codes "lose/") q (after_prefix (codes "lose/") q) refl fronted_close (letter_first 99 q ∙ first_behind (codes "lose/") (number_row 0) q (is_text (codes "lose/") refl)) (same (after_prefix (codes "lose/") q))
 
 leads_orders : (q : List ℕ) → Leads (47 ∷ 111 ∷ q)
 unfolding route_of
 leads_orders q =
     let same : (x : Option (List ℕ)) → numbered route.Orders x None ≡ in_found 2 x = λ x. elim x as (λ x. numbered route.Orders x None ≡ in_found 2 x) [ None ↦ refl | Some r ↦ refl ] in
-    leads_by 2 111 (codes "rders/") q (behind (codes "rders/") q) refl fronted_orders (letter_first 111 q ∙ first_behind (codes "rders/") (number_row 2) q (is_text (codes "rders/") refl)) (same (behind (codes "rders/") q))
+    leads_by 2 111 (codes "rders/") q (after_prefix (codes "rders/") q) refl fronted_orders (letter_first 111 q ∙ first_behind (codes "rders/") (number_row 2) q (is_text (codes "rders/") refl)) (same (after_prefix (codes "rders/") q))
 
 leads_report : (q : List ℕ) → Leads (47 ∷ 114 ∷ q)
 unfolding route_of
 leads_report q =
     let same : (x : Option (List ℕ)) → numbered route.Report x None ≡ in_found 3 x = λ x. elim x as (λ x. numbered route.Report x None ≡ in_found 3 x) [ None ↦ refl | Some r ↦ refl ] in
-    leads_by 3 114 (codes "eport/") q (behind (codes "eport/") q) refl fronted_report (letter_first 114 q ∙ first_behind (codes "eport/") (number_row 3) q (is_text (codes "eport/") refl)) (same (behind (codes "eport/") q))
+    leads_by 3 114 (codes "eport/") q (after_prefix (codes "eport/") q) refl fronted_report (letter_first 114 q ∙ first_behind (codes "eport/") (number_row 3) q (is_text (codes "eport/") refl)) (same (after_prefix (codes "eport/") q))
 
 abbrev join_row : Rows
 join_row = ([], 1) ∷ []
 
-join_none : (q : List ℕ) (found : Option (List ℕ)) → behind (codes "oin") q ≡ found → (q ≡ codes "oin" → ⊥) → option_and_then (λ rest. first join_row rest) found ≡ None
+join_none : (q : List ℕ) (found : Option (List ℕ)) → after_prefix (codes "oin") q ≡ found → (q ≡ codes "oin" → ⊥) → option_and_then (λ rest. first join_row rest) found ≡ None
 join_none q None h n = refl
 join_none q (Some []) h n = absurd (n (behind_is (codes "oin") q [] h))
 join_none q (Some (b ∷ rest)) h n = end_none 1 b rest
@@ -172,7 +172,7 @@ at_join = to_join refl (ascii_utf8 (codes "/join") refl) refl
 join_by : (q : List ℕ) (t : Bool) → bytes_eq q (codes "oin") ≡ t → Leads (47 ∷ 106 ∷ q)
 unfolding route_of
 join_by q true e = subst Leads (ap (λ l. 47 ∷ 106 ∷ l) (sym ((bytes_eq-Decides q (codes "oin")).0 e))) at_join
-join_by q false e = nowhere (letter_first 106 q ∙ first_behind (codes "oin") join_row q (is_text (codes "oin") refl) ∙ join_none q (behind (codes "oin") q) refl (λ k. let yes = (bytes_eq-Decides q (codes "oin")).1 k in cc)) (rw e refl)
+join_by q false e = nowhere (letter_first 106 q ∙ first_behind (codes "oin") join_row q (is_text (codes "oin") refl) ∙ join_none q (after_prefix (codes "oin") q) refl (λ k. let yes = (bytes_eq-Decides q (codes "oin")).1 k in cc)) (rw e refl)
 
 leads_join : (q : List ℕ) → Leads (47 ∷ 106 ∷ q)
 leads_join q = join_by q (bytes_eq q (codes "oin")) refl
@@ -241,20 +241,20 @@ pub missing : (path : List ℕ) → first kept path ≡ None → route_of path �
 missing path h = missing_by path h (leads path)
 
 -- what a route says of a path that it was found for
-abbrev Says : (path : List ℕ) → RouteOf Place → Type 0
+abbrev Says : (path : List ℕ) → RouteOf RouteKey → Type 0
 Says path e = AllText (walk e.pattern e.text path e.names 0 0) × (route_of path ≡ route_in e.value (named (codes "number") (walk e.pattern e.text path e.names 0 0)))
 
-found_by : (path : List ℕ) (e : RouteOf Place) → IsUtf8 path → first kept path ≡ Some e → Leads path → Says path e
-found_by path e text h (to_join at utf8 is) =
+route_by : (path : List ℕ) (e : RouteOf RouteKey) → IsUtf8 path → first kept path ≡ Some e → Leads path → Says path e
+route_by path e text h (to_join at utf8 is) =
     let same : kept_at 1 ≡ e = (let some = kept_first path (Some 1) at in cc) in
     subst (λ x. Says path x) same (tt, is)
-found_by path e text h (to_number key rest at taken cut utf8 is) =
+route_by path e text h (to_number key rest at taken cut utf8 is) =
     let same : kept_at key ≡ e = (let some = kept_first path (Some key) at in cc) in
     subst (λ x. Says path x) same (rw taken (ascii_utf8 (codes "number") refl, cut text, tt), rw taken is)
-found_by path e text h (nowhere at is) = (let none = kept_first path None at in cc)
+route_by path e text h (nowhere at is) = (let none = kept_first path None at in cc)
 
-found : (path : List ℕ) (e : RouteOf Place) → IsUtf8 path → first kept path ≡ Some e → Says path e
-found path e text h = found_by path e text h (leads path)
+found : (path : List ℕ) (e : RouteOf RouteKey) → IsUtf8 path → first kept path ≡ Some e → Says path e
+found path e text h = route_by path e text h (leads path)
 
 -- what is got of a number's text
 abbrev Gets : {A : Type 0} → (A → List ℕ) → Option A → List (List ℕ × List ℕ) → Type 0
@@ -264,7 +264,7 @@ got_is : {A : Type 0} (view : A → List ℕ) (r : Option A) (text : Option (Lis
 got_is view None text h = h
 got_is view (Some x) text h = h
 
-pub got : {A : Type 0} (view : A → List ℕ) (r : Option A) (path given : List ℕ) (e : RouteOf Place) (route : Option Route) → given ≡ path → IsUtf8 path → first kept path ≡ Some e → Gets view r (walk e.pattern e.text given e.names 0 0) → route ≡ route_in e.value (option_map view r) → route ≡ route_of path
+pub got : {A : Type 0} (view : A → List ℕ) (r : Option A) (path given : List ℕ) (e : RouteOf RouteKey) (route : Option Route) → given ≡ path → IsUtf8 path → first kept path ≡ Some e → Gets view r (walk e.pattern e.text given e.names 0 0) → route ≡ route_in e.value (option_map view r) → route ≡ route_of path
 got view r path given e route same text at gets is =
     let says : Says path e = found path e text at in
     let taken : Gets view r (walk e.pattern e.text path e.names 0 0) = subst (λ l. Gets view r (walk e.pattern e.text l e.names 0 0)) same gets in

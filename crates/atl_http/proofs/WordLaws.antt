@@ -3,11 +3,11 @@ use Rattle.std.proofs.Common.{◌≡◌, ℕ, suc, ◌-◌, ◌+◌, ◌<◌, Li
 use Rattle.std.proofs.lemmas.List.{append_assoc}
 use Rattle.rand_pcg.specs.Lcg.{Lcg}
 use Rattle.rand_pcg.specs.Pcg.{pcg32}
-use Rattle.atl_http.specs.Dice.{word_of, behind, first_words}
+use Rattle.atl_http.specs.Dice.{word_of, next_generator, first_words}
 
 -- the first of the words, and the others
 words_step : (n : ℕ) (g : Lcg) (w : ℕ) (next : Lcg) → (w, next) ≡ pcg32 g → first_words (suc n) g ≡ w ∷ first_words n next
-unfolding first_words word_of behind
+unfolding first_words word_of next_generator
 words_step n g w next e = ap (λ (q : ℕ × Lcg). q.0 ∷ first_words n q.1) (sym e)
 
 -- one word more

@@ -4,14 +4,14 @@ use Rattle.std.specs.Io.KnownBytes.{Keeps, Appends, Consumes, IsAtEnd}
 use Rattle.std.specs.IoError.{error_kind}
 use Rattle.std.specs.declared.io.Error.{Error}
 use Rattle.std.specs.declared.io.ErrorKind.TheVariants as kind
-use Rattle.atl_http.specs.declared.calls.Came.{Came}
-use Rattle.atl_http.specs.declared.calls.Came.TheVariants as came
-use Rattle.atl_http.specs.declared.calls.Written.{Written}
-use Rattle.atl_http.specs.declared.calls.Written.TheVariants as written
+use Rattle.atl_http.specs.declared.calls.ReadOutcome.{ReadOutcome}
+use Rattle.atl_http.specs.declared.calls.ReadOutcome.TheVariants as came
+use Rattle.atl_http.specs.declared.calls.WriteOutcome.{WriteOutcome}
+use Rattle.atl_http.specs.declared.calls.WriteOutcome.TheVariants as written
 use Rattle.atl_http.specs.declared.calls.Reads.{Reads}
 use Rattle.atl_http.specs.declared.calls.Writes.{Writes}
-use Rattle.atl_http.specs.declared.moving.HttpFault.{HttpFault}
-use Rattle.atl_http.specs.declared.moving.HttpFault.TheVariants.{Cut, ReadFault, WriteFault, Memory}
+use Rattle.atl_http.specs.declared.io.HttpFault.{HttpFault}
+use Rattle.atl_http.specs.declared.io.HttpFault.TheVariants.{Cut, ReadFault, WriteFault, Memory}
 
 -- the most reads for one request
 abbrev pub most_reads : ℕ
@@ -24,18 +24,18 @@ most_interrupted = 1000000
 -- ---- one read
 
 -- an answer of no bytes is the end of the input, and an error is an interruption or a failure
-abbrev pub ReadTells : Result ℕ Error → Came → Type 0
-ReadTells (Ok count) (came.Piece n) = (n ≡ count) × (0 < count)
-ReadTells (Ok count) came.End = count ≡ 0
-ReadTells (Ok count) came.Interrupted = ⊥
-ReadTells (Ok count) came.Failed = ⊥
-ReadTells (Err e) (came.Piece n) = ⊥
-ReadTells (Err e) came.End = ⊥
-ReadTells (Err e) came.Interrupted = error_kind e ≡ kind.Interrupted
-ReadTells (Err e) came.Failed = error_kind e ≢ kind.Interrupted
+abbrev pub IsReadOutcome : Result ℕ Error → ReadOutcome → Type 0
+IsReadOutcome (Ok count) (came.Piece n) = (n ≡ count) × (0 < count)
+IsReadOutcome (Ok count) came.End = count ≡ 0
+IsReadOutcome (Ok count) came.Interrupted = ⊥
+IsReadOutcome (Ok count) came.Failed = ⊥
+IsReadOutcome (Err e) (came.Piece n) = ⊥
+IsReadOutcome (Err e) came.End = ⊥
+IsReadOutcome (Err e) came.Interrupted = error_kind e ≡ kind.Interrupted
+IsReadOutcome (Err e) came.Failed = error_kind e ≢ kind.Interrupted
 
 -- what a read takes from the bytes that a reader has left, and puts into the room
-abbrev pub Gives : (before after : Option (List ℕ)) → (room : List ℕ) → Came → Type 0
+abbrev pub Gives : (before after : Option (List ℕ)) → (room : List ℕ) → ReadOutcome → Type 0
 Gives before after room (came.Piece count) = (0 < count) × (count ≤ length room) × Consumes before after (take count room)
 Gives before after room came.End = Keeps before after × IsAtEnd after
 Gives before after room came.Interrupted = Keeps before after
@@ -45,11 +45,11 @@ abbrev pub no_reads : Reads
 no_reads = record { count = 0; last = came.Piece 0 }
 
 -- one read is done, and counted
-abbrev pub ReadsOnce : (before after : Option (List ℕ)) → (room : List ℕ) → (old new : Reads) → Came → Type 0
+abbrev pub ReadsOnce : (before after : Option (List ℕ)) → (room : List ℕ) → (old new : Reads) → ReadOutcome → Type 0
 ReadsOnce before after room old new told = Gives before after room told × (new ≡ record { count = old.count + 1; last = told })
 
 -- the input may still give bytes, and may be read: nothing has ended it
-abbrev pub GoesOn : Came → Type 0
+abbrev pub GoesOn : ReadOutcome → Type 0
 GoesOn (came.Piece count) = ⊤
 GoesOn came.Interrupted = ⊤
 GoesOn came.End = ⊥
@@ -70,16 +70,16 @@ EndsReading reads (Err fault) = (reads.count ≤ most_reads) × ReadFaultOf read
 -- ---- one write
 
 -- a writer that takes nothing fails, and an error is an interruption or a failure
-abbrev pub WriteTells : Result ℕ Error → Written → Type 0
-WriteTells (Ok count) (written.Taken n) = (n ≡ count) × (0 < count)
-WriteTells (Ok count) written.Interrupted = ⊥
-WriteTells (Ok count) written.Failed = count ≡ 0
-WriteTells (Err e) (written.Taken n) = ⊥
-WriteTells (Err e) written.Interrupted = error_kind e ≡ kind.Interrupted
-WriteTells (Err e) written.Failed = error_kind e ≢ kind.Interrupted
+abbrev pub IsWriteOutcome : Result ℕ Error → WriteOutcome → Type 0
+IsWriteOutcome (Ok count) (written.Taken n) = (n ≡ count) × (0 < count)
+IsWriteOutcome (Ok count) written.Interrupted = ⊥
+IsWriteOutcome (Ok count) written.Failed = count ≡ 0
+IsWriteOutcome (Err e) (written.Taken n) = ⊥
+IsWriteOutcome (Err e) written.Interrupted = error_kind e ≡ kind.Interrupted
+IsWriteOutcome (Err e) written.Failed = error_kind e ≢ kind.Interrupted
 
 -- a front of the rest was written, or nothing
-abbrev pub Takes : (before after : Option (List ℕ)) → (rest : List ℕ) → Written → Type 0
+abbrev pub Takes : (before after : Option (List ℕ)) → (rest : List ℕ) → WriteOutcome → Type 0
 Takes before after rest (written.Taken count) = (0 < count) × (count ≤ length rest) × Appends before after (take count rest)
 Takes before after rest written.Interrupted = Appends before after []
 Takes before after rest written.Failed = Appends before after []
@@ -88,13 +88,13 @@ abbrev pub no_writes : Writes
 no_writes = record { interrupted = 0; last = written.Taken 0 }
 
 -- the writes so far and one more, of which this became
-abbrev pub with_write : Writes → Written → Writes
+abbrev pub with_write : Writes → WriteOutcome → Writes
 with_write old (written.Taken count) = record { interrupted = old.interrupted; last = written.Taken count }
 with_write old written.Interrupted = record { interrupted = old.interrupted + 1; last = written.Interrupted }
 with_write old written.Failed = record { interrupted = old.interrupted; last = written.Failed }
 
 -- one write is done, and counted if it was interrupted
-abbrev pub WritesOnce : (before after : Option (List ℕ)) → (rest : List ℕ) → (old new : Writes) → Written → Type 0
+abbrev pub WritesOnce : (before after : Option (List ℕ)) → (rest : List ℕ) → (old new : Writes) → WriteOutcome → Type 0
 WritesOnce before after rest old new told = Takes before after rest told × (new ≡ with_write old told)
 
 -- why a reply was not written, by its writes

@@ -35,47 +35,47 @@ with_method method None = Err NoRoute
 with_method method (Some route) = if bytes_eq method (method_of route) then Ok route else Err (BadMethod route)
 
 -- the route of a request, by the first two checks
-unfoldable pub routed : (minor : ℕ) → (method target : List ℕ) → List Pair → Result Route Problem
-routed minor method target fields = if has_host minor fields then with_method method (route_of (path_of target)) else Err BadRequest
+unfoldable pub requested_route : (minor : ℕ) → (method target : List ℕ) → List Pair → Result Route Problem
+requested_route minor method target fields = if has_host minor fields then with_method method (route_of (path_of target)) else Err BadRequest
 
 -- ---- the third: how many bytes the body of a POST has
 
 -- a body has no more bytes than a mailing
-abbrev pub within : Option ℕ → Result ℕ Problem
-within None = Err BadRequest
-within (Some n) = if nat_lt most_bytes n then Err BodyTooLong else Ok n
+abbrev pub size_within : Option ℕ → Result ℕ Problem
+size_within None = Err BadRequest
+size_within (Some n) = if nat_lt most_bytes n then Err BodyTooLong else Ok n
 
 -- as the fields Content-Length say, which some requests may lack
 abbrev pub declared : (optional : Bool) → List (List ℕ) → Result ℕ Problem
 declared true [] = Ok 0
 declared false [] = Err NoLength
-declared optional (value ∷ []) = within (number_of value)
+declared optional (value ∷ []) = size_within (number_of value)
 declared optional (value ∷ other ∷ more) = Err BadRequest
 
 abbrev pub unless_coded : List (List ℕ) → Result ℕ Problem → Result ℕ Problem
 unless_coded [] size = size
 unless_coded (coding ∷ more) size = Err NoLength
 
-unfoldable pub posted : (optional : Bool) → List Pair → Result ℕ Problem
-posted optional fields = unless_coded (values_of (codes "Transfer-Encoding") fields) (declared optional (values_of (codes "Content-Length") fields))
+unfoldable pub posted_size : (optional : Bool) → List Pair → Result ℕ Problem
+posted_size optional fields = unless_coded (values_of (codes "Transfer-Encoding") fields) (declared optional (values_of (codes "Content-Length") fields))
 
 -- the body of a GET isn't read, and that of a closing may be missing
 abbrev pub size_of : Route → List Pair → Result ℕ Problem
-size_of Join fields = posted false fields
-size_of (Orders faction) fields = posted false fields
-size_of (Close month) fields = posted true fields
+size_of Join fields = posted_size false fields
+size_of (Orders faction) fields = posted_size false fields
+size_of (Close month) fields = posted_size true fields
 size_of (Report faction) fields = Ok 0
 
 -- ---- the fourth: exactly one pass text, but for a joining
 
-unfoldable pub given_pass : List Pair → Result (List ℕ) Problem
-given_pass fields = or_problem NoPass (only (values_of (codes "Atlantis-Pass") fields))
+unfoldable pub pass_field : List Pair → Result (List ℕ) Problem
+pass_field fields = or_problem NoPass (only (values_of (codes "Atlantis-Pass") fields))
 
 abbrev pub pass_of : Route → List Pair → Result (List ℕ) Problem
 pass_of Join fields = Ok []
-pass_of (Orders faction) fields = given_pass fields
-pass_of (Close month) fields = given_pass fields
-pass_of (Report faction) fields = given_pass fields
+pass_of (Orders faction) fields = pass_field fields
+pass_of (Close month) fields = pass_field fields
+pass_of (Report faction) fields = pass_field fields
 
 -- ---- the fifth: the body
 
@@ -106,20 +106,20 @@ request_of (Report faction) pass body = Ok (request.Report faction pass)
 -- the first four checks: the route of a head, how many bytes of body it has, and its pass text
 unfoldable pub head_checks : (minor : ℕ) → (method target : List ℕ) → List Pair → Result (Route × ℕ × List ℕ) Problem
 head_checks minor method target fields = do
-  route ← routed minor method target fields
+  route ← requested_route minor method target fields
   size ← size_of route fields
   pass ← pass_of route fields
   Ok (route, size, pass)
 
-abbrev pub told : Result Request Problem → Verdict
-told (Err problem) = Refused problem
-told (Ok asked) = Asks asked
+abbrev pub verdict_on_request : Result Request Problem → Verdict
+verdict_on_request (Err problem) = Refused problem
+verdict_on_request (Ok asked) = Asks asked
 
 -- a request whose body is whole
-abbrev pub ended : Result (Route × ℕ × List ℕ) Problem → (rest : List ℕ) → Verdict
-ended (Err problem) rest = Refused problem
-ended (Ok (route, size, pass)) rest = if nat_lt (length rest) size then More else told (request_of route pass (take size rest))
+abbrev pub verdict_with_body : Result (Route × ℕ × List ℕ) Problem → (rest : List ℕ) → Verdict
+verdict_with_body (Err problem) rest = Refused problem
+verdict_with_body (Ok (route, size, pass)) rest = if nat_lt (length rest) size then More else verdict_on_request (request_of route pass (take size rest))
 
 -- what a head comes to, with the bytes behind it
 abbrev pub verdict_of : RequestHead → (rest : List ℕ) → Verdict
-verdict_of head rest = ended (head_checks head.minor head.method head.target (fields_of head)) rest
+verdict_of head rest = verdict_with_body (head_checks head.minor head.method head.target (fields_of head)) rest

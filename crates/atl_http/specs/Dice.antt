@@ -16,10 +16,10 @@ unfoldable pub word_of : Lcg → ℕ
 word_of g = (pcg32 g).0
 
 -- the generator that is left behind that word
-unfoldable pub behind : Lcg → Lcg
-behind g = (pcg32 g).1
+unfoldable pub next_generator : Lcg → Lcg
+next_generator g = (pcg32 g).1
 
 -- so many words, one after another
 unfoldable pub first_words : (count : ℕ) → Lcg → List ℕ
 first_words zero g = []
-first_words (suc count) g = word_of g ∷ first_words count (behind g)
+first_words (suc count) g = word_of g ∷ first_words count (next_generator g)

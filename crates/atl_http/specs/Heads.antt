@@ -7,8 +7,8 @@ use Rattle.atl_http.specs.declared.request.Verdict.{Verdict}
 use Rattle.atl_http.specs.declared.request.Verdict.TheVariants.{More, Refused, Asks}
 use Rattle.atl_http.specs.declared.request.Outcome.{Outcome}
 use Rattle.atl_http.specs.declared.request.Outcome.TheVariants as outcome
-use Rattle.atl_http.specs.declared.request.SoFar.{SoFar}
-use Rattle.atl_http.specs.declared.request.SoFar.TheVariants as so_far
+use Rattle.atl_http.specs.declared.request.Progress.{Progress}
+use Rattle.atl_http.specs.declared.request.Progress.TheVariants as progress
 use Rattle.atl_http.specs.Checks.{verdict_of}
 
 -- the most bytes of a head, its empty line among them
@@ -62,13 +62,13 @@ abbrev pub IsShortBy : (seen : List ℕ) → (count : ℕ) → Type 0
 IsShortBy seen count = (more : List ℕ) → length more < count → Judges (seen ++ more) More
 
 -- what the bytes come to, or by how many their request is short
-abbrev pub ComesTo : (seen : List ℕ) → SoFar → Type 0
-ComesTo seen (so_far.Lacks count) = (0 < count) × IsShortBy seen count
-ComesTo seen (so_far.Ends outcome) = Judges seen (final outcome)
+abbrev pub ComesTo : (seen : List ℕ) → Progress → Type 0
+ComesTo seen (progress.Lacks count) = (0 < count) × IsShortBy seen count
+ComesTo seen (progress.Ends outcome) = Judges seen (final outcome)
 
-abbrev pub verdict_by : SoFar → Verdict
-verdict_by (so_far.Lacks count) = More
-verdict_by (so_far.Ends outcome) = final outcome
+abbrev pub verdict_by : Progress → Verdict
+verdict_by (progress.Lacks count) = More
+verdict_by (progress.Ends outcome) = final outcome
 
 -- the most bytes that one read takes
 abbrev pub most_at_once : ℕ

@@ -8,6 +8,6 @@ pub mod Replies
 pub mod Answered
 pub mod Serving
 pub mod Calls
-pub mod Moving
+pub mod Io
 pub mod Listening
 pub mod Finding

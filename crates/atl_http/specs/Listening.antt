@@ -5,8 +5,8 @@ use Rattle.atl_service.specs.Service.{ServiceValue}
 use Rattle.atl_http.specs.declared.dice.Dice.{Dice}
 use Rattle.atl_http.specs.declared.listening.ListenFault.{ListenFault}
 use Rattle.atl_http.specs.declared.listening.ListenFault.TheVariants.{Net, Memory}
-use Rattle.atl_http.specs.declared.moving.HttpFault.{HttpFault}
-use Rattle.atl_http.specs.declared.moving.HttpFault.TheVariants as http
+use Rattle.atl_http.specs.declared.io.HttpFault.{HttpFault}
+use Rattle.atl_http.specs.declared.io.HttpFault.TheVariants as http
 use Rattle.atl_http.specs.Serving.{Known, Serves}
 
 -- one request is served, to this end

@@ -16,8 +16,8 @@ unfoldable pub number_of : List ℕ → Option ℕ
 number_of bytes = if nat_lt 0 (length bytes) && (nat_le (length bytes) most_digits && list_all is_ascii_digit bytes) then Some (digits_value 10 bytes) else None
 
 -- what stands behind a text at the front of another
-abbrev pub behind : List ℕ → List ℕ → Option (List ℕ)
-behind front text = if pointwise nat_eq (take (length front) text) front then Some (drop (length front) text) else None
+abbrev pub after_prefix : List ℕ → List ℕ → Option (List ℕ)
+after_prefix front text = if pointwise nat_eq (take (length front) text) front then Some (drop (length front) text) else None
 
 -- the route whose number stands behind a front, or what comes of a path without the front
 abbrev pub numbered : (ℕ → Route) → Option (List ℕ) → Option Route → Option Route
@@ -35,9 +35,9 @@ path_of target = before_first is_question target
 unfoldable pub route_of : List ℕ → Option Route
 route_of path =
     if bytes_eq path (codes "/join") then Some Join
-    else numbered Orders (behind (codes "/orders/") path)
-    (numbered Close (behind (codes "/close/") path)
-    (numbered Report (behind (codes "/report/") path) None))
+    else numbered Orders (after_prefix (codes "/orders/") path)
+    (numbered Close (after_prefix (codes "/close/") path)
+    (numbered Report (after_prefix (codes "/report/") path) None))
 
 -- the method of a route
 abbrev pub method_of : Route → List ℕ

@@ -4,16 +4,16 @@ use Rattle.matchit.specs.Rows.{Rows, RowsOf, param_token}
 use Rattle.matchit.specs.Router.{RouteOf, rename}
 use Rattle.atl_http.specs.declared.route.Route.{Route}
 use Rattle.atl_http.specs.declared.route.Route.TheVariants as route
-use Rattle.atl_http.specs.declared.route.Place.{Place}
-use Rattle.atl_http.specs.declared.route.Place.TheVariants.{Join, Orders, Close, Report}
+use Rattle.atl_http.specs.declared.route.RouteKey.{RouteKey}
+use Rattle.atl_http.specs.declared.route.RouteKey.TheVariants.{Join, Orders, Close, Report}
 use Rattle.atl_http.specs.Routes.{number_of}
 
 -- a route with a number behind a front
-abbrev pub numbered_route : (front : List ℕ) → Place → RouteOf Place
+abbrev pub numbered_route : (front : List ℕ) → RouteKey → RouteOf RouteKey
 numbered_route front place = record { pattern = front ++ param_token ∷ []; text = front ++ codes "{number}"; names = (length front + 1, length front + 7) ∷ []; value = place }
 
 -- the routes in the router's order
-abbrev pub kept_at : ℕ → RouteOf Place
+abbrev pub kept_at : ℕ → RouteOf RouteKey
 kept_at zero = numbered_route (codes "/close/") Close
 kept_at (suc zero) = record { pattern = codes "/join"; text = codes "/join"; names = []; value = Join }
 kept_at (suc (suc zero)) = numbered_route (codes "/orders/") Orders
@@ -23,11 +23,11 @@ kept_at (suc (suc (suc more))) = numbered_route (codes "/report/") Report
 abbrev pub rows : Rows
 rows = (codes "/close/" ++ param_token ∷ [], 0) ∷ (codes "/join", 1) ∷ (codes "/orders/" ++ param_token ∷ [], 2) ∷ (codes "/report/" ++ param_token ∷ [], 3) ∷ []
 
-abbrev pub kept : RowsOf (RouteOf Place)
+abbrev pub kept : RowsOf (RouteOf RouteKey)
 kept = rename kept_at rows
 
 -- the route of a place, by the text of its number
-abbrev pub route_in : Place → Option (List ℕ) → Option Route
+abbrev pub route_in : RouteKey → Option (List ℕ) → Option Route
 route_in Join parameter = Some route.Join
 route_in Orders None = None
 route_in Orders (Some text) = option_map route.Orders (number_of text)

@@ -10,8 +10,8 @@ use Rattle.atl_service.specs.declared.command.Answer.{Answer}
 use Rattle.atl_service.specs.Service.{ServiceValue}
 use Rattle.atl_service.specs.Runs.{Runs}
 use Rattle.atl_http.specs.declared.dice.Dice.{Dice}
-use Rattle.atl_http.specs.declared.moving.HttpFault.{HttpFault}
-use Rattle.atl_http.specs.declared.moving.HttpFault.TheVariants.{Cut, ReadFault, WriteFault, Memory}
+use Rattle.atl_http.specs.declared.io.HttpFault.{HttpFault}
+use Rattle.atl_http.specs.declared.io.HttpFault.TheVariants.{Cut, ReadFault, WriteFault, Memory}
 use Rattle.atl_http.specs.declared.request.Request.{Request}
 use Rattle.atl_http.specs.declared.request.Request.TheVariants.{Join, Orders, Close, Report}
 use Rattle.atl_http.specs.declared.request.Outcome.{Outcome}
@@ -38,13 +38,13 @@ abbrev pub command_in : {S : Type 0} → Dice → ServiceValue S → Request →
 command_in dice old request = command_of dice (next_faction old.campaign) (len old.world.regions) request
 
 -- the reply to what a request comes to, and what is left of it: nothing is changed, or the command was run
-abbrev pub Told : {S : Type 0} → Ghosts S → Dice → (old : ServiceValue S) → Outcome → Reply → (new : ServiceValue S) → Type 0
-Told g dice old (Refused problem) reply new = (reply ≡ problem_reply problem) × (new ≡ old)
-Told g dice old (Asks request) reply new = (answer : Answer) × Runs g old (command_in dice old request) answer new × (reply ≡ answer_reply answer)
+abbrev pub IsReply : {S : Type 0} → Ghosts S → Dice → (old : ServiceValue S) → Outcome → Reply → (new : ServiceValue S) → Type 0
+IsReply g dice old (Refused problem) reply new = (reply ≡ problem_reply problem) × (new ≡ old)
+IsReply g dice old (Asks request) reply new = (answer : Answer) × Runs g old (command_in dice old request) answer new × (reply ≡ answer_reply answer)
 
 -- the reply to the bytes that were seen, behind which no more were read
 abbrev pub RepliesTo : {S : Type 0} → Ghosts S → Dice → (old : ServiceValue S) → (seen : List ℕ) → Reply → (new : ServiceValue S) → Type 0
-RepliesTo g dice old seen reply new = (outcome : Outcome) × IsReadSoFar seen × Judges seen (final outcome) × Told g dice old outcome reply new
+RepliesTo g dice old seen reply new = (outcome : Outcome) × IsReadSoFar seen × Judges seen (final outcome) × IsReply g dice old outcome reply new
 
 -- the bytes that are known: those that a reader has left, and those that a writer holds
 pub record Known : Type 0 where

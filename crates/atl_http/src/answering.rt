@@ -1,10 +1,10 @@
-//! What is told of the answer to a command.
+//! The replies to the answers of commands. See docs/FORMATS.md, "HTTP".
 ghost use Rattle.std.specs.Prelude.{◌≡◌, ◌++◌, IfOk, OnOk, string_bytes};
 ghost use Rattle.atl_http.specs.Answered.{joined_body, pair, more_pairs, pairs, mailed_body, month_body, refusal_status, success, answer_reply};
 ghost use Rattle.atl_http.specs.Replies.{json};
-ghost use Rattle.atl_http.specs.Moving.{Says};
+ghost use Rattle.atl_http.specs.Io.{Says};
 
-use crate::message::{JSON, Message, NO_NUMBER, PLAIN, error_message, told_by};
+use crate::message::{JSON, Message, NO_NUMBER, PLAIN, error_message, reply_message};
 use atl_orders::FaultyLine;
 use atl_service::{Answer, Fault, Refusal};
 use http::StatusCode;
@@ -66,7 +66,7 @@ fn month_body(alloc: Global, month: u32) -> Result<String, AllocError>
     format!(in alloc; "{{\"month\":{month}}}")
 }
 
-/// The status under which a refusal is told.
+/// The status of the reply to a refusal.
 fn refusal_status(refusal: Refusal) -> StatusCode
     ensures { result ≡ refusal_status refusal }
 {
@@ -87,7 +87,7 @@ fn refusal_status(refusal: Refusal) -> StatusCode
     }
 }
 
-/// The reply that tells a refusal.
+/// The reply to a refusal: its number and name.
 fn refusal_message(alloc: Global, refusal: Refusal) -> Result<Message, AllocError>
     ensures { IfOk result (Says (answer_reply (Answer.Refused refusal))) }
 {
@@ -100,7 +100,7 @@ fn refusal_message(alloc: Global, refusal: Refusal) -> Result<Message, AllocErro
     )
 }
 
-/// The reply that tells a fault.
+/// The reply to a fault: its number and name.
 fn fault_message(alloc: Global, fault: Fault) -> Result<Message, AllocError>
     ensures { IfOk result (Says (answer_reply (Answer.Fault fault))) }
 {
@@ -113,11 +113,11 @@ fn fault_message(alloc: Global, fault: Fault) -> Result<Message, AllocError>
     )
 }
 
-/// The reply that tells what was done.
+/// The reply to a command that was carried out.
 fn success_message(alloc: Global, body: &str) -> Result<Message, AllocError>
     ensures { IfOk result (Says (success json body.now)) }
 {
-    told_by(alloc, StatusCode::OK, None, JSON, body)
+    reply_message(alloc, StatusCode::OK, None, JSON, body)
 }
 
 /// The reply to an answer. AllocError without memory for its bytes.
@@ -137,7 +137,7 @@ pub fn answer_message(alloc: Global, answer: &Answer) -> Result<Message, AllocEr
             let body = month_body(alloc, *month)?;
             success_message(alloc, body.as_str())
         }
-        Answer::Text(text) => told_by(alloc, StatusCode::OK, None, PLAIN, text.as_str()),
+        Answer::Text(text) => reply_message(alloc, StatusCode::OK, None, PLAIN, text.as_str()),
         Answer::Refused(refusal) => refusal_message(alloc, *refusal),
         Answer::Fault(fault) => fault_message(alloc, *fault),
     }

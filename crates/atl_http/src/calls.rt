@@ -1,7 +1,7 @@
 //! The reads of one request and the writes of its reply: how many there were, and what came of the last one.
 ghost use Rattle.std.specs.Prelude.{◌≡◌, ◌↔◌, ◌+◌, ◌<◌, IsTrue, length};
 ghost use Rattle.std.specs.IoError.{error_kind};
-ghost use Rattle.atl_http.specs.Calls.{ReadTells, WriteTells};
+ghost use Rattle.atl_http.specs.Calls.{IsReadOutcome, IsWriteOutcome};
 
 use std::io::{self, Error, ErrorKind, Read, Write};
 
@@ -13,7 +13,7 @@ pub const MOST_INTERRUPTED: u32 = 1_000_000;
 
 /// What came of one read.
 #[derive(Drop, Clone, Copy)]
-pub enum Came {
+pub enum ReadOutcome {
     /// So many bytes.
     Piece(usize),
     /// The input has no more bytes.
@@ -24,7 +24,7 @@ pub enum Came {
 
 /// What became of one write.
 #[derive(Drop, Clone, Copy)]
-pub enum Written {
+pub enum WriteOutcome {
     /// So many bytes were taken.
     Taken(usize),
     Interrupted,
@@ -36,14 +36,14 @@ pub enum Written {
 #[derive(Drop, Clone, Copy)]
 pub struct Reads {
     count: u32,
-    last: Came,
+    last: ReadOutcome,
 }
 
 /// The writes of one reply: how many of them were interrupted, and what became of the last one.
 #[derive(Drop, Clone, Copy)]
 pub struct Writes {
     interrupted: u32,
-    last: Written,
+    last: WriteOutcome,
 }
 
 /// Whether an error only says that the call was interrupted.
@@ -53,27 +53,27 @@ fn is_interrupted(error: &Error) -> bool
     error.kind() == ErrorKind::Interrupted
 }
 
-/// What a reader tells of one read.
-fn came_of(told: io::Result<usize>) -> Came
-    ensures { ReadTells told result }
+/// The outcome of one read.
+fn read_outcome(returned: io::Result<usize>) -> ReadOutcome
+    ensures { IsReadOutcome returned result }
 {
-    match told {
-        Ok(0) => Came::End,
-        Ok(count) => Came::Piece(count),
-        Err(error) if is_interrupted(&error) => Came::Interrupted,
-        Err(_) => Came::Failed,
+    match returned {
+        Ok(0) => ReadOutcome::End,
+        Ok(count) => ReadOutcome::Piece(count),
+        Err(error) if is_interrupted(&error) => ReadOutcome::Interrupted,
+        Err(_) => ReadOutcome::Failed,
     }
 }
 
-/// What a writer tells of one write.
-fn written_of(told: io::Result<usize>) -> Written
-    ensures { WriteTells told result }
+/// The outcome of one write.
+fn write_outcome(returned: io::Result<usize>) -> WriteOutcome
+    ensures { IsWriteOutcome returned result }
 {
-    match told {
-        Ok(0) => Written::Failed,
-        Ok(count) => Written::Taken(count),
-        Err(error) if is_interrupted(&error) => Written::Interrupted,
-        Err(_) => Written::Failed,
+    match returned {
+        Ok(0) => WriteOutcome::Failed,
+        Ok(count) => WriteOutcome::Taken(count),
+        Err(error) if is_interrupted(&error) => WriteOutcome::Interrupted,
+        Err(_) => WriteOutcome::Failed,
     }
 }
 
@@ -86,7 +86,7 @@ impl Reads {
     {
         Reads {
             count: 0,
-            last: Came::Piece(0),
+            last: ReadOutcome::Piece(0),
         }
     }
 
@@ -97,13 +97,14 @@ impl Reads {
         self.count
     }
 
-    /// Reads once, to the front of the room, and tells what came.
-    pub fn read<R: Read>(&mut self, reader: &mut R, room: &mut [u8]) -> Came
+    /// Reads once, to the front of the room, and returns what came.
+    pub fn read<R: Read>(&mut self, reader: &mut R, room: &mut [u8]) -> ReadOutcome
         requires room { 0 < length room.old }
         requires few { self.old.count < most_reads }
-        ensures { ReadsOnce (R.remaining reader.old) (R.remaining reader.new) room.new self.old self.new result }
+        ensures { ReadsOnce (R.remaining reader.old) (R.remaining reader.new) room.new self.old
+            self.new result }
     {
-        let came = came_of(reader.read(room));
+        let came = read_outcome(reader.read(room));
         self.count += 1;
         self.last = came;
         came
@@ -119,7 +120,7 @@ impl Writes {
     {
         Writes {
             interrupted: 0,
-            last: Written::Taken(0),
+            last: WriteOutcome::Taken(0),
         }
     }
 
@@ -130,13 +131,14 @@ impl Writes {
         self.interrupted
     }
 
-    /// Writes once, and tells what became of it.
-    pub fn write<W: Write>(&mut self, writer: &mut W, rest: &[u8]) -> Written
+    /// Writes once, and returns what became of it.
+    pub fn write<W: Write>(&mut self, writer: &mut W, rest: &[u8]) -> WriteOutcome
         requires { self.old.interrupted < most_interrupted }
-        ensures { WritesOnce (W.contents writer.old) (W.contents writer.new) rest.now self.old self.new result }
+        ensures { WritesOnce (W.contents writer.old) (W.contents writer.new) rest.now self.old
+            self.new result }
     {
-        let written = written_of(writer.write(rest));
-        if let Written::Interrupted = written {
+        let written = write_outcome(writer.write(rest));
+        if let WriteOutcome::Interrupted = written {
             self.interrupted += 1;
         }
         self.last = written;

@@ -4,11 +4,11 @@ ghost use Rattle.httparse.specs.Spans.{IsHeaderWithin};
 ghost use Rattle.serde_json.specs.View.{view};
 ghost use Rattle.atl_http.specs.declared.problem.Problem.TheVariants.{BadJson};
 ghost use Rattle.atl_http.specs.Routes.{number_of, method_of};
-ghost use Rattle.atl_http.specs.Checks.{or_problem, has_host, routed, within, posted, size_of, given_pass, pass_of, json_of, text_at, joining, request_of, head_checks};
+ghost use Rattle.atl_http.specs.Checks.{or_problem, has_host, requested_route, size_within, posted_size, size_of, pass_field, pass_of, json_of, text_at, joining, request_of, head_checks};
 ghost use Rattle.atl_http.specs.Finding.{seen, Gives};
 
-use crate::fields::{Found, find_value, only_value};
-use crate::problem::{Problem, Stopped};
+use crate::fields::{FieldLookup, find_value, only_value};
+use crate::problem::{CheckError, Problem};
 use crate::request::Request;
 use crate::route::{Route, number_of, path_of, route_of};
 use atl_orders::MOST_BYTES;
@@ -37,25 +37,26 @@ fn has_host(minor: u8, bytes: &[u8], fields: &[HeaderSpan]) -> bool
 
 /// The route of a request, if its method is the route's: BadRequest, NoRoute or BadMethod where it isn't, Memory without memory for
 /// the routes.
-#[tactic(auto, unfolding(crate::specs::Checks::routed))]
-fn routed(
+#[tactic(auto, unfolding(crate::specs::Checks::requested_route))]
+fn requested_route(
     alloc: Global,
     minor: u8,
     method: &[u8],
     target: &[u8],
     bytes: &[u8],
     fields: &[HeaderSpan],
-) -> Result<Route, Stopped>
+) -> Result<Route, CheckError>
     requires { All (IsHeaderWithin (length bytes.now)) fields.now }
-    ensures { Gives (λ route. route) result (routed minor method.now target.now (seen bytes.now fields.now)) }
+    ensures { Gives (λ route. route) result
+        (requested_route minor method.now target.now (seen bytes.now fields.now)) }
 {
     if !has_host(minor, bytes, fields) {
-        return Err(Stopped::Failed(Problem::BadRequest));
+        return Err(CheckError::Failed(Problem::BadRequest));
     }
     match route_of(alloc, path_of(target))? {
-        None => Err(Stopped::Failed(Problem::NoRoute)),
+        None => Err(CheckError::Failed(Problem::NoRoute)),
         Some(route) if is_method(method, route) => Ok(route),
-        Some(route) => Err(Stopped::Failed(Problem::BadMethod(route))),
+        Some(route) => Err(CheckError::Failed(Problem::BadMethod(route))),
     }
 }
 
@@ -67,71 +68,74 @@ fn is_method(method: &[u8], route: Route) -> bool
 }
 
 /// The length that a text says, if a body may have it.
-fn within(text: &[u8]) -> Result<usize, Stopped>
-    ensures { Gives (λ size. size) result (within (number_of text.now)) }
+fn size_within(text: &[u8]) -> Result<usize, CheckError>
+    ensures { Gives (λ size. size) result (size_within (number_of text.now)) }
 {
     match number_of(text) {
-        None => Err(Stopped::Failed(Problem::BadRequest)),
-        Some(size) if MOST_BYTES < size as usize => Err(Stopped::Failed(Problem::BodyTooLong)),
+        None => Err(CheckError::Failed(Problem::BadRequest)),
+        Some(size) if MOST_BYTES < size as usize => Err(CheckError::Failed(Problem::BodyTooLong)),
         Some(size) => Ok(size as usize),
     }
 }
 
 /// The length of the body of a POST.
-#[tactic(auto, unfolding(crate::specs::Checks::posted))]
-fn posted(is_optional: bool, bytes: &[u8], fields: &[HeaderSpan]) -> Result<usize, Stopped>
+#[tactic(auto, unfolding(crate::specs::Checks::posted_size))]
+fn posted_size(is_optional: bool, bytes: &[u8], fields: &[HeaderSpan]) -> Result<usize, CheckError>
     requires { All (IsHeaderWithin (length bytes.now)) fields.now }
-    ensures { Gives (λ size. size) result (posted is_optional (seen bytes.now fields.now)) }
+    ensures { Gives (λ size. size) result (posted_size is_optional (seen bytes.now fields.now)) }
 {
-    if !matches!(find_value(bytes, fields, TRANSFER_ENCODING), Found::Nowhere) {
-        return Err(Stopped::Failed(Problem::NoLength));
+    if !matches!(
+        find_value(bytes, fields, TRANSFER_ENCODING),
+        FieldLookup::Nowhere
+    ) {
+        return Err(CheckError::Failed(Problem::NoLength));
     }
     match find_value(bytes, fields, CONTENT_LENGTH) {
-        Found::Nowhere if is_optional => Ok(0),
-        Found::Nowhere => Err(Stopped::Failed(Problem::NoLength)),
-        Found::Once(value) => within(value.of(bytes)),
-        Found::Several => Err(Stopped::Failed(Problem::BadRequest)),
+        FieldLookup::Nowhere if is_optional => Ok(0),
+        FieldLookup::Nowhere => Err(CheckError::Failed(Problem::NoLength)),
+        FieldLookup::Once(value) => size_within(value.of(bytes)),
+        FieldLookup::Several => Err(CheckError::Failed(Problem::BadRequest)),
     }
 }
 
 /// The length of the body that is read.
-fn size_of(route: Route, bytes: &[u8], fields: &[HeaderSpan]) -> Result<usize, Stopped>
+fn size_of(route: Route, bytes: &[u8], fields: &[HeaderSpan]) -> Result<usize, CheckError>
     requires { All (IsHeaderWithin (length bytes.now)) fields.now }
     ensures { Gives (λ size. size) result (size_of route (seen bytes.now fields.now)) }
 {
     match route {
-        Route::Join | Route::Orders(_) => posted(false, bytes, fields),
-        Route::Close(_) => posted(true, bytes, fields),
+        Route::Join | Route::Orders(_) => posted_size(false, bytes, fields),
+        Route::Close(_) => posted_size(true, bytes, fields),
         Route::Report(_) => Ok(0),
     }
 }
 
-/// The pass text, which stands exactly once.
-#[tactic(auto, unfolding(crate::specs::Checks::given_pass))]
-fn given_pass<'a>(bytes: &'a [u8], fields: &[HeaderSpan]) -> Result<&'a [u8], Stopped>
+/// The pass text, whose field is there exactly once.
+#[tactic(auto, unfolding(crate::specs::Checks::pass_field))]
+fn pass_field<'a>(bytes: &'a [u8], fields: &[HeaderSpan]) -> Result<&'a [u8], CheckError>
     requires { All (IsHeaderWithin (length bytes.now)) fields.now }
-    ensures { Gives (λ pass. pass.now) result (given_pass (seen bytes.now fields.now)) }
+    ensures { Gives (λ pass. pass.now) result (pass_field (seen bytes.now fields.now)) }
 {
     match only_value(bytes, fields, PASS) {
-        None => Err(Stopped::Failed(Problem::NoPass)),
+        None => Err(CheckError::Failed(Problem::NoPass)),
         Some(pass) => Ok(pass),
     }
 }
 
 /// The pass text that a route needs.
-fn pass_of<'a>(route: Route, bytes: &'a [u8], fields: &[HeaderSpan]) -> Result<&'a [u8], Stopped>
+fn pass_of<'a>(route: Route, bytes: &'a [u8], fields: &[HeaderSpan]) -> Result<&'a [u8], CheckError>
     requires { All (IsHeaderWithin (length bytes.now)) fields.now }
     ensures { Gives (λ pass. pass.now) result (pass_of route (seen bytes.now fields.now)) }
 {
     match route {
         Route::Join => Ok(&[]),
-        Route::Orders(_) | Route::Close(_) | Route::Report(_) => given_pass(bytes, fields),
+        Route::Orders(_) | Route::Close(_) | Route::Report(_) => pass_field(bytes, fields),
     }
 }
 
 /// What a head asks for.
 #[derive(Drop, Clone, Copy)]
-pub struct Wanted<'a> {
+pub struct ParsedHead<'a> {
     pub route: Route,
     /// How many bytes the body has.
     pub size: usize,
@@ -147,43 +151,44 @@ pub fn head_checks<'a>(
     target: &[u8],
     bytes: &'a [u8],
     fields: &[HeaderSpan],
-) -> Result<Wanted<'a>, Stopped>
+) -> Result<ParsedHead<'a>, CheckError>
     requires { All (IsHeaderWithin (length bytes.now)) fields.now }
-    ensures { Gives (λ w. (w.route, w.size, w.pass.now)) result (head_checks minor method.now target.now (seen bytes.now fields.now)) }
+    ensures { Gives (λ w. (w.route, w.size, w.pass.now)) result
+        (head_checks minor method.now target.now (seen bytes.now fields.now)) }
 {
-    let route = routed(alloc, minor, method, target, bytes, fields)?;
+    let route = requested_route(alloc, minor, method, target, bytes, fields)?;
     let size = size_of(route, bytes, fields)?;
     let pass = pass_of(route, bytes, fields)?;
-    Ok(Wanted { route, size, pass })
+    Ok(ParsedHead { route, size, pass })
 }
 
 /// What a body of JSON says.
-fn json_of(alloc: Global, body: &[u8]) -> Result<Value, Stopped>
+fn json_of(alloc: Global, body: &[u8]) -> Result<Value, CheckError>
     ensures { Gives view result (or_problem BadJson (json_of body.now)) }
 {
     let Ok(text) = str::from_utf8(body) else {
-        return Err(Stopped::Failed(Problem::BadJson));
+        return Err(CheckError::Failed(Problem::BadJson));
     };
     match Value::from_str(alloc, text) {
         Ok(said) => Ok(said),
-        Err(error) if error.is_memory() => Err(Stopped::Memory),
-        Err(_) => Err(Stopped::Failed(Problem::BadJson)),
+        Err(error) if error.is_memory() => Err(CheckError::Memory),
+        Err(_) => Err(CheckError::Failed(Problem::BadJson)),
     }
 }
 
 /// The text under a key.
-fn text_at<'a>(said: &'a Value, key: &str) -> Result<&'a str, Stopped>
+fn text_at<'a>(said: &'a Value, key: &str) -> Result<&'a str, CheckError>
     ensures { Gives (λ text. text.now) result (or_problem BadJson (text_at key.now (view said.now))) }
 {
     match said.get(key).and_then(Value::as_str) {
-        None => Err(Stopped::Failed(Problem::BadJson)),
+        None => Err(CheckError::Failed(Problem::BadJson)),
         Some(text) => Ok(text),
     }
 }
 
-/// The joining that a body asks for.
+/// The join that a body asks for.
 #[tactic(auto, unfolding(crate::specs::Checks::joining))]
-fn joining(alloc: Global, body: &[u8]) -> Result<Request, Stopped>
+fn joining(alloc: Global, body: &[u8]) -> Result<Request, CheckError>
     ensures { Gives (λ request. request) result (joining body.now) }
 {
     let said = json_of(alloc, body)?;
@@ -195,9 +200,14 @@ fn joining(alloc: Global, body: &[u8]) -> Result<Request, Stopped>
     })
 }
 
-/// What a request asks for, by its whole body. BadJson where a joining's body is no object with both texts; Memory without memory
+/// What a request asks for, by its whole body. BadJson if the body of a join is no object with both texts; Memory without memory
 /// for them.
-pub fn request_of(alloc: Global, route: Route, pass: &[u8], body: &[u8]) -> Result<Request, Stopped>
+pub fn request_of(
+    alloc: Global,
+    route: Route,
+    pass: &[u8],
+    body: &[u8],
+) -> Result<Request, CheckError>
     ensures { Gives (λ request. request) result (request_of route pass.now body.now) }
 {
     match route {

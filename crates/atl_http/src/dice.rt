@@ -6,7 +6,7 @@ use rand_core::utils::NextWord;
 use rand_pcg::Lcg64Xsh32;
 use std::alloc::{AllocError, Global};
 
-/// The stream of a faction that joins is its number behind this one, so that it is no month's.
+/// The stream of a faction that joins is this number plus its own, so that it is no month's.
 const JOINING_STREAMS: u64 = 10_000;
 
 /// Dice, by the seed that a club chose. The same seed gives the same words. See docs/FORMATS.md, "Dice".
@@ -33,7 +33,8 @@ impl Dice {
         month: u32,
         count: usize,
     ) -> Result<Vec<u32>, AllocError>
-        ensures definition { IfOk result (λ words. words.items ≡ first_words count (generator self.seed month)) }
+        ensures definition { IfOk result
+            (λ words. words.items ≡ first_words count (generator self.seed month)) }
     {
         let mut generator = Lcg64Xsh32::new(self.seed, u64::from(month));
         let mut words = Vec::new(alloc);

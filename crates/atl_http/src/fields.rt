@@ -3,13 +3,13 @@ ghost use Rattle.std.specs.Prelude.{◌≡◌, All, length, option_map};
 ghost use Rattle.std.specs.Str.{str_eq_ignore_ascii_case};
 ghost use Rattle.httparse.specs.Spans.{IsHeaderWithin};
 ghost use Rattle.atl_http.specs.Fields.{values_of, only};
-ghost use Rattle.atl_http.specs.Finding.{Tells, one_more, seen};
+ghost use Rattle.atl_http.specs.Finding.{HasValues, one_more, seen};
 
 use httparse::spans::{HeaderSpan, Span};
 
-/// How often a name stands among the fields, and where its value is.
+/// Whether a name is among the fields once or several times, and where its value is.
 #[derive(Drop, Clone, Copy)]
-pub enum Found {
+pub enum FieldLookup {
     Nowhere,
     Once(Span),
     Several,
@@ -23,22 +23,22 @@ fn is_same(name: &[u8], other: &[u8]) -> bool
 }
 
 /// What is found, with one value more.
-fn with_value(found: Found, value: Span) -> Found
+fn with_value(found: FieldLookup, value: Span) -> FieldLookup
     ensures { result ≡ one_more found value }
 {
     match found {
-        Found::Nowhere => Found::Once(value),
-        Found::Once(_) | Found::Several => Found::Several,
+        FieldLookup::Nowhere => FieldLookup::Once(value),
+        FieldLookup::Once(_) | FieldLookup::Several => FieldLookup::Several,
     }
 }
 
 /// Where the value of a name is, among the fields whose places these are.
 #[tactic(auto, unfolding(crate::specs::Fields::values_of))]
-pub fn find_value(bytes: &[u8], fields: &[HeaderSpan], name: &[u8]) -> Found
+pub fn find_value(bytes: &[u8], fields: &[HeaderSpan], name: &[u8]) -> FieldLookup
     requires { All (IsHeaderWithin (length bytes.now)) fields.now }
-    ensures { Tells bytes.now result (values_of name.now (seen bytes.now fields.now)) }
+    ensures { HasValues bytes.now result (values_of name.now (seen bytes.now fields.now)) }
 {
-    let mut found = Found::Nowhere;
+    let mut found = FieldLookup::Nowhere;
     for field in fields {
         if is_same(field.name.of(bytes), name) {
             found = with_value(found, field.value);
@@ -47,13 +47,14 @@ pub fn find_value(bytes: &[u8], fields: &[HeaderSpan], name: &[u8]) -> Found
     found
 }
 
-/// The value of a name that stands exactly once.
+/// The value of a name that is there exactly once.
 pub fn only_value<'a>(bytes: &'a [u8], fields: &[HeaderSpan], name: &[u8]) -> Option<&'a [u8]>
     requires { All (IsHeaderWithin (length bytes.now)) fields.now }
-    ensures { option_map (λ value. value.now) result ≡ only (values_of name.now (seen bytes.now fields.now)) }
+    ensures { option_map (λ value. value.now) result
+        ≡ only (values_of name.now (seen bytes.now fields.now)) }
 {
     match find_value(bytes, fields, name) {
-        Found::Once(value) => Some(value.of(bytes)),
-        Found::Nowhere | Found::Several => None,
+        FieldLookup::Once(value) => Some(value.of(bytes)),
+        FieldLookup::Nowhere | FieldLookup::Several => None,
     }
 }

@@ -1,4 +1,4 @@
-//! A campaign's side of the net: one request, its reply, and the words that dice give.
+//! HTTP on loopback: one request, its reply, and the words that the dice give. See docs/FORMATS.md, "HTTP".
 #![tactic(auto)]
 
 mod answering;
@@ -6,10 +6,10 @@ pub mod calls;
 mod checks;
 pub mod dice;
 mod fields;
-pub mod judging;
+pub mod io;
 pub mod listening;
 pub mod message;
-pub mod moving;
+pub mod parsing;
 mod patience;
 pub mod pieces;
 pub mod problem;
@@ -18,8 +18,8 @@ pub mod route;
 pub mod serving;
 
 pub use dice::Dice;
-pub use judging::judged;
-pub use moving::HttpFault;
+pub use io::HttpFault;
+pub use parsing::verdict_on;
 pub use pieces::pieces_do_not_matter;
 pub use problem::Problem;
 pub use request::{Outcome, Request, Verdict};

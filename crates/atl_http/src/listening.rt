@@ -2,7 +2,7 @@
 ghost use Rattle.atl_http.specs.Listening.{Attends, ServesEach};
 
 use crate::dice::Dice;
-use crate::moving::HttpFault;
+use crate::io::HttpFault;
 use crate::patience::{Patience, ReadEnd, WriteEnd};
 use crate::serving::serve_one;
 use atl_service::Service;

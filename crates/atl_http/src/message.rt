@@ -2,7 +2,7 @@
 ghost use Rattle.std.specs.Prelude.{◌≡◌, IfOk, OnOk, ◌++◌, [], unwrap_or, string_bytes};
 ghost use Rattle.http.specs.StatusCode.{reason_phrase};
 ghost use Rattle.atl_http.specs.Replies.{json, allow_line, head_of, error_body, problem_reply};
-ghost use Rattle.atl_http.specs.Moving.{Says};
+ghost use Rattle.atl_http.specs.Io.{Says};
 
 use crate::problem::Problem;
 use crate::route::Route;
@@ -17,7 +17,7 @@ pub const JSON: &str = "application/json";
 /// What a report is.
 pub const PLAIN: &str = "text/plain";
 
-/// The number that is told of an error that has none.
+/// What stands in for the number of an error that has none.
 pub const NO_NUMBER: u8 = 0;
 
 /// A reply: its status, and all its bytes.
@@ -50,7 +50,8 @@ fn write_head(
     kind: &str,
     body: &str,
 ) -> Result<(), AllocError>
-    ensures { OnOk result (string_bytes out.new ≡ string_bytes out.old ++ head_of status kind.now body.now) }
+    ensures { OnOk result
+        (string_bytes out.new ≡ string_bytes out.old ++ head_of status kind.now body.now) }
 {
     let number = status.as_u16();
     let phrase = phrase_of(status);
@@ -61,7 +62,7 @@ fn write_head(
     )
 }
 
-/// Writes the method of the route, if it is to be told.
+/// Writes the field `Allow` with the method of the route, if there is one.
 fn write_allowed(out: &mut String, allow: Option<Route>) -> Result<(), AllocError>
     ensures { OnOk result (string_bytes out.new ≡ string_bytes out.old ++ allow_line allow) }
 {
@@ -76,14 +77,15 @@ fn write_allowed(out: &mut String, allow: Option<Route>) -> Result<(), AllocErro
 }
 
 /// The reply of these parts. AllocError without memory for its bytes.
-pub fn told_by(
+pub fn reply_message(
     alloc: Global,
     status: StatusCode,
     allow: Option<Route>,
     kind: &str,
     body: &str,
 ) -> Result<Message, AllocError>
-    ensures { IfOk result (Says (record { status = status; allow = allow; kind = kind.now; body = body.now })) }
+    ensures { IfOk result
+        (Says (record { status = status; allow = allow; kind = kind.now; body = body.now })) }
 {
     let mut bytes = String::new(alloc);
     write_head(&mut bytes, status, kind, body)?;
@@ -95,7 +97,7 @@ pub fn told_by(
     })
 }
 
-/// The body that tells an error.
+/// The body of a reply to an error: its number and name.
 #[tactic(auto, unfolding(crate::specs::Replies::error_body))]
 fn error_body(alloc: Global, name: &str, number: u8) -> Result<String, AllocError>
     ensures { IfOk result (λ body. string_bytes body ≡ error_body name.now number) }
@@ -103,7 +105,7 @@ fn error_body(alloc: Global, name: &str, number: u8) -> Result<String, AllocErro
     format!(in alloc; "{{\"error\":\"{name}\",\"number\":{number}}}")
 }
 
-/// The reply that tells an error. AllocError without memory for its bytes.
+/// The reply to an error. AllocError without memory for its bytes.
 pub fn error_message(
     alloc: Global,
     status: StatusCode,
@@ -111,10 +113,17 @@ pub fn error_message(
     name: &str,
     number: u8,
 ) -> Result<Message, AllocError>
-    ensures { IfOk result (Says (record { status = status; allow = allow; kind = json; body = error_body name.now number })) }
+    ensures { IfOk result
+        (Says (record {
+          status = status;
+          allow = allow;
+          kind = json;
+          body = error_body name.now
+              number;
+        })) }
 {
     let body = error_body(alloc, name, number)?;
-    told_by(alloc, status, allow, JSON, body.as_str())
+    reply_message(alloc, status, allow, JSON, body.as_str())
 }
 
 /// The reply to a request with a problem. AllocError without memory for its bytes.

@@ -1,7 +1,7 @@
 //! The law on requests that come in pieces.
 ghost use Rattle.atl_http.specs.Heads.{PiecesDoNotMatter};
 
-/// It doesn't matter in which pieces a request comes: bytes behind one that is whole or refused change nothing, and it comes to
+/// It doesn't matter in which pieces a request comes: bytes after one that is whole or refused change nothing, and it comes to
 /// one thing alone.
 pub fn pieces_do_not_matter()
     ensures { PiecesDoNotMatter }

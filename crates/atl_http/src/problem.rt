@@ -28,7 +28,7 @@ pub enum Problem {
 }
 
 impl Problem {
-    /// The name under which the problem is told.
+    /// The problem's name, as replies have it.
     pub fn name(self) -> &'static str
         ensures { result.now ≡ problem_name self }
     {
@@ -43,7 +43,7 @@ impl Problem {
         }
     }
 
-    /// The status under which the problem is told.
+    /// The status of the reply to the problem.
     pub fn status(self) -> StatusCode
         ensures { result ≡ problem_status self }
     {
@@ -68,17 +68,17 @@ impl Error for Problem {}
 
 /// Why there is nothing to go on with: there was no memory, or a check failed.
 #[derive(Drop, Clone, Copy)]
-pub enum Stopped {
+pub enum CheckError {
     Memory,
     Failed(Problem),
 }
 
-impl From<AllocError> for Stopped {
-    ghost use Rattle.atl_http.specs.declared.problem.Stopped.TheVariants.{Memory};
+impl From<AllocError> for CheckError {
+    ghost use Rattle.atl_http.specs.declared.problem.CheckError.TheVariants.{Memory};
 
     ghost from_gives = { λ _ e. e ≡ Memory };
 
-    fn from(_e: AllocError) -> Stopped {
-        Stopped::Memory
+    fn from(_e: AllocError) -> CheckError {
+        CheckError::Memory
     }
 }

@@ -112,15 +112,15 @@ pub enum Outcome {
     Asks(Request),
 }
 
-/// What the bytes that have come of a request come to, or how many more it lacks.
+/// What the bytes received so far come to, or how many more are missing.
 #[derive(Drop)]
-pub enum SoFar {
+pub enum Progress {
     /// The request isn't whole, and won't be with fewer bytes more than so many, at least one.
     Lacks(usize),
     Ends(Outcome),
 }
 
-impl SoFar {
+impl Progress {
     ghost use Rattle.atl_http.specs.Heads.{verdict_by};
 
     /// What the bytes come to.
@@ -128,9 +128,9 @@ impl SoFar {
         ensures { result ≡ verdict_by self }
     {
         match self {
-            SoFar::Lacks(_) => Verdict::More,
-            SoFar::Ends(Outcome::Refused(problem)) => Verdict::Refused(problem),
-            SoFar::Ends(Outcome::Asks(request)) => Verdict::Asks(request),
+            Progress::Lacks(_) => Verdict::More,
+            Progress::Ends(Outcome::Refused(problem)) => Verdict::Refused(problem),
+            Progress::Ends(Outcome::Asks(request)) => Verdict::Asks(request),
         }
     }
 }

@@ -20,7 +20,7 @@ pub enum Route {
     Join,
     /// The mailing of the faction of this number.
     Orders(u32),
-    /// The closing of the month of this number.
+    /// Closes the month of this number.
     Close(u32),
     /// The report of the faction of this number.
     Report(u32),
@@ -28,7 +28,7 @@ pub enum Route {
 
 /// What a path leads to, whatever its number.
 #[derive(Drop, Clone, Copy)]
-pub enum Place {
+pub enum RouteKey {
     Join,
     Orders,
     Close,
@@ -89,7 +89,7 @@ pub fn path_of(target: &[u8]) -> &[u8]
 }
 
 /// Adds a route to a router.
-fn add(router: &mut Router<Place>, route: &str, place: Place) -> Result<(), AllocError>
+fn add(router: &mut Router<RouteKey>, route: &str, place: RouteKey) -> Result<(), AllocError>
     ensures { OnOk result (InsertsRead (parse_route route.now) place router.old router.new (Ok tt)) }
 {
     match router.insert(route, place) {
@@ -99,32 +99,32 @@ fn add(router: &mut Router<Place>, route: &str, place: Place) -> Result<(), Allo
 }
 
 /// A router of the four routes.
-fn router(alloc: Global) -> Result<Router<Place>, AllocError>
+fn router(alloc: Global) -> Result<Router<RouteKey>, AllocError>
     ensures { IfOk result (λ router. router ≡ kept) }
 {
     let mut router = Router::new(alloc);
-    add(&mut router, "/join", Place::Join)?;
-    add(&mut router, "/orders/{number}", Place::Orders)?;
-    add(&mut router, "/close/{number}", Place::Close)?;
-    add(&mut router, "/report/{number}", Place::Report)?;
+    add(&mut router, "/join", RouteKey::Join)?;
+    add(&mut router, "/orders/{number}", RouteKey::Orders)?;
+    add(&mut router, "/close/{number}", RouteKey::Close)?;
+    add(&mut router, "/report/{number}", RouteKey::Report)?;
     Ok(router)
 }
 
 /// The route of a place, by the text of its number.
-fn route_in(place: Place, parameter: Option<&str>) -> Option<Route>
+fn route_in(place: RouteKey, parameter: Option<&str>) -> Option<Route>
     ensures { result ≡ route_in place (option_map (λ text. text.now) parameter.entry) }
 {
     match (place, parameter) {
-        (Place::Join, _) => Some(Route::Join),
-        (Place::Orders, Some(text)) => number_of(text.as_bytes()).map(Route::Orders),
-        (Place::Close, Some(text)) => number_of(text.as_bytes()).map(Route::Close),
-        (Place::Report, Some(text)) => number_of(text.as_bytes()).map(Route::Report),
-        (Place::Orders | Place::Close | Place::Report, None) => None,
+        (RouteKey::Join, _) => Some(Route::Join),
+        (RouteKey::Orders, Some(text)) => number_of(text.as_bytes()).map(Route::Orders),
+        (RouteKey::Close, Some(text)) => number_of(text.as_bytes()).map(Route::Close),
+        (RouteKey::Report, Some(text)) => number_of(text.as_bytes()).map(Route::Report),
+        (RouteKey::Orders | RouteKey::Close | RouteKey::Report, None) => None,
     }
 }
 
 /// What a path leads to, by a router of the four routes.
-fn found_by(router: &Router<Place>, path: &str) -> Option<Route>
+fn route_by(router: &Router<RouteKey>, path: &str) -> Option<Route>
     requires { router.now ≡ kept }
     ensures { result ≡ route_of path.now }
 {
@@ -142,5 +142,5 @@ pub fn route_of(alloc: Global, path: &[u8]) -> Result<Option<Route>, AllocError>
         return Ok(None);
     };
     let router = router(alloc)?;
-    Ok(found_by(&router, path))
+    Ok(route_by(&router, path))
 }

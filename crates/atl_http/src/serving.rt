@@ -3,21 +3,21 @@ ghost use Rattle.std.specs.Prelude.{◌≡◌, IfOk, OnErr};
 ghost use Rattle.std.specs.FinMap.{len};
 ghost use Rattle.atl_service.specs.Runs.{Runs};
 ghost use Rattle.atl_http.specs.Serving.{command_in, Serves};
-ghost use Rattle.atl_http.specs.Moving.{Tells};
+ghost use Rattle.atl_http.specs.Io.{RepliesWith};
 ghost use Rattle.atl_http.specs.Calls.{no_reads, no_writes, EndsBy};
 
 use crate::answering::answer_message;
 use crate::calls::{Reads, Writes};
 use crate::dice::Dice;
+use crate::io::{HttpFault, receive, send};
 use crate::message::{Message, problem_message};
-use crate::moving::{HttpFault, receive, send};
 use crate::request::{Outcome, Request};
 use atl_service::{Answer, Service};
 use sqlite::Alter;
 use std::alloc::{AllocError, Global};
 use std::io::{Read, Write};
 
-/// Runs the command that a request asks for: a joining with the word that the dice give for the faction that comes next, a closing
+/// Runs the command that a request asks for: a join with the word that the dice give for the faction that comes next, a close
 /// with their words for its month, one for each region. AllocError without memory for them: then nothing is changed.
 pub fn run_request<S: Alter>(
     alloc: Global,
@@ -25,7 +25,9 @@ pub fn run_request<S: Alter>(
     dice: Dice,
     request: Request,
 ) -> Result<Answer, AllocError>
-    ensures ok { IfOk result (λ answer. Runs S.Store service.old (command_in dice service.old request) answer service.new) }
+    ensures ok { IfOk result
+        (λ answer. Runs S.Store service.old (command_in dice service.old request) answer
+        service.new) }
     ensures err { OnErr result (service.new ≡ service.old) }
 {
     let next = match service.campaign() {
@@ -38,13 +40,13 @@ pub fn run_request<S: Alter>(
 }
 
 /// The reply to what a request comes to. AllocError without memory for it, when a command may have been run.
-fn tell<S: Alter>(
+fn reply_to<S: Alter>(
     alloc: Global,
     service: &mut Service<S>,
     dice: Dice,
     outcome: Outcome,
 ) -> Result<Message, AllocError>
-    ensures { Tells S.Store dice service.old outcome result service.new }
+    ensures { RepliesWith S.Store dice service.old outcome result service.new }
 {
     match outcome {
         Outcome::Refused(problem) => problem_message(alloc, problem),
@@ -68,7 +70,10 @@ pub fn serve_counted<R: Read, W: Write, S: Alter>(
 ) -> Result<u16, HttpFault>
     requires no_reads { reads.old ≡ no_reads }
     requires no_writes { writes.old ≡ no_writes }
-    ensures serves { Serves S.Store dice (record { left = R.remaining reader.old; held = W.contents writer.old }) (record { left = R.remaining reader.new; held = W.contents writer.new }) service.old result service.new }
+    ensures serves { Serves S.Store dice
+        (record { left = R.remaining reader.old; held = W.contents writer.old })
+        (record { left = R.remaining reader.new; held = W.contents writer.new }) service.old
+        result service.new }
     ensures ends { EndsBy reads.new writes.new result }
 {
     let mut seen = Vec::new(alloc);
@@ -76,7 +81,7 @@ pub fn serve_counted<R: Read, W: Write, S: Alter>(
         Ok(outcome) => outcome,
         Err(fault) => return Err(fault),
     };
-    let Ok(message) = tell(alloc, service, dice, outcome) else {
+    let Ok(message) = reply_to(alloc, service, dice, outcome) else {
         return Err(HttpFault::Memory);
     };
     match send(writer, writes, message.bytes.as_bytes()) {
@@ -86,8 +91,8 @@ pub fn serve_counted<R: Read, W: Write, S: Alter>(
 }
 
 /// Reads one request, judges it, runs the command that it asks for, and writes the reply, of which it gives the status. The
-/// words of a joining and of a closing are those of the dice. Once the request is whole or refused nothing more is read. It ends after
-/// at most 1,000,000 reads, and as many writes that are interrupted. A fault tells why there is no reply, or a part alone. See docs/FORMATS.md, "HTTP".
+/// words of a join and of a close are those of the dice. Once the request is whole or refused, nothing more is read. It ends after
+/// at most 1,000,000 reads, and as many writes that are interrupted. A fault says why there is no reply, or only a part. See docs/FORMATS.md, "HTTP".
 pub fn serve_one<R: Read, W: Write, S: Alter>(
     alloc: Global,
     reader: &mut R,
@@ -95,7 +100,10 @@ pub fn serve_one<R: Read, W: Write, S: Alter>(
     service: &mut Service<S>,
     dice: Dice,
 ) -> Result<u16, HttpFault>
-    ensures { Serves S.Store dice (record { left = R.remaining reader.old; held = W.contents writer.old }) (record { left = R.remaining reader.new; held = W.contents writer.new }) service.old result service.new }
+    ensures { Serves S.Store dice
+        (record { left = R.remaining reader.old; held = W.contents writer.old })
+        (record { left = R.remaining reader.new; held = W.contents writer.new }) service.old
+        result service.new }
 {
     let mut reads = Reads::none();
     let mut writes = Writes::none();

@@ -11,7 +11,7 @@ use Rattle.atl_store.specs.Faults.{is_memory, create_fault, write_fault}
 use Rattle.atl_store.specs.declared.fault.CreateFault.TheVariants as create
 use Rattle.atl_store.specs.declared.fault.WriteFault.{WriteFault}
 use Rattle.atl_store.specs.declared.fault.WriteFault.TheVariants as write
-use Rattle.atl_service.specs.Answering.{of_writing}
+use Rattle.atl_service.specs.Answering.{of_write}
 use Rattle.atl_service.specs.Causes.{GivesError, HasCause}
 
 -- a choice of two that are apart tells which it was
@@ -44,16 +44,16 @@ module _ {S : Type 0} (g : Ghosts S) (own : Statements) (old new : Held S) where
   failed (e, is, given) = record { error = e; memory_is = is_second write.Memory write.Store writes_apart (is_memory e) is; given = given }
 
   -- what a writing tells has its cause
-  pub writing_told : (fault : WriteFault) → (HasCleanDisk (state g new) → IsTold g own write_fault old new fault) → HasCause g own old new (of_writing fault)
+  pub writing_told : (fault : WriteFault) → (HasCleanDisk (state g new) → IsTold g own write_fault old new fault) → HasCause g own old new (of_write fault)
   writing_told write.Memory told = inr (λ clean. lacked (told clean))
   writing_told write.Store told = λ clean. failed (told clean)
 
   -- the fault of a writing that ends a command
-  pub ended_by : {A : Type 0} (fault : WriteFault) (r : Result A WriteFault) → IsErrAnd r (λ f. f ≡ fault) → (HasCleanDisk (state g new) → IsTold g own write_fault old new fault) → IfErr r (λ f. HasCause g own old new (of_writing f))
+  pub ended_by : {A : Type 0} (fault : WriteFault) (r : Result A WriteFault) → IsErrAnd r (λ f. f ≡ fault) → (HasCleanDisk (state g new) → IsTold g own write_fault old new fault) → IfErr r (λ f. HasCause g own old new (of_write f))
   ended_by fault (Ok a) is told = tt
-  ended_by fault (Err f) is told = subst (λ x. HasCause g own old new (of_writing x)) (sym is) (writing_told fault told)
+  ended_by fault (Err f) is told = subst (λ x. HasCause g own old new (of_write x)) (sym is) (writing_told fault told)
 
 -- want of memory that ends a command before the database is asked to write
-pub ended_unasked : {S A : Type 0} (g : Ghosts S) (own : Statements) (conn : Held S) (r : Result A WriteFault) → IsErrAnd r (λ f. f ≡ write.Memory) → IfErr r (λ f. HasCause g own conn conn (of_writing f))
+pub ended_unasked : {S A : Type 0} (g : Ghosts S) (own : Statements) (conn : Held S) (r : Result A WriteFault) → IsErrAnd r (λ f. f ≡ write.Memory) → IfErr r (λ f. HasCause g own conn conn (of_write f))
 ended_unasked g own conn (Ok a) is = tt
-ended_unasked g own conn (Err f) is = subst (λ x. HasCause g own conn conn (of_writing x)) (sym is) (inl refl)
+ended_unasked g own conn (Err f) is = subst (λ x. HasCause g own conn conn (of_write x)) (sym is) (inl refl)

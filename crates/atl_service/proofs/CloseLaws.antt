@@ -39,8 +39,8 @@ use Rattle.atl_report.specs.Report.{report_of}
 use Rattle.atl_report.specs.Sight.{view_of}
 use Rattle.atl_report.specs.Sites.{AreSites}
 use Rattle.atl_service.specs.declared.closing.ReadMail.{ReadMail}
-use Rattle.atl_service.specs.declared.reporting.Told.{Told}
-use Rattle.atl_service.specs.Months.{AreThere, HasRead, ReadSoFar, told_to_all}
+use Rattle.atl_service.specs.declared.reporting.MonthResult.{MonthResult}
+use Rattle.atl_service.specs.Months.{AreThere, HasRead, ReadSoFar, reported_to_all}
 use Rattle.atl_service.specs.Closing.{closed, faults_in, faults_of, read_of, readings, reported_to, reported_with, told_after}
 
 -- ---- each mail can be read, and no two are of one faction
@@ -188,10 +188,10 @@ read_begins w c ms faults all good is none none_wrong =
 
 pub read_goes_on : (w : WorldValue) (c : CampaignValue) (ms ns : List Mailing) (faults faults' : FinMap nat_cmp (List FaultyLine)) (here rest : List (ℕ × List ℕ)) (n : ℕ) (text : List ℕ) (m : Mailing) → here ≡ (n, text) ∷ rest → ns ≡ ms ++ m ∷ [] → IsReadWith w m → m.text ≡ text
     → faults' ≡ insert faults n m.faults → ReadSoFar w c ms faults here → ReadSoFar w c ns faults' rest
-read_goes_on w c ms ns faults faults' here rest n text m left one_more read kept put (mailings, all, told, sent) =
+read_goes_on w c ms ns faults faults' here rest n text m left one_more read kept put (mailings, all, outcome, sent) =
     let is : reading w text ≡ Ok (reading_of m) = ap (reading w) (sym kept) ∙ read in
     let of_all = subst (λ es. map reading_of ms ++ texts_read w es ≡ readings w c) left mailings in
-    let told_of_all = subst (λ es. entries faults ++ wrong_in w es ≡ entries (wrong w c)) left told in
+    let told_of_all = subst (λ es. entries faults ++ wrong_in w es ≡ entries (wrong w c)) left outcome in
     let first : faults_of (reading w text) ≡ m.faults = ap faults_of is in
     let told_now = subst (λ fs. entries faults ++ (n, fs) ∷ wrong_in w rest ≡ entries (wrong w c)) first told_of_all in (
       ap (λ xs. map reading_of xs ++ texts_read w rest) one_more ∙ ap (λ xs. xs ++ texts_read w rest) (map-append reading_of ms (m ∷ []))
@@ -203,10 +203,10 @@ read_goes_on w c ms ns faults faults' here rest n text m left one_more read kept
     )
 
 pub read_ends : (w : WorldValue) (c : CampaignValue) (r : ReadMail) (rest : List (ℕ × List ℕ)) → rest ≡ [] → ReadSoFar w c r.mailings.items r.faults rest → HasRead w c r
-read_ends w c r rest none (mailings, all, told, sent) = record {
+read_ends w c r rest none (mailings, all, outcome, sent) = record {
   readings_are = sym (append-nil (map reading_of r.mailings.items)) ∙ subst (λ es. map reading_of r.mailings.items ++ texts_read w es ≡ readings w c) none mailings;
   read = all;
-  faults = same_entries_map r.faults (wrong w c) (sym (append-nil (entries r.faults)) ∙ subst (λ es. entries r.faults ++ wrong_in w es ≡ entries (wrong w c)) none told);
+  faults = same_entries_map r.faults (wrong w c) (sym (append-nil (entries r.faults)) ∙ subst (λ es. entries r.faults ++ wrong_in w es ≡ entries (wrong w c)) none outcome);
 }
 
 -- ---- the reports, one by one
@@ -225,6 +225,6 @@ pub few_things : (w : WorldValue) (c : CampaignValue) → IsWorld w → IsGood w
 few_things w c world good = omega (arith, good.sound.steady.numbers.books.rows, world.few_items)
 
 -- the campaign behind the reports of a month
-pub told_is : (w : WorldValue) (c turned after : CampaignValue) (words : List ℕ) (told : Told) → told_to_all w turned told ≡ closed w c words → after ≡ told_to_all w turned told → AreThere turned told.factions.items → IsGood w turned → (after ≡ closed w c words) × IsGood w after
-told_is w c turned after words told whole is there good =
-    (is ∙ whole, subst (IsGood w) (sym is) (good_reports w told.events.items (λ n. unwrap_or (get told.faults n) []) turned told.factions.items there good))
+pub told_is : (w : WorldValue) (c turned after : CampaignValue) (words : List ℕ) (outcome : MonthResult) → reported_to_all w turned outcome ≡ closed w c words → after ≡ reported_to_all w turned outcome → AreThere turned outcome.factions.items → IsGood w turned → (after ≡ closed w c words) × IsGood w after
+told_is w c turned after words outcome whole is there good =
+    (is ∙ whole, subst (IsGood w) (sym is) (good_reports w outcome.events.items (λ n. unwrap_or (get outcome.faults n) []) turned outcome.factions.items there good))

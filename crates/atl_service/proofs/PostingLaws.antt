@@ -17,7 +17,7 @@ use Rattle.atl_service.specs.declared.command.Answer.{Answer}
 use Rattle.atl_service.specs.declared.command.Answer.TheVariants.{Refused}
 use Rattle.atl_service.specs.declared.command.Refusal.{Refusal}
 use Rattle.atl_service.specs.declared.command.Refusal.TheVariants as why
-use Rattle.atl_service.specs.Step.{identified, mailed, mailed_by, run_of, step}
+use Rattle.atl_service.specs.Step.{faction_with_pass, mailed, mailed_by, run_of, step}
 use Rattle.atl_service.specs.Posting.{AreMailed, IsMailed, OnlyTheLastMailCounts, last_text}
 
 -- ---- one mailing that is taken is kept
@@ -47,7 +47,7 @@ module _ (c : CampaignValue) (faction : ℕ) (text : List ℕ) where
 
   kept : (w : WorldValue) (pass : List ℕ) → Keeps (step w c (Mail faction pass text))
   unfolding step
-  kept w pass = kept_by w (identified pass (get c.factions faction))
+  kept w pass = kept_by w (faction_with_pass pass (get c.factions faction))
 
 -- ---- the mail behind a list of them
 

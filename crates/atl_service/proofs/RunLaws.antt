@@ -16,7 +16,7 @@ use Rattle.atl_store.specs.declared.fault.WriteFault.{WriteFault}
 use Rattle.atl_store.specs.declared.fault.WriteFault.TheVariants as write
 use Rattle.atl_store.specs.Keeps.{HoldsCampaign}
 use Rattle.atl_service.specs.Service.{ServiceValue, text_in, Stands}
-use Rattle.atl_service.specs.Answering.{Answers, GivesUp, LeavesIdle, of_writing}
+use Rattle.atl_service.specs.Answering.{Answers, GivesUp, LeavesIdle, of_write}
 use Rattle.atl_service.specs.Causes.{OfCommand, HasCause}
 use Rattle.atl_service.specs.Runs.{Runs, RunsOpen, Closes}
 
@@ -71,11 +71,11 @@ module _ {S : Type 0} (g : Ghosts S) where
     closes_open stands leaves gave_up = record { same = refl; tables = λ clean. gave_up clean (text_in g conn) (stands.tables refl (leaves.later.clean clean)) }
 
     -- what is told is the fault of the store
-    pub closes_for : (old : ServiceValue S) (fault : WriteFault) (told : Failure) (is_open : Bool) → told ≡ of_writing fault → shown conn w c is_open ≡ old → is_open ≡ true → Stands g conn w c is_open → LeavesIdle g conn conn' → GaveUp → HasCause g (OfCommand w c command) conn conn' (of_writing fault)
+    pub closes_for : (old : ServiceValue S) (fault : WriteFault) (told : Failure) (is_open : Bool) → told ≡ of_write fault → shown conn w c is_open ≡ old → is_open ≡ true → Stands g conn w c is_open → LeavesIdle g conn conn' → GaveUp → HasCause g (OfCommand w c command) conn conn' (of_write fault)
         → Runs g old command (Fault told) (shown conn' w c' false)
     closes_for old fault told true is seen up stands leaves gave_up cause = subst (λ e. Runs g e command (Fault told) (shown conn' w c' false)) seen (subst (λ t. RunsOpen g c (shown conn w c true) command (Fault t) (shown conn' w c' false)) (sym is) (closes fault cause))
       where
-        closes : (fault : WriteFault) → HasCause g (OfCommand w c command) conn conn' (of_writing fault) → RunsOpen g c (shown conn w c true) command (Fault (of_writing fault)) (shown conn' w c' false)
+        closes : (fault : WriteFault) → HasCause g (OfCommand w c command) conn conn' (of_write fault) → RunsOpen g c (shown conn w c true) command (Fault (of_write fault)) (shown conn' w c' false)
         closes write.Memory cause = (closes_open stands leaves gave_up, cause)
         closes write.Store cause = (closes_open stands leaves gave_up, cause)
     closes_for old fault told false is seen up stands leaves gave_up cause = absurd (false≢true up)

@@ -11,8 +11,8 @@ use Rattle.atl_state.specs.Good.{IsGood}
 use Rattle.atl_store.specs.Keeps.{Keeps, Stops, IsLater, SparesOthers}
 use Rattle.atl_store.specs.declared.fault.WriteFault.{WriteFault}
 use Rattle.atl_store.specs.declared.fault.WriteFault.TheVariants as write
-use Rattle.atl_service.specs.declared.answering.Unkept.{Unkept}
-use Rattle.atl_service.specs.declared.answering.Unkept.TheVariants as unkept
+use Rattle.atl_service.specs.declared.answering.MailError.{MailError}
+use Rattle.atl_service.specs.declared.answering.MailError.TheVariants as unkept
 use Rattle.atl_service.specs.declared.command.Command.{Command}
 use Rattle.atl_service.specs.declared.command.Answer.{Answer}
 use Rattle.atl_service.specs.declared.command.Answer.TheVariants.{Joined, Mailed, MonthDone, Text, Refused, Fault}
@@ -54,18 +54,18 @@ pub record LeavesIdle {S : Type 0} (g : Ghosts S) (old new : Held S) : Type 0 wh
   pub others : HasCleanDisk (state g new) → SparesOthers (state g old) (state g new)
 
 -- what is told of a fault of the store
-abbrev pub of_writing : WriteFault → Failure
-of_writing write.Memory = fault.Memory
-of_writing write.Store = fault.Store
+abbrev pub of_write : WriteFault → Failure
+of_write write.Memory = fault.Memory
+of_write write.Store = fault.Store
 
 -- a mailing that is not kept is refused by the step, but for want of memory
-abbrev pub Denies : WorldValue → CampaignValue → Command → Unkept → Type 0
+abbrev pub Denies : WorldValue → CampaignValue → Command → MailError → Type 0
 Denies w c command (unkept.Refused why) = step w c command ≡ (c, Refused why)
 Denies w c command unkept.Memory = ⊤
 
 -- what becomes of a mailing that can't be read
-abbrev pub unread : MailFault → Unkept
-unread mail.TooLong = unkept.Refused why.TooLong
-unread mail.NoHeader = unkept.Refused why.NoHeader
-unread mail.BadHeader = unkept.Refused why.BadHeader
-unread mail.Memory = unkept.Memory
+abbrev pub mail_error : MailFault → MailError
+mail_error mail.TooLong = unkept.Refused why.TooLong
+mail_error mail.NoHeader = unkept.Refused why.NoHeader
+mail_error mail.BadHeader = unkept.Refused why.BadHeader
+mail_error mail.Memory = unkept.Memory

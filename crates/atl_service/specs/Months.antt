@@ -12,7 +12,7 @@ use Rattle.atl_records.specs.Every.{EachOf, IsThere}
 use Rattle.atl_records.specs.Limits.{last_month}
 use Rattle.atl_state.specs.Campaign.{CampaignValue}
 use Rattle.atl_service.specs.declared.closing.ReadMail.{ReadMail}
-use Rattle.atl_service.specs.declared.reporting.Told.{Told}
+use Rattle.atl_service.specs.declared.reporting.MonthResult.{MonthResult}
 use Rattle.atl_service.specs.declared.command.Command.TheVariants.{Close}
 use Rattle.atl_service.specs.declared.command.Answer.TheVariants.{MonthDone}
 use Rattle.atl_service.specs.Closing.{closed, faults_of, read_of, readings, reported_to}
@@ -37,8 +37,8 @@ abbrev pub AreThere : CampaignValue → List ℕ → Type 0
 AreThere c factions = AllByRecursion (λ n. IsThere c.factions n) factions
 
 -- the campaign with the reports of what is told
-abbrev pub told_to_all : WorldValue → CampaignValue → Told → CampaignValue
-told_to_all w c told = fold (reported_to w (λ n. unwrap_or (get told.faults n) []) told.events.items) c told.factions.items
+abbrev pub reported_to_all : WorldValue → CampaignValue → MonthResult → CampaignValue
+reported_to_all w c outcome = fold (reported_to w (λ n. unwrap_or (get outcome.faults n) []) outcome.events.items) c outcome.factions.items
 
 -- nothing stands against the closing of a month
 pub record MayClose (w : WorldValue) (c : CampaignValue) (month : ℕ) (pass words : List ℕ) : Type 0 where

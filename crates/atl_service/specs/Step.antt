@@ -34,9 +34,9 @@ joined_with w c (Err Full) = (c, Refused why.Full)
 joined_with w c (Err Memory) = (c, Fault faults.Memory)
 
 -- the faction of a number, that gives its pass text
-abbrev pub identified : List ℕ → Option Faction → Result Faction Refusal
-identified pass None = Err why.NoFaction
-identified pass (Some f) = if not (pointwise nat_eq f.pass pass) then Err why.WrongPass else Ok f
+abbrev pub faction_with_pass : List ℕ → Option Faction → Result Faction Refusal
+faction_with_pass pass None = Err why.NoFaction
+faction_with_pass pass (Some f) = if not (pointwise nat_eq f.pass pass) then Err why.WrongPass else Ok f
 
 -- a mailing that is kept in the place of an older one, with the number of its orders and its faulty lines; only that of another faction is refused
 abbrev pub mailed : CampaignValue → ℕ → List ℕ → Result Reading MailFault → CampaignValue × Answer
@@ -75,9 +75,9 @@ step w c (Join name pass word) =
     if not (name_ok name) then (c, Refused why.BadName)
     else (if not (pass_ok pass) then (c, Refused why.BadPassText)
     else joined_with w c (join_of w name pass word c))
-step w c (Mail faction pass text) = mailed_by w c faction text (identified pass (get c.factions faction))
+step w c (Mail faction pass text) = mailed_by w c faction text (faction_with_pass pass (get c.factions faction))
 step w c (Close month pass words) = closed_by w c month pass words
-step w c (Report faction pass) = told_of c faction (identified pass (get c.factions faction))
+step w c (Report faction pass) = told_of c faction (faction_with_pass pass (get c.factions faction))
 
 -- the campaign after a list of commands, and the list of answers
 abbrev pub run_of : WorldValue → CampaignValue → List Command → CampaignValue × List Answer

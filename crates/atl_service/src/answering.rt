@@ -1,12 +1,12 @@
-//! The answer to one command, while the service is open.
+//! The answer to one command, while the service is open. See docs/RULES.md, "Refusals and faults".
 ghost use Rattle.std.specs.Prelude.{◌≡◌, length, false, Ok, Err, Some, IfOk, IfErr, OnOk, OnErr};
 ghost use Rattle.std.specs.FinMap as map;
 ghost use Rattle.atl_orders.specs.Mailing.{IsMailingOf};
 ghost use Rattle.atl_state.specs.Good.{IsGood, IsActive};
 ghost use Rattle.atl_state.specs.Marks.{no_marks};
 ghost use Rattle.atl_state.specs.Campaign.{with_mail};
-ghost use Rattle.atl_service.specs.Step.{identified, step};
-ghost use Rattle.atl_service.specs.Answering.{Answers, Denies, GivesUp, IsSound, LeavesIdle, of_writing, unread};
+ghost use Rattle.atl_service.specs.Step.{faction_with_pass, step};
+ghost use Rattle.atl_service.specs.Answering.{Answers, Denies, GivesUp, IsSound, LeavesIdle, of_write, mail_error};
 ghost use Rattle.atl_service.specs.Causes.{OfCommand, HasCause};
 
 use crate::closing::close;
@@ -31,9 +31,15 @@ fn join<S: Alter>(
 ) -> Result<Answer, WriteFault>
     requires good { IsGood world.now campaign.old.value }
     requires idle { conn.old.in_transaction ≡ false }
-    ensures ok { IfOk result (Answers S.Store world.now campaign.old.value conn.old (Command.Join name.now pass.now word) campaign.new.value conn.new) }
-    ensures err { OnErr result (GivesUp S.Store world.now campaign.old.value conn.old (Command.Join name.now pass.now word) conn.new) }
-    ensures cause { IfErr result (λ fault. HasCause S.Store (OfCommand world.now campaign.old.value (Command.Join name.now pass.now word)) conn.old conn.new (of_writing fault)) }
+    ensures ok { IfOk result
+        (Answers S.Store world.now campaign.old.value conn.old
+        (Command.Join name.now pass.now word) campaign.new.value conn.new) }
+    ensures err { OnErr result
+        (GivesUp S.Store world.now campaign.old.value conn.old
+        (Command.Join name.now pass.now word) conn.new) }
+    ensures cause { IfErr result
+        (λ fault. HasCause S.Store (OfCommand world.now campaign.old.value
+        (Command.Join name.now pass.now word)) conn.old conn.new (of_write fault)) }
     ensures leaves { LeavesIdle S.Store conn.old conn.new }
     ensures unmarked { campaign.old.marks ≡ no_marks → OnOk result (campaign.new.marks ≡ no_marks) }
 {
@@ -55,15 +61,18 @@ fn join<S: Alter>(
     Ok(Answer::Joined { faction, unit })
 }
 
-/// The faction of a number, that gives its pass text.
-fn identified<'a>(
+/// The faction of this number, if the pass text is its own; else NoFaction or WrongPass.
+fn faction_with_pass<'a>(
     campaign: &'a Campaign,
     faction: u32,
     pass: &Sequence<u8>,
 ) -> Result<&'a Faction, Refusal>
-    ensures ok { IfOk result (λ f. identified pass.now (map.get campaign.now.value.factions faction) ≡ Ok f.now) }
+    ensures ok { IfOk result
+        (λ f. faction_with_pass pass.now (map.get campaign.now.value.factions faction) ≡ Ok f.now) }
     ensures there { IfOk result (λ f. map.get campaign.now.value.factions faction ≡ Some f.now) }
-    ensures err { IfErr result (λ why. identified pass.now (map.get campaign.now.value.factions faction) ≡ Err why) }
+    ensures err { IfErr result
+        (λ why. faction_with_pass pass.now (map.get campaign.now.value.factions faction)
+        ≡ Err why) }
 {
     let known = campaign.faction(faction).ok_or(Refusal::NoFaction)?;
     if known.pass.as_bytes() != pass.as_slice() {
@@ -74,57 +83,60 @@ fn identified<'a>(
 
 /// Why a mailing is not kept.
 #[derive(Drop, Clone, Copy)]
-enum Unkept {
+enum MailError {
     Refused(Refusal),
     Memory,
 }
 
-impl From<Refusal> for Unkept {
-    ghost use Rattle.atl_service.specs.declared.answering.Unkept.TheVariants.{Refused};
+impl From<Refusal> for MailError {
+    ghost use Rattle.atl_service.specs.declared.answering.MailError.TheVariants.{Refused};
 
     ghost from_gives = { λ refusal unkept. unkept ≡ Refused refusal };
 
-    fn from(refusal: Refusal) -> Unkept {
-        Unkept::Refused(refusal)
+    fn from(refusal: Refusal) -> MailError {
+        MailError::Refused(refusal)
     }
 }
 
-impl From<MailFault> for Unkept {
-    ghost from_gives = { λ fault unkept. unkept ≡ unread fault };
+impl From<MailFault> for MailError {
+    ghost from_gives = { λ fault unkept. unkept ≡ mail_error fault };
 
-    fn from(fault: MailFault) -> Unkept {
+    fn from(fault: MailFault) -> MailError {
         match fault {
-            MailFault::TooLong => Unkept::Refused(Refusal::TooLong),
-            MailFault::NoHeader => Unkept::Refused(Refusal::NoHeader),
-            MailFault::BadHeader => Unkept::Refused(Refusal::BadHeader),
-            MailFault::Memory => Unkept::Memory,
+            MailFault::TooLong => MailError::Refused(Refusal::TooLong),
+            MailFault::NoHeader => MailError::Refused(Refusal::NoHeader),
+            MailFault::BadHeader => MailError::Refused(Refusal::BadHeader),
+            MailFault::Memory => MailError::Memory,
         }
     }
 }
 
-/// What a mailing says that is to be kept; or the first reason why it is not.
+/// The mailing that is to be kept, or the first reason why it is not.
 #[tactic(auto, unfolding(crate::specs::Step::step))]
-fn received(
+fn mailing_to_keep(
     alloc: Global,
     world: &World,
     campaign: &Campaign,
     faction: u32,
     pass: &Sequence<u8>,
     text: &Sequence<u8>,
-) -> Result<Mailing, Unkept>
-    ensures step { IfOk result (λ m. step world.now campaign.now.value (Command.Mail faction pass.now text.now) ≡ (with_mail campaign.now.value faction text.now, Answer.Mailed (length m.entries) m.faults)) }
+) -> Result<Mailing, MailError>
+    ensures step { IfOk result
+        (λ m. step world.now campaign.now.value (Command.Mail faction pass.now text.now)
+        ≡ (with_mail campaign.now.value faction text.now, Answer.Mailed (length m.entries) m.faults)) }
     ensures text { IfOk result (λ m. m.text ≡ text.now) }
     ensures own { OnOk result (IsMailingOf faction text.now) }
     ensures active { OnOk result (IsActive campaign.now.value faction) }
-    ensures refused { IfErr result (Denies world.now campaign.now.value (Command.Mail faction pass.now text.now)) }
+    ensures refused { IfErr result
+        (Denies world.now campaign.now.value (Command.Mail faction pass.now text.now)) }
 {
-    let known = identified(campaign, faction, pass)?;
+    let known = faction_with_pass(campaign, faction, pass)?;
     if known.gone {
-        return Err(Unkept::Refused(Refusal::Gone));
+        return Err(MailError::Refused(Refusal::Gone));
     }
     let mailing = read_mailing(alloc, world, text.as_slice())?;
     if mailing.faction != faction {
-        return Err(Unkept::Refused(Refusal::WrongFaction));
+        return Err(MailError::Refused(Refusal::WrongFaction));
     }
     Ok(mailing)
 }
@@ -141,16 +153,22 @@ fn mail<S: Alter>(
 ) -> Result<Answer, WriteFault>
     requires good { IsGood world.now campaign.old.value }
     requires idle { conn.old.in_transaction ≡ false }
-    ensures ok { IfOk result (Answers S.Store world.now campaign.old.value conn.old (Command.Mail faction pass.now text.now) campaign.new.value conn.new) }
-    ensures err { OnErr result (GivesUp S.Store world.now campaign.old.value conn.old (Command.Mail faction pass.now text.now) conn.new) }
-    ensures cause { IfErr result (λ fault. HasCause S.Store (OfCommand world.now campaign.old.value (Command.Mail faction pass.now text.now)) conn.old conn.new (of_writing fault)) }
+    ensures ok { IfOk result
+        (Answers S.Store world.now campaign.old.value conn.old
+        (Command.Mail faction pass.now text.now) campaign.new.value conn.new) }
+    ensures err { OnErr result
+        (GivesUp S.Store world.now campaign.old.value conn.old
+        (Command.Mail faction pass.now text.now) conn.new) }
+    ensures cause { IfErr result
+        (λ fault. HasCause S.Store (OfCommand world.now campaign.old.value
+        (Command.Mail faction pass.now text.now)) conn.old conn.new (of_write fault)) }
     ensures leaves { LeavesIdle S.Store conn.old conn.new }
     ensures unmarked { campaign.old.marks ≡ no_marks → OnOk result (campaign.new.marks ≡ no_marks) }
 {
-    let mailing = match received(alloc, world, campaign, faction, pass, text) {
+    let mailing = match mailing_to_keep(alloc, world, campaign, faction, pass, text) {
         Ok(mailing) => mailing,
-        Err(Unkept::Refused(refusal)) => return Ok(Answer::Refused(refusal)),
-        Err(Unkept::Memory) => return Err(WriteFault::Memory),
+        Err(MailError::Refused(refusal)) => return Ok(Answer::Refused(refusal)),
+        Err(MailError::Memory) => return Err(WriteFault::Memory),
     };
     let orders = mailing.entries.len();
     let (kept, _, faults) = mailing.into_parts();
@@ -162,17 +180,19 @@ fn mail<S: Alter>(
 
 /// The answer to a command Report.
 #[tactic(auto, unfolding(crate::specs::Step::step))]
-fn told(
+fn report(
     alloc: Global,
     world: &World,
     campaign: &Campaign,
     faction: u32,
     pass: &Sequence<u8>,
 ) -> Result<Answer, AllocError>
-    ensures step { IfOk result (λ answer. step world.now campaign.now.value (Command.Report faction pass.now) ≡ (campaign.now.value, answer)) }
+    ensures step { IfOk result
+        (λ answer. step world.now campaign.now.value (Command.Report faction pass.now)
+        ≡ (campaign.now.value, answer)) }
     ensures sound { IfOk result IsSound }
 {
-    if let Err(refusal) = identified(campaign, faction, pass) {
+    if let Err(refusal) = faction_with_pass(campaign, faction, pass) {
         return Ok(Answer::Refused(refusal));
     }
     let text = match campaign.report(faction) {
@@ -182,8 +202,8 @@ fn told(
     Ok(Answer::Text(text))
 }
 
-/// The answer to a command. After an Err the campaign may be a part of the way; the tables are as before.
-pub(crate) fn answered<S: Alter>(
+/// The answer to a command. After an Err the campaign may be changed in part; the tables are as before.
+pub(crate) fn answer_to<S: Alter>(
     alloc: Global,
     world: &World,
     campaign: &mut Campaign,
@@ -192,9 +212,14 @@ pub(crate) fn answered<S: Alter>(
 ) -> Result<Answer, WriteFault>
     requires good { IsGood world.now campaign.old.value }
     requires idle { conn.old.in_transaction ≡ false }
-    ensures ok { IfOk result (Answers S.Store world.now campaign.old.value conn.old command.now campaign.new.value conn.new) }
-    ensures err { OnErr result (GivesUp S.Store world.now campaign.old.value conn.old command.now conn.new) }
-    ensures cause { IfErr result (λ fault. HasCause S.Store (OfCommand world.now campaign.old.value command.now) conn.old conn.new (of_writing fault)) }
+    ensures ok { IfOk result
+        (Answers S.Store world.now campaign.old.value conn.old command.now campaign.new.value
+        conn.new) }
+    ensures err { OnErr result
+        (GivesUp S.Store world.now campaign.old.value conn.old command.now conn.new) }
+    ensures cause { IfErr result
+        (λ fault. HasCause S.Store (OfCommand world.now campaign.old.value command.now) conn.old
+        conn.new (of_write fault)) }
     ensures leaves { LeavesIdle S.Store conn.old conn.new }
     ensures unmarked { campaign.old.marks ≡ no_marks → OnOk result (campaign.new.marks ≡ no_marks) }
 {
@@ -210,6 +235,6 @@ pub(crate) fn answered<S: Alter>(
         Command::Close { month, pass, words } => {
             close(alloc, world, campaign, conn, *month, pass, words)
         }
-        Command::Report { faction, pass } => { Ok(told(alloc, world, campaign, *faction, pass)?) }
+        Command::Report { faction, pass } => { Ok(report(alloc, world, campaign, *faction, pass)?) }
     }
 }

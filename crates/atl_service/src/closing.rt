@@ -1,4 +1,4 @@
-//! The closing of a month.
+//! Closing a month. See docs/RULES.md, "Closing a month".
 ghost use Rattle.std.specs.Prelude.{◌≡◌, ◌<◌, ℕ, false, IfOk, IfErr, OnOk, OnErr, length};
 ghost use Rattle.std.specs.FinMap as map;
 ghost use Rattle.atl_orders.specs.declared.fault.MailFault.TheVariants.{Memory};
@@ -8,14 +8,14 @@ ghost use Rattle.atl_state.specs.Good.{IsGood};
 ghost use Rattle.atl_records.specs.Limits.{last_month};
 ghost use Rattle.atl_state.specs.Marks.{no_marks};
 ghost use Rattle.atl_service.specs.declared.command.Command.TheVariants as command;
-ghost use Rattle.atl_service.specs.Answering.{Answers, GivesUp, LeavesIdle, of_writing};
+ghost use Rattle.atl_service.specs.Answering.{Answers, GivesUp, LeavesIdle, of_write};
 ghost use Rattle.atl_service.specs.Causes.{OfCommand, HasCause};
 ghost use Rattle.atl_service.specs.Closing.{closed};
-ghost use Rattle.atl_service.specs.Months.{AreThere, HasRead, MayClose, told_to_all};
+ghost use Rattle.atl_service.specs.Months.{AreThere, HasRead, MayClose, reported_to_all};
 ghost use Rattle.atl_service.specs.Step.{step};
 
 use crate::command::{Answer, Refusal};
-use crate::reporting::{Told, report_to_all};
+use crate::reporting::{MonthResult, report_to_all};
 use atl_month::close_month;
 use atl_orders::{FaultyLine, MailFault, Mailing, read_mailing};
 use atl_state::{Campaign, LAST_MONTH};
@@ -32,23 +32,23 @@ pub(crate) struct ReadMail {
     pub(crate) faults: Numbered<Sequence<FaultyLine>>,
 }
 
-/// A text that can be read is refused for want of memory alone.
-fn want_of_memory(fault: MailFault) -> AllocError
+/// The fault of a text that can be read: memory ran out.
+fn out_of_memory(fault: MailFault) -> AllocError
     requires { fault ≡ Memory }
 {
     let _fault = fault;
     AllocError
 }
 
-/// Reads a text that was kept. It can be read, as it was then, so only memory can be wanting.
-fn read_kept(alloc: Global, world: &World, text: &[u8]) -> Result<Mailing, AllocError>
+/// Reads a stored text. It was read when it came, so this fails only if memory runs out.
+fn read_stored(alloc: Global, world: &World, text: &[u8]) -> Result<Mailing, AllocError>
     requires { (faction : ℕ) × IsMailingOf faction text.now }
     ensures kept { IfOk result (λ m. m.text ≡ text.now) }
     ensures read { IfOk result (IsReadWith world.now) }
 {
     match read_mailing(alloc, world, text) {
         Ok(mailing) => Ok(mailing),
-        Err(fault) => Err(want_of_memory(fault)),
+        Err(fault) => Err(out_of_memory(fault)),
     }
 }
 
@@ -60,7 +60,7 @@ fn read_mail(alloc: Global, world: &World, campaign: &Campaign) -> Result<ReadMa
     let mut mailings = Vec::new(alloc);
     let mut faults = Numbered::new(alloc);
     for (faction, text) in campaign.mail() {
-        let mailing = read_kept(alloc, world, text.as_slice())?;
+        let mailing = read_stored(alloc, world, text.as_slice())?;
         let wrong = Sequence::from_slice(alloc, mailing.faults.as_slice())?;
         faults.insert(faction, wrong)?;
         mailings.push(mailing)?;
@@ -68,19 +68,21 @@ fn read_mail(alloc: Global, world: &World, campaign: &Campaign) -> Result<ReadMa
     Ok(ReadMail { mailings, faults })
 }
 
-/// Runs a month, counts it, and takes the mail away. What changed is marked. What is to be told of the month is given. Without
-/// memory the campaign is given up, and something else stands in its place.
+/// Runs a month, counts it, and takes the mail away. What changed is marked. Returns what the reports say of the month. Without
+/// memory the campaign is given up, and a blank one is in its place.
 fn turn_month(
     alloc: Global,
     world: &World,
     campaign: &mut Campaign,
     words: &[u32],
-) -> Result<Told, AllocError>
+) -> Result<MonthResult, AllocError>
     requires good { IsGood world.now campaign.old.value }
     requires month { campaign.old.value.month < last_month }
     requires words { length words.now ≡ map.len world.now.regions }
-    ensures told { IfOk result (λ told. told_to_all world.now campaign.new.value told ≡ closed world.now campaign.old.value words.now) }
-    ensures there { IfOk result (λ told. AreThere campaign.new.value told.factions.items) }
+    ensures outcome { IfOk result
+        (λ outcome. reported_to_all world.now campaign.new.value outcome
+        ≡ closed world.now campaign.old.value words.now) }
+    ensures there { IfOk result (λ outcome. AreThere campaign.new.value outcome.factions.items) }
     ensures good { OnOk result (IsGood world.now campaign.new.value) }
     ensures marks { OnOk result (MarksChanges campaign.old campaign.new) }
 {
@@ -91,16 +93,16 @@ fn turn_month(
     *campaign = after;
     campaign.set_month(campaign.month() + 1);
     campaign.clear_mail();
-    Ok(Told {
+    Ok(MonthResult {
         factions,
         faults,
         events,
     })
 }
 
-/// Whether a month is closed; else the first reason why it is not.
+/// Checks that a month may be closed; else the first reason why it is not.
 #[tactic(auto, unfolding(crate::specs::Step::step))]
-fn allowed(
+fn check_close(
     world: &World,
     campaign: &Campaign,
     month: u32,
@@ -109,7 +111,9 @@ fn allowed(
 ) -> Result<(), Refusal>
     requires good { IsGood world.now campaign.now.value }
     ensures ok { OnOk result (MayClose world.now campaign.now.value month pass.now words.now) }
-    ensures err { IfErr result (λ why. step world.now campaign.now.value (command.Close month pass.now words.now) ≡ (campaign.now.value, Answer.Refused why)) }
+    ensures err { IfErr result
+        (λ why. step world.now campaign.now.value (command.Close month pass.now words.now)
+        ≡ (campaign.now.value, Answer.Refused why)) }
 {
     if campaign.pass().as_bytes() != pass.as_slice() {
         return Err(Refusal::WrongPass);
@@ -138,17 +142,23 @@ pub(crate) fn close<S: Alter>(
 ) -> Result<Answer, WriteFault>
     requires good { IsGood world.now campaign.old.value }
     requires idle { conn.old.in_transaction ≡ false }
-    ensures ok { IfOk result (Answers S.Store world.now campaign.old.value conn.old (command.Close month pass.now words.now) campaign.new.value conn.new) }
-    ensures err { OnErr result (GivesUp S.Store world.now campaign.old.value conn.old (command.Close month pass.now words.now) conn.new) }
-    ensures cause { IfErr result (λ fault. HasCause S.Store (OfCommand world.now campaign.old.value (command.Close month pass.now words.now)) conn.old conn.new (of_writing fault)) }
+    ensures ok { IfOk result
+        (Answers S.Store world.now campaign.old.value conn.old
+        (command.Close month pass.now words.now) campaign.new.value conn.new) }
+    ensures err { OnErr result
+        (GivesUp S.Store world.now campaign.old.value conn.old
+        (command.Close month pass.now words.now) conn.new) }
+    ensures cause { IfErr result
+        (λ fault. HasCause S.Store (OfCommand world.now campaign.old.value
+        (command.Close month pass.now words.now)) conn.old conn.new (of_write fault)) }
     ensures leaves { LeavesIdle S.Store conn.old conn.new }
     ensures unmarked { campaign.old.marks ≡ no_marks → OnOk result (campaign.new.marks ≡ no_marks) }
 {
-    if let Err(refusal) = allowed(world, campaign, month, pass, words) {
+    if let Err(refusal) = check_close(world, campaign, month, pass, words) {
         return Ok(Answer::Refused(refusal));
     }
-    let told = turn_month(alloc, world, campaign, words.as_slice())?;
-    report_to_all(alloc, world, campaign, &told)?;
+    let outcome = turn_month(alloc, world, campaign, words.as_slice())?;
+    report_to_all(alloc, world, campaign, &outcome)?;
     write_changes(conn, campaign)?;
     Ok(Answer::MonthDone { month })
 }

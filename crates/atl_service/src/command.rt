@@ -4,7 +4,7 @@ ghost use Rattle.atl_service.specs.Numbers.{number_of, refusal_name, fault_name}
 ghost use Rattle.atl_service.specs.Found.{of_world, of_creation};
 ghost use Rattle.atl_service.specs.Opened.{of_loading};
 ghost use Rattle.atl_service.specs.Upgraded.{of_upgrading};
-ghost use Rattle.atl_service.specs.Answering.{of_writing};
+ghost use Rattle.atl_service.specs.Answering.{of_write};
 
 use atl_orders::FaultyLine;
 use atl_state::Rule;
@@ -108,21 +108,21 @@ pub enum Refusal {
     WrongFaction = 11,
     /// The month isn't the one after the month last closed.
     WrongMonth = 12,
-    /// Month 9,999 was closed, and no month can be closed behind it.
+    /// Month 9,999 was closed, and no month can be closed after it.
     MonthLimit = 13,
     /// There isn't one word for each region.
     WrongDice = 14,
 }
 
 impl Refusal {
-    /// The number under which the refusal is told. See docs/FORMATS.md, "Refusals".
+    /// The refusal's number, as answers have it. See docs/FORMATS.md, "Refusals".
     pub fn number(self) -> u8
         ensures { result ≡ number_of self }
     {
         self as u8
     }
 
-    /// The name under which the refusal is told. See docs/FORMATS.md, "Refusals".
+    /// The refusal's name, as answers have it. See docs/FORMATS.md, "Refusals".
     pub fn name(self) -> &'static str
         ensures { result.now ≡ refusal_name self }
     {
@@ -155,7 +155,7 @@ pub enum Fault {
 }
 
 impl Fault {
-    /// The name under which the fault is told. See docs/FORMATS.md, "Refusals".
+    /// The fault's name, as answers have it. See docs/FORMATS.md, "Refusals".
     pub fn name(self) -> &'static str
         ensures { result.now ≡ fault_name self }
     {
@@ -177,7 +177,7 @@ impl fmt::Display for Fault {
 impl Error for Fault {}
 
 impl From<WriteFault> for Fault {
-    ghost from_gives = { λ fault told. told ≡ of_writing fault };
+    ghost from_gives = { λ fault told. told ≡ of_write fault };
 
     fn from(fault: WriteFault) -> Fault {
         match fault {
@@ -264,7 +264,7 @@ pub enum Cause {
     Memory,
 }
 
-/// As the program tells it: `world: 8 NoLand`, `refused: 2 BadPassText`, `fault: Damaged 11`, `fault: OldFormat` and so on.
+/// As the program prints it: `world: 8 NoLand`, `refused: 2 BadPassText`, `fault: Damaged 11`, `fault: OldFormat` and so on.
 impl fmt::Display for Cause {
     fn fmt<W: fmt::Write>(&self, f: &mut fmt::Formatter<W>) -> fmt::Result {
         match self {

@@ -14,7 +14,9 @@ use sqlite_disk::{Calls, Modelled};
 /// then, and `found`, `open`, `upgrade`, `run` and `run_all` keep it shielded. So all that is said of tables at the end of a
 /// call holds of a file whose disk was clean as it was opened, unless a digest has collided. See docs/PROVED.md, "Premises".
 pub fn a_shielded_disk_is_clean<C: Calls, S: Start>(service: &Service<FileStore<Modelled<C, S>>>)
-    ensures { (file_state service.now.conn).IsShielded → HasCleanDisk (file_state service.now.conn) ⊎ HasCollided (start_of S.Start) (λ f. C.Calls.history (calls_of f)) service.now.conn.store }
+    ensures { (file_state service.now.conn).IsShielded → HasCleanDisk (file_state service.now.conn)
+        ⊎ HasCollided (start_of S.Start) (λ f. C.Calls.history (calls_of f))
+        service.now.conn.store }
 {
     let _service = service;
 }

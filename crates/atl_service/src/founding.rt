@@ -1,4 +1,4 @@
-//! What a founding begins with.
+//! What founding a campaign begins with. See docs/RULES.md, "Founding".
 ghost use Rattle.std.specs.Prelude.{◌≤◌, Bool, IfOk, IfErr, length};
 ghost use Rattle.atl_records.specs.Limits.{most_things};
 ghost use Rattle.atl_state.specs.Good.{IsGood};
@@ -10,7 +10,7 @@ use atl_tables::{World, pass_ok, read_world};
 use std::alloc::Global;
 
 /// The world of a text and the campaign that is founded in it; or the first check that fails.
-pub(crate) fn prepared(
+pub(crate) fn world_and_campaign(
     alloc: Global,
     world_text: &str,
     pass: &[u8],
@@ -18,7 +18,8 @@ pub(crate) fn prepared(
     ensures ok { IfOk result (λ made. Prepares world_text.now pass.now made.0 made.1.value) }
     ensures good { IfOk result (λ made. IsGood made.0 made.1.value) }
     ensures things { IfOk result (λ made. length made.1.value.books ≤ most_things) }
-    ensures err { IfErr result (λ why. (is_there : Bool) → IsCause world_text.now pass.now is_there why) }
+    ensures err { IfErr result
+        (λ why. (is_there : Bool) → IsCause world_text.now pass.now is_there why) }
 {
     let world = read_world(alloc, world_text)?;
     if !pass_ok(pass) {

@@ -1,36 +1,36 @@
-//! The stored reports.
+//! The stored reports. See docs/RULES.md, "Reports".
 ghost use Rattle.std.specs.Prelude.{◌≡◌, OnOk, OnErr, unwrap_or, []};
 ghost use Rattle.std.specs.FinMap as map;
 ghost use Rattle.atl_state.specs.Covers.{MarksChanges};
 ghost use Rattle.atl_state.specs.Marking.{mark_report};
 ghost use Rattle.atl_report.specs.Sites.{AreSites};
 ghost use Rattle.atl_service.specs.Closing.{reported_to, reported_with};
-ghost use Rattle.atl_service.specs.Months.{told_to_all};
+ghost use Rattle.atl_service.specs.Months.{reported_to_all};
 ghost use Rattle.atl_service.specs.Sorting.{AreSorted};
 
-use crate::sorting::{listed, sorted};
+use crate::sorting::{events_by_faction, list_of};
 use atl_orders::FaultyLine;
 use atl_report::{Sites, report_text, sites_of, view_over};
 use atl_state::{Campaign, Event};
 use atl_tables::{Numbered, Sequence, Text, World, let_go};
 use std::alloc::{AllocError, Global};
 
-/// What is told of a month: to which factions, what is wrong with the mail of each, and what came of the orders.
-pub(crate) struct Told {
+/// What the reports say of a month: the factions that get one, what is wrong with the mail of each, and what came of the orders.
+pub(crate) struct MonthResult {
     pub(crate) factions: Vec<u32>,
     pub(crate) faults: Numbered<Sequence<FaultyLine>>,
     pub(crate) events: Vec<Event>,
 }
 
-impl Drop for Told {
+impl Drop for MonthResult {
     fn drop(self) {
-        let_go!(self: Told { factions, faults, events });
+        let_go!(self: MonthResult { factions, faults, events });
     }
 }
 
 /// Stores a new report for a faction, of what it sees, with what is wrong with its mail and with the events that are its own,
 /// and marks it. Without memory for it the campaign stays as it is.
-fn store_seen(
+fn store_report_with(
     alloc: Global,
     world: &World,
     campaign: &mut Campaign,
@@ -40,7 +40,9 @@ fn store_seen(
     events: &[Event],
 ) -> Result<(), AllocError>
     requires { AreSites campaign.old.value.structures sites.now }
-    ensures ok { OnOk result (campaign.new.value ≡ reported_with world.now campaign.old.value faction faults.now events.now) }
+    ensures ok { OnOk result
+        (campaign.new.value ≡ reported_with world.now campaign.old.value faction faults.now
+        events.now) }
     ensures marks { OnOk result (campaign.new.marks ≡ mark_report campaign.old faction) }
     ensures err { OnErr result (campaign.new ≡ campaign.old) }
 {
@@ -57,12 +59,13 @@ pub(crate) fn store_report(
     campaign: &mut Campaign,
     faction: u32,
 ) -> Result<(), AllocError>
-    ensures ok { OnOk result (campaign.new.value ≡ reported_with world.now campaign.old.value faction [] []) }
+    ensures ok { OnOk result
+        (campaign.new.value ≡ reported_with world.now campaign.old.value faction [] []) }
     ensures marks { OnOk result (campaign.new.marks ≡ mark_report campaign.old faction) }
     ensures err { OnErr result (campaign.new ≡ campaign.old) }
 {
     let sites = sites_of(alloc, campaign)?;
-    store_seen(alloc, world, campaign, &sites, faction, &[], &[])
+    store_report_with(alloc, world, campaign, &sites, faction, &[], &[])
 }
 
 /// Stores a new report for a faction, with what is wrong with its mail and with its own events of the month.
@@ -72,51 +75,56 @@ fn report_to(
     campaign: &mut Campaign,
     sites: &Sites,
     faction: u32,
-    told: &Told,
+    outcome: &MonthResult,
     sorted: &Numbered<Sequence<Event>>,
 ) -> Result<(), AllocError>
     requires sites { AreSites campaign.old.value.structures sites.now }
-    requires sorted { AreSorted told.now.events.items sorted.now }
-    ensures what { OnOk result (campaign.new.value ≡ reported_to world.now (λ n. unwrap_or (map.get told.now.faults n) []) told.now.events.items campaign.old.value faction) }
+    requires sorted { AreSorted outcome.now.events.items sorted.now }
+    ensures what { OnOk result
+        (campaign.new.value ≡ reported_to world.now
+        (λ n. unwrap_or (map.get outcome.now.faults n) []) outcome.now.events.items
+        campaign.old.value faction) }
     ensures marks { OnOk result (MarksChanges campaign.old campaign.new) }
 {
-    let faults = listed(&told.faults, faction);
-    let events = listed(sorted, faction);
-    store_seen(alloc, world, campaign, sites, faction, faults, events)
+    let faults = list_of(&outcome.faults, faction);
+    let events = list_of(sorted, faction);
+    store_report_with(alloc, world, campaign, sites, faction, faults, events)
 }
 
-/// Stores a new report for each of the factions that are to be told.
+/// Stores a new report for each of the factions that get one.
 fn report_to_each(
     alloc: Global,
     world: &World,
     campaign: &mut Campaign,
     sites: &Sites,
-    told: &Told,
+    outcome: &MonthResult,
     sorted: &Numbered<Sequence<Event>>,
 ) -> Result<(), AllocError>
     requires sites { AreSites campaign.old.value.structures sites.now }
-    requires sorted { AreSorted told.now.events.items sorted.now }
-    ensures what { OnOk result (campaign.new.value ≡ told_to_all world.now campaign.old.value told.now) }
+    requires sorted { AreSorted outcome.now.events.items sorted.now }
+    ensures what { OnOk result
+        (campaign.new.value ≡ reported_to_all world.now campaign.old.value outcome.now) }
     ensures marks { OnOk result (MarksChanges campaign.old campaign.new) }
 {
-    for faction in told.factions.iter() {
-        report_to(alloc, world, campaign, sites, *faction, told, sorted)?;
+    for faction in outcome.factions.iter() {
+        report_to(alloc, world, campaign, sites, *faction, outcome, sorted)?;
     }
     Ok(())
 }
 
-/// Stores a new report for each of the factions that are to be told. The structures of each region
+/// Stores a new report for each of the factions that get one. The structures of each region
 /// and the events of each faction are found once for all of them.
 pub(crate) fn report_to_all(
     alloc: Global,
     world: &World,
     campaign: &mut Campaign,
-    told: &Told,
+    outcome: &MonthResult,
 ) -> Result<(), AllocError>
-    ensures what { OnOk result (campaign.new.value ≡ told_to_all world.now campaign.old.value told.now) }
+    ensures what { OnOk result
+        (campaign.new.value ≡ reported_to_all world.now campaign.old.value outcome.now) }
     ensures marks { OnOk result (MarksChanges campaign.old campaign.new) }
 {
     let sites = sites_of(alloc, campaign)?;
-    let sorted = sorted(alloc, &told.events)?;
-    report_to_each(alloc, world, campaign, &sites, told, &sorted)
+    let sorted = events_by_faction(alloc, &outcome.events)?;
+    report_to_each(alloc, world, campaign, &sites, outcome, &sorted)
 }

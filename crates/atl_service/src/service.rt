@@ -10,9 +10,9 @@ ghost use Rattle.atl_service.specs.Found.{Founds, RefusesFounding};
 ghost use Rattle.atl_service.specs.Opened.{ComesBack, Opens, RefusesOpening};
 ghost use Rattle.atl_service.specs.Upgraded.{UpgradesTo, RefusesUpgrade};
 
-use crate::answering::answered;
+use crate::answering::answer_to;
 use crate::command::{Answer, Cause, Command, Fault, Refused};
-use crate::founding::prepared;
+use crate::founding::world_and_campaign;
 use atl_report::books_text;
 use atl_state::Campaign;
 use atl_store::{create, load};
@@ -58,21 +58,23 @@ impl<S: Alter> Service<S> {
     ghost use Rattle.atl_service.specs.Runs.{Runs, RunsAll, HeadlineAt};
 
     /// Runs one command. A command that is refused, or answered with a report, changes nothing. Fault Store comes only where
-    /// a call of the writing gave another error than want of memory; Fault Memory where one gave that, or before the
+    /// a call of the write gave another error than running out of memory; Fault Memory where one gave that, or before the
     /// database was asked to write. After both the tables are as before, the service is closed, and every command is
     /// answered Closed and changes nothing. See docs/RULES.md, "Joining", "Mail", "Closing a month", "Reports" and "Refusals
     /// and faults".
     pub fn run(&mut self, command: &Command) -> Answer
         ensures runs { Runs S.Store self.old command.now result self.new }
         ensures later { IsLater (state S.Store self.old.conn) (state S.Store self.new.conn) }
-        ensures others { HasCleanDisk (state S.Store self.new.conn) → SparesOthers (state S.Store self.old.conn) (state S.Store self.new.conn) }
-        ensures tables { IfSome self.new.campaign (λ c. HoldsCampaign S.Store self.new.conn (text_in S.Store self.new.conn) c) }
+        ensures others { HasCleanDisk (state S.Store self.new.conn)
+            → SparesOthers (state S.Store self.old.conn) (state S.Store self.new.conn) }
+        ensures tables { IfSome self.new.campaign
+            (λ c. HoldsCampaign S.Store self.new.conn (text_in S.Store self.new.conn) c) }
         ensures balances { IfSome self.new.campaign Balances }
     {
         if !self.is_open {
             return Answer::Fault(Fault::Closed);
         }
-        match answered(
+        match answer_to(
             self.alloc,
             &self.world,
             &mut self.campaign,
@@ -87,11 +89,14 @@ impl<S: Alter> Service<S> {
         }
     }
 
-    /// Runs commands in their order, and gives an answer for each; behind a fault it is Closed. The room for the answers is
+    /// Runs commands in their order, and gives an answer for each; after a fault it is Closed. The room for the answers is
     /// taken first: without it nothing is run and nothing changes. See docs/RULES.md, "Refusals and faults".
     pub fn run_all(&mut self, commands: &[Command]) -> Result<Vec<Answer>, AllocError>
-        ensures runs { IfOk result (λ answers. RunsAll S.Store self.old commands.now answers.items self.new) }
-        ensures headline { IfOk result (λ answers. HeadlineAt S.Store self.old commands.now answers.items self.new self.old.campaign) }
+        ensures runs { IfOk result
+            (λ answers. RunsAll S.Store self.old commands.now answers.items self.new) }
+        ensures headline { IfOk result
+            (λ answers. HeadlineAt S.Store self.old commands.now answers.items self.new
+            self.old.campaign) }
         ensures err { OnErr result (self.new ≡ self.old) }
         ensures balances { IfSome self.new.campaign Balances }
     {
@@ -109,7 +114,8 @@ impl<S: Alter> Service<S> {
         ensures good { IfSome self.now.campaign (IsGood self.now.world) }
         ensures balances { IfSome self.now.campaign Balances }
         ensures unmarked { IfSome (option_copied result) (λ c. c.marks ≡ no_marks) }
-        ensures tables { IfSome self.now.campaign (λ c. HoldsCampaign S.Store self.now.conn (text_in S.Store self.now.conn) c) }
+        ensures tables { IfSome self.now.campaign
+            (λ c. HoldsCampaign S.Store self.now.conn (text_in S.Store self.now.conn) c) }
     {
         if self.is_open {
             Some(&self.campaign)
@@ -122,7 +128,9 @@ impl<S: Alter> Service<S> {
     /// of it. The books balance. See docs/FORMATS.md, "Books".
     pub fn books(&self) -> Option<Result<String, AllocError>>
         ensures open { is_some result ≡ is_some self.now.campaign }
-        ensures definition { IfSome self.now.campaign (λ c. IfSome result (λ made. IfOk made (λ text. string_bytes text ≡ books_of self.now.world c))) }
+        ensures definition { IfSome self.now.campaign
+            (λ c. IfSome result (λ made. IfOk made (λ text. string_bytes text
+            ≡ books_of self.now.world c))) }
         ensures balances { IfSome self.now.campaign Balances }
     {
         let campaign = self.campaign()?;
@@ -132,7 +140,8 @@ impl<S: Alter> Service<S> {
     /// The world of the campaign, as it was founded or upgraded. It is lent also after a fault.
     pub fn world(&self) -> &World
         ensures value { result.now ≡ self.now.world }
-        ensures text { HasCleanDisk (state S.Store self.now.conn) → IsSome self.now.campaign → world_of (text_in S.Store self.now.conn) ≡ Ok self.now.world }
+        ensures text { HasCleanDisk (state S.Store self.now.conn) → IsSome self.now.campaign
+            → world_of (text_in S.Store self.now.conn) ≡ Ok self.now.world }
     {
         &self.world
     }
@@ -140,7 +149,8 @@ impl<S: Alter> Service<S> {
     /// The connection, with its tables as they are.
     pub fn end(self) -> Connection<S>
         ensures value { result ≡ self.conn }
-        ensures tables { IfSome self.campaign (λ c. HoldsCampaign S.Store result (text_in S.Store result) c) }
+        ensures tables { IfSome self.campaign
+            (λ c. HoldsCampaign S.Store result (text_in S.Store result) c) }
     {
         let Service {
             alloc: _,
@@ -155,7 +165,7 @@ impl<S: Alter> Service<S> {
 
 /// Founds a campaign by a world text and the moderator's pass text, in a database without tables. The cause of a refusal
 /// is the first check that fails: the world's fault, the pass text, a campaign that is there, the database; or Memory at
-/// any of them, before the database was asked to write or where a call of the writing gave want of memory. Store: there is a
+/// any of them, before the database was asked to write or where a call of the write ran out of memory. Store: there is a
 /// table, an index or a view, the connection is in a transaction, or a call of the writing gave another error. After the first
 /// three nothing is changed, nor after Memory where the text is no world or the pass text isn't good; after the others the
 /// tables are as they were while the connection is open, and a crash leaves what it left before or the founded campaign. See
@@ -168,9 +178,10 @@ pub fn found<S: Alter>(
 ) -> Result<Service<S>, Refused<S>>
     ensures ok { IfOk result (Founds S.Store conn world_text.now pass.now) }
     ensures balances { IfOk result (λ s. IfSome s.campaign Balances) }
-    ensures err { IfErr result (λ r. RefusesFounding S.Store conn world_text.now pass.now r.why r.conn) }
+    ensures err { IfErr result
+        (λ r. RefusesFounding S.Store conn world_text.now pass.now r.why r.conn) }
 {
-    let (world, mut campaign) = match prepared(alloc, world_text, pass) {
+    let (world, mut campaign) = match world_and_campaign(alloc, world_text, pass) {
         Ok(both) => both,
         Err(why) => return Err(Refused { why, conn }),
     };

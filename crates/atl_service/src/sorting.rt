@@ -26,7 +26,7 @@ fn add_event(
 }
 
 /// The events of each faction in their order, by the faction's number, from one pass over all of them.
-pub(crate) fn sorted(
+pub(crate) fn events_by_faction(
     alloc: Global,
     events: &[Event],
 ) -> Result<Numbered<Sequence<Event>>, AllocError>
@@ -39,8 +39,8 @@ pub(crate) fn sorted(
     Ok(sorted)
 }
 
-/// The list that stands under a number; the empty one where none does.
-pub(crate) fn listed<T: Drop>(lists: &Numbered<Sequence<T>>, number: u32) -> &[T]
+/// The list under a number; the empty one if there is none.
+pub(crate) fn list_of<T: Drop>(lists: &Numbered<Sequence<T>>, number: u32) -> &[T]
     ensures { result.now ≡ unwrap_or (map.get lists.now number) [] }
 {
     match lists.get(number) {

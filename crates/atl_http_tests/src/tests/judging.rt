@@ -1,6 +1,6 @@
 //! What the first bytes of a request come to, before any command runs. See docs/FORMATS.md, "HTTP".
 use super::compare::is_text;
-use atl_http::{Verdict, judged, pieces_do_not_matter};
+use atl_http::{Verdict, pieces_do_not_matter, verdict_on};
 use std::alloc::{AllocError, Global};
 use std::process::Abort;
 
@@ -28,7 +28,7 @@ fn name_of(verdict: &Verdict) -> &'static str {
 }
 
 fn comes_to(rt: &impl Abort, alloc: Global, bytes: &str, wanted: &str) -> Result<(), AllocError> {
-    let verdict = judged(alloc, bytes.as_bytes())?;
+    let verdict = verdict_on(alloc, bytes.as_bytes())?;
     is_text(rt, name_of(&verdict), wanted);
     Ok(())
 }

@@ -1,8 +1,8 @@
 use Rattle.std.proofs.Common.{take, map}
 use Rattle.httparse.specs.Spans.{header_bytes}
 use Rattle.atl_http.specs.Fields.{values_of}
-use Rattle.atl_http.specs.Finding.{Tells}
+use Rattle.atl_http.specs.Finding.{HasValues}
 use Rattle.atl_http.proofs.fields.find_value.Given as goal
 
 abbrev pub invariant-loop-field : goal.invariant-loop-field
-invariant-loop-field l = Tells l.bytes l.found (values_of l.name (map (header_bytes l.bytes) (take l.field-index l.fields)))
+invariant-loop-field l = HasValues l.bytes l.found (values_of l.name (map (header_bytes l.bytes) (take l.field-index l.fields)))

@@ -6,8 +6,8 @@ use Rattle.atl_service.proofs.closing.turn_month.Goals as goal
 pub close_month-requires-clause-own : goal.close_month-requires-clause-own
 close_month-requires-clause-own c = own_factions c.args.world.now c.args.campaign.now.value c.in_ok-mailings.field-0.mailings.items c.requires.good c.in_ok-mailings.ensures.readings_are
 
-pub returns-clause-told : goal.returns-clause-told
-returns-clause-told c =
+pub returns-clause-outcome : goal.returns-clause-outcome
+returns-clause-outcome c =
     let after = c.in_ok-after.after.value in
     let done : c.clear_mail.new.self.value ≡ finished after = rw (c.clear_mail.ensures.what, c.set_month.ensures.what, c.month.ensures) refl in
     rw (done, c.in_ok-factions.ensures)

@@ -2,16 +2,16 @@ use Rattle.std.proofs.Common.{unwrap_or, []}
 use Rattle.std.specs.FinMap.{get}
 use Rattle.atl_state.proofs.CoverLaws.{marks-trans}
 use Rattle.atl_service.specs.Closing.{reported_to}
-use Rattle.atl_service.specs.Months.{told_to_all}
+use Rattle.atl_service.specs.Months.{reported_to_all}
 use Rattle.atl_service.proofs.CloseLaws.{sites_stay, told_on}
 use Rattle.atl_service.proofs.reporting.report_to_each.Goals as goal
 
 pub loop-faction-preserved : goal.loop-faction-preserved
 loop-faction-preserved c =
     let (whole, marks, sites) = c.loop-faction.invariant in
-    let told = c.args.told.now in (
-      told_on (reported_to c.args.world.now (λ n. unwrap_or (get told.faults n) []) told.events.items) c.loop-faction.campaign.value c.report_to.new.campaign.value (told_to_all c.args.world.now c.args.campaign.now.value told) c.deref-faction-items.result.now c.loop-faction.faction-index 0
+    let outcome = c.args.outcome.now in (
+      told_on (reported_to c.args.world.now (λ n. unwrap_or (get outcome.faults n) []) outcome.events.items) c.loop-faction.campaign.value c.report_to.new.campaign.value (reported_to_all c.args.world.now c.args.campaign.now.value outcome) c.deref-faction-items.result.now c.loop-faction.faction-index 0
           c.loop-faction-test.true c.in_ok-report_to.ensures.what whole,
       marks-trans c.args.campaign.now c.loop-faction.campaign c.report_to.new.campaign marks c.in_ok-report_to.ensures.marks,
-      sites_stay c.args.world.now (λ n. unwrap_or (get told.faults n) []) told.events.items c.loop-faction.campaign.value c.report_to.new.campaign.value _ c.in_ok-report_to.ensures.what _ sites,
+      sites_stay c.args.world.now (λ n. unwrap_or (get outcome.faults n) []) outcome.events.items c.loop-faction.campaign.value c.report_to.new.campaign.value _ c.in_ok-report_to.ensures.what _ sites,
     )

@@ -4,11 +4,11 @@ use Rattle.std.specs.FinMap.{get}
 use Rattle.atl_state.specs.Covers.{MarksChanges}
 use Rattle.atl_report.specs.Sites.{AreSites}
 use Rattle.atl_service.specs.Closing.{reported_to}
-use Rattle.atl_service.specs.Months.{told_to_all}
+use Rattle.atl_service.specs.Months.{reported_to_all}
 use Rattle.atl_service.proofs.reporting.report_to_each.Given as goal
 
 abbrev pub invariant-loop-faction : goal.invariant-loop-faction
 invariant-loop-faction l =
-    (fold (reported_to l.world (λ n. unwrap_or (get l.told.faults n) []) l.told.events.items) l.campaign.value (drop l.faction-index l.faction-items) ≡ told_to_all l.world l.initial.campaign.value l.told) ×
+    (fold (reported_to l.world (λ n. unwrap_or (get l.outcome.faults n) []) l.outcome.events.items) l.campaign.value (drop l.faction-index l.faction-items) ≡ reported_to_all l.world l.initial.campaign.value l.outcome) ×
     MarksChanges l.initial.campaign l.campaign ×
     AreSites l.campaign.value.structures l.sites

@@ -1,0 +1,48 @@
+//! What the program prints on standard output. See docs/FORMATS.md, "The program".
+use crate::failure::Failure;
+use atl_orders::FaultyLine;
+use atl_service::{Answer, Fault};
+use std::io;
+
+/// The failure Output if a line could not be printed.
+pub fn print_result(written: io::Result<()>) -> Result<(), Failure> {
+    match written {
+        Ok(()) => Ok(()),
+        Err(_) => Err(Failure::Output),
+    }
+}
+
+fn print_line<R: Print>(rt: &R, faulty: &FaultyLine) -> io::Result<()> {
+    let line = faulty.line;
+    let number = faulty.fault.number();
+    let name = faulty.fault.name();
+    println!(rt; "line {line}: {number} {name}")
+}
+
+fn print_mailing<R: Print>(rt: &R, orders: usize, faults: &[FaultyLine]) -> io::Result<()> {
+    let count = faults.len();
+    println!(rt; "{orders} orders, {count} faults")?;
+    for faulty in faults {
+        print_line(rt, faulty)?;
+    }
+    Ok(())
+}
+
+/// Prints the answer to a command. A refusal or a fault is a failure, and nothing is printed of it here.
+pub fn print_answer<R: Print>(rt: &R, answer: &Answer) -> Result<(), Failure> {
+    match answer {
+        Answer::Joined { faction, unit } => print_result(println!(rt;
+            "faction {faction}, unit {unit}"
+        )),
+        Answer::Mailed { orders, faults } => print_result(print_mailing(
+            rt,
+            *orders,
+            faults.as_slice(),
+        )),
+        Answer::MonthDone { month } => print_result(println!(rt; "month {month} closed")),
+        Answer::Text(text) => print_result(rt.print(text.as_str())),
+        Answer::Refused(refusal) => Err(Failure::Refused(*refusal)),
+        Answer::Fault(Fault::Store) => Err(Failure::Store),
+        Answer::Fault(_) => Err(Failure::Memory),
+    }
+}

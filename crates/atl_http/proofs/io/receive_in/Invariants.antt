@@ -1,0 +1,18 @@
+use Rattle.std.proofs.Common.{◌≡◌, ◌≤◌, ◌-◌, length}
+use Rattle.std.specs.Io.KnownBytes.{Consumes}
+use Rattle.atl_http.specs.Heads.{IsReadSoFar, IsShortBy, most_at_once}
+use Rattle.atl_http.specs.Calls.{most_reads, GoesOn}
+use Rattle.atl_http.proofs.io.receive_in.Given as goal
+
+abbrev pub invariant-loop-outcome : goal.invariant-loop-outcome
+invariant-loop-outcome g l = record {
+  consumed : Consumes (g.R.Read.remaining l.fn.reader) (g.R.Read.remaining l.reader) l.seen.items;
+  progress : IsReadSoFar l.seen.items;
+  short : IsShortBy l.seen.items l.lacking;
+  room : length l.room ≡ most_at_once;
+  few : l.reads.count ≤ most_reads;
+  goes_on : GoesOn l.reads.last;
+}
+
+abbrev pub decreases-loop-outcome : goal.decreases-loop-outcome
+decreases-loop-outcome g l = most_reads - l.reads.count

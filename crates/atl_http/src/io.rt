@@ -1,0 +1,181 @@
+//! Reading a request in pieces, and writing a reply.
+ghost use Rattle.std.specs.Prelude.{◌≡◌, ◌≤◌, ◌+◌, [], length, IfOk, OnOk};
+ghost use Rattle.atl_http.specs.Heads.{most_at_once, IsShortBy, ComesTo};
+ghost use Rattle.atl_http.specs.Calls.{most_reads, no_reads, GoesOn, EndsReading, no_writes, EndsWriting};
+ghost use Rattle.atl_http.specs.Io.{ReadsMore, Receives, Sends};
+
+use crate::calls::{MOST_INTERRUPTED, MOST_READS, ReadOutcome, Reads, WriteOutcome, Writes};
+use crate::parsing::{progress_of, rest_after};
+use crate::request::{Outcome, Progress};
+use std::alloc::{AllocError, Global};
+use std::fmt;
+use std::io::{Read, Write};
+
+/// The most bytes that one read takes.
+const MOST_AT_ONCE: usize = 8_192;
+
+/// Why a connection has ended without a reply, or within one. See docs/FORMATS.md, "HTTP".
+#[derive(Drop, Clone, Copy, Debug, PartialEq, Eq)]
+pub enum HttpFault {
+    /// The input ended before the request was whole. No command was run, and nothing written.
+    Cut,
+    /// A read failed, or 1,000,000 reads haven't brought the whole request. No command was run, and nothing written.
+    ReadFault,
+    /// A write failed or took no byte, or 1,000,000 writes were interrupted. A front of the reply may have been written, and a
+    /// command that was run stays.
+    WriteFault,
+    /// There was no memory. Nothing was written, and a command that was run stays.
+    Memory,
+}
+
+impl HttpFault {
+    ghost use Rattle.atl_http.specs.Serving.{fault_number};
+
+    /// The number of the fault; Memory has none.
+    pub fn number(self) -> Option<u8>
+        ensures { result ≡ fault_number self }
+    {
+        match self {
+            HttpFault::Cut => Some(1),
+            HttpFault::ReadFault => Some(2),
+            HttpFault::WriteFault => Some(3),
+            HttpFault::Memory => None,
+        }
+    }
+}
+
+/// The number and the name, as `1 Cut`; `Memory` has its name alone.
+impl fmt::Display for HttpFault {
+    fn fmt<W: fmt::Write>(&self, f: &mut fmt::Formatter<W>) -> fmt::Result {
+        match self.number() {
+            Some(number) => write!(f, "{number} {self:?}"),
+            None => write!(f, "{self:?}"),
+        }
+    }
+}
+
+impl std::error::Error for HttpFault {}
+
+impl From<AllocError> for HttpFault {
+    ghost use Rattle.atl_http.specs.declared.io.HttpFault.TheVariants.{Memory};
+
+    ghost from_gives = { λ _ e. e ≡ Memory };
+
+    fn from(_e: AllocError) -> HttpFault {
+        HttpFault::Memory
+    }
+}
+
+/// Reads once, appends what came, and returns how many bytes that were: none if the read was interrupted. Cut at
+/// the end of the input, ReadFault where the read fails or 1,000,000 were done before, Memory without memory for what came.
+fn read_more<R: Read>(
+    reader: &mut R,
+    reads: &mut Reads,
+    room: &mut [u8],
+    seen: &mut Vec<u8>,
+) -> Result<usize, HttpFault>
+    requires room { length room.old ≡ most_at_once }
+    requires few { reads.old.count ≤ most_reads }
+    requires goes_on { GoesOn reads.old.last }
+    ensures more { ReadsMore (R.remaining reader.old) (R.remaining reader.new) seen.old.items
+        seen.new.items result }
+    ensures ends { EndsReading reads.new result }
+    ensures counts { OnOk result (reads.new.count ≡ reads.old.count + 1) }
+{
+    if reads.count() == MOST_READS {
+        return Err(HttpFault::ReadFault);
+    }
+    match reads.read(reader, room) {
+        ReadOutcome::Piece(count) => {
+            seen.extend_from_slice(&room[..count])?;
+            Ok(count)
+        }
+        ReadOutcome::Interrupted => Ok(0),
+        ReadOutcome::End => Err(HttpFault::Cut),
+        ReadOutcome::Failed => Err(HttpFault::ReadFault),
+    }
+}
+
+/// Writes all bytes. WriteFault where a write fails or takes no byte, or 1,000,000 writes were interrupted: then a front of them is
+/// written.
+pub fn send<W: Write>(writer: &mut W, writes: &mut Writes, bytes: &[u8]) -> Result<(), HttpFault>
+    requires { writes.old ≡ no_writes }
+    ensures sends { Sends (W.contents writer.old) (W.contents writer.new) bytes.now result }
+    ensures ends { EndsWriting writes.new result }
+{
+    let mut sent = 0;
+    while sent < bytes.len() {
+        match writes.write(writer, rest_after(bytes, sent)) {
+            WriteOutcome::Taken(count) => sent += count,
+            WriteOutcome::Interrupted if writes.interrupted() < MOST_INTERRUPTED => {}
+            WriteOutcome::Interrupted | WriteOutcome::Failed => return Err(HttpFault::WriteFault),
+        }
+    }
+    Ok(())
+}
+
+/// The room for one read.
+fn room(alloc: Global) -> Result<Vec<u8>, AllocError>
+    ensures { IfOk result (λ room. length room.items ≡ most_at_once) }
+{
+    let mut room = Vec::with_capacity(alloc, MOST_AT_ONCE)?;
+    room.resize(MOST_AT_ONCE, 0u8)?;
+    Ok(room)
+}
+
+/// What the bytes that have come come to: judged anew only where no more are known to be lacking.
+fn progress_if_due(alloc: Global, seen: &[u8], lacking: usize) -> Result<Progress, AllocError>
+    requires { IsShortBy seen.now lacking }
+    ensures { IfOk result (ComesTo seen.now) }
+{
+    if 0 < lacking {
+        return Ok(Progress::Lacks(lacking));
+    }
+    progress_of(alloc, seen)
+}
+
+/// Reads until the request is whole or refused, and leaves in `seen` all that was read.
+fn receive_in<R: Read>(
+    alloc: Global,
+    reader: &mut R,
+    reads: &mut Reads,
+    room: &mut [u8],
+    seen: &mut Vec<u8>,
+) -> Result<Outcome, HttpFault>
+    requires room { length room.old ≡ most_at_once }
+    requires empty { seen.old.items ≡ [] }
+    requires fresh { reads.old ≡ no_reads }
+    ensures receives { Receives (R.remaining reader.old) (R.remaining reader.new) seen.new.items
+        result }
+    ensures ends { EndsReading reads.new result }
+{
+    let mut lacking = 0;
+    loop {
+        match progress_if_due(alloc, seen, lacking)? {
+            Progress::Ends(outcome) => return Ok(outcome),
+            Progress::Lacks(count) => lacking = count,
+        }
+        match read_more(reader, reads, room, seen) {
+            Ok(count) => lacking = lacking.saturating_sub(count),
+            Err(fault) => return Err(fault),
+        }
+    }
+}
+
+/// Reads until the request is whole or refused, and leaves in `seen` all that was read. Cut where the input ends before, ReadFault
+/// where a read fails or 1,000,000 reads haven't brought all of it, Memory without memory for what is read or asked.
+pub fn receive<R: Read>(
+    alloc: Global,
+    reader: &mut R,
+    reads: &mut Reads,
+    seen: &mut Vec<u8>,
+) -> Result<Outcome, HttpFault>
+    requires empty { seen.old.items ≡ [] }
+    requires fresh { reads.old ≡ no_reads }
+    ensures receives { Receives (R.remaining reader.old) (R.remaining reader.new) seen.new.items
+        result }
+    ensures ends { EndsReading reads.new result }
+{
+    let mut room = room(alloc)?;
+    receive_in(alloc, reader, reads, &mut room, seen)
+}

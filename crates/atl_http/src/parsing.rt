@@ -1,0 +1,154 @@
+//! What the bytes that have come of a request come to.
+ghost use Rattle.std.specs.Prelude.{◌≡◌, ◌≤◌, All, IfOk, length, take, drop};
+ghost use Rattle.httparse.specs.Spans.{IsHeaderWithin, IsRequestWithin, IsRequestOf};
+ghost use Rattle.atl_http.specs.Checks.{head_checks};
+ghost use Rattle.atl_http.specs.Heads.{most_head, most_fields, Judges, ComesTo};
+ghost use Rattle.atl_http.specs.Finding.{seen, EndsAs, ParsesHead};
+
+use crate::checks::{head_checks, request_of};
+use crate::problem::{CheckError, Problem};
+use crate::request::{Outcome, Progress, Verdict};
+use httparse::Status;
+use httparse::spans::{EMPTY_HEADER_SPAN, HeaderSpan, RequestSpans, parse_request};
+use std::alloc::{AllocError, Global};
+
+/// The most bytes of a head, its empty line among them.
+const MOST_HEAD: usize = 8_192;
+
+/// The most fields of a head.
+const MOST_FIELDS: usize = 32;
+
+/// What a whole head comes to with the bytes after it, or how many more are missing. AllocError without memory for the routes or
+/// for what is asked.
+fn progress_with_body(
+    alloc: Global,
+    minor: u8,
+    method: &[u8],
+    target: &[u8],
+    bytes: &[u8],
+    fields: &[HeaderSpan],
+    rest: &[u8],
+) -> Result<Progress, AllocError>
+    requires { All (IsHeaderWithin (length bytes.now)) fields.now }
+    ensures { IfOk result
+        (EndsAs (head_checks minor method.now target.now (seen bytes.now fields.now)) rest.now) }
+{
+    let wanted = match head_checks(alloc, minor, method, target, bytes, fields) {
+        Ok(wanted) => wanted,
+        Err(CheckError::Memory) => return Err(AllocError),
+        Err(CheckError::Failed(problem)) => return Ok(Progress::Ends(Outcome::Refused(problem))),
+    };
+    if rest.len() < wanted.size {
+        return Ok(Progress::Lacks(wanted.size - rest.len()));
+    }
+    let body = &rest[..wanted.size];
+    match request_of(alloc, wanted.route, wanted.pass, body) {
+        Ok(request) => Ok(Progress::Ends(Outcome::Asks(request))),
+        Err(CheckError::Memory) => Err(AllocError),
+        Err(CheckError::Failed(problem)) => Ok(Progress::Ends(Outcome::Refused(problem))),
+    }
+}
+
+/// The bytes in which the head has to end.
+#[tactic(auto, using(std::proofs::lemmas::List::take_min, crate::proofs::HeadLaws::front_within))]
+fn front_of(seen: &[u8]) -> &[u8]
+    ensures front { result.now ≡ take most_head seen.now }
+    ensures within { length result.now ≤ length seen.now }
+{
+    &seen[..MOST_HEAD.min(seen.len())]
+}
+
+/// What parsing the front of the bytes gives.
+#[derive(Drop, Clone, Copy)]
+pub enum HeadParse {
+    Whole(RequestSpans),
+    Partial,
+    /// No head begins so, or it has too many fields.
+    Refused,
+}
+
+/// Parses the front of the bytes as a head, which has as many fields at most as there is room for.
+fn parse_head(front: &[u8], fields: &mut [HeaderSpan]) -> HeadParse
+    requires { length fields.old ≡ most_fields }
+    ensures tells { ParsesHead front.now fields.new result }
+    ensures room { length fields.new ≡ most_fields }
+{
+    match parse_request(front, fields) {
+        Ok(Status::Complete(head)) => HeadParse::Whole(head),
+        Ok(Status::Partial) => HeadParse::Partial,
+        Err(_) => HeadParse::Refused,
+    }
+}
+
+/// The fields that were found.
+fn first_fields(fields: &[HeaderSpan], count: usize) -> &[HeaderSpan]
+    requires { count ≤ length fields.now }
+    ensures { result.now ≡ take count fields.now }
+{
+    &fields[..count]
+}
+
+/// The bytes after the first `len`.
+pub fn rest_after(seen: &[u8], len: usize) -> &[u8]
+    requires { len ≤ length seen.now }
+    ensures { result.now ≡ drop len seen.now }
+{
+    &seen[len..]
+}
+
+/// What bytes come to that begin with a whole head.
+fn progress_past_head(
+    alloc: Global,
+    seen: &[u8],
+    front: &[u8],
+    fields: &[HeaderSpan],
+    head: &RequestSpans,
+) -> Result<Progress, AllocError>
+    requires front { front.now ≡ take most_head seen.now }
+    requires within { length front.now ≤ length seen.now }
+    requires room { length fields.now ≡ most_fields }
+    requires tells { IsRequestWithin front.now fields.now head.now
+        × IsRequestOf front.now fields.now head.now }
+    ensures { IfOk result (ComesTo seen.now) }
+{
+    let method = head.method.of(front);
+    let target = head.path.of(front);
+    let fields = first_fields(fields, head.headers);
+    let rest = rest_after(seen, head.len);
+    progress_with_body(alloc, head.version, method, target, front, fields, rest)
+}
+
+/// What the bytes come to, with room for the fields of their head.
+fn progress_in(
+    alloc: Global,
+    seen: &[u8],
+    fields: &mut [HeaderSpan],
+) -> Result<Progress, AllocError>
+    requires { length fields.old ≡ most_fields }
+    ensures { IfOk result (ComesTo seen.now) }
+{
+    let front = front_of(seen);
+    match parse_head(front, fields) {
+        HeadParse::Whole(head) => progress_past_head(alloc, seen, front, fields, &head),
+        HeadParse::Partial if seen.len() < MOST_HEAD => Ok(Progress::Lacks(1)),
+        HeadParse::Partial => Ok(Progress::Ends(Outcome::Refused(Problem::BadRequest))),
+        HeadParse::Refused => Ok(Progress::Ends(Outcome::Refused(Problem::BadRequest))),
+    }
+}
+
+/// What the bytes received so far come to, or how many more are missing: one of a head that isn't whole, and of a body
+/// that isn't, all that are missing. AllocError as of `verdict_on`.
+pub fn progress_of(alloc: Global, seen: &[u8]) -> Result<Progress, AllocError>
+    ensures { IfOk result (ComesTo seen.now) }
+{
+    let mut fields = [EMPTY_HEADER_SPAN; MOST_FIELDS];
+    progress_in(alloc, seen, &mut fields)
+}
+
+/// What the bytes that have come of a request come to. AllocError without memory for the routes or for what is asked. See
+/// docs/FORMATS.md, "HTTP".
+pub fn verdict_on(alloc: Global, seen: &[u8]) -> Result<Verdict, AllocError>
+    ensures { IfOk result (Judges seen.now) }
+{
+    Ok(progress_of(alloc, seen)?.verdict())
+}
