@@ -1,18 +1,19 @@
-//! A small world's campaign in a store.
-mod changed;
-mod changes;
+//! Scripts that are played on a store, and disks that stop.
+mod calls;
+mod campaigns;
 mod compare;
-mod counts;
-mod crashes;
+mod contents;
+mod creating;
 mod faults;
-mod founding;
+mod game;
 mod laws;
-mod lent;
-mod making;
-mod markets;
-mod others;
+mod reading;
 mod reopening;
+mod rows;
 mod schemas;
-mod stopped_upgrade;
+mod script;
+mod setting;
+mod stopped;
 mod upgrading;
-mod writes;
+mod words;
+mod writing;

@@ -1,9 +1,8 @@
-//! The assertions, one for each type.
+//! The assertions. Each stands here once, since its message writes out both values.
+use std::alloc::Global;
+use std::fmt::Debug;
 use std::process::Abort;
-
-pub(crate) fn is_text(rt: &impl Abort, told: &str, wanted: &str) {
-    assert_eq!(rt; told, wanted);
-}
+use std::test::Fail;
 
 /// Of a row of a table, which the message names.
 pub(crate) fn row_is(rt: &impl Abort, row: &str, told: &str, wanted: &str) {
@@ -18,12 +17,15 @@ pub(crate) fn are_numbers(rt: &impl Abort, told: &[u32], wanted: &[u32]) {
     assert_eq!(rt; told, wanted);
 }
 
-/// Of the numbers of items and skills that may be there.
-pub(crate) fn are_places(rt: &impl Abort, told: &[Option<u16>], wanted: &[Option<u16>]) {
-    assert_eq!(rt; told, wanted);
-}
-
-/// Of the numbers of regions that may be there.
-pub(crate) fn are_exits(rt: &impl Abort, told: &[Option<u32>], wanted: &[Option<u32>]) {
-    assert_eq!(rt; told, wanted);
+/// Of values of a row, as `Debug` prints them in a list.
+pub(crate) fn are_shown<T: Debug>(
+    rt: &impl Abort,
+    alloc: Global,
+    row: &str,
+    told: &[T],
+    wanted: &str,
+) -> Result<(), Fail> {
+    let told = format!(in alloc; "{told:?}")?;
+    row_is(rt, row, told.as_str(), wanted);
+    Ok(())
 }

@@ -1,10 +1,13 @@
 //! Changes of worlds, with the faults that they make.
+use atl_test_worlds::SMALL;
 
 /// A piece of a text, what comes in its place, and the first fault of the text that this makes.
 pub(crate) type Change = (&'static str, &'static str, &'static str);
 
-/// Changes of the small world.
-pub(crate) static SMALL_CHANGES: [Change; 24] = [
+/// Changes of the small world, two of which replace all of it.
+pub(crate) static SMALL_CHANGES: [Change; 26] = [
+    (SMALL, "a = = b", "1 NotToml"),
+    (SMALL, "", "2 Missing rules"),
     ("growth = 0", "growth = \"x\"", "3 WrongType rules.growth"),
     ("growth = 0", "growth = 101", "4 OutOfRange rules.growth"),
     (
@@ -550,6 +553,20 @@ pub(crate) static ARRAY_CHANGES: [Change; 13] = [
         "5 TwoNames region[1].number",
     ),
 ];
+
+/// The world with 200 equal markets as it is: names are equal as long as there are not too many.
+pub(crate) static EQUAL_MARKETS: [Change; 1] = [(
+    "[rules]",
+    "[rules]",
+    "5 TwoNames region[0].market[1].item",
+)];
+
+/// The world with 201 markets.
+pub(crate) static TOO_MANY_MARKETS: [Change; 1] = [(
+    "[rules]",
+    "[rules]",
+    "4 OutOfRange region[0].market",
+)];
 
 /// A piece of a text, what comes in its place, and the first faults of the text that this makes in the second format and in
 /// the first.

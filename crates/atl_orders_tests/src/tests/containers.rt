@@ -1,5 +1,5 @@
 //! Texts, lists, maps by number, and the faults of worlds, call by call.
-use super::asserts::{are_numbers, is_number, is_text, row_is};
+use super::asserts::{are_numbers, is_number, row_is};
 use atl_tables::{Numbered, Sequence, Text, WorldFault};
 use std::alloc::Global;
 use std::process::Abort;
@@ -7,9 +7,9 @@ use std::test::Fail;
 
 /// Asserts the bytes of a text, and that a copy has them too.
 fn holds(rt: &impl Abort, alloc: Global, text: &Text, wanted: &str) -> Result<(), Fail> {
-    is_text(rt, text.as_str(), wanted);
     assert!(rt; text.as_bytes() == wanted.as_bytes());
-    is_text(rt, text.copy(alloc)?.as_str(), wanted);
+    row_is(rt, wanted, text.as_str(), wanted);
+    row_is(rt, wanted, text.copy(alloc)?.as_str(), wanted);
     Ok(())
 }
 
@@ -36,20 +36,15 @@ fn lists(rt: &impl Abort, list: &Sequence<u32>, wanted: &[u32]) {
     are_numbers(rt, list.as_slice(), wanted);
 }
 
-fn pushed(rt: &impl Abort, alloc: Global) -> Result<Vec<u32>, Fail> {
-    let mut list = Sequence::new(alloc);
-    lists(rt, &list, &[]);
-    list.push(3)?;
-    list.push(1)?;
-    lists(rt, &list, &[3, 1]);
-    Ok(list.into_vec())
-}
-
 #[test]
 fn sequences(rt: HostRuntime) -> Result<(), Fail> {
-    let mut list = Sequence::from_vec(pushed(&rt, rt.alloc())?);
-    list.push(2)?;
-    lists(&rt, &list, &[3, 1, 2]);
+    let mut list = Sequence::new(rt.alloc());
+    lists(&rt, &list, &[]);
+    list.push(3)?;
+    list.push(1)?;
+    let mut again = Sequence::from_vec(list.into_vec());
+    again.push(2)?;
+    lists(&rt, &again, &[3, 1, 2]);
     lists(&rt, &Sequence::from_slice(rt.alloc(), &[7, 7])?, &[7, 7]);
     Ok(())
 }
@@ -71,7 +66,7 @@ pub(crate) fn maps(
     Ok(())
 }
 
-/// A map that three values were put into.
+/// A map of three values.
 pub(crate) fn filled(alloc: Global) -> Result<Numbered<u32>, Fail> {
     let mut map = Numbered::new(alloc);
     map.insert(30, 3)?;
@@ -94,15 +89,11 @@ fn changes_entries(rt: &impl Abort, map: &mut Numbered<u32>) {
 
 #[test]
 fn numbered(rt: HostRuntime) -> Result<(), Fail> {
+    maps(&rt, rt.alloc(), &Numbered::new(rt.alloc()), &[])?;
     let mut map = filled(rt.alloc())?;
     maps(&rt, rt.alloc(), &map, &[1, 1, 20, 2, 30, 3])?;
     changes_entries(&rt, &mut map);
     maps(&rt, rt.alloc(), &map, &[20, 9, 30, 3])
-}
-
-#[test]
-fn no_entries(rt: HostRuntime) -> Result<(), Fail> {
-    maps(&rt, rt.alloc(), &Numbered::new(rt.alloc()), &[])
 }
 
 /// The numbers of the faults (0 for none), their names, and their paths.
@@ -133,32 +124,26 @@ fn fault_of(number: u8, path: Text) -> WorldFault {
     }
 }
 
-fn fault_tells(rt: &impl Abort, fault: &WorldFault, row: &(u8, &str, &str)) {
-    let (number, name, path) = *row;
-    is_number(rt, fault.number().unwrap_or(0).into(), number.into());
-    row_is(rt, name, fault.name(), name);
-    let told = match fault.path() {
+fn path_of(fault: &WorldFault) -> &str {
+    match fault.path() {
         Some(path) => path.as_str(),
         None => "none",
-    };
-    row_is(rt, name, told, path);
-}
-
-fn number_tells(rt: &impl Abort, alloc: Global, row: &(u8, &str, &str)) -> Result<(), Fail> {
-    let path = Text::from_str(alloc, "rules.growth")?;
-    let fault = fault_of(row.0, path);
-    fault_tells(rt, &fault, row);
-    Ok(())
-}
-
-fn faults_tell(rt: &impl Abort, alloc: Global, rows: &[(u8, &str, &str)]) -> Result<(), Fail> {
-    for row in rows.iter() {
-        number_tells(rt, alloc, row)?;
     }
+}
+
+fn fault_tells(rt: &impl Abort, alloc: Global, row: &(u8, &str, &str)) -> Result<(), Fail> {
+    let (number, name, path) = *row;
+    let fault = fault_of(number, Text::from_str(alloc, "rules.growth")?);
+    is_number(rt, fault.number().unwrap_or(0).into(), number.into());
+    row_is(rt, name, fault.name(), name);
+    row_is(rt, name, path_of(&fault), path);
     Ok(())
 }
 
 #[test]
 fn world_faults(rt: HostRuntime) -> Result<(), Fail> {
-    faults_tell(&rt, rt.alloc(), &FAULTS)
+    for row in FAULTS.iter() {
+        fault_tells(&rt, rt.alloc(), row)?;
+    }
+    Ok(())
 }

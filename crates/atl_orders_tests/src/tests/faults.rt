@@ -1,14 +1,14 @@
 //! Faults of worlds, in their order and with their paths.
 use super::asserts::row_is;
 use super::changes::{
-    ARRAY_CHANGES, Change, HEAD_CHANGES, KEY_CHANGES, MARKET_CHANGES, NAME_CHANGES,
+    ARRAY_CHANGES, Change, EQUAL_MARKETS, HEAD_CHANGES, KEY_CHANGES, MARKET_CHANGES, NAME_CHANGES,
     NEIGHBOUR_CHANGES, OUTPUT_CHANGES, REFERENCE_CHANGES, RULES_CHANGES, SMALL_CHANGES,
-    TITLE_CHANGES, TRUTH_CHANGES, TWIN_CHANGES, TWO_FAULTS,
+    TITLE_CHANGES, TOO_MANY_MARKETS, TRUTH_CHANGES, TWIN_CHANGES, TWO_FAULTS,
 };
 use super::worlds::{MORE, changed, fault, small_with, with_markets};
-use atl_tables::{Format, Text};
+use atl_tables::Format;
 use atl_test_worlds::SMALL;
-use std::alloc::{AllocError, Global};
+use std::alloc::Global;
 use std::process::Abort;
 use std::test::Fail;
 
@@ -68,89 +68,57 @@ fn changes_are(rt: &impl Abort, alloc: Global, text: &str, changes: &[Change]) -
 
 #[test]
 fn faulty_worlds(rt: HostRuntime) -> Result<(), Fail> {
-    changes_are(&rt, rt.alloc(), SMALL, &SMALL_CHANGES)
-}
-
-#[test]
-fn faulty_arrays(rt: HostRuntime) -> Result<(), Fail> {
+    changes_are(&rt, rt.alloc(), SMALL, &SMALL_CHANGES)?;
     changes_are(&rt, rt.alloc(), before("[[region]]"), &HEAD_CHANGES)?;
     changes_are(&rt, rt.alloc(), before("[[terrain]]"), &RULES_CHANGES)
 }
 
-#[test]
-fn faulty_keys(rt: HostRuntime) -> Result<(), Fail> {
-    let all = small_with(rt.alloc(), MORE)?;
-    changes_are(&rt, rt.alloc(), all.as_str(), &KEY_CHANGES)
+/// The changes of the small world with an item, a skill and a kind.
+fn things_are(rt: &impl Abort, alloc: Global, text: &str) -> Result<(), Fail> {
+    changes_are(rt, alloc, text, &KEY_CHANGES)?;
+    changes_are(rt, alloc, text, &NAME_CHANGES)?;
+    changes_are(rt, alloc, text, &TITLE_CHANGES)?;
+    changes_are(rt, alloc, text, &TRUTH_CHANGES)?;
+    changes_are(rt, alloc, text, &REFERENCE_CHANGES)?;
+    changes_are(rt, alloc, text, &NEIGHBOUR_CHANGES)?;
+    changes_are(rt, alloc, text, &OUTPUT_CHANGES)
 }
 
 #[test]
-fn faulty_names(rt: HostRuntime) -> Result<(), Fail> {
-    let all = small_with(rt.alloc(), MORE)?;
-    changes_are(&rt, rt.alloc(), all.as_str(), &NAME_CHANGES)
+fn faulty_things(rt: HostRuntime) -> Result<(), Fail> {
+    let text = small_with(rt.alloc(), MORE)?;
+    things_are(&rt, rt.alloc(), text.as_str())
 }
 
-#[test]
-fn faulty_titles(rt: HostRuntime) -> Result<(), Fail> {
-    let all = small_with(rt.alloc(), MORE)?;
-    changes_are(&rt, rt.alloc(), all.as_str(), &TITLE_CHANGES)
+/// Changes of the world with so many markets.
+fn markets_are(
+    rt: &impl Abort,
+    alloc: Global,
+    count: usize,
+    changes: &[Change],
+) -> Result<(), Fail> {
+    let text = with_markets(alloc, count)?;
+    changes_are(rt, alloc, text.as_str(), changes)
 }
 
-#[test]
-fn faulty_truths(rt: HostRuntime) -> Result<(), Fail> {
-    let all = small_with(rt.alloc(), MORE)?;
-    changes_are(&rt, rt.alloc(), all.as_str(), &TRUTH_CHANGES)
-}
-
-#[test]
-fn faulty_references(rt: HostRuntime) -> Result<(), Fail> {
-    let all = small_with(rt.alloc(), MORE)?;
-    changes_are(&rt, rt.alloc(), all.as_str(), &REFERENCE_CHANGES)
-}
-
-#[test]
-fn faulty_neighbours(rt: HostRuntime) -> Result<(), Fail> {
-    let all = small_with(rt.alloc(), MORE)?;
-    changes_are(&rt, rt.alloc(), all.as_str(), &NEIGHBOUR_CHANGES)
-}
-
-#[test]
-fn faulty_outputs(rt: HostRuntime) -> Result<(), Fail> {
-    let all = small_with(rt.alloc(), MORE)?;
-    changes_are(&rt, rt.alloc(), all.as_str(), &OUTPUT_CHANGES)
-}
-
-#[test]
-fn faulty_markets(rt: HostRuntime) -> Result<(), Fail> {
-    let one = with_markets(rt.alloc(), 1)?;
-    changes_are(&rt, rt.alloc(), one.as_str(), &MARKET_CHANGES)?;
-    let two = with_markets(rt.alloc(), 2)?;
-    changes_are(&rt, rt.alloc(), two.as_str(), &TWIN_CHANGES)
-}
-
-#[test]
-fn faulty_market_arrays(rt: HostRuntime) -> Result<(), Fail> {
-    let none = with_markets(rt.alloc(), 0)?;
-    changes_are(&rt, rt.alloc(), none.as_str(), &ARRAY_CHANGES)
-}
-
-#[test]
-fn later_faults(rt: HostRuntime) -> Result<(), Fail> {
-    let one = with_markets(rt.alloc(), 1)?;
+/// Changes of the world with one market that make two faults.
+fn later_faults_are(rt: &impl Abort, alloc: Global) -> Result<(), Fail> {
+    let one = with_markets(alloc, 1)?;
     for (from, to, second, first) in TWO_FAULTS.iter() {
-        let text = changed(rt.alloc(), one.as_str(), from, to)?;
-        faults_are(&rt, rt.alloc(), to, text.as_str(), second, first)?;
+        let text = changed(alloc, one.as_str(), from, to)?;
+        faults_are(rt, alloc, to, text.as_str(), second, first)?;
     }
     Ok(())
 }
 
 #[test]
-fn many_markets(rt: HostRuntime) -> Result<(), Fail> {
-    let most = with_markets(rt.alloc(), 200)?;
-    let wanted = "5 TwoNames region[0].market[1].item";
-    faults_are(&rt, rt.alloc(), "most", most.as_str(), wanted, "none")?;
-    let more = with_markets(rt.alloc(), 201)?;
-    let wanted = "4 OutOfRange region[0].market";
-    faults_are(&rt, rt.alloc(), "more", more.as_str(), wanted, "none")
+fn faulty_markets(rt: HostRuntime) -> Result<(), Fail> {
+    markets_are(&rt, rt.alloc(), 0, &ARRAY_CHANGES)?;
+    markets_are(&rt, rt.alloc(), 1, &MARKET_CHANGES)?;
+    markets_are(&rt, rt.alloc(), 2, &TWIN_CHANGES)?;
+    markets_are(&rt, rt.alloc(), 200, &EQUAL_MARKETS)?;
+    markets_are(&rt, rt.alloc(), 201, &TOO_MANY_MARKETS)?;
+    later_faults_are(&rt, rt.alloc())
 }
 
 const REGION: &str = "[[region]]
@@ -183,117 +151,114 @@ skill = \"carpentry\"
 level = 1
 ";
 
-/// What is put so often behind the small world, and the first fault then: names are equal as long as there are not too many.
-static REPEATED: [(&str, usize, &str); 11] = [
-    (REGION, 1, "5 TwoNames region[1].number"),
-    (REGION, 9_999, "5 TwoNames region[1].number"),
-    (REGION, 10_000, "4 OutOfRange region"),
-    (TERRAIN, 19, "5 TwoNames terrain[1].name"),
-    (TERRAIN, 20, "4 OutOfRange terrain"),
-    (ITEM, 200, "5 TwoNames item[1].name"),
-    (ITEM, 201, "4 OutOfRange item"),
-    (SKILL, 100, "5 TwoNames skill[1].name"),
-    (SKILL, 101, "4 OutOfRange skill"),
-    (KIND, 100, "5 TwoNames kind[1].name"),
-    (KIND, 101, "4 OutOfRange kind"),
-];
-
-/// The first fault of the small world with a piece so often behind it.
-fn fault_repeated(alloc: Global, piece: &str, times: usize) -> Result<Text, Fail> {
-    let more = piece.repeat(alloc, times)?;
-    let text = small_with(alloc, more.as_str())?;
-    fault(alloc, Format::Second, text.as_str())
-}
-
-fn repeated_are(rt: &impl Abort, alloc: Global, rows: &[(&str, usize, &str)]) -> Result<(), Fail> {
-    for (piece, times, wanted) in rows.iter() {
-        let told = fault_repeated(alloc, piece, *times)?;
-        row_is(rt, piece, told.as_str(), wanted);
-    }
-    Ok(())
-}
-
-/// A text of so many regions, with the numbers from 1.
-fn regions(alloc: Global, count: u32) -> Result<String, AllocError> {
-    let mut text = String::new(alloc);
-    for number in 1..=count {
-        let region = format!(in alloc;
-            "[[region]]\nnumber = {number}\nname = \"Vale\"\nterrain = \"plain\"\npeasants = 1000\nmoney = 500\n"
-        )?;
-        text.push_str(region.as_str())?;
-    }
-    Ok(text)
-}
-
-/// The first fault of a world of so many regions.
-fn fault_of_regions(alloc: Global, count: u32) -> Result<Text, Fail> {
-    let regions = regions(alloc, count)?;
-    let rules = before("[[region]]");
-    let text = format!(in alloc; "{rules}{regions}")?;
-    fault(alloc, Format::Second, text.as_str())
-}
-
-#[test]
-fn many_regions(rt: HostRuntime) -> Result<(), Fail> {
-    let most = fault_of_regions(rt.alloc(), 10_000)?;
-    row_is(&rt, "most", most.as_str(), "none");
-    let more = fault_of_regions(rt.alloc(), 10_001)?;
-    row_is(&rt, "more", more.as_str(), "4 OutOfRange region");
-    Ok(())
-}
-
-#[test]
-fn many_elements(rt: HostRuntime) -> Result<(), Fail> {
-    repeated_are(&rt, rt.alloc(), &REPEATED)
-}
-
-/// A text that nests: what opens it, what is repeated, what stands inside, and what is repeated then.
+/// A text that stands behind the small world: a front, a piece that is repeated, what stands inside, another piece that is
+/// repeated as often, and an end.
 #[derive(Clone, Copy)]
-struct Nest {
+struct Long {
     front: &'static str,
     open: &'static str,
     inside: &'static str,
     close: &'static str,
+    end: &'static str,
 }
 
-const TABLES: Nest = Nest {
+const EMPTY: Long = Long {
+    front: "",
+    open: "",
+    inside: "",
+    close: "",
+    end: "",
+};
+
+const MANY_REGIONS: Long = Long {
+    open: REGION,
+    ..EMPTY
+};
+
+const MANY_TERRAINS: Long = Long {
+    open: TERRAIN,
+    ..EMPTY
+};
+
+const MANY_ITEMS: Long = Long {
+    open: ITEM,
+    ..EMPTY
+};
+
+const MANY_SKILLS: Long = Long {
+    open: SKILL,
+    ..EMPTY
+};
+
+const MANY_KINDS: Long = Long {
+    open: KIND,
+    ..EMPTY
+};
+
+/// Texts, how often their pieces are repeated, and the first fault then: names are equal as long as there are not too many.
+static MANY: [(Long, usize, &str); 11] = [
+    (MANY_REGIONS, 1, "5 TwoNames region[1].number"),
+    (MANY_REGIONS, 9_999, "5 TwoNames region[1].number"),
+    (MANY_REGIONS, 10_000, "4 OutOfRange region"),
+    (MANY_TERRAINS, 19, "5 TwoNames terrain[1].name"),
+    (MANY_TERRAINS, 20, "4 OutOfRange terrain"),
+    (MANY_ITEMS, 200, "5 TwoNames item[1].name"),
+    (MANY_ITEMS, 201, "4 OutOfRange item"),
+    (MANY_SKILLS, 100, "5 TwoNames skill[1].name"),
+    (MANY_SKILLS, 101, "4 OutOfRange skill"),
+    (MANY_KINDS, 100, "5 TwoNames kind[1].name"),
+    (MANY_KINDS, 101, "4 OutOfRange kind"),
+];
+
+const TABLES: Long = Long {
     front: "a = ",
     open: "{ a = ",
     inside: "1",
     close: " }",
+    end: "",
 };
 
-const ARRAYS: Nest = Nest {
+const ARRAYS: Long = Long {
     front: "a = ",
     open: "[",
-    inside: "",
     close: "]",
+    ..EMPTY
 };
 
 /// A header's key has a part more than are repeated.
-const HEADER: Nest = Nest {
+const HEADER: Long = Long {
     front: "[a",
     open: ".a",
-    inside: "]\n",
-    close: "",
+    end: "]\n",
+    ..EMPTY
 };
 
-const ARRAY_HEADER: Nest = Nest {
+const ARRAY_HEADER: Long = Long {
     front: "[[a",
     open: ".a",
-    inside: "]]\n",
-    close: "",
+    end: "]]\n",
+    ..EMPTY
 };
 
-const DOTTED: Nest = Nest {
+const DOTTED: Long = Long {
     front: "b",
     open: ".b",
-    inside: " = 1\n",
-    close: "",
+    end: " = 1\n",
+    ..EMPTY
 };
 
-/// What is nested behind the small world, how deep, and the first fault then. A key that is not named is ignored.
-static NESTED: [(Nest, usize, &str); 15] = [
+/// A dotted key below a header.
+const DOTTED_BELOW: Long = Long {
+    front: "[a",
+    open: ".a",
+    inside: "]\nb",
+    close: ".b",
+    end: " = 1\n",
+};
+
+/// Texts that nest, how deep, and the first fault then. A key that is not named is ignored. A key of 80 parts below a header of
+/// 80 is 160 deep.
+static NESTED: [(Long, usize, &str); 16] = [
     (TABLES, 80, "none"),
     (TABLES, 81, "1 NotToml"),
     (TABLES, 200, "1 NotToml"),
@@ -309,54 +274,67 @@ static NESTED: [(Nest, usize, &str); 15] = [
     (DOTTED, 79, "none"),
     (DOTTED, 80, "1 NotToml"),
     (DOTTED, 199, "1 NotToml"),
+    (DOTTED_BELOW, 79, "none"),
 ];
 
-fn nested(alloc: Global, nest: &Nest, depth: usize) -> Result<String, Fail> {
-    let Nest {
+/// The small world with a text behind it, in which the pieces are repeated so often.
+fn long_text(alloc: Global, long: &Long, times: usize) -> Result<String, Fail> {
+    let Long {
         front,
         open,
         inside,
         close,
-    } = *nest;
-    let open = open.repeat(alloc, depth)?;
-    let close = close.repeat(alloc, depth)?;
-    Ok(format!(in alloc; "{front}{open}{inside}{close}")?)
+        end,
+    } = *long;
+    let open = open.repeat(alloc, times)?;
+    let close = close.repeat(alloc, times)?;
+    Ok(format!(in alloc; "{SMALL}{front}{open}{inside}{close}{end}")?)
 }
 
-/// The first fault of the small world with such a text behind it.
-fn fault_nested(alloc: Global, nest: &Nest, depth: usize) -> Result<Text, Fail> {
-    let more = nested(alloc, nest, depth)?;
-    let text = small_with(alloc, more.as_str())?;
-    fault(alloc, Format::Second, text.as_str())
-}
-
-fn nested_are(rt: &impl Abort, alloc: Global, rows: &[(Nest, usize, &str)]) -> Result<(), Fail> {
-    for (nest, depth, wanted) in rows.iter() {
-        let told = fault_nested(alloc, nest, *depth)?;
-        row_is(rt, nest.front, told.as_str(), wanted);
+fn long_texts_are(
+    rt: &impl Abort,
+    alloc: Global,
+    rows: &[(Long, usize, &str)],
+) -> Result<(), Fail> {
+    for (long, times, wanted) in rows.iter() {
+        let text = long_text(alloc, long, *times)?;
+        let told = fault(alloc, Format::Second, text.as_str())?;
+        row_is(rt, long.open, told.as_str(), wanted);
     }
     Ok(())
 }
 
-/// A key of 80 parts below a header of 80 is 160 deep.
-fn twice_nested(alloc: Global) -> Result<Text, Fail> {
-    let header = nested(alloc, &HEADER, 79)?;
-    let key = nested(alloc, &DOTTED, 79)?;
-    let text = format!(in alloc; "{SMALL}{header}{key}")?;
-    fault(alloc, Format::Second, text.as_str())
+#[test]
+fn many_elements(rt: HostRuntime) -> Result<(), Fail> {
+    long_texts_are(&rt, rt.alloc(), &MANY)
 }
 
 #[test]
 fn nested_texts(rt: HostRuntime) -> Result<(), Fail> {
-    nested_are(&rt, rt.alloc(), &NESTED)?;
-    row_is(&rt, "both", twice_nested(rt.alloc())?.as_str(), "none");
+    long_texts_are(&rt, rt.alloc(), &NESTED)
+}
+
+/// The small world with so many regions in place of its own, with the numbers from 1.
+fn with_regions(alloc: Global, count: u32) -> Result<String, Fail> {
+    let mut text = String::from_str(alloc, before("[[region]]"))?;
+    for number in 1..=count {
+        let region = format!(in alloc;
+            "[[region]]\nnumber = {number}\nname = \"Vale\"\nterrain = \"plain\"\npeasants = 1000\nmoney = 500\n"
+        )?;
+        text.push_str(region.as_str())?;
+    }
+    Ok(text)
+}
+
+fn regions_are(rt: &impl Abort, alloc: Global, count: u32, wanted: &str) -> Result<(), Fail> {
+    let text = with_regions(alloc, count)?;
+    let told = fault(alloc, Format::Second, text.as_str())?;
+    row_is(rt, "regions", told.as_str(), wanted);
     Ok(())
 }
 
 #[test]
-fn texts_of_no_world(rt: HostRuntime) -> Result<(), Fail> {
-    let wanted = "1 NotToml";
-    faults_are(&rt, rt.alloc(), "no toml", "a = = b", wanted, wanted)?;
-    let wanted = "2 Missing rules";
-    faults_are(&rt, rt.alloc(), "nothing", "", wanted, wanted)
+fn many_regions(rt: HostRuntime) -> Result<(), Fail> {
+    regions_are(&rt, rt.alloc(), 10_000, "none")?;
+    regions_are(&rt, rt.alloc(), 10_001, "4 OutOfRange region")
 }

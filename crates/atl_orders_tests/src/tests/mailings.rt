@@ -1,4 +1,4 @@
-//! Mailings: what is read of each form of order, of blocks, of line ends and of long texts.
+//! Mailings: what is read of each form of order, of blocks, line ends and long texts.
 use super::asserts::{is_number, row_is};
 use super::worlds::{THINGS, world_with};
 use atl_orders::{MailFault, Mailing, Order, Span, read_mailing};
@@ -33,17 +33,19 @@ fn told_of(alloc: Global, mailing: &Mailing) -> Result<String, Fail> {
     Ok(told)
 }
 
-/// The number of the fault of a text that is no mailing.
-fn refused(alloc: Global, fault: MailFault) -> Result<String, Fail> {
-    let number = fault.number().ok_or("no memory")?;
-    Ok(format!(in alloc; "refused {number}")?)
-}
-
-/// What is told of a text: its orders and faults, or why it is no mailing.
+/// What is told of a text: its orders and faults, or why it is no mailing. A mailing keeps the text.
 fn told(alloc: Global, world: &World, text: &[u8]) -> Result<String, Fail> {
     match read_mailing(alloc, world, text) {
-        Ok(mailing) => told_of(alloc, &mailing),
-        Err(fault) => refused(alloc, fault),
+        Ok(mailing) => {
+            if mailing.text.as_slice() != text {
+                return Err(Fail::new("another text"));
+            }
+            told_of(alloc, &mailing)
+        }
+        Err(fault) => {
+            let number = fault.number().unwrap_or(0);
+            Ok(format!(in alloc; "refused {number}")?)
+        }
     }
 }
 
@@ -217,27 +219,12 @@ fn lines_tell(
     Ok(())
 }
 
-fn good_forms_tell(rt: &impl Abort, alloc: Global, world: &World) -> Result<(), Fail> {
+fn forms_tell(rt: &impl Abort, alloc: Global, world: &World) -> Result<(), Fail> {
     lines_tell(rt, alloc, world, "Number(7) ", &GOOD)?;
-    lines_tell(rt, alloc, world, "Number(7) ", &NAMING)
-}
-
-fn bad_forms_tell(rt: &impl Abort, alloc: Global, world: &World) -> Result<(), Fail> {
+    lines_tell(rt, alloc, world, "Number(7) ", &NAMING)?;
     lines_tell(rt, alloc, world, "", &BAD_NAMES)?;
     lines_tell(rt, alloc, world, "", &BAD_GOODS)?;
     lines_tell(rt, alloc, world, "", &BAD_WORK)
-}
-
-#[test]
-fn good_forms(rt: HostRuntime) -> Result<(), Fail> {
-    let world = world_with(rt.alloc(), THINGS)?;
-    good_forms_tell(&rt, rt.alloc(), &world)
-}
-
-#[test]
-fn bad_forms(rt: HostRuntime) -> Result<(), Fail> {
-    let world = world_with(rt.alloc(), THINGS)?;
-    bad_forms_tell(&rt, rt.alloc(), &world)
 }
 
 /// Whole texts, and what is told of each.
@@ -272,14 +259,8 @@ static TEXTS: [(&str, &str); 10] = [
     ("#ATLANTIS 10000\n#ATLANTIS 1", "refused 3"),
 ];
 
-/// Texts that are no UTF-8.
-static BYTES: [(&[u8], &str); 2] = [
-    (b"#ATLANTIS 1 \xc8", ""),
-    (
-        b"#ATLANTIS 1\nUNIT 1\n\xc8\nTAX ",
-        "4: Number(1) Tax;3: 6 BadByte;",
-    ),
-];
+/// A text with a line that is no UTF-8.
+const NO_TEXT: &[u8] = b"#ATLANTIS 1\nUNIT 1\n\xc8\nTAX ";
 
 /// Texts of a front, a piece so many times, and an end.
 static LONG: [(&str, &str, usize, &str, &str); 8] = [
@@ -301,18 +282,6 @@ fn texts_tell(
 ) -> Result<(), Fail> {
     for (text, wanted) in rows.iter() {
         text_tells(rt, alloc, world, text.as_bytes(), wanted)?;
-    }
-    Ok(())
-}
-
-fn bytes_tell(
-    rt: &impl Abort,
-    alloc: Global,
-    world: &World,
-    rows: &[(&[u8], &str)],
-) -> Result<(), Fail> {
-    for (text, wanted) in rows.iter() {
-        text_tells(rt, alloc, world, text, wanted)?;
     }
     Ok(())
 }
@@ -344,14 +313,9 @@ fn long_texts_tell(
 
 fn all_texts_tell(rt: &impl Abort, alloc: Global, world: &World) -> Result<(), Fail> {
     texts_tell(rt, alloc, world, &TEXTS)?;
-    bytes_tell(rt, alloc, world, &BYTES)?;
+    text_tells(rt, alloc, world, b"#ATLANTIS 1 \xc8", "")?;
+    text_tells(rt, alloc, world, NO_TEXT, "4: Number(1) Tax;3: 6 BadByte;")?;
     long_texts_tell(rt, alloc, world, &LONG)
-}
-
-#[test]
-fn whole_texts(rt: HostRuntime) -> Result<(), Fail> {
-    let world = world_with(rt.alloc(), THINGS)?;
-    all_texts_tell(&rt, rt.alloc(), &world)
 }
 
 /// The keywords of the orders of a mailing, and the names that they give.
@@ -387,23 +351,13 @@ static WORDS: [(&str, &str); 3] = [
     ),
 ];
 
-fn words_said(alloc: Global, world: &World, text: &str) -> Result<String, Fail> {
-    let mailing = read_mailing(alloc, world, text.as_bytes())?;
-    words_of(alloc, &mailing)
-}
-
 fn words_are(rt: &impl Abort, alloc: Global, world: &World) -> Result<(), Fail> {
     for (text, wanted) in WORDS.iter() {
-        let words = words_said(alloc, world, text)?;
+        let mailing = read_mailing(alloc, world, text.as_bytes())?;
+        let words = words_of(alloc, &mailing)?;
         row_is(rt, wanted, words.as_str(), wanted);
     }
     Ok(())
-}
-
-#[test]
-fn keywords_and_names(rt: HostRuntime) -> Result<(), Fail> {
-    let world = world_with(rt.alloc(), THINGS)?;
-    words_are(&rt, rt.alloc(), &world)
 }
 
 /// Spans of `#ATLANTIS 1`, a line feed, `_` and a byte that is no text: where each starts and ends, whether it is quoted, and
@@ -429,52 +383,38 @@ fn span_names(
     Ok(())
 }
 
-fn spans_name(rt: &impl Abort, alloc: Global, mailing: &Mailing) -> Result<(), Fail> {
+fn spans_name(rt: &impl Abort, alloc: Global, world: &World) -> Result<(), Fail> {
+    let mailing = read_mailing(alloc, world, b"#ATLANTIS 1\n_\xFF")?;
     for row in SPANS.iter() {
-        span_names(rt, alloc, mailing, row)?;
+        span_names(rt, alloc, &mailing, row)?;
     }
     Ok(())
 }
 
-#[test]
-fn any_span(rt: HostRuntime) -> Result<(), Fail> {
-    let world = world_with(rt.alloc(), THINGS)?;
-    let mailing = read_mailing(rt.alloc(), &world, b"#ATLANTIS 1\n_\xFF")?;
-    spans_name(&rt, rt.alloc(), &mailing)
+/// The number of the faction that a mailing is of.
+fn faction_of(alloc: Global, world: &World, text: &[u8]) -> Result<usize, Fail> {
+    let mailing = read_mailing(alloc, world, text)?;
+    Ok(mailing.faction as usize)
 }
 
-/// Asserts the faction of a mailing, and that it keeps the text that was read.
-fn keeps(rt: &impl Abort, mailing: &Mailing, faction: usize, text: &[u8]) {
-    is_number(rt, mailing.faction as usize, faction);
-    is_number(rt, mailing.text.len(), text.len());
-    assert!(rt; mailing.text.as_slice() == text);
-}
-
-fn is_kept(
-    rt: &impl Abort,
-    alloc: Global,
-    world: &World,
-    text: &str,
-    faction: usize,
-) -> Result<(), Fail> {
-    let mailing = read_mailing(alloc, world, text.as_bytes())?;
-    keeps(rt, &mailing, faction, text.as_bytes());
+fn all_is_read(rt: &impl Abort, alloc: Global, world: &World) -> Result<(), Fail> {
+    forms_tell(rt, alloc, world)?;
+    all_texts_tell(rt, alloc, world)?;
+    words_are(rt, alloc, world)?;
+    spans_name(rt, alloc, world)?;
+    is_number(rt, faction_of(alloc, world, b"#ATLANTIS 1")?, 1);
+    is_number(
+        rt,
+        faction_of(alloc, world, b"#atlantis 09999 x\r\nTAX")?,
+        9_999,
+    );
     Ok(())
 }
 
-fn are_kept(rt: &impl Abort, alloc: Global, world: &World) -> Result<(), Fail> {
-    let most = repeated(alloc, "#ATLANTIS 1\n", "\n", 65_524, "")?;
-    is_kept(rt, alloc, world, most.as_str(), 1)?;
-    is_kept(rt, alloc, world, "#atlantis 09999 x\r\nTAX", 9_999)
-}
-
 #[test]
-fn kept_texts(rt: HostRuntime) -> Result<(), Fail> {
+fn mailings(rt: HostRuntime) -> Result<(), Fail> {
     let world = world_with(rt.alloc(), THINGS)?;
-    are_kept(&rt, rt.alloc(), &world)
-}
-
-#[test]
-fn memory_has_no_number(rt: HostRuntime) {
+    all_is_read(&rt, rt.alloc(), &world)?;
     assert!(rt; MailFault::Memory.number().is_none());
+    Ok(())
 }

@@ -40,8 +40,8 @@ static TEXTS: [(&str, bool, bool); 26] = [
 
 fn texts_are(rt: &impl Abort, rows: &[(&str, bool, bool)]) {
     for (text, name, pass) in rows.iter() {
-        assert!(rt; name_ok(text.as_bytes()) == *name, "{text}");
-        assert!(rt; pass_ok(text.as_bytes()) == *pass, "{text}");
+        let told = (name_ok(text.as_bytes()), pass_ok(text.as_bytes()));
+        assert!(rt; told.0 == *name && told.1 == *pass, "{text}");
     }
 }
 

@@ -72,7 +72,7 @@ pub(crate) fn world_with(alloc: Global, more: &str) -> Result<World, Fail> {
 }
 
 /// The world of a text in a format.
-fn read_in(alloc: Global, format: Format, text: &str) -> Result<World, WorldFault> {
+pub(crate) fn read_in(alloc: Global, format: Format, text: &str) -> Result<World, WorldFault> {
     match format {
         Format::First => read_old_world(alloc, text),
         Format::Second => read_world(alloc, text),

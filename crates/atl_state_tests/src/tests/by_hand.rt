@@ -1,12 +1,54 @@
-//! Rows that are made by hand, put into tables one by one, and what a check of them tells.
-use atl_state::parts::{Parts, StoredBooks, StoredHead, StoredRegion};
-use atl_state::{Campaign, CheckFault};
-use atl_tables::Sequence;
+//! Rows of a campaign that are made by hand, put into tables one by one.
+use atl_state::parts::{
+    Parts, StoredBooks, StoredFaction, StoredHas, StoredHead, StoredMarket, StoredRegion,
+    StoredReport, StoredStructure, StoredUnit,
+};
+use atl_tables::{Format, Sequence, Text};
 use std::alloc::Global;
 use std::test::Fail;
 
+/// What may be wrong with the rows of the island's campaign, in which Avalon and Bree have a unit each in region 3, and region 1 a
+/// market with room for 30 wood.
+#[derive(Clone, Copy)]
+pub(crate) struct Rows {
+    /// The format that is asked for, and the number that the campaign's own row has of it.
+    pub(crate) asked: Format,
+    pub(crate) format: i64,
+    /// The moderator's pass text.
+    pub(crate) pass: &'static str,
+    pub(crate) next_unit: i64,
+    /// Peasants and money of region 1.
+    pub(crate) peasants: i64,
+    pub(crate) region_money: i64,
+    /// Whether Bree is gone.
+    pub(crate) gone: i64,
+    /// Faction, region and money of unit 2.
+    pub(crate) faction: i64,
+    pub(crate) region: i64,
+    pub(crate) money: i64,
+    /// Whether both units guard.
+    pub(crate) guard: i64,
+    /// Days of lumberjack of unit 1, or 0.
+    pub(crate) days: i64,
+    /// The owner of a lodge in region 3, or 0 where there is no lodge.
+    pub(crate) lodge: i64,
+    /// The entry of what joining brought of money.
+    pub(crate) entry: i64,
+    /// How many reports there are.
+    pub(crate) reports: i64,
+    /// Region, item and stock of the market's row, and how often the row stands there.
+    pub(crate) market: i64,
+    pub(crate) item: i64,
+    pub(crate) stock: i64,
+    pub(crate) times: i64,
+    /// The entry under which 20 wood are booked, where the market's row is there.
+    pub(crate) stocked: i64,
+    /// What is booked of money as bought.
+    pub(crate) bought: i64,
+}
+
 /// Tables without a row.
-pub(crate) fn no_rows(alloc: Global) -> Parts {
+fn no_rows(alloc: Global) -> Parts {
     Parts {
         campaign: Sequence::new(alloc),
         factions: Sequence::new(alloc),
@@ -21,32 +63,21 @@ pub(crate) fn no_rows(alloc: Global) -> Parts {
     }
 }
 
-/// The campaign's own row with the next numbers of a faction, a unit and a structure, at founding.
-pub(crate) fn add_head(
-    alloc: Global,
-    heads: &mut Sequence<StoredHead>,
-    format: i64,
-    next: (i64, i64, i64),
-    pass: &str,
-) -> Result<(), Fail> {
-    let pass = Sequence::from_slice(alloc, pass.as_bytes())?;
+fn add_head(alloc: Global, heads: &mut Sequence<StoredHead>, rows: &Rows) -> Result<(), Fail> {
     heads.push(StoredHead {
         id: 1,
-        format,
+        format: rows.format,
         month: 0,
-        next_faction: next.0,
-        next_unit: next.1,
-        next_structure: next.2,
-        pass,
+        next_faction: 3,
+        next_unit: rows.next_unit,
+        next_structure: if rows.lodge == 0 { 1 } else { 2 },
+        pass: Sequence::from_slice(alloc, rows.pass.as_bytes())?,
     })?;
     Ok(())
 }
 
 /// A region's row: number, peasants and money.
-pub(crate) fn add_regions(
-    regions: &mut Sequence<StoredRegion>,
-    rows: &[[i64; 3]],
-) -> Result<(), Fail> {
+fn add_regions(regions: &mut Sequence<StoredRegion>, rows: &[[i64; 3]]) -> Result<(), Fail> {
     for [number, peasants, money] in rows.iter() {
         regions.push(StoredRegion {
             number: *number,
@@ -58,7 +89,7 @@ pub(crate) fn add_regions(
 }
 
 /// Rows of the books: entry, thing and amount.
-pub(crate) fn add_books(books: &mut Sequence<StoredBooks>, rows: &[[i64; 3]]) -> Result<(), Fail> {
+fn add_books(books: &mut Sequence<StoredBooks>, rows: &[[i64; 3]]) -> Result<(), Fail> {
     for [entry, thing, amount] in rows.iter() {
         books.push(StoredBooks {
             entry: *entry,
@@ -69,19 +100,148 @@ pub(crate) fn add_books(books: &mut Sequence<StoredBooks>, rows: &[[i64; 3]]) ->
     Ok(())
 }
 
-/// The number of the rule that is told, or 0. Want of memory is no rule.
-pub(crate) fn rule_of(checked: Result<Campaign, CheckFault>) -> u64 {
-    match checked {
-        Ok(_) => 0,
-        Err(CheckFault::Damaged(rule)) => u64::from(rule.number()),
-        Err(CheckFault::Memory) => 99,
-    }
+fn faction(alloc: Global, number: i64, name: &str, gone: i64) -> Result<StoredFaction, Fail> {
+    Ok(StoredFaction {
+        number,
+        joined_as: Sequence::from_slice(alloc, name.as_bytes())?,
+        name: Sequence::from_slice(alloc, name.as_bytes())?,
+        pass: Sequence::from_slice(alloc, b"pw")?,
+        gone,
+    })
 }
 
-/// The campaign of rows that keep all rules.
-pub(crate) fn accepted(checked: Result<Campaign, CheckFault>) -> Result<Campaign, Fail> {
-    match checked {
-        Ok(campaign) => Ok(campaign),
-        Err(_) => Err(Fail::new("the rows are those of a good campaign")),
+/// The second faction's row comes first, as in any order.
+fn add_factions(
+    alloc: Global,
+    factions: &mut Sequence<StoredFaction>,
+    rows: &Rows,
+) -> Result<(), Fail> {
+    factions.push(faction(alloc, 2, "Bree", rows.gone)?)?;
+    factions.push(faction(alloc, 1, "Avalon", 0)?)?;
+    Ok(())
+}
+
+fn add_units(alloc: Global, units: &mut Sequence<StoredUnit>, rows: &Rows) -> Result<(), Fail> {
+    units.push(StoredUnit {
+        number: 2,
+        faction: rows.faction,
+        name: Sequence::from_slice(alloc, b"Unit 2")?,
+        region: rows.region,
+        structure: 0,
+        men: 1,
+        money: rows.money,
+        guard: rows.guard,
+    })?;
+    units.push(StoredUnit {
+        number: 1,
+        faction: 1,
+        name: Sequence::from_slice(alloc, b"Unit 1")?,
+        region: 3,
+        structure: 0,
+        men: 1,
+        money: 1000,
+        guard: rows.guard,
+    })?;
+    Ok(())
+}
+
+fn add_days(has: &mut Sequence<StoredHas>, rows: &Rows) -> Result<(), Fail> {
+    if rows.days != 0 {
+        has.push(StoredHas {
+            unit: 1,
+            sort: 1,
+            thing: 0,
+            amount: rows.days,
+        })?;
     }
+    Ok(())
+}
+
+fn add_lodge(
+    alloc: Global,
+    structures: &mut Sequence<StoredStructure>,
+    rows: &Rows,
+) -> Result<(), Fail> {
+    if rows.lodge != 0 {
+        structures.push(StoredStructure {
+            number: 1,
+            kind: 1,
+            name: Sequence::from_slice(alloc, b"Building 1")?,
+            region: 3,
+            done: 1,
+            owner: rows.lodge,
+        })?;
+    }
+    Ok(())
+}
+
+fn add_reports(
+    alloc: Global,
+    reports: &mut Sequence<StoredReport>,
+    rows: &Rows,
+) -> Result<(), Fail> {
+    for faction in 1..=rows.reports {
+        reports.push(StoredReport {
+            faction,
+            text: Text::from_str(alloc, "A report.\n")?,
+        })?;
+    }
+    Ok(())
+}
+
+fn add_markets(markets: &mut Sequence<StoredMarket>, rows: &Rows) -> Result<(), Fail> {
+    for _ in 0..rows.times {
+        markets.push(StoredMarket {
+            region: rows.market,
+            item: rows.item,
+            stock: rows.stock,
+        })?;
+    }
+    Ok(())
+}
+
+/// What is booked beside the founding.
+fn add_trade(books: &mut Sequence<StoredBooks>, rows: &Rows) -> Result<(), Fail> {
+    if rows.times != 0 {
+        add_books(books, &[[rows.stocked, 2, 20]])?;
+    }
+    if rows.bought != 0 {
+        add_books(books, &[[14, 0, rows.bought]])?;
+    }
+    Ok(())
+}
+
+fn add_people(alloc: Global, parts: &mut Parts, rows: &Rows) -> Result<(), Fail> {
+    add_head(alloc, &mut parts.campaign, rows)?;
+    add_factions(alloc, &mut parts.factions, rows)?;
+    add_units(alloc, &mut parts.units, rows)?;
+    add_days(&mut parts.has, rows)?;
+    add_reports(alloc, &mut parts.reports, rows)
+}
+
+fn add_places(alloc: Global, parts: &mut Parts, rows: &Rows) -> Result<(), Fail> {
+    add_regions(
+        &mut parts.regions,
+        &[
+            [4, 100, 50],
+            [3, 200, 100],
+            [2, 0, 0],
+            [1, rows.peasants, rows.region_money],
+        ],
+    )?;
+    add_lodge(alloc, &mut parts.structures, rows)?;
+    add_markets(&mut parts.markets, rows)?;
+    add_trade(&mut parts.books, rows)?;
+    add_books(
+        &mut parts.books,
+        &[[2, 1, 2], [rows.entry, 0, 2000], [1, 1, 1300], [1, 0, 650]],
+    )
+}
+
+/// All rows, in any order.
+pub(crate) fn parts(alloc: Global, rows: &Rows) -> Result<Parts, Fail> {
+    let mut parts = no_rows(alloc);
+    add_people(alloc, &mut parts, rows)?;
+    add_places(alloc, &mut parts, rows)?;
+    Ok(parts)
 }

@@ -1,5 +1,5 @@
 //! What a holding can be set to, and what it tells of it.
-use super::compare::{is_amount, is_count, is_so, is_text};
+use super::compare::{is_amount, row_is_text};
 use super::making::one_man;
 use atl_state::Holding;
 use atl_tables::{Entries, Text};
@@ -7,116 +7,145 @@ use std::alloc::Global;
 use std::process::Abort;
 use std::test::Fail;
 
-/// How many goods there are.
-fn count_of(goods: Entries<'_, u32>) -> usize {
-    goods.count()
+/// A call that sets a part of a holding.
+#[derive(Drop, Clone, Copy)]
+enum Part {
+    Nothing,
+    Name(&'static str),
+    Men(u32),
+    Money(u32),
+    Guard(bool),
+    /// An item and its amount.
+    Amount(u32, u32),
+    /// A skill and its days.
+    Days(u32, u32),
 }
 
-fn is_as_made(rt: &impl Abort, holding: &Holding) {
-    is_text(rt, holding.name().as_str(), "A man");
-    is_amount(rt, holding.men(), 1);
-    is_amount(rt, holding.money(), 0);
-    is_so(rt, !holding.guard());
-    is_amount(rt, holding.amount(0), 0);
-    is_amount(rt, holding.days_of(0), 0);
-    is_count(rt, count_of(holding.items()), 0);
-    is_count(rt, count_of(holding.days()), 0);
-}
+/// Calls, and after each the holding: its name, men, money and guard flag, its items and its days of skills, each behind its
+/// number.
+static CALLS: [(Part, &str); 15] = [
+    (
+        Part::Nothing,
+        "A man: 1 men, 0 money, guard: false, items [], days []",
+    ),
+    (
+        Part::Name("Guards"),
+        "Guards: 1 men, 0 money, guard: false, items [], days []",
+    ),
+    (
+        Part::Men(999_999),
+        "Guards: 999999 men, 0 money, guard: false, items [], days []",
+    ),
+    (
+        Part::Money(999_999_999),
+        "Guards: 999999 men, 999999999 money, guard: false, items [], days []",
+    ),
+    (
+        Part::Guard(true),
+        "Guards: 999999 men, 999999999 money, guard: true, items [], days []",
+    ),
+    (
+        Part::Guard(false),
+        "Guards: 999999 men, 999999999 money, guard: false, items [], days []",
+    ),
+    (
+        Part::Amount(7, 999_999_999),
+        "Guards: 999999 men, 999999999 money, guard: false, items [7, 999999999], days []",
+    ),
+    (
+        Part::Amount(2, 3),
+        "Guards: 999999 men, 999999999 money, guard: false, items [2, 3, 7, 999999999], days []",
+    ),
+    (
+        Part::Days(5, 450),
+        "Guards: 999999 men, 999999999 money, guard: false, items [2, 3, 7, 999999999], days [5, 450]",
+    ),
+    (
+        Part::Days(1, 30),
+        "Guards: 999999 men, 999999999 money, guard: false, items [2, 3, 7, 999999999], days [1, 30, 5, 450]",
+    ),
+    // One thing is lowered, and one taken away; of what was never there nothing is taken.
+    (
+        Part::Amount(7, 1),
+        "Guards: 999999 men, 999999999 money, guard: false, items [2, 3, 7, 1], days [1, 30, 5, 450]",
+    ),
+    (
+        Part::Amount(2, 0),
+        "Guards: 999999 men, 999999999 money, guard: false, items [7, 1], days [1, 30, 5, 450]",
+    ),
+    (
+        Part::Amount(9, 0),
+        "Guards: 999999 men, 999999999 money, guard: false, items [7, 1], days [1, 30, 5, 450]",
+    ),
+    (
+        Part::Days(5, 0),
+        "Guards: 999999 men, 999999999 money, guard: false, items [7, 1], days [1, 30]",
+    ),
+    (
+        Part::Days(9, 0),
+        "Guards: 999999 men, 999999999 money, guard: false, items [7, 1], days [1, 30]",
+    ),
+];
 
-#[test]
-fn making_people(rt: HostRuntime) -> Result<(), Fail> {
-    let holding = one_man(rt.alloc())?;
-    is_as_made(&rt, &holding);
+fn sets(alloc: Global, holding: &mut Holding, part: Part) -> Result<(), Fail> {
+    match part {
+        Part::Nothing => (),
+        Part::Name(name) => holding.set_name(Text::from_str(alloc, name)?),
+        Part::Men(men) if men <= 999_999 => holding.set_men(men),
+        Part::Money(money) if money <= 999_999_999 => holding.set_money(money),
+        Part::Guard(guard) => holding.set_guard(guard),
+        Part::Amount(item, amount) if amount <= 999_999_999 => {
+            holding.set_amount(item, amount)?;
+        }
+        Part::Days(skill, days) => holding.set_days(skill, days)?,
+        _ => return Err(Fail::new("past a limit")),
+    }
     Ok(())
 }
 
-fn sets_words(alloc: Global, holding: &mut Holding) -> Result<(), Fail> {
-    let name = Text::from_str(alloc, "Guards")?;
-    holding.set_name(name);
-    holding.set_men(999_999);
-    holding.set_money(999_999_999);
-    holding.set_guard(true);
+/// Each number, followed by how much there is of it.
+fn listed(alloc: Global, goods: Entries<'_, u32>) -> Result<Vec<u32>, Fail> {
+    let mut numbers = Vec::new(alloc);
+    for (number, amount) in goods {
+        numbers.push(number)?;
+        numbers.push(*amount)?;
+    }
+    Ok(numbers)
+}
+
+fn text_of(alloc: Global, holding: &Holding) -> Result<String, Fail> {
+    let (name, guard) = (holding.name().as_str(), holding.guard());
+    let (men, money) = (holding.men(), holding.money());
+    let items = listed(alloc, holding.items())?;
+    let days = listed(alloc, holding.days())?;
+    let (items, days) = (items.as_slice(), days.as_slice());
+    Ok(format!(in alloc;
+        "{name}: {men} men, {money} money, guard: {guard}, items {items:?}, days {days:?}"
+    )?)
+}
+
+/// Sets each part in its turn.
+fn sets_all(rt: &impl Abort, alloc: Global, holding: &mut Holding) -> Result<(), Fail> {
+    for (row, (part, wanted)) in CALLS.iter().enumerate() {
+        sets(alloc, holding, *part)?;
+        row_is_text(rt, row, text_of(alloc, holding)?.as_str(), wanted);
+    }
     Ok(())
 }
 
-fn has_words(rt: &impl Abort, holding: &Holding) {
-    is_text(rt, holding.name().as_str(), "Guards");
-    is_amount(rt, holding.men(), 999_999);
-    is_amount(rt, holding.money(), 999_999_999);
-    is_so(rt, holding.guard());
-}
-
-#[test]
-fn setting_name_men_money_and_guard(rt: HostRuntime) -> Result<(), Fail> {
-    let mut holding = one_man(rt.alloc())?;
-    sets_words(rt.alloc(), &mut holding)?;
-    has_words(&rt, &holding);
-    holding.set_guard(false);
-    is_so(&rt, !holding.guard());
-    Ok(())
-}
-
-/// Two items and two skills, in another order than that of their numbers.
-fn gets_things(holding: &mut Holding) -> Result<(), Fail> {
-    holding.set_amount(7, 999_999_999)?;
-    holding.set_amount(2, 3)?;
-    holding.set_days(5, 450)?;
-    holding.set_days(1, 30)?;
-    Ok(())
-}
-
-fn has_things(rt: &impl Abort, holding: &Holding) {
-    is_amount(rt, holding.amount(7), 999_999_999);
-    is_amount(rt, holding.amount(2), 3);
-    is_amount(rt, holding.days_of(5), 450);
-    is_amount(rt, holding.days_of(1), 30);
-    is_count(rt, count_of(holding.items()), 2);
-    is_count(rt, count_of(holding.days()), 2);
-}
-
-fn begins_with(rt: &impl Abort, holding: &Holding) -> Result<(), Fail> {
-    let (item, amount) = holding.items().next().ok_or("an item")?;
-    is_amount(rt, item, 2);
-    is_amount(rt, *amount, 3);
-    let (skill, days) = holding.days().next().ok_or("a skill")?;
-    is_amount(rt, skill, 1);
-    is_amount(rt, *days, 30);
-    Ok(())
-}
-
-#[test]
-fn setting_items_and_days(rt: HostRuntime) -> Result<(), Fail> {
-    let mut holding = one_man(rt.alloc())?;
-    gets_things(&mut holding)?;
-    has_things(&rt, &holding);
-    begins_with(&rt, &holding)
-}
-
-/// One thing is lowered, and one taken away; of what was never there nothing is taken.
-fn loses_things(holding: &mut Holding) -> Result<(), Fail> {
-    holding.set_amount(7, 1)?;
-    holding.set_amount(2, 0)?;
-    holding.set_amount(9, 0)?;
-    holding.set_days(5, 0)?;
-    holding.set_days(9, 0)?;
-    Ok(())
-}
-
-fn has_less(rt: &impl Abort, holding: &Holding) {
+/// Asserts single amounts, of what is there and what isn't.
+fn has_amounts(rt: &impl Abort, holding: &Holding) {
     is_amount(rt, holding.amount(7), 1);
     is_amount(rt, holding.amount(2), 0);
     is_amount(rt, holding.amount(9), 0);
     is_amount(rt, holding.days_of(5), 0);
     is_amount(rt, holding.days_of(1), 30);
-    is_count(rt, count_of(holding.items()), 1);
-    is_count(rt, count_of(holding.days()), 1);
 }
 
 #[test]
-fn setting_to_nothing_takes_away(rt: HostRuntime) -> Result<(), Fail> {
+fn setting_parts_of_a_holding(rt: HostRuntime) -> Result<(), Fail> {
     let mut holding = one_man(rt.alloc())?;
-    gets_things(&mut holding)?;
-    loses_things(&mut holding)?;
-    has_less(&rt, &holding);
+    sets_all(&rt, rt.alloc(), &mut holding)?;
+    has_amounts(&rt, &holding);
     Ok(())
 }

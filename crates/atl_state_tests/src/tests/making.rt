@@ -69,13 +69,8 @@ pub(crate) fn man_comes(alloc: Global, campaign: &mut Campaign, faction: u32) ->
     })?)
 }
 
-/// A structure of a kind is begun in the forest by the sea, of size 2 and with an owner.
-pub(crate) fn is_begun(
-    alloc: Global,
-    campaign: &mut Campaign,
-    kind: u16,
-    owner: u32,
-) -> Result<u32, Fail> {
+/// A structure of a kind is begun in the forest by the sea, of size 2 and without an owner.
+pub(crate) fn is_begun(alloc: Global, campaign: &mut Campaign, kind: u16) -> Result<u32, Fail> {
     if campaign.next_structure() > MOST_STRUCTURES
         || campaign.structure(campaign.next_structure()).is_some()
     {
@@ -87,6 +82,6 @@ pub(crate) fn is_begun(
         name,
         region: FAR,
         done: 2,
-        owner,
+        owner: 0,
     })?)
 }

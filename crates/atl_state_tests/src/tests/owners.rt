@@ -1,18 +1,12 @@
 //! Where units are, and who owns the structures that they enter and leave, step by step.
 use super::compare::{are_numbers, row_is};
-use super::making::{BOAT, LODGE, founded_by, is_begun, man_comes};
+use super::making::{BOAT, LODGE, founded_by};
+use super::steps::{OfStructure, OfUnit, Step, does, does_all};
 use atl_state::Campaign;
 use atl_test_worlds::ISLE;
 use std::alloc::Global;
 use std::process::Abort;
 use std::test::Fail;
-
-#[derive(Drop, Clone, Copy)]
-enum Step {
-    /// A unit in a region and a structure.
-    Place(u32, u32, u32),
-    Remove(u32),
-}
 
 /// A step, and after it: the owners of both structures, the units inside each, those of region 3 and of faction 1, and
 /// how many things the step marked.
@@ -30,7 +24,7 @@ struct Case {
 static CASES: [Case; 13] = [
     // Who enters an ownerless structure owns it.
     Case {
-        step: Step::Place(2, 3, 1),
+        step: Step::Unit(2, OfUnit::Place(3, 1)),
         owners: (2, 0),
         inside: (&[2], &[]),
         region: &[1, 2, 3],
@@ -38,7 +32,7 @@ static CASES: [Case; 13] = [
         marks: 2,
     },
     Case {
-        step: Step::Place(1, 3, 1),
+        step: Step::Unit(1, OfUnit::Place(3, 1)),
         owners: (2, 0),
         inside: (&[1, 2], &[]),
         region: &[1, 2, 3],
@@ -46,7 +40,7 @@ static CASES: [Case; 13] = [
         marks: 1,
     },
     Case {
-        step: Step::Place(3, 3, 1),
+        step: Step::Unit(3, OfUnit::Place(3, 1)),
         owners: (2, 0),
         inside: (&[1, 2, 3], &[]),
         region: &[1, 2, 3],
@@ -55,7 +49,7 @@ static CASES: [Case; 13] = [
     },
     // The owner leaves for the other structure: the lowest-numbered unit inside is next.
     Case {
-        step: Step::Place(2, 3, 2),
+        step: Step::Unit(2, OfUnit::Place(3, 2)),
         owners: (1, 2),
         inside: (&[1, 3], &[2]),
         region: &[1, 2, 3],
@@ -63,7 +57,7 @@ static CASES: [Case; 13] = [
         marks: 3,
     },
     Case {
-        step: Step::Place(3, 3, 1),
+        step: Step::Unit(3, OfUnit::Place(3, 1)),
         owners: (1, 2),
         inside: (&[1, 3], &[2]),
         region: &[1, 2, 3],
@@ -72,7 +66,7 @@ static CASES: [Case; 13] = [
     },
     // The owner leaves for another region.
     Case {
-        step: Step::Place(1, 4, 0),
+        step: Step::Unit(1, OfUnit::Place(4, 0)),
         owners: (3, 2),
         inside: (&[3], &[2]),
         region: &[2, 3],
@@ -81,7 +75,7 @@ static CASES: [Case; 13] = [
     },
     // There is no such unit.
     Case {
-        step: Step::Place(9, 3, 1),
+        step: Step::Unit(9, OfUnit::Place(3, 1)),
         owners: (3, 2),
         inside: (&[3], &[2]),
         region: &[2, 3],
@@ -90,7 +84,7 @@ static CASES: [Case; 13] = [
     },
     // The last unit inside is removed.
     Case {
-        step: Step::Remove(3),
+        step: Step::Unit(3, OfUnit::Remove),
         owners: (0, 2),
         inside: (&[], &[2]),
         region: &[2],
@@ -98,7 +92,7 @@ static CASES: [Case; 13] = [
         marks: 2,
     },
     Case {
-        step: Step::Remove(3),
+        step: Step::Unit(3, OfUnit::Remove),
         owners: (0, 2),
         inside: (&[], &[2]),
         region: &[2],
@@ -106,7 +100,7 @@ static CASES: [Case; 13] = [
         marks: 0,
     },
     Case {
-        step: Step::Place(1, 3, 2),
+        step: Step::Unit(1, OfUnit::Place(3, 2)),
         owners: (0, 2),
         inside: (&[], &[1, 2]),
         region: &[1, 2],
@@ -115,7 +109,7 @@ static CASES: [Case; 13] = [
     },
     // The owner is removed, and another unit is inside.
     Case {
-        step: Step::Remove(2),
+        step: Step::Unit(2, OfUnit::Remove),
         owners: (0, 1),
         inside: (&[], &[1]),
         region: &[1],
@@ -123,7 +117,7 @@ static CASES: [Case; 13] = [
         marks: 2,
     },
     Case {
-        step: Step::Place(1, 3, 0),
+        step: Step::Unit(1, OfUnit::Place(3, 0)),
         owners: (0, 0),
         inside: (&[], &[]),
         region: &[1],
@@ -131,7 +125,7 @@ static CASES: [Case; 13] = [
         marks: 2,
     },
     Case {
-        step: Step::Remove(1),
+        step: Step::Unit(1, OfUnit::Remove),
         owners: (0, 0),
         inside: (&[], &[]),
         region: &[],
@@ -139,15 +133,6 @@ static CASES: [Case; 13] = [
         marks: 1,
     },
 ];
-
-fn goes(campaign: &mut Campaign, step: Step) -> Result<(), Fail> {
-    campaign.unmark();
-    match step {
-        Step::Place(unit, region, structure) => campaign.place(unit, region, structure)?,
-        Step::Remove(unit) => campaign.remove_unit(unit),
-    }
-    Ok(())
-}
 
 /// The owner of a structure; of none 99.
 fn owner(campaign: &Campaign, structure: u32) -> u64 {
@@ -170,37 +155,60 @@ fn has_lists(rt: &impl Abort, row: usize, campaign: &Campaign, case: &Case) {
     are_numbers(rt, row, campaign.of_faction(1), case.faction);
 }
 
-fn goes_all(rt: &impl Abort, campaign: &mut Campaign) -> Result<(), Fail> {
-    for (row, case) in CASES.iter().enumerate() {
-        goes(campaign, case.step)?;
-        has_owners(rt, row, campaign, case);
-        has_lists(rt, row, campaign, case);
+fn case_holds(
+    rt: &impl Abort,
+    alloc: Global,
+    campaign: &mut Campaign,
+    row: usize,
+    case: &Case,
+) -> Result<(), Fail> {
+    campaign.unmark();
+    does(alloc, campaign, case.step)?;
+    has_owners(rt, row, campaign, case);
+    has_lists(rt, row, campaign, case);
+    Ok(())
+}
+
+fn cases_hold(
+    rt: &impl Abort,
+    alloc: Global,
+    campaign: &mut Campaign,
+    cases: &[Case],
+) -> Result<(), Fail> {
+    for (row, case) in cases.iter().enumerate() {
+        case_holds(rt, alloc, campaign, row, case)?;
     }
     Ok(())
 }
 
 /// The units and the structures come.
-fn come(alloc: Global, campaign: &mut Campaign) -> Result<(), Fail> {
-    man_comes(alloc, campaign, 1)?;
-    man_comes(alloc, campaign, 2)?;
-    man_comes(alloc, campaign, 1)?;
-    is_begun(alloc, campaign, BOAT, 0)?;
-    is_begun(alloc, campaign, LODGE, 0)?;
-    Ok(())
-}
+static COMING: [Step; 5] = [
+    Step::Comes(1, 1),
+    Step::Comes(2, 2),
+    Step::Comes(1, 3),
+    Step::Begins(BOAT, 1),
+    Step::Begins(LODGE, 2),
+];
 
 /// The campaign once they have come.
 fn peopled(alloc: Global) -> Result<Campaign, Fail> {
     let mut campaign = founded_by(alloc, ISLE)?;
-    come(alloc, &mut campaign)?;
+    does_all(alloc, &mut campaign, &COMING)?;
     Ok(campaign)
 }
 
 #[test]
 fn placing_and_removing(rt: HostRuntime) -> Result<(), Fail> {
     let mut campaign = peopled(rt.alloc())?;
-    goes_all(&rt, &mut campaign)
+    cases_hold(&rt, rt.alloc(), &mut campaign, &CASES)
 }
+
+/// All three enter the boat, the second one first.
+static ENTERING: [Step; 3] = [
+    Step::Unit(2, OfUnit::Place(3, 1)),
+    Step::Unit(1, OfUnit::Place(3, 1)),
+    Step::Unit(3, OfUnit::Place(3, 1)),
+];
 
 /// Structure, who leaves it, and who owns it then, where unit 2 owns the boat with units 1 and 3 inside.
 static AFTER: [(u32, u32, u32); 5] = [(1, 2, 1), (1, 1, 2), (1, 3, 2), (2, 1, 0), (9, 1, 0)];
@@ -212,48 +220,52 @@ fn knows_owners(rt: &impl Abort, campaign: &Campaign) {
     }
 }
 
-fn enter(campaign: &mut Campaign) -> Result<(), Fail> {
-    campaign.place(2, 3, 1)?;
-    campaign.place(1, 3, 1)?;
-    campaign.place(3, 3, 1)?;
-    Ok(())
-}
+/// The boat goes to region 2 with the units inside: their owner stays.
+static SAILING: [Case; 4] = [
+    Case {
+        step: Step::Structure(1, OfStructure::Region(2)),
+        owners: (2, 0),
+        inside: (&[1, 2, 3], &[]),
+        region: &[1, 2, 3],
+        faction: &[1, 3],
+        marks: 1,
+    },
+    Case {
+        step: Step::Unit(1, OfUnit::Place(2, 1)),
+        owners: (2, 0),
+        inside: (&[1, 2, 3], &[]),
+        region: &[2, 3],
+        faction: &[1, 3],
+        marks: 1,
+    },
+    Case {
+        step: Step::Unit(2, OfUnit::Place(2, 1)),
+        owners: (2, 0),
+        inside: (&[1, 2, 3], &[]),
+        region: &[3],
+        faction: &[1, 3],
+        marks: 1,
+    },
+    Case {
+        step: Step::Unit(3, OfUnit::Place(2, 1)),
+        owners: (2, 0),
+        inside: (&[1, 2, 3], &[]),
+        region: &[],
+        faction: &[1, 3],
+        marks: 1,
+    },
+];
 
-#[test]
-fn owners_after_a_leaving(rt: HostRuntime) -> Result<(), Fail> {
-    let mut campaign = peopled(rt.alloc())?;
-    enter(&mut campaign)?;
-    knows_owners(&rt, &campaign);
-    Ok(())
-}
-
-/// The boat goes to another region with the units inside: their owner stays.
-fn sail(campaign: &mut Campaign) -> Result<(), Fail> {
-    campaign.unmark();
-    campaign.set_structure_region(1, 2);
-    campaign.place(1, 2, 1)?;
-    campaign.place(2, 2, 1)?;
-    campaign.place(3, 2, 1)?;
-    Ok(())
-}
-
-fn has_sailed(rt: &impl Abort, campaign: &Campaign) {
-    row_is(rt, 0, owner(campaign, 1), 2);
-    are_numbers(rt, 0, campaign.inside(1), &[1, 2, 3]);
+fn sails(rt: &impl Abort, alloc: Global, campaign: &mut Campaign) -> Result<(), Fail> {
+    does_all(alloc, campaign, &ENTERING)?;
+    knows_owners(rt, campaign);
+    cases_hold(rt, alloc, campaign, &SAILING)?;
     are_numbers(rt, 0, campaign.in_region(2), &[1, 2, 3]);
-    are_numbers(rt, 0, campaign.in_region(3), &[]);
-    row_is(rt, 0, campaign.marks() as u64, 4);
-}
-
-fn sails(rt: &impl Abort, campaign: &mut Campaign) -> Result<(), Fail> {
-    enter(campaign)?;
-    sail(campaign)?;
-    has_sailed(rt, campaign);
     Ok(())
 }
 
 #[test]
 fn going_inside_a_structure(rt: HostRuntime) -> Result<(), Fail> {
     let mut campaign = peopled(rt.alloc())?;
-    sails(&rt, &mut campaign)
+    sails(&rt, rt.alloc(), &mut campaign)
 }

@@ -1,128 +1,64 @@
-//! The rows of a campaign, one by one.
-use super::compare::{are_amounts, is_bytes, is_count, is_text};
-use super::making::{LODGE, is_begun, joined_by};
-use atl_state::Campaign;
-use atl_state::parts::{
-    Parts, StoredFaction, StoredHead, StoredMail, StoredReport, StoredStructure, StoredUnit,
-};
-use atl_tables::{Sequence, Text};
+//! The rows of a campaign, table by table.
+use super::compare::are_rows;
+use super::making::{LODGE, joined_by};
+use super::steps::{OfFaction, OfStructure, OfUnit, Step, does_all};
+use atl_state::parts::Parts;
 use atl_test_worlds::ISLE;
 use std::alloc::Global;
-use std::fmt::Debug;
 use std::process::Abort;
 use std::test::Fail;
 
-/// The first unit gets 12 wood and 60 days of sailing.
-fn equips(campaign: &mut Campaign) -> Result<(), Fail> {
-    if let Some(holding) = campaign.unit_mut(1) {
-        holding.set_amount(0, 12)?;
-        holding.set_days(3, 60)?;
-        holding.set_guard(true);
-    }
-    Ok(())
-}
-
-fn writes(alloc: Global, campaign: &mut Campaign) -> Result<(), Fail> {
-    campaign.set_mail(1, Sequence::from_slice(alloc, b"#ATLANTIS 1")?)?;
-    campaign.set_report(1, Text::from_str(alloc, "A report.\n")?)?;
-    Ok(())
-}
-
-/// The unit of Avalon owns a lodge.
-fn settles(alloc: Global, campaign: &mut Campaign) -> Result<Parts, Fail> {
-    is_begun(alloc, campaign, LODGE, 1)?;
-    equips(campaign)?;
-    writes(alloc, campaign)?;
-    Ok(campaign.parts()?)
-}
+/// Avalon's unit owns a lodge, gets 12 wood and 60 days of sailing, and guards. There are orders and a report.
+static SETTLING: [Step; 7] = [
+    Step::Begins(LODGE, 1),
+    Step::Structure(1, OfStructure::Owner(1)),
+    Step::Unit(1, OfUnit::LentItem(0, 12)),
+    Step::Unit(1, OfUnit::Days(3, 60)),
+    Step::Unit(1, OfUnit::Guard(true)),
+    Step::Faction(1, OfFaction::Mail("#ATLANTIS 1")),
+    Step::Faction(1, OfFaction::Report("A report.\n")),
+];
 
 /// The rows once Avalon has joined and settled.
 fn rows(alloc: Global) -> Result<Parts, Fail> {
     let mut campaign = joined_by(alloc, ISLE)?;
-    settles(alloc, &mut campaign)
+    does_all(alloc, &mut campaign, &SETTLING)?;
+    Ok(campaign.parts()?)
 }
 
-fn shows_head(rt: &impl Abort, rows: &[StoredHead]) -> Result<(), Fail> {
-    is_count(rt, rows.len(), 1);
-    let row = rows.first().ok_or("a row")?;
-    are_amounts(rt, &[row.id, row.format, row.month], &[1, 2, 0]);
-    are_amounts(
-        rt,
-        &[row.next_faction, row.next_unit, row.next_structure],
-        &[2, 2, 2],
-    );
-    is_bytes(rt, row.pass.as_slice(), b"gm");
-    Ok(())
-}
+/// The pass text is gm.
+const HEAD: &str =
+    "[StoredHead { id: 1, format: 2, month: 0, next_faction: 2, next_unit: 2, next_structure: 2, \
+    pass: Sequence { items: [103, 109] } }]";
 
-fn shows_factions(rt: &impl Abort, rows: &[StoredFaction]) -> Result<(), Fail> {
-    is_count(rt, rows.len(), 1);
-    let row = rows.first().ok_or("a row")?;
-    are_amounts(rt, &[row.number, row.gone], &[1, 0]);
-    is_bytes(rt, row.joined_as.as_slice(), b"Avalon");
-    is_bytes(rt, row.name.as_slice(), b"Avalon");
-    is_bytes(rt, row.pass.as_slice(), b"pw");
-    Ok(())
-}
-
-/// Asserts that rows are these, as they are printed.
-fn are_rows<T: Debug>(
-    rt: &impl Abort,
-    alloc: Global,
-    rows: &[T],
-    wanted: &str,
-) -> Result<(), Fail> {
-    let told = format!(in alloc; "{rows:?}")?;
-    is_text(rt, told.as_str(), wanted);
-    Ok(())
-}
+/// Both names are Avalon, the pass text is pw.
+const FACTIONS: &str =
+    "[StoredFaction { number: 1, joined_as: Sequence { items: [65, 118, 97, 108, 111, 110] }, \
+    name: Sequence { items: [65, 118, 97, 108, 111, 110] }, pass: Sequence { items: [112, 119] }, gone: 0 }]";
 
 const REGIONS: &str = "[StoredRegion { number: 1, peasants: 1000, money: 500 }, \
     StoredRegion { number: 2, peasants: 0, money: 0 }, \
     StoredRegion { number: 3, peasants: 200, money: 100 }, \
     StoredRegion { number: 4, peasants: 100, money: 50 }]";
 
-fn shows_units(rt: &impl Abort, rows: &[StoredUnit]) -> Result<(), Fail> {
-    is_count(rt, rows.len(), 1);
-    let row = rows.first().ok_or("a row")?;
-    are_amounts(
-        rt,
-        &[row.number, row.faction, row.region, row.structure],
-        &[1, 1, 3, 0],
-    );
-    are_amounts(rt, &[row.men, row.money, row.guard], &[1, 1000, 1]);
-    is_bytes(rt, row.name.as_slice(), b"Unit 1");
-    Ok(())
-}
+/// The name is Unit 1.
+const UNITS: &str =
+    "[StoredUnit { number: 1, faction: 1, name: Sequence { items: [85, 110, 105, 116, 32, 49] }, \
+    region: 3, structure: 0, men: 1, money: 1000, guard: 1 }]";
 
 /// 12 wood, and 60 days of sailing.
 const HAS: &str = "[StoredHas { unit: 1, sort: 0, thing: 0, amount: 12 }, \
     StoredHas { unit: 1, sort: 1, thing: 3, amount: 60 }]";
 
-fn shows_structures(rt: &impl Abort, rows: &[StoredStructure]) -> Result<(), Fail> {
-    is_count(rt, rows.len(), 1);
-    let row = rows.first().ok_or("a row")?;
-    are_amounts(rt, &[row.number, row.kind, row.region], &[1, 1, 3]);
-    are_amounts(rt, &[row.done, row.owner], &[2, 1]);
-    is_bytes(rt, row.name.as_slice(), b"A structure");
-    Ok(())
-}
+/// The name is A structure.
+const STRUCTURES: &str = "[StoredStructure { number: 1, kind: 1, \
+    name: Sequence { items: [65, 32, 115, 116, 114, 117, 99, 116, 117, 114, 101] }, region: 3, done: 2, owner: 1 }]";
 
-fn shows_mail(rt: &impl Abort, rows: &[StoredMail]) -> Result<(), Fail> {
-    is_count(rt, rows.len(), 1);
-    let row = rows.first().ok_or("a row")?;
-    are_amounts(rt, &[row.faction], &[1]);
-    is_bytes(rt, row.text.as_slice(), b"#ATLANTIS 1");
-    Ok(())
-}
+/// The text is #ATLANTIS 1.
+const MAIL: &str =
+    "[StoredMail { faction: 1, text: Sequence { items: [35, 65, 84, 76, 65, 78, 84, 73, 83, 32, 49] } }]";
 
-fn shows_reports(rt: &impl Abort, rows: &[StoredReport]) -> Result<(), Fail> {
-    is_count(rt, rows.len(), 1);
-    let row = rows.first().ok_or("a row")?;
-    are_amounts(rt, &[row.faction], &[1]);
-    is_text(rt, row.text.as_str(), "A report.\n");
-    Ok(())
-}
+const REPORTS: &str = "[StoredReport { faction: 1, text: Text { string: \"A report.\\n\" } }]";
 
 /// What the regions held at founding, and what joining brought.
 const BOOKS: &str = "[StoredBooks { entry: 1, thing: 0, amount: 650 }, \
@@ -130,21 +66,18 @@ const BOOKS: &str = "[StoredBooks { entry: 1, thing: 0, amount: 650 }, \
     StoredBooks { entry: 2, thing: 0, amount: 1000 }, \
     StoredBooks { entry: 2, thing: 1, amount: 1 }]";
 
-fn shows_people(rt: &impl Abort, parts: &Parts) -> Result<(), Fail> {
-    shows_head(rt, parts.campaign.as_slice())?;
-    shows_factions(rt, parts.factions.as_slice())?;
-    shows_units(rt, parts.units.as_slice())?;
-    shows_structures(rt, parts.structures.as_slice())
-}
-
-fn shows_texts(rt: &impl Abort, parts: &Parts) -> Result<(), Fail> {
-    shows_mail(rt, parts.mail.as_slice())?;
-    shows_reports(rt, parts.reports.as_slice())
-}
-
-fn shows_amounts(rt: &impl Abort, alloc: Global, parts: &Parts) -> Result<(), Fail> {
-    are_rows(rt, alloc, parts.regions.as_slice(), REGIONS)?;
+fn shows_people(rt: &impl Abort, alloc: Global, parts: &Parts) -> Result<(), Fail> {
+    are_rows(rt, alloc, parts.campaign.as_slice(), HEAD)?;
+    are_rows(rt, alloc, parts.factions.as_slice(), FACTIONS)?;
+    are_rows(rt, alloc, parts.units.as_slice(), UNITS)?;
     are_rows(rt, alloc, parts.has.as_slice(), HAS)?;
+    are_rows(rt, alloc, parts.structures.as_slice(), STRUCTURES)
+}
+
+fn shows_others(rt: &impl Abort, alloc: Global, parts: &Parts) -> Result<(), Fail> {
+    are_rows(rt, alloc, parts.regions.as_slice(), REGIONS)?;
+    are_rows(rt, alloc, parts.mail.as_slice(), MAIL)?;
+    are_rows(rt, alloc, parts.reports.as_slice(), REPORTS)?;
     are_rows(rt, alloc, parts.books.as_slice(), BOOKS)?;
     are_rows(rt, alloc, parts.markets.as_slice(), "[]")
 }
@@ -152,7 +85,6 @@ fn shows_amounts(rt: &impl Abort, alloc: Global, parts: &Parts) -> Result<(), Fa
 #[test]
 fn rows_of_a_campaign(rt: HostRuntime) -> Result<(), Fail> {
     let parts = rows(rt.alloc())?;
-    shows_people(&rt, &parts)?;
-    shows_texts(&rt, &parts)?;
-    shows_amounts(&rt, rt.alloc(), &parts)
+    shows_people(&rt, rt.alloc(), &parts)?;
+    shows_others(&rt, rt.alloc(), &parts)
 }

@@ -1,115 +1,90 @@
-//! Units that go and come in turn: what is there, what is marked, and what their rows say.
+//! Units that go and come in turn: who is there, what is marked, and what their rows say.
 use super::checks::checked;
-use super::compare::{are_numbers, is_count, is_so};
-use super::making::{FAR, joined_in, man_comes};
+use super::compare::is_count;
+use super::making::{FAR, joined_in};
+use super::shown::{Ask, Row, goes};
+use super::steps::{OfFaction, OfRegion, OfUnit, Step, does_all};
 use atl_state::Campaign;
-use atl_tables::{Text, World, read_world};
+use atl_tables::{World, read_world};
 use atl_test_worlds::ISLE;
 use std::alloc::Global;
 use std::process::Abort;
 use std::test::Fail;
 
-/// Who goes, one after another. As each goes another comes, who gets the next number.
-static GOING: [u32; 10] = [3, 2, 5, 4, 8, 6, 10, 7, 11, 9];
-
-/// Who is left.
-static LEFT: [u32; 4] = [1, 12, 13, 14];
-
-/// Who came since the founding.
-static ALL: [u32; 14] = [1, 2, 3, 4, 5, 6, 7, 8, 9, 10, 11, 12, 13, 14];
-
-/// How many peasants are left in the forest by the sea, once three of them are men of a faction.
-const PEASANTS: u32 = 197;
-
-/// Avalon has joined, and has its report.
-fn reported_in(alloc: Global, world: &World) -> Result<Campaign, Fail> {
-    let mut campaign = joined_in(alloc, world)?;
-    campaign.set_report(1, Text::from_str(alloc, "A report.\n")?)?;
-    Ok(campaign)
-}
-
-/// Three men come out of the peasants, as units 2, 3 and 4.
-fn men_come(alloc: Global, campaign: &mut Campaign) -> Result<(), Fail> {
-    for _ in 0..3 {
-        man_comes(alloc, campaign, 1)?;
-    }
-    campaign.set_peasants(FAR, PEASANTS);
-    Ok(())
-}
-
-fn men_go_and_come(alloc: Global, campaign: &mut Campaign) -> Result<(), Fail> {
-    for number in GOING.iter() {
-        campaign.remove_unit(*number);
-        man_comes(alloc, campaign, 1)?;
-    }
-    Ok(())
-}
-
-fn units_are(
-    rt: &impl Abort,
-    alloc: Global,
-    campaign: &Campaign,
-    wanted: &[u32],
-) -> Result<(), Fail> {
-    let mut numbers = Vec::new(alloc);
-    for (number, _) in campaign.units() {
-        numbers.push(number)?;
-    }
-    are_numbers(rt, 0, numbers.as_slice(), wanted);
-    is_count(rt, campaign.unit_count(), wanted.len());
-    Ok(())
-}
-
-fn are_marked(
-    rt: &impl Abort,
-    alloc: Global,
-    campaign: &Campaign,
-    units: &[u32],
-    goods: &[u32],
-) -> Result<(), Fail> {
-    let told: Vec<u32> = campaign.marked_units().collect(alloc)?;
-    are_numbers(rt, 1, told.as_slice(), units);
-    let told: Vec<u32> = campaign.marked_goods().collect(alloc)?;
-    are_numbers(rt, 2, told.as_slice(), goods);
-    Ok(())
-}
-
-fn are_gone(rt: &impl Abort, campaign: &Campaign) {
-    for number in GOING.iter() {
-        is_so(rt, campaign.unit(*number).is_none());
-    }
-}
+/// Avalon gets its report. Three men come out of the peasants; as each of ten goes another comes.
+static COMING: [Step; 25] = [
+    Step::Faction(1, OfFaction::Report("A report.\n")),
+    Step::Comes(1, 2),
+    Step::Comes(1, 3),
+    Step::Comes(1, 4),
+    Step::Region(FAR, OfRegion::Peasants(197)),
+    Step::Unit(3, OfUnit::Remove),
+    Step::Comes(1, 5),
+    Step::Unit(2, OfUnit::Remove),
+    Step::Comes(1, 6),
+    Step::Unit(5, OfUnit::Remove),
+    Step::Comes(1, 7),
+    Step::Unit(4, OfUnit::Remove),
+    Step::Comes(1, 8),
+    Step::Unit(8, OfUnit::Remove),
+    Step::Comes(1, 9),
+    Step::Unit(6, OfUnit::Remove),
+    Step::Comes(1, 10),
+    Step::Unit(10, OfUnit::Remove),
+    Step::Comes(1, 11),
+    Step::Unit(7, OfUnit::Remove),
+    Step::Comes(1, 12),
+    Step::Unit(11, OfUnit::Remove),
+    Step::Comes(1, 13),
+    Step::Unit(9, OfUnit::Remove),
+    Step::Comes(1, 14),
+];
 
 /// Those who came are marked, and those who went. Once nothing is, who goes and who comes after them are marked alone.
-fn marks_follow(rt: &impl Abort, alloc: Global, campaign: &mut Campaign) -> Result<(), Fail> {
-    are_marked(rt, alloc, campaign, &ALL, &ALL)?;
-    campaign.unmark();
-    are_marked(rt, alloc, campaign, &[], &[])?;
-    campaign.remove_unit(13);
-    are_marked(rt, alloc, campaign, &[13], &[13])?;
-    man_comes(alloc, campaign, 1)?;
-    are_marked(rt, alloc, campaign, &[13, 15], &[13, 15])?;
-    campaign.set_money(12, 0);
-    are_marked(rt, alloc, campaign, &[12, 13, 15], &[13, 15])?;
-    campaign.unmark();
-    are_marked(rt, alloc, campaign, &[], &[])
-}
+static MARKS: [Row; 6] = [
+    (
+        Step::Nothing,
+        Ask::Units,
+        "[1, 12, 13, 14]",
+        "20, factions [1], regions [3], units [1, 2, 3, 4, 5, 6, 7, 8, 9, 10, 11, 12, 13, 14], \
+            rows [1, 2, 3, 4, 5, 6, 7, 8, 9, 10, 11, 12, 13, 14], goods [1, 2, 3, 4, 5, 6, 7, 8, 9, 10, 11, 12, 13, 14], \
+            reports [1], the campaign, joining money, joining people",
+    ),
+    (Step::Unmark, Ask::Units, "[1, 12, 13, 14]", "0"),
+    (
+        Step::Unit(13, OfUnit::Remove),
+        Ask::Units,
+        "[1, 12, 14]",
+        "1, units [13], rows [13], goods [13]",
+    ),
+    (
+        Step::Comes(1, 15),
+        Ask::Units,
+        "[1, 12, 14, 15]",
+        "3, units [13, 15], rows [13, 15], goods [13, 15], the campaign",
+    ),
+    (
+        Step::Unit(12, OfUnit::Money(0)),
+        Ask::Units,
+        "[1, 12, 14, 15]",
+        "4, units [12, 13, 15], rows [12, 13, 15], goods [13, 15], the campaign",
+    ),
+    (Step::Unmark, Ask::Units, "[1, 12, 14, 15]", "0"),
+];
 
 /// The rows of those who are there give them again, and nobody else.
+static AGAIN: [Row; 1] = [(Step::Nothing, Ask::Units, "[1, 12, 14, 15]", "0")];
+
 fn come_back(rt: &impl Abort, alloc: Global, world: &World, first: &Campaign) -> Result<(), Fail> {
-    let again = checked(alloc, world, first.parts()?)?;
-    units_are(rt, alloc, &again, &[1, 12, 14, 15])?;
+    let mut again = checked(alloc, world, first.parts()?)?;
     is_count(rt, again.in_region(FAR).len(), 4);
-    are_marked(rt, alloc, &again, &[], &[])
+    goes(rt, alloc, &mut again, &AGAIN)
 }
 
 fn go_round(rt: &impl Abort, alloc: Global, world: &World) -> Result<(), Fail> {
-    let mut campaign = reported_in(alloc, world)?;
-    men_come(alloc, &mut campaign)?;
-    men_go_and_come(alloc, &mut campaign)?;
-    units_are(rt, alloc, &campaign, &LEFT)?;
-    are_gone(rt, &campaign);
-    marks_follow(rt, alloc, &mut campaign)?;
+    let mut campaign = joined_in(alloc, world)?;
+    does_all(alloc, &mut campaign, &COMING)?;
+    goes(rt, alloc, &mut campaign, &MARKS)?;
     come_back(rt, alloc, world, &campaign)
 }
 

@@ -1,8 +1,9 @@
 //! Walks over all factions, regions, units and structures of a campaign, and its totals.
-use super::compare::{is_amount, is_count, is_number, is_text, row_is};
-use super::making::{FAR, LODGE, is_begun, joined_by};
-use atl_state::{Campaign, MOST_UNITS, Thing};
-use atl_tables::limits::MOST_REGIONS;
+use super::compare::{is_amount, is_count, is_text};
+use super::making::{LODGE, joined_by};
+use super::shown::{Ask, Row, goes};
+use super::steps::{OfUnit, Step, does_all};
+use atl_state::{Campaign, Thing};
 use atl_test_worlds::ISLE;
 use std::alloc::Global;
 use std::process::Abort;
@@ -24,77 +25,48 @@ fn walks_regions(rt: &impl Abort, campaign: &Campaign) -> Result<(), Fail> {
     Ok(())
 }
 
-fn walks_units(rt: &impl Abort, campaign: &Campaign) -> Result<(), Fail> {
-    let mut units = campaign.units();
-    let (number, unit) = units.next().ok_or("a unit")?;
-    is_amount(rt, number, 1);
-    is_amount(rt, unit.region, FAR);
-    match units.next() {
-        Some(_) => Err(Fail::new("one unit alone")),
-        None => Ok(()),
-    }
-}
-
 fn walks_structures(rt: &impl Abort, campaign: &Campaign) -> Result<(), Fail> {
     is_count(rt, campaign.structures().count(), 1);
     let (number, structure) = campaign.structures().next().ok_or("a structure")?;
     is_amount(rt, number, 1);
-    is_number(rt, i64::from(structure.kind), i64::from(LODGE));
+    is_amount(rt, structure.kind.into(), LODGE.into());
     Ok(())
 }
 
-/// Money, people and wood: those of four regions, and of one unit.
-static TOTALS: [(Thing, u64); 4] = [
-    (Thing::Money, 650 + 1000),
-    (Thing::People, 1300 + 1),
-    (Thing::Item(0), 12),
-    (Thing::Item(1), 0),
+/// A lodge is begun, and unit 1 gets 12 wood.
+static MAKING: [Step; 3] = [
+    Step::Begins(LODGE, 1),
+    Step::Unit(1, OfUnit::LentItem(0, 12)),
+    Step::Unmark,
 ];
 
-fn total(campaign: &Campaign, thing: Thing) -> Result<u64, Fail> {
-    if campaign.unit_count() > MOST_UNITS || campaign.region_count() > MOST_REGIONS {
-        return Err(Fail::new("few units and regions"));
-    }
-    Ok(campaign.total(thing))
-}
+/// The only unit; and money, people and items of four regions and of this unit.
+static TOTALS: [Row; 6] = [
+    (Step::Nothing, Ask::Units, "[1]", "0"),
+    (
+        Step::Nothing,
+        Ask::Unit(1),
+        "Unit 1: 1 men, 1000 money, guard: false, [1, 3, 0]",
+        "0",
+    ),
+    // 500 and 100 and 50 of the regions, and 1,000 of the unit.
+    (Step::Nothing, Ask::Total(Thing::Money), "1650", "0"),
+    // 1,000 and 200 and 100 peasants, and one man.
+    (Step::Nothing, Ask::Total(Thing::People), "1301", "0"),
+    (Step::Nothing, Ask::Total(Thing::Item(0)), "12", "0"),
+    (Step::Nothing, Ask::Total(Thing::Item(1)), "0", "0"),
+];
 
-fn has_totals(rt: &impl Abort, campaign: &Campaign) -> Result<(), Fail> {
-    for (row, (thing, wanted)) in TOTALS.iter().enumerate() {
-        row_is(rt, row, total(campaign, *thing)?, *wanted);
-    }
-    Ok(())
-}
-
-fn gets_wood(campaign: &mut Campaign) -> Result<(), Fail> {
-    if let Some(holding) = campaign.unit_mut(1) {
-        holding.set_amount(0, 12)?;
-    }
-    Ok(())
-}
-
-/// A campaign that Avalon has joined, with a lodge, and 12 wood.
-fn made(alloc: Global) -> Result<Campaign, Fail> {
-    let mut campaign = joined_by(alloc, ISLE)?;
-    is_begun(alloc, &mut campaign, LODGE, 0)?;
-    gets_wood(&mut campaign)?;
-    Ok(campaign)
-}
-
-fn walks(rt: &impl Abort, campaign: &Campaign) -> Result<(), Fail> {
+fn walks(rt: &impl Abort, alloc: Global, campaign: &mut Campaign) -> Result<(), Fail> {
+    does_all(alloc, campaign, &MAKING)?;
     walks_factions(rt, campaign)?;
     walks_regions(rt, campaign)?;
-    walks_units(rt, campaign)?;
-    walks_structures(rt, campaign)
+    walks_structures(rt, campaign)?;
+    goes(rt, alloc, campaign, &TOTALS)
 }
 
 #[test]
 fn walking_over_a_campaign(rt: HostRuntime) -> Result<(), Fail> {
-    let campaign = made(rt.alloc())?;
-    walks(&rt, &campaign)
-}
-
-#[test]
-fn totals_of_a_campaign(rt: HostRuntime) -> Result<(), Fail> {
-    let campaign = made(rt.alloc())?;
-    has_totals(&rt, &campaign)
+    let mut campaign = joined_by(rt.alloc(), ISLE)?;
+    walks(&rt, rt.alloc(), &mut campaign)
 }

@@ -1,5 +1,6 @@
 //! The numbers of the faults of an opening and of an upgrade, as docs/FORMATS.md has them under "Tables", and their texts.
 use super::compare::{is_fault_number, is_text};
+use super::words::text_of;
 use atl_state::Rule;
 use atl_store::{StoreFault, UpgradeFault};
 use atl_tables::WorldFault;
@@ -22,7 +23,7 @@ fn opening_is_told(
 ) -> Result<(), Fail> {
     let (fault, number, text) = *case;
     is_fault_number(rt, fault.number(), number);
-    is_text(rt, format!(in alloc; "{fault}")?.as_str(), text);
+    is_text(rt, text_of(alloc, fault)?.as_str(), text, text);
     Ok(())
 }
 
@@ -61,7 +62,7 @@ fn upgrade_is_told(rt: &impl Abort, alloc: Global, case: &(Option<u8>, &str)) ->
     let (number, text) = *case;
     let fault = upgrade_fault(number);
     is_fault_number(rt, fault.number(), number);
-    is_text(rt, format!(in alloc; "{fault}")?.as_str(), text);
+    is_text(rt, text_of(alloc, fault)?.as_str(), text, text);
     Ok(())
 }
 

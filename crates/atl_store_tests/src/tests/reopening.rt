@@ -1,43 +1,20 @@
 //! A campaign is there again after a crash.
-use super::changes::rows_of;
-use super::compare::is_text;
-use super::making::{found, small};
-use atl_store::{load, reopened};
-use sqlite::{Alter, Connection, FileStore, Options};
-use sqlite_disk::{Crash, Disk, Files, Memory};
+use super::game::new_game;
+use super::script::play;
+use super::stopped::{new_files, open};
+use atl_store::reopened;
+use sqlite::{Connection, FileStore};
+use sqlite_disk::{Crash, Disk};
 use std::alloc::Global;
 use std::process::Abort;
 use std::test::Fail;
 
-/// A database in files that hold nothing yet.
-fn connected<D: Disk + Drop>(
+/// Opens again what a crash leaves of a connection's database.
+fn opened_again<D: Crash + Drop>(
     alloc: Global,
-    files: Files<D>,
+    conn: Connection<FileStore<D>>,
 ) -> Result<Connection<FileStore<D>>, Fail> {
-    if !files.may_be_used() {
-        return Err(Fail::new("the files can't be used"));
-    }
-    match Connection::open_files(alloc, files, Options::new(1)) {
-        Ok(conn) => Ok(conn),
-        Err(_) => Err(Fail::new("the files can't be opened")),
-    }
-}
-
-/// The rows of the campaign that a database holds.
-fn loaded_rows<S: Alter>(alloc: Global, conn: &mut Connection<S>) -> Result<String, Fail> {
-    let (_world, campaign) = load(alloc, conn)?;
-    rows_of(alloc, &campaign)
-}
-
-fn is_founded<S: Alter>(
-    rt: &impl Abort,
-    alloc: Global,
-    conn: &mut Connection<S>,
-) -> Result<(), Fail> {
-    let again = loaded_rows(alloc, conn)?;
-    let founded = rows_of(alloc, &small(alloc)?)?;
-    is_text(rt, again.as_str(), founded.as_str());
-    Ok(())
+    Ok(reopened(alloc, conn)?)
 }
 
 /// Asserts that what a crash leaves of a campaign as it is founded is this campaign.
@@ -46,19 +23,27 @@ fn comes_back<D: Crash + Drop>(
     alloc: Global,
     mut conn: Connection<FileStore<D>>,
 ) -> Result<(), Fail> {
-    found(alloc, &mut conn)?;
-    match reopened(alloc, conn) {
-        Ok(mut again) => is_founded(rt, alloc, &mut again),
-        Err(_) => Err(Fail::new("what a crash left can't be opened")),
-    }
+    let mut game = new_game(alloc)?;
+    play(
+        rt,
+        alloc,
+        &mut conn,
+        &mut game,
+        "keep_campaign\ncreate small",
+    )?;
+    let mut again = opened_again(alloc, conn)?;
+    play(
+        rt,
+        alloc,
+        &mut again,
+        &mut game,
+        "load\nis_kept_campaign -> yes",
+    )
 }
 
 #[test]
 fn a_founded_campaign_is_there_after_a_crash(rt: HostRuntime) -> Result<(), Fail> {
     let alloc = rt.alloc();
-    let files = Files {
-        log: Memory::new(alloc),
-        db: Memory::new(alloc),
-    };
-    comes_back(&rt, alloc, connected(alloc, files)?)
+    let conn = open(alloc, new_files(alloc)).ok_or("open")?;
+    comes_back(&rt, alloc, conn)
 }

@@ -1,130 +1,53 @@
 //! Files of the first format are told as such, and upgraded.
-use super::changes::{holds, rows_of};
-use super::compare::is_text;
-use super::making::{found_by, founded_by};
-use atl_store::{StoreFault, UpgradeFault, load, upgrade};
-use atl_test_files::old_file;
-use atl_test_worlds::month::ROWS;
-use atl_test_worlds::{ISLE, ISLE_WITH_MARKET, SMALL};
-use sqlite::{Alter, Connection};
+use super::script::play_new;
 use std::alloc::Global;
 use std::process::Abort;
 use std::test::Fail;
 
-/// What a loading or an upgrade is answered.
-#[derive(Clone, Copy, Drop, PartialEq, Eq, Debug)]
-pub(crate) enum Told {
-    Done,
-    Store,
-    /// The number of the rule that is broken.
-    Damaged(u8),
-    NotACampaign,
-    OldFormat,
-    NotOld,
-    World,
-    Differs,
-    Memory,
-}
-
-pub(crate) fn told_of_loading<S: Alter>(alloc: Global, conn: &mut Connection<S>) -> Told {
-    match load(alloc, conn) {
-        Ok(_) => Told::Done,
-        Err(StoreFault::Store) => Told::Store,
-        Err(StoreFault::Damaged(rule)) => Told::Damaged(rule.number()),
-        Err(StoreFault::NotACampaign) => Told::NotACampaign,
-        Err(StoreFault::OldFormat) => Told::OldFormat,
-        Err(StoreFault::Memory) => Told::Memory,
-    }
-}
-
-pub(crate) fn told_of_upgrade<S: Alter>(
-    alloc: Global,
-    conn: &mut Connection<S>,
-    world: &str,
-) -> Told {
-    match upgrade(alloc, conn, world) {
-        Ok(_) => Told::Done,
-        Err(UpgradeFault::Store) => Told::Store,
-        Err(UpgradeFault::Damaged(rule)) => Told::Damaged(rule.number()),
-        Err(UpgradeFault::NotACampaign) => Told::NotACampaign,
-        Err(UpgradeFault::NotOld) => Told::NotOld,
-        Err(UpgradeFault::World(_)) => Told::World,
-        Err(UpgradeFault::Differs) => Told::Differs,
-        Err(UpgradeFault::Memory) => Told::Memory,
-    }
-}
-
-/// A file of the first format with a campaign of the island: two factions, eleven units and a boat.
-pub(crate) fn old_island<S: Alter>(alloc: Global, conn: &mut Connection<S>) -> Result<(), Fail> {
-    let campaign = founded_by(alloc, ISLE)?;
-    old_file(conn, ISLE, &campaign)?;
-    conn.execute_batch(ROWS)?;
-    Ok(())
-}
-
-/// A file of the second format with the same campaign.
-pub(crate) fn new_island<S: Alter>(alloc: Global, conn: &mut Connection<S>) -> Result<(), Fail> {
-    found_by(alloc, conn, ISLE)?;
-    conn.execute_batch(ROWS)?;
-    Ok(())
-}
-
-/// The rows of the same campaign as the second format has them.
-fn rows_of_island<S: Alter>(alloc: Global, conn: &mut Connection<S>) -> Result<String, Fail> {
-    new_island(alloc, conn)?;
-    loaded(alloc, conn)
-}
-
-/// The format and the tables of an upgraded file.
-static UPGRADED: [(&str, i64); 4] = [
-    ("SELECT format FROM campaign", 2),
-    ("SELECT count(*) FROM market", 0),
-    ("SELECT count(*) FROM unit", 11),
-    ("SELECT next_unit FROM campaign", 12),
-];
-
-/// Upgrades the file, and gives the campaign's rows.
-fn upgraded<S: Alter>(alloc: Global, conn: &mut Connection<S>) -> Result<String, Fail> {
-    let (_world, campaign) = upgrade(alloc, conn, ISLE_WITH_MARKET)?;
-    rows_of(alloc, &campaign)
-}
-
-fn loaded<S: Alter>(alloc: Global, conn: &mut Connection<S>) -> Result<String, Fail> {
-    let (_world, campaign) = load(alloc, conn)?;
-    rows_of(alloc, &campaign)
-}
-
-/// The campaign is the old one, by the upgrade and by a loading behind it.
-fn is_the_same<S: Alter>(
-    rt: &impl Abort,
-    alloc: Global,
-    conn: &mut Connection<S>,
-    rows: &str,
-) -> Result<(), Fail> {
-    old_island(alloc, conn)?;
-    is_text(rt, upgraded(alloc, conn)?.as_str(), rows);
-    is_text(rt, loaded(alloc, conn)?.as_str(), rows);
-    is_answer(
-        rt,
-        told_of_upgrade(alloc, conn, ISLE_WITH_MARKET),
-        Told::NotOld,
-        "an upgrade",
-    );
-    holds(rt, conn, &UPGRADED)
-}
-
+/// The upgraded campaign is the one that a file of the second format holds, by the upgrade and by a load after it.
 #[test]
 fn the_campaign_is_the_old_one(rt: HostRuntime) -> Result<(), Fail> {
-    let mut conn = Connection::open_in_memory(rt.alloc())?;
-    let rows = rows_of_island(rt.alloc(), &mut conn)?;
-    let mut conn = Connection::open_in_memory(rt.alloc())?;
-    is_the_same(&rt, rt.alloc(), &mut conn, rows.as_str())
+    let script = "create isle
+settle
+load
+keep_campaign
+sql DROP TABLE campaign; DROP TABLE faction; DROP TABLE region; DROP TABLE unit; DROP TABLE has
+sql DROP TABLE structure; DROP TABLE mail; DROP TABLE report; DROP TABLE books; DROP TABLE market
+create_old isle
+settle
+upgrade isle with market
+is_kept_campaign -> yes
+load
+is_kept_campaign -> yes
+upgrade isle with market -> NotOld
+SELECT format FROM campaign -> 2
+SELECT count(*) FROM market -> 0
+SELECT count(*) FROM unit -> 11
+SELECT next_unit FROM campaign -> 12";
+    play_new(&rt, rt.alloc(), script)
 }
 
-/// Statements on a file, a world, and what the file is answered then by a loading, and by an upgrade with this world.
-type Case = (&'static str, &'static str, Told, Told);
+/// The tables are those that the statements of docs/FORMATS.md, "Upgrading a file", make by hand.
+#[test]
+fn the_tables_are_those_made_by_hand(rt: HostRuntime) -> Result<(), Fail> {
+    let script = "create_old isle
+settle
+sql CREATE TABLE market (region INTEGER NOT NULL, item INTEGER NOT NULL, stock INTEGER NOT NULL, PRIMARY KEY (region, item)) STRICT
+sql UPDATE campaign SET format = 2
+world isle with market
+load
+keep_tables
+sql DROP TABLE campaign; DROP TABLE faction; DROP TABLE region; DROP TABLE unit; DROP TABLE has
+sql DROP TABLE structure; DROP TABLE mail; DROP TABLE report; DROP TABLE books; DROP TABLE market
+create_old isle
+settle
+upgrade isle with market
+is_kept_tables -> yes";
+    play_new(&rt, rt.alloc(), script)
+}
 
-const NO_WORLD: &str = "a = = b";
+/// Statements on a file, a world, and what the file is answered then by a load, and by an upgrade with this world.
+type Case = (&'static str, &'static str, &'static str, &'static str);
 
 /// The campaign's own table anew without STRICT; its month is a word.
 const LOOSE: &str =
@@ -132,128 +55,98 @@ const LOOSE: &str =
 
 /// Files that are as they are to be but for these statements, and worlds.
 static CASES: [Case; 18] = [
-    ("", SMALL, Told::OldFormat, Told::Differs),
-    ("", NO_WORLD, Told::OldFormat, Told::World),
-    ("", ISLE, Told::OldFormat, Told::Done),
-    ("", ISLE_WITH_MARKET, Told::OldFormat, Told::Done),
-    ("BEGIN", ISLE, Told::Store, Told::Store),
+    ("", "small", "OldFormat", "Differs"),
+    ("", "no world", "OldFormat", "World"),
+    ("", "isle", "OldFormat", "Done"),
+    ("", "isle with market", "OldFormat", "Done"),
+    ("BEGIN", "isle", "Store", "Store"),
     (
         "DROP TABLE campaign",
-        NO_WORLD,
-        Told::NotACampaign,
-        Told::NotACampaign,
+        "no world",
+        "NotACampaign",
+        "NotACampaign",
     ),
-    (
-        "DELETE FROM campaign",
-        ISLE,
-        Told::Damaged(1),
-        Told::Damaged(1),
-    ),
+    ("DELETE FROM campaign", "isle", "Damaged 1", "Damaged 1"),
     (
         "UPDATE campaign SET format = 3",
-        NO_WORLD,
-        Told::Damaged(1),
-        Told::Damaged(1),
+        "no world",
+        "Damaged 1",
+        "Damaged 1",
     ),
     (
         "UPDATE campaign SET format = 2",
-        NO_WORLD,
-        Told::Store,
-        Told::NotOld,
+        "no world",
+        "Store",
+        "NotOld",
     ),
-    (LOOSE, ISLE, Told::OldFormat, Told::Damaged(1)),
+    (LOOSE, "isle", "OldFormat", "Damaged 1"),
     (
         "UPDATE campaign SET month = 10000",
-        NO_WORLD,
-        Told::OldFormat,
-        Told::Damaged(2),
+        "no world",
+        "OldFormat",
+        "Damaged 2",
     ),
     (
         "INSERT INTO books VALUES (14, 0, -4); UPDATE unit SET money = 0 WHERE number = 10",
-        ISLE,
-        Told::OldFormat,
-        Told::Damaged(11),
+        "isle",
+        "OldFormat",
+        "Damaged 11",
     ),
-    (
-        "DELETE FROM report",
-        SMALL,
-        Told::OldFormat,
-        Told::Damaged(12),
-    ),
-    ("DROP TABLE unit", ISLE, Told::OldFormat, Told::Store),
+    ("DELETE FROM report", "small", "OldFormat", "Damaged 12"),
+    ("DROP TABLE unit", "isle", "OldFormat", "Store"),
     (
         "CREATE TABLE notes (words TEXT)",
-        NO_WORLD,
-        Told::OldFormat,
-        Told::World,
+        "no world",
+        "OldFormat",
+        "World",
     ),
     (
         "CREATE TABLE notes (words TEXT)",
-        SMALL,
-        Told::OldFormat,
-        Told::Differs,
+        "small",
+        "OldFormat",
+        "Differs",
     ),
     (
         "CREATE TABLE notes (words TEXT)",
-        ISLE,
-        Told::OldFormat,
-        Told::Store,
+        "isle",
+        "OldFormat",
+        "Store",
     ),
     (
         "CREATE INDEX units_by_region ON unit (region)",
-        ISLE,
-        Told::OldFormat,
-        Told::Store,
+        "isle",
+        "OldFormat",
+        "Store",
     ),
 ];
 
-/// Of a file that these statements changed.
-pub(crate) fn is_answer(rt: &impl Abort, told: Told, wanted: Told, sql: &str) {
-    assert_eq!(rt; told, wanted, "after {sql}");
-}
-
-/// How many tables there are.
-pub(crate) fn tables<S: Alter>(conn: &Connection<S>) -> usize {
-    conn.schema().tables.len()
-}
-
-/// Where no upgrade is done, no table comes to those that are there.
-fn is_told<S: Alter>(
-    rt: &impl Abort,
-    alloc: Global,
-    conn: &mut Connection<S>,
-    case: &Case,
-) -> Result<(), Fail> {
-    old_island(alloc, conn)?;
-    let (sql, world, loading, upgrade) = *case;
-    conn.execute_batch(sql)?;
-    let before = tables(conn);
-    is_answer(rt, told_of_loading(alloc, conn), loading, sql);
-    is_answer(rt, told_of_upgrade(alloc, conn, world), upgrade, sql);
-    assert!(rt; upgrade == Told::Done || tables(conn) == before);
-    is_answer(
-        rt,
-        told_of_loading(alloc, conn),
-        after(loading, upgrade),
-        sql,
-    );
-    Ok(())
-}
-
-/// What a loading behind the upgrade is answered.
-fn after(loading: Told, upgrade: Told) -> Told {
-    if upgrade == Told::Done {
-        Told::Done
+/// What comes after the upgrade: where it is done, another load is too; else nothing has changed.
+fn rest_of(alloc: Global, load: &str, upgrade: &str) -> Result<String, Fail> {
+    if upgrade == "Done" {
+        Ok(String::from_str(alloc, "load")?)
     } else {
-        loading
+        Ok(format!(in alloc; "is_kept_tables -> yes\nload -> {load}")?)
     }
+}
+
+fn is_answered(rt: &impl Abort, alloc: Global, case: &Case) -> Result<(), Fail> {
+    let (sql, world, load, upgrade) = *case;
+    let before = format!(in alloc;
+        "create_old isle\nsettle\nsql {sql}\nkeep_tables\nload -> {load}"
+    )?;
+    let rest = rest_of(alloc, load, upgrade)?;
+    let script = format!(in alloc;
+        "{}\nupgrade {world} -> {upgrade}\n{}",
+        before.as_str(),
+        rest.as_str()
+    )?;
+    play_new(rt, alloc, script.as_str())
 }
 
 #[test]
 fn the_first_check_that_fails_is_told(rt: HostRuntime) -> Result<(), Fail> {
     for case in CASES.iter() {
-        let mut conn = Connection::open_in_memory(rt.alloc())?;
-        is_told(&rt, rt.alloc(), &mut conn, case)?;
+        is_answered(&rt, rt.alloc(), case)?;
     }
     Ok(())
 }

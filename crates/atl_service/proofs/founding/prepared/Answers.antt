@@ -1,8 +1,0 @@
-use Rattle.std.proofs.Common.{◌≡◌, false}
-use Rattle.atl_tables.specs.Names.{pass_ok}
-use Rattle.atl_service.proofs.founding.prepared.Goals as goal
-
-pub returns-then-not-pass_ok-clause-err : goal.returns-then-not-pass_ok-clause-err
-returns-then-not-pass_ok-clause-err c is_there =
-    let bad : pass_ok c.args.pass.now ≡ false = cc in
-    ((c.in_ok-world.world, c.in_ok-world.ensures.definition), bad)

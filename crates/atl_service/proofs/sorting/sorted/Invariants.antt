@@ -1,7 +1,0 @@
-use Rattle.std.proofs.Common.{◌≡◌, ◌++◌, ℕ, drop}
-use Rattle.atl_report.specs.Events.{own_events}
-use Rattle.atl_service.specs.Sorting.{events_of}
-use Rattle.atl_service.proofs.sorting.sorted.Given as goal
-
-abbrev pub invariant-loop-event : goal.invariant-loop-event
-invariant-loop-event l = (n : ℕ) → events_of l.sorted n ++ own_events n (drop l.event-index l.events) ≡ own_events n l.events

@@ -1,0 +1,314 @@
+//! What a campaign has, and what of it is marked, as texts; and tables of steps with both.
+use super::compare::row_is_text;
+use super::steps::{Step, does};
+use atl_state::{Campaign, Entry, MOST_UNITS, Thing};
+use atl_tables::limits::MOST_REGIONS;
+use atl_tables::{Entries, MarkedNumbers, Numbered};
+use std::alloc::Global;
+use std::process::Abort;
+use std::str;
+use std::test::Fail;
+
+/// What is asked of a campaign.
+#[derive(Drop, Clone, Copy)]
+pub(crate) enum Ask {
+    Month,
+    /// How many factions, regions, units and structures there are, and the next numbers of the latter two.
+    Counts,
+    Faction(u32),
+    /// The mail of a faction, and how many mails there are.
+    Mail(u32),
+    /// The report of a faction, and how many reports there are.
+    Report(u32),
+    Region(u32),
+    /// How much a region has in stock of an item, and how many stocks it lists.
+    Stock(u32, u32),
+    /// The numbers of all units.
+    Units,
+    Unit(u32),
+    /// How much a unit has of an item, and its days of a skill.
+    Goods(u32, u32, u32),
+    Structure(u32),
+    /// The total of a thing.
+    Total(Thing),
+}
+
+/// Where nothing has the number.
+fn none(alloc: Global) -> Result<String, Fail> {
+    Ok(String::from_str(alloc, "none")?)
+}
+
+fn counts_text(alloc: Global, campaign: &Campaign) -> Result<String, Fail> {
+    let counts = [
+        campaign.faction_count(),
+        campaign.region_count(),
+        campaign.unit_count(),
+        campaign.structure_count(),
+    ];
+    let next = [campaign.next_unit(), campaign.next_structure()];
+    Ok(format!(in alloc; "{counts:?}, next {next:?}")?)
+}
+
+fn faction_text(alloc: Global, campaign: &Campaign, number: u32) -> Result<String, Fail> {
+    match campaign.faction(number) {
+        Some(faction) => {
+            let (name, joined_as) = (faction.name.as_str(), faction.joined_as.as_str());
+            let (pass, gone) = (faction.pass.as_str(), faction.gone);
+            Ok(format!(in alloc; "{name}, joined as {joined_as} {pass}, gone: {gone}")?)
+        }
+        None => none(alloc),
+    }
+}
+
+fn mail_text(alloc: Global, campaign: &Campaign, faction: u32) -> Result<String, Fail> {
+    let text = match campaign.mail_of(faction) {
+        Some(mail) => str::from_utf8(mail.as_slice()).unwrap_or("no text"),
+        None => "none",
+    };
+    let count = campaign.mail().count();
+    Ok(format!(in alloc; "{text} of {count}")?)
+}
+
+fn report_text(alloc: Global, campaign: &Campaign, faction: u32) -> Result<String, Fail> {
+    let text = match campaign.report(faction) {
+        Some(report) => report.as_str(),
+        None => "none",
+    };
+    let count = campaign.reports().count();
+    Ok(format!(in alloc; "{text} of {count}")?)
+}
+
+fn region_text(alloc: Global, campaign: &Campaign, number: u32) -> Result<String, Fail> {
+    match campaign.region(number) {
+        Some(region) => {
+            let (peasants, money) = (region.peasants, region.money);
+            Ok(format!(in alloc; "{peasants} peasants, {money} money")?)
+        }
+        None => none(alloc),
+    }
+}
+
+fn stock_text(alloc: Global, campaign: &Campaign, number: u32, item: u32) -> Result<String, Fail> {
+    let stock = campaign.stock(number, item);
+    match campaign.region(number) {
+        Some(region) => {
+            let count = region.stocks.len();
+            Ok(format!(in alloc; "{stock} of {count}")?)
+        }
+        None => Ok(format!(in alloc; "{stock} nowhere")?),
+    }
+}
+
+fn units_text(alloc: Global, campaign: &Campaign) -> Result<String, Fail> {
+    let mut numbers = Vec::new(alloc);
+    for (number, _) in campaign.units() {
+        numbers.push(number)?;
+    }
+    let numbers = numbers.as_slice();
+    Ok(format!(in alloc; "{numbers:?}")?)
+}
+
+/// A unit's name, men, money, guard flag, faction, region and structure.
+fn unit_text(alloc: Global, campaign: &Campaign, number: u32) -> Result<String, Fail> {
+    let Some(unit) = campaign.unit(number) else {
+        return none(alloc);
+    };
+    let holding = &unit.holding;
+    let (name, guard) = (holding.name().as_str(), holding.guard());
+    let (men, money) = (holding.men(), holding.money());
+    let places = [unit.faction, unit.region, unit.structure];
+    Ok(format!(in alloc; "{name}: {men} men, {money} money, guard: {guard}, {places:?}")?)
+}
+
+fn goods_text(
+    alloc: Global,
+    campaign: &Campaign,
+    number: u32,
+    item: u32,
+    skill: u32,
+) -> Result<String, Fail> {
+    match campaign.unit(number) {
+        Some(unit) => {
+            let (amount, days) = (unit.holding.amount(item), unit.holding.days_of(skill));
+            Ok(format!(in alloc; "{amount}, {days} days")?)
+        }
+        None => none(alloc),
+    }
+}
+
+/// A structure's name, kind, region, how much is built, and its owner.
+fn structure_text(alloc: Global, campaign: &Campaign, number: u32) -> Result<String, Fail> {
+    let Some(structure) = campaign.structure(number) else {
+        return none(alloc);
+    };
+    let (name, kind) = (structure.name.as_str(), structure.kind);
+    let (region, done, owner) = (structure.region, structure.done, structure.owner);
+    Ok(format!(in alloc; "{name}: kind {kind}, region {region}, {done} done, owner {owner}")?)
+}
+
+fn total_text(alloc: Global, campaign: &Campaign, thing: Thing) -> Result<String, Fail> {
+    if campaign.unit_count() > MOST_UNITS || campaign.region_count() > MOST_REGIONS {
+        return Err(Fail::new("few units and regions"));
+    }
+    let total = campaign.total(thing);
+    Ok(format!(in alloc; "{total}")?)
+}
+
+fn month_text(alloc: Global, campaign: &Campaign) -> Result<String, Fail> {
+    let month = campaign.month();
+    Ok(format!(in alloc; "{month}")?)
+}
+
+/// What is asked.
+fn text_of(alloc: Global, campaign: &Campaign, ask: Ask) -> Result<String, Fail> {
+    match ask {
+        Ask::Month => month_text(alloc, campaign),
+        Ask::Counts => counts_text(alloc, campaign),
+        Ask::Faction(number) => faction_text(alloc, campaign, number),
+        Ask::Mail(faction) => mail_text(alloc, campaign, faction),
+        Ask::Report(faction) => report_text(alloc, campaign, faction),
+        Ask::Region(number) => region_text(alloc, campaign, number),
+        Ask::Stock(number, item) => stock_text(alloc, campaign, number, item),
+        Ask::Units => units_text(alloc, campaign),
+        Ask::Unit(number) => unit_text(alloc, campaign, number),
+        Ask::Goods(number, item, skill) => goods_text(alloc, campaign, number, item, skill),
+        Ask::Structure(number) => structure_text(alloc, campaign, number),
+        Ask::Total(thing) => total_text(alloc, campaign, thing),
+    }
+}
+
+/// The lists of marked numbers, each at its place in `marked`.
+static LISTS: [&str; 8] = [
+    "factions",
+    "regions",
+    "units",
+    "rows",
+    "goods",
+    "structures",
+    "mail",
+    "reports",
+];
+
+/// What is marked, by its place.
+fn marked(campaign: &Campaign, place: usize) -> MarkedNumbers<'_> {
+    match place {
+        0 => campaign.marked_factions(),
+        1 => campaign.marked_regions(),
+        2 => campaign.marked_units(),
+        3 => campaign.marked_rows(),
+        4 => campaign.marked_goods(),
+        5 => campaign.marked_structures(),
+        6 => campaign.marked_mail(),
+        _ => campaign.marked_reports(),
+    }
+}
+
+/// Adds each list that has a number.
+fn add_lists(alloc: Global, text: &mut String, campaign: &Campaign) -> Result<(), Fail> {
+    for (place, name) in LISTS.iter().enumerate() {
+        let numbers: Vec<u32> = marked(campaign, place).collect(alloc)?;
+        let numbers = numbers.as_slice();
+        if !numbers.is_empty() {
+            text.push_str(&format!(in alloc; ", {name} {numbers:?}")?)?;
+        }
+    }
+    Ok(())
+}
+
+/// Adds the marked items, or skills, of a unit.
+fn add_goods(
+    alloc: Global,
+    text: &mut String,
+    name: &str,
+    unit: u32,
+    goods: &Numbered<()>,
+) -> Result<(), Fail> {
+    for (number, _) in goods.iter() {
+        text.push_str(&format!(in alloc; ", {name} {number} of unit {unit}")?)?;
+    }
+    Ok(())
+}
+
+fn add_all_goods(
+    alloc: Global,
+    text: &mut String,
+    name: &str,
+    marked: Entries<'_, Numbered<()>>,
+) -> Result<(), Fail> {
+    for (unit, goods) in marked {
+        add_goods(alloc, text, name, unit, goods)?;
+    }
+    Ok(())
+}
+
+/// Adds the campaign's own row, and what is booked of a joining.
+fn add_own(text: &mut String, campaign: &Campaign) -> Result<(), Fail> {
+    if campaign.is_row_marked() {
+        text.push_str(", the campaign")?;
+    }
+    if campaign.things() < 2 {
+        return Err(Fail::new("money and people"));
+    }
+    if campaign.is_amount_marked(Entry::Joining, Thing::Money) {
+        text.push_str(", joining money")?;
+    }
+    if campaign.is_amount_marked(Entry::Joining, Thing::People) {
+        text.push_str(", joining people")?;
+    }
+    Ok(())
+}
+
+/// How many things are marked, and which.
+fn marks_text(alloc: Global, campaign: &Campaign) -> Result<String, Fail> {
+    let count = campaign.marks();
+    let mut text = format!(in alloc; "{count}")?;
+    add_lists(alloc, &mut text, campaign)?;
+    add_all_goods(alloc, &mut text, "item", campaign.marked_items())?;
+    add_all_goods(alloc, &mut text, "skill", campaign.marked_skills())?;
+    add_own(&mut text, campaign)?;
+    Ok(text)
+}
+
+/// A step, what is asked after it, the answer, and what is marked then.
+pub(crate) type Row = (Step, Ask, &'static str, &'static str);
+
+fn is_so_after(
+    rt: &impl Abort,
+    alloc: Global,
+    campaign: &mut Campaign,
+    place: usize,
+    row: &Row,
+) -> Result<(), Fail> {
+    let (step, ask, answer, marks) = *row;
+    does(alloc, campaign, step)?;
+    row_is_text(rt, place, text_of(alloc, campaign, ask)?.as_str(), answer);
+    row_is_text(rt, place, marks_text(alloc, campaign)?.as_str(), marks);
+    Ok(())
+}
+
+/// Makes the calls of a table one after another.
+pub(crate) fn goes(
+    rt: &impl Abort,
+    alloc: Global,
+    campaign: &mut Campaign,
+    rows: &[Row],
+) -> Result<(), Fail> {
+    for (place, row) in rows.iter().enumerate() {
+        is_so_after(rt, alloc, campaign, place, row)?;
+    }
+    Ok(())
+}
+
+/// The same, where before each call nothing is marked.
+pub(crate) fn goes_unmarked(
+    rt: &impl Abort,
+    alloc: Global,
+    campaign: &mut Campaign,
+    rows: &[Row],
+) -> Result<(), Fail> {
+    for (place, row) in rows.iter().enumerate() {
+        campaign.unmark();
+        is_so_after(rt, alloc, campaign, place, row)?;
+    }
+    Ok(())
+}

@@ -1,0 +1,182 @@
+//! Calls that change a campaign, as the rows of tables name them.
+use super::making::{is_begun, man_comes};
+use atl_state::{Campaign, Holding};
+use atl_tables::{Sequence, Text};
+use std::alloc::Global;
+use std::test::Fail;
+
+/// A call on a campaign; the numbers are those of a faction, a region, a unit and a structure.
+#[derive(Drop, Clone, Copy)]
+pub(crate) enum Step {
+    Nothing,
+    Unmark,
+    Month(u32),
+    ClearMail,
+    Faction(u32, OfFaction),
+    Region(u32, OfRegion),
+    Unit(u32, OfUnit),
+    Structure(u32, OfStructure),
+    /// A man of a faction comes, in the forest by the sea, and gets this number.
+    Comes(u32, u32),
+    /// A structure of a kind is begun there, without an owner, and gets this number.
+    Begins(u16, u32),
+}
+
+#[derive(Drop, Clone, Copy)]
+pub(crate) enum OfFaction {
+    Name(&'static str),
+    Gone,
+    Mail(&'static str),
+    Report(&'static str),
+}
+
+#[derive(Drop, Clone, Copy)]
+pub(crate) enum OfRegion {
+    Peasants(u32),
+    Money(u32),
+    /// An item, and how much of it is in stock.
+    Stock(u32, u32),
+}
+
+#[derive(Drop, Clone, Copy)]
+pub(crate) enum OfUnit {
+    Name(&'static str),
+    Men(u32),
+    Money(u32),
+    Guard(bool),
+    /// An item and its amount.
+    Item(u32, u32),
+    /// A skill and its days.
+    Days(u32, u32),
+    /// Money, by what is lent.
+    LentMoney(u32),
+    /// An item and its amount, by what is lent.
+    LentItem(u32, u32),
+    /// A region and a structure.
+    Place(u32, u32),
+    Remove,
+}
+
+#[derive(Drop, Clone, Copy)]
+pub(crate) enum OfStructure {
+    Name(&'static str),
+    Region(u32),
+    Done(u32),
+    Owner(u32),
+}
+
+fn changes_faction(
+    alloc: Global,
+    campaign: &mut Campaign,
+    faction: u32,
+    change: OfFaction,
+) -> Result<(), Fail> {
+    match change {
+        OfFaction::Name(name) => campaign.set_faction_name(faction, Text::from_str(alloc, name)?),
+        OfFaction::Gone => campaign.set_gone(faction),
+        OfFaction::Mail(text) => {
+            campaign.set_mail(faction, Sequence::from_slice(alloc, text.as_bytes())?)?;
+        }
+        OfFaction::Report(text) => campaign.set_report(faction, Text::from_str(alloc, text)?)?,
+    }
+    Ok(())
+}
+
+fn changes_region(campaign: &mut Campaign, region: u32, change: OfRegion) -> Result<(), Fail> {
+    match change {
+        OfRegion::Peasants(peasants) => campaign.set_peasants(region, peasants),
+        OfRegion::Money(money) => campaign.set_region_money(region, money),
+        OfRegion::Stock(item, amount) => campaign.set_stock(region, item, amount)?,
+    }
+    Ok(())
+}
+
+/// Changes what is lent of a unit, where it is there.
+fn changes_lent(lent: Option<&mut Holding>, change: OfUnit) -> Result<(), Fail> {
+    let Some(holding) = lent else {
+        return Ok(());
+    };
+    match change {
+        OfUnit::LentMoney(money) if money <= 999_999_999 => holding.set_money(money),
+        OfUnit::LentItem(item, amount) if amount <= 999_999_999 => {
+            holding.set_amount(item, amount)?;
+        }
+        _ => return Err(Fail::new("past a limit")),
+    }
+    Ok(())
+}
+
+fn changes_unit(
+    alloc: Global,
+    campaign: &mut Campaign,
+    unit: u32,
+    change: OfUnit,
+) -> Result<(), Fail> {
+    match change {
+        OfUnit::Name(name) => campaign.set_unit_name(unit, Text::from_str(alloc, name)?),
+        OfUnit::Men(men) if men <= 999_999 => campaign.set_men(unit, men),
+        OfUnit::Money(money) if money <= 999_999_999 => campaign.set_money(unit, money),
+        OfUnit::Guard(guard) => campaign.set_guard(unit, guard),
+        OfUnit::Item(item, amount) if amount <= 999_999_999 => {
+            campaign.set_item(unit, item, amount)?;
+        }
+        OfUnit::Days(skill, days) => campaign.set_days(unit, skill, days)?,
+        OfUnit::Place(region, structure) => campaign.place(unit, region, structure)?,
+        OfUnit::Remove => campaign.remove_unit(unit),
+        _ => changes_lent(campaign.unit_mut(unit), change)?,
+    }
+    Ok(())
+}
+
+fn changes_structure(
+    alloc: Global,
+    campaign: &mut Campaign,
+    structure: u32,
+    change: OfStructure,
+) -> Result<(), Fail> {
+    match change {
+        OfStructure::Name(name) => {
+            campaign.set_structure_name(structure, Text::from_str(alloc, name)?);
+        }
+        OfStructure::Region(region) => campaign.set_structure_region(structure, region),
+        OfStructure::Done(done) => campaign.set_done(structure, done),
+        OfStructure::Owner(owner) => campaign.set_owner(structure, owner),
+    }
+    Ok(())
+}
+
+/// Whether what comes gets the number that a step names.
+fn gets(told: u32, number: u32) -> Result<(), Fail> {
+    if told == number {
+        Ok(())
+    } else {
+        Err(Fail::new("another number"))
+    }
+}
+
+/// Makes the call that a step names.
+pub(crate) fn does(alloc: Global, campaign: &mut Campaign, step: Step) -> Result<(), Fail> {
+    match step {
+        Step::Nothing => (),
+        Step::Unmark => campaign.unmark(),
+        Step::Month(month) => campaign.set_month(month),
+        Step::ClearMail => campaign.clear_mail(),
+        Step::Faction(faction, change) => changes_faction(alloc, campaign, faction, change)?,
+        Step::Region(region, change) => changes_region(campaign, region, change)?,
+        Step::Unit(unit, change) => changes_unit(alloc, campaign, unit, change)?,
+        Step::Structure(structure, change) => {
+            changes_structure(alloc, campaign, structure, change)?;
+        }
+        Step::Comes(faction, number) => gets(man_comes(alloc, campaign, faction)?, number)?,
+        Step::Begins(kind, number) => gets(is_begun(alloc, campaign, kind)?, number)?,
+    }
+    Ok(())
+}
+
+/// Makes the calls of all steps, one after another.
+pub(crate) fn does_all(alloc: Global, campaign: &mut Campaign, steps: &[Step]) -> Result<(), Fail> {
+    for step in steps.iter() {
+        does(alloc, campaign, *step)?;
+    }
+    Ok(())
+}

@@ -1,0 +1,75 @@
+//! Worlds by their names, and campaigns of them.
+ghost use Rattle.std.specs.Prelude.{◌≤◌, length, IsTrue, IfOk};
+ghost use Rattle.atl_state.specs.Good.{IsGood};
+ghost use Rattle.atl_records.specs.Limits.{most_things};
+ghost use Rattle.atl_store.specs.Arriving.{HasArrival};
+
+use atl_state::{Campaign, founded};
+use atl_tables::{Text, World, read_world};
+use atl_test_worlds::{ISLE, ISLE_WITH_MARKET, ISLE_WITH_MARKETS, SMALL};
+use std::alloc::Global;
+use std::test::Fail;
+
+/// The text of a world, by the name that scripts give it; else a text that is no world.
+pub(crate) fn world_text(name: &str) -> &'static str {
+    match name {
+        "small" => SMALL,
+        "isle" => ISLE,
+        "isle with market" => ISLE_WITH_MARKET,
+        "isle with markets" => ISLE_WITH_MARKETS,
+        _ => "a = = b",
+    }
+}
+
+/// The campaign of a world as it is founded.
+fn founded_in(alloc: Global, world: &World) -> Result<Campaign, Fail>
+    ensures { IfOk result (λ campaign. IsGood world.now campaign.value) }
+{
+    Ok(founded(alloc, world, b"gm")?)
+}
+
+/// The campaign of a world text as it is founded.
+pub(crate) fn founded_by(alloc: Global, text: &str) -> Result<Campaign, Fail> {
+    let world = read_world(alloc, text)?;
+    founded_in(alloc, &world)
+}
+
+/// Avalon joins and gets its first report.
+fn welcome(alloc: Global, world: &World, campaign: &mut Campaign) -> Result<(), Fail>
+    requires { IsGood world.now campaign.old.value }
+{
+    campaign.join(world, b"Avalon", b"pw", 0)?;
+    let report = Text::from_str(alloc, "A report.\n")?;
+    campaign.set_report(1, report)?;
+    Ok(())
+}
+
+fn joined_in(alloc: Global, world: &World) -> Result<Campaign, Fail> {
+    let mut campaign = founded_in(alloc, world)?;
+    welcome(alloc, world, &mut campaign)?;
+    Ok(campaign)
+}
+
+/// The campaign of the small world once Avalon has joined and has its first report.
+pub(crate) fn joined(alloc: Global) -> Result<Campaign, Fail> {
+    let world = read_world(alloc, SMALL)?;
+    joined_in(alloc, &world)
+}
+
+/// Whether the books have no more things than a world can have, as a creation and a write ask.
+pub(crate) fn has_few_things(campaign: &Campaign) -> bool
+    ensures { IsTrue result → length campaign.now.value.books ≤ most_things }
+{
+    campaign.things() <= 202
+}
+
+/// Whether the first faction is there with its unit and its report, as the write of a join asks.
+pub(crate) fn has_arrived(campaign: &Campaign) -> bool
+    ensures { IsTrue result → HasArrival campaign.now.value 1 }
+{
+    campaign.things() >= 2
+        && campaign.next_unit() >= 1
+        && campaign.faction(1).is_some()
+        && campaign.report(1).is_some()
+        && campaign.unit(campaign.next_unit() - 1).is_some()
+}

@@ -1,0 +1,76 @@
+//! What a database holds, by statements of a person.
+use super::words::{done, text_of};
+use atl_test_worlds::month::ROWS;
+use sqlite::{Alter, Connection, params};
+use std::alloc::Global;
+use std::test::Fail;
+
+/// Statements are run by hand.
+pub(crate) fn run_statements<S: Alter>(
+    alloc: Global,
+    conn: &mut Connection<S>,
+    sql: &str,
+) -> Result<String, Fail> {
+    conn.execute_batch(sql)?;
+    done(alloc)
+}
+
+/// The isle gets two factions, eleven units and a boat.
+pub(crate) fn settle<S: Alter>(alloc: Global, conn: &mut Connection<S>) -> Result<String, Fail> {
+    run_statements(alloc, conn, ROWS)
+}
+
+/// The campaign's row gets another world text.
+pub(crate) fn set_world_text<S: Alter>(
+    alloc: Global,
+    conn: &mut Connection<S>,
+    world: &str,
+) -> Result<String, Fail> {
+    conn.execute("UPDATE campaign SET world = ?1", params![world])?;
+    done(alloc)
+}
+
+/// A statement may take no more than so many steps.
+pub(crate) fn limit_steps<S: Alter>(
+    alloc: Global,
+    conn: &mut Connection<S>,
+    limit: Option<u64>,
+) -> Result<String, Fail> {
+    conn.set_step_limit(limit);
+    done(alloc)
+}
+
+/// The number that a query answers.
+pub(crate) fn query_number<S: Alter>(
+    alloc: Global,
+    conn: &mut Connection<S>,
+    select: &str,
+) -> Result<String, Fail> {
+    let row = conn.query_row(select, &[])?;
+    let number: i64 = row.get(0)?;
+    text_of(alloc, number)
+}
+
+/// All rows of each table.
+static ALL_ROWS: [&str; 10] = [
+    "SELECT * FROM campaign ORDER BY id",
+    "SELECT * FROM faction ORDER BY number",
+    "SELECT * FROM region ORDER BY number",
+    "SELECT * FROM unit ORDER BY number",
+    "SELECT * FROM has ORDER BY unit, sort, thing",
+    "SELECT * FROM structure ORDER BY number",
+    "SELECT * FROM mail ORDER BY faction",
+    "SELECT * FROM report ORDER BY faction",
+    "SELECT * FROM books ORDER BY entry, thing",
+    "SELECT * FROM market ORDER BY region, item",
+];
+
+/// How many tables there are, and all rows of each table of a campaign, or that there is no such table.
+pub(crate) fn contents<S: Alter>(alloc: Global, conn: &mut Connection<S>) -> Result<String, Fail> {
+    let mut text = text_of(alloc, conn.schema().tables.len())?;
+    for select in ALL_ROWS.iter() {
+        let rows = conn.query_all(select, &[]);
+        text.push_str(&format!(in alloc; "\n{rows:?}")?)?;
+    }
+    Ok(text)
+}

@@ -1,0 +1,58 @@
+//! What the steps of a script share next to the connection.
+use super::campaigns::founded_by;
+use super::words::{done, yes_or_no};
+use atl_state::Campaign;
+use atl_tables::let_go;
+use atl_test_worlds::SMALL;
+use std::alloc::Global;
+use std::test::Fail;
+
+/// A campaign, and a text that a step kept for a later one to compare.
+pub(crate) struct Game {
+    pub campaign: Campaign,
+    pub kept: String,
+}
+
+impl Drop for Game {
+    fn drop(self) {
+        let_go!(self: Game { campaign, kept });
+    }
+}
+
+/// The campaign of the small world as it is founded, and no text.
+pub(crate) fn new_game(alloc: Global) -> Result<Game, Fail> {
+    let campaign = founded_by(alloc, SMALL)?;
+    Ok(Game {
+        campaign,
+        kept: String::new(alloc),
+    })
+}
+
+/// All rows of the campaign, written out.
+fn rows_of(alloc: Global, campaign: &Campaign) -> Result<String, Fail> {
+    let parts = campaign.parts()?;
+    Ok(format!(in alloc; "{parts:?}")?)
+}
+
+/// Keeps a text for a later step.
+pub(crate) fn keep(alloc: Global, game: &mut Game, text: String) -> Result<String, Fail> {
+    game.kept = text;
+    done(alloc)
+}
+
+/// Whether a text is the one that was kept.
+pub(crate) fn is_kept(alloc: Global, game: &Game, text: &str) -> Result<String, Fail> {
+    yes_or_no(alloc, game.kept.as_str() == text)
+}
+
+/// Keeps the rows of the campaign.
+pub(crate) fn keep_campaign(alloc: Global, game: &mut Game) -> Result<String, Fail> {
+    let rows = rows_of(alloc, &game.campaign)?;
+    keep(alloc, game, rows)
+}
+
+/// Whether the rows of the campaign are those that were kept.
+pub(crate) fn is_kept_campaign(alloc: Global, game: &Game) -> Result<String, Fail> {
+    let rows = rows_of(alloc, &game.campaign)?;
+    is_kept(alloc, game, rows.as_str())
+}

@@ -1,0 +1,165 @@
+//! The rows of each table, as the store reads them, as a line: the columns of a row with blanks between them, and commas
+//! between the rows.
+use super::campaigns::world_text;
+use super::words::text_of;
+use atl_state::parts::{
+    StoredBooks, StoredFaction, StoredHas, StoredMail, StoredMarket, StoredRegion, StoredReport,
+    StoredStructure, StoredUnit,
+};
+use atl_store::rows::campaign::StoredCampaign;
+use atl_store::rows::{Listed, Placed};
+use sqlite::{Alter, Connection};
+use std::alloc::{AllocError, Global};
+use std::test::Fail;
+
+/// A text in quotation marks, or the bytes of what is no UTF-8.
+fn quote(alloc: Global, bytes: &[u8]) -> Result<String, AllocError> {
+    match str::from_utf8(bytes) {
+        Ok(text) => format!(in alloc; "{text:?}"),
+        Err(_) => format!(in alloc; "{bytes:?}"),
+    }
+}
+
+/// A row that has a line.
+trait Line {
+    /// The columns with blanks between them, texts in quotation marks.
+    fn line(&self, alloc: Global) -> Result<String, AllocError>;
+}
+
+impl Line for StoredCampaign {
+    /// The world text is shown by its name.
+    fn line(&self, alloc: Global) -> Result<String, AllocError> {
+        let head = &self.head;
+        let pass = quote(alloc, head.pass.as_slice())?;
+        let is_small = self.world.as_str() == world_text("small");
+        let world = if is_small { "small" } else { "another world" };
+        let numbers = format!(in alloc; "{} {} {}", head.id, head.format, head.month)?;
+        let next = format!(in alloc;
+            "{} {} {}",
+            head.next_faction, head.next_unit, head.next_structure
+        )?;
+        format!(in alloc; "{numbers} {next} {pass} {world}")
+    }
+}
+
+impl Line for StoredFaction {
+    fn line(&self, alloc: Global) -> Result<String, AllocError> {
+        let joined_as = quote(alloc, self.joined_as.as_slice())?;
+        let name = quote(alloc, self.name.as_slice())?;
+        let pass = quote(alloc, self.pass.as_slice())?;
+        format!(in alloc; "{} {joined_as} {name} {pass} {}", self.number, self.gone)
+    }
+}
+
+impl Line for StoredRegion {
+    fn line(&self, alloc: Global) -> Result<String, AllocError> {
+        format!(in alloc; "{} {} {}", self.number, self.peasants, self.money)
+    }
+}
+
+impl Line for StoredUnit {
+    fn line(&self, alloc: Global) -> Result<String, AllocError> {
+        let name = quote(alloc, self.name.as_slice())?;
+        let place = format!(in alloc; "{} {}", self.region, self.structure)?;
+        let holding = format!(in alloc; "{} {} {}", self.men, self.money, self.guard)?;
+        format!(in alloc; "{} {} {name} {place} {holding}", self.number, self.faction)
+    }
+}
+
+impl Line for StoredHas {
+    fn line(&self, alloc: Global) -> Result<String, AllocError> {
+        format!(in alloc;
+            "{} {} {} {}",
+            self.unit, self.sort, self.thing, self.amount
+        )
+    }
+}
+
+impl Line for StoredStructure {
+    fn line(&self, alloc: Global) -> Result<String, AllocError> {
+        let name = quote(alloc, self.name.as_slice())?;
+        let work = format!(in alloc; "{} {} {}", self.region, self.done, self.owner)?;
+        format!(in alloc; "{} {} {name} {work}", self.number, self.kind)
+    }
+}
+
+impl Line for StoredMail {
+    fn line(&self, alloc: Global) -> Result<String, AllocError> {
+        let text = quote(alloc, self.text.as_slice())?;
+        format!(in alloc; "{} {text}", self.faction)
+    }
+}
+
+impl Line for StoredReport {
+    fn line(&self, alloc: Global) -> Result<String, AllocError> {
+        format!(in alloc; "{} {:?}", self.faction, self.text.as_str())
+    }
+}
+
+impl Line for StoredBooks {
+    fn line(&self, alloc: Global) -> Result<String, AllocError> {
+        format!(in alloc; "{} {} {}", self.entry, self.thing, self.amount)
+    }
+}
+
+impl Line for StoredMarket {
+    fn line(&self, alloc: Global) -> Result<String, AllocError> {
+        format!(in alloc; "{} {} {}", self.region, self.item, self.stock)
+    }
+}
+
+impl<T: Line> Line for Placed<T> {
+    fn line(&self, alloc: Global) -> Result<String, AllocError> {
+        self.row.line(alloc)
+    }
+}
+
+/// The lines of all rows, or `nothing` where there is none.
+fn lines<T: Line>(alloc: Global, rows: &[T]) -> Result<String, AllocError> {
+    if rows.is_empty() {
+        return String::from_str(alloc, "nothing");
+    }
+    let mut text = String::new(alloc);
+    for (index, row) in rows.iter().enumerate() {
+        if index > 0 {
+            text.push_str(", ")?;
+        }
+        text.push_str(row.line(alloc)?.as_str())?;
+    }
+    Ok(text)
+}
+
+/// The rows of a table, or the fault of their read.
+fn rows_of<T: Line + Listed, S: Alter>(
+    alloc: Global,
+    conn: &mut Connection<S>,
+) -> Result<String, Fail> {
+    if !conn.is_autocommit() {
+        return Err(Fail::new("a transaction is open"));
+    }
+    match T::read(alloc, conn) {
+        Ok(rows) => Ok(lines(alloc, &rows)?),
+        Err(fault) => text_of(alloc, fault),
+    }
+}
+
+/// The rows of a table by its name, or the fault of their read.
+pub(crate) fn read<S: Alter>(
+    alloc: Global,
+    conn: &mut Connection<S>,
+    table: &str,
+) -> Result<String, Fail> {
+    match table {
+        "campaign" => rows_of::<StoredCampaign, S>(alloc, conn),
+        "faction" => rows_of::<StoredFaction, S>(alloc, conn),
+        "region" => rows_of::<StoredRegion, S>(alloc, conn),
+        "unit" => rows_of::<StoredUnit, S>(alloc, conn),
+        "has" => rows_of::<Placed<StoredHas>, S>(alloc, conn),
+        "structure" => rows_of::<StoredStructure, S>(alloc, conn),
+        "mail" => rows_of::<StoredMail, S>(alloc, conn),
+        "report" => rows_of::<StoredReport, S>(alloc, conn),
+        "books" => rows_of::<Placed<StoredBooks>, S>(alloc, conn),
+        "market" => rows_of::<Placed<StoredMarket>, S>(alloc, conn),
+        _ => Err(Fail::new("a table")),
+    }
+}

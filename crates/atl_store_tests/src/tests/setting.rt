@@ -1,0 +1,121 @@
+//! Changes of a campaign, one for each step.
+use atl_state::{Campaign, Entry, HOLDING_LIMIT, Holding, Structure, Thing};
+use atl_tables::Text;
+use std::alloc::Global;
+use std::test::Fail;
+
+/// Up to three numbers with blanks between them; a number that isn't there is 0.
+pub(crate) fn numbers(text: &str) -> Result<[u32; 3], Fail> {
+    let mut all = [0; 3];
+    let mut words = text.split_whitespace();
+    for number in all.iter_mut() {
+        if let Some(word) = words.next() {
+            *number = word.parse::<u32>()?;
+        }
+    }
+    Ok(all)
+}
+
+/// Sets an amount that a unit has: `money 1 8` gives unit 1 the money 8, and `item 1 2 5` five of item 2.
+fn set_amount(
+    campaign: &mut Campaign,
+    what: &str,
+    [unit, first, second]: [u32; 3],
+) -> Result<(), Fail> {
+    if first > HOLDING_LIMIT || second > HOLDING_LIMIT {
+        return Err(Fail::new("an amount that fits"));
+    }
+    match what {
+        "money" => campaign.set_money(unit, first),
+        "item" => campaign.set_item(unit, first, second)?,
+        "days" => campaign.set_days(unit, first, second)?,
+        _ => return Err(Fail::new("what is set")),
+    }
+    Ok(())
+}
+
+/// Sets a number of the campaign: `peasants 1 77` gives region 1 so many peasants.
+pub(crate) fn set(campaign: &mut Campaign, text: &str) -> Result<(), Fail> {
+    let (what, rest) = text.split_once(' ').ok_or("what is set")?;
+    let [of, first, second] = numbers(rest)?;
+    match what {
+        "month" => campaign.set_month(of),
+        "peasants" => campaign.set_peasants(of, first),
+        "stock" => campaign.set_stock(of, first, second)?,
+        _ => set_amount(campaign, what, [of, first, second])?,
+    }
+    Ok(())
+}
+
+fn set_lent(holding: &mut Holding, what: &str, first: u32, second: u32) -> Result<(), Fail> {
+    if first > HOLDING_LIMIT {
+        return Err(Fail::new("an amount that fits"));
+    }
+    match what {
+        "nothing" => {}
+        "money" => holding.set_money(first),
+        "days" => holding.set_days(first, second)?,
+        "guard" => holding.set_guard(first == 1),
+        _ => return Err(Fail::new("what is set of a unit that is lent")),
+    }
+    Ok(())
+}
+
+/// Lends a unit, which is then written whole, and changes it: `days 3 1 30` gives unit 3 so many days of skill 1.
+pub(crate) fn lend(campaign: &mut Campaign, text: &str) -> Result<(), Fail> {
+    let (what, rest) = text.split_once(' ').ok_or("what is lent")?;
+    let [unit, first, second] = numbers(rest)?;
+    let Some(holding) = campaign.unit_mut(unit) else {
+        return Err(Fail::new("a unit"));
+    };
+    set_lent(holding, what, first, second)
+}
+
+/// Takes a unit away.
+pub(crate) fn remove(campaign: &mut Campaign, text: &str) -> Result<(), Fail> {
+    campaign.remove_unit(text.parse::<u32>()?);
+    Ok(())
+}
+
+/// Faction 1 gets another name.
+pub(crate) fn rename(alloc: Global, campaign: &mut Campaign, name: &str) -> Result<(), Fail> {
+    campaign.set_faction_name(1, Text::from_str(alloc, name)?);
+    Ok(())
+}
+
+/// Faction 1 gets another report of one line.
+pub(crate) fn report(alloc: Global, campaign: &mut Campaign, line: &str) -> Result<(), Fail> {
+    let text = Text::from_string(format!(in alloc; "{line}\n")?);
+    campaign.set_report(1, text)?;
+    Ok(())
+}
+
+/// A structure of the first kind is begun in region 1, of which 2 are done; unit 1 owns it.
+pub(crate) fn begin(alloc: Global, campaign: &mut Campaign, name: &str) -> Result<(), Fail> {
+    let name = Text::from_str(alloc, name)?;
+    if campaign.next_structure() != 1 || campaign.structure(1).is_some() {
+        return Err(Fail::new("a free number"));
+    }
+    let _number = campaign.begin_structure(Structure {
+        kind: 0,
+        name,
+        region: 1,
+        done: 2,
+        owner: 1,
+    })?;
+    Ok(())
+}
+
+/// Books an amount of money as income.
+pub(crate) fn book(campaign: &mut Campaign, text: &str) -> Result<(), Fail> {
+    let amount = text.parse::<i64>()?;
+    if campaign.things() < 2 {
+        return Err(Fail::new("money"));
+    }
+    let booked = campaign.booked(Entry::Income, Thing::Money);
+    if booked.checked_add(amount).is_none() {
+        return Err(Fail::new("an amount that fits"));
+    }
+    campaign.book(Entry::Income, Thing::Money, amount);
+    Ok(())
+}

@@ -1,0 +1,31 @@
+//! Answers in words.
+use std::alloc::Global;
+use std::fmt::Display;
+use std::test::Fail;
+
+/// The answer of a call that was done.
+pub(crate) fn done(alloc: Global) -> Result<String, Fail> {
+    Ok(String::from_str(alloc, "Done")?)
+}
+
+/// `yes` or `no`.
+pub(crate) fn yes_or_no(alloc: Global, is_so: bool) -> Result<String, Fail> {
+    let word = if is_so { "yes" } else { "no" };
+    Ok(String::from_str(alloc, word)?)
+}
+
+/// The text of a number, or of a fault.
+pub(crate) fn text_of<D: Display + Drop>(alloc: Global, value: D) -> Result<String, Fail> {
+    Ok(format!(in alloc; "{value}")?)
+}
+
+/// `Done`, or the fault.
+pub(crate) fn done_or_fault<E: Display + Drop>(
+    alloc: Global,
+    outcome: Result<(), E>,
+) -> Result<String, Fail> {
+    match outcome {
+        Ok(()) => done(alloc),
+        Err(fault) => text_of(alloc, fault),
+    }
+}
