@@ -9,7 +9,7 @@ tests/believe.py --check    sees that each name has its definition, that nothing
                             are there
 
 It follows names and not files, so a definition that nothing cites isn't printed. The definitions of the kit are listed by name alone."""
-import glob, os, re, signal, sys
+import glob, itertools, os, re, signal, sys
 
 sys.dont_write_bytecode = True
 
@@ -137,7 +137,7 @@ class Contract:
         at = next(at for at, line in enumerate(lines) if re.match(rf"\s*pub fn {CALL}\b", line))
         end = next(end for end in range(at, len(lines)) if lines[end].strip() == "{")
         inside = max(begin for begin in range(at) if lines[begin].startswith("impl"))
-        head = [line for line in lines[at:end] if not re.match(r"\s*(requires|ensures)\b", line)]
+        head = list(itertools.takewhile(lambda line: not re.match(r"\s*(requires|ensures)\b", line), lines[at:end]))
         self.place = f"{SERVICE}:{at + 1} {CALL}"
         self.imports = code.ghost_uses([line for line in lines if line.startswith("ghost")] + lines[inside:at])
         self.clauses = {clause: clause_of(lines[at:end], clause) for clause in CLAUSES}
