@@ -19,20 +19,20 @@ use Rattle.atl_action.specs.Learners.{IsLearning, Learning, UnitsLearnByOrders, 
 module _ (w : WorldValue) (c : CampaignValue) where
   -- what is so of a unit and a skill wherever an order has it learn that
   abbrev IfLearns : (ℕ → ℕ → Type 0) → Task → Type 0
-  IfLearns P t = (s : ℕ) → skill_of t.said ≡ Some s → learns w s t.faction (get c.units t.unit) ≡ true → P t.unit s
+  IfLearns P t = (s : ℕ) → skill_of t.order_value.operands ≡ Some s → learns w s t.faction (get c.units t.unit) ≡ true → P t.unit s
 
   -- with the unit of an order by which it learns a skill, or nothing
   abbrev with_skill : Learning → Task → Option ℕ → Learning
   with_skill learning t skill = option_map_or (λ s. if learns w s t.faction (get c.units t.unit) then insert learning t.unit s else learning) skill learning
 
   only_one : (P : ℕ → ℕ → Type 0) (t : Task) (learning : Learning) → IfLearns P t → Every P learning → Every P (with_learner w c learning t)
-  only_one P t learning so old = by_skill (skill_of t.said) refl
+  only_one P t learning so old = by_skill (skill_of t.order_value.operands) refl
     where
-      by_test : (s : ℕ) → skill_of t.said ≡ Some s → (b : Bool) → learns w s t.faction (get c.units t.unit) ≡ b → Every P (if b then insert learning t.unit s else learning)
+      by_test : (s : ℕ) → skill_of t.order_value.operands ≡ Some s → (b : Bool) → learns w s t.faction (get c.units t.unit) ≡ b → Every P (if b then insert learning t.unit s else learning)
       by_test s says true can = every-insert P learning t.unit s (so s says can) old
       by_test s says false can = old
 
-      by_skill : (o : Option ℕ) → skill_of t.said ≡ o → Every P (with_skill learning t o)
+      by_skill : (o : Option ℕ) → skill_of t.order_value.operands ≡ o → Every P (with_skill learning t o)
       by_skill None says = old
       by_skill (Some s) says = by_test s says (learns w s t.faction (get c.units t.unit)) refl
 
@@ -49,7 +49,7 @@ module _ (w : WorldValue) (c : CampaignValue) where
       by_test false is = (x, get-insert nat_cmp_total learning k s n ∙ ap (λ b. cond b (Some s) (get learning n)) is ∙ there)
 
   kept_one : (t : Task) (learning : Learning) (n : ℕ) → IsThere learning n → IsThere (with_learner w c learning t) n
-  kept_one t learning n there = by_skill (skill_of t.said)
+  kept_one t learning n there = by_skill (skill_of t.order_value.operands)
     where
       by_test : (s : ℕ) (b : Bool) → IsThere (if b then insert learning t.unit s else learning) n
       by_test s true = there-insert learning t.unit s n there

@@ -11,37 +11,37 @@ use Rattle.atl_state.specs.Campaign.{CampaignValue}
 use Rattle.atl_instant.specs.Month.{Aliases, MonthValue}
 use Rattle.atl_instant.specs.Inside.{region_of}
 use Rattle.atl_instant.specs.PhaseOrders.{Task, orders_of, unit_of}
-use Rattle.atl_instant.specs.declared.written.Arrangement.TheVariants.{ByUnit}
-use Rattle.atl_instant.specs.Dealing.{dealt}
+use Rattle.atl_instant.specs.declared.phase_order.Arrangement.TheVariants.{ByUnit}
+use Rattle.atl_instant.specs.InTurn.{amount_in_turn}
 use Rattle.atl_action.specs.Learners.{Learning}
-use Rattle.atl_action.specs.Limits.{places_each}
-use Rattle.atl_action.specs.Teach.{AreTaughtOnce, NobodyIsTaughtTwice, Taught, first_mentions, is_below, is_pupil, is_teaching, lesson, listed, men_at, taught_out, teach, teach_fault, teach_order, untaught}
+use Rattle.atl_action.specs.Limits.{pupils_per_teacher}
+use Rattle.atl_action.specs.Teach.{AreTaughtOnce, NobodyIsTaughtTwice, TaughtMen, after_lessons, first_mentions, is_below, is_pupil, is_teaching, lesson, listed_units, men_at, teach, teach_fault, teach_order, untaught_men}
 
 module _ (c : CampaignValue) where
-  once_lesson : (taught : Taught) (places : ℕ) (ns : List ℕ) → AreTaughtOnce c taught → AreTaughtOnce c (lesson c taught places ns).0
+  once_lesson : (taught : TaughtMen) (places : ℕ) (ns : List ℕ) → AreTaughtOnce c taught → AreTaughtOnce c (lesson c taught places ns).0
   once_lesson taught places ns old n =
-      few (list_any (λ k. n == k) ns) (men_at c n) (taught n) places (sum_by (untaught c taught) (before_first (λ k. n == k) ns)) (old n)
+      few (list_any (λ k. n == k) ns) (men_at c n) (taught n) places (sum_by (untaught_men c taught) (before_first (λ k. n == k) ns)) (old n)
     where
-      few : (b : Bool) (men had places before : ℕ) → had ≤ men → had + (if b then dealt places before (men - had) else 0) ≤ men
+      few : (b : Bool) (men had places before : ℕ) → had ≤ men → had + (if b then amount_in_turn places before (men - had) else 0) ≤ men
       few true men had places before l = omega (arith, l)
       few false men had places before l = omega (arith, l)
 
-  once_taught : (aliases : Aliases) (learning : Learning) (taught : Taught) (t : Task) → AreTaughtOnce c taught → AreTaughtOnce c (teach c aliases learning taught t).0
+  once_taught : (aliases : Aliases) (learning : Learning) (taught : TaughtMen) (t : Task) → AreTaughtOnce c taught → AreTaughtOnce c (teach c aliases learning taught t).0
   unfolding teach
   once_taught aliases learning taught t old =
-      let pupils = filter (is_pupil c learning (region_of c t.unit)) (map (unit_of aliases t.faction) (listed t.said)) in
+      let pupils = filter (is_pupil c learning (region_of c t.unit)) (map (unit_of aliases t.faction) (listed_units t.order_value.operands)) in
       let below = filter (is_below c learning t.unit) pupils in
       by_fault (first_mentions below) (teach_fault c t pupils below)
     where
       by_fault : (ns : List ℕ) (o : Option EventFault)
-          → AreTaughtOnce c (option_map_or (λ fault. (taught, Fault (event_fault_number fault))) o (lesson c taught (places_each * men_at c t.unit) ns)).0
+          → AreTaughtOnce c (option_map_or (λ fault. (taught, Fault (event_fault_number fault))) o (lesson c taught (pupils_per_teacher * men_at c t.unit) ns)).0
       by_fault ns (Some fault) = old
-      by_fault ns None = once_lesson taught (places_each * men_at c t.unit) ns old
+      by_fault ns None = once_lesson taught (pupils_per_teacher * men_at c t.unit) ns old
 
-  once_all : (learning : Learning) (ts : List Task) (p : Taught × MonthValue) → AreTaughtOnce c p.0 → AreTaughtOnce c (fold (teach_order c learning) p ts).0
+  once_all : (learning : Learning) (ts : List Task) (p : TaughtMen × MonthValue) → AreTaughtOnce c p.0 → AreTaughtOnce c (fold (teach_order c learning) p ts).0
   once_all learning [] p old = old
   once_all learning (t ∷ ts) p old = once_all learning ts (teach_order c learning p t) (once_taught p.1.aliases learning p.0 t old)
 
 pub nobody_twice : NobodyIsTaughtTwice
-unfolding taught_out
+unfolding after_lessons
 nobody_twice c learning m = once_all c learning (values (orders_of is_teaching ByUnit m.aliases m.readings)) ((λ n. 0), m) (λ n. omega arith)

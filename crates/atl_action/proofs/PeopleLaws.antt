@@ -10,9 +10,9 @@ use Rattle.atl_records.specs.declared.books.Thing.TheVariants.{Item, Money, Peop
 use Rattle.atl_records.specs.declared.records.Region.{Region}
 use Rattle.atl_records.specs.declared.records.Unit.{Unit}
 use Rattle.atl_state.specs.Good.{guards}
-use Rattle.atl_records.specs.Held.{amount_of}
+use Rattle.atl_records.specs.Holdings.{amount_of}
 use Rattle.atl_state.specs.Campaign.{CampaignValue, numbers_inside, numbers_of}
-use Rattle.atl_records.specs.Amounts.{held, kept}
+use Rattle.atl_records.specs.Amounts.{region_amount, unit_amount}
 use Rattle.atl_state.specs.Totals.{total}
 use Rattle.atl_state.proofs.InsideLaws.{inside_as_before}
 use Rattle.atl_state.proofs.RegionLaws.{same_len}
@@ -23,7 +23,7 @@ use Rattle.atl_action.proofs.TravelLaws.{IsSameUnit}
 pub record AreSamePeople (before after : FinMap nat_cmp Unit) : Type 0 where
   pub count : len after ≡ len before
   pub of_factions : (m : ℕ) → numbers_of m after ≡ numbers_of m before
-  pub hold : (t : Thing) → sum_over (λ (x : Unit). held t x.holding) after ≡ sum_over (λ (x : Unit). held t x.holding) before
+  pub hold : (t : Thing) → sum_over (λ (x : Unit). unit_amount t x.holding) after ≡ sum_over (λ (x : Unit). unit_amount t x.holding) before
 
 pub people_same : (m : FinMap nat_cmp Unit) → AreSamePeople m m
 people_same m = record { count = refl; of_factions = λ k. refl; hold = λ t. refl }
@@ -31,7 +31,7 @@ people_same m = record { count = refl; of_factions = λ k. refl; hold = λ t. re
 pub people_twice : (a b c : FinMap nat_cmp Unit) → AreSamePeople a b → AreSamePeople b c → AreSamePeople a c
 people_twice a b c one two = record { count = two.count ∙ one.count; of_factions = λ k. two.of_factions k ∙ one.of_factions k; hold = λ t. two.hold t ∙ one.hold t }
 
-held_same : (u v : Unit) → IsSameUnit u v → (t : Thing) → held t v.holding ≡ held t u.holding
+held_same : (u v : Unit) → IsSameUnit u v → (t : Thing) → unit_amount t v.holding ≡ unit_amount t u.holding
 held_same u v same Money = same.money
 held_same u v same People = same.men
 held_same u v same (Item i) = ap (λ items. amount_of items i) same.items
@@ -46,7 +46,7 @@ module _ (f : Unit → Unit) (same : (u : Unit) → IsSameUnit u (f u)) (m : Fin
     count = same_len m k u (f u) is;
     of_factions = λ j. numbers_where-insert_known (λ x. x.faction == j) m k u (f u) is (ap (λ i. i == j) (sym (same u).faction));
     hold = λ t.
-        let stock = λ (x : Unit). held t x.holding in
+        let stock = λ (x : Unit). unit_amount t x.holding in
         cancelled (sum_over stock (insert m k (f u))) (sum_over stock m) (stock u) (stock (f u)) (sum_over-insert_known stock m k u (f u) is) (held_same u (f u) (same u) t);
   }
 
@@ -112,5 +112,5 @@ module _ (structure to : ℕ) where
 pub total_people : (c d : CampaignValue) → AreSamePeople c.units d.units → d.regions ≡ c.regions → (t : Thing) → total d t ≡ total c t
 unfolding total
 total_people c d people regions t =
-    let keep = λ (r : Region). kept t r in
-    ap (λ m. sum_over (λ (x : Unit). held t x.holding) d.units + sum_over keep m) regions ∙ ap (λ n. n + sum_over keep c.regions) (people.hold t)
+    let keep = λ (r : Region). region_amount t r in
+    ap (λ m. sum_over (λ (x : Unit). unit_amount t x.holding) d.units + sum_over keep m) regions ∙ ap (λ n. n + sum_over keep c.regions) (people.hold t)

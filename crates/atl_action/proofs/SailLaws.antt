@@ -14,8 +14,8 @@ use Rattle.atl_tables.specs.declared.world.RegionPlan.{RegionPlan}
 use Rattle.atl_tables.specs.declared.direction.Direction.{Direction}
 use Rattle.atl_tables.specs.ByNumber.{is_land_at, neighbour, size_of}
 use Rattle.atl_tables.proofs.GeneralLaws.{is_equal, is_unequal}
-use Rattle.atl_orders.specs.declared.order.Order.TheVariants as orders
-use Rattle.atl_orders.specs.Orders.{Said}
+use Rattle.atl_orders.specs.declared.order.Operands.TheVariants as operands
+use Rattle.atl_orders.specs.Orders.{OperandsValue}
 use Rattle.atl_records.specs.declared.event.EventFault.{EventFault}
 use Rattle.atl_records.specs.declared.event.EventFault.TheVariants.{NoCrew, NoMen, NotComplete, NotInside, NotOwner, NoWay, TooHeavy}
 use Rattle.atl_records.specs.declared.event.Outcome.{Outcome}
@@ -25,29 +25,29 @@ use Rattle.atl_records.specs.declared.records.Unit.{Unit}
 use Rattle.atl_records.specs.Events.{event_fault_number}
 use Rattle.atl_records.specs.Every.{Every, IsThere}
 use Rattle.atl_state.specs.Good.{IsOwned, IsSteady, is_ship}
-use Rattle.atl_records.specs.Held.{Held}
+use Rattle.atl_records.specs.Holdings.{HoldingValue}
 use Rattle.atl_records.specs.Levels.{load_of}
-use Rattle.atl_state.specs.Owners.{handed, heir, is_owned_by, placed, with_place, with_place_at}
+use Rattle.atl_state.specs.Owners.{after_handover, heir, is_owned_by, placed, with_place, with_place_at}
 use Rattle.atl_state.specs.Campaign.{CampaignValue, numbers_inside, with_guard, with_structure_region}
 use Rattle.atl_records.proofs.EveryLaws.{none_some, other_number}
 use Rattle.atl_state.proofs.InsideLaws.{inside_is_listed, is_no_zero, listed_is_inside}
 use Rattle.atl_state.proofs.NumberListLaws.{IsListed}
-use Rattle.atl_instant.specs.declared.written.Arrangement.TheVariants.{ByUnit}
+use Rattle.atl_instant.specs.declared.phase_order.Arrangement.TheVariants.{ByUnit}
 use Rattle.atl_instant.specs.Month.{MonthValue}
 use Rattle.atl_instant.specs.Inside.{inside}
 use Rattle.atl_instant.specs.Outcomes.{first_fault, unless}
 use Rattle.atl_instant.specs.PhaseOrders.{Task, orders_of}
-use Rattle.atl_instant.specs.Steps.{IsOrderly, IsSpared, IsSparing, StepsWell, carried, carried_out, done_for, of_faction, one_order, ordered, spares_others}
+use Rattle.atl_instant.specs.OrderEffects.{IsOrderly, IsUnaffected, IsUnaffectedRelation, StepsWell, effect_on, faction_effect, meaning_by_orders, of_faction, one_order, order_result, spares_others}
 use Rattle.atl_instant.specs.Unbooked.{books_nothing, moves_nothing}
 use Rattle.atl_instant.proofs.MeaningLaws.{same_month_by}
 use Rattle.atl_instant.proofs.OutcomeLaws.{false_true, none_fits}
 use Rattle.atl_instant.proofs.RefitLaws.{under}
 use Rattle.atl_instant.proofs.StructureLaws.{at_number, changed_else, equal, get-changed, len-changed}
-use Rattle.atl_instant.proofs.StepLaws.{carried_cases, well_same}
-use Rattle.atl_instant.specs.Staying.{IsUnchanged}
+use Rattle.atl_instant.proofs.OrderEffectLaws.{carried_cases, well_same}
+use Rattle.atl_instant.specs.NoWorse.{IsUnchanged}
 use Rattle.atl_instant.proofs.UnbookedLaws.{stays_well}
-use Rattle.atl_action.specs.Sail.{AreCarried, IsCarried, SailsWith, capacity, concerns_nobody, crew_needed, crew_of, is_complete_ship, is_sailing, is_way, sail, sail_fault, sail_said, sail_step, sail_terms, sailed, sum_inside, taken_along}
-use Rattle.atl_action.specs.Ways.{is_region}
+use Rattle.atl_action.specs.Sail.{AreAtMostMoved, IsAtMostMoved, SailsWith, after_sailing, capacity, concerns_nobody, crew_needed, crew_of, is_complete_ship, is_sailing, is_way, sail, sail_effect, sail_fault, sail_spec, sail_step, sum_inside, with_unit_aboard}
+use Rattle.atl_action.specs.Regions.{is_region}
 use Rattle.atl_action.proofs.PeopleLaws.{AreSamePeople, elsewhere, elsewhere_at, elsewhere_inside, elsewhere_people, gone_if, gone_same, guards_stay, people_same, people_twice, total_people}
 use Rattle.atl_action.proofs.TravelLaws.{AreTravelled, IsPut, IsSameStructure, steady-travelled, travelled}
 
@@ -55,7 +55,7 @@ abbrev structure_in : Option Unit → ℕ
 structure_in o = option_map_or (λ (x : Unit). x.structure) o 0
 
 -- what a unit counts, 0 where there is none
-abbrev of_unit : (Held → ℕ) → Option Unit → ℕ
+abbrev of_unit : (HoldingValue → ℕ) → Option Unit → ℕ
 of_unit f o = option_map_or (λ (x : Unit). f x.holding) o 0
 
 -- ---- lists of units
@@ -107,11 +107,11 @@ module _ (ship to : ℕ) where
   abbrev IsInside : FinMap nat_cmp Unit → ℕ → Type 0
   IsInside m n = (v : Unit) × (get m n ≡ Some v) × (v.structure ≡ ship)
 
-  one_is : (d : CampaignValue) (n : ℕ) (v : Unit) → get d.units n ≡ Some v → v.structure ≡ ship → taken_along ship to d n ≡ record d { units = elsewhere ship to d.units n }
+  one_is : (d : CampaignValue) (n : ℕ) (v : Unit) → get d.units n ≡ Some v → v.structure ≡ ship → with_unit_aboard ship to d n ≡ record d { units = elsewhere ship to d.units n }
   unfolding with_place
   one_is d n v is here =
       ap (λ o. with_guard (with_place_at d n to ship o) n false) is
-      ∙ ap (λ b. with_guard (if b then placed d n to ship else handed (handed (placed d n to ship) v.structure n (heir d v.structure n)) ship 0 n) n false) (equal v.structure ship here)
+      ∙ ap (λ b. with_guard (if b then placed d n to ship else after_handover (after_handover (placed d n to ship) v.structure n (heir d v.structure n)) ship 0 n) n false) (equal v.structure ship here)
 
   still_inside : (m : FinMap nat_cmp Unit) (n k : ℕ) → IsInside m k → IsInside (elsewhere ship to m n) k
   still_inside m n k (v, there, here) = (gone_if ship to (k == n) v, elsewhere_at ship to m n k ∙ ap (option_map (gone_if ship to (k == n))) there, by_test (k == n))
@@ -124,11 +124,11 @@ module _ (ship to : ℕ) where
   still_all m n [] all = tt
   still_all m n (k ∷ ns) all = (still_inside m n k all.0, still_all m n ns all.1)
 
-  all_is : (d : CampaignValue) (ns : List ℕ) → AllByRecursion (IsInside d.units) ns → fold (taken_along ship to) d ns ≡ record d { units = fold (elsewhere ship to) d.units ns }
+  all_is : (d : CampaignValue) (ns : List ℕ) → AllByRecursion (IsInside d.units) ns → fold (with_unit_aboard ship to) d ns ≡ record d { units = fold (elsewhere ship to) d.units ns }
   all_is d [] all = refl
   all_is d (n ∷ ns) all =
       let (v, there, here) = all.0 in
-      ap (λ e. fold (taken_along ship to) e ns) (one_is d n v there here) ∙ all_is (record d { units = elsewhere ship to d.units n }) ns (still_all d.units n ns all.1)
+      ap (λ e. fold (with_unit_aboard ship to) e ns) (one_is d n v there here) ∙ all_is (record d { units = elsewhere ship to d.units n }) ns (still_all d.units n ns all.1)
 
   all_inside : (q : ℕ) (m : FinMap nat_cmp Unit) (ns : List ℕ) → AllByRecursion (IsInside m) ns → numbers_inside q (fold (elsewhere ship to) m ns) ≡ numbers_inside q m
   all_inside q m [] all = refl
@@ -163,8 +163,8 @@ module _ (w : WorldValue) (c : CampaignValue) (ship to : ℕ) (steady : IsSteady
   is_inside : (k : ℕ) → IsListed k ns → IsInside ship to c.units k
   is_inside k listed = listed_is_inside ship c.units k listed
 
-  sailed_is : sailed c ship to ≡ behind
-  unfolding sailed
+  sailed_is : after_sailing c ship to ≡ behind
+  unfolding after_sailing
   sailed_is = ap (λ d. with_structure_region d ship to) (all_is ship to c ns (all_listed (IsInside ship to c.units) ns is_inside))
 
   some_ship : ship ≢ 0
@@ -267,7 +267,7 @@ module _ (w : WorldValue) (c : CampaignValue) (ship to : ℕ) (steady : IsSteady
       guarding = λ k v there. guards_stay ship to (v.structure == ship) v;
     }
 
-    pub sailed_well : StepsWell IsSteady books_nothing w c (sailed c ship to)
+    pub sailed_well : StepsWell IsSteady books_nothing w c (after_sailing c ship to)
     sailed_well =
         subst (StepsWell IsSteady books_nothing w c) (sym sailed_is)
         (stays_well IsSteady w c behind (steady-travelled w c units structures f g are steady)
@@ -275,7 +275,7 @@ module _ (w : WorldValue) (c : CampaignValue) (ship to : ℕ) (steady : IsSteady
 
   -- ---- what stays of each unit
 
-  carried_by : (v : Unit) (b : Bool) → (v.structure == ship) ≡ b → IsCarried v (gone_if ship to b v)
+  carried_by : (v : Unit) (b : Bool) → (v.structure == ship) ≡ b → IsAtMostMoved v (gone_if ship to b v)
   carried_by v true t =
       let here : v.structure ≡ ship = is_equal v.structure ship t in
       record {
@@ -292,13 +292,13 @@ module _ (w : WorldValue) (c : CampaignValue) (ship to : ℕ) (steady : IsSteady
       }
   carried_by v false t = record { faction = refl; structure = refl; region = λ none. refl; name = refl; guard = λ none. refl; no_flag = λ off. off; men = omega arith; money = omega arith; items = λ i. omega arith; days = λ s. omega arith }
 
-  pub sailed_spares : (k : ℕ) (v : Unit) → get c.units k ≡ Some v → IsSpared IsCarried (sailed c ship to) k v
+  pub sailed_spares : (k : ℕ) (v : Unit) → get c.units k ≡ Some v → IsUnaffected IsAtMostMoved (after_sailing c ship to) k v
   sailed_spares k v there =
-      subst (λ d. IsSpared IsCarried d k v) (sym sailed_is)
+      subst (λ d. IsUnaffected IsAtMostMoved d k v) (sym sailed_is)
       (record { unit = f k v; there = units_at k ∙ ap (option_map (f k)) there; spared = carried_by v (v.structure == ship) refl })
 
   -- everybody stays inside what it was inside
-  pub sailed_inside : (k : ℕ) → inside (sailed c ship to) k ≡ inside c k
+  pub sailed_inside : (k : ℕ) → inside (after_sailing c ship to) k ≡ inside c k
   sailed_inside k = ap (λ d. inside d k) sailed_is ∙ ap structure_in (units_at k) ∙ by_unit (get c.units k)
     where
       by_unit : (o : Option Unit) → structure_in (option_map (f k) o) ≡ structure_in o
@@ -306,25 +306,25 @@ module _ (w : WorldValue) (c : CampaignValue) (ship to : ℕ) (steady : IsSteady
       by_unit (Some v) = inside_same k v
 
   -- who isn't inside the ship stays as it is
-  sailed_same : (k : ℕ) → inside c k ≢ ship → get (sailed c ship to).units k ≡ get c.units k
+  sailed_same : (k : ℕ) → inside c k ≢ ship → get (after_sailing c ship to).units k ≡ get c.units k
   sailed_same k apart = ap (λ d. get d.units k) sailed_is ∙ units_at k ∙ by_unit (get c.units k) apart
     where
       by_unit : (o : Option Unit) → structure_in o ≢ ship → option_map (f k) o ≡ o
       by_unit None apart = refl
       by_unit (Some v) apart = ap (λ b. Some (gone_if ship to b v)) (other_number v.structure ship apart)
 
-  sailed_structure : (q : ℕ) → q ≢ ship → get (sailed c ship to).structures q ≡ get c.structures q
+  sailed_structure : (q : ℕ) → q ≢ ship → get (after_sailing c ship to).structures q ≡ get c.structures q
   sailed_structure q apart = ap (λ d. get d.structures q) sailed_is ∙ at_other q apart
 
-  sailed_list : (q : ℕ) → numbers_inside q (sailed c ship to).units ≡ numbers_inside q c.units
+  sailed_list : (q : ℕ) → numbers_inside q (after_sailing c ship to).units ≡ numbers_inside q c.units
   sailed_list q = ap (λ d. numbers_inside q d.units) sailed_is ∙ all_inside ship to q c.units ns (all_listed (IsInside ship to c.units) ns is_inside)
 
 -- ---- an order
 
-carried_same : (v : Unit) → IsCarried v v
+carried_same : (v : Unit) → IsAtMostMoved v v
 carried_same v = record { faction = refl; structure = refl; region = λ none. refl; name = refl; guard = λ none. refl; no_flag = λ off. off; men = omega arith; money = omega arith; items = λ i. omega arith; days = λ s. omega arith }
 
-carried_twice : (u v x : Unit) → IsCarried u v → IsCarried v x → IsCarried u x
+carried_twice : (u v x : Unit) → IsAtMostMoved u v → IsAtMostMoved v x → IsAtMostMoved u x
 carried_twice u v x one two = record {
   faction = two.faction ∙ one.faction;
   structure = two.structure ∙ one.structure;
@@ -338,7 +338,7 @@ carried_twice u v x one two = record {
   days = λ s. omega (arith, one.days s, two.days s);
 }
 
-carried_spares : IsSparing IsCarried
+carried_spares : IsUnaffectedRelation IsAtMostMoved
 carried_spares = record { same = carried_same; again = carried_twice; faction = λ u v h. h.faction }
 
 region_there : (w : WorldValue) (r : ℕ) → is_region w r ≡ true → IsThere w.regions r
@@ -354,18 +354,18 @@ way_there w from (Some r) t = region_there w r (and_parts (is_region w r) (not (
 
 -- what is so of the campaign as it is, and of that in which a whole ship has gone, is so of the campaign behind the order
 sail_cases : (P : CampaignValue × Outcome → Type 0) (w : WorldValue) (c : CampaignValue) (n : ℕ) (u : Unit) (direction : Direction) → ((outcome : Outcome) → P (c, outcome))
-    → ((to : ℕ) (x : Structure) → get c.structures u.structure ≡ Some x → is_ship w x ≡ true → x.done ≡ size_of w x.kind → IsThere w.regions to → P (sailed c u.structure to, Done 0)) → P (sail w n direction c u)
+    → ((to : ℕ) (x : Structure) → get c.structures u.structure ≡ Some x → is_ship w x ≡ true → x.done ≡ size_of w x.kind → IsThere w.regions to → P (after_sailing c u.structure to, Done 0)) → P (sail w n direction c u)
 unfolding sail
 sail_cases P w c n u direction same gone_off =
     by_fault (neighbour w u.region direction) (sail_fault w c n u (get c.structures u.structure) (neighbour w u.region direction)) refl
   where
-    by_ship : (to : Option ℕ) (o : Option Structure) → get c.structures u.structure ≡ o → not (is_complete_ship w o) ≡ false → not (is_way w u.region to) ≡ false → P (sailed c u.structure (unwrap_or to 0), Done 0)
+    by_ship : (to : Option ℕ) (o : Option Structure) → get c.structures u.structure ≡ o → not (is_complete_ship w o) ≡ false → not (is_way w u.region to) ≡ false → P (after_sailing c u.structure (unwrap_or to 0), Done 0)
     by_ship to None at whole way = false_true (sym whole)
     by_ship to (Some x) at whole way =
         let parts = and_parts (is_ship w x) (x.done == size_of w x.kind) (not-false (is_complete_ship w (Some x)) whole) in
         gone_off (unwrap_or to 0) x at parts.0 (is_equal x.done (size_of w x.kind) parts.1) (way_there w u.region to way)
 
-    by_fault : (to : Option ℕ) (o : Option EventFault) → sail_fault w c n u (get c.structures u.structure) to ≡ o → P (unless c o (sailed c u.structure (unwrap_or to 0), Done 0))
+    by_fault : (to : Option ℕ) (o : Option EventFault) → sail_fault w c n u (get c.structures u.structure) to ≡ o → P (unless c o (after_sailing c u.structure (unwrap_or to 0), Done 0))
     by_fault to (Some fault) e = same (Fault (event_fault_number fault))
     by_fault to None e =
         let ship = get c.structures u.structure in
@@ -386,28 +386,28 @@ sail_well w c n u direction steady =
     sail_cases (λ p. StepsWell IsSteady books_nothing w c p.0) w c n u direction (λ outcome. well_same w c steady)
     (λ to x at floats whole there. sailed_well w c u.structure to steady x at floats whole ((steady.known.regions to).1 there))
 
-sail_spares : (w : WorldValue) (c : CampaignValue) (n : ℕ) (u : Unit) (direction : Direction) → IsSteady w c → (k : ℕ) (v : Unit) → get c.units k ≡ Some v → IsSpared IsCarried (sail w n direction c u).0 k v
+sail_spares : (w : WorldValue) (c : CampaignValue) (n : ℕ) (u : Unit) (direction : Direction) → IsSteady w c → (k : ℕ) (v : Unit) → get c.units k ≡ Some v → IsUnaffected IsAtMostMoved (sail w n direction c u).0 k v
 sail_spares w c n u direction steady k v there =
-    sail_cases (λ p. IsSpared IsCarried p.0 k v) w c n u direction (λ outcome. record { unit = v; there = there; spared = carried_same v })
+    sail_cases (λ p. IsUnaffected IsAtMostMoved p.0 k v) w c n u direction (λ outcome. record { unit = v; there = there; spared = carried_same v })
     (λ to x at floats whole near. sailed_spares w c u.structure to steady x at k v there)
 
-pub sail_orderly : IsOrderly sail_step IsSteady books_nothing moves_nothing concerns_nobody IsCarried
+pub sail_orderly : IsOrderly sail_step IsSteady books_nothing moves_nothing concerns_nobody IsAtMostMoved
 sail_orderly = record {
-  well = λ w a c t x steady fit own. well w c t.unit x steady t.said;
+  well = λ w a c t x steady fit own. well w c t.unit x steady t.order_value.operands;
   sparing = carried_spares;
-  spared = λ w a c t x steady own k v there apart. spared w c t.unit x steady k v there t.said;
+  spared = λ w a c t x steady own k v there apart. spared w c t.unit x steady k v there t.order_value.operands;
   bounded = λ w c steady e t. omega arith;
 }
   where
-    well : (w : WorldValue) (c : CampaignValue) (n : ℕ) (x : Unit) → IsSteady w c → (s : Said) → IfSome (sail_said w n s) (λ deed. StepsWell IsSteady books_nothing w c (deed c x).0)
-    well w c n x steady (orders.Sail direction) = sail_well w c n x direction steady
+    well : (w : WorldValue) (c : CampaignValue) (n : ℕ) (x : Unit) → IsSteady w c → (s : OperandsValue) → IfSome (sail_effect w n s) (λ deed. StepsWell IsSteady books_nothing w c (deed c x).0)
+    well w c n x steady (operands.Direction direction) = sail_well w c n x direction steady
     well w c n x steady other = tt
 
-    spared : (w : WorldValue) (c : CampaignValue) (n : ℕ) (x : Unit) → IsSteady w c → (k : ℕ) (v : Unit) → get c.units k ≡ Some v → (s : Said) → IfSome (sail_said w n s) (λ deed. IsSpared IsCarried (deed c x).0 k v)
-    spared w c n x steady k v there (orders.Sail direction) = sail_spares w c n x direction steady k v there
+    spared : (w : WorldValue) (c : CampaignValue) (n : ℕ) (x : Unit) → IsSteady w c → (k : ℕ) (v : Unit) → get c.units k ≡ Some v → (s : OperandsValue) → IfSome (sail_effect w n s) (λ deed. IsUnaffected IsAtMostMoved (deed c x).0 k v)
+    spared w c n x steady k v there (operands.Direction direction) = sail_spares w c n x direction steady k v there
     spared w c n x steady k v there other = tt
 
-pub all_carried : (w : WorldValue) (m : MonthValue) (c d : CampaignValue) → spares_others concerns_nobody IsCarried is_sailing w m c d → AreCarried c d
+pub all_carried : (w : WorldValue) (m : MonthValue) (c d : CampaignValue) → spares_others concerns_nobody IsAtMostMoved is_sailing w m c d → AreAtMostMoved c d
 all_carried w m c d keeps n u there = keeps n u there (λ k d l nobody. nobody)
 
 -- ---- who stays: where what it is inside doesn't sail
@@ -448,7 +448,7 @@ module _ (w : WorldValue) (begun : CampaignValue) (number faction : ℕ) where
     pub list : numbers_inside s c.units ≡ numbers_inside s begun.units
 
   module _ (c : CampaignValue) (same : IsAsBegun c) where
-    sum_inside_same : (f : Held → ℕ) → sum_inside f c s ≡ sum_inside f begun s
+    sum_inside_same : (f : HoldingValue → ℕ) → sum_inside f c s ≡ sum_inside f begun s
     sum_inside_same f =
         ap (sum_by (λ n. of_unit f (get c.units n))) same.list
         ∙ sum_same (λ n. of_unit f (get c.units n)) (λ n. of_unit f (get begun.units n)) (numbers_inside s begun.units) (λ k listed. ap (of_unit f) (same.units k (is_in k listed)))
@@ -467,22 +467,22 @@ module _ (w : WorldValue) (begun : CampaignValue) (number faction : ℕ) where
     unfolding sail
     told_same n u direction here =
         let to = neighbour w u.region direction in
-        ap (λ o. (unless c o (sailed c u.structure (unwrap_or to 0), Done 0)).1) (fault_same n u to here)
-        ∙ unless_told c begun (sailed c u.structure (unwrap_or to 0)) (sailed begun u.structure (unwrap_or to 0)) (sail_fault w begun n u (get begun.structures u.structure) to)
+        ap (λ o. (unless c o (after_sailing c u.structure (unwrap_or to 0), Done 0)).1) (fault_same n u to here)
+        ∙ unless_told c begun (after_sailing c u.structure (unwrap_or to 0)) (after_sailing begun u.structure (unwrap_or to 0)) (sail_fault w begun n u (get begun.structures u.structure) to)
 
     -- and so where the unit may be another faction's
-    carried_same_told : (f n : ℕ) (direction : Direction) → inside begun n ≡ s → (carried (sail w n direction) c f n).1 ≡ (carried (sail w n direction) begun f n).1
-    carried_same_told f n direction here = ap (λ o. (done_for (sail w n direction) c (of_faction f o)).1) (same.units n here) ∙ by_unit (get begun.units n) here
+    carried_same_told : (f n : ℕ) (direction : Direction) → inside begun n ≡ s → (faction_effect (sail w n direction) c f n).1 ≡ (faction_effect (sail w n direction) begun f n).1
+    carried_same_told f n direction here = ap (λ o. (effect_on (sail w n direction) c (of_faction f o)).1) (same.units n here) ∙ by_unit (get begun.units n) here
       where
-        by_faction : (u : Unit) → u.structure ≡ s → (b : Bool) → (done_for (sail w n direction) c (if b then Some u else None)).1 ≡ (done_for (sail w n direction) begun (if b then Some u else None)).1
+        by_faction : (u : Unit) → u.structure ≡ s → (b : Bool) → (effect_on (sail w n direction) c (if b then Some u else None)).1 ≡ (effect_on (sail w n direction) begun (if b then Some u else None)).1
         by_faction u here true = told_same n u direction here
         by_faction u here false = refl
 
-        by_unit : (o : Option Unit) → structure_in o ≡ s → (done_for (sail w n direction) c (of_faction f o)).1 ≡ (done_for (sail w n direction) begun (of_faction f o)).1
+        by_unit : (o : Option Unit) → structure_in o ≡ s → (effect_on (sail w n direction) c (of_faction f o)).1 ≡ (effect_on (sail w n direction) begun (of_faction f o)).1
         by_unit None here = refl
         by_unit (Some u) here = by_faction u here (u.faction == f)
 
-    sailed_else : (ship to : ℕ) (x : Structure) → get c.structures ship ≡ Some x → is_ship w x ≡ true → x.done ≡ size_of w x.kind → IsThere w.regions to → s ≢ ship → IsAsBegun (sailed c ship to)
+    sailed_else : (ship to : ℕ) (x : Structure) → get c.structures ship ≡ Some x → is_ship w x ≡ true → x.done ≡ size_of w x.kind → IsThere w.regions to → s ≢ ship → IsAsBegun (after_sailing c ship to)
     sailed_else ship to x at floats whole there apart = record {
       steady = (sailed_well w c ship to same.steady x at floats whole ((same.steady.known.regions to).1 there)).holds_still;
       places = λ k. sailed_inside w c ship to same.steady x at k ∙ same.places k;
@@ -491,8 +491,8 @@ module _ (w : WorldValue) (begun : CampaignValue) (number faction : ℕ) where
       list = sailed_list w c ship to same.steady x at s ∙ same.list;
     }
 
-    order_stays : (f n : ℕ) (o : Said) → (inside begun n ≡ s → (ordered (sail_said w n o) begun f n).1 ≡ Some (Done 0) → ⊥) → IsAsBegun (ordered (sail_said w n o) c f n).0
-    order_stays f n (orders.Sail direction) apart =
+    order_stays : (f n : ℕ) (o : OperandsValue) → (inside begun n ≡ s → (order_result (sail_effect w n o) begun f n).1 ≡ Some (Done 0) → ⊥) → IsAsBegun (order_result (sail_effect w n o) c f n).0
+    order_stays f n (operands.Direction direction) apart =
         carried_cases (λ p. (inside begun n ≡ s → p.1 ≡ Done 0 → ⊥) → IsAsBegun p.0) (sail w n direction) c f n (λ apart. same)
         (λ u is own. sail_cases (λ p. (inside begun n ≡ s → p.1 ≡ Done 0 → ⊥) → IsAsBegun p.0) w c n u direction (λ outcome apart. same)
         (λ to x at floats whole there apart. sailed_else u.structure to x at floats whole there (λ same_ship. apart (sym (same.places n) ∙ ap structure_in is ∙ sym same_ship) refl)))
@@ -500,7 +500,7 @@ module _ (w : WorldValue) (begun : CampaignValue) (number faction : ℕ) where
     order_stays f n other apart = same
 
     task_stays : (m : MonthValue) (t : Task) → (SailsWith w begun t number faction → ⊥) → IsAsBegun (one_order sail_step w (c, m) t).0
-    task_stays m t apart = order_stays t.faction t.unit t.said (λ in_it done. apart (record { together = in_it; done = done }))
+    task_stays m t apart = order_stays t.faction t.unit t.order_value.operands (λ in_it done. apart (record { together = in_it; done = done }))
 
   tasks_stay : (c : CampaignValue) (m : MonthValue) (ts : List Task) → IsAsBegun c → AllByRecursion (λ t. SailsWith w begun t number faction → ⊥) ts → IsAsBegun (fold (one_order sail_step w) (c, m) ts).0
   tasks_stay c m [] same others = same
@@ -508,8 +508,8 @@ module _ (w : WorldValue) (begun : CampaignValue) (number faction : ℕ) where
       let next = one_order sail_step w (c, m) t in
       tasks_stay next.0 next.1 ts (task_stays c same m t others.0) others.1
 
-pub sail_spares_others : (w : WorldValue) (c : CampaignValue) (m : MonthValue) → IsSteady w c → spares_others (SailsWith w c) IsUnchanged is_sailing w m c (sail_terms.meaning w c m).0
-unfolding carried_out
+pub sail_spares_others : (w : WorldValue) (c : CampaignValue) (m : MonthValue) → IsSteady w c → spares_others (SailsWith w c) IsUnchanged is_sailing w m c (sail_spec.meaning w c m).0
+unfolding meaning_by_orders
 sail_spares_others w c m steady n u there others =
     let ts = values (orders_of is_sailing ByUnit m.aliases m.readings) in
     let begun : IsAsBegun w c n u.faction c = record { steady = steady; places = λ k. refl; structure = refl; units = λ k here. refl; list = refl } in

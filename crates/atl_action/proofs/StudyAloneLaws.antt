@@ -9,29 +9,32 @@ use Rattle.std.specs.FinMap.{get, values}
 use Rattle.atl_tables.specs.Worlds.{WorldValue}
 use Rattle.atl_tables.specs.ByNumber.{fee_of}
 use Rattle.atl_tables.proofs.GeneralLaws.{equal_itself}
-use Rattle.atl_orders.specs.declared.order.Order.TheVariants as orders
+use Rattle.atl_orders.specs.declared.order.Operands.TheVariants as operands
+use Rattle.atl_orders.specs.declared.verb.Verb.{Verb}
 use Rattle.atl_orders.specs.declared.verb.Verb.TheVariants as verbs
-use Rattle.atl_orders.specs.Orders.{Said, verb_of_order}
+use Rattle.atl_orders.specs.Orders.{OperandsValue, OrderValue, order_of}
+use Rattle.atl_orders.specs.Verbs.{row_of}
 use Rattle.atl_records.specs.declared.event.EventFault.{EventFault}
 use Rattle.atl_records.specs.declared.event.Outcome.{Outcome}
 use Rattle.atl_records.specs.declared.event.Outcome.TheVariants.{Done}
 use Rattle.atl_records.specs.declared.records.Structure.{Structure}
 use Rattle.atl_records.specs.declared.records.Unit.{Unit}
-use Rattle.atl_records.specs.Held.{amount_of}
+use Rattle.atl_records.specs.Holdings.{amount_of}
 use Rattle.atl_state.specs.Campaign.{CampaignValue}
 use Rattle.atl_state.proofs.RegionLaws.{get-insert_same}
 use Rattle.atl_instant.specs.Month.{MonthValue}
 use Rattle.atl_instant.specs.Outcomes.{unless}
-use Rattle.atl_instant.specs.PhaseOrders.{Task, orders_of, slot_of}
+use Rattle.atl_instant.specs.PhaseOrders.{Task, orders_of}
 use Rattle.atl_instant.specs.StandOnce.{are_of_slot, share_slot}
-use Rattle.atl_instant.specs.Steps.{Deed, IsUnitOf, carried, carried_out, done_for, of_faction, one_order, ordered}
-use Rattle.atl_instant.specs.declared.written.Arrangement.TheVariants.{ByUnit}
+use Rattle.atl_instant.specs.OrderEffects.{IsUnitOf, OrderEffect, effect_on, faction_effect, meaning_by_orders, of_faction, one_order, order_result}
+use Rattle.atl_instant.specs.declared.phase_order.Arrangement.TheVariants.{ByUnit}
 use Rattle.atl_instant.proofs.StandOnceLaws.{one_order_stands}
-use Rattle.atl_instant.proofs.StepLaws.{ordered_cases}
+use Rattle.atl_instant.proofs.OrderEffectLaws.{ordered_cases}
+use Rattle.atl_instant.proofs.PhaseOrderLaws.{orders_have_verbs}
 use Rattle.atl_action.specs.Learners.{is_studying, learners, study_tasks}
-use Rattle.atl_action.specs.Study.{days_after, is_helpful, studied, study, study_fault, study_said, study_step, with_study}
+use Rattle.atl_action.specs.Study.{after_study, days_after, is_helpful, study, study_effect, study_fault, study_step, with_study}
 use Rattle.atl_action.specs.StudyAlone.{UnitsStudyAsBegun}
-use Rattle.atl_action.specs.Teach.{Taught, taught_out}
+use Rattle.atl_action.specs.Teach.{TaughtMen, after_lessons}
 use Rattle.atl_action.proofs.StudyLaws.{study_cases, study_stays}
 use Rattle.atl_action.proofs.UnmailedLearnLaws.{taught_told}
 
@@ -54,19 +57,26 @@ module _ (w : WorldValue) (taught n s : ℕ) (c d : CampaignValue) (u : Unit) (i
   unfolding study
   study_alike = by_fault (study_fault u.holding cost) (Done (days_in d - amount_of u.holding.days s)) (Done (days_in c - amount_of u.holding.days s))
     where
-      by_fault : (o : Option EventFault) (x y : Outcome) → get (unless d o (studied d n u s cost (days_in d), x)).0.units n ≡ get (unless c o (studied c n u s cost (days_in c), y)).0.units n
+      by_fault : (o : Option EventFault) (x y : Outcome) → get (unless d o (after_study d n u s cost (days_in d), x)).0.units n ≡ get (unless c o (after_study c n u s cost (days_in c), y)).0.units n
       by_fault (Some fault) x y = in_d ∙ sym in_c
       by_fault None x y =
           get-insert_same d.units n (put (days_in d)) ∙ ap (λ k. Some (put k)) same_days ∙ sym (get-insert_same c.units n (put (days_in c)))
 
 -- ---- all orders
 
+abbrev Studies : Task → Type 0
+Studies t = is_studying t.order_value.verb ≡ true
+
+is_study : (verb : Verb) → is_studying verb ≡ true → verb ≡ verbs.Study
+is_study verbs.Study is = refl
+is_study verb is = cc
+
 -- two orders of STUDY of one faction for one unit share a slot
-both_own : (t o : Task) → share_slot t o ≡ false → (s k : ℕ) → t.said ≡ orders.Study s → o.said ≡ orders.Study k → t.unit ≡ o.unit → t.faction ≡ o.faction → ⊥
-both_own t o never s k t_says o_says unit faction =
-    all_three (t.unit == o.unit) (t.faction == o.faction) (are_of_slot (slot_of (verb_of_order t.said)) (slot_of (verb_of_order o.said)))
+both_own : (t o : Task) → share_slot t o ≡ false → Studies t → Studies o → t.unit ≡ o.unit → t.faction ≡ o.faction → ⊥
+both_own t o never t_studies o_studies unit faction =
+    all_three (t.unit == o.unit) (t.faction == o.faction) (are_of_slot (row_of t.order_value.verb).slot (row_of o.order_value.verb).slot)
     (ap (λ j. j == o.unit) unit ∙ equal_itself o.unit) (ap (λ j. j == o.faction) faction ∙ equal_itself o.faction)
-    (ap (λ (x : Said). are_of_slot (slot_of (verb_of_order x)) (slot_of (verb_of_order o.said))) t_says ∙ ap (λ (x : Said). are_of_slot (slot_of verbs.Study) (slot_of (verb_of_order x))) o_says) never
+    (ap (λ v. are_of_slot (row_of v).slot (row_of o.order_value.verb).slot) (is_study t.order_value.verb t_studies) ∙ ap (λ v. are_of_slot (row_of verbs.Study).slot (row_of v).slot) (is_study o.order_value.verb o_studies)) never
   where
     all_three : (a b d : Bool) → a ≡ true → b ≡ true → d ≡ true → (a && (b && d)) ≡ false → ⊥
     all_three true true true p q r never = cc
@@ -74,59 +84,62 @@ both_own t o never s k t_says o_says unit faction =
     all_three true false d p q r never = cc
     all_three false b d p q r never = cc
 
-module _ (w : WorldValue) (taught : Taught) (n : ℕ) (u : Unit) where
+module _ (w : WorldValue) (taught : TaughtMen) (n : ℕ) (u : Unit) where
   abbrev step : CampaignValue × MonthValue → Task → CampaignValue × MonthValue
   step = one_order (study_step taught) w
 
   -- it isn't the unit's own
   abbrev IsOther : Task → Type 0
-  IsOther t = (s : ℕ) → t.said ≡ orders.Study s → t.unit ≡ n → t.faction ≡ u.faction → ⊥
+  IsOther t = t.unit ≡ n → t.faction ≡ u.faction → ⊥
 
   structures_stay : (d : CampaignValue) (l : MonthValue) (t : Task) → (step (d, l) t).0.structures ≡ d.structures
-  structures_stay d l t = ordered_cases (λ b. b.structures ≡ d.structures) (study_step taught w l.aliases t) d t refl (λ x own. by_said t.said x)
+  structures_stay d l t = ordered_cases (λ b. b.structures ≡ d.structures) (study_step taught w l.aliases t) d t refl (λ x own. by_said t.order_value.operands x)
     where
-      by_said : (o : Said) (x : Unit) → IfSome (study_said w taught t.unit o) (λ deed. (deed d x).0.structures ≡ d.structures)
-      by_said (orders.Study s) x = study_cases (λ b. b.structures ≡ d.structures) w (taught t.unit) d t.unit s x refl (λ days payable most. refl)
+      by_said : (o : OperandsValue) (x : Unit) → IfSome (study_effect w taught t.unit o) (λ deed. (deed d x).0.structures ≡ d.structures)
+      by_said (operands.Skill s) x = study_cases (λ b. b.structures ≡ d.structures) w (taught t.unit) d t.unit s x refl (λ days payable most. refl)
       by_said other x = tt
 
   -- other orders leave the unit as it is
   one_stays : (d : CampaignValue) (l : MonthValue) (t : Task) (v : Unit) → get d.units n ≡ Some v → v.faction ≡ u.faction → IsOther t → get (step (d, l) t).0.units n ≡ Some v
-  one_stays d l t v there own other = ordered_cases (λ b. get b.units n ≡ Some v) (study_step taught w l.aliases t) d t there (λ x its. by_said t.said refl x its)
+  one_stays d l t v there own other = ordered_cases (λ b. get b.units n ≡ Some v) (study_step taught w l.aliases t) d t there (λ x its. by_said t.order_value.operands x its)
     where
-      by_said : (o : Said) → t.said ≡ o → (x : Unit) → IsUnitOf d t x → IfSome (study_said w taught t.unit o) (λ deed. get (deed d x).0.units n ≡ Some v)
-      by_said (orders.Study s) says x its =
+      by_said : (o : OperandsValue) (x : Unit) → IsUnitOf d t x → IfSome (study_effect w taught t.unit o) (λ deed. get (deed d x).0.units n ≡ Some v)
+      by_said (operands.Skill s) x its =
           elim (cases_eq n t.unit) [
             | inl same ↦
                 let unit : x ≡ v = same_Some x v (sym its.there ∙ ap (get d.units) (sym same) ∙ there) in
-                absurd (other s says (sym same) (sym its.faction ∙ ap (λ (y : Unit). y.faction) unit ∙ own))
+                absurd (other (sym same) (sym its.faction ∙ ap (λ (y : Unit). y.faction) unit ∙ own))
             | inr apart ↦ study_stays w (taught t.unit) d t.unit s x n apart ∙ there
           ]
-      by_said o says x its = tt
+      by_said o x its = tt
 
   all_stay : (ts : List Task) (p : CampaignValue × MonthValue) (v : Unit) → get p.0.units n ≡ Some v → v.faction ≡ u.faction → AllByRecursion IsOther ts → get (fold step p ts).0.units n ≡ Some v
   all_stay [] p v there own others = there
   all_stay (t ∷ ts) p v there own others = all_stay ts (step p t) v (one_stays p.0 p.1 t v there own others.0) own others.1
 
-  module _ (skill : ℕ) (order : Task) (for_unit : order.unit ≡ n) (own : order.faction ≡ u.faction) (says : order.said ≡ orders.Study skill) where
-    apart : (t : Task) → share_slot t order ≡ false → IsOther t
-    apart t never s other_says unit faction = both_own t order never s skill other_says says (unit ∙ sym for_unit) (faction ∙ sym own)
+  module _ (skill : ℕ) (order : Task) (for_unit : order.unit ≡ n) (own : order.faction ≡ u.faction) (says : order.order_value ≡ order_of verbs.Study (operands.Skill skill)) where
+    studies : Studies order
+    studies = ap (λ (o : OrderValue). is_studying o.verb) says
 
-    all_apart : (ts : List Task) → AllByRecursion (λ t. share_slot order t ≡ false) ts → AllByRecursion IsOther ts
-    all_apart [] all = tt
-    all_apart (t ∷ ts) all = (one_apart, all_apart ts all.1)
+    apart : (t : Task) → share_slot t order ≡ false → Studies t → IsOther t
+    apart t never other unit faction = both_own t order never other studies (unit ∙ sym for_unit) (faction ∙ sym own)
+
+    all_apart : (ts : List Task) → AllByRecursion (λ t. share_slot order t ≡ false) ts → AllByRecursion Studies ts → AllByRecursion IsOther ts
+    all_apart [] all others = tt
+    all_apart (t ∷ ts) all others = (one_apart, all_apart ts all.1 others.1)
       where
         one_apart : IsOther t
-        one_apart s other_says unit faction = both_own order t all.0 skill s says other_says (for_unit ∙ sym unit) (own ∙ sym faction)
+        one_apart unit faction = both_own order t all.0 studies others.0 (for_unit ∙ sym unit) (own ∙ sym faction)
 
-    abbrev deed : Deed
+    abbrev deed : OrderEffect
     deed = study w (taught n) n skill
 
     own_study : (d : CampaignValue) (l : MonthValue) → get d.units n ≡ Some u → (step (d, l) order).0 ≡ (deed d u).0
     own_study d l there =
-        ap (λ (o : Said). (ordered (study_said w taught order.unit o) d order.faction order.unit).0) says
-        ∙ ap (λ k. (carried (study w (taught k) k skill) d order.faction k).0) for_unit
-        ∙ ap (λ f. (carried deed d f n).0) own
-        ∙ ap (λ o. (done_for deed d o).0) (ap (of_faction u.faction) there ∙ ap (λ b. if b then Some u else None) (equal_itself u.faction))
+        ap (λ (o : OrderValue). (order_result (study_effect w taught order.unit o.operands) d order.faction order.unit).0) says
+        ∙ ap (λ k. (faction_effect (study w (taught k) k skill) d order.faction k).0) for_unit
+        ∙ ap (λ f. (faction_effect deed d f n).0) own
+        ∙ ap (λ o. (effect_on deed d o).0) (ap (of_faction u.faction) there ∙ ap (λ b. if b then Some u else None) (equal_itself u.faction))
 
     module _ (c : CampaignValue) (begun : get c.units n ≡ Some u) where
       behind_it : (v : Unit) × (get (deed c u).0.units n ≡ Some v) × (v.faction ≡ u.faction)
@@ -136,29 +149,29 @@ module _ (w : WorldValue) (taught : Taught) (n : ℕ) (u : Unit) where
           let v : Unit = record u { holding = with_study u.holding skill (fee_of w skill * u.holding.men) days } in
           (v, get-insert_same c.units n v, refl))
 
-      alone : (ts : List Task) (p : CampaignValue × MonthValue) → get p.0.units n ≡ Some u → p.0.structures ≡ c.structures → IsDistinct share_slot ts
+      alone : (ts : List Task) (p : CampaignValue × MonthValue) → get p.0.units n ≡ Some u → p.0.structures ≡ c.structures → IsDistinct share_slot ts → AllByRecursion Studies ts
           → (k : ℕ) → k < length ts → slice_index_or ts k order ≡ order → get (fold step p ts).0.units n ≡ get (deed c u).0.units n
       unfolding IsDistinct
-      alone [] p there structures distinct k low at = absurd (omega (arith, low))
-      alone (t ∷ ts) p there structures distinct zero low at =
+      alone [] p there structures distinct all k low at = absurd (omega (arith, low))
+      alone (t ∷ ts) p there structures distinct all zero low at =
           let (v, is, faction) = behind_it in
           let now : get (step p t).0.units n ≡ get (deed c u).0.units n =
           ap (λ o. get (step p o).0.units n) at ∙ ap (λ (d : CampaignValue). get d.units n) (own_study p.0 p.1 there) ∙ study_alike w (taught n) n skill c p.0 u begun there structures in
-          all_stay ts (step p t) v (now ∙ is) faction (all_apart ts (subst (λ o. AllByRecursion (λ y. share_slot o y ≡ false) ts) at distinct.0)) ∙ sym is
-      alone (t ∷ ts) p there structures distinct (suc k) low at =
+          all_stay ts (step p t) v (now ∙ is) faction (all_apart ts (subst (λ o. AllByRecursion (λ y. share_slot o y ≡ false) ts) at distinct.0) all.1) ∙ sym is
+      alone (t ∷ ts) p there structures distinct all (suc k) low at =
           let never : share_slot t order ≡ false = All-contains (λ y. share_slot t y ≡ false) ts order (All-from_recursion (λ y. share_slot t y ≡ false) ts distinct.0) (k, omega (arith, low), at) in
-          alone ts (step p t) (one_stays p.0 p.1 t u there refl (apart t never)) (structures_stay p.0 p.1 t ∙ structures) distinct.1 k (omega (arith, low)) at
+          alone ts (step p t) (one_stays p.0 p.1 t u there refl (apart t never all.0)) (structures_stay p.0 p.1 t ∙ structures) distinct.1 all.1 k (omega (arith, low)) at
 
 -- ---- the phase
 
 pub units_study_as_begun : UnitsStudyAsBegun
-unfolding carried_out
+unfolding meaning_by_orders
 units_study_as_begun w c m fit n skill u there own =
-    let lessons = taught_out c (learners w c m) m in
+    let lessons = after_lessons c (learners w c m) m in
     let told = taught_told c (learners w c m) m in
     let one : CampaignValue × MonthValue → Task → CampaignValue × MonthValue = one_order (study_step lessons.0) w in
     let list : values (orders_of is_studying ByUnit lessons.1.aliases lessons.1.readings) ≡ study_tasks m =
     ap (λ r. values (orders_of is_studying ByUnit lessons.1.aliases r)) told.readings ∙ ap (λ a. values (orders_of is_studying ByUnit a m.readings)) told.aliases in
     let (k, low, at) = own.stands in
     ap (λ ts. get (fold one (c, lessons.1) ts).0.units n) list
-    ∙ alone w lessons.0 n u skill own.order own.for_unit own.own own.says c there (study_tasks m) (c, lessons.1) there refl (one_order_stands w is_studying ByUnit m.aliases m.readings fit) k low at
+    ∙ alone w lessons.0 n u skill own.order own.for_unit own.own own.says c there (study_tasks m) (c, lessons.1) there refl (one_order_stands w is_studying ByUnit m.aliases m.readings fit) (orders_have_verbs is_studying ByUnit m.aliases m.readings) k low at

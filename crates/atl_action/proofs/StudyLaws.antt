@@ -8,10 +8,10 @@ use Rattle.atl_tables.specs.Worlds.{WorldValue}
 use Rattle.atl_tables.specs.Sums.{sum_over}
 use Rattle.atl_tables.proofs.SumLaws.{sum_over-insert_known}
 use Rattle.atl_tables.specs.ByNumber.{fee_of}
-use Rattle.atl_orders.specs.Bounds.{IsOrderOf}
-use Rattle.atl_orders.specs.declared.order.Order.TheVariants as orders
-use Rattle.atl_orders.specs.Orders.{Said}
-use Rattle.atl_records.specs.Books.{amount_in, thing_place, amount_number}
+use Rattle.atl_orders.specs.Bounds.{AreOperandsOf}
+use Rattle.atl_orders.specs.declared.order.Operands.TheVariants as operands
+use Rattle.atl_orders.specs.Orders.{OperandsValue}
+use Rattle.atl_records.specs.Books.{amount_in, thing_index, amount_number}
 use Rattle.atl_records.specs.declared.books.Entry.{Entry}
 use Rattle.atl_records.specs.declared.books.Entry.TheVariants.{Lost, Study}
 use Rattle.atl_records.specs.declared.books.Thing.{Thing}
@@ -22,42 +22,42 @@ use Rattle.atl_records.specs.declared.event.Outcome.TheVariants.{Done}
 use Rattle.atl_records.specs.declared.records.Unit.{Unit}
 use Rattle.atl_state.specs.Founding.{things_of}
 use Rattle.atl_state.specs.Good.{IsSteady}
-use Rattle.atl_records.specs.Held.{Held, amount_of}
+use Rattle.atl_records.specs.Holdings.{HoldingValue, amount_of}
 use Rattle.atl_state.specs.Lending.{with_held}
 use Rattle.atl_records.specs.Limits.{most_days}
 use Rattle.atl_state.specs.Campaign.{CampaignValue}
-use Rattle.atl_records.specs.Amounts.{held}
+use Rattle.atl_records.specs.Amounts.{unit_amount}
 use Rattle.atl_state.specs.Totals.{Balances, total}
-use Rattle.atl_records.proofs.BookLaws.{booked-with_booked}
+use Rattle.atl_records.proofs.BookLaws.{booked-after_booking}
 use Rattle.atl_records.proofs.EveryLaws.{get-insert_other}
 use Rattle.atl_state.proofs.HavingLaws.{may_have}
-use Rattle.atl_state.proofs.HoldingLaws.{MayHold, steady-held, total-held}
+use Rattle.atl_state.proofs.HoldingLaws.{MayHold, steady-unit_amount, total-unit_amount}
 use Rattle.atl_state.proofs.RegionLaws.{steady-amount, total-amount}
 use Rattle.atl_instant.specs.Meaning.{HasRoom, HaveRoom, moves_only}
 use Rattle.atl_instant.specs.Outcomes.{unless}
-use Rattle.atl_instant.specs.Steps.{IsDrawn, IsOrderly, IsOwnOrder, IsSpared, IsSparing, StepsWell}
-use Rattle.atl_records.proofs.HeldLaws.{every_amount}
+use Rattle.atl_instant.specs.OrderEffects.{IsOrderly, IsOwnOrder, IsUnaffected, IsUnaffectedRelation, StepsWell, UsesBound}
+use Rattle.atl_records.proofs.HoldingLaws.{every_amount}
 use Rattle.atl_instant.proofs.MeaningLaws.{same_month_by}
 use Rattle.atl_instant.proofs.BookingLaws.{booked-near, within-neg}
 use Rattle.atl_instant.proofs.OutcomeLaws.{none_fits, not_less}
 use Rattle.atl_instant.proofs.QuitLaws.{quit_orderly}
-use Rattle.atl_instant.proofs.StepLaws.{drawn_near, well_same}
+use Rattle.atl_instant.proofs.OrderEffectLaws.{drawn_near, well_same}
 use Rattle.atl_instant.proofs.UnbookedLaws.{other_unit}
-use Rattle.atl_instant.specs.Staying.{IsUnchanged}
-use Rattle.atl_action.specs.Study.{days_after, is_helpful, studied, study, study_fault, study_moves, study_reserve, study_said, study_step, with_study}
-use Rattle.atl_action.specs.Teach.{Taught}
+use Rattle.atl_instant.specs.NoWorse.{IsUnchanged}
+use Rattle.atl_action.specs.Study.{after_study, days_after, is_helpful, study, study_effect, study_fault, study_moves, study_reserve, study_step, with_study}
+use Rattle.atl_action.specs.Teach.{TaughtMen}
 
 -- ---- a unit that pays, and reaches so many days
 
 module _ (w : WorldValue) (c : CampaignValue) (n : ℕ) (u : Unit) (s cost days : ℕ) (is : get c.units n ≡ Some u) (steady : IsSteady w c) (payable : cost ≤ u.holding.money) where
-  abbrev learned : Held
+  abbrev learned : HoldingValue
   learned = with_study u.holding s cost days
 
   abbrev paid : CampaignValue
   paid = with_held c n learned (Some u)
 
   abbrev behind : CampaignValue
-  behind = studied c n u s cost days
+  behind = after_study c n u s cost days
 
   may : s < length w.skills → days ≤ most_days * u.holding.men → MayHold w u learned
   may known most =
@@ -72,10 +72,10 @@ module _ (w : WorldValue) (c : CampaignValue) (n : ℕ) (u : Unit) (s cost days 
       }
 
   steady_behind : s < length w.skills → days ≤ most_days * u.holding.men → IsSteady w behind
-  steady_behind known most = steady-amount w paid Study Money (neg_ℤ (pos cost)) (steady-held w c n u learned is (may known most) steady)
+  steady_behind known most = steady-amount w paid Study Money (neg_ℤ (pos cost)) (steady-unit_amount w c n u learned is (may known most) steady)
 
   -- what is booked is what all have less
-  owed : (t : Thing) (a b : ℕ) → a + held t u.holding ≡ b + held t learned → pos a ≡ pos b +ℤ cond (thing_place t == 0) (neg_ℤ (pos cost)) (pos 0)
+  owed : (t : Thing) (a b : ℕ) → a + unit_amount t u.holding ≡ b + unit_amount t learned → pos a ≡ pos b +ℤ cond (thing_index t == 0) (neg_ℤ (pos cost)) (pos 0)
   owed Money a b e = omega (arith, ints, e, payable)
   owed People a b e = omega (arith, ints, e)
   owed (Item i) a b e = nothing (2 + i == 0) (let other : (2 + i == 0) ≡ false = grind (arith, nat_tests) in other)
@@ -86,10 +86,10 @@ module _ (w : WorldValue) (c : CampaignValue) (n : ℕ) (u : Unit) (s cost days 
 
   balanced : Balances c → Balances behind
   balanced old t =
-      let sum : total behind t + held t u.holding ≡ total c t + held t learned =
-      ap (λ k. k + held t u.holding) (total-amount paid Study Money t (neg_ℤ (pos cost))) ∙ total-held w c n u learned is t in
-      owed t (total behind t) (total c t) sum ∙ ap (λ z. z +ℤ cond (thing_place t == 0) (neg_ℤ (pos cost)) (pos 0)) (old t)
-      ∙ sym (booked-with_booked (things_of w) c.books Study Money (neg_ℤ (pos cost)) steady.numbers.books (omega arith) t)
+      let sum : total behind t + unit_amount t u.holding ≡ total c t + unit_amount t learned =
+      ap (λ k. k + unit_amount t u.holding) (total-amount paid Study Money t (neg_ℤ (pos cost))) ∙ total-unit_amount w c n u learned is t in
+      owed t (total behind t) (total c t) sum ∙ ap (λ z. z +ℤ cond (thing_index t == 0) (neg_ℤ (pos cost)) (pos 0)) (old t)
+      ∙ sym (booked-after_booking (things_of w) c.books Study Money (neg_ℤ (pos cost)) steady.numbers.books (omega arith) t)
 
   -- the money of all units is less by what is paid
   less : sum_over (λ (x : Unit). x.holding.money) behind.units + cost ≡ sum_over (λ (x : Unit). x.holding.money) c.units
@@ -106,7 +106,7 @@ module _ (w : WorldValue) (c : CampaignValue) (n : ℕ) (u : Unit) (s cost days 
       let all : HasRoom (sum_over (λ (x : Unit). x.holding.money) c.units) (amount_in c.books Study Money) = room Study Money in
       record { above = omega (arith, ints, all.above, less); below = omega (arith, ints, all.below, less) }
 
-  drawn : (e : Entry) (t : Thing) → IsDrawn (study_reserve c e t) (study_reserve behind e t) (amount_in c.books e t) (amount_in behind.books e t)
+  drawn : (e : Entry) (t : Thing) → UsesBound (study_reserve c e t) (study_reserve behind e t) (amount_in c.books e t) (amount_in behind.books e t)
   drawn e t =
       drawn_near (moves_only cost Study Money e t) (study_reserve c e t) (study_reserve behind e t) (amount_in c.books e t) (amount_in behind.books e t)
       (by_amount (amount_number e t == amount_number Study Money) _ _ less)
@@ -131,7 +131,7 @@ pub days_most : (men old taught : ℕ) (helped : Bool) → days_after men old ta
 days_most men old taught helped = omega arith
 
 -- who has no fault can pay
-pub payable_fee : (h : Held) (cost : ℕ) → study_fault h cost ≡ None → cost ≤ h.money
+pub payable_fee : (h : HoldingValue) (cost : ℕ) → study_fault h cost ≡ None → cost ≤ h.money
 payable_fee h cost e =
     let poor = (nat_lt h.money cost, NoFee) ∷ [] in
     let one = none_fits (h.men == 0) NoMen poor e in
@@ -140,7 +140,7 @@ payable_fee h cost e =
 
 -- what is so of the campaign as it is, and of that in which the unit studied, is so of the campaign behind the order
 pub study_cases : (P : CampaignValue → Type 0) (w : WorldValue) (taught : ℕ) (c : CampaignValue) (n s : ℕ) (u : Unit) → P c
-    → ((days : ℕ) → fee_of w s * u.holding.men ≤ u.holding.money → days ≤ most_days * u.holding.men → P (studied c n u s (fee_of w s * u.holding.men) days))
+    → ((days : ℕ) → fee_of w s * u.holding.men ≤ u.holding.money → days ≤ most_days * u.holding.men → P (after_study c n u s (fee_of w s * u.holding.men) days))
     → P (study w taught n s c u).0
 unfolding study
 study_cases P w taught c n s u same learned =
@@ -149,7 +149,7 @@ study_cases P w taught c n s u same learned =
     by_fault (days_after u.holding.men old taught helped) (days_after u.holding.men old taught helped - old) (days_most u.holding.men old taught helped) (study_fault u.holding (fee_of w s * u.holding.men)) refl
   where
     by_fault : (days done : ℕ) → days ≤ most_days * u.holding.men → (o : Option EventFault) → study_fault u.holding (fee_of w s * u.holding.men) ≡ o
-        → P (unless c o (studied c n u s (fee_of w s * u.holding.men) days, Done done)).0
+        → P (unless c o (after_study c n u s (fee_of w s * u.holding.men) days, Done done)).0
     by_fault days done most (Some fault) e = same
     by_fault days done most None e = learned days (payable_fee u.holding (fee_of w s * u.holding.men) e) most
 
@@ -165,7 +165,7 @@ study_stays w taught c n s u k apart =
 
 -- ---- the phase
 
-unchanged : IsSparing IsUnchanged
+unchanged : IsUnaffectedRelation IsUnchanged
 unchanged = record { same = λ u. refl; again = λ u v x one two. two ∙ one; faction = λ u v same. ap (λ (x : Unit). x.faction) same }
 
 -- the money of all units is no more than could be lost by QUIT
@@ -176,18 +176,18 @@ money_most w c steady e t = by_amount (amount_number e t == amount_number Study 
     by_amount true a b l = l
     by_amount false a b l = omega arith
 
-pub study_orderly : (taught : Taught) → IsOrderly (study_step taught) IsSteady study_reserve study_moves IsOwnOrder IsUnchanged
+pub study_orderly : (taught : TaughtMen) → IsOrderly (study_step taught) IsSteady study_reserve study_moves IsOwnOrder IsUnchanged
 study_orderly taught = record {
-  well = λ w a c t x steady fit own. well w c t.unit x own.there steady t.said fit;
+  well = λ w a c t x steady fit own. well w c t.unit x own.there steady t.order_value.operands fit;
   sparing = unchanged;
-  spared = λ w a c t x steady own k v there apart. spared w c t.unit x k v there (other_unit c t x k v own there apart) t.said;
+  spared = λ w a c t x steady own k v there apart. spared w c t.unit x k v there (other_unit c t x k v own there apart) t.order_value.operands;
   bounded = money_most;
 }
   where
-    well : (w : WorldValue) (c : CampaignValue) (n : ℕ) (x : Unit) → get c.units n ≡ Some x → IsSteady w c → (s : Said) → IsOrderOf w s → IfSome (study_said w taught n s) (λ deed. StepsWell IsSteady study_reserve w c (deed c x).0)
-    well w c n x is steady (orders.Study s) fit = study_well w (taught n) c n s x is steady fit
+    well : (w : WorldValue) (c : CampaignValue) (n : ℕ) (x : Unit) → get c.units n ≡ Some x → IsSteady w c → (s : OperandsValue) → AreOperandsOf w s → IfSome (study_effect w taught n s) (λ deed. StepsWell IsSteady study_reserve w c (deed c x).0)
+    well w c n x is steady (operands.Skill s) fit = study_well w (taught n) c n s x is steady fit
     well w c n x is steady other fit = tt
 
-    spared : (w : WorldValue) (c : CampaignValue) (n : ℕ) (x : Unit) (k : ℕ) (v : Unit) → get c.units k ≡ Some v → k ≢ n → (s : Said) → IfSome (study_said w taught n s) (λ deed. IsSpared IsUnchanged (deed c x).0 k v)
-    spared w c n x k v there apart (orders.Study s) = record { unit = v; there = study_stays w (taught n) c n s x k apart ∙ there; spared = refl }
+    spared : (w : WorldValue) (c : CampaignValue) (n : ℕ) (x : Unit) (k : ℕ) (v : Unit) → get c.units k ≡ Some v → k ≢ n → (s : OperandsValue) → IfSome (study_effect w taught n s) (λ deed. IsUnaffected IsUnchanged (deed c x).0 k v)
+    spared w c n x k v there apart (operands.Skill s) = record { unit = v; there = study_stays w (taught n) c n s x k apart ∙ there; spared = refl }
     spared w c n x k v there apart other = tt

@@ -7,8 +7,8 @@ use Rattle.std.proofs.lemmas.List.Sums.{sum_by-cons}
 use Rattle.atl_tables.proofs.GeneralLaws.{equal_itself, equal_turned, is_unequal}
 use Rattle.atl_records.proofs.EveryLaws.{other_number}
 use Rattle.atl_state.specs.Campaign.{CampaignValue}
-use Rattle.atl_instant.specs.Dealing.{dealt}
-use Rattle.atl_action.specs.Teach.{Taught, first_mentions, taught_now, untaught}
+use Rattle.atl_instant.specs.InTurn.{amount_in_turn}
+use Rattle.atl_action.specs.Teach.{TaughtMen, first_mentions, taught_in_lesson, untaught_men}
 
 -- ---- lists of units
 
@@ -75,49 +75,49 @@ rest_is_dealt : (places given first before want : ℕ) → given ≡ min places 
     min (before + want) (places - given) - min before (places - given) ≡ min ((first + before) + want) places - min (first + before) places
 rest_is_dealt places given first before want is = grind (arith, is)
 
-module _ (c : CampaignValue) (taught after : Taught) (n given : ℕ) (here : after n ≡ taught n + given) (away : (k : ℕ) → k ≢ n → after k ≡ taught k) where
-  pub same_sum : (ns : List ℕ) → AreOthers n ns → sum_by (untaught c after) ns ≡ sum_by (untaught c taught) ns
+module _ (c : CampaignValue) (taught after : TaughtMen) (n given : ℕ) (here : after n ≡ taught n + given) (away : (k : ℕ) → k ≢ n → after k ≡ taught k) where
+  pub same_sum : (ns : List ℕ) → AreOthers n ns → sum_by (untaught_men c after) ns ≡ sum_by (untaught_men c taught) ns
   same_sum [] all = refl
   same_sum (k ∷ ns) all =
-      sum_by-cons (untaught c after) k ns
-      ∙ ap (λ t. (untaught c (λ _. t) k) + sum_by (untaught c after) ns) (away k (λ is. is_unequal n k all.0 (sym is)))
-      ∙ ap (λ r. untaught c taught k + r) (same_sum ns all.1) ∙ sym (sum_by-cons (untaught c taught) k ns)
+      sum_by-cons (untaught_men c after) k ns
+      ∙ ap (λ t. (untaught_men c (λ _. t) k) + sum_by (untaught_men c after) ns) (away k (λ is. is_unequal n k all.0 (sym is)))
+      ∙ ap (λ r. untaught_men c taught k + r) (same_sum ns all.1) ∙ sym (sum_by-cons (untaught_men c taught) k ns)
 
-  module _ (places : ℕ) (ns : List ℕ) (is : given ≡ min places (untaught c taught n)) (others : AreOthers n ns) where
-    at_first : after n + taught_now c after (places - given) ns n ≡ taught n + taught_now c taught places (n ∷ ns) n
+  module _ (places : ℕ) (ns : List ℕ) (is : given ≡ min places (untaught_men c taught n)) (others : AreOthers n ns) where
+    at_first : after n + taught_in_lesson c after (places - given) ns n ≡ taught n + taught_in_lesson c taught places (n ∷ ns) n
     at_first =
-        let want = untaught c taught n in
-        ap (λ b. after n + (if b then dealt (places - given) (sum_by (untaught c after) (before_first (λ j. n == j) ns)) (untaught c after n) else 0)) (not_listed n ns others)
+        let want = untaught_men c taught n in
+        ap (λ b. after n + (if b then amount_in_turn (places - given) (sum_by (untaught_men c after) (before_first (λ j. n == j) ns)) (untaught_men c after n) else 0)) (not_listed n ns others)
         ∙ ap (λ a. a + 0) here
         ∙ first_is_dealt (taught n) given want places is
-        ∙ sym (ap (λ ms. taught n + dealt places (sum_by (untaught c taught) ms) want) (before_cons (λ j. n == j) n ns ∙ ap (λ b. if b then [] else n ∷ before_first (λ j. n == j) ns) (equal_itself n)))
-        ∙ sym (ap (λ b. taught n + (if b || list_any (λ j. n == j) ns then dealt places (sum_by (untaught c taught) (before_first (λ j. n == j) (n ∷ ns))) want else 0)) (equal_itself n))
+        ∙ sym (ap (λ ms. taught n + amount_in_turn places (sum_by (untaught_men c taught) ms) want) (before_cons (λ j. n == j) n ns ∙ ap (λ b. if b then [] else n ∷ before_first (λ j. n == j) ns) (equal_itself n)))
+        ∙ sym (ap (λ b. taught n + (if b || list_any (λ j. n == j) ns then amount_in_turn places (sum_by (untaught_men c taught) (before_first (λ j. n == j) (n ∷ ns))) want else 0)) (equal_itself n))
 
-    at_other : (k : ℕ) → k ≢ n → after k + taught_now c after (places - given) ns k ≡ taught k + taught_now c taught places (n ∷ ns) k
+    at_other : (k : ℕ) → k ≢ n → after k + taught_in_lesson c after (places - given) ns k ≡ taught k + taught_in_lesson c taught places (n ∷ ns) k
     at_other k apart =
         let l = list_any (λ j. k == j) ns in
-        let want = untaught c taught k in
+        let want = untaught_men c taught k in
         let before = before_first (λ j. k == j) ns in
-        let sum = sum_by (untaught c taught) before in
-        let first = untaught c taught n in
+        let sum = sum_by (untaught_men c taught) before in
+        let first = untaught_men c taught n in
         let not_first = other_number k n apart in
-        let sum_more : sum_by (untaught c taught) (before_first (λ j. k == j) (n ∷ ns)) ≡ first + sum =
-        ap (sum_by (untaught c taught)) (before_cons (λ j. k == j) n ns ∙ ap (λ b. if b then [] else n ∷ before) not_first) ∙ sum_by-cons (untaught c taught) n before in
-        ap (λ a. a + (if l then dealt (places - given) (sum_by (untaught c after) before) (untaught c (λ _. a) k) else 0)) (away k apart)
-        ∙ ap (λ s. taught k + (if l then dealt (places - given) s want else 0)) (same_sum before (before_others n (λ j. k == j) ns others))
+        let sum_more : sum_by (untaught_men c taught) (before_first (λ j. k == j) (n ∷ ns)) ≡ first + sum =
+        ap (sum_by (untaught_men c taught)) (before_cons (λ j. k == j) n ns ∙ ap (λ b. if b then [] else n ∷ before) not_first) ∙ sum_by-cons (untaught_men c taught) n before in
+        ap (λ a. a + (if l then amount_in_turn (places - given) (sum_by (untaught_men c after) before) (untaught_men c (λ _. a) k) else 0)) (away k apart)
+        ∙ ap (λ s. taught k + (if l then amount_in_turn (places - given) s want else 0)) (same_sum before (before_others n (λ j. k == j) ns others))
         ∙ by_listed l
-        ∙ sym (ap (λ s. taught k + (if l then dealt places s want else 0)) sum_more)
-        ∙ sym (ap (λ b. taught k + (if b || l then dealt places (sum_by (untaught c taught) (before_first (λ j. k == j) (n ∷ ns))) want else 0)) not_first)
+        ∙ sym (ap (λ s. taught k + (if l then amount_in_turn places s want else 0)) sum_more)
+        ∙ sym (ap (λ b. taught k + (if b || l then amount_in_turn places (sum_by (untaught_men c taught) (before_first (λ j. k == j) (n ∷ ns))) want else 0)) not_first)
       where
         by_listed : (b : Bool)
-            → taught k + (if b then dealt (places - given) (sum_by (untaught c taught) (before_first (λ j. k == j) ns)) (untaught c taught k) else 0)
-            ≡ taught k + (if b then dealt places (untaught c taught n + sum_by (untaught c taught) (before_first (λ j. k == j) ns)) (untaught c taught k) else 0)
-        by_listed true = ap (λ d. taught k + d) (rest_is_dealt places given (untaught c taught n) (sum_by (untaught c taught) (before_first (λ j. k == j) ns)) (untaught c taught k) is)
+            → taught k + (if b then amount_in_turn (places - given) (sum_by (untaught_men c taught) (before_first (λ j. k == j) ns)) (untaught_men c taught k) else 0)
+            ≡ taught k + (if b then amount_in_turn places (untaught_men c taught n + sum_by (untaught_men c taught) (before_first (λ j. k == j) ns)) (untaught_men c taught k) else 0)
+        by_listed true = ap (λ d. taught k + d) (rest_is_dealt places given (untaught_men c taught n) (sum_by (untaught_men c taught) (before_first (λ j. k == j) ns)) (untaught_men c taught k) is)
         by_listed false = refl
 
-    pub rest_taught : (k : ℕ) → after k + taught_now c after (places - given) ns k ≡ taught k + taught_now c taught places (n ∷ ns) k
+    pub rest_taught : (k : ℕ) → after k + taught_in_lesson c after (places - given) ns k ≡ taught k + taught_in_lesson c taught places (n ∷ ns) k
     rest_taught k = elim (cases_eq k n) [
-      | inl same ↦ subst (λ j. after j + taught_now c after (places - given) ns j ≡ taught j + taught_now c taught places (n ∷ ns) j) (sym same) at_first
+      | inl same ↦ subst (λ j. after j + taught_in_lesson c after (places - given) ns j ≡ taught j + taught_in_lesson c taught places (n ∷ ns) j) (sym same) at_first
       | inr apart ↦ at_other k apart
     ]
 

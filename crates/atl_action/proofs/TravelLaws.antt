@@ -11,7 +11,7 @@ use Rattle.atl_records.specs.declared.records.Structure.{Structure}
 use Rattle.atl_records.specs.declared.records.Unit.{Unit}
 use Rattle.atl_records.specs.Every.{Every, IsThere}
 use Rattle.atl_state.specs.Good.{AreAfloat, AreInRange, AreKnown, AreNumbered, AreOfOneFaction, IsAboard, IsBuilt, IsOwned, IsPlaced, IsSteady, guards, is_ship}
-use Rattle.atl_records.specs.Held.{IsHolding}
+use Rattle.atl_records.specs.Holdings.{IsHolding}
 use Rattle.atl_state.specs.Campaign.{CampaignValue, numbers_of}
 use Rattle.atl_instant.proofs.RefitLaws.{in_range_replaced, named_replaced, numbered_replaced, under}
 

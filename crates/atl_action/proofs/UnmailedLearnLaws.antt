@@ -4,22 +4,22 @@ use Rattle.std.specs.Prelude.{IfSome, fold}
 use Rattle.std.specs.FinMap.{get, values}
 use Rattle.atl_tables.specs.Worlds.{WorldValue}
 use Rattle.atl_tables.specs.ByNumber.{fee_of}
-use Rattle.atl_orders.specs.declared.order.Order.TheVariants as orders
-use Rattle.atl_orders.specs.Orders.{Said}
+use Rattle.atl_orders.specs.declared.order.Operands.TheVariants as operands
+use Rattle.atl_orders.specs.Orders.{OperandsValue}
 use Rattle.atl_records.specs.declared.event.Outcome.TheVariants.{Done}
 use Rattle.atl_records.specs.declared.records.Unit.{Unit}
-use Rattle.atl_records.specs.Held.{amount_of}
+use Rattle.atl_records.specs.Holdings.{amount_of}
 use Rattle.atl_state.specs.Campaign.{CampaignValue}
 use Rattle.atl_instant.specs.Month.{MonthValue}
 use Rattle.atl_instant.specs.PhaseOrders.{Task, orders_of}
-use Rattle.atl_instant.specs.Steps.{carried_out}
+use Rattle.atl_instant.specs.OrderEffects.{meaning_by_orders}
 use Rattle.atl_instant.specs.Unmailed.{IsLessBy, starved_in}
-use Rattle.atl_instant.specs.declared.written.Arrangement.TheVariants.{ByUnit}
+use Rattle.atl_instant.specs.declared.phase_order.Arrangement.TheVariants.{ByUnit}
 use Rattle.atl_instant.proofs.UnmailedLaws.{HasItsItems, HaveTheirMen, LeavesUnmailed, OthersHaveMen, SparesMen, carried_leaves, men_put, men_unless, others_men, own_faction, told_of_order, unmailed_spared}
-use Rattle.atl_instant.specs.Staying.{IsUnchanged}
+use Rattle.atl_instant.specs.NoWorse.{IsUnchanged}
 use Rattle.atl_action.specs.Learners.{Learning, is_studying, learners}
-use Rattle.atl_action.specs.Study.{days_after, is_helpful, learn_keeps, learn_meaning, studied, study, study_fault, study_said, study_step, with_study}
-use Rattle.atl_action.specs.Teach.{Taught, is_teaching, taught_out, teach, teach_order}
+use Rattle.atl_action.specs.Study.{after_study, days_after, is_helpful, learn_keeps, learn_meaning, study, study_effect, study_fault, study_step, with_study}
+use Rattle.atl_action.specs.Teach.{TaughtMen, after_lessons, is_teaching, teach, teach_order}
 
 -- ---- TEACH tells its events and changes nothing else of the month
 
@@ -29,22 +29,22 @@ pub record IsTold (before after : MonthValue) : Type 0 where
   pub aliases : after.aliases ≡ before.aliases
   pub starved : (n : ℕ) → starved_in after.events n ≡ starved_in before.events n
 
-lesson_told : (c : CampaignValue) (learning : Learning) (p : Taught × MonthValue) (t : Task) → IsTold p.1 (teach_order c learning p t).1
+lesson_told : (c : CampaignValue) (learning : Learning) (p : TaughtMen × MonthValue) (t : Task) → IsTold p.1 (teach_order c learning p t).1
 lesson_told c learning (taught, m) t = record {
   readings = refl;
   aliases = refl;
   starved = λ n. told_of_order m.events t (teach c m.aliases learning taught t).1 n;
 }
 
-lessons_told : (c : CampaignValue) (learning : Learning) (p : Taught × MonthValue) (ts : List Task) → IsTold p.1 (fold (teach_order c learning) p ts).1
+lessons_told : (c : CampaignValue) (learning : Learning) (p : TaughtMen × MonthValue) (ts : List Task) → IsTold p.1 (fold (teach_order c learning) p ts).1
 lessons_told c learning p [] = record { readings = refl; aliases = refl; starved = λ n. refl }
 lessons_told c learning p (t ∷ ts) =
     let one = lesson_told c learning p t in
     let rest = lessons_told c learning (teach_order c learning p t) ts in
     record { readings = rest.readings ∙ one.readings; aliases = rest.aliases ∙ one.aliases; starved = λ n. rest.starved n ∙ one.starved n }
 
-pub taught_told : (c : CampaignValue) (learning : Learning) (m : MonthValue) → IsTold m (taught_out c learning m).1
-unfolding taught_out
+pub taught_told : (c : CampaignValue) (learning : Learning) (m : MonthValue) → IsTold m (after_lessons c learning m).1
+unfolding after_lessons
 taught_told c learning m = lessons_told c learning ((λ n. 0), m) (values (orders_of is_teaching ByUnit m.aliases m.readings))
 
 -- ---- STUDY
@@ -55,32 +55,32 @@ study_men w taught c n s u is =
     let cost = fee_of w s * u.holding.men in
     let old = amount_of u.holding.days s in
     let days = days_after u.holding.men old taught (is_helpful w s (get c.structures u.structure)) in
-    men_unless c (studied c n u s cost days) (Done (days - old)) (study_fault u.holding cost)
-    (men_put c (studied c n u s cost days) n u (record u { holding = with_study u.holding s cost days }) is (record { faction = refl; men = refl }) refl)
+    men_unless c (after_study c n u s cost days) (Done (days - old)) (study_fault u.holding cost)
+    (men_put c (after_study c n u s cost days) n u (record u { holding = with_study u.holding s cost days }) is (record { faction = refl; men = refl }) refl)
 
-studied_men : (w : WorldValue) (taught : Taught) (c : CampaignValue) (f n : ℕ) (x : Unit) → get c.units n ≡ Some x → (o : Said) → IfSome (study_said w taught n o) (λ deed. OthersHaveMen f c (deed c x).0)
-studied_men w taught c f n x is (orders.Study s) = others_men f c (study w (taught n) n s c x).0 (study_men w (taught n) c n s x is)
+studied_men : (w : WorldValue) (taught : TaughtMen) (c : CampaignValue) (f n : ℕ) (x : Unit) → get c.units n ≡ Some x → (o : OperandsValue) → IfSome (study_effect w taught n o) (λ deed. OthersHaveMen f c (deed c x).0)
+studied_men w taught c f n x is (operands.Skill s) = others_men f c (study w (taught n) n s c x).0 (study_men w (taught n) c n s x is)
 studied_men w taught c f n x is other = tt
 
-study_spares : (taught : Taught) → SparesMen (study_step taught)
-study_spares taught w a c t x own = studied_men w taught c t.faction t.unit x own.there t.said
+study_spares : (taught : TaughtMen) → SparesMen (study_step taught)
+study_spares taught w a c t x own = studied_men w taught c t.faction t.unit x own.there t.order_value.operands
 
 items_of_unchanged : (u v : Unit) → IsUnchanged u v → HasItsItems u v
 items_of_unchanged u v same = record { name = ap (λ (x : Unit). x.holding.name) same; items = λ i. omega (arith, ap (λ (x : Unit). amount_of x.holding.items i) same) }
 
-all_study : (taught : Taught) → LeavesUnmailed (carried_out (study_step taught) is_studying) learn_keeps
+all_study : (taught : TaughtMen) → LeavesUnmailed (meaning_by_orders (study_step taught) is_studying) learn_keeps
 all_study taught = carried_leaves (study_step taught) is_studying (study_spares taught) (unmailed_spared is_studying own_faction items_of_unchanged)
 
 -- ---- both
 
 pub learn_leaves : LeavesUnmailed learn_meaning learn_keeps
 learn_leaves = record {
-  readings = λ w c m. let lessons = taught_out c (learners w c m) m in (all_study lessons.0).readings w c lessons.1 ∙ (taught_told c (learners w c m) m).readings;
+  readings = λ w c m. let lessons = after_lessons c (learners w c m) m in (all_study lessons.0).readings w c lessons.1 ∙ (taught_told c (learners w c m) m).readings;
   told = λ w c m n.
-      let lessons = taught_out c (learners w c m) m in
+      let lessons = after_lessons c (learners w c m) m in
       omega (arith, (all_study lessons.0).told w c lessons.1 n, (taught_told c (learners w c m) m).starved n);
   left = λ w c m keeps n u there none.
-      let lessons = taught_out c (learners w c m) m in
+      let lessons = after_lessons c (learners w c m) m in
       let same = taught_told c (learners w c m) m in
       let kept : learn_keeps w lessons.1 c (learn_meaning w c m).0 = alike w c (learn_meaning w c m).0 m lessons.1 same.readings same.aliases keeps in
       let unread : get lessons.1.readings u.faction ≡ None = ap (λ r. get r u.faction) same.readings ∙ none in

@@ -5,15 +5,15 @@ use Rattle.std.specs.FinMap.{get}
 use Rattle.atl_tables.specs.Worlds.{WorldValue}
 use Rattle.atl_tables.specs.declared.direction.Direction.{Direction}
 use Rattle.atl_tables.specs.ByNumber.{neighbour}
-use Rattle.atl_orders.specs.declared.order.Order.TheVariants as orders
-use Rattle.atl_orders.specs.Orders.{Said}
+use Rattle.atl_orders.specs.declared.order.Operands.TheVariants as operands
+use Rattle.atl_orders.specs.Orders.{OperandsValue}
 use Rattle.atl_records.specs.declared.event.Outcome.TheVariants.{Done}
 use Rattle.atl_records.specs.declared.records.Unit.{Unit}
 use Rattle.atl_state.specs.Owners.{with_place}
 use Rattle.atl_state.specs.Campaign.{CampaignValue, numbers_inside, with_guard, with_structure_region}
-use Rattle.atl_action.specs.Sail.{IsCarried, is_sailing, sail, sail_fault, sail_said, sail_step, sail_terms, sailed, taken_along}
-use Rattle.atl_action.specs.Walk.{is_walking, walk, walk_fault, walk_said, walk_step, walk_terms, walked}
-use Rattle.atl_instant.proofs.TermsLaws.{Leaves}
+use Rattle.atl_action.specs.Sail.{IsAtMostMoved, after_sailing, is_sailing, sail, sail_effect, sail_fault, sail_spec, sail_step, with_unit_aboard}
+use Rattle.atl_action.specs.Walk.{after_walk, is_walking, walk, walk_effect, walk_fault, walk_spec, walk_step}
+use Rattle.atl_instant.proofs.PhaseSpecLaws.{Leaves}
 use Rattle.atl_instant.proofs.UnmailedLaws.{HasItsItems, HaveTheirMen, OthersHaveMen, SparesMen, carried_leaves, items_of_no_worse, men_in_turn, men_same, men_twice, men_unless, others_men, own_faction, unmailed_spared}
 use Rattle.atl_instant.proofs.UnmailedStepLaws.{guard_men, place_men}
 
@@ -27,44 +27,44 @@ walk_men : (w : WorldValue) (c : CampaignValue) (n : ℕ) (u : Unit) (direction 
 unfolding walk
 walk_men w c n u direction =
     let to = neighbour w u.region direction in
-    men_unless c (walked c n (unwrap_or to 0)) (Done 0) (walk_fault w u to) (gone_men c n (unwrap_or to 0) 0)
+    men_unless c (after_walk c n (unwrap_or to 0)) (Done 0) (walk_fault w u to) (gone_men c n (unwrap_or to 0) 0)
 
-walked_men : (w : WorldValue) (c : CampaignValue) (f n : ℕ) (x : Unit) (o : Said) → IfSome (walk_said w n o) (λ deed. OthersHaveMen f c (deed c x).0)
-walked_men w c f n x (orders.Move direction) = others_men f c (walk w n direction c x).0 (walk_men w c n x direction)
+walked_men : (w : WorldValue) (c : CampaignValue) (f n : ℕ) (x : Unit) (o : OperandsValue) → IfSome (walk_effect w n o) (λ deed. OthersHaveMen f c (deed c x).0)
+walked_men w c f n x (operands.Direction direction) = others_men f c (walk w n direction c x).0 (walk_men w c n x direction)
 walked_men w c f n x other = tt
 
 walk_spares : SparesMen walk_step
-walk_spares w a c t x own = walked_men w c t.faction t.unit x t.said
+walk_spares w a c t x own = walked_men w c t.faction t.unit x t.order_value.operands
 
-pub walk_leaves : Leaves walk_terms
+pub walk_leaves : Leaves walk_spec
 walk_leaves = carried_leaves walk_step is_walking walk_spares (unmailed_spared is_walking own_faction items_of_no_worse)
 
 -- ---- SAIL
 
-sailed_men : (c : CampaignValue) (ship to : ℕ) → HaveTheirMen c (sailed c ship to)
-unfolding sailed
+sailed_men : (c : CampaignValue) (ship to : ℕ) → HaveTheirMen c (after_sailing c ship to)
+unfolding after_sailing
 sailed_men c ship to =
     let ns = numbers_inside ship c.units in
-    let gone = fold (taken_along ship to) c ns in
-    men_twice c gone (with_structure_region gone ship to) (men_in_turn (taken_along ship to) (λ d n. gone_men d n to ship) c ns) (men_same gone (with_structure_region gone ship to) refl)
+    let gone = fold (with_unit_aboard ship to) c ns in
+    men_twice c gone (with_structure_region gone ship to) (men_in_turn (with_unit_aboard ship to) (λ d n. gone_men d n to ship) c ns) (men_same gone (with_structure_region gone ship to) refl)
 
 sail_men : (w : WorldValue) (c : CampaignValue) (n : ℕ) (u : Unit) (direction : Direction) → HaveTheirMen c (sail w n direction c u).0
 unfolding sail
 sail_men w c n u direction =
     let to = neighbour w u.region direction in
-    men_unless c (sailed c u.structure (unwrap_or to 0)) (Done 0) (sail_fault w c n u (get c.structures u.structure) to) (sailed_men c u.structure (unwrap_or to 0))
+    men_unless c (after_sailing c u.structure (unwrap_or to 0)) (Done 0) (sail_fault w c n u (get c.structures u.structure) to) (sailed_men c u.structure (unwrap_or to 0))
 
-sailing_men : (w : WorldValue) (c : CampaignValue) (f n : ℕ) (x : Unit) (o : Said) → IfSome (sail_said w n o) (λ deed. OthersHaveMen f c (deed c x).0)
-sailing_men w c f n x (orders.Sail direction) = others_men f c (sail w n direction c x).0 (sail_men w c n x direction)
+sailing_men : (w : WorldValue) (c : CampaignValue) (f n : ℕ) (x : Unit) (o : OperandsValue) → IfSome (sail_effect w n o) (λ deed. OthersHaveMen f c (deed c x).0)
+sailing_men w c f n x (operands.Direction direction) = others_men f c (sail w n direction c x).0 (sail_men w c n x direction)
 sailing_men w c f n x other = tt
 
 sail_spares : SparesMen sail_step
-sail_spares w a c t x own = sailing_men w c t.faction t.unit x t.said
+sail_spares w a c t x own = sailing_men w c t.faction t.unit x t.order_value.operands
 
-items_of_carried : (u v : Unit) → IsCarried u v → HasItsItems u v
+items_of_carried : (u v : Unit) → IsAtMostMoved u v → HasItsItems u v
 items_of_carried u v h = record { name = h.name; items = h.items }
 
-pub sail_leaves : Leaves sail_terms
+pub sail_leaves : Leaves sail_spec
 sail_leaves =
     carried_leaves sail_step is_sailing sail_spares
     (λ w c d m keeps n u there none. let one = keeps.0 n u there in record { unit = one.unit; there = one.there; spared = items_of_carried u one.unit one.spared })

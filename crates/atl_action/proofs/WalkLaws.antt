@@ -11,8 +11,8 @@ use Rattle.atl_tables.specs.declared.world.RegionPlan.{RegionPlan}
 use Rattle.atl_tables.specs.declared.direction.Direction.{Direction}
 use Rattle.atl_tables.specs.ByNumber.{is_land_at, neighbour}
 use Rattle.atl_tables.proofs.GeneralLaws.{is_equal, is_unequal}
-use Rattle.atl_orders.specs.declared.order.Order.TheVariants as orders
-use Rattle.atl_orders.specs.Orders.{Said}
+use Rattle.atl_orders.specs.declared.order.Operands.TheVariants as operands
+use Rattle.atl_orders.specs.Orders.{OperandsValue}
 use Rattle.atl_records.specs.declared.event.EventFault.{EventFault}
 use Rattle.atl_records.specs.declared.event.EventFault.TheVariants.{AtSea, NoMen, NoWay, TooHeavy}
 use Rattle.atl_records.specs.declared.event.Outcome.TheVariants.{Done}
@@ -21,22 +21,22 @@ use Rattle.atl_records.specs.declared.records.Unit.{Unit}
 use Rattle.atl_records.specs.Every.{Every, IsThere}
 use Rattle.atl_state.specs.Good.{IsOwned, IsSteady, is_ship}
 use Rattle.atl_records.specs.Levels.{carried_by, goods_of}
-use Rattle.atl_state.specs.Owners.{handed, heir, placed, with_place, with_place_at}
+use Rattle.atl_state.specs.Owners.{after_handover, heir, placed, with_place, with_place_at}
 use Rattle.atl_state.specs.Campaign.{CampaignValue, with_guard}
 use Rattle.atl_records.proofs.EveryLaws.{none_some, other_number}
 use Rattle.atl_state.proofs.LeavingLaws.{owned_by}
 use Rattle.atl_instant.specs.Outcomes.{unless}
-use Rattle.atl_instant.specs.Staying.{IsNoWorse}
-use Rattle.atl_instant.specs.Steps.{IsOrderly, IsOwnOrder, StepsWell}
+use Rattle.atl_instant.specs.NoWorse.{IsNoWorse}
+use Rattle.atl_instant.specs.OrderEffects.{IsOrderly, IsOwnOrder, StepsWell}
 use Rattle.atl_instant.specs.Unbooked.{books_nothing, moves_nothing}
 use Rattle.atl_instant.proofs.MeaningLaws.{same_month_by}
 use Rattle.atl_instant.proofs.OutcomeLaws.{false_true, none_fits}
 use Rattle.atl_instant.proofs.OwnerLaws.{heir_owns, owner_stays}
 use Rattle.atl_instant.proofs.PlacingLaws.{mapped_twice, owns_no_other, place_stays}
-use Rattle.atl_instant.proofs.StructureLaws.{changed_else, equal, get-handed, handed_is, handed_on, len-handed}
-use Rattle.atl_instant.proofs.StepLaws.{no_worse_spares, well_same}
+use Rattle.atl_instant.proofs.StructureLaws.{changed_else, equal, get-after_handover, handed_is, handed_on, len-after_handover}
+use Rattle.atl_instant.proofs.OrderEffectLaws.{no_worse_spares, well_same}
 use Rattle.atl_instant.proofs.UnbookedLaws.{stays_spared, stays_well}
-use Rattle.atl_action.specs.Walk.{is_land_there, walk, walk_fault, walk_said, walk_step, walked}
+use Rattle.atl_action.specs.Walk.{after_walk, is_land_there, walk, walk_effect, walk_fault, walk_step}
 use Rattle.atl_action.proofs.PeopleLaws.{AreSamePeople, elsewhere, elsewhere_at, elsewhere_people, gone, gone_if, gone_same, guards_stay, total_people}
 use Rattle.atl_action.proofs.TravelLaws.{AreTravelled, IsPut, IsSameStructure, steady-travelled, travelled}
 
@@ -157,10 +157,10 @@ module _ (w : WorldValue) (c : CampaignValue) (n : ℕ) (u : Unit) (to : ℕ) (i
   begun = placed c n to 0
 
   abbrev gone_out : CampaignValue
-  gone_out = handed begun old_place n next
+  gone_out = after_handover begun old_place n next
 
   abbrev gone_off : CampaignValue
-  gone_off = handed gone_out 0 0 n
+  gone_off = after_handover gone_out 0 0 n
 
   abbrev given : (a e b : Bool) → Structure → Structure
   given a e b y = let x = if a && e then owned_by next y else y in if b && x.owner == 0 then owned_by n x else x
@@ -177,13 +177,13 @@ module _ (w : WorldValue) (c : CampaignValue) (n : ℕ) (u : Unit) (to : ℕ) (i
 
   given_at : (q : ℕ) → get gone_off.structures q ≡ option_map (λ y. handed_on 0 0 n q (handed_on old_place n next q y)) (get c.structures q)
   given_at q =
-      get-handed gone_out 0 0 n q ∙ ap (option_map (handed_on 0 0 n q)) (get-handed begun old_place n next q)
+      get-after_handover gone_out 0 0 n q ∙ ap (option_map (handed_on 0 0 n q)) (get-after_handover begun old_place n next q)
       ∙ mapped_twice (handed_on 0 0 n q) (handed_on old_place n next q) (get c.structures q)
 
   inside_well : old_place ≢ 0 → StepsWell IsSteady books_nothing w c (behind gone_off.structures)
   inside_well some =
       behind_well gone_off.structures (λ q y. handed_on 0 0 n q (handed_on old_place n next q y)) given_at
-      (len-handed gone_out 0 0 n ∙ len-handed begun old_place n next)
+      (len-after_handover gone_out 0 0 n ∙ len-after_handover begun old_place n next)
       (λ q y there. given_same (q == old_place) (y.owner == n) (q == 0) y (other_number q 0 (not_first q y there)))
       (λ q y there. given_owned some q y there (q == old_place) (y.owner == n) (q == 0) refl refl (other_number q 0 (not_first q y there)))
 
@@ -196,7 +196,7 @@ module _ (w : WorldValue) (c : CampaignValue) (n : ℕ) (u : Unit) (to : ℕ) (i
   by_place true t = outside_well (is_equal old_place 0 t)
   by_place false t = subst (λ d. StepsWell IsSteady books_nothing w c (with_guard d n false)) (sym off_is) (inside_well (is_unequal old_place 0 t))
 
-  pub walked_well : StepsWell IsSteady books_nothing w c (walked c n to)
+  pub walked_well : StepsWell IsSteady books_nothing w c (after_walk c n to)
   unfolding with_place
   walked_well = subst (λ o. StepsWell IsSteady books_nothing w c (with_guard (with_place_at c n to 0 o) n false)) (sym is) (by_place (old_place == 0) refl)
 
@@ -208,11 +208,11 @@ land_to w None dry = false_true (sym dry)
 land_to w (Some r) dry = not-false (is_land_at w r) dry
 
 -- what is so of the campaign as it is, and of that in which the unit has gone, is so of the campaign behind the order
-walk_cases : (P : CampaignValue → Type 0) (w : WorldValue) (c : CampaignValue) (n : ℕ) (u : Unit) (direction : Direction) → P c → ((to : ℕ) → is_land_at w to ≡ true → P (walked c n to)) → P (walk w n direction c u).0
+walk_cases : (P : CampaignValue → Type 0) (w : WorldValue) (c : CampaignValue) (n : ℕ) (u : Unit) (direction : Direction) → P c → ((to : ℕ) → is_land_at w to ≡ true → P (after_walk c n to)) → P (walk w n direction c u).0
 unfolding walk
 walk_cases P w c n u direction same gone = by_fault (neighbour w u.region direction) (walk_fault w u (neighbour w u.region direction)) refl
   where
-    by_fault : (to : Option ℕ) (o : Option EventFault) → walk_fault w u to ≡ o → P (unless c o (walked c n (unwrap_or to 0), Done 0)).0
+    by_fault : (to : Option ℕ) (o : Option EventFault) → walk_fault w u to ≡ o → P (unless c o (after_walk c n (unwrap_or to 0), Done 0)).0
     by_fault to (Some fault) e = same
     by_fault to None e =
         let heavy = (nat_lt (carried_by w u.holding) (goods_of w u.holding), TooHeavy) ∷ [] in
@@ -234,16 +234,16 @@ walk_stays w c n u direction k apart =
 
 pub walk_orderly : IsOrderly walk_step IsSteady books_nothing moves_nothing IsOwnOrder IsNoWorse
 walk_orderly = record {
-  well = λ w a c t x steady fit own. well w c t.unit x own.there steady t.said;
+  well = λ w a c t x steady fit own. well w c t.unit x own.there steady t.order_value.operands;
   sparing = no_worse_spares;
-  spared = λ w a c t x steady own k v there apart. stays_spared (walk_step w a t) c t x own k v there apart (λ j other. stays w c t.unit x j other t.said);
+  spared = λ w a c t x steady own k v there apart. stays_spared (walk_step w a t) c t x own k v there apart (λ j other. stays w c t.unit x j other t.order_value.operands);
   bounded = λ w c steady e t. omega arith;
 }
   where
-    well : (w : WorldValue) (c : CampaignValue) (n : ℕ) (x : Unit) → get c.units n ≡ Some x → IsSteady w c → (s : Said) → IfSome (walk_said w n s) (λ deed. StepsWell IsSteady books_nothing w c (deed c x).0)
-    well w c n x is steady (orders.Move direction) = walk_well w c n x is direction steady
+    well : (w : WorldValue) (c : CampaignValue) (n : ℕ) (x : Unit) → get c.units n ≡ Some x → IsSteady w c → (s : OperandsValue) → IfSome (walk_effect w n s) (λ deed. StepsWell IsSteady books_nothing w c (deed c x).0)
+    well w c n x is steady (operands.Direction direction) = walk_well w c n x is direction steady
     well w c n x is steady other = tt
 
-    stays : (w : WorldValue) (c : CampaignValue) (n : ℕ) (x : Unit) (j : ℕ) → j ≢ n → (s : Said) → IfSome (walk_said w n s) (λ deed. get (deed c x).0.units j ≡ get c.units j)
-    stays w c n x j apart (orders.Move direction) = walk_stays w c n x direction j apart
+    stays : (w : WorldValue) (c : CampaignValue) (n : ℕ) (x : Unit) (j : ℕ) → j ≢ n → (s : OperandsValue) → IfSome (walk_effect w n s) (λ deed. get (deed c x).0.units j ≡ get c.units j)
+    stays w c n x j apart (operands.Direction direction) = walk_stays w c n x direction j apart
     stays w c n x j apart other = tt

@@ -6,13 +6,13 @@ use Rattle.std.specs.Ordering.{nat_cmp}
 use Rattle.std.specs.FinMap.{FinMap, empty, get, insert}
 use Rattle.atl_tables.specs.ByNumber.{fee_of}
 use Rattle.atl_tables.specs.Worlds.{WorldValue}
-use Rattle.atl_orders.specs.declared.order.Order.TheVariants as orders
+use Rattle.atl_orders.specs.declared.order.Operands.TheVariants as operands
 use Rattle.atl_orders.specs.declared.verb.Verb.{Verb}
 use Rattle.atl_orders.specs.declared.verb.Verb.TheVariants as verbs
-use Rattle.atl_orders.specs.Orders.{Said}
+use Rattle.atl_orders.specs.Orders.{OperandsValue}
 use Rattle.atl_records.specs.declared.records.Unit.{Unit}
 use Rattle.atl_records.specs.Every.{IsThere}
-use Rattle.atl_records.specs.Held.{Held}
+use Rattle.atl_records.specs.Holdings.{HoldingValue}
 use Rattle.atl_state.specs.Campaign.{CampaignValue}
 use Rattle.atl_instant.specs.Month.{MonthValue}
 use Rattle.atl_instant.specs.PhaseOrders.{Task, orders_by_unit}
@@ -22,12 +22,12 @@ is_studying verbs.Study = true
 is_studying verb = false
 
 -- the skill that an order has its unit study
-abbrev pub skill_of : Said → Option ℕ
-skill_of (orders.Study s) = Some s
+abbrev pub skill_of : OperandsValue → Option ℕ
+skill_of (operands.Skill s) = Some s
 skill_of order = None
 
 -- there are men, and the fee for all of them
-abbrev pub can_learn : WorldValue → (skill : ℕ) → Held → Bool
+abbrev pub can_learn : WorldValue → (skill : ℕ) → HoldingValue → Bool
 can_learn w s h = nat_lt 0 h.men && nat_le (fee_of w s * h.men) h.money
 
 -- a unit that is there, is of the faction that gives the order, and can learn
@@ -41,7 +41,7 @@ Learning = FinMap nat_cmp ℕ
 -- with the unit of a STUDY order that stands, if it learns by it
 abbrev pub with_learner : WorldValue → CampaignValue → Learning → Task → Learning
 with_learner w c learning t =
-    option_map_or (λ s. if learns w s t.faction (get c.units t.unit) then insert learning t.unit s else learning) (skill_of t.said) learning
+    option_map_or (λ s. if learns w s t.faction (get c.units t.unit) then insert learning t.unit s else learning) (skill_of t.order_value.operands) learning
 
 -- the orders of STUDY that stand
 abbrev pub study_tasks : MonthValue → List Task
@@ -58,7 +58,7 @@ pub record IsLearning (w : WorldValue) (c : CampaignValue) (m : MonthValue) (n s
   pub order : Task
   pub stands : Contains (study_tasks m) order
   pub for_unit : order.unit ≡ n
-  pub says : skill_of order.said ≡ Some skill
+  pub says : skill_of order.order_value.operands ≡ Some skill
   pub can : learns w skill order.faction (get c.units n) ≡ true
 
 -- only those units are learning, and each of them is

@@ -1,5 +1,5 @@
 pub mod Limits
-pub mod Ways
+pub mod Regions
 pub mod Walk
 pub mod Sail
 pub mod Learners

@@ -1,9 +1,9 @@
--- The numbers of teaching and study.
+-- The numbers of teaching and study: people per teacher, and days per month. See docs/RULES.md, "Learning".
 use Rattle.std.specs.Prelude.{ℕ}
 
 -- so many men learn from one teacher in a month
-abbrev pub places_each : ℕ
-places_each = 10
+abbrev pub pupils_per_teacher : ℕ
+pupils_per_teacher = 10
 
 -- the days that a man studies in a month
 abbrev pub month_days : ℕ

@@ -7,10 +7,10 @@ use Rattle.atl_tables.specs.Worlds.{WorldValue}
 use Rattle.atl_tables.specs.declared.direction.Direction.{Direction}
 use Rattle.atl_tables.specs.declared.world.Kind.{Kind}
 use Rattle.atl_tables.specs.ByNumber.{is_land_at, neighbour, size_of}
-use Rattle.atl_orders.specs.declared.order.Order.TheVariants as orders
+use Rattle.atl_orders.specs.declared.order.Operands.TheVariants as operands
 use Rattle.atl_orders.specs.declared.verb.Verb.{Verb}
 use Rattle.atl_orders.specs.declared.verb.Verb.TheVariants as verbs
-use Rattle.atl_orders.specs.Orders.{Said}
+use Rattle.atl_orders.specs.Orders.{OperandsValue}
 use Rattle.atl_records.specs.declared.event.EventFault.{EventFault}
 use Rattle.atl_records.specs.declared.event.EventFault.TheVariants.{NoCrew, NoMen, NotComplete, NotInside, NotOwner, NoWay, TooHeavy}
 use Rattle.atl_records.specs.declared.event.Outcome.TheVariants.{Done}
@@ -18,18 +18,18 @@ use Rattle.atl_records.specs.declared.records.Structure.{Structure}
 use Rattle.atl_records.specs.declared.records.Unit.{Unit}
 use Rattle.atl_records.specs.Every.{Every}
 use Rattle.atl_state.specs.Good.{is_ship}
-use Rattle.atl_records.specs.Held.{Held, amount_of}
+use Rattle.atl_records.specs.Holdings.{HoldingValue, amount_of}
 use Rattle.atl_records.specs.Levels.{level_in_any, load_of}
 use Rattle.atl_state.specs.Owners.{is_owned_by, with_place}
 use Rattle.atl_state.specs.Campaign.{CampaignValue, numbers_inside, with_guard, with_structure_region}
 use Rattle.atl_instant.specs.Inside.{inside}
-use Rattle.atl_instant.specs.Meaning.{Keeping}
+use Rattle.atl_instant.specs.Meaning.{Frame}
 use Rattle.atl_instant.specs.Outcomes.{first_fault, unless}
 use Rattle.atl_instant.specs.PhaseOrders.{Task}
-use Rattle.atl_instant.specs.Steps.{Concern, Deed, IsSpared, Step, carried_out, ordered, spares_others}
-use Rattle.atl_instant.specs.Staying.{IsUnchanged}
-use Rattle.atl_action.specs.Ways.{is_region}
-use Rattle.atl_instant.specs.Terms.{PhaseTerms, books_none}
+use Rattle.atl_instant.specs.OrderEffects.{Affects, IsUnaffected, OrderEffect, OrderMeaning, meaning_by_orders, order_result, spares_others}
+use Rattle.atl_instant.specs.NoWorse.{IsUnchanged}
+use Rattle.atl_action.specs.Regions.{is_region}
+use Rattle.atl_instant.specs.PhaseSpecs.{PhaseSpec, books_none}
 
 -- ---- which orders are of the phase
 
@@ -55,11 +55,11 @@ abbrev pub capacity : WorldValue → Option Structure → ℕ
 capacity = of_kind (λ k. k.capacity)
 
 -- what people are worth as a crew: each man his level in the world's skill of sailing
-abbrev pub crew_of : WorldValue → Held → ℕ
+abbrev pub crew_of : WorldValue → HoldingValue → ℕ
 crew_of w h = h.men * level_in_any h w.rules.sailing
 
 -- the sum over all units inside
-abbrev pub sum_inside : (Held → ℕ) → CampaignValue → (structure : ℕ) → ℕ
+abbrev pub sum_inside : (HoldingValue → ℕ) → CampaignValue → (structure : ℕ) → ℕ
 sum_inside f c s = sum_by (λ n. option_map_or (λ u. f u.holding) (get c.units n) 0) (numbers_inside s c.units)
 
 -- ---- SAIL
@@ -81,30 +81,30 @@ sail_fault w c n u ship to = first_fault (
     ∷ [])
 
 -- one unit that is inside goes along, and guards no more
-abbrev pub taken_along : (ship to : ℕ) → CampaignValue → (n : ℕ) → CampaignValue
-taken_along ship to c n = with_guard (with_place c n to ship) n false
+abbrev pub with_unit_aboard : (ship to : ℕ) → CampaignValue → (n : ℕ) → CampaignValue
+with_unit_aboard ship to c n = with_guard (with_place c n to ship) n false
 
 -- the ship goes, and all that are inside
-unfoldable pub sailed : CampaignValue → (ship to : ℕ) → CampaignValue
-sailed c ship to = with_structure_region (fold (taken_along ship to) c (numbers_inside ship c.units)) ship to
+unfoldable pub after_sailing : CampaignValue → (ship to : ℕ) → CampaignValue
+after_sailing c ship to = with_structure_region (fold (with_unit_aboard ship to) c (numbers_inside ship c.units)) ship to
 
-unfoldable pub sail : WorldValue → (n : ℕ) → Direction → Deed
+unfoldable pub sail : WorldValue → (n : ℕ) → Direction → OrderEffect
 sail w n direction c u =
     let to = neighbour w u.region direction in
-    unless c (sail_fault w c n u (get c.structures u.structure) to) (sailed c u.structure (unwrap_or to 0), Done 0)
+    unless c (sail_fault w c n u (get c.structures u.structure) to) (after_sailing c u.structure (unwrap_or to 0), Done 0)
 
-abbrev pub sail_said : WorldValue → (n : ℕ) → Said → Option Deed
-sail_said w n (orders.Sail direction) = Some (sail w n direction)
-sail_said w n other = None
+abbrev pub sail_effect : WorldValue → (n : ℕ) → OperandsValue → Option OrderEffect
+sail_effect w n (operands.Direction direction) = Some (sail w n direction)
+sail_effect w n other = None
 
-abbrev pub sail_step : Step
-sail_step w aliases t = sail_said w t.unit t.said
+abbrev pub sail_step : OrderMeaning
+sail_step w aliases t = sail_effect w t.unit t.order_value.operands
 
 -- ---- the phase
 
 -- a unit that keeps its name and no less of anything, and stays inside what it was inside; where that is nothing, it stays in its region
 -- and keeps its flag
-pub record IsCarried (before after : Unit) : Type 0 where
+pub record IsAtMostMoved (before after : Unit) : Type 0 where
   pub faction : after.faction ≡ before.faction
   pub structure : after.structure ≡ before.structure
   pub region : before.structure ≡ 0 → after.region ≡ before.region
@@ -117,22 +117,22 @@ pub record IsCarried (before after : Unit) : Type 0 where
   pub days : (s : ℕ) → amount_of before.holding.days s ≤ amount_of after.holding.days s
 
 -- each unit is still there, and at most went along
-abbrev pub AreCarried : CampaignValue → CampaignValue → Type 0
-AreCarried before after = Every (λ n u. IsSpared IsCarried after n u) before.units
+abbrev pub AreAtMostMoved : CampaignValue → CampaignValue → Type 0
+AreAtMostMoved before after = Every (λ n u. IsUnaffected IsAtMostMoved after n u) before.units
 
 -- no order takes anything from anybody
-abbrev pub concerns_nobody : Concern
+abbrev pub concerns_nobody : Affects
 concerns_nobody t n f = ⊥
 
 -- The ship sails that a unit is inside: as the phase begins an order is for a unit inside the same structure, of the faction that wrote
 -- it, and without a fault.
 pub record SailsWith (w : WorldValue) (begun : CampaignValue) (t : Task) (n f : ℕ) : Type 0 where
   pub together : inside begun t.unit ≡ inside begun n
-  pub done : (ordered (sail_said w t.unit t.said) begun t.faction t.unit).1 ≡ Some (Done 0)
+  pub done : (order_result (sail_effect w t.unit t.order_value.operands) begun t.faction t.unit).1 ≡ Some (Done 0)
 
 -- each unit goes at most with what it is inside, and where that is no ship that sails, it stays as it is
-abbrev pub sail_keeps : Keeping
-sail_keeps w m before after = AreCarried before after × spares_others (SailsWith w before) IsUnchanged is_sailing w m before after
+abbrev pub sail_keeps : Frame
+sail_keeps w m before after = AreAtMostMoved before after × spares_others (SailsWith w before) IsUnchanged is_sailing w m before after
 
-abbrev pub sail_terms : PhaseTerms
-sail_terms = books_none (carried_out sail_step is_sailing) sail_keeps
+abbrev pub sail_spec : PhaseSpec
+sail_spec = books_none (meaning_by_orders sail_step is_sailing) sail_keeps

@@ -1,4 +1,4 @@
--- STUDY, behind TEACH. See docs/RULES.md, "Learning".
+-- STUDY, which follows TEACH: units pay the fee and gain days of a skill. See docs/RULES.md, "Learning".
 use Rattle.std.specs.Prelude.{◌+◌, ◌-◌, ◌*◌, ◌==◌, ◌&&◌, ℕ, pos, neg_ℤ, min, nat_lt, Bool, false, [], ◌∷◌, Option, Some, None, if◌then◌else◌}
 use Rattle.std.specs.List.{slice_get}
 use Rattle.std.specs.Option.{option_map_or}
@@ -7,8 +7,8 @@ use Rattle.atl_tables.specs.Worlds.{WorldValue}
 use Rattle.atl_tables.specs.declared.world.Kind.{Kind}
 use Rattle.atl_tables.specs.Sums.{sum_over}
 use Rattle.atl_tables.specs.ByNumber.{fee_of, size_of}
-use Rattle.atl_orders.specs.declared.order.Order.TheVariants as orders
-use Rattle.atl_orders.specs.Orders.{Said}
+use Rattle.atl_orders.specs.declared.order.Operands.TheVariants as operands
+use Rattle.atl_orders.specs.Orders.{OperandsValue}
 use Rattle.atl_records.specs.declared.books.Entry.TheVariants.{Study}
 use Rattle.atl_records.specs.declared.books.Thing.TheVariants.{Money}
 use Rattle.atl_records.specs.declared.event.EventFault.{EventFault}
@@ -16,18 +16,18 @@ use Rattle.atl_records.specs.declared.event.EventFault.TheVariants.{NoFee, NoMen
 use Rattle.atl_records.specs.declared.event.Outcome.TheVariants.{Done}
 use Rattle.atl_records.specs.declared.records.Structure.{Structure}
 use Rattle.atl_records.specs.declared.records.Unit.{Unit}
-use Rattle.atl_records.specs.Held.{Held, amount_of, with_amount_of}
+use Rattle.atl_records.specs.Holdings.{HoldingValue, amount_of, with_amount_of}
 use Rattle.atl_state.specs.Lending.{with_held}
 use Rattle.atl_records.specs.Limits.{most_days}
 use Rattle.atl_state.specs.Campaign.{CampaignValue, with_amount}
-use Rattle.atl_instant.specs.Meaning.{Keeping, Meaning, Moving, most_moved, moves_only}
+use Rattle.atl_instant.specs.Meaning.{BookBound, Frame, Meaning, most_moved, moves_only}
 use Rattle.atl_instant.specs.Outcomes.{first_fault, unless}
-use Rattle.atl_instant.specs.Steps.{Deed, IsOwnOrder, Reserve, Step, carried_out, spares_others}
-use Rattle.atl_instant.specs.Staying.{IsUnchanged}
+use Rattle.atl_instant.specs.OrderEffects.{IsOwnOrder, OrderEffect, OrderMeaning, RemainingBound, meaning_by_orders, spares_others}
+use Rattle.atl_instant.specs.NoWorse.{IsUnchanged}
 use Rattle.atl_action.specs.Learners.{is_studying, learners}
 use Rattle.atl_action.specs.Limits.{helped_days, month_days, taught_days}
-use Rattle.atl_action.specs.Teach.{Taught, taught_out}
-use Rattle.atl_instant.specs.Terms.{PhaseTerms, books_money}
+use Rattle.atl_action.specs.Teach.{TaughtMen, after_lessons}
+use Rattle.atl_instant.specs.PhaseSpecs.{PhaseSpec, books_money}
 
 -- ---- days
 
@@ -47,52 +47,52 @@ days_after men old taught helped = min (old + month_days * men + taught_days * t
 -- ---- STUDY, of a unit of which so many men were taught
 
 -- NoMen, NoFee
-abbrev pub study_fault : Held → (cost : ℕ) → Option EventFault
+abbrev pub study_fault : HoldingValue → (cost : ℕ) → Option EventFault
 study_fault h cost = first_fault ((h.men == 0, NoMen) ∷ (nat_lt h.money cost, NoFee) ∷ [])
 
 -- the fee is paid, and so many days are reached
-abbrev pub with_study : Held → (skill cost days : ℕ) → Held
+abbrev pub with_study : HoldingValue → (skill cost days : ℕ) → HoldingValue
 with_study h s cost days = record h { money = h.money - cost; days = with_amount_of h.days s days }
 
 -- what is paid is booked
-abbrev pub studied : CampaignValue → (n : ℕ) → Unit → (skill cost days : ℕ) → CampaignValue
-studied c n u s cost days = with_amount (with_held c n (with_study u.holding s cost days) (Some u)) Study Money (neg_ℤ (pos cost))
+abbrev pub after_study : CampaignValue → (n : ℕ) → Unit → (skill cost days : ℕ) → CampaignValue
+after_study c n u s cost days = with_amount (with_held c n (with_study u.holding s cost days) (Some u)) Study Money (neg_ℤ (pos cost))
 
-unfoldable pub study : WorldValue → (taught n skill : ℕ) → Deed
+unfoldable pub study : WorldValue → (taught n skill : ℕ) → OrderEffect
 study w taught n s c u =
     let cost = fee_of w s * u.holding.men in
     let old = amount_of u.holding.days s in
     let days = days_after u.holding.men old taught (is_helpful w s (get c.structures u.structure)) in
-    unless c (study_fault u.holding cost) (studied c n u s cost days, Done (days - old))
+    unless c (study_fault u.holding cost) (after_study c n u s cost days, Done (days - old))
 
-abbrev pub study_said : WorldValue → Taught → (n : ℕ) → Said → Option Deed
-study_said w taught n (orders.Study s) = Some (study w (taught n) n s)
-study_said w taught n other = None
+abbrev pub study_effect : WorldValue → TaughtMen → (n : ℕ) → OperandsValue → Option OrderEffect
+study_effect w taught n (operands.Skill s) = Some (study w (taught n) n s)
+study_effect w taught n other = None
 
 -- where so many were taught
-abbrev pub study_step : Taught → Step
-study_step taught w aliases t = study_said w taught t.unit t.said
+abbrev pub study_step : TaughtMen → OrderMeaning
+study_step taught w aliases t = study_effect w taught t.unit t.order_value.operands
 
 -- ---- the phase
 
 -- all teach, and then all study
 abbrev pub learn_meaning : Meaning
 learn_meaning w c m =
-    let lessons = taught_out c (learners w c m) m in
-    carried_out (study_step lessons.0) is_studying w c lessons.1
+    let lessons = after_lessons c (learners w c m) m in
+    meaning_by_orders (study_step lessons.0) is_studying w c lessons.1
 
 -- a unit for which its own faction wrote no order of STUDY stays as it is
-abbrev pub learn_keeps : Keeping
+abbrev pub learn_keeps : Frame
 learn_keeps = spares_others IsOwnOrder IsUnchanged is_studying
 
 -- ---- how far it moves the books
 
 -- no more than the money of all units is spent
-abbrev pub study_reserve : Reserve
+abbrev pub study_reserve : RemainingBound
 study_reserve c = moves_only (sum_over (λ u. u.holding.money) c.units) Study Money
 
-abbrev pub study_moves : Moving
+abbrev pub study_moves : BookBound
 study_moves = moves_only most_moved Study Money
 
-abbrev pub learn_terms : PhaseTerms
-learn_terms = books_money Study learn_meaning learn_keeps
+abbrev pub learn_spec : PhaseSpec
+learn_spec = books_money Study learn_meaning learn_keeps

@@ -3,7 +3,9 @@ use Rattle.std.specs.Prelude.{◌≡◌, ℕ, Option, Some}
 use Rattle.std.specs.List.{Contains}
 use Rattle.std.specs.FinMap.{get}
 use Rattle.atl_tables.specs.Worlds.{WorldValue}
-use Rattle.atl_orders.specs.declared.order.Order.TheVariants as orders
+use Rattle.atl_orders.specs.declared.order.Operands.TheVariants.{Skill}
+use Rattle.atl_orders.specs.declared.verb.Verb.TheVariants.{Study}
+use Rattle.atl_orders.specs.Orders.{order_of}
 use Rattle.atl_records.specs.declared.records.Unit.{Unit}
 use Rattle.atl_state.specs.Campaign.{CampaignValue}
 use Rattle.atl_instant.specs.Month.{MonthValue}
@@ -11,7 +13,7 @@ use Rattle.atl_instant.specs.Fit.{AreFit}
 use Rattle.atl_instant.specs.PhaseOrders.{Task}
 use Rattle.atl_action.specs.Learners.{learners, study_tasks}
 use Rattle.atl_action.specs.Study.{learn_meaning, study}
-use Rattle.atl_action.specs.Teach.{taught_out}
+use Rattle.atl_action.specs.Teach.{after_lessons}
 
 -- the order of STUDY of its own faction, which stands
 pub record IsOwnStudy (m : MonthValue) (n faction skill : ℕ) : Type 0 where
@@ -19,19 +21,19 @@ pub record IsOwnStudy (m : MonthValue) (n faction skill : ℕ) : Type 0 where
   pub stands : Contains (study_tasks m) order
   pub for_unit : order.unit ≡ n
   pub own : order.faction ≡ faction
-  pub says : order.said ≡ orders.Study skill
+  pub says : order.order_value ≡ order_of Study (Skill skill)
 
 -- how many men of a unit are taught
 abbrev pub taught_men : WorldValue → CampaignValue → MonthValue → (n : ℕ) → ℕ
-taught_men w c m n = (taught_out c (learners w c m) m).0 n
+taught_men w c m n = (after_lessons c (learners w c m) m).0 n
 
 -- the unit as this order alone makes it
-abbrev pub studied_alone : WorldValue → CampaignValue → MonthValue → (n skill : ℕ) → Unit → Option Unit
-studied_alone w c m n skill u = get (study w (taught_men w c m n) n skill c u).0.units n
+abbrev pub unit_after_own_study : WorldValue → CampaignValue → MonthValue → (n skill : ℕ) → Unit → Option Unit
+unit_after_own_study w c m n skill u = get (study w (taught_men w c m n) n skill c u).0.units n
 
 -- so it is behind the phase, with mailings as they can be read
 abbrev pub UnitsStudyAsBegun : Type 0
 UnitsStudyAsBegun =
     (w : WorldValue) (c : CampaignValue) (m : MonthValue) → AreFit w m.readings →
     (n skill : ℕ) (u : Unit) → get c.units n ≡ Some u → IsOwnStudy m n u.faction skill →
-    get (learn_meaning w c m).0.units n ≡ studied_alone w c m n skill u
+    get (learn_meaning w c m).0.units n ≡ unit_after_own_study w c m n skill u

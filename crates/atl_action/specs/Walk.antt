@@ -4,10 +4,10 @@ use Rattle.std.specs.Option.{option_map_or}
 use Rattle.atl_tables.specs.Worlds.{WorldValue}
 use Rattle.atl_tables.specs.declared.direction.Direction.{Direction}
 use Rattle.atl_tables.specs.ByNumber.{is_land_at, neighbour}
-use Rattle.atl_orders.specs.declared.order.Order.TheVariants as orders
+use Rattle.atl_orders.specs.declared.order.Operands.TheVariants as operands
 use Rattle.atl_orders.specs.declared.verb.Verb.{Verb}
 use Rattle.atl_orders.specs.declared.verb.Verb.TheVariants as verbs
-use Rattle.atl_orders.specs.Orders.{Said}
+use Rattle.atl_orders.specs.Orders.{OperandsValue}
 use Rattle.atl_records.specs.declared.event.EventFault.{EventFault}
 use Rattle.atl_records.specs.declared.event.EventFault.TheVariants.{AtSea, NoMen, NoWay, TooHeavy}
 use Rattle.atl_records.specs.declared.event.Outcome.TheVariants.{Done}
@@ -16,9 +16,9 @@ use Rattle.atl_records.specs.Levels.{carried_by, goods_of}
 use Rattle.atl_state.specs.Owners.{with_place}
 use Rattle.atl_state.specs.Campaign.{CampaignValue, with_guard}
 use Rattle.atl_instant.specs.Outcomes.{first_fault, unless}
-use Rattle.atl_instant.specs.Staying.{IsNoWorse}
-use Rattle.atl_instant.specs.Steps.{Deed, IsOwnOrder, Step}
-use Rattle.atl_instant.specs.Terms.{PhaseTerms, goes_by_orders}
+use Rattle.atl_instant.specs.NoWorse.{IsNoWorse}
+use Rattle.atl_instant.specs.OrderEffects.{IsOwnOrder, OrderEffect, OrderMeaning}
+use Rattle.atl_instant.specs.PhaseSpecs.{PhaseSpec, goes_by_orders}
 
 -- ---- which orders are of the phase
 
@@ -42,23 +42,23 @@ walk_fault w u to = first_fault (
     ∷ [])
 
 -- the unit goes there, leaves its structure, and guards no more
-abbrev pub walked : CampaignValue → (n to : ℕ) → CampaignValue
-walked c n to = with_guard (with_place c n to 0) n false
+abbrev pub after_walk : CampaignValue → (n to : ℕ) → CampaignValue
+after_walk c n to = with_guard (with_place c n to 0) n false
 
-unfoldable pub walk : WorldValue → (n : ℕ) → Direction → Deed
+unfoldable pub walk : WorldValue → (n : ℕ) → Direction → OrderEffect
 walk w n direction c u =
     let to = neighbour w u.region direction in
-    unless c (walk_fault w u to) (walked c n (unwrap_or to 0), Done 0)
+    unless c (walk_fault w u to) (after_walk c n (unwrap_or to 0), Done 0)
 
-abbrev pub walk_said : WorldValue → (n : ℕ) → Said → Option Deed
-walk_said w n (orders.Move direction) = Some (walk w n direction)
-walk_said w n other = None
+abbrev pub walk_effect : WorldValue → (n : ℕ) → OperandsValue → Option OrderEffect
+walk_effect w n (operands.Direction direction) = Some (walk w n direction)
+walk_effect w n other = None
 
-abbrev pub walk_step : Step
-walk_step w aliases t = walk_said w t.unit t.said
+abbrev pub walk_step : OrderMeaning
+walk_step w aliases t = walk_effect w t.unit t.order_value.operands
 
 -- ---- the phase
 
 -- who gives no such order stays
-abbrev pub walk_terms : PhaseTerms
-walk_terms = goes_by_orders walk_step is_walking IsOwnOrder IsNoWorse
+abbrev pub walk_spec : PhaseSpec
+walk_spec = goes_by_orders walk_step is_walking IsOwnOrder IsNoWorse

@@ -1,11 +1,12 @@
-//! TEACH and STUDY.
+//! The phase of TEACH and STUDY: first all units teach, then all study. See docs/RULES.md,
+//! "Learning".
 ghost use Rattle.atl_action.specs.Study.{learn_keeps, learn_meaning, study_moves};
 ghost use Rattle.atl_action.specs.StudyAlone.{UnitsStudyAsBegun};
 
 use crate::learners::learners;
-use crate::study::Studying;
+use crate::study::StudyPhase;
 use crate::teach::teach_all;
-use atl_instant::{Month, Phase, Ran, carry_out_orders};
+use atl_instant::{Month, Phase, PhaseResult, carry_out_orders};
 use atl_state::Campaign;
 use atl_tables::World;
 use std::alloc::Global;
@@ -21,10 +22,16 @@ impl Phase for LearnPhase {
 
     ghost keeps = { learn_keeps };
 
-    fn run(&self, alloc: Global, world: &World, mut campaign: Campaign, mut month: Month) -> Ran {
+    fn run(
+        &self,
+        alloc: Global,
+        world: &World,
+        mut campaign: Campaign,
+        mut month: Month,
+    ) -> PhaseResult {
         let learning = learners(alloc, world, &campaign, &month)?;
         let taught = teach_all(alloc, &campaign, &mut month, &learning)?;
-        let studying = Studying { taught };
+        let studying = StudyPhase { taught };
         carry_out_orders(alloc, &studying, world, &mut campaign, &mut month)?;
         Ok((campaign, month))
     }

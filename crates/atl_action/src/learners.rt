@@ -1,13 +1,14 @@
-//! Who is learning, as the phase of TEACH and STUDY begins.
+//! Finds the units that are learning, each with its skill, as the phase of TEACH and STUDY begins.
+//! See docs/RULES.md, "Learning".
 ghost use Rattle.std.specs.Prelude.{◌≡◌, ◌*◌, IfOk, List, OnOk, ℕ};
 ghost use Rattle.std.specs.FinMap as map;
-ghost use Rattle.atl_orders.specs.Orders.{said};
+ghost use Rattle.atl_orders.specs.Orders.{named};
 ghost use Rattle.atl_instant.specs.PhaseOrders.{task_of};
 ghost use Rattle.atl_action.specs.Learners.{UnitsLearnByOrders, can_learn, is_studying, learners, learns, skill_of, with_learner};
 ghost use Rattle.atl_tables.specs.ByNumber.{fee_of};
 
-use atl_instant::{Arrangement, Month, PhaseVerbs, Written};
-use atl_orders::{Order, Verb};
+use atl_instant::{Arrangement, Month, PhaseOrder, PhaseVerbs};
+use atl_orders::{Operands, Verb};
 use atl_state::{Campaign, Holding};
 use atl_tables::{Numbered, World};
 use std::alloc::{AllocError, Global};
@@ -24,11 +25,11 @@ impl PhaseVerbs for StudyVerbs {
 }
 
 /// The skill that an order has its unit study.
-fn skill_of(what: &Order) -> Option<u16>
-    ensures { (text : List ℕ) → result ≡ skill_of (said text what.now) }
+fn skill_of(what: &Operands) -> Option<u16>
+    ensures { (text : List ℕ) → result ≡ skill_of (named text what.now) }
 {
     match what {
-        Order::Study(skill) => Some(*skill),
+        Operands::Skill(skill) => Some(*skill),
         _ => None,
     }
 }
@@ -62,12 +63,13 @@ fn learns(world: &World, campaign: &Campaign, skill: u16, faction: u32, unit: u3
 fn add_learner(
     world: &World,
     campaign: &Campaign,
-    order: Written<'_>,
+    order: PhaseOrder<'_>,
     learning: &mut Numbered<u32>,
 ) -> Result<(), AllocError>
-    ensures { OnOk result (learning.new ≡ with_learner world.now campaign.now.value learning.old (task_of order.entry)) }
+    ensures { OnOk result (learning.new
+        ≡ with_learner world.now campaign.now.value learning.old (task_of order.entry)) }
 {
-    if let Some(skill) = skill_of(order.order)
+    if let Some(skill) = skill_of(&order.order.operands)
         && learns(world, campaign, skill, order.faction, order.unit)
     {
         learning.insert(order.unit, u32::from(skill))?;

@@ -4,11 +4,11 @@
 mod learn;
 mod learners;
 mod limits;
+mod regions;
 mod sail;
 mod study;
 mod teach;
 mod walk;
-mod ways;
 
 pub use learn::{LearnPhase, units_study_as_begun};
 pub use learners::units_learn_by_orders;

@@ -1,7 +1,7 @@
 //! The numbers of teaching and study. See docs/RULES.md, "Learning".
 
 /// How many men learn from one teacher in a month.
-pub(crate) const PLACES_EACH: u32 = 10;
+pub(crate) const PUPILS_PER_TEACHER: u32 = 10;
 
 /// The days that a man studies in a month.
 pub(crate) const MONTH_DAYS: u64 = 30;

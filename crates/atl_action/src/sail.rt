@@ -1,4 +1,4 @@
-//! SAIL: ships go to a neighbouring region with all that are inside.
+//! SAIL: ships go to a neighbouring region with all units inside. See docs/RULES.md, "Sailing".
 ghost use Rattle.std.specs.Prelude.{◌≡◌, IfOk, OnOk, fold, option_copied};
 ghost use Rattle.std.specs.List.{slice_get};
 ghost use Rattle.std.specs.Option.{option_map_or};
@@ -8,14 +8,15 @@ ghost use Rattle.atl_state.specs.Good.{IsSteady};
 ghost use Rattle.atl_records.specs.Levels.{load_of};
 ghost use Rattle.atl_state.specs.Owners.{is_owned_by};
 ghost use Rattle.atl_state.specs.Campaign.{with_structure_region};
-ghost use Rattle.atl_instant.specs.Steps.{carried};
-ghost use Rattle.atl_action.specs.Sail.{IsCarried, capacity, concerns_nobody, crew_needed, crew_of, is_complete_ship, is_sailing, is_way, sail, sail_fault, sail_keeps, sail_step, sail_terms, sailed, sum_inside, taken_along};
+ghost use Rattle.atl_instant.specs.OrderEffects.{faction_effect};
+ghost use Rattle.atl_action.specs.Sail.{IsAtMostMoved, after_sailing, capacity, concerns_nobody, crew_needed, crew_of, is_complete_ship, is_sailing, is_way, sail, sail_fault, sail_keeps, sail_spec, sail_step, sum_inside, with_unit_aboard};
 
-use crate::ways::is_region;
+use crate::regions::is_region;
 use atl_instant::{
-    Month, OrderPhase, Phase, PhaseVerbs, Ran, Written, carry_out_orders, failed, own_unit,
+    Month, OrderPhase, Phase, PhaseOrder, PhaseResult, PhaseVerbs, carry_out_orders, fault_outcome,
+    own_unit,
 };
-use atl_orders::{Direction, Order, Verb};
+use atl_orders::{Direction, Operands, Verb};
 use atl_state::{Campaign, EventFault, Holding, Outcome, Structure, Unit, level_in_any, load};
 use atl_tables::{Kind, World};
 use std::alloc::{AllocError, Global};
@@ -89,7 +90,8 @@ fn crew_of(world: &World, holding: &Holding) -> u64
 
 /// What a unit is worth as a crew.
 fn crew_at(world: &World, unit: Option<&Unit>) -> u64
-    ensures { result ≡ option_map_or (λ u. crew_of world.now u.holding) (option_copied unit.entry) 0 }
+    ensures { result ≡ option_map_or (λ u. crew_of world.now u.holding) (option_copied unit.entry)
+        0 }
 {
     match unit {
         Some(found) => crew_of(world, &found.holding),
@@ -99,7 +101,8 @@ fn crew_at(world: &World, unit: Option<&Unit>) -> u64
 
 /// What a unit weighs.
 fn load_at(world: &World, unit: Option<&Unit>) -> u64
-    ensures { result ≡ option_map_or (λ u. load_of world.now u.holding) (option_copied unit.entry) 0 }
+    ensures { result ≡ option_map_or (λ u. load_of world.now u.holding) (option_copied unit.entry)
+        0 }
 {
     match unit {
         Some(found) => load(world, &found.holding),
@@ -148,7 +151,8 @@ fn sail_fault(
     unit: &Unit,
     to: Option<u32>,
 ) -> Option<EventFault>
-    ensures { result ≡ sail_fault world.now campaign.now.value number unit.now (map.get campaign.now.value.structures unit.now.structure) to }
+    ensures { result ≡ sail_fault world.now campaign.now.value number unit.now
+        (map.get campaign.now.value.structures unit.now.structure) to }
 {
     let ship = campaign.structure(unit.structure);
     if unit.holding.men() == 0 {
@@ -172,7 +176,8 @@ fn sail_fault(
 
 /// A unit that is inside goes along, and guards no more.
 fn take_along(campaign: &mut Campaign, unit: u32, ship: u32, to: u32) -> Result<(), AllocError>
-    ensures what { OnOk result (campaign.new.value ≡ taken_along ship to campaign.old.value unit) }
+    ensures what { OnOk result
+        (campaign.new.value ≡ with_unit_aboard ship to campaign.old.value unit) }
     ensures marks { OnOk result (MarksChanges campaign.old campaign.new) }
 {
     campaign.place(unit, to, ship)?;
@@ -182,7 +187,8 @@ fn take_along(campaign: &mut Campaign, unit: u32, ship: u32, to: u32) -> Result<
 
 /// These units go along.
 fn take_all(campaign: &mut Campaign, units: &[u32], ship: u32, to: u32) -> Result<(), AllocError>
-    ensures what { OnOk result (campaign.new.value ≡ fold (taken_along ship to) campaign.old.value units.now) }
+    ensures what { OnOk result
+        (campaign.new.value ≡ fold (with_unit_aboard ship to) campaign.old.value units.now) }
     ensures marks { OnOk result (MarksChanges campaign.old campaign.new) }
 {
     for unit in units {
@@ -200,9 +206,9 @@ fn put_ship(campaign: &mut Campaign, ship: u32, to: u32)
 }
 
 /// A ship goes to another region, and all that are inside.
-#[tactic(auto, unfolding(crate::specs::Sail::sailed))]
+#[tactic(auto, unfolding(crate::specs::Sail::after_sailing))]
 fn put_there(alloc: Global, campaign: &mut Campaign, ship: u32, to: u32) -> Result<(), AllocError>
-    ensures what { OnOk result (campaign.new.value ≡ sailed campaign.old.value ship to) }
+    ensures what { OnOk result (campaign.new.value ≡ after_sailing campaign.old.value ship to) }
     ensures marks { OnOk result (MarksChanges campaign.old campaign.new) }
 {
     let inside = campaign.inside(ship).to_vec(alloc)?;
@@ -217,18 +223,21 @@ fn sail(
     alloc: Global,
     world: &World,
     campaign: &mut Campaign,
-    order: Written<'_>,
+    order: PhaseOrder<'_>,
     direction: Direction,
 ) -> Result<Outcome, AllocError>
-    ensures what { IfOk result (λ outcome. (campaign.new.value, outcome) ≡ carried (sail world.now order.entry.unit direction) campaign.old.value order.entry.faction order.entry.unit) }
+    ensures what { IfOk result
+        (λ outcome. (campaign.new.value, outcome)
+        ≡ faction_effect (sail world.now order.entry.unit direction) campaign.old.value
+        order.entry.faction order.entry.unit) }
     ensures marks { OnOk result (MarksChanges campaign.old campaign.new) }
 {
     let Some(unit) = own_unit(campaign, order) else {
-        return Ok(failed(EventFault::NotYours));
+        return Ok(fault_outcome(EventFault::NotYours));
     };
     let to = world.neighbour(unit.region, direction);
     if let Some(fault) = sail_fault(world, campaign, order.unit, unit, to) {
-        return Ok(failed(fault));
+        return Ok(fault_outcome(fault));
     }
     let ship = unit.structure;
     put_there(alloc, campaign, ship, to.unwrap_or(0))?;
@@ -250,7 +259,7 @@ impl OrderPhase for SailPhase {
 
     ghost concerns = { concerns_nobody };
 
-    ghost spares = { IsCarried };
+    ghost spares = { IsAtMostMoved };
 
     fn carry_out(
         &self,
@@ -258,10 +267,12 @@ impl OrderPhase for SailPhase {
         world: &World,
         campaign: &mut Campaign,
         _: &Month,
-        order: Written<'_>,
+        order: PhaseOrder<'_>,
     ) -> Result<Option<Outcome>, AllocError> {
-        match order.order {
-            Order::Sail(direction) => Ok(Some(sail(alloc, world, campaign, order, *direction)?)),
+        match &order.order.operands {
+            Operands::Direction(direction) => Ok(Some(sail(
+                alloc, world, campaign, order, *direction,
+            )?)),
             _ => Ok(None),
         }
     }
@@ -270,11 +281,17 @@ impl OrderPhase for SailPhase {
 }
 
 impl Phase for SailPhase {
-    ghost meaning = { sail_terms.meaning };
+    ghost meaning = { sail_spec.meaning };
 
     ghost keeps = { sail_keeps };
 
-    fn run(&self, alloc: Global, world: &World, mut campaign: Campaign, mut month: Month) -> Ran {
+    fn run(
+        &self,
+        alloc: Global,
+        world: &World,
+        mut campaign: Campaign,
+        mut month: Month,
+    ) -> PhaseResult {
         carry_out_orders(alloc, self, world, &mut campaign, &mut month)?;
         Ok((campaign, month))
     }

@@ -1,4 +1,5 @@
-//! STUDY, behind TEACH.
+//! STUDY, which follows TEACH: units pay the fee and gain days of a skill. See docs/RULES.md,
+//! "Learning".
 ghost use Rattle.std.specs.Prelude.{◌≡◌, ◌≤◌, ◌*◌, ◌<◌, IfOk, OnOk, Some, option_copied};
 ghost use Rattle.std.specs.FinMap as map;
 ghost use Rattle.atl_state.specs.Covers.{MarksChanges};
@@ -6,27 +7,27 @@ ghost use Rattle.atl_records.specs.declared.books.Entry.TheVariants.{Study};
 ghost use Rattle.atl_records.specs.declared.books.Thing.TheVariants.{Money};
 ghost use Rattle.atl_records.specs.declared.records.Unit.{Unit};
 ghost use Rattle.atl_state.specs.Good.{IsSteady};
-ghost use Rattle.atl_records.specs.Held.{amount_of};
+ghost use Rattle.atl_records.specs.Holdings.{amount_of};
 ghost use Rattle.atl_records.specs.Limits.{men_limit};
 ghost use Rattle.atl_instant.specs.Holdings.{ChangesHolding};
 ghost use Rattle.atl_instant.specs.Meaning.{HaveRoom};
-ghost use Rattle.atl_instant.specs.Steps.{carried};
-ghost use Rattle.atl_instant.specs.Staying.{IsUnchanged};
+ghost use Rattle.atl_instant.specs.OrderEffects.{faction_effect};
+ghost use Rattle.atl_instant.specs.NoWorse.{IsUnchanged};
 ghost use Rattle.atl_action.specs.Learners.{is_studying};
-ghost use Rattle.atl_action.specs.Study.{days_after, is_helpful, studied, study, study_fault, study_moves, study_reserve, study_step, with_study};
+ghost use Rattle.atl_action.specs.Study.{after_study, days_after, is_helpful, study, study_fault, study_moves, study_reserve, study_step, with_study};
 
 use crate::learners::cost_of;
 use crate::limits::{HELPED_DAYS, MONTH_DAYS, TAUGHT_DAYS};
 use crate::teach::taught_at;
-use atl_instant::{Month, OrderPhase, PhaseVerbs, Written, book_taken, failed, own_unit};
-use atl_orders::{Order, Verb};
+use atl_instant::{Month, OrderPhase, PhaseOrder, PhaseVerbs, book_taken, fault_outcome, own_unit};
+use atl_orders::{Operands, Verb};
 use atl_state::{Campaign, Entry, EventFault, Holding, MOST_DAYS, Outcome, Structure, Thing, Unit};
 use atl_tables::{Numbered, World};
 use std::alloc::{AllocError, Global};
 
 /// All who study, with how many men of each unit were taught.
 #[derive(Drop)]
-pub(crate) struct Studying {
+pub(crate) struct StudyPhase {
     pub(crate) taught: Numbered<u32>,
 }
 
@@ -81,8 +82,10 @@ fn learn(
     cost: u32,
     days: u32,
 ) -> Result<(), AllocError>
-    requires { (u : Unit) → map.get campaign.old.value.units unit ≡ Some u → cost ≤ u.holding.money }
-    ensures { OnOk result (ChangesHolding campaign.old campaign.new unit (λ h. with_study h skill cost days)) }
+    requires { (u : Unit) → map.get campaign.old.value.units unit ≡ Some u
+        → cost ≤ u.holding.money }
+    ensures { OnOk result (ChangesHolding campaign.old campaign.new unit
+        (λ h. with_study h skill cost days)) }
 {
     let Some(learner) = campaign.unit(unit) else {
         return Ok(());
@@ -103,8 +106,11 @@ fn put_study(
 ) -> Result<(), AllocError>
     requires steady { IsSteady world.now campaign.old.value }
     requires room { HaveRoom (study_reserve campaign.old.value) campaign.old.value }
-    requires payable { (u : Unit) × (map.get campaign.old.value.units unit ≡ Some u) × (cost ≤ u.holding.money) }
-    ensures what { OnOk result ((u : Unit) → map.get campaign.old.value.units unit ≡ Some u → campaign.new.value ≡ studied campaign.old.value unit u skill cost days) }
+    requires payable { (u : Unit) × (map.get campaign.old.value.units unit ≡ Some u)
+        × (cost ≤ u.holding.money) }
+    ensures what { OnOk result
+        ((u : Unit) → map.get campaign.old.value.units unit ≡ Some u
+        → campaign.new.value ≡ after_study campaign.old.value unit u skill cost days) }
     ensures marks { OnOk result (MarksChanges campaign.old campaign.new) }
 {
     learn(campaign, unit, skill, cost, days)?;
@@ -118,21 +124,24 @@ fn study(
     world: &World,
     campaign: &mut Campaign,
     taught: u32,
-    order: Written<'_>,
+    order: PhaseOrder<'_>,
     skill: u16,
 ) -> Result<Outcome, AllocError>
     requires steady { IsSteady world.now campaign.old.value }
     requires room { HaveRoom (study_reserve campaign.old.value) campaign.old.value }
-    ensures what { IfOk result (λ outcome. (campaign.new.value, outcome) ≡ carried (study world.now taught order.entry.unit skill) campaign.old.value order.entry.faction order.entry.unit) }
+    ensures what { IfOk result
+        (λ outcome. (campaign.new.value, outcome)
+        ≡ faction_effect (study world.now taught order.entry.unit skill) campaign.old.value
+        order.entry.faction order.entry.unit) }
     ensures marks { OnOk result (MarksChanges campaign.old campaign.new) }
 {
     let Some(unit) = own_unit(campaign, order) else {
-        return Ok(failed(EventFault::NotYours));
+        return Ok(fault_outcome(EventFault::NotYours));
     };
     let men = unit.holding.men();
     let cost = cost_of(world, skill, men);
     if let Some(fault) = study_fault(&unit.holding, cost) {
-        return Ok(failed(fault));
+        return Ok(fault_outcome(fault));
     }
     let old = unit.holding.days_of(u32::from(skill));
     let helped = is_helpful(world, skill, campaign.structure(unit.structure));
@@ -141,7 +150,7 @@ fn study(
     Ok(Outcome::Done(u64::from(days - old)))
 }
 
-impl PhaseVerbs for Studying {
+impl PhaseVerbs for StudyPhase {
     ghost is_of = { is_studying };
 
     fn has(&self, verb: Verb) -> bool {
@@ -149,7 +158,7 @@ impl PhaseVerbs for Studying {
     }
 }
 
-impl OrderPhase for Studying {
+impl OrderPhase for StudyPhase {
     ghost step = { λ s. study_step (amount_of s.taught) };
 
     ghost holds = { IsSteady };
@@ -166,10 +175,10 @@ impl OrderPhase for Studying {
         world: &World,
         campaign: &mut Campaign,
         _: &Month,
-        order: Written<'_>,
+        order: PhaseOrder<'_>,
     ) -> Result<Option<Outcome>, AllocError> {
-        match order.order {
-            Order::Study(skill) => {
+        match &order.order.operands {
+            Operands::Skill(skill) => {
                 let taught = taught_at(&self.taught, order.unit);
                 Ok(Some(study(world, campaign, taught, order, *skill)?))
             }

@@ -1,18 +1,20 @@
-//! TEACH: people teach units that are learning.
+//! TEACH: people teach units that are learning. See docs/RULES.md, "Learning".
 ghost use Rattle.std.specs.Prelude.{◌≡◌, ◌≤◌, ◌+◌, IfOk, List, OnOk, filter, map, nat_eq, ℕ};
 ghost use Rattle.std.specs.List.{IsDistinct};
-ghost use Rattle.atl_orders.specs.Orders.{said};
-ghost use Rattle.atl_records.specs.Held.{amount_of};
+ghost use Rattle.atl_orders.specs.Orders.{named};
+ghost use Rattle.atl_records.specs.Holdings.{amount_of};
 ghost use Rattle.atl_records.specs.Limits.{men_limit};
-ghost use Rattle.atl_action.specs.Teach.{NobodyIsTaughtTwice, first_mentions, is_below, is_pupil, is_teaching, lesson, level_at, listed, men_at, taught_out, teach, teach_fault, teach_order, untaught};
+ghost use Rattle.atl_action.specs.Teach.{NobodyIsTaughtTwice, after_lessons, first_mentions, is_below, is_pupil, is_teaching, lesson, level_at, listed_units, men_at, teach, teach_fault, teach_order, untaught_men};
 ghost use Rattle.atl_instant.specs.Month.{with_events};
 ghost use Rattle.atl_instant.specs.PhaseOrders.{task_of, unit_of};
-ghost use Rattle.atl_instant.specs.Steps.{is_own};
+ghost use Rattle.atl_instant.specs.OrderEffects.{is_own};
 ghost use Rattle.atl_records.specs.declared.event.Outcome.TheVariants.{Done};
 
-use crate::limits::PLACES_EACH;
-use atl_instant::{Arrangement, Month, PhaseVerbs, Written, failed, region_of, tell_all};
-use atl_orders::{Order, UnitRef, Verb};
+use crate::limits::PUPILS_PER_TEACHER;
+use atl_instant::{
+    Arrangement, Month, PhaseOrder, PhaseVerbs, add_events, fault_outcome, region_of,
+};
+use atl_orders::{Operands, UnitRef, Verb};
 use atl_state::{Campaign, Event, EventFault, Outcome, level};
 use atl_tables::Numbered;
 use std::alloc::{AllocError, Global};
@@ -29,11 +31,11 @@ impl PhaseVerbs for TeachVerbs {
 }
 
 /// The units that an order lists.
-fn listed(what: &Order) -> &[UnitRef]
-    ensures { (text : List ℕ) → result.now ≡ listed (said text what.now) }
+fn listed_units(what: &Operands) -> &[UnitRef]
+    ensures { (text : List ℕ) → result.now ≡ listed_units (named text what.now) }
 {
     match what {
-        Order::Teach(refs) => refs.as_slice(),
+        Operands::Units(refs) => refs.as_slice(),
         _ => &[],
     }
 }
@@ -146,8 +148,8 @@ fn men_at(campaign: &Campaign, unit: u32) -> u32
 }
 
 /// How many men of a unit weren't taught yet.
-fn untaught(campaign: &Campaign, taught: &Numbered<u32>, unit: u32) -> u32
-    ensures value { result ≡ untaught campaign.now.value (amount_of taught.now) unit }
+fn untaught_men(campaign: &Campaign, taught: &Numbered<u32>, unit: u32) -> u32
+    ensures value { result ≡ untaught_men campaign.now.value (amount_of taught.now) unit }
     ensures room { amount_of taught.now unit + result ≤ 4294967295 }
 {
     men_at(campaign, unit).saturating_sub(taught_at(taught, unit))
@@ -167,7 +169,7 @@ fn teach_men(
 {
     let mut left = places;
     for unit in units {
-        let given = left.min(untaught(campaign, taught, *unit));
+        let given = left.min(untaught_men(campaign, taught, *unit));
         let men = taught_at(taught, *unit) + given;
         taught.insert(*unit, men)?;
         left -= given;
@@ -193,7 +195,7 @@ fn give_lesson(
 }
 
 /// Whether the unit of an order is there, and of the faction that wrote it.
-fn is_own(campaign: &Campaign, order: Written<'_>) -> bool
+fn is_own(campaign: &Campaign, order: PhaseOrder<'_>) -> bool
     ensures { result ≡ is_own campaign.now.value (task_of order.entry) }
 {
     match campaign.unit(order.unit) {
@@ -205,7 +207,7 @@ fn is_own(campaign: &Campaign, order: Written<'_>) -> bool
 /// Why the unit of an order can't teach.
 fn teach_fault(
     campaign: &Campaign,
-    order: Written<'_>,
+    order: PhaseOrder<'_>,
     pupils: &[u32],
     below: &[u32],
 ) -> Option<EventFault>
@@ -232,7 +234,7 @@ fn teach(
     month: &Month,
     learning: &Numbered<u32>,
     taught: &mut Numbered<u32>,
-    order: Written<'_>,
+    order: PhaseOrder<'_>,
 ) -> Result<Outcome, AllocError>
     ensures { IfOk result (λ outcome.
         (amount_of taught.new, outcome)
@@ -241,7 +243,7 @@ fn teach(
 {
     let teacher = order.unit;
     let region = region_of(campaign, teacher);
-    let refs = listed(order.order);
+    let refs = listed_units(&order.order.operands);
     let pupils = pupils_of(
         alloc,
         campaign,
@@ -253,9 +255,9 @@ fn teach(
     )?;
     let below = below_of(alloc, campaign, learning, teacher, &pupils)?;
     if let Some(fault) = teach_fault(campaign, order, &pupils, &below) {
-        return Ok(failed(fault));
+        return Ok(fault_outcome(fault));
     }
-    let places = PLACES_EACH * men_at(campaign, teacher);
+    let places = PUPILS_PER_TEACHER * men_at(campaign, teacher);
     give_lesson(alloc, campaign, taught, places, &below)
 }
 
@@ -266,7 +268,7 @@ fn teach_one(
     month: &Month,
     learning: &Numbered<u32>,
     taught: &mut Numbered<u32>,
-    order: Written<'_>,
+    order: PhaseOrder<'_>,
     events: &mut Vec<Event>,
 ) -> Result<(), AllocError>
     ensures { OnOk result (
@@ -287,7 +289,7 @@ pub(crate) fn teach_all(
     learning: &Numbered<u32>,
 ) -> Result<Numbered<u32>, AllocError>
     ensures meaning { IfOk result (λ taught.
-        (amount_of taught, month.new) ≡ taught_out campaign.now.value learning.now month.old) }
+        (amount_of taught, month.new) ≡ after_lessons campaign.now.value learning.now month.old) }
     ensures readings { OnOk result (month.new.readings ≡ month.old.readings) }
     ensures aliases { OnOk result (month.new.aliases ≡ month.old.aliases) }
 {
@@ -306,7 +308,7 @@ pub(crate) fn teach_all(
         )?;
     }
     drop(orders);
-    tell_all(month, &events)?;
+    add_events(month, &events)?;
     Ok(taught)
 }
 

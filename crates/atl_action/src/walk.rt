@@ -1,12 +1,12 @@
-//! MOVE: units go to a neighbouring region over land.
+//! MOVE: units go to a neighbouring region over land. See docs/RULES.md, "Walking".
 ghost use Rattle.std.specs.Prelude.{◌≡◌, IfOk, OnOk};
 ghost use Rattle.atl_state.specs.Covers.{MarksChanges};
 ghost use Rattle.atl_state.specs.Good.{IsSteady};
-ghost use Rattle.atl_instant.specs.Steps.{carried};
-ghost use Rattle.atl_action.specs.Walk.{is_land_there, is_walking, walk, walk_fault, walk_step, walked};
+ghost use Rattle.atl_instant.specs.OrderEffects.{faction_effect};
+ghost use Rattle.atl_action.specs.Walk.{after_walk, is_land_there, is_walking, walk, walk_fault, walk_step};
 
-use atl_instant::{Month, OrderPhase, PhaseVerbs, PlainPhase, Written, failed, own_unit};
-use atl_orders::{Direction, Order, Verb};
+use atl_instant::{Month, OrderPhase, PhaseOrder, PhaseVerbs, PlainPhase, fault_outcome, own_unit};
+use atl_orders::{Direction, Operands, Verb};
 use atl_state::{Campaign, EventFault, Outcome, Unit, carry, goods};
 use atl_tables::World;
 use std::alloc::{AllocError, Global};
@@ -44,7 +44,7 @@ fn walk_fault(world: &World, unit: &Unit, to: Option<u32>) -> Option<EventFault>
 
 /// A unit stands in another region, inside no structure, and guards no more.
 fn put_there(campaign: &mut Campaign, unit: u32, to: u32) -> Result<(), AllocError>
-    ensures what { OnOk result (campaign.new.value ≡ walked campaign.old.value unit to) }
+    ensures what { OnOk result (campaign.new.value ≡ after_walk campaign.old.value unit to) }
     ensures marks { OnOk result (MarksChanges campaign.old campaign.new) }
 {
     campaign.place(unit, to, 0)?;
@@ -57,18 +57,21 @@ fn put_there(campaign: &mut Campaign, unit: u32, to: u32) -> Result<(), AllocErr
 fn walk(
     world: &World,
     campaign: &mut Campaign,
-    order: Written<'_>,
+    order: PhaseOrder<'_>,
     direction: Direction,
 ) -> Result<Outcome, AllocError>
-    ensures what { IfOk result (λ outcome. (campaign.new.value, outcome) ≡ carried (walk world.now order.entry.unit direction) campaign.old.value order.entry.faction order.entry.unit) }
+    ensures what { IfOk result
+        (λ outcome. (campaign.new.value, outcome)
+        ≡ faction_effect (walk world.now order.entry.unit direction) campaign.old.value
+        order.entry.faction order.entry.unit) }
     ensures marks { OnOk result (MarksChanges campaign.old campaign.new) }
 {
     let Some(unit) = own_unit(campaign, order) else {
-        return Ok(failed(EventFault::NotYours));
+        return Ok(fault_outcome(EventFault::NotYours));
     };
     let to = world.neighbour(unit.region, direction);
     if let Some(fault) = walk_fault(world, unit, to) {
-        return Ok(failed(fault));
+        return Ok(fault_outcome(fault));
     }
     put_there(campaign, order.unit, to.unwrap_or(0))?;
     Ok(Outcome::Done(0))
@@ -93,10 +96,10 @@ impl OrderPhase for MovePhase {
         world: &World,
         campaign: &mut Campaign,
         _: &Month,
-        order: Written<'_>,
+        order: PhaseOrder<'_>,
     ) -> Result<Option<Outcome>, AllocError> {
-        match order.order {
-            Order::Move(direction) => Ok(Some(walk(world, campaign, order, *direction)?)),
+        match &order.order.operands {
+            Operands::Direction(direction) => Ok(Some(walk(world, campaign, order, *direction)?)),
             _ => Ok(None),
         }
     }

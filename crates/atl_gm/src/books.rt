@@ -1,4 +1,4 @@
-//! The books of the campaign of a file.
+//! The subcommand `books`: prints the books of a campaign's file.
 use crate::database::{Opening, Work, work_on};
 use crate::failure::Failure;
 use crate::options;

@@ -1,4 +1,4 @@
-//! The moderator closes a month of the campaign of a file.
+//! The subcommand `close`: closes a month of a campaign's file.
 use crate::database::{Opening, Work, work_on};
 use crate::failure::Failure;
 use crate::options;

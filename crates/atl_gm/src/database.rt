@@ -1,4 +1,4 @@
-//! The campaign in a database file: it is opened, worked on, and closed.
+//! Opens the database file of a campaign, runs the subcommand's work on it, and closes it.
 use crate::failure::Failure;
 use atl_service::{Answer, Command, Refused, Service, found, open, upgrade};
 use sqlite::{Alter, Connection, FileFrom, FileStore, Start, Wary};

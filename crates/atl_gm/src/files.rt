@@ -1,4 +1,4 @@
-//! The files that the program reads.
+//! Reads the files that the command line names, and standard input.
 use crate::failure::Failure;
 use std::alloc::Global;
 use std::io::Read;

@@ -1,4 +1,4 @@
-//! A campaign is founded in a file.
+//! The subcommand `found`: founds a campaign in a file.
 use crate::database::{Opening, Work, work_on};
 use crate::failure::Failure;
 use crate::files::text_at;

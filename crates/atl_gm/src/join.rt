@@ -1,4 +1,4 @@
-//! A faction joins the campaign of a file.
+//! The subcommand `join`: a faction joins the campaign of a file.
 use crate::database::{Opening, Work, work_on};
 use crate::failure::Failure;
 use crate::options;

@@ -1,4 +1,4 @@
-//! A faction sends its orders for the month to come.
+//! The subcommand `mail`: stores a faction's orders for the month to come.
 use crate::database::{Opening, work_on};
 use crate::failure::Failure;
 use crate::files::first_bytes_at;

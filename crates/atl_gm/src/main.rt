@@ -1,4 +1,5 @@
-//! The moderator's program.
+//! The moderator's program: reads the command line and runs its subcommand. See docs/FORMATS.md,
+//! "The program".
 #![tactic(auto)]
 
 mod books;

@@ -1,4 +1,4 @@
-//! A faction's report.
+//! The subcommand `report`: prints a faction's stored report.
 use crate::database::{Opening, work_on};
 use crate::failure::Failure;
 use crate::options;

@@ -1,4 +1,4 @@
-//! The size of the stack.
+//! Checks that the stack is large enough for the program.
 
 /// How many bytes of the stack are touched: more than any command needs.
 const STACK_BYTES: usize = 262_144;

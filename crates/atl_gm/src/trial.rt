@@ -1,4 +1,5 @@
-//! A first report, in memory.
+//! The subcommand `trial`: founds a campaign in memory, lets a faction join, and prints its first
+//! report.
 use crate::failure::Failure;
 use crate::files::text_on_input;
 use crate::printing::print_answer;

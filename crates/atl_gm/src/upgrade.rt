@@ -1,4 +1,4 @@
-//! A campaign of the first format is upgraded in its file.
+//! The subcommand `upgrade`: upgrades a file of the first format.
 use crate::database::{Opening, Work, work_on};
 use crate::failure::Failure;
 use crate::files::text_at;

@@ -1,4 +1,4 @@
--- What is told of the answer to a command.
+-- The reply to the answer of a command: its status and its body. See docs/FORMATS.md, "HTTP".
 use Rattle.std.specs.Prelude.{ℕ, List, [], ◌∷◌, codes, None}
 use Rattle.std.specs.Fmt.{decimal}
 use Rattle.atl_tables.specs.Texts.{◌▸◌}

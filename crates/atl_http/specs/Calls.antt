@@ -1,4 +1,4 @@
--- What single reads and writes tell, and how the reading of a request and the writing of its reply end by them.
+-- What single reads and writes return, and when reading a request or writing its reply ends.
 use Rattle.std.specs.Prelude.{◌≡◌, ◌≢◌, ◌≤◌, ◌<◌, ◌+◌, ◌⊎◌, ℕ, zero, List, [], length, take, Option, Result, Ok, Err, ⊤}
 use Rattle.std.specs.Io.KnownBytes.{Keeps, Appends, Consumes, IsAtEnd}
 use Rattle.std.specs.IoError.{error_kind}

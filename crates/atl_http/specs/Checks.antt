@@ -1,4 +1,4 @@
--- What a whole head and the bytes behind it come to: the checks, in their order. See docs/FORMATS.md, "HTTP".
+-- The checks of a whole head and of the bytes after it, in their order. See docs/FORMATS.md, "HTTP".
 use Rattle.std.specs.Prelude.{ℕ, Bool, true, false, ◌||◌, ◌==◌, nat_lt, bytes_eq, codes, if◌then◌else◌, List, [], ◌∷◌, length, take, Option, Some, None, is_some, Result, Ok, Err, option_and_then}
 use Rattle.std.specs.Str.{is_utf8}
 use Rattle.httparse.specs.Grammar.{RequestHead}

@@ -1,4 +1,4 @@
--- The words that dice give.
+-- The words of the dice: how a seed gives the words of joins and of months. See docs/FORMATS.md, "Dice".
 use Rattle.std.specs.Prelude.{ℕ, zero, suc, List, [], ◌∷◌}
 use Rattle.rand_pcg.specs.Lcg.{Lcg, started, increment_of}
 use Rattle.rand_pcg.specs.Pcg.{multiplier_64, pcg32}

@@ -1,4 +1,4 @@
--- The fields of a head, by their names.
+-- The header fields of a request, looked up by name.
 use Rattle.std.specs.Prelude.{ℕ, List, [], ◌∷◌, map, filter, Option, Some, None}
 use Rattle.std.specs.Str.{str_eq_ignore_ascii_case}
 use Rattle.httparse.specs.Grammar.{RequestHead}

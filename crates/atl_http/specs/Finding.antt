@@ -1,4 +1,4 @@
--- For proofs alone: what was found of the values of a name, and what a list of fields is seen as.
+-- For proofs alone: the values found under a field's name, and how a parsed head is seen.
 use Rattle.std.specs.Prelude.{◌≡◌, ◌<◌, ℕ, List, [], ◌∷◌, ◌++◌, length, map, Result, Ok, Err, ⊤}
 use Rattle.httparse.specs.declared.spans.Span.{Span}
 use Rattle.httparse.specs.declared.spans.HeaderSpan.{HeaderSpan}

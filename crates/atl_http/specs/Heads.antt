@@ -1,4 +1,4 @@
--- What the bytes that have come of a request tell of it.
+-- When the received bytes hold a whole head, an unfinished one, a refused one, or one that is too long.
 use Rattle.std.specs.Prelude.{◌≡◌, ℕ, ◌≤◌, ◌<◌, ◌⊎◌, List, [], length, take, ◌++◌, ⊤}
 use Rattle.httparse.specs.Grammar.{RequestHead, print_request, ReadsRequest, NeverHasRequest, HasNoRequest, MayBecomeRequest}
 use Rattle.httparse.specs.Spans.{RequestExceeds, RequestOverflows}

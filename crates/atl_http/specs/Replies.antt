@@ -1,4 +1,4 @@
--- The bytes of a reply.
+-- The bytes of a reply: status, fields and body. See docs/FORMATS.md, "HTTP".
 use Rattle.std.specs.Prelude.{ℕ, List, [], length, codes, Option, Some, None, unwrap_or}
 use Rattle.std.specs.Fmt.{decimal}
 use Rattle.http.specs.StatusCode.{reason_phrase}

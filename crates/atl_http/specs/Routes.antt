@@ -1,4 +1,4 @@
--- The routes, and which of them a path is.
+-- The routes, and which route a path has. See docs/FORMATS.md, "HTTP".
 use Rattle.std.specs.Prelude.{ℕ, Bool, List, length, take, drop, ◌&&◌, nat_eq, nat_lt, nat_le, ◌==◌, bytes_eq, codes, if◌then◌else◌, Option, Some, None, option_map}
 use Rattle.std.specs.Cmp.Lexicographic.{pointwise}
 use Rattle.std.specs.List.{list_all, before_first}

@@ -1,4 +1,4 @@
--- For proofs alone: the routes as a router keeps them, and what stands for each.
+-- For proofs alone: the routes as a router stores them, and the route that each key means.
 use Rattle.std.specs.Prelude.{ℕ, zero, suc, ◌+◌, List, [], ◌∷◌, ◌++◌, length, codes, Option, Some, None, option_map}
 use Rattle.matchit.specs.Rows.{Rows, RowsOf, param_token}
 use Rattle.matchit.specs.Router.{RouteOf, rename}

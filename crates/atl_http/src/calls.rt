@@ -1,4 +1,5 @@
-//! The reads of one request and the writes of its reply: how many there were, and what came of the last one.
+//! Counts the reads of one request and the writes of its reply, and keeps the result of the last
+//! one.
 ghost use Rattle.std.specs.Prelude.{◌≡◌, ◌↔◌, ◌+◌, ◌<◌, IsTrue, length};
 ghost use Rattle.std.specs.IoError.{error_kind};
 ghost use Rattle.atl_http.specs.Calls.{IsReadOutcome, IsWriteOutcome};

@@ -1,4 +1,4 @@
-//! The checks of a request, in their order.
+//! Checks the head of a request, in the order of docs/FORMATS.md, "HTTP".
 ghost use Rattle.std.specs.Prelude.{◌≡◌, All, length, bytes_eq};
 ghost use Rattle.httparse.specs.Spans.{IsHeaderWithin};
 ghost use Rattle.serde_json.specs.View.{view};
@@ -178,7 +178,8 @@ fn json_of(alloc: Global, body: &[u8]) -> Result<Value, CheckError>
 
 /// The text under a key.
 fn text_at<'a>(said: &'a Value, key: &str) -> Result<&'a str, CheckError>
-    ensures { Gives (λ text. text.now) result (or_problem BadJson (text_at key.now (view said.now))) }
+    ensures { Gives (λ text. text.now) result
+        (or_problem BadJson (text_at key.now (view said.now))) }
 {
     match said.get(key).and_then(Value::as_str) {
         None => Err(CheckError::Failed(Problem::BadJson)),

@@ -1,4 +1,4 @@
-//! The words that dice give.
+//! The words of the dice: for a join, and for a month. See docs/FORMATS.md, "Dice".
 ghost use Rattle.std.specs.Prelude.{◌≡◌, ◌+◌, IfOk};
 ghost use Rattle.atl_http.specs.Dice.{joining_streams, word_of, generator, first_words};
 

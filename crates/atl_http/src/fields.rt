@@ -1,4 +1,4 @@
-//! The fields of a head.
+//! Looks up the header fields of a request by name.
 ghost use Rattle.std.specs.Prelude.{◌≡◌, All, length, option_map};
 ghost use Rattle.std.specs.Str.{str_eq_ignore_ascii_case};
 ghost use Rattle.httparse.specs.Spans.{IsHeaderWithin};

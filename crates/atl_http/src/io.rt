@@ -1,4 +1,4 @@
-//! Reading a request in pieces, and writing a reply.
+//! Reads a request in pieces, and writes its reply.
 ghost use Rattle.std.specs.Prelude.{◌≡◌, ◌≤◌, ◌+◌, [], length, IfOk, OnOk};
 ghost use Rattle.atl_http.specs.Heads.{most_at_once, IsShortBy, ComesTo};
 ghost use Rattle.atl_http.specs.Calls.{most_reads, no_reads, GoesOn, EndsReading, no_writes, EndsWriting};

@@ -1,4 +1,4 @@
-//! Connections, one after another.
+//! Serves connections of a listener, one after another.
 ghost use Rattle.atl_http.specs.Listening.{Attends, ServesEach};
 
 use crate::dice::Dice;

@@ -1,4 +1,4 @@
-//! Replies, as their bytes.
+//! Writes replies as bytes: status line, fields and body. See docs/FORMATS.md, "HTTP".
 ghost use Rattle.std.specs.Prelude.{◌≡◌, IfOk, OnOk, ◌++◌, [], unwrap_or, string_bytes};
 ghost use Rattle.http.specs.StatusCode.{reason_phrase};
 ghost use Rattle.atl_http.specs.Replies.{json, allow_line, head_of, error_body, problem_reply};

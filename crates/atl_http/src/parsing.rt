@@ -1,4 +1,4 @@
-//! What the bytes that have come of a request come to.
+//! Parses the bytes received so far: a whole request, a refused one, or more to read.
 ghost use Rattle.std.specs.Prelude.{◌≡◌, ◌≤◌, All, IfOk, length, take, drop};
 ghost use Rattle.httparse.specs.Spans.{IsHeaderWithin, IsRequestWithin, IsRequestOf};
 ghost use Rattle.atl_http.specs.Checks.{head_checks};

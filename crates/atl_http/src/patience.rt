@@ -1,4 +1,4 @@
-//! The two ends of a connection, whose peer is waited for only so long.
+//! The two ends of a connection, each with a time limit for its peer.
 use std::cell::Cell;
 use std::io;
 use std::io::{ErrorKind, Read, Write};

@@ -1,4 +1,5 @@
-//! What is wrong with a request.
+//! What can be wrong with a request: the names and statuses of the checks. See docs/FORMATS.md,
+//! "HTTP".
 ghost use Rattle.std.specs.Prelude.{◌≡◌};
 ghost use Rattle.atl_http.specs.Replies.{problem_name, problem_status};
 

@@ -1,4 +1,4 @@
-//! Requests.
+//! A request that passed its checks, and the verdict on the bytes received so far.
 ghost use Rattle.std.specs.Prelude.{◌≡◌, IfOk};
 
 use crate::dice::Dice;

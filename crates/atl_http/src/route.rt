@@ -1,4 +1,4 @@
-//! The routes.
+//! The routes, and the route of a path. See docs/FORMATS.md, "HTTP".
 ghost use Rattle.std.specs.Prelude.{◌≡◌, ◌≤◌, Ok, IfOk, OnOk, length, option_map};
 ghost use Rattle.std.specs.List.{position, position_or_len};
 ghost use Rattle.matchit.specs.Route.{parse_route};
@@ -90,7 +90,8 @@ pub fn path_of(target: &[u8]) -> &[u8]
 
 /// Adds a route to a router.
 fn add(router: &mut Router<RouteKey>, route: &str, place: RouteKey) -> Result<(), AllocError>
-    ensures { OnOk result (InsertsRead (parse_route route.now) place router.old router.new (Ok tt)) }
+    ensures { OnOk result (InsertsRead (parse_route route.now) place router.old router.new
+        (Ok tt)) }
 {
     match router.insert(route, place) {
         Ok(()) => Ok(()),

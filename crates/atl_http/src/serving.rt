@@ -1,4 +1,4 @@
-//! Serving one request.
+//! Serves one request: reads it, runs its command, and writes the reply.
 ghost use Rattle.std.specs.Prelude.{◌≡◌, IfOk, OnErr};
 ghost use Rattle.std.specs.FinMap.{len};
 ghost use Rattle.atl_service.specs.Runs.{Runs};

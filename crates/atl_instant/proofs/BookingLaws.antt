@@ -7,10 +7,10 @@ use Rattle.std.proofs.lemmas.Int.{ints}
 use Rattle.atl_tables.proofs.GeneralLaws.{is_unequal}
 use Rattle.atl_records.specs.declared.books.Entry.{Entry}
 use Rattle.atl_records.specs.declared.books.Thing.{Thing}
-use Rattle.atl_records.specs.Books.{IsGrid, IsWithin, amount_in, thing_place, with_booked, amount_number}
-use Rattle.atl_records.proofs.BookLaws.{amount-with_booked}
+use Rattle.atl_records.specs.Books.{IsGrid, IsWithin, amount_in, thing_index, after_booking, amount_number}
+use Rattle.atl_records.proofs.BookLaws.{amount-after_booking}
 use Rattle.atl_state.proofs.RegionLaws.{amount-other}
-use Rattle.atl_instant.specs.Meaning.{HasRoom, IsNear, Moving, amount_limit, moves_only}
+use Rattle.atl_instant.specs.Meaning.{BookBound, HasRoom, IsNear, amount_limit, moves_only}
 use Rattle.atl_instant.proofs.MeaningLaws.{near_room}
 
 near_by : (x y z : ℤ) (n : ℕ) → IsWithin n z → (y ≡ x +ℤ z) ⊎ (y ≡ x) → IsNear n x y
@@ -22,16 +22,16 @@ near_by x y z n small h = elim h [
 near_same : (x y : ℤ) → y ≡ x → IsNear 0 x y
 near_same x y is = record { above = omega (arith, ints, is); below = omega (arith, ints, is) }
 
-module _ (things : ℕ) (books : List (List ℤ)) (e : Entry) (t : Thing) (z : ℤ) (n : ℕ) (grid : IsGrid things books) (inside : thing_place t < things) (small : IsWithin n z) where
-  pub booked-near : (f : Entry) (u : Thing) → IsNear (moves_only n e t f u) (amount_in books f u) (amount_in (with_booked books e t z) f u)
+module _ (things : ℕ) (books : List (List ℤ)) (e : Entry) (t : Thing) (z : ℤ) (n : ℕ) (grid : IsGrid things books) (inside : thing_index t < things) (small : IsWithin n z) where
+  pub booked-near : (f : Entry) (u : Thing) → IsNear (moves_only n e t f u) (amount_in books f u) (amount_in (after_booking books e t z) f u)
   booked-near f u = by_number (amount_number f u == amount_number e t) refl
     where
-      by_number : (b : Bool) → (amount_number f u == amount_number e t) ≡ b → IsNear (if b then n else 0) (amount_in books f u) (amount_in (with_booked books e t z) f u)
-      by_number true is = near_by _ _ z n small (amount-with_booked things books e t z grid inside f u)
+      by_number : (b : Bool) → (amount_number f u == amount_number e t) ≡ b → IsNear (if b then n else 0) (amount_in books f u) (amount_in (after_booking books e t z) f u)
+      by_number true is = near_by _ _ z n small (amount-after_booking things books e t z grid inside f u)
       by_number false is = near_same _ _ (amount-other things books f e u t z grid inside (is_unequal _ _ is))
 
   -- behind it there is room for what else is to be booked
-  pub booked-room : (next : Moving) → ((f : Entry) (u : Thing) → HasRoom (moves_only n e t f u + next f u) (amount_in books f u)) → (f : Entry) (u : Thing) → HasRoom (next f u) (amount_in (with_booked books e t z) f u)
+  pub booked-room : (next : BookBound) → ((f : Entry) (u : Thing) → HasRoom (moves_only n e t f u + next f u) (amount_in books f u)) → (f : Entry) (u : Thing) → HasRoom (next f u) (amount_in (after_booking books e t z) f u)
   booked-room next room f u = near_room (moves_only n e t f u) (next f u) _ _ (booked-near f u) (room f u)
 
 by_sign : (z : ℤ) → z ≤ℤ pos amount_limit → pos 0 ≤ℤ (z +ℤ pos amount_limit) → FitsSigned w64 z

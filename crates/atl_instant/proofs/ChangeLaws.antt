@@ -6,7 +6,7 @@ use Rattle.atl_tables.specs.Sums.{changed_at}
 use Rattle.atl_tables.proofs.Maps.{insert_over}
 use Rattle.atl_tables.proofs.SumLaws.{put_same}
 use Rattle.atl_records.specs.declared.records.Unit.{Unit}
-use Rattle.atl_records.specs.Held.{Held, with_amount_of}
+use Rattle.atl_records.specs.Holdings.{HoldingValue, with_amount_of}
 use Rattle.atl_state.specs.Lending.{with_held}
 use Rattle.atl_state.specs.Marking.{mark_item, mark_skill, mark_unit_row}
 use Rattle.atl_state.specs.Marks.{Marks}
@@ -36,7 +36,7 @@ same_held c n = by_unit (get c.units n) refl
     by_unit (Some u) is = ap (λ m. record c { units = m }) (put_same c.units n u u is refl)
 
 -- of a unit that is there
-pub changed_held : (f : Held → Held) (c d : CampaignValue) (n : ℕ) → d ≡ unit_changed (λ u. record u { holding = f u.holding }) c n → (u : Unit) → get c.units n ≡ Some u → d ≡ with_held c n (f u.holding) (Some u)
+pub changed_held : (f : HoldingValue → HoldingValue) (c d : CampaignValue) (n : ℕ) → d ≡ unit_changed (λ u. record u { holding = f u.holding }) c n → (u : Unit) → get c.units n ≡ Some u → d ≡ with_held c n (f u.holding) (Some u)
 changed_held f c d n what u is = what ∙ ap (λ o. record c { units = changed_at (λ (v : Unit). record v { holding = f v.holding }) c.units n o }) is
 
 -- another unit stays
@@ -50,7 +50,7 @@ others_held f c n k apart = by_unit (get c.units n)
 -- ---- what calls leave
 
 -- nobody is there
-pub nobody_changes : (c : MarkedCampaign) (n : ℕ) (f : Held → Held) → get c.value.units n ≡ None → ChangesHolding c c n f
+pub nobody_changes : (c : MarkedCampaign) (n : ℕ) (f : HoldingValue → HoldingValue) → get c.value.units n ≡ None → ChangesHolding c c n f
 nobody_changes c n f none = record {
   value = sym (ap (λ o. record c.value { units = changed_at (λ (u : Unit). record u { holding = f u.holding }) c.value.units n o }) none);
   marks = marks-refl c;
@@ -58,7 +58,7 @@ nobody_changes c n f none = record {
 }
 
 -- what else makes the same of what the unit had
-pub changes_as : (c d : MarkedCampaign) (n : ℕ) (f g : Held → Held) (u : Unit) → get c.value.units n ≡ Some u → f u.holding ≡ g u.holding → ChangesHolding c d n f → ChangesHolding c d n g
+pub changes_as : (c d : MarkedCampaign) (n : ℕ) (f g : HoldingValue → HoldingValue) (u : Unit) → get c.value.units n ≡ Some u → f u.holding ≡ g u.holding → ChangesHolding c d n f → ChangesHolding c d n g
 changes_as c d n f g u is same old = record {
   value =
       changed_held f c.value d.value n old.value u is ∙ ap (λ h. with_held c.value n h (Some u)) same
@@ -68,7 +68,7 @@ changes_as c d n f g u is same old = record {
 }
 
 -- one change behind another
-pub then_changes : (a b d : MarkedCampaign) (n : ℕ) (f g : Held → Held) → ChangesHolding a b n f → ChangesHolding b d n g → ChangesHolding a d n (λ h. g (f h))
+pub then_changes : (a b d : MarkedCampaign) (n : ℕ) (f g : HoldingValue → HoldingValue) → ChangesHolding a b n f → ChangesHolding b d n g → ChangesHolding a d n (λ h. g (f h))
 then_changes a b d n f g one two = record {
   value =
       two.value ∙ ap (λ c. unit_changed (λ u. record u { holding = g u.holding }) c n) one.value
@@ -78,10 +78,10 @@ then_changes a b d n f g one two = record {
 }
 
 -- the setters
-abbrev goods_of : Held → FinMap nat_cmp ℕ × FinMap nat_cmp ℕ
+abbrev goods_of : HoldingValue → FinMap nat_cmp ℕ × FinMap nat_cmp ℕ
 goods_of h = (h.items, h.days)
 
-row_changes : (f : Held → Held) → ((h : Held) → goods_of (f h) ≡ goods_of h) → (c d : MarkedCampaign) (n : ℕ)
+row_changes : (f : HoldingValue → HoldingValue) → ((h : HoldingValue) → goods_of (f h) ≡ goods_of h) → (c d : MarkedCampaign) (n : ℕ)
     → d.value ≡ unit_changed (λ u. record u { holding = f u.holding }) c.value n → d.marks ≡ mark_unit_row c n → ChangesHolding c d n f
 row_changes f same c d n what marks =
     let with_other : Unit → Unit = λ u. record u { holding = f u.holding } in

@@ -7,13 +7,13 @@ use Rattle.std.specs.FinMap.{FinMap, contains_key-keys, empty, entries, get, get
 use Rattle.std.specs.List.{list_any}
 use Rattle.std.proofs.lemmas.List.Folds.{list_any-append}
 use Rattle.atl_records.specs.Every.{EachOf, Every}
-use Rattle.atl_records.specs.Held.{Held, amount_of, with_amount_of}
+use Rattle.atl_records.specs.Holdings.{HoldingValue, amount_of, with_amount_of}
 use Rattle.atl_records.proofs.EveryLaws.{each-from_every, every-empty}
 use Rattle.atl_instant.specs.Holdings.{with_days}
-use Rattle.atl_instant.specs.Raising.{left_list, raised_list}
+use Rattle.atl_instant.specs.SkillDays.{left_list, raised_list}
 use Rattle.atl_instant.specs.Transfer.{DaysGoWithMen, days_going, going_of, raised_of, staying_of, with_fewer, with_more}
 use Rattle.atl_instant.proofs.AmountsForLaws.{as_said, each_said, same_amounts}
-use Rattle.atl_records.proofs.HeldLaws.{alike, every_amount, set_amount}
+use Rattle.atl_records.proofs.HoldingLaws.{alike, every_amount, set_amount}
 
 -- the amounts of some numbers, each set by the one that it has in a map
 module _ (days : FinMap nat_cmp ℕ) (f : ℕ → ℕ → ℕ) (s : ℕ) where
@@ -79,7 +79,7 @@ none_come : (d g : ℕ) → d ≡ 0 → g ≡ 0 → d + g ≡ 0
 none_come d g e f = omega (arith, e, f)
 
 -- of a skill that nobody has none go
-pub none_go : (n : ℕ) (h : Held) (s : ℕ) → amount_of h.days s ≡ 0 → going_of n h s ≡ 0
+pub none_go : (n : ℕ) (h : HoldingValue) (s : ℕ) → amount_of h.days s ≡ 0 → going_of n h s ≡ 0
 none_go n h s none = ap (days_going n h.men) none ∙ nobody_goes n h.men
 
 pub days_go_with_men : DaysGoWithMen
@@ -118,7 +118,7 @@ set_again days f none some =
 abbrev rest_days : (n men : ℕ) → (skill days : ℕ) → ℕ
 rest_days n men k d = d - days_going n men d
 
-pub fewer_is : (n : ℕ) (h : Held) → Every (λ s d. 1 ≤ d) h.days → record h { men = h.men - n; days = with_days h.days (left_list n h.men h.days) } ≡ with_fewer n h
+pub fewer_is : (n : ℕ) (h : HoldingValue) → Every (λ s d. 1 ≤ d) h.days → record h { men = h.men - n; days = with_days h.days (left_list n h.men h.days) } ≡ with_fewer n h
 fewer_is n h had =
     ap (λ (m : FinMap nat_cmp ℕ). record h { men = h.men - n; days = m })
     (set_as_said h.days h.days (with_fewer n h).days (rest_days n h.men) had
@@ -129,7 +129,7 @@ fewer_is n h had =
 abbrev raised_days : (n men : ℕ) → FinMap nat_cmp ℕ → (skill days : ℕ) → ℕ
 raised_days n men had k d = amount_of had k + days_going n men d
 
-pub more_is : (n : ℕ) (other h : Held) → Every (λ s d. 1 ≤ d) h.days → record h { men = h.men + n; days = with_days h.days (raised_list n other.men other.days h.days) } ≡ with_more n other h
+pub more_is : (n : ℕ) (other h : HoldingValue) → Every (λ s d. 1 ≤ d) h.days → record h { men = h.men + n; days = with_days h.days (raised_list n other.men other.days h.days) } ≡ with_more n other h
 more_is n other h had =
     ap (λ (m : FinMap nat_cmp ℕ). record h { men = h.men + n; days = m })
     (set_as_said other.days h.days (with_more n other h).days (raised_days n other.men h.days) had

@@ -13,17 +13,17 @@ use Rattle.atl_state.specs.Good.{IsEarly}
 use Rattle.atl_records.specs.Limits.{last_unit}
 use Rattle.atl_state.specs.Campaign.{CampaignValue, with_unit_begun}
 use Rattle.atl_instant.specs.Month.{MonthValue}
-use Rattle.atl_instant.specs.Form.{form_by, form_fault, form_meaning, form_order, formed, is_forming, is_unit_limit, new_unit}
+use Rattle.atl_instant.specs.Form.{form_by, form_fault, form_meaning, form_order, is_forming, is_unit_limit, new_unit, with_formed_unit}
 use Rattle.atl_instant.specs.Forming.{form_apart, forming_of}
 use Rattle.atl_instant.specs.Inside.{inside, region_of}
 use Rattle.atl_instant.specs.Outcomes.{first_fault, unless}
 use Rattle.atl_instant.specs.PhaseOrders.{Task, orders_of}
-use Rattle.atl_instant.specs.Steps.{StepsWell, is_of_faction}
+use Rattle.atl_instant.specs.OrderEffects.{StepsWell, is_of_faction}
 use Rattle.atl_instant.specs.Unbooked.{books_nothing}
-use Rattle.atl_instant.specs.declared.written.Arrangement.TheVariants.{ByFaction}
+use Rattle.atl_instant.specs.declared.phase_order.Arrangement.TheVariants.{ByFaction}
 use Rattle.atl_instant.specs.declared.form.Forming.{Forming}
 use Rattle.atl_instant.proofs.FormingLaws.{begun_stays, begun_well, room}
-use Rattle.atl_instant.proofs.StepLaws.{well_same}
+use Rattle.atl_instant.proofs.OrderEffectLaws.{well_same}
 
 some_none : {X P : Type 0} (x : X) → Some x ≡ None → P
 some_none x e = cc
@@ -44,7 +44,7 @@ module _ (w : WorldValue) (c : CampaignValue) (early : IsEarly w c) where
 
   module _ (f n : ℕ) where
     -- what is formed, where the unit is known
-    formed_is : (u : Unit) → get c.units n ≡ Some u → u.faction ≡ f → formed c f n ≡ with_unit_begun c (new_unit c.next_unit u.faction u.region u.structure)
+    formed_is : (u : Unit) → get c.units n ≡ Some u → u.faction ≡ f → with_formed_unit c f n ≡ with_unit_begun c (new_unit c.next_unit u.faction u.region u.structure)
     formed_is u is own =
         ap (λ g. with_unit_begun c (new_unit c.next_unit g (region_of c n) (inside c n))) (sym own)
         ∙ ap (λ (o : Option Unit). with_unit_begun c (new_unit c.next_unit u.faction (option_map_or (λ x. x.region) o 0) (option_map_or (λ x. x.structure) o 0))) is
@@ -55,16 +55,16 @@ module _ (w : WorldValue) (c : CampaignValue) (early : IsEarly w c) where
     same_fine : Fine c
     same_fine = (well_same w c early, λ k v there. there)
 
-    formed_fine : (u : Unit) → get c.units n ≡ Some u → (u.faction ≡ f) → is_unit_limit c ≡ false → Fine (formed c f n)
+    formed_fine : (u : Unit) → get c.units n ≡ Some u → (u.faction ≡ f) → is_unit_limit c ≡ false → Fine (with_formed_unit c f n)
     formed_fine u is own limit = subst Fine (sym (formed_is u is own)) (begun_well w c n u is early limit, begun_stays w c n u is early)
 
     by_limit : (u : Unit) → get c.units n ≡ Some u → (a b : Bool) → is_of_faction f (Some u) ≡ a → is_unit_limit c ≡ b
-        → Fine (unless c (first_fault ((not a, NotYours) ∷ (b, UnitLimit) ∷ [])) (formed c f n, Done c.next_unit)).0
+        → Fine (unless c (first_fault ((not a, NotYours) ∷ (b, UnitLimit) ∷ [])) (with_formed_unit c f n, Done c.next_unit)).0
     by_limit u is false b own limit = same_fine
     by_limit u is true true own limit = same_fine
     by_limit u is true false own limit = formed_fine u is (is_equal u.faction f own) limit
 
-    by_unit : (o : Option Unit) → get c.units n ≡ o → Fine (unless c (first_fault ((not (is_of_faction f o), NotYours) ∷ (is_unit_limit c, UnitLimit) ∷ [])) (formed c f n, Done c.next_unit)).0
+    by_unit : (o : Option Unit) → get c.units n ≡ o → Fine (unless c (first_fault ((not (is_of_faction f o), NotYours) ∷ (is_unit_limit c, UnitLimit) ∷ [])) (with_formed_unit c f n, Done c.next_unit)).0
     by_unit None is = same_fine
     by_unit (Some u) is = by_limit u is (is_of_faction f (Some u)) (is_unit_limit c) refl refl
 

@@ -17,17 +17,17 @@ use Rattle.atl_records.specs.declared.books.Thing.TheVariants.{Item, Money, Peop
 use Rattle.atl_records.specs.declared.records.Unit.{Unit}
 use Rattle.atl_records.specs.Every.{Every}
 use Rattle.atl_state.specs.Good.{AreAfloat, AreInRange, AreKnown, AreNamed, AreNumbered, AreOfOneFaction, AreOwned, GoneHaveNone, IsAboard, IsEarly, IsPlaced, IsSteady, guards}
-use Rattle.atl_records.specs.Held.{IsHolding}
+use Rattle.atl_records.specs.Holdings.{IsHolding}
 use Rattle.atl_state.specs.Marking.{mark_unit_added, mark_unit_begun}
 use Rattle.atl_state.specs.Campaign.{MarkedCampaign, CampaignValue, with_unit, with_unit_begun}
-use Rattle.atl_records.specs.Amounts.{held}
+use Rattle.atl_records.specs.Amounts.{unit_amount}
 use Rattle.atl_state.specs.Totals.{total}
 use Rattle.atl_state.proofs.CoverLaws.{Row, Stays, Tells, marks-trans, marks-unit, part_by_part}
 use Rattle.atl_records.proofs.EveryLaws.{every-empty, every-insert, get-insert_other, none_some, there-insert}
 use Rattle.atl_state.proofs.NumberListLaws.{none_passing}
 use Rattle.atl_state.proofs.TotalLaws.{total-with_unit}
 use Rattle.atl_instant.specs.Form.{is_unit_limit, new_unit}
-use Rattle.atl_instant.specs.Steps.{StepsWell}
+use Rattle.atl_instant.specs.OrderEffects.{StepsWell}
 use Rattle.atl_instant.specs.Unbooked.{books_nothing}
 use Rattle.atl_instant.proofs.MeaningLaws.{same_month_by}
 use Rattle.atl_instant.proofs.UnbookedLaws.{unbooked_well}
@@ -157,7 +157,7 @@ module _ (w : WorldValue) (c : CampaignValue) (p : ℕ) (u : Unit) (is : get c.u
     flags = one_faction_kept (λ x. x.holding.guard) refl early.flags;
   }
 
-  nothing_held : (t : Thing) → held t child.holding ≡ 0
+  nothing_held : (t : Thing) → unit_amount t child.holding ≡ 0
   nothing_held Money = refl
   nothing_held People = refl
   nothing_held (Item i) = ap (λ o. unwrap_or o 0) (get-empty nat_cmp i)
@@ -167,7 +167,7 @@ module _ (w : WorldValue) (c : CampaignValue) (p : ℕ) (u : Unit) (is : get c.u
 
   same_total : (t : Thing) → total begun t ≡ total c t
   unfolding total
-  same_total t = none_more (total begun t) (total c t) (held t child.holding) (total-with_unit c c.next_unit child t free) (nothing_held t)
+  same_total t = none_more (total begun t) (total c t) (unit_amount t child.holding) (total-with_unit c c.next_unit child t free) (nothing_held t)
 
   pub begun_well : is_unit_limit c ≡ false → StepsWell IsEarly books_nothing w c begun
   begun_well limit = unbooked_well w c begun (early_begun limit) (same_month_by refl) refl same_total

@@ -5,9 +5,9 @@ use Rattle.std.proofs.lemmas.Bool.Decides.{nat_tests}
 use Rattle.std.specs.Ordering.{nat_cmp, eq_by_cmp}
 use Rattle.std.specs.FinMap.{get}
 use Rattle.atl_tables.specs.Worlds.{WorldValue}
-use Rattle.atl_orders.specs.declared.order.Order.TheVariants as orders
-use Rattle.atl_orders.specs.Bounds.{IsOrderOf}
-use Rattle.atl_orders.specs.Orders.{Said}
+use Rattle.atl_orders.specs.declared.order.Operands.TheVariants as operands
+use Rattle.atl_orders.specs.Bounds.{AreOperandsOf}
+use Rattle.atl_orders.specs.Orders.{OperandsValue}
 use Rattle.atl_records.specs.declared.books.Thing.{Thing}
 use Rattle.atl_records.specs.declared.books.Thing.TheVariants as things
 use Rattle.atl_records.specs.declared.event.EventFault.{EventFault}
@@ -15,25 +15,25 @@ use Rattle.atl_records.specs.declared.event.EventFault.TheVariants.{NoRoom, NotE
 use Rattle.atl_records.specs.declared.event.Outcome.TheVariants.{Done}
 use Rattle.atl_records.specs.declared.records.Unit.{Unit}
 use Rattle.atl_state.specs.Good.{IsEarly}
-use Rattle.atl_records.specs.Held.{Held, IsHolding, amount_of, with_amount_of}
+use Rattle.atl_records.specs.Holdings.{HoldingValue, IsHolding, amount_of, with_amount_of}
 use Rattle.atl_state.specs.Lending.{with_held}
 use Rattle.atl_records.specs.Limits.{holding_limit}
 use Rattle.atl_state.specs.Campaign.{CampaignValue}
-use Rattle.atl_records.specs.Amounts.{held}
-use Rattle.atl_instant.specs.Give.{give, give_fault, give_said, give_step, give_to, given, held_of, with_held_of}
+use Rattle.atl_records.specs.Amounts.{unit_amount}
+use Rattle.atl_instant.specs.Give.{after_gift, give, give_effect, give_fault, give_step, give_to, held_of, with_held_of}
 use Rattle.atl_instant.specs.Month.{Aliases}
 use Rattle.atl_instant.specs.Outcomes.{unless}
-use Rattle.atl_instant.specs.Staying.{IsNoWorse}
+use Rattle.atl_instant.specs.NoWorse.{IsNoWorse}
 use Rattle.atl_instant.specs.PhaseOrders.{Task, unit_of}
-use Rattle.atl_instant.specs.Steps.{IsOrderly, IsOwnOrder, IsSpared, IsUnitOf, StepsWell}
+use Rattle.atl_instant.specs.OrderEffects.{IsOrderly, IsOwnOrder, IsUnaffected, IsUnitOf, StepsWell}
 use Rattle.atl_instant.specs.declared.give.Gift.{Gift}
 use Rattle.atl_instant.specs.declared.give.Gift.TheVariants.{Item, Money}
-use Rattle.atl_records.proofs.HeldLaws.{alike, amount_within, every_amount, set_amount}
+use Rattle.atl_records.proofs.HoldingLaws.{alike, amount_within, every_amount, set_amount}
 use Rattle.atl_state.proofs.HavingLaws.{MayHave, may_have}
 use Rattle.atl_instant.proofs.MovingLaws.{early-moved, moved, receiver_still, spared-moved, steps-moved}
 use Rattle.atl_instant.proofs.OutcomeLaws.{none_fits, not_apart, not_less, unless_itself}
-use Rattle.atl_instant.proofs.StayingLaws.{no_worse}
-use Rattle.atl_instant.proofs.StepLaws.{no_worse_spares, well_same}
+use Rattle.atl_instant.proofs.NoWorseLaws.{no_worse}
+use Rattle.atl_instant.proofs.OrderEffectLaws.{no_worse_spares, well_same}
 use Rattle.atl_instant.proofs.UnbookedLaws.{other_unit}
 
 -- what is so of two units where no fault fits
@@ -55,7 +55,7 @@ can_give gift n itself u v is =
       room = λ other. not_less holding_limit (held_of gift v.holding + n) (unless_itself itself full three.0 other);
     }
 
-pub held_within : (gift : Gift) (h : Held) → IsHolding h → held_of gift h ≤ holding_limit
+pub held_within : (gift : Gift) (h : HoldingValue) → IsHolding h → held_of gift h ≤ holding_limit
 held_within Money h is = is.money
 held_within (Item i) h is = amount_within h i is
 
@@ -64,7 +64,7 @@ pub given_is : (c d e : CampaignValue) (from to : ℕ) (gift : Gift) (n left mor
     → d ≡ with_held c from (with_held_of gift u.holding left) (Some u)
     → ((x : Unit) → get d.units to ≡ Some x → e ≡ with_held d to (with_held_of gift x.holding more) (Some x))
     → left ≡ held_of gift u.holding - n → more ≡ held_of gift v.holding + n
-    → e ≡ given c from to gift n (Some u) (Some v)
+    → e ≡ after_gift c from to gift n (Some u) (Some v)
 given_is c d e from to gift n left more u v apart giver receiver first second left_is more_is =
     let other : (to == from) ≡ false = grind (arith, nat_tests) in
     let still : get d.units to ≡ Some v = ap (λ (s : CampaignValue). get s.units to) first ∙ receiver_still c from to u v (with_held_of gift u.holding left) v.holding giver receiver apart in
@@ -77,7 +77,7 @@ abbrev pub IsKnown : WorldValue → Gift → Type 0
 IsKnown w Money = ⊤
 IsKnown w (Item i) = i < length w.items
 
-pub may_have_of : (w : WorldValue) (h : Held) (gift : Gift) (amount : ℕ) → IsKnown w gift → amount ≤ holding_limit → MayHave w h → MayHave w (with_held_of gift h amount)
+pub may_have_of : (w : WorldValue) (h : HoldingValue) (gift : Gift) (amount : ℕ) → IsKnown w gift → amount ≤ holding_limit → MayHave w h → MayHave w (with_held_of gift h amount)
 may_have_of w h Money amount known most may = record {
   limits = record { men = may.limits.men; money = most; items = may.limits.items };
   name = may.name;
@@ -93,12 +93,12 @@ may_have_of w h (Item i) amount known most may = record {
   days = may.days;
 }
 
-same_flag : (gift : Gift) (h : Held) (amount : ℕ) → (with_held_of gift h amount).guard ≡ true → h.guard ≡ true
+same_flag : (gift : Gift) (h : HoldingValue) (amount : ℕ) → (with_held_of gift h amount).guard ≡ true → h.guard ≡ true
 same_flag Money h amount g = g
 same_flag (Item i) h amount g = g
 
 -- what one has less the other has more
-pub both_hold : (gift : Gift) (n : ℕ) (h k : Held) → n ≤ held_of gift h → (t : Thing) → held t (with_held_of gift h (held_of gift h - n)) + held t (with_held_of gift k (held_of gift k + n)) ≡ held t h + held t k
+pub both_hold : (gift : Gift) (n : ℕ) (h k : HoldingValue) → n ≤ held_of gift h → (t : Thing) → unit_amount t (with_held_of gift h (held_of gift h - n)) + unit_amount t (with_held_of gift k (held_of gift k + n)) ≡ unit_amount t h + unit_amount t k
 both_hold Money n h k l things.Money = omega (arith, l)
 both_hold Money n h k l things.People = refl
 both_hold Money n h k l (things.Item j) = refl
@@ -174,9 +174,9 @@ module _ (w : WorldValue) (c : CampaignValue) (early : IsEarly w c) (from to : �
       (may_have_of w v.holding gift (held_of gift v.holding + n) known (can.room refl) (may_have w c to v receiver early.steady)) (same_flag gift v.holding (held_of gift v.holding + n)) early)
       (both_hold gift n u.holding v.holding can.enough))
 
-  give_spares : (k : ℕ) (x : Unit) → get c.units k ≡ Some x → k ≢ from → IsSpared IsNoWorse (give from to gift n c u).0 k x
+  give_spares : (k : ℕ) (x : Unit) → get c.units k ≡ Some x → k ≢ from → IsUnaffected IsNoWorse (give from to gift n c u).0 k x
   give_spares k x there other =
-      give_cases (λ d. IsSpared IsNoWorse d k x) c from to gift n u giver (record { unit = x; there = there; spared = no_worse x })
+      give_cases (λ d. IsUnaffected IsNoWorse d k x) c from to gift n u giver (record { unit = x; there = there; spared = no_worse x })
       (λ v receiver apart can.
       spared-moved c from to u v (with_held_of gift u.holding (held_of gift u.holding - n)) (with_held_of gift v.holding (held_of gift v.holding + n)) giver receiver apart (better_off gift n v) k x there other)
 
@@ -184,19 +184,19 @@ module _ (w : WorldValue) (c : CampaignValue) (early : IsEarly w c) (from to : �
 
 pub give_orderly : IsOrderly give_step IsEarly (λ c e t. 0) (λ e t. 0) IsOwnOrder IsNoWorse
 give_orderly = record {
-  well = λ w a c t x early fit own. well w a c t x early own t.said fit;
+  well = λ w a c t x early fit own. well w a c t x early own t.order_value.operands fit;
   sparing = no_worse_spares;
-  spared = λ w a c t x early own n u there other. spared w a c t x early own n u there (other_unit c t x n u own there other) t.said;
+  spared = λ w a c t x early own n u there other. spared w a c t x early own n u there (other_unit c t x n u own there other) t.order_value.operands;
   bounded = λ w c early e t. omega arith;
 }
   where
-    well : (w : WorldValue) (a : Aliases) (c : CampaignValue) (t : Task) (x : Unit) → IsEarly w c → IsUnitOf c t x → (s : Said) → IsOrderOf w s → IfSome (give_said a t.faction t.unit s) (λ deed. StepsWell IsEarly (λ d e t. 0) w c (deed c x).0)
-    well w a c t x early own (orders.Give to n item) (ref, number, known) = give_steps_well w c early t.unit (unit_of a t.faction to) (Item item) n x own.there known
-    well w a c t x early own (orders.Pay to n) fit = give_steps_well w c early t.unit (unit_of a t.faction to) Money n x own.there tt
+    well : (w : WorldValue) (a : Aliases) (c : CampaignValue) (t : Task) (x : Unit) → IsEarly w c → IsUnitOf c t x → (s : OperandsValue) → AreOperandsOf w s → IfSome (give_effect a t.faction t.unit s) (λ deed. StepsWell IsEarly (λ d e t. 0) w c (deed c x).0)
+    well w a c t x early own (operands.UnitAndGoods to n item) (ref, number, known) = give_steps_well w c early t.unit (unit_of a t.faction to) (Item item) n x own.there known
+    well w a c t x early own (operands.UnitAndNumber to n) fit = give_steps_well w c early t.unit (unit_of a t.faction to) Money n x own.there tt
     well w a c t x early own other fit = tt
 
-    spared : (w : WorldValue) (a : Aliases) (c : CampaignValue) (t : Task) (x : Unit) → IsEarly w c → IsUnitOf c t x → (n : ℕ) (u : Unit) → get c.units n ≡ Some u → n ≢ t.unit → (s : Said)
-        → IfSome (give_said a t.faction t.unit s) (λ deed. IsSpared IsNoWorse (deed c x).0 n u)
-    spared w a c t x early own n u there apart (orders.Give to k item) = give_spares w c early t.unit (unit_of a t.faction to) (Item item) k x own.there n u there apart
-    spared w a c t x early own n u there apart (orders.Pay to k) = give_spares w c early t.unit (unit_of a t.faction to) Money k x own.there n u there apart
+    spared : (w : WorldValue) (a : Aliases) (c : CampaignValue) (t : Task) (x : Unit) → IsEarly w c → IsUnitOf c t x → (n : ℕ) (u : Unit) → get c.units n ≡ Some u → n ≢ t.unit → (s : OperandsValue)
+        → IfSome (give_effect a t.faction t.unit s) (λ deed. IsUnaffected IsNoWorse (deed c x).0 n u)
+    spared w a c t x early own n u there apart (operands.UnitAndGoods to k item) = give_spares w c early t.unit (unit_of a t.faction to) (Item item) k x own.there n u there apart
+    spared w a c t x early own n u there apart (operands.UnitAndNumber to k) = give_spares w c early t.unit (unit_of a t.faction to) Money k x own.there n u there apart
     spared w a c t x early own n u there apart other = tt

@@ -5,8 +5,8 @@ use Rattle.std.specs.List.{list_any}
 use Rattle.std.proofs.lemmas.Bool.Decides.{nat_tests}
 use Rattle.std.specs.FinMap.{get, insert}
 use Rattle.atl_tables.specs.Worlds.{WorldValue}
-use Rattle.atl_orders.specs.declared.order.Order.TheVariants as orders
-use Rattle.atl_orders.specs.Orders.{Said}
+use Rattle.atl_orders.specs.declared.order.Operands.TheVariants as operands
+use Rattle.atl_orders.specs.Orders.{OperandsValue}
 use Rattle.atl_records.specs.Books.{amount_in}
 use Rattle.atl_state.specs.Covers.{MarksChanges}
 use Rattle.atl_records.specs.declared.books.Thing.{Thing}
@@ -19,22 +19,22 @@ use Rattle.atl_records.specs.Every.{Every}
 use Rattle.atl_state.specs.Good.{AreOfOneFaction, IsSteady, guards}
 use Rattle.atl_state.specs.Marking.{mark_unit_row}
 use Rattle.atl_state.specs.Campaign.{MarkedCampaign, CampaignValue, numbers_in, with_guard}
-use Rattle.atl_records.specs.Amounts.{held}
+use Rattle.atl_records.specs.Amounts.{unit_amount}
 use Rattle.atl_state.specs.Totals.{total}
 use Rattle.atl_records.proofs.EveryLaws.{every-insert, get-insert_other}
-use Rattle.atl_state.proofs.HoldingLaws.{marks-unit_row, total-held}
+use Rattle.atl_state.proofs.HoldingLaws.{marks-unit_row, total-unit_amount}
 use Rattle.atl_state.proofs.RegionLaws.{changed-known}
 use Rattle.atl_state.proofs.NumberListLaws.{IsListed, passing_listed}
-use Rattle.atl_instant.specs.Guard.{guard, guard_concerns, guard_fault, guard_said, guard_step, guards_against, is_guarded_against}
+use Rattle.atl_instant.specs.Guard.{guard, guard_concerns, guard_effect, guard_fault, guard_step, guards_against, is_guarded_against}
 use Rattle.atl_instant.specs.Outcomes.{unless}
-use Rattle.atl_instant.specs.Staying.{IsNoWorse}
+use Rattle.atl_instant.specs.NoWorse.{IsNoWorse}
 use Rattle.atl_instant.specs.PhaseOrders.{Task}
-use Rattle.atl_instant.specs.Steps.{IsOrderly, IsSpared, IsUnitOf, StepsWell}
+use Rattle.atl_instant.specs.OrderEffects.{IsOrderly, IsUnaffected, IsUnitOf, StepsWell}
 use Rattle.atl_state.proofs.HavingLaws.{may_have, steady-having}
 use Rattle.atl_instant.proofs.MeaningLaws.{same_month_by}
 use Rattle.atl_instant.proofs.OutcomeLaws.{none_fits, not_apart}
-use Rattle.atl_instant.proofs.StayingLaws.{no_worse}
-use Rattle.atl_instant.proofs.StepLaws.{drawn_same, no_worse_spares, well_same}
+use Rattle.atl_instant.proofs.NoWorseLaws.{no_worse}
+use Rattle.atl_instant.proofs.OrderEffectLaws.{drawn_same, no_worse_spares, well_same}
 use Rattle.atl_instant.proofs.UnbookedLaws.{other_unit}
 
 -- ---- who else guards
@@ -82,9 +82,9 @@ module _ (c : CampaignValue) (n : ℕ) (u : Unit) (is : get c.units n ≡ Some u
   pub flagged_is : with_guard c n true ≡ flagged
   flagged_is = ap (λ m. record c { units = m }) (changed-known (λ (x : Unit). record x { holding = record x.holding { guard = true } }) c.units n u is)
 
-  pub flag_spares : (k : ℕ) (x : Unit) → get c.units k ≡ Some x → k ≢ n → IsSpared IsNoWorse (with_guard c n true) k x
+  pub flag_spares : (k : ℕ) (x : Unit) → get c.units k ≡ Some x → k ≢ n → IsUnaffected IsNoWorse (with_guard c n true) k x
   flag_spares k x there apart =
-      subst (λ d. IsSpared IsNoWorse d k x) (sym flagged_is) (record { unit = x; there = get-insert_other c.units n k guarding apart ∙ there; spared = no_worse x })
+      subst (λ d. IsUnaffected IsNoWorse d k x) (sym flagged_is) (record { unit = x; there = get-insert_other c.units n k guarding apart ∙ there; spared = no_worse x })
 
   module _ (w : WorldValue) where
     pub steady-flagged : is_guarded_against c u.region u.faction ≡ false → IsSteady w c → IsSteady w flagged
@@ -95,13 +95,13 @@ module _ (c : CampaignValue) (n : ℕ) (u : Unit) (is : get c.units n ≡ Some u
         (record { limits = record { men = limits.men; money = limits.money; items = limits.items }; name = may.name; items = may.items; skills = may.skills; days = may.days })
         (guards_kept none steady.guarded) steady
 
-    held_same : (t : Thing) → held t (record u.holding { guard = true }) ≡ held t u.holding
+    held_same : (t : Thing) → unit_amount t (record u.holding { guard = true }) ≡ unit_amount t u.holding
     held_same Money = refl
     held_same People = refl
     held_same (Item i) = refl
 
     total_same : (t : Thing) → total flagged t ≡ total c t
-    total_same t = same (total flagged t) (total c t) (held t u.holding) (held t (record u.holding { guard = true })) (total-held w c n u (record u.holding { guard = true }) is t) (held_same t)
+    total_same t = same (total flagged t) (total c t) (unit_amount t u.holding) (unit_amount t (record u.holding { guard = true })) (total-unit_amount w c n u (record u.holding { guard = true }) is t) (held_same t)
       where
         same : (a b x y : ℕ) → a + x ≡ b + y → y ≡ x → a ≡ b
         same a b x y e f = omega arith
@@ -137,25 +137,25 @@ guard_cases P c n u same flag = by_fault (guard_fault c u) refl
 guard_steps_well : (w : WorldValue) (c : CampaignValue) (n : ℕ) (u : Unit) → get c.units n ≡ Some u → IsSteady w c → StepsWell IsSteady (λ d e t. 0) w c (guard n c u).0
 guard_steps_well w c n u is steady = guard_cases (λ d. StepsWell IsSteady (λ d e t. 0) w c d) c n u (well_same w c steady) (λ none. flag_steps_well c n u is w none steady)
 
-guard_spares : (w : WorldValue) (c : CampaignValue) (n : ℕ) (u : Unit) → get c.units n ≡ Some u → (k : ℕ) (x : Unit) → get c.units k ≡ Some x → k ≢ n → IsSpared IsNoWorse (guard n c u).0 k x
+guard_spares : (w : WorldValue) (c : CampaignValue) (n : ℕ) (u : Unit) → get c.units n ≡ Some u → (k : ℕ) (x : Unit) → get c.units k ≡ Some x → k ≢ n → IsUnaffected IsNoWorse (guard n c u).0 k x
 guard_spares w c n u is k x there apart =
-    guard_cases (λ d. IsSpared IsNoWorse d k x) c n u (record { unit = x; there = there; spared = no_worse x }) (λ none. flag_spares c n u is k x there apart)
+    guard_cases (λ d. IsUnaffected IsNoWorse d k x) c n u (record { unit = x; there = there; spared = no_worse x }) (λ none. flag_spares c n u is k x there apart)
 
 -- ---- the phase
 
 pub guard_orderly : IsOrderly guard_step IsSteady (λ c e t. 0) (λ e t. 0) guard_concerns IsNoWorse
 guard_orderly = record {
-  well = λ w a c t x steady fit own. well w c t x steady own t.said;
+  well = λ w a c t x steady fit own. well w c t x steady own t.order_value.operands;
   sparing = no_worse_spares;
-  spared = λ w a c t x steady own n u there other. spared w c t x own n u there t.said (λ sets. other_unit c t x n u own there (λ h. other (h, sets)));
+  spared = λ w a c t x steady own n u there other. spared w c t x own n u there t.order_value.operands (λ sets. other_unit c t x n u own there (λ h. other (h, sets)));
   bounded = λ w c steady e t. omega arith;
 }
   where
-    well : (w : WorldValue) (c : CampaignValue) (t : Task) (x : Unit) → IsSteady w c → IsUnitOf c t x → (s : Said) → IfSome (guard_said t.unit s) (λ deed. StepsWell IsSteady (λ d e t. 0) w c (deed c x).0)
-    well w c t x steady own (orders.Guard true) = guard_steps_well w c t.unit x own.there steady
+    well : (w : WorldValue) (c : CampaignValue) (t : Task) (x : Unit) → IsSteady w c → IsUnitOf c t x → (s : OperandsValue) → IfSome (guard_effect t.unit s) (λ deed. StepsWell IsSteady (λ d e t. 0) w c (deed c x).0)
+    well w c t x steady own (operands.Flag true) = guard_steps_well w c t.unit x own.there steady
     well w c t x steady own other = tt
 
-    spared : (w : WorldValue) (c : CampaignValue) (t : Task) (x : Unit) → IsUnitOf c t x → (n : ℕ) (u : Unit) → get c.units n ≡ Some u → (s : Said) → (s ≡ orders.Guard true → n ≢ t.unit)
-        → IfSome (guard_said t.unit s) (λ deed. IsSpared IsNoWorse (deed c x).0 n u)
-    spared w c t x own n u there (orders.Guard true) apart = guard_spares w c t.unit x own.there n u there (apart refl)
+    spared : (w : WorldValue) (c : CampaignValue) (t : Task) (x : Unit) → IsUnitOf c t x → (n : ℕ) (u : Unit) → get c.units n ≡ Some u → (s : OperandsValue) → (s ≡ operands.Flag true → n ≢ t.unit)
+        → IfSome (guard_effect t.unit s) (λ deed. IsUnaffected IsNoWorse (deed c x).0 n u)
+    spared w c t x own n u there (operands.Flag true) apart = guard_spares w c t.unit x own.there n u there (apart refl)
     spared w c t x own n u there other apart = tt

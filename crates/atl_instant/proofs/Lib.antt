@@ -4,15 +4,15 @@ pub mod StandingLaws
 pub mod MappedLaws
 pub mod OrderLaws
 pub mod PickedLaws
-pub mod GatheringLaws
-pub mod WrittenLaws
+pub mod OrderIndexLaws
+pub mod PhaseOrderLaws
 pub mod StandOnceLaws
 pub mod FoldLaws
 pub mod MeaningLaws
 pub mod RoomLaws
 pub mod BookingLaws
-pub mod StayingLaws
-pub mod StepLaws
+pub mod NoWorseLaws
+pub mod OrderEffectLaws
 pub mod OutcomeLaws
 pub mod AmountsForLaws
 pub mod MarkLaws
@@ -22,7 +22,7 @@ pub mod GiveLaws
 pub mod DaysLaws
 pub mod TransferLaws
 pub mod GuardingLaws
-pub mod HolderLaws
+pub mod RegionGuardLaws
 pub mod FactionLaws
 pub mod StructureLaws
 pub mod RefitLaws
@@ -37,5 +37,5 @@ pub mod QuitLaws
 pub mod QuittingLaws
 pub mod FitLaws
 pub mod UnmailedLaws
-pub mod TermsLaws
+pub mod PhaseSpecLaws
 pub mod UnmailedStepLaws

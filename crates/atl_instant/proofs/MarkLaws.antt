@@ -2,7 +2,7 @@
 use Rattle.std.proofs.Common.{◌≡◌, ◌==◌, ◌<◌, ℕ, Bool, true, false, Option, Some, None, refl, sym, ◌∙◌}
 use Rattle.std.specs.Prelude.{ℤ, Result, Ok, Err, OnOk, if◌then◌else◌}
 use Rattle.std.specs.FinMap.{get}
-use Rattle.atl_records.specs.Books.{IsGrid, thing_place}
+use Rattle.atl_records.specs.Books.{IsGrid, thing_index}
 use Rattle.atl_state.specs.Covers.{MarksChanges}
 use Rattle.atl_records.specs.declared.books.Entry.{Entry}
 use Rattle.atl_records.specs.declared.books.Thing.{Thing}
@@ -12,7 +12,7 @@ use Rattle.atl_state.specs.Owners.{heir, with_place}
 use Rattle.atl_state.specs.Campaign.{MarkedCampaign, with_amount}
 use Rattle.atl_state.proofs.CoverLaws.{marks-amount, marks-refl, marks-trans}
 use Rattle.atl_state.proofs.HoldingLaws.{marks-unit_row}
-use Rattle.atl_state.proofs.LeavingLaws.{marks-handed}
+use Rattle.atl_state.proofs.LeavingLaws.{marks-after_handover}
 use Rattle.atl_state.proofs.OwnerLaws.{place-what}
 
 -- by what a call leaves, and what it marks
@@ -20,7 +20,7 @@ pub marks_by : (a b m : MarkedCampaign) → b.value ≡ m.value → b.marks ≡ 
 marks_by a b m what marks h = rw (what, marks) (record { stay = h.stay; covers = h.covers })
 
 -- what is booked behind a change
-pub booked_marks : (things : ℕ) (a b d : MarkedCampaign) (e : Entry) (t : Thing) (z : ℤ) → MarksChanges a b → IsGrid things b.value.books → thing_place t < things
+pub booked_marks : (things : ℕ) (a b d : MarkedCampaign) (e : Entry) (t : Thing) (z : ℤ) → MarksChanges a b → IsGrid things b.value.books → thing_index t < things
     → d.value ≡ with_amount b.value e t z → d.marks ≡ mark_amount b e t → MarksChanges a d
 booked_marks things a b d e t z before grid inside what marks =
     marks-trans a b d before (marks_by b d (record { value = with_amount b.value e t z; marks = mark_amount b e t }) what marks (marks-amount things b e t z grid inside))
@@ -41,7 +41,7 @@ marks_place_at c n r s (Some u) = by_test (u.structure == s)
     by_test true = one_put
     by_test false =
         let next = handed_marked (put_marked c n r s) u.structure n (heir c.value u.structure n) in
-        marks-trans c next (handed_marked next s 0 n) (marks-trans c (put_marked c n r s) next one_put (marks-handed (put_marked c n r s) u.structure n (heir c.value u.structure n))) (marks-handed next s 0 n)
+        marks-trans c next (handed_marked next s 0 n) (marks-trans c (put_marked c n r s) next one_put (marks-after_handover (put_marked c n r s) u.structure n (heir c.value u.structure n))) (marks-after_handover next s 0 n)
 
 pub marks-place : (c d : MarkedCampaign) (n r s : ℕ) → d.value ≡ with_place c.value n r s → d.marks ≡ (place_marked c n r s).marks → MarksChanges c d
 unfolding place_marked

@@ -14,7 +14,7 @@ use Rattle.atl_records.specs.declared.records.Faction.{Faction}
 use Rattle.atl_records.specs.Every.{IsThere}
 use Rattle.atl_state.specs.Good.{IsSound, amount_bound}
 use Rattle.atl_instant.specs.Month.{MonthValue}
-use Rattle.atl_instant.specs.Meaning.{Condition, HasRoom, HaveRoom, IsNear, IsSameMonth, Keeping, LeavesWell, Meaning, Moving, both_keep, both_move, moved_times}
+use Rattle.atl_instant.specs.Meaning.{BookBound, Condition, Frame, HasRoom, HaveRoom, IsNear, IsSameMonth, LeavesWell, Meaning, both_keep, both_move, moved_times}
 
 pub near_twice : (j k : ℕ) (a b c : ℤ) → IsNear j a b → IsNear k b c → IsNear (j + k) a c
 near_twice j k a b c g h = record { above = omega (arith, ints, g.above, h.above); below = omega (arith, ints, g.below, h.below) }
@@ -32,15 +32,15 @@ pub less_room : (j k : ℕ) (a : ℤ) → j ≤ k → HasRoom k a → HasRoom j 
 less_room j k a l room = record { above = omega (arith, ints, room.above); below = omega (arith, ints, room.below) }
 
 -- one moves no amount further than the other
-abbrev pub MovesLess : Moving → Moving → Type 0
+abbrev pub MovesLess : BookBound → BookBound → Type 0
 MovesLess less more = (e : Entry) (t : Thing) → less e t ≤ more e t
 
 -- room for more is room for less
-pub room_less : (j k : Moving) (c : CampaignValue) → MovesLess j k → HaveRoom k c → HaveRoom j c
+pub room_less : (j k : BookBound) (c : CampaignValue) → MovesLess j k → HaveRoom k c → HaveRoom j c
 room_less j k c l room e t = less_room (j e t) (k e t) (amount_in c.books e t) (l e t) (room e t)
 
 -- a sound campaign has room for a month
-pub room_when_sound : (w : WorldValue) (c : CampaignValue) (moving : Moving) → MovesLess moving (λ e t. 5000000000000000000) → IsSound w c → HaveRoom moving c
+pub room_when_sound : (w : WorldValue) (c : CampaignValue) (moving : BookBound) → MovesLess moving (λ e t. 5000000000000000000) → IsSound w c → HaveRoom moving c
 room_when_sound w c moving l sound e t =
     let few : amount_bound c ≤ 3000000000000000000 = omega (arith, sound.steady.numbers.month, sound.steady.numbers.few_factions) in
     within (amount_in c.books e t) (amount_bound c) (moving e t) few (l e t) (sound.amounts e t)
@@ -49,7 +49,7 @@ room_when_sound w c moving l sound e t =
     within a bound change few little h = record { above = omega (arith, ints, h.most); below = omega (arith, ints, h.least) }
 
 -- behind one step there is room for the next
-pub room_behind : {leaves : Condition} (j k : Moving) (w : WorldValue) (c d : CampaignValue) → LeavesWell leaves j w c d → HaveRoom (both_move j k) c → HaveRoom k d
+pub room_behind : {leaves : Condition} (j k : BookBound) (w : WorldValue) (c d : CampaignValue) → LeavesWell leaves j w c d → HaveRoom (both_move j k) c → HaveRoom k d
 room_behind j k w c d well room e t = near_room (j e t) (k e t) (amount_in c.books e t) (amount_in d.books e t) (well.near e t) (room e t)
 
 -- ---- the same month
@@ -88,7 +88,7 @@ same_month_twice a b c one two = record {
   factions = λ n there. one.factions n (two.factions n there);
 }
 
-pub both_leave_well : {between leaves : Condition} (j k : Moving) (w : WorldValue) (a b c : CampaignValue) → LeavesWell between j w a b → LeavesWell leaves k w b c → LeavesWell leaves (both_move j k) w a c
+pub both_leave_well : {between leaves : Condition} (j k : BookBound) (w : WorldValue) (a b c : CampaignValue) → LeavesWell between j w a b → LeavesWell leaves k w b c → LeavesWell leaves (both_move j k) w a c
 both_leave_well j k w a b c one two = record {
   leaves_it = two.leaves_it;
   same_month = same_month_twice a b c one.same_month two.same_month;
@@ -97,18 +97,18 @@ both_leave_well j k w a b c one two = record {
 }
 
 -- what two phases keep, by what the first one makes
-pub both_keep_well : (first : Meaning) (early late : Keeping) (w : WorldValue) (m n : MonthValue) (a b c : CampaignValue)
+pub both_keep_well : (first : Meaning) (early late : Frame) (w : WorldValue) (m n : MonthValue) (a b c : CampaignValue)
     → (b, n) ≡ first w a m → early w m a b → late w n b c → both_keep first early late w m a c
 both_keep_well first early late w m n a b c is one two = rw (sym is) (one, two)
 
-pub well_within : {leaves : Condition} (j k : Moving) (w : WorldValue) (a b : CampaignValue) → MovesLess j k → LeavesWell leaves j w a b → LeavesWell leaves k w a b
+pub well_within : {leaves : Condition} (j k : BookBound) (w : WorldValue) (a b : CampaignValue) → MovesLess j k → LeavesWell leaves j w a b → LeavesWell leaves k w a b
 well_within j k w a b l h = record { leaves_it = h.leaves_it; same_month = h.same_month; balances = h.balances; near = λ e t. near_more (j e t) (k e t) (amount_in a.books e t) (amount_in b.books e t) (l e t) (h.near e t) }
 
-pub well_unchanged : {leaves : Condition} (moving : Moving) (w : WorldValue) (c : CampaignValue) → leaves w c → LeavesWell leaves moving w c c
+pub well_unchanged : {leaves : Condition} (moving : BookBound) (w : WorldValue) (c : CampaignValue) → leaves w c → LeavesWell leaves moving w c c
 well_unchanged moving w c h = record { leaves_it = h; same_month = same_month c; balances = λ b. b; near = λ e t. near_same (moving e t) (amount_in c.books e t) }
 
 -- so does a fold of steps each of which does
-module _ {A : Type 0} {leaves : Condition} (moving : Moving) (w : WorldValue) (step : CampaignValue → A → CampaignValue) (each : (c : CampaignValue) (x : A) → leaves w c → LeavesWell leaves moving w c (step c x)) where
+module _ {A : Type 0} {leaves : Condition} (moving : BookBound) (w : WorldValue) (step : CampaignValue → A → CampaignValue) (each : (c : CampaignValue) (x : A) → leaves w c → LeavesWell leaves moving w c (step c x)) where
   more : {B : Type 0} (x : B) (xs : List B) → MovesLess (both_move moving (moved_times (length xs) moving)) (moved_times (length (x ∷ xs)) moving)
   more x xs e t = let one : length (x ∷ xs) * moving e t ≡ length xs * moving e t + moving e t = suc-mul (length xs) (moving e t) in omega arith
 

@@ -12,7 +12,7 @@ use Rattle.std.specs.Map.{keys_of, lookup}
 use Rattle.std.specs.List.{IsDistinct}
 use Rattle.std.specs.List.Sorted.{IsNonDecreasingBy, IsPartitionPoint, IsSortedByKey, IsStrictlySortedBy}
 use Rattle.std.proofs.lemmas.Map.Keys.{IsDistinct-IsPermutation, IsDistinct-from_sorted, Less-from_sorted}
-use Rattle.atl_instant.specs.Collecting.{AreByFaction}
+use Rattle.atl_instant.specs.OrderIndices.{AreByFaction}
 use Rattle.std.specs.FinMap.{find, get, get-from_entries, nat_cmp-IsAntisymmetric}
 use Rattle.std.proofs.lemmas.List.Sorted.{IsPermutation-map, searchable_from_sorted}
 use Rattle.atl_orders.specs.declared.mailing.Mailing.{Mailing}

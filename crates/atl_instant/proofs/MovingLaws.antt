@@ -8,24 +8,24 @@ use Rattle.atl_records.specs.declared.books.Thing.{Thing}
 use Rattle.atl_records.specs.declared.records.Unit.{Unit}
 use Rattle.atl_records.specs.Books.{amount_in}
 use Rattle.atl_state.specs.Good.{IsEarly}
-use Rattle.atl_records.specs.Held.{Held}
+use Rattle.atl_records.specs.Holdings.{HoldingValue}
 use Rattle.atl_state.specs.Lending.{with_held}
 use Rattle.atl_state.specs.Campaign.{CampaignValue}
-use Rattle.atl_records.specs.Amounts.{held}
+use Rattle.atl_records.specs.Amounts.{unit_amount}
 use Rattle.atl_state.specs.Totals.{total}
 use Rattle.atl_records.proofs.EveryLaws.{get-insert_other}
-use Rattle.atl_state.proofs.HoldingLaws.{total-held}
+use Rattle.atl_state.proofs.HoldingLaws.{total-unit_amount}
 use Rattle.atl_state.proofs.RegionLaws.{get-insert_same}
-use Rattle.atl_instant.specs.Staying.{IsNoWorse}
-use Rattle.atl_instant.specs.Steps.{IsSpared, StepsWell}
+use Rattle.atl_instant.specs.NoWorse.{IsNoWorse}
+use Rattle.atl_instant.specs.OrderEffects.{IsUnaffected, StepsWell}
 use Rattle.atl_state.proofs.HavingLaws.{MayHave, early-having}
 use Rattle.atl_instant.proofs.MeaningLaws.{same_month_by}
-use Rattle.atl_instant.proofs.StayingLaws.{no_worse}
-use Rattle.atl_instant.proofs.StepLaws.{drawn_same}
+use Rattle.atl_instant.proofs.NoWorseLaws.{no_worse}
+use Rattle.atl_instant.proofs.OrderEffectLaws.{drawn_same}
 
 -- ---- two units, of which one gives and the other gets
 
-module _ (c : CampaignValue) (from to : ℕ) (u v : Unit) (h k : Held) (giver : get c.units from ≡ Some u) (receiver : get c.units to ≡ Some v) (apart : to ≢ from) where
+module _ (c : CampaignValue) (from to : ℕ) (u v : Unit) (h k : HoldingValue) (giver : get c.units from ≡ Some u) (receiver : get c.units to ≡ Some v) (apart : to ≢ from) where
   abbrev between : CampaignValue
   between = with_held c from h (Some u)
 
@@ -41,11 +41,11 @@ module _ (c : CampaignValue) (from to : ℕ) (u v : Unit) (h k : Held) (giver : 
 
   -- what both hold stays
   abbrev pub BothHold : Type 0
-  BothHold = (t : Thing) → held t h + held t k ≡ held t u.holding + held t v.holding
+  BothHold = (t : Thing) → unit_amount t h + unit_amount t k ≡ unit_amount t u.holding + unit_amount t v.holding
 
   pub total-moved : WorldValue → BothHold → (t : Thing) → total moved t ≡ total c t
   total-moved w both t =
-      sum (total moved t) (total between t) (total c t) (held t u.holding) (held t v.holding) (held t h) (held t k) (total-held w between to v k receiver_still t) (total-held w c from u h giver t) (both t)
+      sum (total moved t) (total between t) (total c t) (unit_amount t u.holding) (unit_amount t v.holding) (unit_amount t h) (unit_amount t k) (total-unit_amount w between to v k receiver_still t) (total-unit_amount w c from u h giver t) (both t)
     where
       sum : (a b x p q r s : ℕ) → a + q ≡ b + s → b + p ≡ x + r → r + s ≡ p + q → a ≡ x
       sum a b x p q r s e f g = omega arith
@@ -59,7 +59,7 @@ module _ (c : CampaignValue) (from to : ℕ) (u v : Unit) (h k : Held) (giver : 
   }
 
   -- a unit that doesn't give is no worse off
-  pub spared-moved : IsNoWorse v (record v { holding = k }) → (n : ℕ) (x : Unit) → get c.units n ≡ Some x → n ≢ from → IsSpared IsNoWorse moved n x
+  pub spared-moved : IsNoWorse v (record v { holding = k }) → (n : ℕ) (x : Unit) → get c.units n ≡ Some x → n ≢ from → IsUnaffected IsNoWorse moved n x
   spared-moved better n x there other = elim (cases_eq n to) [
     | inl same ↦
         let one : Some v ≡ Some x = sym receiver ∙ ap (get c.units) (sym same) ∙ there in

@@ -6,11 +6,11 @@ use Rattle.atl_tables.specs.Names.{name_ok}
 use Rattle.atl_tables.specs.Worlds.{WorldValue}
 use Rattle.atl_orders.specs.declared.order.NameKind.{NameKind}
 use Rattle.atl_orders.specs.declared.order.NameKind.TheVariants as kinds
-use Rattle.atl_orders.specs.declared.order.Order.{Order}
-use Rattle.atl_orders.specs.declared.order.Order.TheVariants as orders
+use Rattle.atl_orders.specs.declared.order.Operands.{Operands}
+use Rattle.atl_orders.specs.declared.order.Operands.TheVariants as operands
 use Rattle.atl_orders.specs.declared.order.Span.{Span}
-use Rattle.atl_orders.specs.Bounds.{IsOrderOf}
-use Rattle.atl_orders.specs.Orders.{Said, said}
+use Rattle.atl_orders.specs.Bounds.{AreOperandsOf}
+use Rattle.atl_orders.specs.Orders.{OperandsValue, named as operands_in}
 use Rattle.atl_records.specs.declared.books.Thing.{Thing}
 use Rattle.atl_records.specs.declared.books.Thing.TheVariants.{Item, Money, People}
 use Rattle.atl_records.specs.declared.event.EventFault.{EventFault}
@@ -18,30 +18,30 @@ use Rattle.atl_records.specs.declared.event.Outcome.TheVariants.{Done}
 use Rattle.atl_records.specs.declared.records.Structure.{Structure}
 use Rattle.atl_records.specs.declared.records.Unit.{Unit}
 use Rattle.atl_state.specs.Good.{IsEarly, IsOwned, guards}
-use Rattle.atl_records.specs.Held.{Held}
+use Rattle.atl_records.specs.Holdings.{HoldingValue}
 use Rattle.atl_state.specs.Campaign.{CampaignValue, with_faction_name, with_guard, with_structure_name, with_unit_name}
-use Rattle.atl_records.specs.Amounts.{held}
+use Rattle.atl_records.specs.Amounts.{unit_amount}
 use Rattle.atl_state.specs.Totals.{total}
-use Rattle.atl_state.proofs.HoldingLaws.{MayHold, of_one_faction_kept, steady-held, total-held}
+use Rattle.atl_state.proofs.HoldingLaws.{MayHold, of_one_faction_kept, steady-unit_amount, total-unit_amount}
 use Rattle.atl_state.proofs.RegionLaws.{changed-known}
-use Rattle.atl_instant.specs.Name.{name_concerns, name_said, name_step, named, structure_fault, structure_named}
+use Rattle.atl_instant.specs.Name.{name_concerns, name_effect, name_result, name_step, structure_fault, structure_name_result}
 use Rattle.atl_instant.specs.Outcomes.{unless}
 use Rattle.atl_instant.specs.PhaseOrders.{Task}
-use Rattle.atl_instant.specs.Staying.{IsNoWorse}
-use Rattle.atl_instant.specs.Steps.{IsOrderly, IsOwnOrder, IsSpared, IsUnitOf, StepsWell}
+use Rattle.atl_instant.specs.NoWorse.{IsNoWorse}
+use Rattle.atl_instant.specs.OrderEffects.{IsOrderly, IsOwnOrder, IsUnaffected, IsUnitOf, StepsWell}
 use Rattle.atl_instant.specs.Unbooked.{books_nothing, moves_nothing}
 use Rattle.atl_instant.proofs.MeaningLaws.{same_month_among, same_month_by}
 use Rattle.atl_instant.proofs.FactionLaws.{count-faction_name, known-faction_name, steady-faction_name}
 use Rattle.atl_instant.proofs.OutcomeLaws.{false_true}
 use Rattle.atl_instant.proofs.RefitLaws.{IsRelabelled, early-relabelled}
 use Rattle.atl_instant.proofs.StructureLaws.{at_number, changed_else, get-changed, len-changed}
-use Rattle.atl_instant.proofs.StepLaws.{no_worse_spares, well_same}
+use Rattle.atl_instant.proofs.OrderEffectLaws.{no_worse_spares, well_same}
 use Rattle.atl_instant.proofs.UnbookedLaws.{other_spared, same_total_of, unbooked_well}
 
 -- an order that is none of the phase is passed over
-pub name_other : (w : WorldValue) (n : ℕ) (text : List ℕ) (o : Order Span) → ((what : NameKind) (span : Span) → o ≡ orders.Name what span → ⊥) → (o ≡ orders.Guard false → ⊥) → name_said w n (said text o) ≡ None
-name_other w n text (orders.Name what span) a b = absurd (a what span refl)
-name_other w n text (orders.Guard false) a b = absurd (b refl)
+pub name_other : (w : WorldValue) (n : ℕ) (text : List ℕ) (o : Operands Span) → ((what : NameKind) (span : Span) → o ≡ operands.Name what span → ⊥) → (o ≡ operands.Flag false → ⊥) → name_effect w n (operands_in text o) ≡ None
+name_other w n text (operands.Name what span) a b = absurd (a what span refl)
+name_other w n text (operands.Flag false) a b = absurd (b refl)
 name_other w n text other a b = refl
 
 module _ (w : WorldValue) (c : CampaignValue) (n : ℕ) (u : Unit) (is : get c.units n ≡ Some u) (early : IsEarly w c) where
@@ -50,19 +50,19 @@ module _ (w : WorldValue) (c : CampaignValue) (n : ℕ) (u : Unit) (is : get c.u
 
   -- ---- the unit's name and its flag
 
-  abbrev with_hold : Held → CampaignValue
+  abbrev with_hold : HoldingValue → CampaignValue
   with_hold h = record c { units = insert c.units n (record u { holding = h }) }
 
   same_total : (a b h : ℕ) → a + h ≡ b + h → a ≡ b
   same_total a b h e = omega arith
 
-  held_well : (h : Held) → MayHold w u h → (h.guard ≡ true → u.holding.guard ≡ true) → ((t : Thing) → held t h ≡ held t u.holding) → Well (with_hold h)
+  held_well : (h : HoldingValue) → MayHold w u h → (h.guard ≡ true → u.holding.guard ≡ true) → ((t : Thing) → unit_amount t h ≡ unit_amount t u.holding) → Well (with_hold h)
   held_well h may flag same = unbooked_well w c (with_hold h)
-      (record { steady = steady-held w c n u h is may early.steady; flags = of_one_faction_kept w c n u h is (λ x. x.holding.guard) flag early.flags })
+      (record { steady = steady-unit_amount w c n u h is may early.steady; flags = of_one_faction_kept w c n u h is (λ x. x.holding.guard) flag early.flags })
       (same_month_by refl) refl
-      (λ t. same_total (total (with_hold h) t) (total c t) (held t u.holding) (total-held w c n u h is t ∙ ap (λ k. total c t + k) (same t)))
+      (λ t. same_total (total (with_hold h) t) (total c t) (unit_amount t u.holding) (total-unit_amount w c n u h is t ∙ ap (λ k. total c t + k) (same t)))
 
-  may_hold : (h : Held) → IsTrue (name_ok h.name) → h.men ≡ u.holding.men → h.money ≡ u.holding.money → h.items ≡ u.holding.items → h.days ≡ u.holding.days → (guards (record u { holding = h }) ≡ true → guards u ≡ true) → MayHold w u h
+  may_hold : (h : HoldingValue) → IsTrue (name_ok h.name) → h.men ≡ u.holding.men → h.money ≡ u.holding.money → h.items ≡ u.holding.items → h.days ≡ u.holding.days → (guards (record u { holding = h }) ≡ true → guards u ≡ true) → MayHold w u h
   may_hold h name men money items days guard =
       let place = early.steady.known.units n u is in
       let holding = (early.steady.numbers.units n u is).1 in
@@ -81,7 +81,7 @@ module _ (w : WorldValue) (c : CampaignValue) (n : ℕ) (u : Unit) (is : get c.u
       subst Well (ap (λ m. record c { units = m }) (sym (changed-known (λ (x : Unit). record x { holding = record x.holding { name = name } }) c.units n u is)))
       (held_well h (may_hold h ok refl refl refl refl (λ g. g)) (λ g. g) same)
     where
-      same : (t : Thing) → held t (record u.holding { name = name }) ≡ held t u.holding
+      same : (t : Thing) → unit_amount t (record u.holding { name = name }) ≡ unit_amount t u.holding
       same Money = refl
       same People = refl
       same (Item i) = refl
@@ -92,7 +92,7 @@ module _ (w : WorldValue) (c : CampaignValue) (n : ℕ) (u : Unit) (is : get c.u
       subst Well (ap (λ m. record c { units = m }) (sym (changed-known (λ (x : Unit). record x { holding = record x.holding { guard = false } }) c.units n u is)))
       (held_well h (may_hold h (early.steady.names.units n u is) refl refl refl refl (λ g. false_true g)) (λ g. false_true g) same)
     where
-      same : (t : Thing) → held t (record u.holding { guard = false }) ≡ held t u.holding
+      same : (t : Thing) → unit_amount t (record u.holding { guard = false }) ≡ unit_amount t u.holding
       same Money = refl
       same People = refl
       same (Item i) = refl
@@ -124,7 +124,7 @@ module _ (w : WorldValue) (c : CampaignValue) (n : ℕ) (u : Unit) (is : get c.u
       owned q y true o = record { owned = o.owned; ownerless = o.ownerless }
       owned q y false o = o
 
-  structure_well : (k : ℕ) (ship : Bool) (name : List ℕ) → IsTrue (name_ok name) → Well (structure_named w c n k ship name).0
+  structure_well : (k : ℕ) (ship : Bool) (name : List ℕ) → IsTrue (name_ok name) → Well (structure_name_result w c n k ship name).0
   structure_well k ship name ok = by_fault (structure_fault w n ship (get c.structures k))
     where
       by_fault : (o : Option EventFault) → Well (unless c o (with_structure_name c k name, Done 0)).0
@@ -133,15 +133,15 @@ module _ (w : WorldValue) (c : CampaignValue) (n : ℕ) (u : Unit) (is : get c.u
 
   -- ---- an order
 
-  named_well : (what : NameKind) (name : List ℕ) → IsTrue (name_ok name) → Well (named w c n u.faction u.structure what name).0
+  named_well : (what : NameKind) (name : List ℕ) → IsTrue (name_ok name) → Well (name_result w c n u.faction u.structure what name).0
   named_well kinds.Unit name ok = unit_name_well name ok
   named_well kinds.Faction name ok = faction_well name ok
   named_well kinds.Building name ok = structure_well u.structure false name ok
   named_well kinds.Ship name ok = structure_well u.structure true name ok
 
-  order_well : (o : Said) → IsOrderOf w o → IfSome (name_said w n o) (λ deed. Well (deed c u).0)
-  order_well (orders.Name what name) fit = named_well what name fit
-  order_well (orders.Guard false) fit = flag_well
+  order_well : (o : OperandsValue) → AreOperandsOf w o → IfSome (name_effect w n o) (λ deed. Well (deed c u).0)
+  order_well (operands.Name what name) fit = named_well what name fit
+  order_well (operands.Flag false) fit = flag_well
   order_well other fit = tt
 
 -- ---- other units stay
@@ -150,34 +150,34 @@ module _ (w : WorldValue) (c : CampaignValue) (n : ℕ) (u : Unit) (k : ℕ) (ap
   abbrev Stays : CampaignValue → Type 0
   Stays d = get d.units k ≡ get c.units k
 
-  structure_stays : (j : ℕ) (ship : Bool) (name : List ℕ) → Stays (structure_named w c n j ship name).0
+  structure_stays : (j : ℕ) (ship : Bool) (name : List ℕ) → Stays (structure_name_result w c n j ship name).0
   structure_stays j ship name = by_fault (structure_fault w n ship (get c.structures j))
     where
       by_fault : (o : Option EventFault) → Stays (unless c o (with_structure_name c j name, Done 0)).0
       by_fault (Some fault) = refl
       by_fault None = refl
 
-  named_stays : (what : NameKind) (name : List ℕ) → Stays (named w c n u.faction u.structure what name).0
+  named_stays : (what : NameKind) (name : List ℕ) → Stays (name_result w c n u.faction u.structure what name).0
   named_stays kinds.Unit name = changed_else (λ (x : Unit). record x { holding = record x.holding { name = name } }) c.units n k apart (get c.units n)
   named_stays kinds.Faction name = refl
   named_stays kinds.Building name = structure_stays u.structure false name
   named_stays kinds.Ship name = structure_stays u.structure true name
 
-  order_stays : (o : Said) → IfSome (name_said w n o) (λ deed. Stays (deed c u).0)
-  order_stays (orders.Name what name) = named_stays what name
-  order_stays (orders.Guard false) = changed_else (λ (x : Unit). record x { holding = record x.holding { guard = false } }) c.units n k apart (get c.units n)
+  order_stays : (o : OperandsValue) → IfSome (name_effect w n o) (λ deed. Stays (deed c u).0)
+  order_stays (operands.Name what name) = named_stays what name
+  order_stays (operands.Flag false) = changed_else (λ (x : Unit). record x { holding = record x.holding { guard = false } }) c.units n k apart (get c.units n)
   order_stays other = tt
 
 pub name_orderly : IsOrderly name_step IsEarly books_nothing moves_nothing name_concerns IsNoWorse
 name_orderly = record {
-  well = λ w a c t x early fit own. order_well w c t.unit x own.there early t.said fit;
+  well = λ w a c t x early fit own. order_well w c t.unit x own.there early t.order_value.operands fit;
   sparing = no_worse_spares;
-  spared = λ w a c t x early own k v there other. spared w c t x own k v there t.said (λ takes mine. other (mine, takes));
+  spared = λ w a c t x early own k v there other. spared w c t x own k v there t.order_value.operands (λ takes mine. other (mine, takes));
   bounded = λ w c early e t. omega arith;
 }
   where
-    spared : (w : WorldValue) (c : CampaignValue) (t : Task) (x : Unit) → IsUnitOf c t x → (k : ℕ) (v : Unit) → get c.units k ≡ Some v → (o : Said) → (o ≢ orders.Guard true → IsOwnOrder t k v.faction → ⊥)
-        → IfSome (name_said w t.unit o) (λ deed. IsSpared IsNoWorse (deed c x).0 k v)
-    spared w c t x own k v there (orders.Name what name) apart = other_spared c _ t x (λ j other. order_stays w c t.unit x j other (orders.Name what name)) own k v there (apart (λ same. cc))
-    spared w c t x own k v there (orders.Guard false) apart = other_spared c _ t x (λ j other. order_stays w c t.unit x j other (orders.Guard false)) own k v there (apart (λ same. cc))
+    spared : (w : WorldValue) (c : CampaignValue) (t : Task) (x : Unit) → IsUnitOf c t x → (k : ℕ) (v : Unit) → get c.units k ≡ Some v → (o : OperandsValue) → (o ≢ operands.Flag true → IsOwnOrder t k v.faction → ⊥)
+        → IfSome (name_effect w t.unit o) (λ deed. IsUnaffected IsNoWorse (deed c x).0 k v)
+    spared w c t x own k v there (operands.Name what name) apart = other_spared c _ t x (λ j other. order_stays w c t.unit x j other (operands.Name what name)) own k v there (apart (λ same. cc))
+    spared w c t x own k v there (operands.Flag false) apart = other_spared c _ t x (λ j other. order_stays w c t.unit x j other (operands.Flag false)) own k v there (apart (λ same. cc))
     spared w c t x own k v there o apart = tt

@@ -13,17 +13,17 @@ use Rattle.std.proofs.lemmas.List.Folds.{flat_map-map}
 use Rattle.std.proofs.lemmas.List.Sorted.{All-permutation, IsPermutation-map}
 use Rattle.atl_orders.specs.declared.mailing.Mailing.{Mailing}
 use Rattle.atl_orders.specs.declared.verb.Verb.{Verb}
-use Rattle.atl_orders.specs.Mailing.{EntrySaid, Reading, reading_of}
+use Rattle.atl_orders.specs.Mailing.{EntryValue, Reading, reading_of}
 use Rattle.atl_tables.proofs.Maps.{entries_of}
 use Rattle.atl_state.proofs.KeyLaws.{IsDistinct-map}
 use Rattle.atl_state.proofs.BackLaws.{append_apart, append_each}
-use Rattle.atl_instant.specs.declared.gathering.Placed.{Placed}
-use Rattle.atl_instant.specs.declared.written.Arrangement.{Arrangement}
-use Rattle.atl_instant.specs.declared.written.Arrangement.TheVariants.{ByUnit, ByFaction}
-use Rattle.atl_instant.specs.declared.written.Written.{Written}
+use Rattle.atl_instant.specs.declared.order_indices.OrderIndex.{OrderIndex}
+use Rattle.atl_instant.specs.declared.phase_order.Arrangement.{Arrangement}
+use Rattle.atl_instant.specs.declared.phase_order.Arrangement.TheVariants.{ByUnit, ByFaction}
+use Rattle.atl_instant.specs.declared.phase_order.PhaseOrder.{PhaseOrder}
 use Rattle.atl_instant.specs.Month.{Aliases, by_faction}
 use Rattle.atl_instant.specs.PhaseOrders.{Task, task_of, tasks_from, tasks_of, tasks_for, key_of, orders_of}
-use Rattle.atl_instant.specs.Collecting.{AreByFaction, AreCollected, AreGathered, IsThere, all_tasks, every_verb, key_by, task_at}
+use Rattle.atl_instant.specs.OrderIndices.{AreByFaction, AreIndicesByMailing, AreOrderIndices, IsThere, all_tasks, every_verb, key_by, task_at}
 use Rattle.atl_instant.proofs.ListedLaws.{entries-sorted, keyed_order}
 use Rattle.atl_instant.proofs.MappedLaws.{with_value, entries-with_value}
 use Rattle.atl_instant.proofs.MonthLaws.{by_its_faction, factions_read, keys_of-factions}
@@ -64,7 +64,7 @@ module _ (aliases : Aliases) (a : Arrangement) where
   abbrev IsBehind : ℕ → ℕ → Task → Type 0
   IsBehind faction place t = (t.faction ≡ faction) × (place ≤ t.place)
 
-  behind : (p : Task → Bool) (faction : ℕ) (low place : ℕ) (es : List EntrySaid) → low ≤ place → AllByRecursion (IsBehind faction low) (filter p (tasks_from aliases faction place es))
+  behind : (p : Task → Bool) (faction : ℕ) (low place : ℕ) (es : List EntryValue) → low ≤ place → AllByRecursion (IsBehind faction low) (filter p (tasks_from aliases faction place es))
   behind p faction low place [] le = tt
   behind p faction low place (e ∷ es) le =
       let rest = behind p faction low (place + 1) es (omega arith) in
@@ -78,7 +78,7 @@ module _ (aliases : Aliases) (a : Arrangement) where
   apart_behind t faction [] h = tt
   apart_behind t faction (u ∷ ts) h = (other_place a t u (omega (arith, h.0.1)), apart_behind t faction ts h.1)
 
-  pub apart_within : (p : Task → Bool) (faction : ℕ) (place : ℕ) (es : List EntrySaid) → IsDistinct (same_key a) (filter p (tasks_from aliases faction place es))
+  pub apart_within : (p : Task → Bool) (faction : ℕ) (place : ℕ) (es : List EntryValue) → IsDistinct (same_key a) (filter p (tasks_from aliases faction place es))
   unfolding IsDistinct
   apart_within p faction place [] = tt
   apart_within p faction place (e ∷ es) =
@@ -89,7 +89,7 @@ module _ (aliases : Aliases) (a : Arrangement) where
       kept ts t false h r = r
 
   -- and across them
-  of_faction : (p : Task → Bool) (faction : ℕ) (place : ℕ) (es : List EntrySaid) (Q : ℕ → Type 0) → Q faction → AllByRecursion (λ t. Q t.faction) (filter p (tasks_from aliases faction place es))
+  of_faction : (p : Task → Bool) (faction : ℕ) (place : ℕ) (es : List EntryValue) (Q : ℕ → Type 0) → Q faction → AllByRecursion (λ t. Q t.faction) (filter p (tasks_from aliases faction place es))
   of_faction p faction place [] Q q = tt
   of_faction p faction place (e ∷ es) Q q = kept _ _ (p _) q (of_faction p faction (place + 1) es Q q)
     where
@@ -166,7 +166,7 @@ module _ {X : Type 0} (as_task : X → Task) where
         ∙ ap (map (λ e. e.1)) (sym (entries-with_value (slice_cmp nat_cmp) as_task nat_list_cmp_total (map keyed os)))
         ∙ ap (λ es. values (from_entries {R = slice_cmp nat_cmp} es)) (pairs-keyed os ∙ ap (map paired) are)
 
-pub listed_tasks : (key : Task → List ℕ) (os list : List Written) (ts : List Task) → map task_of os ≡ ts → IsDistinct (λ t u. eq_by_cmp (slice_cmp nat_cmp) (key t) (key u)) ts → IsPermutation os list
+pub listed_tasks : (key : Task → List ℕ) (os list : List PhaseOrder) (ts : List Task) → map task_of os ≡ ts → IsDistinct (λ t u. eq_by_cmp (slice_cmp nat_cmp) (key t) (key u)) ts → IsPermutation os list
     → IsSortedByKey (λ o. key (task_of o)) (slice_cmp nat_cmp) list → map task_of list ≡ values (from_entries {R = slice_cmp nat_cmp} (map (λ t. (key t, t)) ts))
 listed_tasks = listed task_of
 
@@ -182,12 +182,12 @@ module _ (is_of : Verb → Bool) (a : Arrangement) (aliases : Aliases) where
 
 -- ---- the places of all orders
 
-by_key : (a : Arrangement) (ms : List Mailing) (list : List Placed) → IsSortedByKey (key_by a) (slice_cmp nat_cmp) list → IsSortedByKey (λ p. key_of a (task_at ms p)) (slice_cmp nat_cmp) list
+by_key : (a : Arrangement) (ms : List Mailing) (list : List OrderIndex) → IsSortedByKey (key_by a) (slice_cmp nat_cmp) list → IsSortedByKey (λ p. key_of a (task_at ms p)) (slice_cmp nat_cmp) list
 by_key ByUnit ms list up = up
 by_key ByFaction ms list up = up
 
-pub sorted_places : (a : Arrangement) (aliases : Aliases) (ms : List Mailing) (os list : List Placed) → AreByFaction ms → AreCollected aliases ms os → IsPermutation os list → IsSortedByKey (key_by a) (slice_cmp nat_cmp) list
-    → AreGathered a aliases ms list
+pub sorted_places : (a : Arrangement) (aliases : Aliases) (ms : List Mailing) (os list : List OrderIndex) → AreByFaction ms → AreIndicesByMailing aliases ms os → IsPermutation os list → IsSortedByKey (key_by a) (slice_cmp nat_cmp) list
+    → AreOrderIndices a aliases ms list
 sorted_places a aliases ms os list h are p up =
     let rs = map reading_of ms in
     let rise = subst (IsStrictlySortedBy nat_cmp) (sym (factions_read ms)) h in

@@ -11,18 +11,16 @@ use Rattle.std.proofs.lemmas.List.Elements.{filter-append}
 use Rattle.atl_orders.specs.declared.mailing.Mailing.{Mailing}
 use Rattle.atl_orders.specs.declared.verb.Verb.{Verb}
 use Rattle.atl_orders.specs.Mailing.{Reading, reading_of}
-use Rattle.atl_orders.specs.Orders.{verb_of_order}
 use Rattle.atl_state.proofs.KeyLaws.{IsDistinct-map, next_of}
-use Rattle.atl_instant.specs.declared.gathering.Placed.{Placed}
-use Rattle.atl_instant.specs.declared.written.Arrangement.{Arrangement}
-use Rattle.atl_instant.specs.declared.written.Written.{Written}
+use Rattle.atl_instant.specs.declared.order_indices.OrderIndex.{OrderIndex}
+use Rattle.atl_instant.specs.declared.phase_order.Arrangement.{Arrangement}
+use Rattle.atl_instant.specs.declared.phase_order.PhaseOrder.{PhaseOrder}
 use Rattle.atl_instant.specs.Month.{Aliases, by_faction}
 use Rattle.atl_instant.specs.PhaseOrders.{Task, key_of, orders_of, stands, task_of, tasks_for, tasks_of}
-use Rattle.atl_instant.specs.Collecting.{AreByFaction, AreGathered, all_tasks, every_verb, has_verb, task_at, tasks_picked}
+use Rattle.atl_instant.specs.OrderIndices.{AreByFaction, AreOrderIndices, all_tasks, every_verb, has_verb, task_at, tasks_picked}
 use Rattle.atl_instant.proofs.ListedLaws.{entries-passing}
 use Rattle.atl_instant.proofs.MonthLaws.{factions_read}
 use Rattle.atl_instant.proofs.OrderLaws.{all_apart, orders_are}
-use Rattle.atl_instant.proofs.StandingLaws.{verb_of-said}
 
 filter-filter : {X : Type 0} (p q : X → Bool) (xs : List X) → filter p (filter q xs) ≡ filter (λ x. p x && q x) xs
 filter-filter p q [] = refl
@@ -71,7 +69,7 @@ module _ (is_of : Verb → Bool) (aliases : Aliases) where
       ∙ sym (filter-append (has_verb is_of) (tasks_for every_verb ts) (all_tasks every_verb aliases rs))
 
   -- those of the phase's verbs, among the places of all orders
-  pub picked_orders : (a : Arrangement) (ms : List Mailing) (places : List Placed) (ts : List Task) → AreByFaction ms → AreGathered a aliases ms places → ts ≡ tasks_picked is_of ms places
+  pub picked_orders : (a : Arrangement) (ms : List Mailing) (places : List OrderIndex) (ts : List Task) → AreByFaction ms → AreOrderIndices a aliases ms places → ts ≡ tasks_picked is_of ms places
       → ts ≡ values (orders_of is_of a aliases (by_faction (map reading_of ms)))
   picked_orders a ms places ts h all are =
       let rs = map reading_of ms in
@@ -81,26 +79,26 @@ module _ (is_of : Verb → Bool) (aliases : Aliases) where
       ∙ ap (λ us. values (from_entries {R = slice_cmp nat_cmp} (map (paired a) us))) (sym (tasks_of_phase rs))
       ∙ sym (orders_are is_of a aliases rs rise)
 
-  pub picked_list : {Z E : Type 0} (a : Arrangement) (ms : List Mailing) (places : List Placed) (r : Result (Vec Written Z) E) → AreByFaction ms → AreGathered a aliases ms places → IfOk r (λ list. map task_of list.items ≡ tasks_picked is_of ms places)
+  pub picked_list : {Z E : Type 0} (a : Arrangement) (ms : List Mailing) (places : List OrderIndex) (r : Result (Vec PhaseOrder Z) E) → AreByFaction ms → AreOrderIndices a aliases ms places → IfOk r (λ list. map task_of list.items ≡ tasks_picked is_of ms places)
       → IfOk r (λ list. map task_of list.items ≡ values (orders_of is_of a aliases (by_faction (map reading_of ms))))
   picked_list a ms places (Ok list) h all are = picked_orders a ms places (map task_of list.items) h all are
   picked_list a ms places (Err e) h all are = tt
 
 -- ---- place by place
 
-module _ (is_of : Verb → Bool) (ms : List Mailing) (places : List Placed) where
+module _ (is_of : Verb → Bool) (ms : List Mailing) (places : List OrderIndex) where
   abbrev pub rest_from : ℕ → List Task
   rest_from i = tasks_picked is_of ms (drop i places)
 
-  opened : (i : ℕ) (p : Placed) → i < length places → p ≡ get_or places i p → rest_from i ≡ cond (has_verb is_of (task_at ms p)) (task_at ms p ∷ rest_from (i + 1)) (rest_from (i + 1))
+  opened : (i : ℕ) (p : OrderIndex) → i < length places → p ≡ get_or places i p → rest_from i ≡ cond (has_verb is_of (task_at ms p)) (task_at ms p ∷ rest_from (i + 1)) (rest_from (i + 1))
   opened i p h at = ap (tasks_picked is_of ms) (next_of places i p h at)
 
   -- whether an order that is read is of the phase
-  read_verb : (p : Placed) (o : Written) (b : Bool) → task_of o ≡ task_at ms p → is_of (verb_of_order o.order.now) ≡ b → has_verb is_of (task_at ms p) ≡ b
-  read_verb p o b task verb = ap (has_verb is_of) (sym task) ∙ ap is_of (verb_of-said o.mailing.now.text o.order.now) ∙ verb
+  read_verb : (p : OrderIndex) (o : PhaseOrder) (b : Bool) → task_of o ≡ task_at ms p → is_of o.order.now.verb ≡ b → has_verb is_of (task_at ms p) ≡ b
+  read_verb p o b task verb = ap (has_verb is_of) (sym task) ∙ verb
 
-  module _ (list : List Written) (i : ℕ) (p : Placed) (o : Written) (ts : List Task) (h : i < length places) (at : p ≡ get_or places i p) (task : task_of o ≡ task_at ms p) (before : map task_of list ++ rest_from i ≡ ts) where
-    pub taken : (new : List Written) → is_of (verb_of_order o.order.now) ≡ true → new ≡ list ++ o ∷ [] → map task_of new ++ rest_from (i + 1) ≡ ts
+  module _ (list : List PhaseOrder) (i : ℕ) (p : OrderIndex) (o : PhaseOrder) (ts : List Task) (h : i < length places) (at : p ≡ get_or places i p) (task : task_of o ≡ task_at ms p) (before : map task_of list ++ rest_from i ≡ ts) where
+    pub taken : (new : List PhaseOrder) → is_of o.order.now.verb ≡ true → new ≡ list ++ o ∷ [] → map task_of new ++ rest_from (i + 1) ≡ ts
     taken new verb is =
         ap (λ os. map task_of os ++ rest_from (i + 1)) is
         ∙ ap (λ us. us ++ rest_from (i + 1)) (map-append task_of list (o ∷ []))
@@ -109,11 +107,11 @@ module _ (is_of : Verb → Bool) (ms : List Mailing) (places : List Placed) wher
         ∙ ap (λ us. map task_of list ++ us) (sym (opened i p h at ∙ ap (λ b. cond b (task_at ms p ∷ rest_from (i + 1)) (rest_from (i + 1))) (read_verb p o true task verb)))
         ∙ before
 
-    pub left : (new : List Written) → is_of (verb_of_order o.order.now) ≡ false → new ≡ list → map task_of new ++ rest_from (i + 1) ≡ ts
+    pub left : (new : List PhaseOrder) → is_of o.order.now.verb ≡ false → new ≡ list → map task_of new ++ rest_from (i + 1) ≡ ts
     left new verb is =
         ap (λ os. map task_of os ++ rest_from (i + 1)) is
         ∙ ap (λ us. map task_of list ++ us) (sym (opened i p h at ∙ ap (λ b. cond b (task_at ms p ∷ rest_from (i + 1)) (rest_from (i + 1))) (read_verb p o false task verb))) ∙ before
 
-  pub all_picked : (list : List Written) (i : ℕ) (ts : List Task) → length places ≤ i → map task_of list ++ rest_from i ≡ ts → map task_of list ≡ ts
+  pub all_picked : (list : List PhaseOrder) (i : ℕ) (ts : List Task) → length places ≤ i → map task_of list ++ rest_from i ≡ ts → map task_of list ≡ ts
   all_picked list i ts h before =
       sym (append-nil (map task_of list)) ∙ ap (λ ps. map task_of list ++ tasks_picked is_of ms ps) (sym (drop_all i places h)) ∙ before

@@ -7,11 +7,11 @@ use Rattle.std.specs.FinMap.{get}
 use Rattle.atl_tables.specs.Worlds.{WorldValue}
 use Rattle.atl_tables.specs.ByNumber.{is_land_at}
 use Rattle.atl_tables.proofs.GeneralLaws.{is_equal, is_unequal}
-use Rattle.atl_orders.specs.declared.order.Order.{Order}
-use Rattle.atl_orders.specs.declared.order.Order.TheVariants as orders
+use Rattle.atl_orders.specs.declared.order.Operands.{Operands}
+use Rattle.atl_orders.specs.declared.order.Operands.TheVariants as operands
 use Rattle.atl_orders.specs.declared.order.Span.{Span}
 use Rattle.atl_orders.specs.declared.order.UnitRef.{UnitRef}
-use Rattle.atl_orders.specs.Orders.{Said, said}
+use Rattle.atl_orders.specs.Orders.{OperandsValue, named}
 use Rattle.atl_records.specs.declared.event.EventFault.{EventFault}
 use Rattle.atl_records.specs.declared.event.EventFault.TheVariants.{AtSea, NotHere, NotInside, NotOwner}
 use Rattle.atl_records.specs.declared.event.Outcome.TheVariants.{Done}
@@ -24,24 +24,24 @@ use Rattle.atl_state.proofs.LeavingLaws.{owned_by}
 use Rattle.atl_instant.specs.Month.{Aliases}
 use Rattle.atl_instant.specs.Inside.{inside}
 use Rattle.atl_instant.specs.Outcomes.{first_fault, unless}
-use Rattle.atl_instant.specs.Place.{entered, entered_other, is_in, left, leave_fault, enter_fault, place_said, place_step, promote_fault, promoted}
+use Rattle.atl_instant.specs.Place.{enter, with_unit_inside, is_in, leave, leave_fault, enter_fault, place_effect, place_step, promote_fault, promote}
 use Rattle.atl_instant.specs.PhaseOrders.{unit_of}
-use Rattle.atl_instant.specs.Staying.{IsNoWorse}
-use Rattle.atl_instant.specs.Steps.{IsOrderly, IsOwnOrder, StepsWell}
+use Rattle.atl_instant.specs.NoWorse.{IsNoWorse}
+use Rattle.atl_instant.specs.OrderEffects.{IsOrderly, IsOwnOrder, StepsWell}
 use Rattle.atl_instant.specs.Unbooked.{books_nothing, moves_nothing}
 use Rattle.atl_instant.proofs.MeaningLaws.{same_month_by}
 use Rattle.atl_instant.proofs.PlacingLaws.{place_stays, place_well}
 use Rattle.atl_instant.proofs.RefitLaws.{IsRelabelled, early-relabelled}
 use Rattle.atl_instant.proofs.StructureLaws.{at_number, get-changed, len-changed}
-use Rattle.atl_instant.proofs.StepLaws.{no_worse_spares, well_same}
+use Rattle.atl_instant.proofs.OrderEffectLaws.{no_worse_spares, well_same}
 use Rattle.atl_instant.proofs.UnbookedLaws.{same_total_of, stays_spared, unbooked_well}
 
 -- an order that is none of the phase is passed over
-pub place_other : (w : WorldValue) (a : Aliases) (f n : ℕ) (text : List ℕ) (o : Order Span) → (o ≡ orders.Leave → ⊥) → ((s : ℕ) → o ≡ orders.Enter s → ⊥) → ((to : UnitRef) → o ≡ orders.Promote to → ⊥)
-    → place_said w a f n (said text o) ≡ None
-place_other w a f n text orders.Leave l b d = absurd (l refl)
-place_other w a f n text (orders.Enter s) l b d = absurd (b s refl)
-place_other w a f n text (orders.Promote to) l b d = absurd (d to refl)
+pub place_other : (w : WorldValue) (a : Aliases) (f n : ℕ) (text : List ℕ) (o : Operands Span) → (o ≡ operands.Nothing → ⊥) → ((s : ℕ) → o ≡ operands.Number s → ⊥) → ((to : UnitRef) → o ≡ operands.Unit to → ⊥)
+    → place_effect w a f n (named text o) ≡ None
+place_other w a f n text operands.Nothing l b d = absurd (l refl)
+place_other w a f n text (operands.Number s) l b d = absurd (b s refl)
+place_other w a f n text (operands.Unit to) l b d = absurd (d to refl)
 place_other w a f n text other l b d = refl
 
 module _ (w : WorldValue) (c : CampaignValue) (n : ℕ) (u : Unit) (is : get c.units n ≡ Some u) (early : IsEarly w c) where
@@ -56,14 +56,14 @@ module _ (w : WorldValue) (c : CampaignValue) (n : ℕ) (u : Unit) (is : get c.u
   left_place : (u.structure == 0) ≡ false → is_land_at w u.region ≡ true → Well (with_place c n u.region 0)
   left_place some dry = place_well w c n u 0 is early (λ none. is_unequal u.structure 0 some none) (λ not_none. absurd (not_none refl)) (λ wet. absurd (true≢false (sym dry ∙ wet)))
 
-  left_by : (a b : Bool) → (u.structure == 0) ≡ a → is_land_at w u.region ≡ b → Well (unless c (first_fault ((a, NotInside) ∷ (not b, AtSea) ∷ [])) (with_place c n u.region 0, Done 0)).0
-  left_by true b some dry = unchanged
-  left_by false false some dry = unchanged
-  left_by false true some dry = left_place some dry
+  without_leaver : (a b : Bool) → (u.structure == 0) ≡ a → is_land_at w u.region ≡ b → Well (unless c (first_fault ((a, NotInside) ∷ (not b, AtSea) ∷ [])) (with_place c n u.region 0, Done 0)).0
+  without_leaver true b some dry = unchanged
+  without_leaver false false some dry = unchanged
+  without_leaver false true some dry = left_place some dry
 
-  left_well : Well (left w n c u).0
-  unfolding left
-  left_well = left_by (u.structure == 0) (is_land_at w u.region) refl refl
+  left_well : Well (leave w n c u).0
+  unfolding leave
+  left_well = without_leaver (u.structure == 0) (is_land_at w u.region) refl refl
 
   -- ---- ENTER
 
@@ -80,12 +80,12 @@ module _ (w : WorldValue) (c : CampaignValue) (n : ℕ) (u : Unit) (is : get c.u
     entered_by x there true true near same = unchanged
     entered_by x there true false near same = entered_place x there near same
 
-    entered_at : (o : Option Structure) → get c.structures s ≡ o → Well (unless c (first_fault ((not (is_in u.region o), NotHere) ∷ [])) (entered_other c n u.region u.structure s, Done 0)).0
+    entered_at : (o : Option Structure) → get c.structures s ≡ o → Well (unless c (first_fault ((not (is_in u.region o), NotHere) ∷ [])) (with_unit_inside c n u.region u.structure s, Done 0)).0
     entered_at None there = unchanged
     entered_at (Some x) there = entered_by x there (x.region == u.region) (u.structure == s) refl refl
 
-    entered_well : Well (entered n s c u).0
-    unfolding entered
+    entered_well : Well (enter n s c u).0
+    unfolding enter
     entered_well = entered_at (get c.structures s) refl
 
   -- ---- PROMOTE
@@ -122,14 +122,14 @@ module _ (w : WorldValue) (c : CampaignValue) (n : ℕ) (u : Unit) (is : get c.u
     promoted_by false true false some near = unchanged
     promoted_by false true true some near = new_owner some near
 
-    promoted_well : Well (promoted n to c u).0
-    unfolding promoted
+    promoted_well : Well (promote n to c u).0
+    unfolding promote
     promoted_well = promoted_by (u.structure == 0) (is_owned_by (get c.structures u.structure) n) (inside c to == u.structure) refl refl
 
-  order_well : (a : Aliases) (f : ℕ) (o : Said) → IfSome (place_said w a f n o) (λ deed. Well (deed c u).0)
-  order_well a f orders.Leave = left_well
-  order_well a f (orders.Enter s) = entered_well s
-  order_well a f (orders.Promote to) = promoted_well (unit_of a f to)
+  order_well : (a : Aliases) (f : ℕ) (o : OperandsValue) → IfSome (place_effect w a f n o) (λ deed. Well (deed c u).0)
+  order_well a f operands.Nothing = left_well
+  order_well a f (operands.Number s) = entered_well s
+  order_well a f (operands.Unit to) = promoted_well (unit_of a f to)
   order_well a f other = tt
 
 -- ---- other units stay
@@ -146,17 +146,17 @@ module _ (w : WorldValue) (a : Aliases) (c : CampaignValue) (f n : ℕ) (u : Uni
   entered_stays s true = refl
   entered_stays s false = place_stays c n u.region s k apart
 
-  order_stays : (o : Said) → IfSome (place_said w a f n o) (λ deed. Stays (deed c u).0)
-  unfolding left entered promoted
-  order_stays orders.Leave = unless_stays (leave_fault w u) (with_place c n u.region 0) (place_stays c n u.region 0 k apart)
-  order_stays (orders.Enter s) = unless_stays (enter_fault c s u) (entered_other c n u.region u.structure s) (entered_stays s (u.structure == s))
-  order_stays (orders.Promote to) = unless_stays (promote_fault c n (unit_of a f to) u) (with_owner c u.structure (unit_of a f to)) refl
+  order_stays : (o : OperandsValue) → IfSome (place_effect w a f n o) (λ deed. Stays (deed c u).0)
+  unfolding leave enter promote
+  order_stays operands.Nothing = unless_stays (leave_fault w u) (with_place c n u.region 0) (place_stays c n u.region 0 k apart)
+  order_stays (operands.Number s) = unless_stays (enter_fault c s u) (with_unit_inside c n u.region u.structure s) (entered_stays s (u.structure == s))
+  order_stays (operands.Unit to) = unless_stays (promote_fault c n (unit_of a f to) u) (with_owner c u.structure (unit_of a f to)) refl
   order_stays other = tt
 
 pub place_orderly : IsOrderly place_step IsEarly books_nothing moves_nothing IsOwnOrder IsNoWorse
 place_orderly = record {
-  well = λ w a c t x early fit own. order_well w c t.unit x own.there early a t.faction t.said;
+  well = λ w a c t x early fit own. order_well w c t.unit x own.there early a t.faction t.order_value.operands;
   sparing = no_worse_spares;
-  spared = λ w a c t x early own k v there apart. stays_spared (place_step w a t) c t x own k v there apart (λ j other. order_stays w a c t.faction t.unit x j other t.said);
+  spared = λ w a c t x early own k v there apart. stays_spared (place_step w a t) c t x own k v there apart (λ j other. order_stays w a c t.faction t.unit x j other t.order_value.operands);
   bounded = λ w c early e t. omega arith;
 }

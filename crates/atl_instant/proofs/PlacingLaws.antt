@@ -12,19 +12,19 @@ use Rattle.atl_records.specs.declared.records.Unit.{Unit}
 use Rattle.atl_records.specs.Every.{Every}
 use Rattle.atl_state.specs.Good.{IsEarly, IsOwned, IsSteady, is_ship}
 use Rattle.atl_records.specs.declared.books.Thing.{Thing}
-use Rattle.atl_state.specs.Owners.{handed, heir, is_owned_by, placed, with_place, with_place_at}
+use Rattle.atl_state.specs.Owners.{after_handover, heir, is_owned_by, placed, with_place, with_place_at}
 use Rattle.atl_state.specs.Campaign.{CampaignValue, with_owner}
 use Rattle.atl_state.specs.Totals.{total}
 use Rattle.atl_records.proofs.EveryLaws.{get-insert_other, other_number}
 use Rattle.atl_state.proofs.InsideLaws.{is_no_zero}
 use Rattle.atl_state.proofs.LeavingLaws.{owned_by}
 use Rattle.atl_state.proofs.RegionLaws.{changed-known, get-insert_same}
-use Rattle.atl_instant.specs.Steps.{StepsWell}
+use Rattle.atl_instant.specs.OrderEffects.{StepsWell}
 use Rattle.atl_instant.specs.Unbooked.{books_nothing}
 use Rattle.atl_instant.proofs.MeaningLaws.{same_month_by}
 use Rattle.atl_instant.proofs.OwnerLaws.{heir_owns, owner_stays}
 use Rattle.atl_instant.proofs.RefitLaws.{IsRefit, IsRelabelled, early-refitted, refitted, steady-refitted, total-refitted}
-use Rattle.atl_instant.proofs.StructureLaws.{changed_else, equal, get-handed, handed_is, handed_on, len-handed}
+use Rattle.atl_instant.proofs.StructureLaws.{changed_else, equal, get-after_handover, handed_is, handed_on, len-after_handover}
 use Rattle.atl_instant.proofs.UnbookedLaws.{unbooked_well}
 
 pub mapped_twice : {A : Type 0} (f g : A → A) (o : Option A) → option_map f (option_map g o) ≡ option_map (λ y. f (g y)) o
@@ -61,10 +61,10 @@ module _ (w : WorldValue) (c : CampaignValue) (n : ℕ) (u : Unit) (s : ℕ) (is
   begun = placed c n u.region s
 
   abbrev gone_out : CampaignValue
-  gone_out = handed begun old_place n next
+  gone_out = after_handover begun old_place n next
 
   abbrev gone_in : CampaignValue
-  gone_in = handed gone_out s 0 n
+  gone_in = after_handover gone_out s 0 n
 
   abbrev owner_behind : ℕ → Structure → Structure
   owner_behind q y = handed_on s 0 n q (handed_on old_place n next q y)
@@ -87,7 +87,7 @@ module _ (w : WorldValue) (c : CampaignValue) (n : ℕ) (u : Unit) (s : ℕ) (is
 
   at : (q : ℕ) → get gone_in.structures q ≡ option_map (λ y. handed_on s 0 n q (handed_on old_place n next q y)) (get c.structures q)
   at q =
-      get-handed gone_out s 0 n q ∙ ap (option_map (handed_on s 0 n q)) (get-handed begun old_place n next q)
+      get-after_handover gone_out s 0 n q ∙ ap (option_map (handed_on s 0 n q)) (get-after_handover begun old_place n next q)
       ∙ mapped_twice (handed_on s 0 n q) (handed_on old_place n next q) (get c.structures q)
 
   same : (q : ℕ) (y : Structure) → IsRelabelled y (handed_on s 0 n q (handed_on old_place n next q y))
@@ -137,7 +137,7 @@ module _ (w : WorldValue) (c : CampaignValue) (n : ℕ) (u : Unit) (s : ℕ) (is
     refit : IsRefit w c n u s is gone_in.structures owner_behind
     refit = record {
       at = at;
-      count = len-handed gone_out s 0 n ∙ len-handed begun old_place n next;
+      count = len-after_handover gone_out s 0 n ∙ len-after_handover begun old_place n next;
       same = λ q y there. same q y;
       owned = λ q y there. by_tests q y there (q == old_place) (y.owner == n) (q == s) refl refl refl;
       inside = inside;
@@ -163,7 +163,7 @@ module _ (w : WorldValue) (c : CampaignValue) (n : ℕ) (u : Unit) (s : ℕ) (is
 
 -- ---- other units stay
 
-handed_units : (c : CampaignValue) (k from to : ℕ) → (handed c k from to).units ≡ c.units
+handed_units : (c : CampaignValue) (k from to : ℕ) → (after_handover c k from to).units ≡ c.units
 handed_units c k from to = by_test (is_owned_by (get c.structures k) from)
   where
     by_test : (b : Bool) → (if b then with_owner c k to else c).units ≡ c.units
@@ -177,10 +177,10 @@ place_stays c n r s k apart = by_unit (get c.units n)
     one_placed : get (placed c n r s).units k ≡ get c.units k
     one_placed = changed_else (λ (x : Unit). record x { region = r; structure = s }) c.units n k apart (get c.units n)
 
-    by_test : (u : Unit) (b : Bool) → get (if b then placed c n r s else handed (handed (placed c n r s) u.structure n (heir c u.structure n)) s 0 n).units k ≡ get c.units k
+    by_test : (u : Unit) (b : Bool) → get (if b then placed c n r s else after_handover (after_handover (placed c n r s) u.structure n (heir c u.structure n)) s 0 n).units k ≡ get c.units k
     by_test u true = one_placed
     by_test u false =
-        ap (λ m. get m k) (handed_units (handed (placed c n r s) u.structure n (heir c u.structure n)) s 0 n ∙ handed_units (placed c n r s) u.structure n (heir c u.structure n)) ∙ one_placed
+        ap (λ m. get m k) (handed_units (after_handover (placed c n r s) u.structure n (heir c u.structure n)) s 0 n ∙ handed_units (placed c n r s) u.structure n (heir c u.structure n)) ∙ one_placed
 
     by_unit : (o : Option Unit) → get (with_place_at c n r s o).units k ≡ get c.units k
     by_unit None = refl

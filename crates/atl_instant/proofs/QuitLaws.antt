@@ -13,9 +13,9 @@ use Rattle.std.specs.Cmp.{ranked}
 use Rattle.std.specs.FinMap.{FinMap, entries, find, get, get-entries, is_sorted, len, len-entries, nat_cmp-IsAntisymmetric, remove}
 use Rattle.atl_tables.specs.Worlds.{WorldValue}
 use Rattle.atl_tables.specs.Sums.{sum_over}
-use Rattle.atl_orders.specs.declared.order.Order.TheVariants as orders
-use Rattle.atl_orders.specs.Orders.{Said}
-use Rattle.atl_records.specs.Books.{IsGrid, amount_in, booked, entry_place, thing_place, amount_number}
+use Rattle.atl_orders.specs.declared.order.Operands.TheVariants as operands
+use Rattle.atl_orders.specs.Orders.{OperandsValue}
+use Rattle.atl_records.specs.Books.{IsGrid, amount_in, booked, entry_index, thing_index, amount_number}
 use Rattle.atl_state.specs.Covers.{MarksChanges}
 use Rattle.atl_state.specs.Marking.{mark_amount}
 use Rattle.atl_records.specs.declared.books.Entry.{Entry}
@@ -30,13 +30,13 @@ use Rattle.atl_records.specs.declared.records.Unit.{Unit}
 use Rattle.atl_records.specs.Every.{EachOf, Every, IsThere}
 use Rattle.atl_state.specs.Founding.{things_of}
 use Rattle.atl_state.specs.Good.{IsSteady}
-use Rattle.atl_records.specs.Held.{Held, IsHolding}
+use Rattle.atl_records.specs.Holdings.{HoldingValue, IsHolding}
 use Rattle.atl_records.specs.Limits.{entry_count, holding_limit, most_units}
 use Rattle.atl_state.specs.Owners.{heir, without_unit, without_unit_at}
 use Rattle.atl_state.specs.Campaign.{MarkedCampaign, CampaignValue, numbers_of}
-use Rattle.atl_records.specs.Amounts.{held}
+use Rattle.atl_records.specs.Amounts.{unit_amount}
 use Rattle.atl_state.specs.Totals.{Balances, total}
-use Rattle.atl_records.proofs.BookLaws.{IsGrid-with_booked, booked-with_booked}
+use Rattle.atl_records.proofs.BookLaws.{IsGrid-after_booking, booked-after_booking}
 use Rattle.atl_records.proofs.EveryEntryLaws.{entry_small}
 use Rattle.atl_state.proofs.CoverLaws.{marks-amount}
 use Rattle.atl_records.proofs.EveryLaws.{same_number, each-from_every, not_below, sorted}
@@ -44,18 +44,18 @@ use Rattle.atl_state.proofs.LeavingLaws.{only_reduced, steady-without, total-wit
 use Rattle.atl_state.proofs.RegionLaws.{steady-amount}
 use Rattle.atl_records.proofs.RemovedLaws.{get-remove_other, sum_over-remove}
 use Rattle.atl_state.proofs.NumberListLaws.{IsListed, listed_passing}
-use Rattle.atl_instant.specs.Meaning.{HasRoom, HaveRoom, IsNear, Moving, both_move, most_moved, moves_only}
+use Rattle.atl_instant.specs.Meaning.{BookBound, HasRoom, HaveRoom, IsNear, both_move, most_moved, moves_only}
 use Rattle.atl_instant.specs.Outcomes.{unless}
 use Rattle.atl_instant.specs.PhaseOrders.{Task}
-use Rattle.atl_instant.specs.Quit.{booked_off, gone_under, item_gone, leaves, left_at, left_by, quit, quit_concerns, quit_fault, quit_moves, quit_reserve, quit_said, quit_step, with_gone_amount}
-use Rattle.atl_instant.specs.Staying.{IsNoWorse}
-use Rattle.atl_instant.specs.Steps.{IsDrawn, IsOrderly, IsSpared, IsUnitOf, StepsWell}
-use Rattle.atl_records.proofs.HeldLaws.{amount_within}
+use Rattle.atl_instant.specs.Quit.{after_leaving, loss_entry, loss_under, quit, quit_concerns, quit_effect, quit_fault, quit_moves, quit_reserve, quit_step, with_all_losses, with_item_loss, with_loss, without_leaver}
+use Rattle.atl_instant.specs.NoWorse.{IsNoWorse}
+use Rattle.atl_instant.specs.OrderEffects.{IsOrderly, IsUnaffected, IsUnitOf, StepsWell, UsesBound}
+use Rattle.atl_records.proofs.HoldingLaws.{amount_within}
 use Rattle.atl_instant.proofs.BookingLaws.{booked-near, booked-room, within-neg}
 use Rattle.atl_instant.proofs.MeaningLaws.{less_room, near_more, near_same, near_twice, room_less}
 use Rattle.atl_instant.proofs.OutcomeLaws.{none_fits, not_apart}
-use Rattle.atl_instant.proofs.StayingLaws.{no_worse}
-use Rattle.atl_instant.proofs.StepLaws.{drawn_near, no_worse_spares, well_same, well_twice}
+use Rattle.atl_instant.proofs.NoWorseLaws.{no_worse}
+use Rattle.atl_instant.proofs.OrderEffectLaws.{drawn_near, no_worse_spares, well_same, well_twice}
 use Rattle.atl_instant.proofs.StructureLaws.{handed_is}
 use Rattle.atl_instant.specs.LostItems.{moving_items}
 
@@ -63,13 +63,13 @@ use Rattle.atl_instant.specs.LostItems.{moving_items}
 
 -- how much of a thing an amount of another is
 abbrev pub part_of : Thing → Thing → ℕ → ℕ
-part_of s t amount = cond (thing_place s == thing_place t) amount 0
+part_of s t amount = cond (thing_index s == thing_index t) amount 0
 
 -- an amount that may be booked under an entry, as a thing that goes
 abbrev under : Entry → Thing → ℕ → ℕ
-under e t n = if entry_place e == entry_place (gone_under t) then n else 0
+under e t n = if entry_index e == entry_index (loss_entry t) then n else 0
 
-same_thing : (s t : Thing) → thing_place s ≡ thing_place t → s ≡ t
+same_thing : (s t : Thing) → thing_index s ≡ thing_index t → s ≡ t
 same_thing Money Money e = refl
 same_thing Money People e = absurd (omega (arith, e))
 same_thing Money (Item j) e = absurd (omega (arith, e))
@@ -80,27 +80,27 @@ same_thing (Item i) Money e = absurd (omega (arith, e))
 same_thing (Item i) People e = absurd (omega (arith, e))
 same_thing (Item i) (Item j) e = let same : i ≡ j = omega (arith, e) in ap Item same
 
-one_moves : (amount : ℕ) (t : Thing) (e : Entry) (s : Thing) → moves_only amount (gone_under t) t e s ≤ under e s (part_of s t amount)
-one_moves amount t e s = by_number (amount_number e s == amount_number (gone_under t) t) refl
+one_moves : (amount : ℕ) (t : Thing) (e : Entry) (s : Thing) → moves_only amount (loss_entry t) t e s ≤ under e s (part_of s t amount)
+one_moves amount t e s = by_number (amount_number e s == amount_number (loss_entry t) t) refl
   where
     at_place : (b d : Bool) → b ≡ true → d ≡ true → amount ≤ cond b (cond d amount 0) 0
     at_place true true f g = omega arith
     at_place true false f g = cc
     at_place false d f g = cc
 
-    by_number : (b : Bool) → (amount_number e s == amount_number (gone_under t) t) ≡ b → (if b then amount else 0) ≤ under e s (part_of s t amount)
+    by_number : (b : Bool) → (amount_number e s == amount_number (loss_entry t) t) ≡ b → (if b then amount else 0) ≤ under e s (part_of s t amount)
     by_number true is =
-        let same : entry_count * thing_place s + entry_place e ≡ entry_count * thing_place t + entry_place (gone_under t) = grind (arith, nat_tests) in
+        let same : entry_count * thing_index s + entry_index e ≡ entry_count * thing_index t + entry_index (loss_entry t) = grind (arith, nat_tests) in
         let small = entry_small e in
-        let small_gone = entry_small (gone_under t) in
-        let thing : thing_place s ≡ thing_place t = omega arith in
-        let goes : entry_place (gone_under s) ≡ entry_place (gone_under t) = ap (λ x. entry_place (gone_under x)) (same_thing s t thing) in
-        let entry : entry_place e ≡ entry_place (gone_under s) = omega arith in
-        at_place (entry_place e == entry_place (gone_under s)) (thing_place s == thing_place t) (let f : (entry_place e == entry_place (gone_under s)) ≡ true = grind (arith, nat_tests) in f) (let g : (thing_place s == thing_place t) ≡ true = grind (arith, nat_tests) in g)
+        let small_gone = entry_small (loss_entry t) in
+        let thing : thing_index s ≡ thing_index t = omega arith in
+        let goes : entry_index (loss_entry s) ≡ entry_index (loss_entry t) = ap (λ x. entry_index (loss_entry x)) (same_thing s t thing) in
+        let entry : entry_index e ≡ entry_index (loss_entry s) = omega arith in
+        at_place (entry_index e == entry_index (loss_entry s)) (thing_index s == thing_index t) (let f : (entry_index e == entry_index (loss_entry s)) ≡ true = grind (arith, nat_tests) in f) (let g : (thing_index s == thing_index t) ≡ true = grind (arith, nat_tests) in g)
     by_number false is = omega arith
 
 under_sum : (e : Entry) (s : Thing) (x y m n : ℕ) → x ≤ under e s m → y ≤ under e s n → x + y ≤ under e s (m + n)
-under_sum e s x y m n = by_test (entry_place e == entry_place (gone_under s))
+under_sum e s x y m n = by_test (entry_index e == entry_index (loss_entry s))
   where
     by_test : (b : Bool) → x ≤ (if b then m else 0) → y ≤ (if b then n else 0) → x + y ≤ (if b then m + n else 0)
     by_test true k l = omega arith
@@ -147,13 +147,13 @@ of_item j (e ∷ es) s =
 
 -- ---- what is booked of all that is held
 
-abbrev owing : Held → Thing → ℕ
+abbrev owing : HoldingValue → Thing → ℕ
 owing h s = part_of s People h.men + (part_of s Money h.money + owing_items (entries h.items) s)
 
-abbrev pub held_moves : Held → Moving
+abbrev pub held_moves : HoldingValue → BookBound
 held_moves h = both_move (moves_only h.men Left People) (both_move (moves_only h.money Lost Money) (moving_items (entries h.items)))
 
-all_owed : (h : Held) (s : Thing) → owing h s ≡ held s h
+all_owed : (h : HoldingValue) (s : Thing) → owing h s ≡ unit_amount s h
 all_owed h Money = sum h.money (owing_items (entries h.items) Money) (no_money (entries h.items))
   where
     sum : (m n : ℕ) → n ≡ 0 → 0 + (m + n) ≡ m
@@ -171,7 +171,7 @@ all_owed h (Item j) =
     sum true d m n k e f = cc
     sum false true m n k e f = cc
 
-pub moves_what_leaves : (h : Held) (e : Entry) (s : Thing) → held_moves h e s ≤ leaves e s h
+pub moves_what_leaves : (h : HoldingValue) (e : Entry) (s : Thing) → held_moves h e s ≤ loss_under e s h
 moves_what_leaves h e s =
     subst (λ n. held_moves h e s ≤ under e s n) (all_owed h s)
     (under_sum e s (moves_only h.men Left People e s) (moves_only h.money Lost Money e s + moving_items (entries h.items) e s) (part_of s People h.men) (part_of s Money h.money + owing_items (entries h.items) s) (one_moves h.men People e s)
@@ -179,13 +179,13 @@ moves_what_leaves h e s =
 
 -- ---- a campaign in which so much is booked as gone
 
-pub record BooksOff (w : WorldValue) (off : Thing → ℕ) (moving : Moving) (c d : CampaignValue) : Type 0 where
+pub record BooksOff (w : WorldValue) (off : Thing → ℕ) (moving : BookBound) (c d : CampaignValue) : Type 0 where
   pub steady : IsSteady w d
   pub owed : (s : Thing) → booked c.books s ≡ booked d.books s +ℤ pos (off s)
   pub near : (e : Entry) (s : Thing) → IsNear (moving e s) (amount_in c.books e s) (amount_in d.books e s)
   pub same : d ≡ record c { books = d.books }
 
-off_twice : {o p : Thing → ℕ} {i j : Moving} (w : WorldValue) (a b c : CampaignValue) → BooksOff w o i a b → BooksOff w p j b c → BooksOff w (λ s. o s + p s) (both_move i j) a c
+off_twice : {o p : Thing → ℕ} {i j : BookBound} (w : WorldValue) (a b c : CampaignValue) → BooksOff w o i a b → BooksOff w p j b c → BooksOff w (λ s. o s + p s) (both_move i j) a c
 off_twice {o} {p} {i} {j} w a b c one two = record {
   steady = two.steady;
   owed = λ s. grouped (booked a.books s) (booked b.books s) (booked c.books s) (o s) (p s) (one.owed s) (two.owed s);
@@ -196,13 +196,13 @@ off_twice {o} {p} {i} {j} w a b c one two = record {
     grouped : (x y z : ℤ) (m n : ℕ) → x ≡ y +ℤ pos m → y ≡ z +ℤ pos n → x ≡ z +ℤ pos (m + n)
     grouped x y z m n e f = omega (arith, ints, e, f)
 
-pub off_one : (w : WorldValue) (c : CampaignValue) (t : Thing) (amount : ℕ) → thing_place t < things_of w → IsSteady w c → BooksOff w (λ s. part_of s t amount) (moves_only amount (gone_under t) t) c (with_gone_amount c t amount)
+pub off_one : (w : WorldValue) (c : CampaignValue) (t : Thing) (amount : ℕ) → thing_index t < things_of w → IsSteady w c → BooksOff w (λ s. part_of s t amount) (moves_only amount (loss_entry t) t) c (with_loss c t amount)
 off_one w c t amount inside steady = record {
-  steady = steady-amount w c (gone_under t) t (neg_ℤ (pos amount)) steady;
+  steady = steady-amount w c (loss_entry t) t (neg_ℤ (pos amount)) steady;
   owed = λ s.
-      less (booked c.books s) (thing_place s == thing_place t) amount
-      ∙ ap (λ z. z +ℤ pos (part_of s t amount)) (sym (booked-with_booked (things_of w) c.books (gone_under t) t (neg_ℤ (pos amount)) steady.numbers.books inside s));
-  near = booked-near (things_of w) c.books (gone_under t) t (neg_ℤ (pos amount)) amount steady.numbers.books inside (within-neg amount amount (omega arith));
+      less (booked c.books s) (thing_index s == thing_index t) amount
+      ∙ ap (λ z. z +ℤ pos (part_of s t amount)) (sym (booked-after_booking (things_of w) c.books (loss_entry t) t (neg_ℤ (pos amount)) steady.numbers.books inside s));
+  near = booked-near (things_of w) c.books (loss_entry t) t (neg_ℤ (pos amount)) amount steady.numbers.books inside (within-neg amount amount (omega arith));
   same = refl;
 }
   where
@@ -210,7 +210,7 @@ off_one w c t amount inside steady = record {
     less z true a = omega (arith, ints)
     less z false a = omega (arith, ints)
 
-off_items : (w : WorldValue) (c : CampaignValue) (es : List (ℕ × ℕ)) → EachOf (λ i a. i < length w.items) es → IsSteady w c → BooksOff w (owing_items es) (moving_items es) c (fold item_gone c es)
+off_items : (w : WorldValue) (c : CampaignValue) (es : List (ℕ × ℕ)) → EachOf (λ i a. i < length w.items) es → IsSteady w c → BooksOff w (owing_items es) (moving_items es) c (fold with_item_loss c es)
 off_items w c [] known steady = record {
   steady = steady;
   owed = λ s. plain (booked c.books s);
@@ -222,38 +222,38 @@ off_items w c [] known steady = record {
     plain z = omega (arith, ints)
 off_items w c ((i, a) ∷ es) known steady =
     let one = off_one w c (Item i) a (omega (arith, known.0)) steady in
-    off_twice w c (item_gone c (i, a)) (fold item_gone (item_gone c (i, a)) es) one (off_items w (item_gone c (i, a)) es known.1 one.steady)
+    off_twice w c (with_item_loss c (i, a)) (fold with_item_loss (with_item_loss c (i, a)) es) one (off_items w (with_item_loss c (i, a)) es known.1 one.steady)
 
-pub off_all : (w : WorldValue) (c : CampaignValue) (h : Held) → Every (λ i a. i < length w.items) h.items → IsSteady w c → BooksOff w (owing h) (held_moves h) c (booked_off c h)
+pub off_all : (w : WorldValue) (c : CampaignValue) (h : HoldingValue) → Every (λ i a. i < length w.items) h.items → IsSteady w c → BooksOff w (owing h) (held_moves h) c (with_all_losses c h)
 off_all w c h known steady =
-    let men = with_gone_amount c People h.men in
-    let money = with_gone_amount men Money h.money in
+    let men = with_loss c People h.men in
+    let money = with_loss men Money h.money in
     let one = off_one w c People h.men (omega arith) steady in
     let two = off_one w men Money h.money (omega arith) one.steady in
     let three = off_items w money (entries h.items) (each-from_every (λ i a. i < length w.items) h.items known) two.steady in
-    off_twice w c men (booked_off c h) one (off_twice w men money (booked_off c h) two three)
+    off_twice w c men (with_all_losses c h) one (off_twice w men money (with_all_losses c h) two three)
 
 -- ---- what the code books, and marks
 
-pub gone_grid : (things : ℕ) (c : CampaignValue) (t : Thing) (amount : ℕ) → IsGrid things c.books → IsGrid things (with_gone_amount c t amount).books
-gone_grid things c t amount grid = IsGrid-with_booked things c.books (gone_under t) t (neg_ℤ (pos amount)) grid
+pub gone_grid : (things : ℕ) (c : CampaignValue) (t : Thing) (amount : ℕ) → IsGrid things c.books → IsGrid things (with_loss c t amount).books
+gone_grid things c t amount grid = IsGrid-after_booking things c.books (loss_entry t) t (neg_ℤ (pos amount)) grid
 
-pub gone_marks : (things : ℕ) (c d : MarkedCampaign) (t : Thing) (amount : ℕ) → IsGrid things c.value.books → thing_place t < things → d.value ≡ with_gone_amount c.value t amount → d.marks ≡ mark_amount c (gone_under t) t → MarksChanges c d
+pub gone_marks : (things : ℕ) (c d : MarkedCampaign) (t : Thing) (amount : ℕ) → IsGrid things c.value.books → thing_index t < things → d.value ≡ with_loss c.value t amount → d.marks ≡ mark_amount c (loss_entry t) t → MarksChanges c d
 gone_marks things c d t amount grid inside what marks =
-    let all = marks-amount things c (gone_under t) t (neg_ℤ (pos amount)) grid inside in
+    let all = marks-amount things c (loss_entry t) t (neg_ℤ (pos amount)) grid inside in
     rw (what, marks) (record { stay = all.stay; covers = all.covers })
 
-pub first_room : (t : Thing) (amount : ℕ) (next : Moving) (c : CampaignValue) → HaveRoom (both_move (moves_only amount (gone_under t) t) next) c → HasRoom amount (amount_in c.books (gone_under t) t)
+pub first_room : (t : Thing) (amount : ℕ) (next : BookBound) (c : CampaignValue) → HaveRoom (both_move (moves_only amount (loss_entry t) t) next) c → HasRoom amount (amount_in c.books (loss_entry t) t)
 first_room t amount next c room =
-    less_room amount (moves_only amount (gone_under t) t (gone_under t) t + next (gone_under t) t) (amount_in c.books (gone_under t) t)
-    (at_least (amount_number (gone_under t) t == amount_number (gone_under t) t) (next (gone_under t) t) (same_number (amount_number (gone_under t) t))) (room (gone_under t) t)
+    less_room amount (moves_only amount (loss_entry t) t (loss_entry t) t + next (loss_entry t) t) (amount_in c.books (loss_entry t) t)
+    (at_least (amount_number (loss_entry t) t == amount_number (loss_entry t) t) (next (loss_entry t) t) (same_number (amount_number (loss_entry t) t))) (room (loss_entry t) t)
   where
     at_least : (b : Bool) (m : ℕ) → b ≡ true → amount ≤ (if b then amount else 0) + m
     at_least true m t = omega arith
     at_least false m t = cc
 
-pub rest_room : (things : ℕ) (t : Thing) (amount : ℕ) (next : Moving) (c : CampaignValue) → IsGrid things c.books → thing_place t < things → HaveRoom (both_move (moves_only amount (gone_under t) t) next) c → HaveRoom next (with_gone_amount c t amount)
-rest_room things t amount next c grid inside room = booked-room things c.books (gone_under t) t (neg_ℤ (pos amount)) amount grid inside (within-neg amount amount (omega arith)) next room
+pub rest_room : (things : ℕ) (t : Thing) (amount : ℕ) (next : BookBound) (c : CampaignValue) → IsGrid things c.books → thing_index t < things → HaveRoom (both_move (moves_only amount (loss_entry t) t) next) c → HaveRoom next (with_loss c t amount)
+rest_room things t amount next c grid inside room = booked-room things c.books (loss_entry t) t (neg_ℤ (pos amount)) amount grid inside (within-neg amount amount (omega arith)) next room
 
 -- there is room for the items ahead, while the code goes through them
 pub room_ahead : (xs : List (ℕ × ℕ)) (i : ℕ) (c : CampaignValue) → i < length xs → HaveRoom (moving_items (drop i xs)) c
@@ -276,7 +276,7 @@ known_held w c n u is steady = each-from_every (λ j a. j < length w.items) u.ho
 
 -- there is room for what a unit has
 pub held_room : (c : CampaignValue) (n : ℕ) (u : Unit) → get c.units n ≡ Some u → HaveRoom (quit_reserve c) c → HaveRoom (held_moves u.holding) c
-held_room c n u is room = room_less (held_moves u.holding) (quit_reserve c) c (λ e t. within (held_moves u.holding e t) (leaves e t u.holding) (sum_over (λ (x : Unit). leaves e t x.holding) (remove c.units n)) (quit_reserve c e t) (moves_what_leaves u.holding e t) (sum_over-remove c.units n (λ (x : Unit). leaves e t x.holding) u is)) room
+held_room c n u is room = room_less (held_moves u.holding) (quit_reserve c) c (λ e t. within (held_moves u.holding e t) (loss_under e t u.holding) (sum_over (λ (x : Unit). loss_under e t x.holding) (remove c.units n)) (quit_reserve c e t) (moves_what_leaves u.holding e t) (sum_over-remove c.units n (λ (x : Unit). loss_under e t x.holding) u is)) room
   where
     within : (a b s r : ℕ) → a ≤ b → s + b ≡ r → a ≤ r
     within a b s r l e = omega (arith, l, e)
@@ -289,7 +289,7 @@ total_books c books t = refl
 
 module _ (w : WorldValue) (c : CampaignValue) (n : ℕ) (u : Unit) (is : get c.units n ≡ Some u) (steady : IsSteady w c) where
   abbrev off : CampaignValue
-  off = booked_off c u.holding
+  off = with_all_losses c u.holding
 
   abbrev behind : CampaignValue
   behind = without_unit off n
@@ -307,20 +307,20 @@ module _ (w : WorldValue) (c : CampaignValue) (n : ℕ) (u : Unit) (is : get c.u
   balanced old t =
       let only = only_reduced w off n u there in
       let totals : total off t ≡ total c t = ap (λ s. total s t) off_is.same ∙ total_books c off.books t in
-      rest (total behind t) (held t u.holding) (total off t) (total c t) (owing u.holding t) (booked c.books t) (booked off.books t) (total-without w off n u there t) totals (all_owed u.holding t) (old t) (off_is.owed t)
+      rest (total behind t) (unit_amount t u.holding) (total off t) (total c t) (owing u.holding t) (booked c.books t) (booked off.books t) (total-without w off n u there t) totals (all_owed u.holding t) (old t) (off_is.owed t)
       ∙ ap (λ (books : List (List ℤ)). booked books t) (sym only.books)
     where
       rest : (a h b d o : ℕ) (z y : ℤ) → a + h ≡ b → b ≡ d → o ≡ h → pos d ≡ z → z ≡ y +ℤ pos o → pos a ≡ y
       rest a h b d o z y e f g k l = omega (arith, ints, e, f, g, k, l)
 
-  drawn : (e : Entry) (t : Thing) → IsDrawn (quit_reserve c e t) (quit_reserve behind e t) (amount_in c.books e t) (amount_in behind.books e t)
+  drawn : (e : Entry) (t : Thing) → UsesBound (quit_reserve c e t) (quit_reserve behind e t) (amount_in c.books e t) (amount_in behind.books e t)
   drawn e t =
       let only = only_reduced w off n u there in
-      let reserves : quit_reserve behind e t + leaves e t u.holding ≡ quit_reserve c e t =
-      ap (λ (m : FinMap nat_cmp Unit). sum_over (λ (x : Unit). leaves e t x.holding) m + leaves e t u.holding) units_behind ∙ sum_over-remove c.units n (λ (x : Unit). leaves e t x.holding) u is in
-      subst (λ (books : List (List ℤ)). IsDrawn (quit_reserve c e t) (quit_reserve behind e t) (amount_in c.books e t) (amount_in books e t)) (sym only.books)
-      (drawn_near (leaves e t u.holding) (quit_reserve c e t) (quit_reserve behind e t) (amount_in c.books e t) (amount_in off.books e t) reserves
-      (near_more (held_moves u.holding e t) (leaves e t u.holding) (amount_in c.books e t) (amount_in off.books e t) (moves_what_leaves u.holding e t) (off_is.near e t)))
+      let reserves : quit_reserve behind e t + loss_under e t u.holding ≡ quit_reserve c e t =
+      ap (λ (m : FinMap nat_cmp Unit). sum_over (λ (x : Unit). loss_under e t x.holding) m + loss_under e t u.holding) units_behind ∙ sum_over-remove c.units n (λ (x : Unit). loss_under e t x.holding) u is in
+      subst (λ (books : List (List ℤ)). UsesBound (quit_reserve c e t) (quit_reserve behind e t) (amount_in c.books e t) (amount_in books e t)) (sym only.books)
+      (drawn_near (loss_under e t u.holding) (quit_reserve c e t) (quit_reserve behind e t) (amount_in c.books e t) (amount_in off.books e t) reserves
+      (near_more (held_moves u.holding e t) (loss_under e t u.holding) (amount_in c.books e t) (amount_in off.books e t) (moves_what_leaves u.holding e t) (off_is.near e t)))
 
   leaving_well : StepsWell IsSteady quit_reserve w c behind
   leaving_well =
@@ -337,11 +337,11 @@ module _ (w : WorldValue) (c : CampaignValue) (n : ℕ) (u : Unit) (is : get c.u
         drawn = drawn;
       }
 
-pub left_well : (w : WorldValue) (c : CampaignValue) (n : ℕ) → IsSteady w c → StepsWell IsSteady quit_reserve w c (left_at c n)
-unfolding left_at
+pub left_well : (w : WorldValue) (c : CampaignValue) (n : ℕ) → IsSteady w c → StepsWell IsSteady quit_reserve w c (after_leaving c n)
+unfolding after_leaving
 left_well w c n steady = by_unit (get c.units n) refl
   where
-    by_unit : (o : Option Unit) → get c.units n ≡ o → StepsWell IsSteady quit_reserve w c (left_by c n o)
+    by_unit : (o : Option Unit) → get c.units n ≡ o → StepsWell IsSteady quit_reserve w c (without_leaver c n o)
     by_unit None is = well_same w c steady
     by_unit (Some u) is = leaving_well w c n u is steady
 
@@ -354,47 +354,47 @@ without_others c n k apart = elim (get c.units n) as (λ o. get (without_unit_at
       ap (λ (d : CampaignValue). get d.units k) (handed_is (record c { units = remove c.units n }) u.structure n (heir c u.structure n)) ∙ get-remove_other c.units n k apart
 ]
 
-booked_units : (c : CampaignValue) (es : List (ℕ × ℕ)) → (fold item_gone c es).units ≡ c.units
+booked_units : (c : CampaignValue) (es : List (ℕ × ℕ)) → (fold with_item_loss c es).units ≡ c.units
 booked_units c [] = refl
-booked_units c (e ∷ es) = booked_units (item_gone c e) es
+booked_units c (e ∷ es) = booked_units (with_item_loss c e) es
 
-left_others : (c : CampaignValue) (n k : ℕ) → k ≢ n → get (left_at c n).units k ≡ get c.units k
-unfolding left_at
+left_others : (c : CampaignValue) (n k : ℕ) → k ≢ n → get (after_leaving c n).units k ≡ get c.units k
+unfolding after_leaving
 left_others c n k apart = by_unit (get c.units n)
   where
-    by_unit : (o : Option Unit) → get (left_by c n o).units k ≡ get c.units k
+    by_unit : (o : Option Unit) → get (without_leaver c n o).units k ≡ get c.units k
     by_unit None = refl
-    by_unit (Some u) = without_others (booked_off c u.holding) n k apart ∙ ap (λ (m : FinMap nat_cmp Unit). get m k) (booked_units _ (entries u.holding.items))
+    by_unit (Some u) = without_others (with_all_losses c u.holding) n k apart ∙ ap (λ (m : FinMap nat_cmp Unit). get m k) (booked_units _ (entries u.holding.items))
 
 -- ---- all units of a faction
 
-pub all_left_well : (w : WorldValue) (c : CampaignValue) (ns : List ℕ) → IsSteady w c → StepsWell IsSteady quit_reserve w c (fold left_at c ns)
+pub all_left_well : (w : WorldValue) (c : CampaignValue) (ns : List ℕ) → IsSteady w c → StepsWell IsSteady quit_reserve w c (fold after_leaving c ns)
 all_left_well w c [] steady = well_same w c steady
 all_left_well w c (n ∷ ns) steady =
     let one = left_well w c n steady in
-    well_twice w c (left_at c n) (fold left_at (left_at c n) ns) one (all_left_well w (left_at c n) ns one.holds_still)
+    well_twice w c (after_leaving c n) (fold after_leaving (after_leaving c n) ns) one (all_left_well w (after_leaving c n) ns one.holds_still)
 
-pub all_left_others : (c : CampaignValue) (ns : List ℕ) (k : ℕ) → ((n : ℕ) → IsListed n ns → k ≢ n) → get (fold left_at c ns).units k ≡ get c.units k
+pub all_left_others : (c : CampaignValue) (ns : List ℕ) (k : ℕ) → ((n : ℕ) → IsListed n ns → k ≢ n) → get (fold after_leaving c ns).units k ≡ get c.units k
 all_left_others c [] k apart = refl
-all_left_others c (n ∷ ns) k apart = all_left_others (left_at c n) ns k (λ m listed. apart m (inr listed)) ∙ left_others c n k (apart n (inl refl))
+all_left_others c (n ∷ ns) k apart = all_left_others (after_leaving c n) ns k (λ m listed. apart m (inr listed)) ∙ left_others c n k (apart n (inl refl))
 
 -- ---- one order
 
 -- what is so of the campaign as it is, and of that in which the faction's units left, is so of the campaign behind the order
-pub quit_cases : (P : CampaignValue → Type 0) (c : CampaignValue) (number : ℕ) (u : Unit) → P c → (number ≡ u.faction → P (fold left_at c (numbers_of u.faction c.units))) → P (quit number c u).0
+pub quit_cases : (P : CampaignValue → Type 0) (c : CampaignValue) (number : ℕ) (u : Unit) → P c → (number ≡ u.faction → P (fold after_leaving c (numbers_of u.faction c.units))) → P (quit number c u).0
 unfolding quit
 quit_cases P c number u same leave = by_fault (quit_fault number u) refl
   where
-    by_fault : (f : Option EventFault) → quit_fault number u ≡ f → P (unless c f (fold left_at c (numbers_of u.faction c.units), Done 0)).0
+    by_fault : (f : Option EventFault) → quit_fault number u ≡ f → P (unless c f (fold after_leaving c (numbers_of u.faction c.units), Done 0)).0
     by_fault (Some fault) e = same
     by_fault None e = leave (not_apart number u.faction (none_fits (not (number == u.faction)) WrongNumber [] e).0)
 
 pub quit_well : (w : WorldValue) (c : CampaignValue) (number : ℕ) (u : Unit) → IsSteady w c → StepsWell IsSteady quit_reserve w c (quit number c u).0
 quit_well w c number u steady = quit_cases (λ d. StepsWell IsSteady quit_reserve w c d) c number u (well_same w c steady) (λ own. all_left_well w c (numbers_of u.faction c.units) steady)
 
-quit_spares : (w : WorldValue) (c : CampaignValue) (number : ℕ) (u : Unit) (k : ℕ) (x : Unit) → IsSteady w c → get c.units k ≡ Some x → (number ≡ u.faction → u.faction ≢ x.faction) → IsSpared IsNoWorse (quit number c u).0 k x
+quit_spares : (w : WorldValue) (c : CampaignValue) (number : ℕ) (u : Unit) (k : ℕ) (x : Unit) → IsSteady w c → get c.units k ≡ Some x → (number ≡ u.faction → u.faction ≢ x.faction) → IsUnaffected IsNoWorse (quit number c u).0 k x
 quit_spares w c number u k x steady here other =
-    quit_cases (λ d. IsSpared IsNoWorse d k x) c number u (record { unit = x; there = here; spared = no_worse x })
+    quit_cases (λ d. IsUnaffected IsNoWorse d k x) c number u (record { unit = x; there = here; spared = no_worse x })
     (λ own. record { unit = x; there = all_left_others c (numbers_of u.faction c.units) k (λ m listed. stays (other own) m listed) ∙ here; spared = no_worse x })
   where
     stays : u.faction ≢ x.faction → (m : ℕ) → IsListed m (numbers_of u.faction c.units) → k ≢ m
@@ -415,17 +415,17 @@ sum_within {V} f most (e ∷ es) each =
     more : (s x y a b m : ℕ) → s ≡ x + y → a ≡ b + m → x ≤ m → y ≤ b → s ≤ a
     more s x y a b m e f k l = omega (arith, e, f, k, l)
 
-within_limit : (t : Thing) (h : Held) → IsHolding h → held t h ≤ holding_limit
+within_limit : (t : Thing) (h : HoldingValue) → IsHolding h → unit_amount t h ≤ holding_limit
 within_limit Money h is = is.money
 within_limit People h is = omega (arith, is.men)
 within_limit (Item i) h is = amount_within h i is
 
 reserve_within : (w : WorldValue) (c : CampaignValue) → IsSteady w c → (e : Entry) (t : Thing) → quit_reserve c e t ≤ quit_moves e t
-reserve_within w c steady e t = by_test (entry_place e == entry_place (gone_under t))
+reserve_within w c steady e t = by_test (entry_index e == entry_index (loss_entry t))
   where
-    all_within : (b : Bool) (most : ℕ) → ((h : Held) → IsHolding h → (if b then held t h else 0) ≤ most) → sum_over (λ (u : Unit). if b then held t u.holding else 0) c.units ≤ length (entries c.units) * most
+    all_within : (b : Bool) (most : ℕ) → ((h : HoldingValue) → IsHolding h → (if b then unit_amount t h else 0) ≤ most) → sum_over (λ (u : Unit). if b then unit_amount t u.holding else 0) c.units ≤ length (entries c.units) * most
     all_within b most each =
-        sum_within (λ (u : Unit). if b then held t u.holding else 0) most (entries c.units) (each-from_every (λ n u. (if b then held t u.holding else 0) ≤ most) c.units (λ n u is. each u.holding (steady.numbers.units n u is).1))
+        sum_within (λ (u : Unit). if b then unit_amount t u.holding else 0) most (entries c.units) (each-from_every (λ n u. (if b then unit_amount t u.holding else 0) ≤ most) c.units (λ n u is. each u.holding (steady.numbers.units n u is).1))
 
     few : (s n : ℕ) → s ≤ n * holding_limit → n ≤ most_units → s ≤ most_moved
     few s n l m = omega (arith, l, m)
@@ -433,24 +433,24 @@ reserve_within w c steady e t = by_test (entry_place e == entry_place (gone_unde
     none : (s n : ℕ) → s ≤ n * 0 → s ≤ 0
     none s n l = omega (arith, l)
 
-    by_test : (b : Bool) → sum_over (λ (u : Unit). if b then held t u.holding else 0) c.units ≤ (if b then most_moved else 0)
-    by_test true = few (sum_over (λ (u : Unit). held t u.holding) c.units) (length (entries c.units)) (all_within true holding_limit (λ h is. within_limit t h is)) (omega (arith, len-entries c.units, steady.numbers.few_units))
+    by_test : (b : Bool) → sum_over (λ (u : Unit). if b then unit_amount t u.holding else 0) c.units ≤ (if b then most_moved else 0)
+    by_test true = few (sum_over (λ (u : Unit). unit_amount t u.holding) c.units) (length (entries c.units)) (all_within true holding_limit (λ h is. within_limit t h is)) (omega (arith, len-entries c.units, steady.numbers.few_units))
     by_test false = none (sum_over (λ (u : Unit). 0) c.units) (length (entries c.units)) (all_within false 0 (λ h is. omega arith))
 
 pub quit_orderly : IsOrderly quit_step IsSteady quit_reserve quit_moves quit_concerns IsNoWorse
 quit_orderly = record {
-  well = λ w a c t x steady fit own. well w c x steady t.said;
+  well = λ w a c t x steady fit own. well w c x steady t.order_value.operands;
   sparing = no_worse_spares;
-  spared = λ w a c t x steady own n u here other. spared w c t x steady own n u here t.said (λ says. other says);
+  spared = λ w a c t x steady own n u here other. spared w c t x steady own n u here t.order_value.operands (λ says. other says);
   bounded = reserve_within;
 }
   where
-    well : (w : WorldValue) (c : CampaignValue) (x : Unit) → IsSteady w c → (s : Said) → IfSome (quit_said s) (λ deed. StepsWell IsSteady quit_reserve w c (deed c x).0)
-    well w c x steady (orders.Quit number) = quit_well w c number x steady
+    well : (w : WorldValue) (c : CampaignValue) (x : Unit) → IsSteady w c → (s : OperandsValue) → IfSome (quit_effect s) (λ deed. StepsWell IsSteady quit_reserve w c (deed c x).0)
+    well w c x steady (operands.Number number) = quit_well w c number x steady
     well w c x steady other = tt
 
-    spared : (w : WorldValue) (c : CampaignValue) (t : Task) (x : Unit) → IsSteady w c → IsUnitOf c t x → (n : ℕ) (u : Unit) → get c.units n ≡ Some u → (s : Said) → ((t.faction ≡ u.faction) × (s ≡ orders.Quit u.faction) → ⊥)
-        → IfSome (quit_said s) (λ deed. IsSpared IsNoWorse (deed c x).0 n u)
-    spared w c t x steady own n u here (orders.Quit number) other =
-        quit_spares w c number x n u steady here (λ says same. other (sym own.faction ∙ same, ap orders.Quit (says ∙ same)))
+    spared : (w : WorldValue) (c : CampaignValue) (t : Task) (x : Unit) → IsSteady w c → IsUnitOf c t x → (n : ℕ) (u : Unit) → get c.units n ≡ Some u → (s : OperandsValue) → ((t.faction ≡ u.faction) × (s ≡ operands.Number u.faction) → ⊥)
+        → IfSome (quit_effect s) (λ deed. IsUnaffected IsNoWorse (deed c x).0 n u)
+    spared w c t x steady own n u here (operands.Number number) other =
+        quit_spares w c number x n u steady here (λ says same. other (sym own.faction ∙ same, ap operands.Number (says ∙ same)))
     spared w c t x steady own n u here said other = tt

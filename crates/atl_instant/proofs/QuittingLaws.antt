@@ -4,8 +4,8 @@ use Rattle.std.specs.Prelude.{IfSome, fold}
 use Rattle.std.specs.Ordering.{nat_cmp}
 use Rattle.std.specs.FinMap.{FinMap, get, values}
 use Rattle.atl_tables.specs.Worlds.{WorldValue}
-use Rattle.atl_orders.specs.declared.order.Order.TheVariants as orders
-use Rattle.atl_orders.specs.Orders.{Said}
+use Rattle.atl_orders.specs.declared.order.Operands.TheVariants as operands
+use Rattle.atl_orders.specs.Orders.{OperandsValue}
 use Rattle.atl_records.specs.declared.records.Unit.{Unit}
 use Rattle.atl_records.specs.Every.{Every}
 use Rattle.atl_state.specs.Good.{IsSteady}
@@ -15,13 +15,13 @@ use Rattle.atl_instant.specs.Month.{MonthValue}
 use Rattle.atl_instant.specs.Fit.{AreFit}
 use Rattle.atl_instant.specs.Meaning.{Condition}
 use Rattle.atl_instant.specs.PhaseOrders.{Task, orders_of}
-use Rattle.atl_instant.specs.Quit.{QuitsFrom, is_quitting, left_at, left_by, quit, quit_keeps, quit_meaning, quit_moves, quit_reserve, quit_said, quit_step}
-use Rattle.atl_instant.specs.Staying.{IsNoWorse}
-use Rattle.atl_instant.specs.Steps.{IsOrderly, IsUnitOf, StepsWell, carried_out, is_of_faction, is_own}
-use Rattle.atl_instant.specs.declared.written.Arrangement.TheVariants.{ByUnit}
+use Rattle.atl_instant.specs.Quit.{QuitsFrom, after_leaving, is_quitting, quit, quit_effect, quit_keeps, quit_meaning, quit_moves, quit_reserve, quit_step, without_leaver}
+use Rattle.atl_instant.specs.NoWorse.{IsNoWorse}
+use Rattle.atl_instant.specs.OrderEffects.{IsOrderly, IsUnitOf, StepsWell, is_of_faction, is_own, meaning_by_orders}
+use Rattle.atl_instant.specs.declared.phase_order.Arrangement.TheVariants.{ByUnit}
 use Rattle.atl_instant.proofs.QuitLaws.{left_well, quit_cases, quit_orderly, quit_well, units_behind}
 use Rattle.atl_instant.proofs.StructureLaws.{equal}
-use Rattle.atl_instant.proofs.StepLaws.{no_worse_spares, orders_fit, orders_spare}
+use Rattle.atl_instant.proofs.OrderEffectLaws.{no_worse_spares, orders_fit, orders_spare}
 
 -- ---- no unit comes, and none changes
 
@@ -29,18 +29,18 @@ use Rattle.atl_instant.proofs.StepLaws.{no_worse_spares, orders_fit, orders_spar
 abbrev HasSomeOf : CampaignValue → CampaignValue → Type 0
 HasSomeOf c d = Every (λ k u. get c.units k ≡ Some u) d.units
 
-left_some : (w : WorldValue) (c : CampaignValue) (n : ℕ) → IsSteady w c → HasSomeOf c (left_at c n)
-unfolding left_at
+left_some : (w : WorldValue) (c : CampaignValue) (n : ℕ) → IsSteady w c → HasSomeOf c (after_leaving c n)
+unfolding after_leaving
 left_some w c n steady = by_unit (get c.units n) refl
   where
-    by_unit : (o : Option Unit) → get c.units n ≡ o → HasSomeOf c (left_by c n o)
+    by_unit : (o : Option Unit) → get c.units n ≡ o → HasSomeOf c (without_leaver c n o)
     by_unit None is = λ k u there. there
     by_unit (Some x) is =
         subst (λ (m : FinMap nat_cmp Unit). Every (λ k u. get c.units k ≡ Some u) m) (sym (units_behind w c n x is steady)) (every-remove c.units n (λ k u. get c.units k ≡ Some u) (λ k u there. there))
 
-all_left_some : (w : WorldValue) (c : CampaignValue) (ns : List ℕ) → IsSteady w c → HasSomeOf c (fold left_at c ns)
+all_left_some : (w : WorldValue) (c : CampaignValue) (ns : List ℕ) → IsSteady w c → HasSomeOf c (fold after_leaving c ns)
 all_left_some w c [] steady k u there = there
-all_left_some w c (n ∷ ns) steady k u there = left_some w c n steady k u (all_left_some w (left_at c n) ns (left_well w c n steady).holds_still k u there)
+all_left_some w c (n ∷ ns) steady k u there = left_some w c n steady k u (all_left_some w (after_leaving c n) ns (left_well w c n steady).holds_still k u there)
 
 quit_some : (w : WorldValue) (c : CampaignValue) (number : ℕ) (x : Unit) → IsSteady w c → HasSomeOf c (quit number c x).0
 quit_some w c number x steady = quit_cases (HasSomeOf c) c number x (λ k u there. there) (λ own. all_left_some w c (numbers_of x.faction c.units) steady)
@@ -63,8 +63,8 @@ abbrev OwnSince : CampaignValue → Condition
 OwnSince begun w c = IsSteady w c × ((t : Task) → is_own c t ≡ true → is_own begun t ≡ true)
 
 module _ (begun : CampaignValue) where
-  since_well : (w : WorldValue) (c : CampaignValue) (x : Unit) → OwnSince begun w c → (s : Said) → IfSome (quit_said s) (λ deed. StepsWell (OwnSince begun) quit_reserve w c (deed c x).0)
-  since_well w c x since (orders.Quit number) =
+  since_well : (w : WorldValue) (c : CampaignValue) (x : Unit) → OwnSince begun w c → (s : OperandsValue) → IfSome (quit_effect s) (λ deed. StepsWell (OwnSince begun) quit_reserve w c (deed c x).0)
+  since_well w c x since (operands.Number number) =
       let well = quit_well w c number x since.0 in
       record {
         holds_still = (well.holds_still, λ s mine. since.1 s (own_before c (quit number c x).0 s (quit_some w c number x since.0) mine));
@@ -76,7 +76,7 @@ module _ (begun : CampaignValue) where
 
   since_orderly : IsOrderly quit_step (OwnSince begun) quit_reserve quit_moves (QuitsFrom begun) IsNoWorse
   since_orderly = record {
-    well = λ w a c t x since fit own. since_well w c x since t.said;
+    well = λ w a c t x since fit own. since_well w c x since t.order_value.operands;
     sparing = no_worse_spares;
     spared = λ w a c t x since own n u there other.
         quit_orderly.spared w a c t x since.0 own n u there (λ quits. other (record { own = since.1 t (is_own_unit c t x own); faction = quits.0; said = quits.1 }));
@@ -84,6 +84,6 @@ module _ (begun : CampaignValue) where
   }
 
 pub quit_spares_others : (w : WorldValue) (c : CampaignValue) (m : MonthValue) → IsSteady w c → AreFit w m.readings → quit_keeps w m c (quit_meaning w c m).0
-unfolding carried_out
+unfolding meaning_by_orders
 quit_spares_others w c m steady fit =
     orders_spare quit_step (since_orderly c) w c m (values (orders_of is_quitting ByUnit m.aliases m.readings)) (steady, λ t own. own) (orders_fit w m.aliases m.readings fit is_quitting)

@@ -15,9 +15,9 @@ use Rattle.atl_records.specs.declared.records.Structure.{Structure}
 use Rattle.atl_records.specs.declared.records.Unit.{Unit}
 use Rattle.atl_records.specs.Every.{Every}
 use Rattle.atl_state.specs.Good.{AreAfloat, AreInRange, AreKnown, AreNamed, AreNumbered, AreOfOneFaction, GoneHaveNone, IsAboard, IsBuilt, IsEarly, IsOwned, IsPlaced, IsSteady, guards, is_ship}
-use Rattle.atl_records.specs.Held.{IsHolding}
+use Rattle.atl_records.specs.Holdings.{IsHolding}
 use Rattle.atl_state.specs.Campaign.{CampaignValue}
-use Rattle.atl_records.specs.Amounts.{held, kept}
+use Rattle.atl_records.specs.Amounts.{region_amount, unit_amount}
 use Rattle.atl_state.specs.Totals.{total}
 use Rattle.atl_records.proofs.EveryLaws.{every-insert, get-insert_other, none_some}
 use Rattle.atl_state.proofs.RegionLaws.{same_len}
@@ -177,8 +177,8 @@ module _ (w : WorldValue) (c : CampaignValue) (n : ℕ) (u : Unit) (s : ℕ) (is
   pub total-refitted : (t : Thing) → total refitted t ≡ total c t
   unfolding total
   total-refitted t =
-      let stock = λ (x : Unit). held t x.holding in
-      cancelled (sum_over stock units) (sum_over stock c.units) (held t u.holding) (sum_over (λ (r : Region). kept t r) c.regions)
+      let stock = λ (x : Unit). unit_amount t x.holding in
+      cancelled (sum_over stock units) (sum_over stock c.units) (unit_amount t u.holding) (sum_over (λ (r : Region). region_amount t r) c.regions)
       (sum_over-insert_known stock c.units n u moved_unit is)
 
 -- structures alone change, while a unit is there

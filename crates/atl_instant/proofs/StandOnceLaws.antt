@@ -12,38 +12,38 @@ use Rattle.std.specs.FinMap.Entries.{below_all}
 use Rattle.atl_tables.specs.Worlds.{WorldValue}
 use Rattle.atl_tables.proofs.GeneralLaws.{is_equal, is_true}
 use Rattle.atl_orders.specs.Bounds.{LinesRise}
-use Rattle.atl_orders.specs.Mailing.{EntrySaid, Reading}
-use Rattle.atl_orders.specs.Orders.{verb_of_order}
+use Rattle.atl_orders.specs.Mailing.{EntryValue, Reading}
+use Rattle.atl_orders.specs.Verbs.{row_of}
+use Rattle.atl_orders.specs.declared.verb.Slot.{Slot}
+use Rattle.atl_orders.specs.declared.verb.Slot.TheVariants.{MonthLong, Selling, Buying, Taxing, Recruiting}
 use Rattle.atl_orders.specs.declared.verb.Verb.{Verb}
 use Rattle.atl_records.specs.Every.{EachOf}
 use Rattle.atl_state.proofs.BackLaws.{append_each}
 use Rattle.atl_records.proofs.EveryLaws.{each-from_every}
-use Rattle.atl_instant.specs.declared.standing.Slot.{Slot}
-use Rattle.atl_instant.specs.declared.standing.Slot.TheVariants.{MonthLong, Selling, Buying, Taxing, Recruiting}
-use Rattle.atl_instant.specs.declared.written.Arrangement.{Arrangement}
+use Rattle.atl_instant.specs.declared.phase_order.Arrangement.{Arrangement}
 use Rattle.atl_instant.specs.Month.{Aliases}
 use Rattle.atl_instant.specs.Fit.{AreFit}
-use Rattle.atl_instant.specs.PhaseOrders.{IsInMailing, Task, key_of, last_line, slot_number, slot_of, stands, stands_in, tasks_for, tasks_from, tasks_of, unit_of}
+use Rattle.atl_instant.specs.PhaseOrders.{IsInMailing, Task, key_of, last_line, slot_number, stands, stands_in, tasks_for, tasks_from, tasks_of, unit_of}
 use Rattle.atl_instant.specs.StandOnce.{OneOrderStands, are_of_slot, share_slot}
-use Rattle.atl_instant.proofs.WrittenLaws.{entries-listed, in_mailings, keyed_entries}
+use Rattle.atl_instant.proofs.PhaseOrderLaws.{entries-listed, in_mailings, keyed_entries}
 
 -- ---- lines
 
-above : (n i : ℕ) (es : List EntrySaid) (e : EntrySaid) → LinesRise n es → slice_get es i ≡ Some e → n < e.line
+above : (n i : ℕ) (es : List EntryValue) (e : EntryValue) → LinesRise n es → slice_get es i ≡ Some e → n < e.line
 above n i [] e rise is = cc
-above n zero (x ∷ es) e rise is = let same = ap (λ (y : EntrySaid). y.line) (same_Some x e is) in omega (arith, same, rise.0)
+above n zero (x ∷ es) e rise is = let same = ap (λ (y : EntryValue). y.line) (same_Some x e is) in omega (arith, same, rise.0)
 above n (suc i) (x ∷ es) e rise is = let behind = above x.line i es e rise.1 is in omega (arith, behind, rise.0)
 
 -- no two entries have one line
-same_place : (n : ℕ) (es : List EntrySaid) (i j : ℕ) (d e : EntrySaid) → LinesRise n es → slice_get es i ≡ Some d → slice_get es j ≡ Some e → d.line ≡ e.line → i ≡ j
+same_place : (n : ℕ) (es : List EntryValue) (i j : ℕ) (d e : EntryValue) → LinesRise n es → slice_get es i ≡ Some d → slice_get es j ≡ Some e → d.line ≡ e.line → i ≡ j
 same_place n [] i j d e rise one two line = cc
 same_place n (x ∷ es) zero zero d e rise one two line = refl
 same_place n (x ∷ es) zero (suc j) d e rise one two line =
-    let first = ap (λ (y : EntrySaid). y.line) (same_Some x d one) in
+    let first = ap (λ (y : EntryValue). y.line) (same_Some x d one) in
     let behind = above x.line j es e rise.1 two in
     absurd (omega (arith, first, behind, line))
 same_place n (x ∷ es) (suc i) zero d e rise one two line =
-    let first = ap (λ (y : EntrySaid). y.line) (same_Some x e two) in
+    let first = ap (λ (y : EntryValue). y.line) (same_Some x e two) in
     let behind = above x.line i es d rise.1 one in
     absurd (omega (arith, first, behind, line))
 same_place n (x ∷ es) (suc i) (suc j) d e rise one two line = ap suc (same_place x.line es i j d e rise.1 one two line)
@@ -63,10 +63,10 @@ line_of : (ts : List Task) (t : Task) (s : Slot) (o : Option Slot) → o ≡ Som
 line_of ts t s None is there = cc
 line_of ts t s (Some x) is there = is_equal t.line (last_line x t.unit ts) there ∙ ap (λ y. last_line y t.unit ts) (same_Some x s is)
 
-one_line : (ts us : List Task) (t o : Task) → ts ≡ us → t.unit ≡ o.unit → are_of_slot (slot_of (verb_of_order t.said)) (slot_of (verb_of_order o.said)) ≡ true → stands ts t ≡ true → stands us o ≡ true → t.line ≡ o.line
-one_line ts us t o same unit share one two = by_slots (slot_of (verb_of_order t.said)) (slot_of (verb_of_order o.said)) refl refl share
+one_line : (ts us : List Task) (t o : Task) → ts ≡ us → t.unit ≡ o.unit → are_of_slot (row_of t.order_value.verb).slot (row_of o.order_value.verb).slot ≡ true → stands ts t ≡ true → stands us o ≡ true → t.line ≡ o.line
+one_line ts us t o same unit share one two = by_slots (row_of t.order_value.verb).slot (row_of o.order_value.verb).slot refl refl share
   where
-    by_slots : (a b : Option Slot) → slot_of (verb_of_order t.said) ≡ a → slot_of (verb_of_order o.said) ≡ b → are_of_slot a b ≡ true → t.line ≡ o.line
+    by_slots : (a b : Option Slot) → (row_of t.order_value.verb).slot ≡ a → (row_of o.order_value.verb).slot ≡ b → are_of_slot a b ≡ true → t.line ≡ o.line
     by_slots None b first second never = cc
     by_slots (Some s) None first second never = cc
     by_slots (Some s) (Some x) first second alike =
@@ -81,7 +81,7 @@ module _ (w : WorldValue) (is_of : Verb → Bool) (a : Arrangement) (aliases : A
 
   module _ (f : ℕ) (r : Reading) (there : get readings f ≡ Some r) where
     abbrev passes : Task → Bool
-    passes t = is_of (verb_of_order t.said) && stands (tasks_of aliases f r) t
+    passes t = is_of t.order_value.verb && stands (tasks_of aliases f r) t
 
     kept : (t : Task) → t.faction ≡ f → (ts : List Task) → AllByRecursion Stands (filter passes ts) → (b : Bool) → passes t ≡ b → AllByRecursion Stands (cond b (t ∷ filter passes ts) (filter passes ts))
     kept t own ts all true is = (
@@ -92,10 +92,10 @@ module _ (w : WorldValue) (is_of : Verb → Bool) (a : Arrangement) (aliases : A
     )
     kept t own ts all false is = all
 
-    stand_from : (place : ℕ) (es : List EntrySaid) → AllByRecursion Stands (filter passes (tasks_from aliases f place es))
+    stand_from : (place : ℕ) (es : List EntryValue) → AllByRecursion Stands (filter passes (tasks_from aliases f place es))
     stand_from place [] = tt
     stand_from place (e ∷ es) =
-        let first : Task = record { faction = f; unit = unit_of aliases f e.target; line = e.line; place = place; said = e.said } in
+        let first : Task = record { faction = f; unit = unit_of aliases f e.target; line = e.line; place = place; order_value = e.order_value } in
         kept first refl (tasks_from aliases f (place + 1) es) (stand_from (place + 1) es) (passes first) refl
 
   all_stand : (es : List (ℕ × Reading)) → EachOf (λ f r. get readings f ≡ Some r) es → AllByRecursion Stands (flat_map (λ e. tasks_for is_of (tasks_of aliases e.0 e.1)) es)
@@ -128,8 +128,8 @@ module _ (w : WorldValue) (is_of : Verb → Bool) (a : Arrangement) (aliases : A
         let at : slice_get r.entries o.place ≡ Some two.there.entry = ap (λ (x : Reading). slice_get x.entries o.place) reading ∙ two.there.at_place in
         let place = same_place 0 r.entries t.place o.place one.there.entry two.there.entry (fit t.faction r one.there.of_faction).lines one.there.at_place at (one.there.on_line ∙ line ∙ sym two.there.on_line) in
         let entry : one.there.entry ≡ two.there.entry = same_Some one.there.entry two.there.entry (sym one.there.at_place ∙ ap (slice_get r.entries) place ∙ at) in
-        let said = sym one.there.says ∙ ap (λ (e : EntrySaid). e.said) entry ∙ two.there.says in
-        λ i. record { faction = faction i; unit = unit i; line = line i; place = place i; said = said i }
+        let said = sym one.there.says ∙ ap (λ (e : EntryValue). e.order_value) entry ∙ two.there.says in
+        λ i. record { faction = faction i; unit = unit i; line = line i; place = place i; order_value = said i }
 
     abbrev order : List ℕ → List ℕ → Ordering
     order = slice_cmp nat_cmp

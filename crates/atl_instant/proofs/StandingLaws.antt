@@ -7,40 +7,13 @@ use Rattle.std.specs.FinMap.{get, insert, empty, get-insert, get-empty}
 use Rattle.atl_tables.specs.Groups.{group_of}
 use Rattle.atl_tables.proofs.GeneralLaws.{equal_turned, is_equal}
 use Rattle.atl_orders.specs.declared.mailing.Entry.{Entry}
-use Rattle.atl_orders.specs.declared.order.Order.{Order}
-use Rattle.atl_orders.specs.declared.order.Order.TheVariants as orders
-use Rattle.atl_orders.specs.declared.order.Span.{Span}
-use Rattle.atl_orders.specs.Mailing.{entry_said}
-use Rattle.atl_orders.specs.Orders.{said, verb_of_order}
+use Rattle.atl_orders.specs.declared.verb.Slot.{Slot}
+use Rattle.atl_orders.specs.Mailing.{entry_value}
+use Rattle.atl_orders.specs.Verbs.{row_of}
 use Rattle.atl_state.proofs.KeyLaws.{next_of}
-use Rattle.atl_instant.specs.declared.standing.Slot.{Slot}
 use Rattle.atl_instant.specs.Month.{Aliases}
-use Rattle.atl_instant.specs.PhaseOrders.{unit_of, slot_of, slot_number, is_slot, last_line, tasks_from}
-use Rattle.atl_instant.specs.Collecting.{Lines, line_in, with_line}
-
--- the verb of an order is that of what it says
-pub verb_of-said : (text : List ℕ) (o : Order Span) → verb_of_order (said text o) ≡ verb_of_order o
-verb_of-said text (orders.Form alias) = refl
-verb_of-said text (orders.Name what span) = refl
-verb_of-said text (orders.Guard flag) = refl
-verb_of-said text (orders.Enter n) = refl
-verb_of-said text orders.Leave = refl
-verb_of-said text (orders.Promote unit) = refl
-verb_of-said text (orders.Give to amount item) = refl
-verb_of-said text (orders.Pay to amount) = refl
-verb_of-said text (orders.Transfer to men) = refl
-verb_of-said text (orders.Sell amount item) = refl
-verb_of-said text (orders.Buy amount item) = refl
-verb_of-said text orders.Tax = refl
-verb_of-said text (orders.Recruit men) = refl
-verb_of-said text (orders.Quit faction) = refl
-verb_of-said text (orders.Move d) = refl
-verb_of-said text (orders.Sail d) = refl
-verb_of-said text (orders.Build kind) = refl
-verb_of-said text (orders.Teach units) = refl
-verb_of-said text (orders.Study skill) = refl
-verb_of-said text (orders.Produce item) = refl
-verb_of-said text orders.Work = refl
+use Rattle.atl_instant.specs.PhaseOrders.{unit_of, slot_number, is_slot, last_line, tasks_from}
+use Rattle.atl_instant.specs.OrderIndices.{Lines, line_in, with_line}
 
 -- the line of a unit in a slot, once a line is noted
 module _ (lines : Lines) (k u line : ℕ) where
@@ -82,15 +55,15 @@ module _ (lines : Lines) (k u line : ℕ) where
 
 module _ (slot : Slot) (aliases : Aliases) (faction : ℕ) (text : List ℕ) where
   abbrev rest_from : ℕ → List Entry → ℕ → ℕ
-  rest_from i es unit = last_line slot unit (tasks_from aliases faction i (map (entry_said text) (drop i es)))
+  rest_from i es unit = last_line slot unit (tasks_from aliases faction i (map (entry_value text) (drop i es)))
 
-  opened : (es : List Entry) (i : ℕ) (e : Entry) (in_slot : Option Slot) (unit : ℕ) → i < length es → e ≡ get_or es i e → slot_of (verb_of_order e.order) ≡ in_slot →
+  opened : (es : List Entry) (i : ℕ) (e : Entry) (in_slot : Option Slot) (unit : ℕ) → i < length es → e ≡ get_or es i e → (row_of e.order.verb).slot ≡ in_slot →
       rest_from i es unit ≡ max (if (unit_of aliases faction e.target == unit) && is_slot slot in_slot then e.line else 0) (rest_from (i + 1) es unit)
   opened es i e in_slot unit h is slot_is =
-      ap (λ ds. last_line slot unit (tasks_from aliases faction i (map (entry_said text) ds))) (next_of es i e h is)
-      ∙ ap (λ o. max (if (unit_of aliases faction e.target == unit) && is_slot slot o then e.line else 0) (rest_from (i + 1) es unit)) (ap slot_of (verb_of-said text e.order) ∙ slot_is)
+      ap (λ ds. last_line slot unit (tasks_from aliases faction i (map (entry_value text) ds))) (next_of es i e h is)
+      ∙ ap (λ o. max (if (unit_of aliases faction e.target == unit) && is_slot slot o then e.line else 0) (rest_from (i + 1) es unit)) slot_is
 
-  pub noted : (es : List Entry) (i : ℕ) (e : Entry) (lines : Lines) (other : Slot) (unit : ℕ) → i < length es → e ≡ get_or es i e → slot_of (verb_of_order e.order) ≡ Some other →
+  pub noted : (es : List Entry) (i : ℕ) (e : Entry) (lines : Lines) (other : Slot) (unit : ℕ) → i < length es → e ≡ get_or es i e → (row_of e.order.verb).slot ≡ Some other →
       max (line_in (with_line lines (slot_number other) (unit_of aliases faction e.target) e.line) (slot_number slot) unit) (rest_from (i + 1) es unit) ≡ max (line_in lines (slot_number slot) unit) (rest_from i es unit)
   noted es i e lines other unit h is b =
       noted_at lines (slot_number other) (unit_of aliases faction e.target) e.line (slot_number slot) unit (rest_from (i + 1) es unit)
@@ -100,7 +73,7 @@ module _ (slot : Slot) (aliases : Aliases) (faction : ℕ) (text : List ℕ) whe
   neither true line n = omega arith
   neither false line n = omega arith
 
-  pub passed : (es : List Entry) (i : ℕ) (e : Entry) (unit : ℕ) → i < length es → e ≡ get_or es i e → slot_of (verb_of_order e.order) ≡ None → rest_from (i + 1) es unit ≡ rest_from i es unit
+  pub passed : (es : List Entry) (i : ℕ) (e : Entry) (unit : ℕ) → i < length es → e ≡ get_or es i e → (row_of e.order.verb).slot ≡ None → rest_from (i + 1) es unit ≡ rest_from i es unit
   passed es i e unit h is b = sym (opened es i e None unit h is b ∙ neither (unit_of aliases faction e.target == unit) e.line (rest_from (i + 1) es unit))
 
 -- before the first line

@@ -7,7 +7,7 @@ use Rattle.std.proofs.lemmas.Bool.{cases_eq}
 use Rattle.std.proofs.lemmas.Bool.Decides.{nat_tests}
 use Rattle.atl_tables.specs.Sums.{changed, changed_at}
 use Rattle.atl_records.specs.declared.records.Structure.{Structure}
-use Rattle.atl_state.specs.Owners.{handed, is_owned_by}
+use Rattle.atl_state.specs.Owners.{after_handover, is_owned_by}
 use Rattle.atl_state.specs.Campaign.{CampaignValue, with_owner}
 use Rattle.atl_records.proofs.EveryLaws.{get-insert_other, other_number}
 use Rattle.atl_state.proofs.LeavingLaws.{owned_by}
@@ -80,23 +80,23 @@ module _ (c : CampaignValue) (k from to : ℕ) where
   unmoved q apart None = refl
   unmoved q apart (Some y) = ap (λ b. Some (if b && y.owner == from then owned_by to y else y)) (sym (other_number q k apart))
 
-  pub get-handed : (q : ℕ) → get (handed c k from to).structures q ≡ option_map (handed_on k from to q) (get c.structures q)
-  get-handed q = elim (cases_eq q k) [
+  pub get-after_handover : (q : ℕ) → get (after_handover c k from to).structures q ≡ option_map (handed_on k from to q) (get c.structures q)
+  get-after_handover q = elim (cases_eq q k) [
     | inl same ↦
-        ap (get (handed c k from to).structures) same ∙ here (get c.structures k) refl
+        ap (get (after_handover c k from to).structures) same ∙ here (get c.structures k) refl
         ∙ ap (λ j. option_map (handed_on k from to j) (get c.structures j)) (sym same)
     | inr apart ↦ else_by q apart (is_owned_by (get c.structures k) from) ∙ unmoved q apart (get c.structures q)
   ]
 
-  pub len-handed : len (handed c k from to).structures ≡ len c.structures
-  len-handed = by_test (is_owned_by (get c.structures k) from)
+  pub len-after_handover : len (after_handover c k from to).structures ≡ len c.structures
+  len-after_handover = by_test (is_owned_by (get c.structures k) from)
     where
       by_test : (b : Bool) → len (after b).structures ≡ len c.structures
       by_test true = len-changed (owned_by to) c.structures k
       by_test false = refl
 
   -- nothing but the structures changes
-  pub handed_is : handed c k from to ≡ record c { structures = (handed c k from to).structures }
+  pub handed_is : after_handover c k from to ≡ record c { structures = (after_handover c k from to).structures }
   handed_is = by_test (is_owned_by (get c.structures k) from)
     where
       by_test : (b : Bool) → after b ≡ record c { structures = (after b).structures }

@@ -8,8 +8,8 @@ use Rattle.std.specs.Ordering.{nat_cmp}
 use Rattle.std.specs.FinMap.{FinMap, get, keys}
 use Rattle.atl_tables.specs.Worlds.{WorldValue}
 use Rattle.atl_tables.proofs.GeneralLaws.{is_equal}
-use Rattle.atl_orders.specs.declared.order.Order.TheVariants as orders
-use Rattle.atl_orders.specs.Orders.{Said}
+use Rattle.atl_orders.specs.declared.order.Operands.TheVariants as operands
+use Rattle.atl_orders.specs.Orders.{OperandsValue}
 use Rattle.atl_records.specs.declared.books.Thing.{Thing}
 use Rattle.atl_records.specs.declared.books.Thing.TheVariants as things
 use Rattle.atl_records.specs.declared.event.EventFault.{EventFault}
@@ -18,24 +18,24 @@ use Rattle.atl_records.specs.declared.event.Outcome.TheVariants.{Done}
 use Rattle.atl_records.specs.declared.records.Unit.{Unit}
 use Rattle.atl_records.specs.Every.{Every}
 use Rattle.atl_state.specs.Good.{IsEarly}
-use Rattle.atl_records.specs.Held.{Held, amount_of}
+use Rattle.atl_records.specs.Holdings.{HoldingValue, amount_of}
 use Rattle.atl_state.specs.Lending.{with_held}
 use Rattle.atl_records.specs.Limits.{men_limit, most_days}
 use Rattle.atl_state.specs.Campaign.{CampaignValue}
-use Rattle.atl_records.specs.Amounts.{held}
+use Rattle.atl_records.specs.Amounts.{unit_amount}
 use Rattle.atl_instant.specs.Month.{Aliases}
 use Rattle.atl_instant.specs.Outcomes.{unless}
-use Rattle.atl_instant.specs.Staying.{IsNoWorse}
+use Rattle.atl_instant.specs.NoWorse.{IsNoWorse}
 use Rattle.atl_instant.specs.PhaseOrders.{Task, unit_of}
-use Rattle.atl_instant.specs.Steps.{IsOrderly, IsOwnOrder, IsSpared, IsUnitOf, StepsWell}
-use Rattle.atl_instant.specs.Transfer.{days_going, going_of, raised_of, sent, staying_of, transfer, transfer_fault, transfer_said, transfer_step, transfer_to, with_fewer, with_more}
+use Rattle.atl_instant.specs.OrderEffects.{IsOrderly, IsOwnOrder, IsUnaffected, IsUnitOf, StepsWell}
+use Rattle.atl_instant.specs.Transfer.{after_transfer, days_going, going_of, raised_of, staying_of, transfer, transfer_effect, transfer_fault, transfer_step, transfer_to, with_fewer, with_more}
 use Rattle.atl_instant.proofs.AmountsForLaws.{each_said}
 use Rattle.atl_instant.proofs.DaysLaws.{days_go_with_men, none_go}
 use Rattle.atl_state.proofs.HavingLaws.{MayHave, may_have}
 use Rattle.atl_instant.proofs.MovingLaws.{early-moved, moved, receiver_still, spared-moved, steps-moved}
 use Rattle.atl_instant.proofs.OutcomeLaws.{none_fits, not_apart, not_less, unless_itself}
-use Rattle.atl_instant.proofs.StayingLaws.{no_worse}
-use Rattle.atl_instant.proofs.StepLaws.{no_worse_spares, well_same}
+use Rattle.atl_instant.proofs.NoWorseLaws.{no_worse}
+use Rattle.atl_instant.proofs.OrderEffectLaws.{no_worse_spares, well_same}
 use Rattle.atl_instant.proofs.UnbookedLaws.{other_unit}
 
 -- what is so of two units where no fault fits
@@ -62,10 +62,10 @@ can_send n itself u v is =
     }
 
 -- two units, one after the other
-pub sent_is : (c d e : CampaignValue) (from to n : ℕ) (u v : Unit) (h k : Held) → to ≢ from → get c.units from ≡ Some u → get c.units to ≡ Some v
+pub sent_is : (c d e : CampaignValue) (from to n : ℕ) (u v : Unit) (h k : HoldingValue) → to ≢ from → get c.units from ≡ Some u → get c.units to ≡ Some v
     → h ≡ with_fewer n u.holding → k ≡ with_more n u.holding v.holding
     → d ≡ with_held c from h (Some u) → (get d.units to ≡ Some v → e ≡ with_held d to k (Some v))
-    → e ≡ sent c from to n (Some u) (Some v)
+    → e ≡ after_transfer c from to n (Some u) (Some v)
 sent_is c d e from to n u v h k apart sender receiver h_is k_is first second =
     let other : (to == from) ≡ false = grind (arith, nat_tests) in
     let still : get d.units to ≡ Some v = ap (λ (s : CampaignValue). get s.units to) first ∙ receiver_still c from to u v h k sender receiver apart in
@@ -126,17 +126,17 @@ rest_most n men days fewer some most =
 -- ---- what both may hold
 
 -- a skill of which there are days is known
-known_skill : (w : WorldValue) (h : Held) (s : ℕ) → MayHave w h → 1 ≤ amount_of h.days s → s < length w.skills
+known_skill : (w : WorldValue) (h : HoldingValue) (s : ℕ) → MayHave w h → 1 ≤ amount_of h.days s → s < length w.skills
 known_skill w h s may some = by_option (get h.days s) refl some
   where
     by_option : (o : Option ℕ) → get h.days s ≡ o → 1 ≤ unwrap_or o 0 → s < length w.skills
     by_option None there l = absurd (omega (arith, l))
     by_option (Some d) there l = may.skills s d there
 
-days_may : (w : WorldValue) (h : Held) (s : ℕ) → MayHave w h → amount_of h.days s ≤ most_days * h.men
+days_may : (w : WorldValue) (h : HoldingValue) (s : ℕ) → MayHave w h → amount_of h.days s ≤ most_days * h.men
 days_may w h s may = days_within h.days (most_days * h.men) s may.days
 
-pub may_have_fewer : (w : WorldValue) (n : ℕ) (h : Held) → n ≤ h.men → MayHave w h → MayHave w (with_fewer n h)
+pub may_have_fewer : (w : WorldValue) (n : ℕ) (h : HoldingValue) → n ≤ h.men → MayHave w h → MayHave w (with_fewer n h)
 may_have_fewer w n h fewer may = record {
   limits = record { men = omega (arith, may.limits.men); money = may.limits.money; items = may.limits.items };
   name = may.name;
@@ -150,7 +150,7 @@ may_have_fewer w n h fewer may = record {
     had : (a g d : ℕ) → d ≡ a - g → 1 ≤ d → 1 ≤ a
     had a g d is some = omega (arith, is, some)
 
-pub may_have_more : (w : WorldValue) (n : ℕ) (other h : Held) → h.men + n ≤ men_limit → MayHave w other → MayHave w h → MayHave w (with_more n other h)
+pub may_have_more : (w : WorldValue) (n : ℕ) (other h : HoldingValue) → h.men + n ≤ men_limit → MayHave w other → MayHave w h → MayHave w (with_more n other h)
 may_have_more w n other h room from may = record {
   limits = record { men = room; money = may.limits.money; items = may.limits.items };
   name = may.name;
@@ -181,14 +181,14 @@ may_have_more w n other h room from may = record {
         spread : (k s n : ℕ) → k * (s + n) ≡ k * s + k * n
         spread k s n = grind arith
 
-pub both_hold : (n : ℕ) (h k : Held) → n ≤ h.men → (t : Thing) → held t (with_fewer n h) + held t (with_more n h k) ≡ held t h + held t k
+pub both_hold : (n : ℕ) (h k : HoldingValue) → n ≤ h.men → (t : Thing) → unit_amount t (with_fewer n h) + unit_amount t (with_more n h k) ≡ unit_amount t h + unit_amount t k
 both_hold n h k l things.Money = refl
 both_hold n h k l things.People = omega (arith, l)
 both_hold n h k l (things.Item i) = refl
 
 -- ---- no worse off
 
-pub better_off : (n : ℕ) (other : Held) (v : Unit) → IsNoWorse v (record v { holding = with_more n other v.holding })
+pub better_off : (n : ℕ) (other : HoldingValue) (v : Unit) → IsNoWorse v (record v { holding = with_more n other v.holding })
 better_off n other v = record {
   faction = refl;
   region = refl;
@@ -240,26 +240,26 @@ module _ (w : WorldValue) (c : CampaignValue) (early : IsEarly w c) (from to n :
       (may_have_more w n u.holding v.holding (can.room refl) from_may (may_have w c to v receiver early.steady)) (λ g. g) early)
       (both_hold n u.holding v.holding can.enough))
 
-  transfer_spares : (k : ℕ) (x : Unit) → get c.units k ≡ Some x → k ≢ from → IsSpared IsNoWorse (transfer from to n c u).0 k x
+  transfer_spares : (k : ℕ) (x : Unit) → get c.units k ≡ Some x → k ≢ from → IsUnaffected IsNoWorse (transfer from to n c u).0 k x
   transfer_spares k x there other =
-      transfer_cases (λ d. IsSpared IsNoWorse d k x) c from to n u sender (record { unit = x; there = there; spared = no_worse x })
+      transfer_cases (λ d. IsUnaffected IsNoWorse d k x) c from to n u sender (record { unit = x; there = there; spared = no_worse x })
       (λ v receiver apart can. spared-moved c from to u v (with_fewer n u.holding) (with_more n u.holding v.holding) sender receiver apart (better_off n u.holding v) k x there other)
 
 -- ---- the phase
 
 pub transfer_orderly : IsOrderly transfer_step IsEarly (λ c e t. 0) (λ e t. 0) IsOwnOrder IsNoWorse
 transfer_orderly = record {
-  well = λ w a c t x early fit own. well w a c t x early own t.said;
+  well = λ w a c t x early fit own. well w a c t x early own t.order_value.operands;
   sparing = no_worse_spares;
-  spared = λ w a c t x early own n u there other. spared w a c t x early own n u there (other_unit c t x n u own there other) t.said;
+  spared = λ w a c t x early own n u there other. spared w a c t x early own n u there (other_unit c t x n u own there other) t.order_value.operands;
   bounded = λ w c early e t. omega arith;
 }
   where
-    well : (w : WorldValue) (a : Aliases) (c : CampaignValue) (t : Task) (x : Unit) → IsEarly w c → IsUnitOf c t x → (s : Said) → IfSome (transfer_said a t.faction t.unit s) (λ deed. StepsWell IsEarly (λ d e t. 0) w c (deed c x).0)
-    well w a c t x early own (orders.Transfer to n) = transfer_steps_well w c early t.unit (unit_of a t.faction to) n x own.there
+    well : (w : WorldValue) (a : Aliases) (c : CampaignValue) (t : Task) (x : Unit) → IsEarly w c → IsUnitOf c t x → (s : OperandsValue) → IfSome (transfer_effect a t.faction t.unit s) (λ deed. StepsWell IsEarly (λ d e t. 0) w c (deed c x).0)
+    well w a c t x early own (operands.UnitAndNumber to n) = transfer_steps_well w c early t.unit (unit_of a t.faction to) n x own.there
     well w a c t x early own other = tt
 
-    spared : (w : WorldValue) (a : Aliases) (c : CampaignValue) (t : Task) (x : Unit) → IsEarly w c → IsUnitOf c t x → (n : ℕ) (u : Unit) → get c.units n ≡ Some u → n ≢ t.unit → (s : Said)
-        → IfSome (transfer_said a t.faction t.unit s) (λ deed. IsSpared IsNoWorse (deed c x).0 n u)
-    spared w a c t x early own n u there apart (orders.Transfer to k) = transfer_spares w c early t.unit (unit_of a t.faction to) k x own.there n u there apart
+    spared : (w : WorldValue) (a : Aliases) (c : CampaignValue) (t : Task) (x : Unit) → IsEarly w c → IsUnitOf c t x → (n : ℕ) (u : Unit) → get c.units n ≡ Some u → n ≢ t.unit → (s : OperandsValue)
+        → IfSome (transfer_effect a t.faction t.unit s) (λ deed. IsUnaffected IsNoWorse (deed c x).0 n u)
+    spared w a c t x early own n u there apart (operands.UnitAndNumber to k) = transfer_spares w c early t.unit (unit_of a t.faction to) k x own.there n u there apart
     spared w a c t x early own n u there apart other = tt

@@ -11,15 +11,15 @@ use Rattle.atl_records.specs.declared.records.Unit.{Unit}
 use Rattle.atl_records.specs.Books.{amount_in, booked}
 use Rattle.atl_state.specs.Good.{IsEarly}
 use Rattle.atl_state.specs.Campaign.{CampaignValue}
-use Rattle.atl_records.specs.Amounts.{held, kept}
+use Rattle.atl_records.specs.Amounts.{region_amount, unit_amount}
 use Rattle.atl_state.specs.Totals.{total}
 use Rattle.atl_instant.specs.Meaning.{Condition, IsSameMonth}
 use Rattle.atl_instant.specs.PhaseOrders.{Task}
-use Rattle.atl_instant.specs.Staying.{IsNoWorse}
-use Rattle.atl_instant.specs.Steps.{Deed, IsOwnOrder, IsSpared, IsUnitOf, StepsWell}
+use Rattle.atl_instant.specs.NoWorse.{IsNoWorse}
+use Rattle.atl_instant.specs.OrderEffects.{IsOwnOrder, IsUnaffected, IsUnitOf, OrderEffect, StepsWell}
 use Rattle.atl_instant.specs.Unbooked.{books_nothing}
-use Rattle.atl_instant.proofs.StayingLaws.{no_worse}
-use Rattle.atl_instant.proofs.StepLaws.{not_drawn}
+use Rattle.atl_instant.proofs.NoWorseLaws.{no_worse}
+use Rattle.atl_instant.proofs.OrderEffectLaws.{not_drawn}
 
 -- where books and totals stay
 pub stays_well : (holds : Condition) (w : WorldValue) (c d : CampaignValue) → holds w d → IsSameMonth c d → d.books ≡ c.books → ((t : Thing) → total d t ≡ total c t) → StepsWell holds books_nothing w c d
@@ -37,8 +37,8 @@ unbooked_well = stays_well IsEarly
 pub same_total_of : (c d : CampaignValue) → d.units ≡ c.units → d.regions ≡ c.regions → (t : Thing) → total d t ≡ total c t
 unfolding total
 same_total_of c d units regions t =
-    let stock = λ (x : Unit). held t x.holding in
-    let keep = λ (r : Region). kept t r in
+    let stock = λ (x : Unit). unit_amount t x.holding in
+    let keep = λ (r : Region). region_amount t r in
     ap (λ m. sum_over stock m + sum_over keep d.regions) units ∙ ap (λ m. sum_over stock c.units + sum_over keep m) regions
 
 -- ---- the unit of an order
@@ -50,11 +50,11 @@ other_unit c t x k v own there apart same =
     apart (record { unit = sym same; faction = sym own.faction ∙ ap (λ (y : Unit). y.faction) unit })
 
 -- and stays, where no unit but that of the order changes
-pub other_spared : (c d : CampaignValue) (t : Task) (x : Unit) → ((k : ℕ) → k ≢ t.unit → get d.units k ≡ get c.units k) → IsUnitOf c t x → (k : ℕ) (v : Unit) → get c.units k ≡ Some v → (IsOwnOrder t k v.faction → ⊥) → IsSpared IsNoWorse d k v
+pub other_spared : (c d : CampaignValue) (t : Task) (x : Unit) → ((k : ℕ) → k ≢ t.unit → get d.units k ≡ get c.units k) → IsUnitOf c t x → (k : ℕ) (v : Unit) → get c.units k ≡ Some v → (IsOwnOrder t k v.faction → ⊥) → IsUnaffected IsNoWorse d k v
 other_spared c d t x stay own k v there apart = record { unit = v; there = stay k (other_unit c t x k v own there apart) ∙ there; spared = no_worse v }
 
 -- and so behind an order by which no other unit changes
-pub stays_spared : (step : Option Deed) (c : CampaignValue) (t : Task) (x : Unit) → IsUnitOf c t x → (k : ℕ) (v : Unit) → get c.units k ≡ Some v → (IsOwnOrder t k v.faction → ⊥)
-    → ((j : ℕ) → j ≢ t.unit → IfSome step (λ deed. get (deed c x).0.units j ≡ get c.units j)) → IfSome step (λ deed. IsSpared IsNoWorse (deed c x).0 k v)
+pub stays_spared : (step : Option OrderEffect) (c : CampaignValue) (t : Task) (x : Unit) → IsUnitOf c t x → (k : ℕ) (v : Unit) → get c.units k ≡ Some v → (IsOwnOrder t k v.faction → ⊥)
+    → ((j : ℕ) → j ≢ t.unit → IfSome step (λ deed. get (deed c x).0.units j ≡ get c.units j)) → IfSome step (λ deed. IsUnaffected IsNoWorse (deed c x).0 k v)
 stays_spared None c t x own k v there apart stay = tt
 stays_spared (Some deed) c t x own k v there apart stay = other_spared c (deed c x).0 t x stay own k v there apart

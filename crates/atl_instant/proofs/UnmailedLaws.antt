@@ -17,34 +17,34 @@ use Rattle.atl_records.specs.declared.event.EventFault.{EventFault}
 use Rattle.atl_records.specs.declared.event.Outcome.{Outcome}
 use Rattle.atl_records.specs.declared.records.Unit.{Unit}
 use Rattle.atl_records.specs.Every.{Every}
-use Rattle.atl_records.specs.Held.{amount_of}
+use Rattle.atl_records.specs.Holdings.{amount_of}
 use Rattle.atl_state.specs.Campaign.{CampaignValue}
 use Rattle.atl_records.proofs.EveryLaws.{get-insert_other, none_some}
 use Rattle.atl_state.proofs.RegionLaws.{get-insert_same}
 use Rattle.atl_instant.specs.Month.{Aliases, MonthValue}
-use Rattle.atl_instant.specs.Meaning.{Keeping, Meaning, both_keep, then_also}
+use Rattle.atl_instant.specs.Meaning.{Frame, Meaning, both_keep, then_also}
 use Rattle.atl_instant.specs.Outcomes.{unless}
 use Rattle.atl_instant.specs.PhaseOrders.{Task, orders_of}
-use Rattle.atl_instant.specs.Staying.{IsNoWorse}
-use Rattle.atl_instant.specs.Steps.{Concern, IsOwnOrder, IsSpared, IsUnitOf, Sparing, Step, carried_out, one_order, ordered, spares_others, told, with_told}
-use Rattle.atl_instant.specs.Unmailed.{IsLeft, IsLessBy, starved_in, starved_told}
-use Rattle.atl_instant.specs.declared.written.Arrangement.{Arrangement}
-use Rattle.atl_instant.specs.declared.written.Arrangement.TheVariants.{ByUnit}
-use Rattle.atl_instant.proofs.StepLaws.{order_readings, ordered_cases}
+use Rattle.atl_instant.specs.NoWorse.{IsNoWorse}
+use Rattle.atl_instant.specs.OrderEffects.{Affects, IsOwnOrder, IsUnaffected, IsUnitOf, OrderMeaning, Unaffected, event_for, meaning_by_orders, one_order, order_result, spares_others, with_event_of}
+use Rattle.atl_instant.specs.Unmailed.{IsLeft, IsLessBy, men_starved_by, starved_in}
+use Rattle.atl_instant.specs.declared.phase_order.Arrangement.{Arrangement}
+use Rattle.atl_instant.specs.declared.phase_order.Arrangement.TheVariants.{ByUnit}
+use Rattle.atl_instant.proofs.OrderEffectLaws.{order_readings, ordered_cases}
 use Rattle.atl_instant.proofs.StructureLaws.{at_number, get-changed}
-use Rattle.atl_instant.proofs.WrittenLaws.{orders_are_in_mailings}
+use Rattle.atl_instant.proofs.PhaseOrderLaws.{orders_are_in_mailings}
 
 -- ---- phases one after the other
 
 -- A phase keeps the mailings and takes back no event, and a unit whose faction sent no mailing stays, but for the men who starve in it.
-pub record LeavesUnmailed (meaning : Meaning) (keeps : Keeping) : Type 0 where
+pub record LeavesUnmailed (meaning : Meaning) (keeps : Frame) : Type 0 where
   pub readings : (w : WorldValue) (c : CampaignValue) (m : MonthValue) → (meaning w c m).1.readings ≡ m.readings
   pub told : (w : WorldValue) (c : CampaignValue) (m : MonthValue) (n : ℕ) → starved_in m.events n ≤ starved_in (meaning w c m).1.events n
   pub left : (w : WorldValue) (c : CampaignValue) (m : MonthValue) → keeps w m c (meaning w c m).0 →
-      Every (λ n u. get m.readings u.faction ≡ None → IsSpared (IsLessBy (starved_in (meaning w c m).1.events n - starved_in m.events n)) (meaning w c m).0 n u) c.units
+      Every (λ n u. get m.readings u.faction ≡ None → IsUnaffected (IsLessBy (starved_in (meaning w c m).1.events n - starved_in m.events n)) (meaning w c m).0 n u) c.units
 
 -- the same of phases behind which a unit may be gone whose men starved
-pub record ClosesUnmailed (meaning : Meaning) (keeps : Keeping) : Type 0 where
+pub record ClosesUnmailed (meaning : Meaning) (keeps : Frame) : Type 0 where
   pub told : (w : WorldValue) (c : CampaignValue) (m : MonthValue) (n : ℕ) → starved_in m.events n ≤ starved_in (meaning w c m).1.events n
   pub left : (w : WorldValue) (c : CampaignValue) (m : MonthValue) → keeps w m c (meaning w c m).0 →
       Every (λ n u. get m.readings u.faction ≡ None → IsLeft (starved_in (meaning w c m).1.events n - starved_in m.events n) (meaning w c m).0 n u) c.units
@@ -63,10 +63,10 @@ less_twice x y z u v t l k one two = record {
 some_left : (x y z a b : ℕ) → x ≤ y → y ≤ z → b ≡ a - (y - x) → z - x < a → z - y < b
 some_left x y z a b l k e some = omega arith
 
-still_none : {first : Meaning} {early : Keeping} → LeavesUnmailed first early → (w : WorldValue) (c : CampaignValue) (m : MonthValue) (f g : ℕ) → g ≡ f → get m.readings f ≡ None → get (first w c m).1.readings g ≡ None
+still_none : {first : Meaning} {early : Frame} → LeavesUnmailed first early → (w : WorldValue) (c : CampaignValue) (m : MonthValue) (f g : ℕ) → g ≡ f → get m.readings f ≡ None → get (first w c m).1.readings g ≡ None
 still_none one w c m f g same none = ap (λ (r : FinMap nat_cmp Reading). get r g) (one.readings w c m) ∙ ap (get m.readings) same ∙ none
 
-module _ {first second : Meaning} {early late : Keeping} where
+module _ {first second : Meaning} {early late : Frame} where
   pub both_leave : LeavesUnmailed first early → LeavesUnmailed second late → LeavesUnmailed (then_also first second) (both_keep first early late)
   both_leave one two = record {
     readings = λ w c m. two.readings w (first w c m).0 (first w c m).1 ∙ one.readings w c m;
@@ -100,7 +100,7 @@ pub record HasItsMen (before after : Unit) : Type 0 where
 
 -- each unit has
 abbrev pub HaveTheirMen : CampaignValue → CampaignValue → Type 0
-HaveTheirMen before after = Every (λ n u. IsSpared HasItsMen after n u) before.units
+HaveTheirMen before after = Every (λ n u. IsUnaffected HasItsMen after n u) before.units
 
 pub men_stay : (c : CampaignValue) → HaveTheirMen c c
 men_stay c n u there = record { unit = u; there = there; spared = record { faction = refl; men = refl } }
@@ -152,8 +152,8 @@ pub items_of_no_worse : (u v : Unit) → IsNoWorse u v → HasItsItems u v
 items_of_no_worse u v h = record { name = h.name; items = h.items }
 
 -- what is so of each unit whose faction sent no mailing
-abbrev pub UnmailedAre : Sparing → MonthValue → CampaignValue → CampaignValue → Type 0
-UnmailedAre spares m before after = Every (λ n u. get m.readings u.faction ≡ None → IsSpared spares after n u) before.units
+abbrev pub UnmailedAre : Unaffected → MonthValue → CampaignValue → CampaignValue → Type 0
+UnmailedAre spares m before after = Every (λ n u. get m.readings u.faction ≡ None → IsUnaffected spares after n u) before.units
 
 whole : (x y : ℕ) (u v : Unit) → y ≡ x → HasItsMen u v → HasItsItems u v → IsLessBy (y - x) u v
 whole x y u v same men items = record { faction = men.faction; name = items.name; men = nobody u.holding.men v.holding.men men.men; items = items.items }
@@ -161,7 +161,7 @@ whole x y u v same men items = record { faction = men.faction; name = items.name
     nobody : (a b : ℕ) → b ≡ a → b ≡ a - (y - x)
     nobody a b e = omega (arith, same)
 
-module _ {meaning : Meaning} {keeps : Keeping} (readings : (w : WorldValue) (c : CampaignValue) (m : MonthValue) → (meaning w c m).1.readings ≡ m.readings)
+module _ {meaning : Meaning} {keeps : Frame} (readings : (w : WorldValue) (c : CampaignValue) (m : MonthValue) → (meaning w c m).1.readings ≡ m.readings)
     (nobody : (w : WorldValue) (c : CampaignValue) (m : MonthValue) (n : ℕ) → starved_in (meaning w c m).1.events n ≡ starved_in m.events n)
     (men : (w : WorldValue) (c : CampaignValue) (m : MonthValue) → keeps w m c (meaning w c m).0 → UnmailedAre HasItsMen m c (meaning w c m).0)
     (items : (w : WorldValue) (c : CampaignValue) (m : MonthValue) → keeps w m c (meaning w c m).0 → UnmailedAre HasItsItems m c (meaning w c m).0) where
@@ -185,9 +185,9 @@ none_ordered is_of arrangement m f none k d l same =
     none_some h.reading (sym none ∙ ap (get m.readings) (sym same) ∙ h.of_faction)
 
 -- what came of an order tells of nobody who starved
-pub told_of_order : (events : List Event) (t : Task) (outcome : Outcome) (n : ℕ) → starved_in (events ++ told t outcome ∷ []) n ≡ starved_in events n
+pub told_of_order : (events : List Event) (t : Task) (outcome : Outcome) (n : ℕ) → starved_in (events ++ event_for t outcome ∷ []) n ≡ starved_in events n
 told_of_order events t outcome n =
-    sum_by_push (λ (e : Event). if e.unit == n then starved_told e.verb e.outcome else 0) events (told t outcome) ∙ by_unit (t.unit == n) (starved_in events n)
+    sum_by_push (λ (e : Event). if e.unit == n then men_starved_by e.verb e.outcome else 0) events (event_for t outcome) ∙ by_unit (t.unit == n) (starved_in events n)
   where
     by_unit : (b : Bool) (x : ℕ) → x + (if b then 0 else 0) ≡ x
     by_unit true x = omega arith
@@ -195,20 +195,20 @@ told_of_order events t outcome n =
 
 -- units of other factions than this one have their men
 abbrev pub OthersHaveMen : (faction : ℕ) → CampaignValue → CampaignValue → Type 0
-OthersHaveMen f c d = Every (λ n u. f ≢ u.faction → IsSpared HasItsMen d n u) c.units
+OthersHaveMen f c d = Every (λ n u. f ≢ u.faction → IsUnaffected HasItsMen d n u) c.units
 
 pub others_men : (f : ℕ) (c d : CampaignValue) → HaveTheirMen c d → OthersHaveMen f c d
 others_men f c d men n u there other = men n u there
 
 -- behind an order each unit of another faction than the one that wrote it has its men
-abbrev pub SparesMen : Step → Type 0
+abbrev pub SparesMen : OrderMeaning → Type 0
 SparesMen step = (w : WorldValue) (a : Aliases) (c : CampaignValue) (t : Task) (x : Unit) → IsUnitOf c t x → IfSome (step w a t) (λ deed. OthersHaveMen t.faction c (deed c x).0)
 
-module _ (step : Step) where
-  order_spares : SparesMen step → (w : WorldValue) (a : Aliases) (c : CampaignValue) (t : Task) → OthersHaveMen t.faction c (ordered (step w a t) c t.faction t.unit).0
+module _ (step : OrderMeaning) where
+  order_spares : SparesMen step → (w : WorldValue) (a : Aliases) (c : CampaignValue) (t : Task) → OthersHaveMen t.faction c (order_result (step w a t) c t.faction t.unit).0
   order_spares spares w a c t = ordered_cases (OthersHaveMen t.faction c) (step w a t) c t (others_men t.faction c c (men_stay c)) (λ x own. spares w a c t x own)
 
-  orders_spare : SparesMen step → (w : WorldValue) (c : CampaignValue) (m : MonthValue) (ts : List Task) → (n : ℕ) (u : Unit) → get c.units n ≡ Some u → AllByRecursion (λ t. t.faction ≢ u.faction) ts → IsSpared HasItsMen (fold (one_order step w) (c, m) ts).0 n u
+  orders_spare : SparesMen step → (w : WorldValue) (c : CampaignValue) (m : MonthValue) (ts : List Task) → (n : ℕ) (u : Unit) → get c.units n ≡ Some u → AllByRecursion (λ t. t.faction ≢ u.faction) ts → IsUnaffected HasItsMen (fold (one_order step w) (c, m) ts).0 n u
   orders_spare spares w c m [] n u there others = men_stay c n u there
   orders_spare spares w c m (t ∷ ts) n u there others =
       let next = one_order step w (c, m) t in
@@ -221,9 +221,9 @@ module _ (step : Step) where
   orders_readings w p (t ∷ ts) = orders_readings w (one_order step w p t) ts ∙ order_readings step w p t
 
   order_told : (w : WorldValue) (p : CampaignValue × MonthValue) (t : Task) (n : ℕ) → starved_in (one_order step w p t).1.events n ≡ starved_in p.1.events n
-  order_told w p t n = by_outcome (ordered (step w p.1.aliases t) p.0 t.faction t.unit).1
+  order_told w p t n = by_outcome (order_result (step w p.1.aliases t) p.0 t.faction t.unit).1
     where
-      by_outcome : (o : Option Outcome) → starved_in (with_told p.1 t o).events n ≡ starved_in p.1.events n
+      by_outcome : (o : Option Outcome) → starved_in (with_event_of p.1 t o).events n ≡ starved_in p.1.events n
       by_outcome None = refl
       by_outcome (Some outcome) = told_of_order p.1.events t outcome n
 
@@ -232,30 +232,30 @@ module _ (step : Step) where
   orders_told w p (t ∷ ts) n = orders_told w (one_order step w p t) ts n ∙ order_told w p t n
 
   module _ (is_of : Verb → Bool) where
-    pub carried_readings : (w : WorldValue) (c : CampaignValue) (m : MonthValue) → (carried_out step is_of w c m).1.readings ≡ m.readings
-    unfolding carried_out
+    pub carried_readings : (w : WorldValue) (c : CampaignValue) (m : MonthValue) → (meaning_by_orders step is_of w c m).1.readings ≡ m.readings
+    unfolding meaning_by_orders
     carried_readings w c m = orders_readings w (c, m) (values (orders_of is_of ByUnit m.aliases m.readings))
 
-    pub carried_told : (w : WorldValue) (c : CampaignValue) (m : MonthValue) (n : ℕ) → starved_in (carried_out step is_of w c m).1.events n ≡ starved_in m.events n
-    unfolding carried_out
+    pub carried_told : (w : WorldValue) (c : CampaignValue) (m : MonthValue) (n : ℕ) → starved_in (meaning_by_orders step is_of w c m).1.events n ≡ starved_in m.events n
+    unfolding meaning_by_orders
     carried_told w c m n = orders_told w (c, m) (values (orders_of is_of ByUnit m.aliases m.readings)) n
 
-    pub carried_men : SparesMen step → (w : WorldValue) (c : CampaignValue) (m : MonthValue) → UnmailedAre HasItsMen m c (carried_out step is_of w c m).0
-    unfolding carried_out
+    pub carried_men : SparesMen step → (w : WorldValue) (c : CampaignValue) (m : MonthValue) → UnmailedAre HasItsMen m c (meaning_by_orders step is_of w c m).0
+    unfolding meaning_by_orders
     carried_men spares w c m n u there none =
         let ts = values (orders_of is_of ByUnit m.aliases m.readings) in
         orders_spare spares w c m ts n u there (recursion_from_All (λ t. t.faction ≢ u.faction) ts (none_ordered is_of ByUnit m u.faction none))
 
-    pub carried_leaves : {keeps : Keeping} → SparesMen step → ((w : WorldValue) (c d : CampaignValue) (m : MonthValue) → keeps w m c d → UnmailedAre HasItsItems m c d) → LeavesUnmailed (carried_out step is_of) keeps
+    pub carried_leaves : {keeps : Frame} → SparesMen step → ((w : WorldValue) (c d : CampaignValue) (m : MonthValue) → keeps w m c d → UnmailedAre HasItsItems m c d) → LeavesUnmailed (meaning_by_orders step is_of) keeps
     carried_leaves {keeps} spares items =
-        whole_leaves {meaning = carried_out step is_of} {keeps = keeps} carried_readings carried_told
-        (λ w c m h. carried_men spares w c m) (λ w c m h. items w c (carried_out step is_of w c m).0 m h)
+        whole_leaves {meaning = meaning_by_orders step is_of} {keeps = keeps} carried_readings carried_told
+        (λ w c m h. carried_men spares w c m) (λ w c m h. items w c (meaning_by_orders step is_of w c m).0 m h)
 
 pub own_faction : (t : Task) (n f : ℕ) → IsOwnOrder t n f → t.faction ≡ f
 own_faction t n f h = h.faction
 
 -- a phase that spares those whom no order of it concerns spares them, where only orders of its own faction concern a unit
-pub unmailed_spared : {concerns : Concern} {spares : Sparing} (is_of : Verb → Bool) → ((t : Task) (n f : ℕ) → concerns t n f → t.faction ≡ f) → ((u v : Unit) → spares u v → HasItsItems u v)
+pub unmailed_spared : {concerns : Affects} {spares : Unaffected} (is_of : Verb → Bool) → ((t : Task) (n f : ℕ) → concerns t n f → t.faction ≡ f) → ((u v : Unit) → spares u v → HasItsItems u v)
     → (w : WorldValue) (c d : CampaignValue) (m : MonthValue) → spares_others concerns spares is_of w m c d → UnmailedAre HasItsItems m c d
 unmailed_spared {concerns} {spares} is_of own items w c d m h n u there none =
     let others = none_ordered is_of ByUnit m u.faction none in

@@ -6,37 +6,37 @@ use Rattle.atl_tables.specs.Worlds.{WorldValue}
 use Rattle.atl_tables.proofs.GeneralLaws.{is_equal}
 use Rattle.atl_orders.specs.declared.order.NameKind.{NameKind}
 use Rattle.atl_orders.specs.declared.order.NameKind.TheVariants as kinds
-use Rattle.atl_orders.specs.declared.order.Order.TheVariants as orders
-use Rattle.atl_orders.specs.Orders.{Said}
+use Rattle.atl_orders.specs.declared.order.Operands.TheVariants as operands
+use Rattle.atl_orders.specs.Orders.{OperandsValue}
 use Rattle.atl_records.specs.declared.event.EventFault.{EventFault}
 use Rattle.atl_records.specs.declared.event.Outcome.TheVariants.{Done}
 use Rattle.atl_records.specs.declared.records.Unit.{Unit}
-use Rattle.atl_records.specs.Held.{Held}
+use Rattle.atl_records.specs.Holdings.{HoldingValue}
 use Rattle.atl_state.specs.Lending.{with_held}
-use Rattle.atl_state.specs.Owners.{handed, heir, placed, with_place, with_place_at}
+use Rattle.atl_state.specs.Owners.{after_handover, heir, placed, with_place, with_place_at}
 use Rattle.atl_state.specs.Campaign.{CampaignValue, numbers_of, with_guard, with_owner, with_structure_name}
 use Rattle.atl_records.proofs.EveryLaws.{get-insert_other}
 use Rattle.atl_state.proofs.NumberListLaws.{IsListed, listed_passing}
 use Rattle.atl_instant.specs.Month.{Aliases, MonthValue}
 use Rattle.atl_instant.specs.Form.{form_by, form_keeps, form_meaning, form_order, is_forming}
-use Rattle.atl_instant.specs.Give.{give, give_said, give_step, give_terms, held_of, is_giving, with_held_of}
-use Rattle.atl_instant.specs.Guard.{guard, guard_concerns, guard_fault, guard_said, guard_step, guard_terms, is_guarding}
-use Rattle.atl_instant.specs.Name.{is_naming, name_concerns, name_said, name_step, name_terms, named, names}
+use Rattle.atl_instant.specs.Give.{give, give_effect, give_spec, give_step, held_of, is_giving, with_held_of}
+use Rattle.atl_instant.specs.Guard.{guard, guard_concerns, guard_effect, guard_fault, guard_spec, guard_step, is_guarding}
+use Rattle.atl_instant.specs.Name.{is_naming, name_concerns, name_effect, name_result, name_spec, name_step, naming}
 use Rattle.atl_instant.specs.Outcomes.{unless}
-use Rattle.atl_instant.specs.Place.{enter_fault, entered, entered_other, is_placing, leave_fault, left, place_said, place_step, place_terms, promote_fault, promoted}
+use Rattle.atl_instant.specs.Place.{enter, enter_fault, is_placing, leave, leave_fault, place_effect, place_spec, place_step, promote, promote_fault, with_unit_inside}
 use Rattle.atl_instant.specs.PhaseOrders.{Task, orders_of, unit_of}
-use Rattle.atl_instant.specs.Quit.{QuitsFrom, is_quitting, left_at, quit, quit_fault, quit_keeps, quit_meaning, quit_said, quit_step}
-use Rattle.atl_instant.specs.Steps.{IsSpared, IsUnitOf}
-use Rattle.atl_instant.specs.Transfer.{is_transferring, transfer, transfer_said, transfer_step, transfer_terms, with_fewer, with_more}
+use Rattle.atl_instant.specs.Quit.{QuitsFrom, after_leaving, is_quitting, quit, quit_effect, quit_fault, quit_keeps, quit_meaning, quit_step}
+use Rattle.atl_instant.specs.OrderEffects.{IsUnaffected, IsUnitOf}
+use Rattle.atl_instant.specs.Transfer.{is_transferring, transfer, transfer_effect, transfer_spec, transfer_step, with_fewer, with_more}
 use Rattle.atl_instant.specs.Unmailed.{starved_in}
 use Rattle.atl_instant.specs.declared.give.Gift.{Gift}
 use Rattle.atl_instant.specs.declared.give.Gift.TheVariants.{Item, Money}
-use Rattle.atl_instant.specs.declared.written.Arrangement.TheVariants.{ByFaction}
+use Rattle.atl_instant.specs.declared.phase_order.Arrangement.TheVariants.{ByFaction}
 use Rattle.atl_instant.proofs.GiveLaws.{give_cases}
 use Rattle.atl_instant.proofs.MovingLaws.{moved, receiver_still}
 use Rattle.atl_instant.proofs.QuitLaws.{all_left_others}
 use Rattle.atl_instant.proofs.StructureLaws.{handed_is}
-use Rattle.atl_instant.proofs.TermsLaws.{Leaves}
+use Rattle.atl_instant.proofs.PhaseSpecLaws.{Leaves}
 use Rattle.atl_instant.proofs.TransferLaws.{transfer_cases}
 use Rattle.atl_instant.proofs.UnmailedLaws.{HasItsMen, HaveTheirMen, LeavesUnmailed, OthersHaveMen, SparesMen, carried_leaves, items_of_no_worse, men_changed, men_put, men_same, men_stay, men_twice, men_unless, others_men, own_faction, told_of_order, unmailed_spared, whole_leaves}
 
@@ -67,27 +67,27 @@ flag_men flag u = record { faction = refl; men = refl }
 pub guard_men : (c : CampaignValue) (n : ℕ) (flag : Bool) → HaveTheirMen c (with_guard c n flag)
 guard_men c n flag = men_changed (λ u. record u { holding = record u.holding { guard = flag } }) (flag_men flag) c (with_guard c n flag) n refl
 
-named_men : (w : WorldValue) (c : CampaignValue) (n f s : ℕ) (what : NameKind) (name : List ℕ) → HaveTheirMen c (named w c n f s what name).0
-named_men w c n f s kinds.Unit name = men_changed (λ u. record u { holding = record u.holding { name = name } }) (λ u. record { faction = refl; men = refl }) c (named w c n f s kinds.Unit name).0 n refl
-named_men w c n f s kinds.Faction name = men_same c (named w c n f s kinds.Faction name).0 refl
+named_men : (w : WorldValue) (c : CampaignValue) (n f s : ℕ) (what : NameKind) (name : List ℕ) → HaveTheirMen c (name_result w c n f s what name).0
+named_men w c n f s kinds.Unit name = men_changed (λ u. record u { holding = record u.holding { name = name } }) (λ u. record { faction = refl; men = refl }) c (name_result w c n f s kinds.Unit name).0 n refl
+named_men w c n f s kinds.Faction name = men_same c (name_result w c n f s kinds.Faction name).0 refl
 named_men w c n f s kinds.Building name = men_unless c (with_structure_name c s name) (Done 0) _ (men_same c (with_structure_name c s name) refl)
 named_men w c n f s kinds.Ship name = men_unless c (with_structure_name c s name) (Done 0) _ (men_same c (with_structure_name c s name) refl)
 
-name_men : (w : WorldValue) (c : CampaignValue) (f n : ℕ) (x : Unit) (o : Said) → IfSome (name_said w n o) (λ deed. OthersHaveMen f c (deed c x).0)
-name_men w c f n x (orders.Name what name) = others_men f c (names w n what name c x).0 (named_men w c n x.faction x.structure what name)
-name_men w c f n x (orders.Guard false) = others_men f c (with_guard c n false) (guard_men c n false)
+name_men : (w : WorldValue) (c : CampaignValue) (f n : ℕ) (x : Unit) (o : OperandsValue) → IfSome (name_effect w n o) (λ deed. OthersHaveMen f c (deed c x).0)
+name_men w c f n x (operands.Name what name) = others_men f c (naming w n what name c x).0 (named_men w c n x.faction x.structure what name)
+name_men w c f n x (operands.Flag false) = others_men f c (with_guard c n false) (guard_men c n false)
 name_men w c f n x other = tt
 
 name_spares : SparesMen name_step
-name_spares w a c t x own = name_men w c t.faction t.unit x t.said
+name_spares w a c t x own = name_men w c t.faction t.unit x t.order_value.operands
 
-pub name_leaves : Leaves name_terms
+pub name_leaves : Leaves name_spec
 name_leaves = carried_leaves name_step is_naming name_spares (unmailed_spared {concerns = name_concerns} is_naming (λ t n f h. own_faction t n f h.0) items_of_no_worse)
 
 -- ---- LEAVE, ENTER and PROMOTE
 
-handed_men : (c : CampaignValue) (s from to : ℕ) → HaveTheirMen c (handed c s from to)
-handed_men c s from to = men_same c (handed c s from to) (ap (λ (d : CampaignValue). d.units) (handed_is c s from to))
+handed_men : (c : CampaignValue) (s from to : ℕ) → HaveTheirMen c (after_handover c s from to)
+handed_men c s from to = men_same c (after_handover c s from to) (ap (λ (d : CampaignValue). d.units) (handed_is c s from to))
 
 -- a unit goes to another place
 pub place_men : (c : CampaignValue) (n r s : ℕ) → HaveTheirMen c (with_place c n r s)
@@ -100,11 +100,11 @@ place_men c n r s = by_unit (get c.units n)
     put : HaveTheirMen c there
     put = men_changed (λ u. record u { region = r; structure = s }) (λ u. record { faction = refl; men = refl }) c there n refl
 
-    by_test : (u : Unit) (b : Bool) → HaveTheirMen c (if b then placed c n r s else handed (handed (placed c n r s) u.structure n (heir c u.structure n)) s 0 n)
+    by_test : (u : Unit) (b : Bool) → HaveTheirMen c (if b then placed c n r s else after_handover (after_handover (placed c n r s) u.structure n (heir c u.structure n)) s 0 n)
     by_test u true = put
     by_test u false =
-        let out = handed there u.structure n (heir c u.structure n) in
-        men_twice c there (handed out s 0 n) put (men_twice there out (handed out s 0 n) (handed_men there u.structure n (heir c u.structure n)) (handed_men out s 0 n))
+        let out = after_handover there u.structure n (heir c u.structure n) in
+        men_twice c there (after_handover out s 0 n) put (men_twice there out (after_handover out s 0 n) (handed_men there u.structure n (heir c u.structure n)) (handed_men out s 0 n))
 
     by_unit : (o : Option Unit) → HaveTheirMen c (with_place_at c n r s o)
     by_unit None = men_stay c
@@ -114,20 +114,20 @@ entered_men : (c : CampaignValue) (n region s : ℕ) (b : Bool) → HaveTheirMen
 entered_men c n region s true = men_stay c
 entered_men c n region s false = place_men c n region s
 
-places_men : (w : WorldValue) (a : Aliases) (c : CampaignValue) (f n : ℕ) (x : Unit) (o : Said) → IfSome (place_said w a f n o) (λ deed. OthersHaveMen f c (deed c x).0)
-unfolding left entered promoted
-places_men w a c f n x orders.Leave = others_men f c (left w n c x).0 (men_unless c (with_place c n x.region 0) (Done 0) (leave_fault w x) (place_men c n x.region 0))
-places_men w a c f n x (orders.Enter s) =
-    others_men f c (entered n s c x).0 (men_unless c (entered_other c n x.region x.structure s) (Done 0) (enter_fault c s x) (entered_men c n x.region s (x.structure == s)))
-places_men w a c f n x (orders.Promote to) =
+places_men : (w : WorldValue) (a : Aliases) (c : CampaignValue) (f n : ℕ) (x : Unit) (o : OperandsValue) → IfSome (place_effect w a f n o) (λ deed. OthersHaveMen f c (deed c x).0)
+unfolding leave enter promote
+places_men w a c f n x operands.Nothing = others_men f c (leave w n c x).0 (men_unless c (with_place c n x.region 0) (Done 0) (leave_fault w x) (place_men c n x.region 0))
+places_men w a c f n x (operands.Number s) =
+    others_men f c (enter n s c x).0 (men_unless c (with_unit_inside c n x.region x.structure s) (Done 0) (enter_fault c s x) (entered_men c n x.region s (x.structure == s)))
+places_men w a c f n x (operands.Unit to) =
     let owned = with_owner c x.structure (unit_of a f to) in
-    others_men f c (promoted n (unit_of a f to) c x).0 (men_unless c owned (Done 0) (promote_fault c n (unit_of a f to) x) (men_same c owned refl))
+    others_men f c (promote n (unit_of a f to) c x).0 (men_unless c owned (Done 0) (promote_fault c n (unit_of a f to) x) (men_same c owned refl))
 places_men w a c f n x other = tt
 
 place_spares : SparesMen place_step
-place_spares w a c t x own = places_men w a c t.faction t.unit x t.said
+place_spares w a c t x own = places_men w a c t.faction t.unit x t.order_value.operands
 
-pub place_leaves : Leaves place_terms
+pub place_leaves : Leaves place_spec
 place_leaves = carried_leaves place_step is_placing place_spares (unmailed_spared is_placing own_faction items_of_no_worse)
 
 -- ---- GIVE and PAY
@@ -137,7 +137,7 @@ gift_men Money v n = record { faction = refl; men = refl }
 gift_men (Item i) v n = record { faction = refl; men = refl }
 
 -- what goes from one unit to another, of whom both keep their men
-men_moved : (c : CampaignValue) (from to : ℕ) (u v : Unit) (h k : Held) (giver : get c.units from ≡ Some u) (receiver : get c.units to ≡ Some v) (apart : to ≢ from)
+men_moved : (c : CampaignValue) (from to : ℕ) (u v : Unit) (h k : HoldingValue) (giver : get c.units from ≡ Some u) (receiver : get c.units to ≡ Some v) (apart : to ≢ from)
     → HasItsMen u (record u { holding = h }) → HasItsMen v (record v { holding = k }) → HaveTheirMen c (moved c from to u v h k giver receiver apart)
 men_moved c from to u v h k giver receiver apart one two =
     let between = with_held c from h (Some u) in
@@ -151,15 +151,15 @@ give_men c from to gift n u giver =
     men_moved c from to u v (with_held_of gift u.holding (held_of gift u.holding - n)) (with_held_of gift v.holding (held_of gift v.holding + n)) giver receiver apart
     (gift_men gift u (held_of gift u.holding - n)) (gift_men gift v (held_of gift v.holding + n)))
 
-given_men : (a : Aliases) (c : CampaignValue) (f from : ℕ) (x : Unit) → get c.units from ≡ Some x → (o : Said) → IfSome (give_said a f from o) (λ deed. OthersHaveMen f c (deed c x).0)
-given_men a c f from x here (orders.Give to n item) = others_men f c (give from (unit_of a f to) (Item item) n c x).0 (give_men c from (unit_of a f to) (Item item) n x here)
-given_men a c f from x here (orders.Pay to n) = others_men f c (give from (unit_of a f to) Money n c x).0 (give_men c from (unit_of a f to) Money n x here)
+given_men : (a : Aliases) (c : CampaignValue) (f from : ℕ) (x : Unit) → get c.units from ≡ Some x → (o : OperandsValue) → IfSome (give_effect a f from o) (λ deed. OthersHaveMen f c (deed c x).0)
+given_men a c f from x here (operands.UnitAndGoods to n item) = others_men f c (give from (unit_of a f to) (Item item) n c x).0 (give_men c from (unit_of a f to) (Item item) n x here)
+given_men a c f from x here (operands.UnitAndNumber to n) = others_men f c (give from (unit_of a f to) Money n c x).0 (give_men c from (unit_of a f to) Money n x here)
 given_men a c f from x here other = tt
 
 give_spares : SparesMen give_step
-give_spares w a c t x own = given_men a c t.faction t.unit x own.there t.said
+give_spares w a c t x own = given_men a c t.faction t.unit x own.there t.order_value.operands
 
-pub give_leaves : Leaves give_terms
+pub give_leaves : Leaves give_spec
 give_leaves = carried_leaves give_step is_giving give_spares (unmailed_spared is_giving own_faction items_of_no_worse)
 
 -- ---- TRANSFER
@@ -181,14 +181,14 @@ transfer_others c from to n x here =
     same_unit : (k : ℕ) (y z : Unit) → get c.units k ≡ Some y → get c.units k ≡ Some z → y ≡ z
     same_unit k y z one two = let both : Some y ≡ Some z = sym one ∙ two in cc
 
-transferred : (a : Aliases) (c : CampaignValue) (t : Task) (x : Unit) → IsUnitOf c t x → (o : Said) → IfSome (transfer_said a t.faction t.unit o) (λ deed. OthersHaveMen t.faction c (deed c x).0)
-transferred a c t x own (orders.Transfer to n) = λ k y there other. transfer_others c t.unit (unit_of a t.faction to) n x own.there k y there (λ same. other (sym own.faction ∙ same))
+transferred : (a : Aliases) (c : CampaignValue) (t : Task) (x : Unit) → IsUnitOf c t x → (o : OperandsValue) → IfSome (transfer_effect a t.faction t.unit o) (λ deed. OthersHaveMen t.faction c (deed c x).0)
+transferred a c t x own (operands.UnitAndNumber to n) = λ k y there other. transfer_others c t.unit (unit_of a t.faction to) n x own.there k y there (λ same. other (sym own.faction ∙ same))
 transferred a c t x own o = tt
 
 transfer_spares : SparesMen transfer_step
-transfer_spares w a c t x own = transferred a c t x own t.said
+transfer_spares w a c t x own = transferred a c t x own t.order_value.operands
 
-pub transfer_leaves : Leaves transfer_terms
+pub transfer_leaves : Leaves transfer_spec
 transfer_leaves = carried_leaves transfer_step is_transferring transfer_spares (unmailed_spared is_transferring own_faction items_of_no_worse)
 
 -- ---- GUARD 1
@@ -197,14 +197,14 @@ guarding_men : (c : CampaignValue) (n : ℕ) (u : Unit) → HaveTheirMen c (guar
 unfolding guard
 guarding_men c n u = men_unless c (with_guard c n true) (Done 0) (guard_fault c u) (guard_men c n true)
 
-guarded_men : (c : CampaignValue) (f n : ℕ) (x : Unit) (o : Said) → IfSome (guard_said n o) (λ deed. OthersHaveMen f c (deed c x).0)
-guarded_men c f n x (orders.Guard true) = others_men f c (guard n c x).0 (guarding_men c n x)
+guarded_men : (c : CampaignValue) (f n : ℕ) (x : Unit) (o : OperandsValue) → IfSome (guard_effect n o) (λ deed. OthersHaveMen f c (deed c x).0)
+guarded_men c f n x (operands.Flag true) = others_men f c (guard n c x).0 (guarding_men c n x)
 guarded_men c f n x other = tt
 
 guard_spares : SparesMen guard_step
-guard_spares w a c t x own = guarded_men c t.faction t.unit x t.said
+guard_spares w a c t x own = guarded_men c t.faction t.unit x t.order_value.operands
 
-pub guard_leaves : Leaves guard_terms
+pub guard_leaves : Leaves guard_spec
 guard_leaves = carried_leaves guard_step is_guarding guard_spares (unmailed_spared {concerns = guard_concerns} is_guarding (λ t n f h. own_faction t n f h.0) items_of_no_worse)
 
 -- ---- QUIT
@@ -220,16 +220,16 @@ quit_others c number x k y there other = by_fault (quit_fault number x)
         let unit : v ≡ y = cc in
         other (sym (is_equal v.faction x.faction t) ∙ ap (λ (z : Unit). z.faction) unit)
 
-    by_fault : (o : Option EventFault) → IsSpared HasItsMen (unless c o (fold left_at c (numbers_of x.faction c.units), Done 0)).0 k y
+    by_fault : (o : Option EventFault) → IsUnaffected HasItsMen (unless c o (fold after_leaving c (numbers_of x.faction c.units), Done 0)).0 k y
     by_fault (Some fault) = men_stay c k y there
     by_fault None = record { unit = y; there = all_left_others c (numbers_of x.faction c.units) k stays ∙ there; spared = record { faction = refl; men = refl } }
 
-quitted : (c : CampaignValue) (t : Task) (x : Unit) → IsUnitOf c t x → (o : Said) → IfSome (quit_said o) (λ deed. OthersHaveMen t.faction c (deed c x).0)
-quitted c t x own (orders.Quit number) = λ k y there other. quit_others c number x k y there (λ same. other (sym own.faction ∙ same))
+quitted : (c : CampaignValue) (t : Task) (x : Unit) → IsUnitOf c t x → (o : OperandsValue) → IfSome (quit_effect o) (λ deed. OthersHaveMen t.faction c (deed c x).0)
+quitted c t x own (operands.Number number) = λ k y there other. quit_others c number x k y there (λ same. other (sym own.faction ∙ same))
 quitted c t x own o = tt
 
 quit_spares : SparesMen quit_step
-quit_spares w a c t x own = quitted c t x own t.said
+quit_spares w a c t x own = quitted c t x own t.order_value.operands
 
 pub quit_leaves : LeavesUnmailed quit_meaning quit_keeps
 quit_leaves = carried_leaves quit_step is_quitting quit_spares (λ w c d m. unmailed_spared {concerns = QuitsFrom c} is_quitting (λ t n f h. h.faction) items_of_no_worse w c d m)

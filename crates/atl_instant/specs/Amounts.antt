@@ -1,4 +1,4 @@
--- Amounts by numbers, each said on its own.
+-- A map of amounts, made from a list of numbers and the amount of each.
 use Rattle.std.specs.Prelude.{◌==◌, not, ℕ, List, filter, map}
 use Rattle.std.specs.Ordering.{nat_cmp}
 use Rattle.std.specs.FinMap.{FinMap, from_entries}

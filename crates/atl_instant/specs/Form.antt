@@ -2,10 +2,10 @@
 use Rattle.std.specs.Prelude.{◌≡◌, ◌||◌, ◌++◌, ℕ, Bool, true, false, [], ◌∷◌, codes, fold, nat_le, nat_lt, not, Option, Some}
 use Rattle.std.specs.Fmt.{decimal}
 use Rattle.std.specs.FinMap.{empty, get, len, values}
-use Rattle.atl_orders.specs.declared.order.Order.TheVariants as orders
+use Rattle.atl_orders.specs.declared.order.Operands.TheVariants as operands
 use Rattle.atl_orders.specs.declared.verb.Verb.{Verb}
 use Rattle.atl_orders.specs.declared.verb.Verb.TheVariants as verbs
-use Rattle.atl_orders.specs.Orders.{Said}
+use Rattle.atl_orders.specs.Orders.{OperandsValue}
 use Rattle.atl_records.specs.declared.event.EventFault.{EventFault}
 use Rattle.atl_records.specs.declared.event.EventFault.TheVariants.{NotYours, UnitLimit}
 use Rattle.atl_records.specs.declared.event.Outcome.{Outcome}
@@ -16,12 +16,12 @@ use Rattle.atl_records.specs.Limits.{last_unit, most_units}
 use Rattle.atl_state.specs.Campaign.{CampaignValue, with_unit_begun}
 use Rattle.atl_instant.specs.Month.{Aliases, MonthValue, with_alias}
 use Rattle.atl_instant.specs.Inside.{inside, region_of}
-use Rattle.atl_instant.specs.Meaning.{Keeping, Meaning}
+use Rattle.atl_instant.specs.Meaning.{Frame, Meaning}
 use Rattle.atl_instant.specs.Outcomes.{first_fault, unless}
 use Rattle.atl_instant.specs.PhaseOrders.{Task, orders_of}
-use Rattle.atl_instant.specs.Steps.{is_of_faction, told}
-use Rattle.atl_instant.specs.declared.written.Arrangement.TheVariants.{ByFaction}
-use Rattle.atl_instant.specs.Terms.{PhaseTerms, books_none}
+use Rattle.atl_instant.specs.OrderEffects.{event_for, is_of_faction}
+use Rattle.atl_instant.specs.declared.phase_order.Arrangement.TheVariants.{ByFaction}
+use Rattle.atl_instant.specs.PhaseSpecs.{PhaseSpec, books_none}
 
 abbrev pub is_forming : Verb → Bool
 is_forming verbs.Form = true
@@ -47,38 +47,38 @@ new_unit number faction region structure = record {
 }
 
 -- a unit of a faction forms one of its faction, where it is itself
-abbrev pub formed : CampaignValue → (f n : ℕ) → CampaignValue
-formed c f n = with_unit_begun c (new_unit c.next_unit f (region_of c n) (inside c n))
+abbrev pub with_formed_unit : CampaignValue → (f n : ℕ) → CampaignValue
+with_formed_unit c f n = with_unit_begun c (new_unit c.next_unit f (region_of c n) (inside c n))
 
 -- what an order makes of a campaign, and what came of it
 abbrev pub form_by : CampaignValue → (f n : ℕ) → CampaignValue × Outcome
-form_by c f n = unless c (form_fault c f n) (formed c f n, Done c.next_unit)
+form_by c f n = unless c (form_fault c f n) (with_formed_unit c f n, Done c.next_unit)
 
 -- ---- the phase
 
 -- the alias that an order gives
-abbrev pub alias_of : Said → ℕ
-alias_of (orders.Form alias) = alias
+abbrev pub alias_of : OperandsValue → ℕ
+alias_of (operands.Alias alias) = alias
 alias_of order = 0
 
 -- a unit that was formed stands under the alias
-abbrev pub noted : Aliases → (f alias : ℕ) → Outcome → Aliases
-noted aliases f alias (Done number) = with_alias aliases f alias number
-noted aliases f alias outcome = aliases
+abbrev pub aliases_after : Aliases → (f alias : ℕ) → Outcome → Aliases
+aliases_after aliases f alias (Done number) = with_alias aliases f alias number
+aliases_after aliases f alias outcome = aliases
 
-abbrev pub and_noted : MonthValue → Task → CampaignValue × Outcome → CampaignValue × MonthValue
-and_noted m t (c, outcome) = (c, record m { aliases = noted m.aliases t.faction (alias_of t.said) outcome; events = m.events ++ told t outcome ∷ [] })
+abbrev pub with_form_result : MonthValue → Task → CampaignValue × Outcome → CampaignValue × MonthValue
+with_form_result m t (c, outcome) = (c, record m { aliases = aliases_after m.aliases t.faction (alias_of t.order_value.operands) outcome; events = m.events ++ event_for t outcome ∷ [] })
 
 abbrev pub form_order : CampaignValue × MonthValue → Task → CampaignValue × MonthValue
-form_order (c, m) t = and_noted m t (form_by c t.faction t.unit)
+form_order (c, m) t = with_form_result m t (form_by c t.faction t.unit)
 
 -- by faction and line
 unfoldable pub form_meaning : Meaning
 form_meaning w c m = fold form_order (c, m) (values (orders_of is_forming ByFaction m.aliases m.readings))
 
 -- each unit stays as it is
-abbrev pub form_keeps : Keeping
+abbrev pub form_keeps : Frame
 form_keeps w m before after = Every (λ n u. get after.units n ≡ Some u) before.units
 
-abbrev pub form_terms : PhaseTerms
-form_terms = books_none form_meaning form_keeps
+abbrev pub form_spec : PhaseSpec
+form_spec = books_none form_meaning form_keeps

@@ -1,27 +1,27 @@
--- GIVE and PAY. See docs/RULES.md, "Giving".
+-- GIVE and PAY: a unit gives items or money to another. See docs/RULES.md, "Giving".
 use Rattle.std.specs.Prelude.{ℕ, ◌+◌, ◌-◌, ◌==◌, ◌&&◌, not, nat_lt, Bool, true, false, [], ◌∷◌, Option, Some, None, if◌then◌else◌}
 use Rattle.std.specs.FinMap.{get}
-use Rattle.atl_orders.specs.declared.order.Order.TheVariants as orders
+use Rattle.atl_orders.specs.declared.order.Operands.TheVariants as operands
 use Rattle.atl_orders.specs.declared.verb.Verb.{Verb}
 use Rattle.atl_orders.specs.declared.verb.Verb.TheVariants as verbs
-use Rattle.atl_orders.specs.Orders.{Said}
+use Rattle.atl_orders.specs.Orders.{OperandsValue}
 use Rattle.atl_records.specs.declared.event.EventFault.{EventFault}
 use Rattle.atl_records.specs.declared.event.EventFault.TheVariants.{NoRoom, NotEnough, NotHere}
 use Rattle.atl_records.specs.declared.event.Outcome.{Outcome}
 use Rattle.atl_records.specs.declared.event.Outcome.TheVariants.{Done}
 use Rattle.atl_records.specs.declared.records.Unit.{Unit}
-use Rattle.atl_records.specs.Held.{Held, amount_of, with_amount_of}
+use Rattle.atl_records.specs.Holdings.{HoldingValue, amount_of, with_amount_of}
 use Rattle.atl_state.specs.Lending.{with_held}
 use Rattle.atl_records.specs.Limits.{holding_limit}
 use Rattle.atl_state.specs.Campaign.{CampaignValue}
 use Rattle.atl_instant.specs.Month.{Aliases}
 use Rattle.atl_instant.specs.Outcomes.{first_fault, unless}
 use Rattle.atl_instant.specs.PhaseOrders.{unit_of}
-use Rattle.atl_instant.specs.Staying.{IsNoWorse}
-use Rattle.atl_instant.specs.Steps.{Deed, IsOwnOrder, Step}
+use Rattle.atl_instant.specs.NoWorse.{IsNoWorse}
+use Rattle.atl_instant.specs.OrderEffects.{IsOwnOrder, OrderEffect, OrderMeaning}
 use Rattle.atl_instant.specs.declared.give.Gift.{Gift}
 use Rattle.atl_instant.specs.declared.give.Gift.TheVariants.{Item, Money}
-use Rattle.atl_instant.specs.Terms.{PhaseTerms, goes_by_orders}
+use Rattle.atl_instant.specs.PhaseSpecs.{PhaseSpec, goes_by_orders}
 
 abbrev pub is_giving : Verb → Bool
 is_giving verbs.Give = true
@@ -31,11 +31,11 @@ is_giving verb = false
 -- ---- what is given
 
 -- how much of it is held
-abbrev pub held_of : Gift → Held → ℕ
+abbrev pub held_of : Gift → HoldingValue → ℕ
 held_of Money h = h.money
 held_of (Item i) h = amount_of h.items i
 
-abbrev pub with_held_of : Gift → Held → ℕ → Held
+abbrev pub with_held_of : Gift → HoldingValue → ℕ → HoldingValue
 with_held_of Money h n = record h { money = n }
 with_held_of (Item i) h n = record h { items = with_amount_of h.items i n }
 
@@ -52,29 +52,29 @@ give_fault gift n itself u (Some v) =
     ∷ [])
 
 -- The whole amount goes from one unit to another. To itself nothing changes.
-abbrev pub given : CampaignValue → (from to : ℕ) → Gift → (n : ℕ) → Option Unit → Option Unit → CampaignValue
-given c from to gift n (Some u) (Some v) =
+abbrev pub after_gift : CampaignValue → (from to : ℕ) → Gift → (n : ℕ) → Option Unit → Option Unit → CampaignValue
+after_gift c from to gift n (Some u) (Some v) =
     let less = with_held_of gift u.holding (held_of gift u.holding - n) in
     let more = with_held_of gift v.holding (held_of gift v.holding + n) in
     if to == from then c else with_held (with_held c from less (Some u)) to more (Some v)
-given c from to gift n giver receiver = c
+after_gift c from to gift n giver receiver = c
 
 abbrev pub give_to : CampaignValue → (from to : ℕ) → Gift → (n : ℕ) → Unit → Option Unit → CampaignValue × Outcome
-give_to c from to gift n u receiver = unless c (give_fault gift n (to == from) u receiver) (given c from to gift n (Some u) receiver, Done n)
+give_to c from to gift n u receiver = unless c (give_fault gift n (to == from) u receiver) (after_gift c from to gift n (Some u) receiver, Done n)
 
-unfoldable pub give : (from to : ℕ) → Gift → (n : ℕ) → Deed
+unfoldable pub give : (from to : ℕ) → Gift → (n : ℕ) → OrderEffect
 give from to gift n c u = give_to c from to gift n u (get c.units to)
 
-abbrev pub give_said : Aliases → (f from : ℕ) → Said → Option Deed
-give_said aliases f from (orders.Give to n item) = Some (give from (unit_of aliases f to) (Item item) n)
-give_said aliases f from (orders.Pay to n) = Some (give from (unit_of aliases f to) Money n)
-give_said aliases f from other = None
+abbrev pub give_effect : Aliases → (f from : ℕ) → OperandsValue → Option OrderEffect
+give_effect aliases f from (operands.UnitAndGoods to n item) = Some (give from (unit_of aliases f to) (Item item) n)
+give_effect aliases f from (operands.UnitAndNumber to n) = Some (give from (unit_of aliases f to) Money n)
+give_effect aliases f from other = None
 
-abbrev pub give_step : Step
-give_step w aliases t = give_said aliases t.faction t.unit t.said
+abbrev pub give_step : OrderMeaning
+give_step w aliases t = give_effect aliases t.faction t.unit t.order_value.operands
 
 -- ---- the phase
 
 -- a unit for which its own faction wrote no such order is no worse off
-abbrev pub give_terms : PhaseTerms
-give_terms = goes_by_orders give_step is_giving IsOwnOrder IsNoWorse
+abbrev pub give_spec : PhaseSpec
+give_spec = goes_by_orders give_step is_giving IsOwnOrder IsNoWorse

@@ -1,4 +1,4 @@
--- Where a unit is.
+-- The region and the structure that a unit is in.
 use Rattle.std.specs.Prelude.{ℕ}
 use Rattle.std.specs.Option.{option_map_or}
 use Rattle.std.specs.FinMap.{get}

@@ -1,4 +1,4 @@
--- What a phase of the month is, and what each phase keeps.
+-- What a phase of the month is: its effect, by how much it may change the books, and what it leaves unchanged.
 use Rattle.std.specs.Prelude.{◌≡◌, ℕ, ℤ, pos, ◌+ℤ◌, ◌≤ℤ◌, ◌+◌, ◌*◌, ◌==◌, if◌then◌else◌}
 use Rattle.std.specs.FinMap.{len}
 use Rattle.atl_tables.specs.Worlds.{WorldValue}
@@ -34,10 +34,10 @@ both_need needs between follows w c = needs w c × Follows between follows
 
 -- What stays, from a campaign and what the month carries to the campaign behind: what a phase leaves to the units whose own faction wrote
 -- no order of it.
-abbrev pub Keeping : Type 1
-Keeping = WorldValue → MonthValue → CampaignValue → CampaignValue → Type 0
+abbrev pub Frame : Type 1
+Frame = WorldValue → MonthValue → CampaignValue → CampaignValue → Type 0
 
-abbrev pub both_keep : Meaning → Keeping → Keeping → Keeping
+abbrev pub both_keep : Meaning → Frame → Frame → Frame
 both_keep first early late w m before after =
     let between = first w before m in
     early w m before between.0 × late w between.1 between.0 after
@@ -45,18 +45,18 @@ both_keep first early late w m before after =
 -- ---- the books
 
 -- by how much a phase may move each amount of the books at most; one that it moves by 0 stays
-abbrev pub Moving : Type 0
-Moving = Entry → Thing → ℕ
+abbrev pub BookBound : Type 0
+BookBound = Entry → Thing → ℕ
 
-abbrev pub both_move : Moving → Moving → Moving
+abbrev pub both_move : BookBound → BookBound → BookBound
 both_move first second e t = first e t + second e t
 
 -- so many steps, each of which may move the amounts so far
-abbrev pub moved_times : ℕ → Moving → Moving
+abbrev pub moved_times : ℕ → BookBound → BookBound
 moved_times steps moving e t = steps * moving e t
 
 -- one amount alone
-abbrev pub moves_only : ℕ → Entry → Thing → Moving
+abbrev pub moves_only : ℕ → Entry → Thing → BookBound
 moves_only most e t f u = if amount_number f u == amount_number e t then most else 0
 
 -- a phase moves each amount by less than 10^14
@@ -78,7 +78,7 @@ pub record HasRoom (most : ℕ) (amount : ℤ) : Type 0 where
   pub below : pos most ≤ℤ (amount +ℤ pos amount_limit)
 
 -- each amount of the books may: so it is where none passes 9*10^18 in size
-abbrev pub HaveRoom : Moving → CampaignValue → Type 0
+abbrev pub HaveRoom : BookBound → CampaignValue → Type 0
 HaveRoom moving c = (e : Entry) (t : Thing) → HasRoom (moving e t) (amount_in c.books e t)
 
 -- Within a month the month isn't counted, no report is made, and no faction joins; one that is gone is still there.
@@ -90,7 +90,7 @@ pub record IsSameMonth (before after : CampaignValue) : Type 0 where
 
 -- The campaign is as a phase leaves it and of the same month, the books balance where they did before, and no amount of them is moved
 -- further than the phase may move it.
-pub record LeavesWell (leaves : Condition) (moving : Moving) (w : WorldValue) (before after : CampaignValue) : Type 0 where
+pub record LeavesWell (leaves : Condition) (moving : BookBound) (w : WorldValue) (before after : CampaignValue) : Type 0 where
   pub leaves_it : leaves w after
   pub same_month : IsSameMonth before after
   pub balances : Balances before → Balances after

@@ -1,4 +1,4 @@
--- What contracts see of a month.
+-- The value of a month in contracts: mailings, aliases, dice words and events.
 use Rattle.std.specs.Prelude.{◌≡◌, ◌++◌, ℕ, List, map, refl, Option}
 use Rattle.std.specs.Borrow.{u8}
 use Rattle.std.specs.Ordering.{nat_cmp, eq_by_cmp}
@@ -14,8 +14,8 @@ use Rattle.atl_orders.specs.declared.order.UnitRef.{UnitRef}
 use Rattle.atl_orders.specs.contracts.fault.FaultyLine as faulty
 use Rattle.atl_orders.specs.contracts.order.Order as order
 use Rattle.atl_orders.specs.contracts.order.UnitRef as target
-use Rattle.atl_orders.specs.Mailing.{EntrySaid, Reading, reading_of}
-use Rattle.atl_orders.specs.Orders.{Said}
+use Rattle.atl_orders.specs.Mailing.{EntryValue, Reading, reading_of}
+use Rattle.atl_orders.specs.Orders.{OrderValue}
 use Rattle.atl_records.specs.declared.event.Event.{Event}
 use Rattle.atl_records.specs.contracts.event.Event as event
 
@@ -33,19 +33,19 @@ pub record MonthValue : Type 0 where
 -- ---- how the logic stores it
 
 -- an order whose name is a text
-abbrev pub said_code : Coded Said
+abbrev pub said_code : Coded OrderValue
 said_code = (order.the_row (sequence.the_row u8)).coded
 
-abbrev pub entry_code : Coded EntrySaid
+abbrev pub entry_code : Coded EntryValue
 entry_code =
-    code_by (ℕ × (UnitRef × Said)) (coded× coded_ℕ (coded× target.the_row.coded said_code))
-    (λ e. (e.line, (e.target, e.said)))
-    (λ p. record { line = p.0; target = p.1.0; said = p.1.1 })
+    code_by (ℕ × (UnitRef × OrderValue)) (coded× coded_ℕ (coded× target.the_row.coded said_code))
+    (λ e. (e.line, (e.target, e.order_value)))
+    (λ p. record { line = p.0; target = p.1.0; order_value = p.1.1 })
     (λ _. refl)
 
 abbrev pub reading_code : Coded Reading
 reading_code =
-    code_by (ℕ × (List EntrySaid × List FaultyLine)) (coded× coded_ℕ (coded× (coded_list entry_code) (coded_list faulty.the_row.coded)))
+    code_by (ℕ × (List EntryValue × List FaultyLine)) (coded× coded_ℕ (coded× (coded_list entry_code) (coded_list faulty.the_row.coded)))
     (λ r. (r.faction, (r.entries, r.faults)))
     (λ p. record { faction = p.0; entries = p.1.0; faults = p.1.1 })
     (λ _. refl)

@@ -1,4 +1,4 @@
--- What an order comes to: the first fault that fits, and nothing changes, or what is done.
+-- The outcome of an order: the first fault that applies, with nothing changed, or what was done.
 use Rattle.std.specs.Prelude.{Bool, List, [], ◌∷◌, Option, Some, None, if◌then◌else◌}
 use Rattle.atl_records.specs.declared.event.EventFault.{EventFault}
 use Rattle.atl_records.specs.declared.event.Outcome.{Outcome}

@@ -1,4 +1,4 @@
--- The orders of a phase. See docs/RULES.md, "Orders of a month".
+-- The orders that a phase carries out, and their order. See docs/RULES.md, "Orders of a month".
 use Rattle.std.specs.Prelude.{◌≡◌, ℕ, ◌+◌, max, Bool, true, false, ◌&&◌, ◌==◌, if◌then◌else◌, List, [], ◌∷◌, map, filter, Option, Some, None, unwrap_or}
 use Rattle.std.specs.List.{All, flat_map, slice_get}
 use Rattle.std.specs.Ordering.{nat_cmp}
@@ -6,16 +6,16 @@ use Rattle.std.specs.Cmp.Lexicographic.{slice_cmp}
 use Rattle.std.specs.FinMap.{FinMap, entries, from_entries, get, values}
 use Rattle.atl_orders.specs.declared.order.UnitRef.{UnitRef}
 use Rattle.atl_orders.specs.declared.order.UnitRef.TheVariants.{Number, Alias}
+use Rattle.atl_orders.specs.declared.verb.Slot.{Slot}
+use Rattle.atl_orders.specs.declared.verb.Slot.TheVariants.{MonthLong, Selling, Buying, Taxing, Recruiting}
 use Rattle.atl_orders.specs.declared.verb.Verb.{Verb}
-use Rattle.atl_orders.specs.declared.verb.Verb.TheVariants as verbs
-use Rattle.atl_orders.specs.Mailing.{EntrySaid, Reading}
-use Rattle.atl_orders.specs.Orders.{Said, said, verb_of_order}
+use Rattle.atl_orders.specs.Verbs.{row_of}
+use Rattle.atl_orders.specs.Mailing.{EntryValue, Reading}
+use Rattle.atl_orders.specs.Orders.{OrderValue, order_value}
 use Rattle.atl_instant.specs.Month.{Aliases, MonthValue, alias_unit}
-use Rattle.atl_instant.specs.declared.standing.Slot.{Slot}
-use Rattle.atl_instant.specs.declared.standing.Slot.TheVariants.{MonthLong, Selling, Buying, Taxing, Recruiting}
-use Rattle.atl_instant.specs.declared.written.Written.{Written}
-use Rattle.atl_instant.specs.declared.written.Arrangement.{Arrangement}
-use Rattle.atl_instant.specs.declared.written.Arrangement.TheVariants.{ByUnit, ByFaction}
+use Rattle.atl_instant.specs.declared.phase_order.PhaseOrder.{PhaseOrder}
+use Rattle.atl_instant.specs.declared.phase_order.Arrangement.{Arrangement}
+use Rattle.atl_instant.specs.declared.phase_order.Arrangement.TheVariants.{ByUnit, ByFaction}
 
 -- An order for a unit, with the faction and the line of its mailing, and its place among the orders there, from 0 on.
 pub record Task : Type 0 where
@@ -23,11 +23,11 @@ pub record Task : Type 0 where
   pub unit : ℕ
   pub line : ℕ
   pub place : ℕ
-  pub said : Said
+  pub order_value : OrderValue
 
 -- an order of the code, with what it says by the text of its mailing
-abbrev pub task_of : Written → Task
-task_of o = record { faction = o.faction; unit = o.unit; line = o.line; place = o.place; said = said o.mailing.now.text o.order.now }
+abbrev pub task_of : PhaseOrder → Task
+task_of o = record { faction = o.faction; unit = o.unit; line = o.line; place = o.place; order_value = order_value o.mailing.now.text o.order.now }
 
 -- ---- the orders of a mailing
 
@@ -36,10 +36,10 @@ abbrev pub unit_of : Aliases → ℕ → UnitRef → ℕ
 unit_of aliases faction (Number n) = n
 unit_of aliases faction (Alias alias) = unwrap_or (alias_unit aliases faction alias) 0
 
-abbrev pub tasks_from : Aliases → ℕ → ℕ → List EntrySaid → List Task
+abbrev pub tasks_from : Aliases → ℕ → ℕ → List EntryValue → List Task
 tasks_from aliases faction place [] = []
 tasks_from aliases faction place (e ∷ es) =
-    record { faction = faction; unit = unit_of aliases faction e.target; line = e.line; place = place; said = e.said }
+    record { faction = faction; unit = unit_of aliases faction e.target; line = e.line; place = place; order_value = e.order_value }
     ∷ tasks_from aliases faction (place + 1) es
 
 -- the orders of a faction's mailing
@@ -47,30 +47,6 @@ abbrev pub tasks_of : Aliases → ℕ → Reading → List Task
 tasks_of aliases faction r = tasks_from aliases faction 0 r.entries
 
 -- ---- the orders that stand
-
--- The month-long orders of a unit share a slot; its SELL orders have one, its BUY orders, its TAX orders, and its RECRUIT orders.
-abbrev pub slot_of : Verb → Option Slot
-slot_of verbs.Move = Some MonthLong
-slot_of verbs.Sail = Some MonthLong
-slot_of verbs.Build = Some MonthLong
-slot_of verbs.Teach = Some MonthLong
-slot_of verbs.Study = Some MonthLong
-slot_of verbs.Produce = Some MonthLong
-slot_of verbs.Work = Some MonthLong
-slot_of verbs.Sell = Some Selling
-slot_of verbs.Buy = Some Buying
-slot_of verbs.Tax = Some Taxing
-slot_of verbs.Recruit = Some Recruiting
-slot_of verbs.Form = None
-slot_of verbs.Name = None
-slot_of verbs.Guard = None
-slot_of verbs.Enter = None
-slot_of verbs.Leave = None
-slot_of verbs.Promote = None
-slot_of verbs.Give = None
-slot_of verbs.Pay = None
-slot_of verbs.Transfer = None
-slot_of verbs.Quit = None
 
 -- No two slots have one number.
 abbrev pub slot_number : Slot → ℕ
@@ -86,13 +62,13 @@ is_slot slot (Some other) = slot_number slot == slot_number other
 
 -- the verbs that take the whole month
 abbrev pub is_month_long : Verb → Bool
-is_month_long verb = is_slot MonthLong (slot_of verb)
+is_month_long verb = is_slot MonthLong (row_of verb).slot
 
 -- the greatest line of the orders in a slot of a unit; 0 where there is none
 abbrev pub last_line : Slot → ℕ → List Task → ℕ
 last_line slot unit [] = 0
 last_line slot unit (t ∷ ts) =
-    max (if t.unit == unit && is_slot slot (slot_of (verb_of_order t.said)) then t.line else 0) (last_line slot unit ts)
+    max (if t.unit == unit && is_slot slot (row_of t.order_value.verb).slot then t.line else 0) (last_line slot unit ts)
 
 -- in a slot the order with the greatest line stands; an order without a slot always does
 abbrev pub stands_in : List Task → Task → Option Slot → Bool
@@ -100,13 +76,13 @@ stands_in ts t None = true
 stands_in ts t (Some slot) = t.line == last_line slot t.unit ts
 
 abbrev pub stands : List Task → Task → Bool
-stands ts t = stands_in ts t (slot_of (verb_of_order t.said))
+stands ts t = stands_in ts t (row_of t.order_value.verb).slot
 
 -- ---- the orders of a phase
 
 -- those of a mailing with the phase's verbs that stand
 abbrev pub tasks_for : (Verb → Bool) → List Task → List Task
-tasks_for is_of ts = filter (λ t. is_of (verb_of_order t.said) && stands ts t) ts
+tasks_for is_of ts = filter (λ t. is_of t.order_value.verb && stands ts t) ts
 
 -- By unit, line and faction, or by faction and line. The place is the last number of each, and no mailing has it twice.
 abbrev pub key_of : Arrangement → Task → List ℕ
@@ -127,12 +103,12 @@ orders_by_unit is_of m = values (orders_of is_of ByUnit m.aliases m.readings)
 -- an order that stands in the mailing of its faction, as it is said there
 pub record IsInMailing (aliases : Aliases) (readings : FinMap nat_cmp Reading) (t : Task) : Type 0 where
   pub reading : Reading
-  pub entry : EntrySaid
+  pub entry : EntryValue
   pub of_faction : get readings t.faction ≡ Some reading
   pub at_place : slice_get reading.entries t.place ≡ Some entry
   pub for_unit : unit_of aliases t.faction entry.target ≡ t.unit
   pub on_line : entry.line ≡ t.line
-  pub says : entry.said ≡ t.said
+  pub says : entry.order_value ≡ t.order_value
 
 -- each order of a phase does
 abbrev pub OrdersAreInMailings : Type 0

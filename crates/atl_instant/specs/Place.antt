@@ -3,10 +3,10 @@ use Rattle.std.specs.Prelude.{ℕ, ◌==◌, Bool, true, false, not, [], ◌∷�
 use Rattle.std.specs.FinMap.{get}
 use Rattle.atl_tables.specs.Worlds.{WorldValue}
 use Rattle.atl_tables.specs.ByNumber.{is_land_at}
-use Rattle.atl_orders.specs.declared.order.Order.TheVariants as orders
+use Rattle.atl_orders.specs.declared.order.Operands.TheVariants as operands
 use Rattle.atl_orders.specs.declared.verb.Verb.{Verb}
 use Rattle.atl_orders.specs.declared.verb.Verb.TheVariants as verbs
-use Rattle.atl_orders.specs.Orders.{Said}
+use Rattle.atl_orders.specs.Orders.{OperandsValue}
 use Rattle.atl_records.specs.declared.event.EventFault.{EventFault}
 use Rattle.atl_records.specs.declared.event.EventFault.TheVariants.{AtSea, NotHere, NotInside, NotOwner}
 use Rattle.atl_records.specs.declared.event.Outcome.TheVariants.{Done}
@@ -18,9 +18,9 @@ use Rattle.atl_instant.specs.Month.{Aliases}
 use Rattle.atl_instant.specs.Inside.{inside}
 use Rattle.atl_instant.specs.Outcomes.{first_fault, unless}
 use Rattle.atl_instant.specs.PhaseOrders.{unit_of}
-use Rattle.atl_instant.specs.Staying.{IsNoWorse}
-use Rattle.atl_instant.specs.Steps.{Deed, IsOwnOrder, Step}
-use Rattle.atl_instant.specs.Terms.{PhaseTerms, goes_by_orders}
+use Rattle.atl_instant.specs.NoWorse.{IsNoWorse}
+use Rattle.atl_instant.specs.OrderEffects.{IsOwnOrder, OrderEffect, OrderMeaning}
+use Rattle.atl_instant.specs.PhaseSpecs.{PhaseSpec, goes_by_orders}
 
 -- ---- which orders are of the phase
 
@@ -36,8 +36,8 @@ is_placing verb = false
 abbrev pub leave_fault : WorldValue → Unit → Option EventFault
 leave_fault w u = first_fault ((u.structure == 0, NotInside) ∷ (not (is_land_at w u.region), AtSea) ∷ [])
 
-unfoldable pub left : WorldValue → (n : ℕ) → Deed
-left w n c u = unless c (leave_fault w u) (with_place c n u.region 0, Done 0)
+unfoldable pub leave : WorldValue → (n : ℕ) → OrderEffect
+leave w n c u = unless c (leave_fault w u) (with_place c n u.region 0, Done 0)
 
 -- ---- ENTER
 
@@ -50,11 +50,11 @@ abbrev pub enter_fault : CampaignValue → (s : ℕ) → Unit → Option EventFa
 enter_fault c s u = first_fault ((not (is_in u.region (get c.structures s)), NotHere) ∷ [])
 
 -- a unit that is inside already stays; else it leaves the structure that it was inside
-abbrev pub entered_other : CampaignValue → (n region from s : ℕ) → CampaignValue
-entered_other c n region from s = if from == s then c else with_place c n region s
+abbrev pub with_unit_inside : CampaignValue → (n region from s : ℕ) → CampaignValue
+with_unit_inside c n region from s = if from == s then c else with_place c n region s
 
-unfoldable pub entered : (n s : ℕ) → Deed
-entered n s c u = unless c (enter_fault c s u) (entered_other c n u.region u.structure s, Done 0)
+unfoldable pub enter : (n s : ℕ) → OrderEffect
+enter n s c u = unless c (enter_fault c s u) (with_unit_inside c n u.region u.structure s, Done 0)
 
 -- ---- PROMOTE
 
@@ -66,22 +66,22 @@ promote_fault c n to u = first_fault (
     ∷ (not (inside c to == u.structure), NotHere)
     ∷ [])
 
-unfoldable pub promoted : (n to : ℕ) → Deed
-promoted n to c u = unless c (promote_fault c n to u) (with_owner c u.structure to, Done 0)
+unfoldable pub promote : (n to : ℕ) → OrderEffect
+promote n to c u = unless c (promote_fault c n to u) (with_owner c u.structure to, Done 0)
 
 -- ---- the step
 
-abbrev pub place_said : WorldValue → Aliases → (f n : ℕ) → Said → Option Deed
-place_said w a f n orders.Leave = Some (left w n)
-place_said w a f n (orders.Enter s) = Some (entered n s)
-place_said w a f n (orders.Promote to) = Some (promoted n (unit_of a f to))
-place_said w a f n order = None
+abbrev pub place_effect : WorldValue → Aliases → (f n : ℕ) → OperandsValue → Option OrderEffect
+place_effect w a f n operands.Nothing = Some (leave w n)
+place_effect w a f n (operands.Number s) = Some (enter n s)
+place_effect w a f n (operands.Unit to) = Some (promote n (unit_of a f to))
+place_effect w a f n other = None
 
-abbrev pub place_step : Step
-place_step w a t = place_said w a t.faction t.unit t.said
+abbrev pub place_step : OrderMeaning
+place_step w a t = place_effect w a t.faction t.unit t.order_value.operands
 
 -- ---- the phase
 
 -- who gives no order of the phase stays
-abbrev pub place_terms : PhaseTerms
-place_terms = goes_by_orders place_step is_placing IsOwnOrder IsNoWorse
+abbrev pub place_spec : PhaseSpec
+place_spec = goes_by_orders place_step is_placing IsOwnOrder IsNoWorse

@@ -1,10 +1,10 @@
--- When the books have room for a phase.
+-- When the amounts of the books are small enough for one more phase.
 use Rattle.std.specs.Prelude.{ℕ, ◌-◌, ◌≤◌}
 use Rattle.atl_records.specs.declared.books.Entry.{Entry}
 use Rattle.atl_records.specs.declared.books.Thing.{Thing}
 use Rattle.atl_records.specs.Books.{IsWithin, amount_in}
 use Rattle.atl_state.specs.Campaign.{CampaignValue}
-use Rattle.atl_instant.specs.Meaning.{HaveRoom, Moving, amount_limit, most_moved}
+use Rattle.atl_instant.specs.Meaning.{BookBound, HaveRoom, amount_limit, most_moved}
 
 -- 9*10^18
 abbrev pub roomy_amount : ℕ
@@ -16,4 +16,4 @@ AreRoomy c = (e : Entry) (t : Thing) → IsWithin roomy_amount (amount_in c.book
 
 -- Such books have room for one phase that moves each amount by less than 10^14; two such phases may move one by more together.
 abbrev pub OnePhaseHasRoom : Type 0
-OnePhaseHasRoom = (moving : Moving) (c : CampaignValue) → ((e : Entry) (t : Thing) → moving e t ≤ most_moved) → AreRoomy c → HaveRoom moving c
+OnePhaseHasRoom = (moving : BookBound) (c : CampaignValue) → ((e : Entry) (t : Thing) → moving e t ≤ most_moved) → AreRoomy c → HaveRoom moving c

@@ -4,14 +4,14 @@ use Rattle.std.specs.List.{IsDistinct}
 use Rattle.std.specs.Ordering.{nat_cmp}
 use Rattle.std.specs.FinMap.{FinMap, values}
 use Rattle.atl_tables.specs.Worlds.{WorldValue}
+use Rattle.atl_orders.specs.declared.verb.Slot.{Slot}
 use Rattle.atl_orders.specs.declared.verb.Verb.{Verb}
 use Rattle.atl_orders.specs.Mailing.{Reading}
-use Rattle.atl_orders.specs.Orders.{verb_of_order}
-use Rattle.atl_instant.specs.declared.standing.Slot.{Slot}
-use Rattle.atl_instant.specs.declared.written.Arrangement.{Arrangement}
+use Rattle.atl_orders.specs.Verbs.{row_of}
+use Rattle.atl_instant.specs.declared.phase_order.Arrangement.{Arrangement}
 use Rattle.atl_instant.specs.Month.{Aliases}
 use Rattle.atl_instant.specs.Fit.{AreFit}
-use Rattle.atl_instant.specs.PhaseOrders.{Task, is_slot, orders_of, slot_of}
+use Rattle.atl_instant.specs.PhaseOrders.{Task, is_slot, orders_of}
 
 -- both verbs take a slot, and it is the same
 abbrev pub are_of_slot : Option Slot → Option Slot → Bool
@@ -20,7 +20,7 @@ are_of_slot (Some slot) other = is_slot slot other
 
 -- two orders of one faction for one unit in one slot
 abbrev pub share_slot : Task → Task → Bool
-share_slot t o = t.unit == o.unit && (t.faction == o.faction && are_of_slot (slot_of (verb_of_order t.said)) (slot_of (verb_of_order o.said)))
+share_slot t o = t.unit == o.unit && (t.faction == o.faction && are_of_slot (row_of t.order_value.verb).slot (row_of o.order_value.verb).slot)
 
 -- no two orders of a phase are, in mailings as they can be read
 abbrev pub OneOrderStands : Type 0

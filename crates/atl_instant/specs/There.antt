@@ -1,4 +1,4 @@
--- What is made of a campaign for a unit or a region, if it is there.
+-- Changes of a campaign for one unit or one region; without it nothing changes.
 use Rattle.std.specs.Prelude.{ℕ}
 use Rattle.std.specs.Option.{option_map_or}
 use Rattle.std.specs.FinMap.{get}

@@ -1,16 +1,16 @@
--- TRANSFER. See docs/RULES.md, "Transferring".
+-- TRANSFER: men move from one unit to another. See docs/RULES.md, "Transferring".
 use Rattle.std.specs.Prelude.{◌≡◌, ℕ, ◌+◌, ◌-◌, ◌*◌, ◌/◌, ◌==◌, ◌&&◌, not, nat_lt, Bool, true, false, [], ◌∷◌, ◌++◌, Option, Some, None, if◌then◌else◌}
 use Rattle.std.specs.FinMap.{get, keys}
-use Rattle.atl_orders.specs.declared.order.Order.TheVariants as orders
+use Rattle.atl_orders.specs.declared.order.Operands.TheVariants as operands
 use Rattle.atl_orders.specs.declared.verb.Verb.{Verb}
 use Rattle.atl_orders.specs.declared.verb.Verb.TheVariants as verbs
-use Rattle.atl_orders.specs.Orders.{Said}
+use Rattle.atl_orders.specs.Orders.{OperandsValue}
 use Rattle.atl_records.specs.declared.event.EventFault.{EventFault}
 use Rattle.atl_records.specs.declared.event.EventFault.TheVariants.{NoRoom, NotEnough, NotHere, NotYours}
 use Rattle.atl_records.specs.declared.event.Outcome.{Outcome}
 use Rattle.atl_records.specs.declared.event.Outcome.TheVariants.{Done}
 use Rattle.atl_records.specs.declared.records.Unit.{Unit}
-use Rattle.atl_records.specs.Held.{Held, amount_of}
+use Rattle.atl_records.specs.Holdings.{HoldingValue, amount_of}
 use Rattle.atl_state.specs.Lending.{with_held}
 use Rattle.atl_records.specs.Limits.{men_limit}
 use Rattle.atl_state.specs.Campaign.{CampaignValue}
@@ -18,9 +18,9 @@ use Rattle.atl_instant.specs.Amounts.{amounts_for}
 use Rattle.atl_instant.specs.Month.{Aliases}
 use Rattle.atl_instant.specs.Outcomes.{first_fault, unless}
 use Rattle.atl_instant.specs.PhaseOrders.{unit_of}
-use Rattle.atl_instant.specs.Staying.{IsNoWorse}
-use Rattle.atl_instant.specs.Steps.{Deed, IsOwnOrder, Step}
-use Rattle.atl_instant.specs.Terms.{PhaseTerms, goes_by_orders}
+use Rattle.atl_instant.specs.NoWorse.{IsNoWorse}
+use Rattle.atl_instant.specs.OrderEffects.{IsOwnOrder, OrderEffect, OrderMeaning}
+use Rattle.atl_instant.specs.PhaseSpecs.{PhaseSpec, goes_by_orders}
 
 abbrev pub is_transferring : Verb → Bool
 is_transferring verbs.Transfer = true
@@ -33,32 +33,32 @@ abbrev pub days_going : (n men days : ℕ) → ℕ
 days_going n men days = days * n / men
 
 -- those that go with n of a unit's men, and those that stay
-abbrev pub going_of : (n : ℕ) → Held → (skill : ℕ) → ℕ
+abbrev pub going_of : (n : ℕ) → HoldingValue → (skill : ℕ) → ℕ
 going_of n h s = days_going n h.men (amount_of h.days s)
 
-abbrev pub staying_of : (n : ℕ) → Held → (skill : ℕ) → ℕ
+abbrev pub staying_of : (n : ℕ) → HoldingValue → (skill : ℕ) → ℕ
 staying_of n h s = amount_of h.days s - going_of n h s
 
 -- those of a unit to which n men of another come
-abbrev pub raised_of : (n : ℕ) → (other h : Held) → (skill : ℕ) → ℕ
+abbrev pub raised_of : (n : ℕ) → (other h : HoldingValue) → (skill : ℕ) → ℕ
 raised_of n other h s = amount_of h.days s + going_of n other s
 
 -- n men less
-abbrev pub with_fewer : (n : ℕ) → Held → Held
+abbrev pub with_fewer : (n : ℕ) → HoldingValue → HoldingValue
 with_fewer n h = record h { men = h.men - n; days = amounts_for (staying_of n h) (keys h.days) }
 
 -- n men of another unit more
-abbrev pub with_more : (n : ℕ) → (other h : Held) → Held
+abbrev pub with_more : (n : ℕ) → (other h : HoldingValue) → HoldingValue
 with_more n other h = record h { men = h.men + n; days = amounts_for (raised_of n other h) (keys h.days ++ keys other.days) }
 
 -- ---- a law: so both have of any skill, once n men went
 
-pub record HaveDaysOf (n : ℕ) (other h : Held) (skill : ℕ) : Type 0 where
+pub record HaveDaysOf (n : ℕ) (other h : HoldingValue) (skill : ℕ) : Type 0 where
   pub stay : amount_of (with_fewer n other).days skill ≡ staying_of n other skill
   pub come : amount_of (with_more n other h).days skill ≡ raised_of n other h skill
 
 abbrev pub DaysGoWithMen : Type 0
-DaysGoWithMen = (n : ℕ) (other h : Held) (skill : ℕ) → HaveDaysOf n other h skill
+DaysGoWithMen = (n : ℕ) (other h : HoldingValue) (skill : ℕ) → HaveDaysOf n other h skill
 
 -- ---- one order
 
@@ -74,26 +74,26 @@ transfer_fault n itself u (Some v) =
     ∷ [])
 
 -- Men go from one unit to another. To itself nothing changes.
-abbrev pub sent : CampaignValue → (from to n : ℕ) → Option Unit → Option Unit → CampaignValue
-sent c from to n (Some u) (Some v) =
+abbrev pub after_transfer : CampaignValue → (from to n : ℕ) → Option Unit → Option Unit → CampaignValue
+after_transfer c from to n (Some u) (Some v) =
     if to == from then c else with_held (with_held c from (with_fewer n u.holding) (Some u)) to (with_more n u.holding v.holding) (Some v)
-sent c from to n sender receiver = c
+after_transfer c from to n sender receiver = c
 
 abbrev pub transfer_to : CampaignValue → (from to n : ℕ) → Unit → Option Unit → CampaignValue × Outcome
-transfer_to c from to n u receiver = unless c (transfer_fault n (to == from) u receiver) (sent c from to n (Some u) receiver, Done n)
+transfer_to c from to n u receiver = unless c (transfer_fault n (to == from) u receiver) (after_transfer c from to n (Some u) receiver, Done n)
 
-unfoldable pub transfer : (from to n : ℕ) → Deed
+unfoldable pub transfer : (from to n : ℕ) → OrderEffect
 transfer from to n c u = transfer_to c from to n u (get c.units to)
 
-abbrev pub transfer_said : Aliases → (f from : ℕ) → Said → Option Deed
-transfer_said aliases f from (orders.Transfer to n) = Some (transfer from (unit_of aliases f to) n)
-transfer_said aliases f from other = None
+abbrev pub transfer_effect : Aliases → (f from : ℕ) → OperandsValue → Option OrderEffect
+transfer_effect aliases f from (operands.UnitAndNumber to n) = Some (transfer from (unit_of aliases f to) n)
+transfer_effect aliases f from other = None
 
-abbrev pub transfer_step : Step
-transfer_step w aliases t = transfer_said aliases t.faction t.unit t.said
+abbrev pub transfer_step : OrderMeaning
+transfer_step w aliases t = transfer_effect aliases t.faction t.unit t.order_value.operands
 
 -- ---- the phase
 
 -- a unit for which its own faction wrote no such order is no worse off
-abbrev pub transfer_terms : PhaseTerms
-transfer_terms = goes_by_orders transfer_step is_transferring IsOwnOrder IsNoWorse
+abbrev pub transfer_spec : PhaseSpec
+transfer_spec = goes_by_orders transfer_step is_transferring IsOwnOrder IsNoWorse

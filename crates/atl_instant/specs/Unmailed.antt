@@ -6,18 +6,18 @@ use Rattle.atl_records.specs.declared.event.EventVerb.TheVariants as verbs
 use Rattle.atl_records.specs.declared.event.Outcome.{Outcome}
 use Rattle.atl_records.specs.declared.event.Outcome.TheVariants as outcomes
 use Rattle.atl_records.specs.declared.records.Unit.{Unit}
-use Rattle.atl_records.specs.Held.{amount_of}
+use Rattle.atl_records.specs.Holdings.{amount_of}
 use Rattle.atl_state.specs.Campaign.{CampaignValue}
-use Rattle.atl_instant.specs.Steps.{IsSpared}
+use Rattle.atl_instant.specs.OrderEffects.{IsUnaffected}
 
 -- how many men starved, as the upkeep of their unit tells
-abbrev pub starved_told : EventVerb → Outcome → ℕ
-starved_told verbs.Upkeep (outcomes.Starved men) = men
-starved_told verb outcome = 0
+abbrev pub men_starved_by : EventVerb → Outcome → ℕ
+men_starved_by verbs.Upkeep (outcomes.Starved men) = men
+men_starved_by verb outcome = 0
 
 -- how many men of a unit, by its number, starved, as the events of a month tell
 abbrev pub starved_in : List Event → (number : ℕ) → ℕ
-starved_in events number = sum_by (λ e. if e.unit == number then starved_told e.verb e.outcome else 0) events
+starved_in events number = sum_by (λ e. if e.unit == number then men_starved_by e.verb e.outcome else 0) events
 
 -- a unit with its name, exactly so many men less, and no less of any item
 pub record IsLessBy (fewer : ℕ) (before after : Unit) : Type 0 where
@@ -28,4 +28,4 @@ pub record IsLessBy (fewer : ℕ) (before after : Unit) : Type 0 where
 
 -- A unit of whom not all men starved is there, without those.
 abbrev pub IsLeft : (starved : ℕ) → (after : CampaignValue) → (number : ℕ) → Unit → Type 0
-IsLeft starved after number u = starved < u.holding.men → IsSpared (IsLessBy starved) after number u
+IsLeft starved after number u = starved < u.holding.men → IsUnaffected (IsLessBy starved) after number u

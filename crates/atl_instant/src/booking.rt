@@ -1,6 +1,6 @@
-//! What phases book.
+//! Books an amount that a phase takes out of the campaign.
 ghost use Rattle.std.specs.Prelude.{pos, neg_ℤ, length, ◌≡◌, ◌<◌};
-ghost use Rattle.atl_records.specs.Books.{amount_in, thing_place};
+ghost use Rattle.atl_records.specs.Books.{amount_in, thing_index};
 ghost use Rattle.atl_state.specs.Marking.{mark_amount};
 ghost use Rattle.atl_state.specs.Campaign.{with_amount};
 ghost use Rattle.atl_instant.specs.Meaning.{HasRoom};
@@ -9,9 +9,10 @@ use atl_state::{Campaign, Entry, Thing};
 
 /// Books that so much of a thing is taken away, under an entry of the books. It takes no memory.
 pub fn book_taken(campaign: &mut Campaign, entry: Entry, thing: Thing, amount: u32)
-    requires there { thing_place thing < length campaign.old.value.books }
+    requires there { thing_index thing < length campaign.old.value.books }
     requires room { HasRoom amount (amount_in campaign.old.value.books entry thing) }
-    ensures what { campaign.new.value ≡ with_amount campaign.old.value entry thing (neg_ℤ (pos amount)) }
+    ensures what { campaign.new.value
+        ≡ with_amount campaign.old.value entry thing (neg_ℤ (pos amount)) }
     ensures marks { campaign.new.marks ≡ mark_amount campaign.old entry thing }
 {
     campaign.book(entry, thing, -i64::from(amount));

@@ -1,23 +1,23 @@
-//! FORM: units form new ones.
+//! FORM: units form new units. See docs/RULES.md, "Form".
 ghost use Rattle.std.specs.Prelude.{◌≡◌, ◌≤◌, IfOk, List, None, OnOk, map as each, ℕ};
 ghost use Rattle.std.specs.FinMap as map;
-ghost use Rattle.atl_orders.specs.Orders.{said};
+ghost use Rattle.atl_orders.specs.Orders.{named};
 ghost use Rattle.atl_state.specs.Covers.{MarksChanges};
 ghost use Rattle.atl_state.specs.Good.{IsEarly};
 ghost use Rattle.atl_records.specs.Limits.{last_unit};
-ghost use Rattle.atl_instant.specs.Form.{alias_of, form_by, form_fault, form_keeps, form_meaning, formed, is_forming, is_unit_limit, new_unit, noted};
+ghost use Rattle.atl_instant.specs.Form.{alias_of, aliases_after, form_by, form_fault, form_keeps, form_meaning, is_forming, is_unit_limit, new_unit, with_formed_unit};
 ghost use Rattle.atl_instant.specs.Forming.{form_apart, forming_of};
 ghost use Rattle.atl_instant.specs.PhaseOrders.{orders_of, task_of};
-ghost use Rattle.atl_instant.specs.declared.written.Arrangement.TheVariants.{ByFaction};
+ghost use Rattle.atl_instant.specs.declared.phase_order.Arrangement.TheVariants.{ByFaction};
 
 use crate::inside::{region_of, structure_of};
 use crate::month::Month;
+use crate::order_phase::is_of_faction;
 use crate::orders::PhaseVerbs;
-use crate::outcome::failed;
-use crate::phase::{Phase, Ran};
-use crate::steps::is_of_faction;
-use crate::written::{Arrangement, Written};
-use atl_orders::{Order, Verb};
+use crate::outcome::fault_outcome;
+use crate::phase::{Phase, PhaseResult};
+use crate::phase_order::{Arrangement, PhaseOrder};
+use atl_orders::{Operands, Verb};
 use atl_state::{
     Campaign, Event, EventFault, EventVerb, Holding, LAST_UNIT, MOST_UNITS, Outcome, Unit,
 };
@@ -76,7 +76,8 @@ fn begin(
 ) -> Result<u32, AllocError>
     requires free { map.get campaign.old.value.units campaign.old.value.next_unit ≡ None }
     requires room { campaign.old.value.next_unit ≤ last_unit }
-    ensures what { OnOk result (campaign.new.value ≡ formed campaign.old.value faction parent) }
+    ensures what { OnOk result
+        (campaign.new.value ≡ with_formed_unit campaign.old.value faction parent) }
     ensures number { IfOk result (λ number. number ≡ campaign.old.value.next_unit) }
     ensures marks { OnOk result (MarksChanges campaign.old campaign.new) }
 {
@@ -97,12 +98,15 @@ fn form(
     alias: u32,
 ) -> Result<Outcome, AllocError>
     requires free { map.get campaign.old.value.units campaign.old.value.next_unit ≡ None }
-    ensures value { IfOk result (λ outcome. (campaign.new.value, outcome) ≡ form_by campaign.old.value faction parent) }
-    ensures aliases { IfOk result (λ outcome. month.new ≡ record month.old { aliases = noted month.old.aliases faction alias outcome }) }
+    ensures value { IfOk result
+        (λ outcome. (campaign.new.value, outcome) ≡ form_by campaign.old.value faction parent) }
+    ensures aliases { IfOk result
+        (λ outcome. month.new ≡ record month.old
+        { aliases = aliases_after month.old.aliases faction alias outcome }) }
     ensures marks { OnOk result (MarksChanges campaign.old campaign.new) }
 {
     match form_fault(campaign, faction, parent) {
-        Some(fault) => Ok(failed(fault)),
+        Some(fault) => Ok(fault_outcome(fault)),
         None => {
             let number = begin(alloc, campaign, faction, parent)?;
             month.set_alias(alloc, faction, alias, number)?;
@@ -112,11 +116,11 @@ fn form(
 }
 
 /// The alias that an order gives, or 0.
-fn alias_of(what: &Order) -> u32
-    ensures { (text : List ℕ) → result ≡ alias_of (said text what.now) }
+fn alias_of(what: &Operands) -> u32
+    ensures { (text : List ℕ) → result ≡ alias_of (named text what.now) }
 {
     match what {
-        Order::Form(alias) => *alias,
+        Operands::Alias(alias) => *alias,
         _ => 0,
     }
 }
@@ -132,21 +136,23 @@ pub(crate) struct Forming {
 }
 
 /// An order apart from the month.
-fn forming_of(order: Written<'_>) -> Forming
+fn forming_of(order: PhaseOrder<'_>) -> Forming
     ensures { result ≡ forming_of (task_of order.entry) }
 {
     Forming {
         unit: order.unit,
         line: order.line,
         faction: order.faction,
-        verb: order.order.verb(),
-        alias: alias_of(order.order),
+        verb: order.order.verb,
+        alias: alias_of(&order.order.operands),
     }
 }
 
 /// The orders of a month apart from it, by faction and line.
 fn formings(alloc: Global, month: &Month) -> Result<Vec<Forming>, AllocError>
-    ensures { IfOk result (λ list. list.items ≡ each forming_of (map.values (orders_of is_forming ByFaction month.now.aliases month.now.readings))) }
+    ensures { IfOk result (λ list. list.items
+        ≡ each forming_of (map.values
+        (orders_of is_forming ByFaction month.now.aliases month.now.readings))) }
 {
     let orders = month.orders(alloc, &FormPhase, Arrangement::ByFaction)?;
     let mut list = Vec::new(alloc);
@@ -164,7 +170,8 @@ fn form_one(
     order: Forming,
 ) -> Result<(), AllocError>
     requires free { map.get campaign.old.value.units campaign.old.value.next_unit ≡ None }
-    ensures step { OnOk result ((campaign.new.value, month.new) ≡ form_apart (campaign.old.value, month.old) order) }
+    ensures step { OnOk result
+        ((campaign.new.value, month.new) ≡ form_apart (campaign.old.value, month.old) order) }
     ensures marks { OnOk result (MarksChanges campaign.old campaign.new) }
 {
     let outcome = form(
@@ -175,7 +182,7 @@ fn form_one(
         order.unit,
         order.alias,
     )?;
-    month.tell(Event {
+    month.add_event(Event {
         faction: order.faction,
         unit: order.unit,
         line: order.line,
@@ -201,7 +208,13 @@ impl Phase for FormPhase {
 
     ghost keeps = { form_keeps };
 
-    fn run(&self, alloc: Global, _world: &World, mut campaign: Campaign, mut month: Month) -> Ran {
+    fn run(
+        &self,
+        alloc: Global,
+        _world: &World,
+        mut campaign: Campaign,
+        mut month: Month,
+    ) -> PhaseResult {
         let orders = formings(alloc, &month)?;
         for order in &orders {
             form_one(alloc, &mut campaign, &mut month, *order)?;

@@ -1,23 +1,23 @@
-//! GIVE and PAY.
+//! GIVE and PAY: a unit gives items or money to another. See docs/RULES.md, "Giving".
 ghost use Rattle.std.specs.Prelude.{◌≡◌, ◌≢◌, ◌≤◌, ◌+◌, IfOk, OnOk, Some, nat_lt, true};
 ghost use Rattle.std.specs.FinMap as map;
 ghost use Rattle.std.specs.Option.{option_copied};
 ghost use Rattle.atl_state.specs.Covers.{MarksChanges};
 ghost use Rattle.atl_records.specs.Every.{Every};
 ghost use Rattle.atl_state.specs.Good.{IsEarly};
-ghost use Rattle.atl_records.specs.Held.{IsHolding};
+ghost use Rattle.atl_records.specs.Holdings.{IsHolding};
 ghost use Rattle.atl_records.specs.declared.records.Unit.{Unit};
 ghost use Rattle.atl_records.specs.Limits.{holding_limit};
 ghost use Rattle.atl_instant.specs.Holdings.{ChangesHolding};
-ghost use Rattle.atl_instant.specs.Give.{give, give_fault, give_step, given, held_of, is_giving, with_held_of};
-ghost use Rattle.atl_instant.specs.Steps.{carried};
+ghost use Rattle.atl_instant.specs.Give.{after_gift, give, give_fault, give_step, held_of, is_giving, with_held_of};
+ghost use Rattle.atl_instant.specs.OrderEffects.{faction_effect};
 
 use crate::month::Month;
+use crate::order_phase::{OrderPhase, PlainPhase, own_unit};
 use crate::orders::PhaseVerbs;
-use crate::outcome::failed;
-use crate::steps::{OrderPhase, PlainPhase, own_unit};
-use crate::written::Written;
-use atl_orders::{Order, Verb};
+use crate::outcome::fault_outcome;
+use crate::phase_order::PhaseOrder;
+use atl_orders::{Operands, Verb};
 use atl_state::{Campaign, EventFault, HOLDING_LIMIT, Holding, Outcome, Unit};
 use atl_tables::World;
 use std::alloc::{AllocError, Global};
@@ -78,7 +78,8 @@ fn give_fault(
 /// Sets how much of a gift a unit holds, where it is there.
 fn set_held(campaign: &mut Campaign, number: u32, gift: Gift, amount: u32) -> Result<(), AllocError>
     requires { amount ≤ holding_limit }
-    ensures { OnOk result (ChangesHolding campaign.old campaign.new number (λ h. with_held_of gift h amount)) }
+    ensures { OnOk result (ChangesHolding campaign.old campaign.new number
+        (λ h. with_held_of gift h amount)) }
 {
     match gift {
         Gift::Money => {
@@ -99,9 +100,13 @@ fn hand_over(
 ) -> Result<(), AllocError>
     requires limits { Every (λ n u. IsHolding u.holding) campaign.old.value.units }
     requires apart { to ≢ from }
-    requires enough { (u : Unit) → map.get campaign.old.value.units from ≡ Some u → amount ≤ held_of gift u.holding }
-    requires room { (v : Unit) → map.get campaign.old.value.units to ≡ Some v → held_of gift v.holding + amount ≤ holding_limit }
-    ensures what { OnOk result (campaign.new.value ≡ given campaign.old.value from to gift amount (map.get campaign.old.value.units from) (map.get campaign.old.value.units to)) }
+    requires enough { (u : Unit) → map.get campaign.old.value.units from ≡ Some u
+        → amount ≤ held_of gift u.holding }
+    requires room { (v : Unit) → map.get campaign.old.value.units to ≡ Some v
+        → held_of gift v.holding + amount ≤ holding_limit }
+    ensures what { OnOk result
+        (campaign.new.value ≡ after_gift campaign.old.value from to gift amount
+        (map.get campaign.old.value.units from) (map.get campaign.old.value.units to)) }
     ensures marks { OnOk result (MarksChanges campaign.old campaign.new) }
 {
     let (Some(giver), Some(receiver)) = (campaign.unit(from), campaign.unit(to)) else {
@@ -117,21 +122,24 @@ fn hand_over(
 #[tactic(auto, unfolding(crate::specs::Give::give))]
 fn give(
     campaign: &mut Campaign,
-    order: Written<'_>,
+    order: PhaseOrder<'_>,
     to: u32,
     gift: Gift,
     amount: u32,
 ) -> Result<Outcome, AllocError>
     requires limits { Every (λ n u. IsHolding u.holding) campaign.old.value.units }
-    ensures what { IfOk result (λ outcome. (campaign.new.value, outcome) ≡ carried (give order.entry.unit to gift amount) campaign.old.value order.entry.faction order.entry.unit) }
+    ensures what { IfOk result
+        (λ outcome. (campaign.new.value, outcome)
+        ≡ faction_effect (give order.entry.unit to gift amount) campaign.old.value
+        order.entry.faction order.entry.unit) }
     ensures marks { OnOk result (MarksChanges campaign.old campaign.new) }
 {
     let Some(giver) = own_unit(campaign, order) else {
-        return Ok(failed(EventFault::NotYours));
+        return Ok(fault_outcome(EventFault::NotYours));
     };
     let receiver = campaign.unit(to);
     if let Some(fault) = give_fault(gift, amount, to == order.unit, giver, receiver) {
-        return Ok(failed(fault));
+        return Ok(fault_outcome(fault));
     }
     if to != order.unit {
         hand_over(campaign, order.unit, to, gift, amount)?;
@@ -158,17 +166,17 @@ impl OrderPhase for GivePhase {
         _: &World,
         campaign: &mut Campaign,
         month: &Month,
-        order: Written<'_>,
+        order: PhaseOrder<'_>,
     ) -> Result<Option<Outcome>, AllocError> {
-        match order.order {
-            Order::Give { to, amount, item } => {
+        match &order.order.operands {
+            Operands::UnitAndGoods { to, amount, item } => {
                 let receiver = month.unit(order.faction, *to);
                 let outcome = give(campaign, order, receiver, Gift::Item(*item), *amount)?;
                 Ok(Some(outcome))
             }
-            Order::Pay { to, amount } => {
+            Operands::UnitAndNumber { to, number } => {
                 let receiver = month.unit(order.faction, *to);
-                let outcome = give(campaign, order, receiver, Gift::Money, *amount)?;
+                let outcome = give(campaign, order, receiver, Gift::Money, *number)?;
                 Ok(Some(outcome))
             }
             _ => Ok(None),

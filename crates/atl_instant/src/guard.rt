@@ -1,22 +1,22 @@
-//! GUARD 1.
+//! GUARD 1: a unit begins to guard its region. See docs/RULES.md, "Guarding".
 ghost use Rattle.std.specs.Prelude.{◌≡◌, IfOk, OnOk};
 ghost use Rattle.atl_tables.specs.Worlds.{WorldValue};
 ghost use Rattle.atl_state.specs.Covers.{MarksChanges};
 ghost use Rattle.atl_state.specs.Campaign.{CampaignValue};
-ghost use Rattle.atl_instant.specs.Guard.{guard, guard_fault, guard_said, guard_step, guard_terms, is_guarding};
-ghost use Rattle.atl_instant.specs.Holders.{AreHolders};
+ghost use Rattle.atl_instant.specs.Guard.{guard, guard_effect, guard_fault, guard_spec, guard_step, is_guarding};
+ghost use Rattle.atl_instant.specs.RegionGuards.{AreRegionGuards};
 ghost use Rattle.atl_instant.specs.Month.{MonthValue, with_events};
 ghost use Rattle.atl_instant.specs.PhaseOrders.{task_of};
-ghost use Rattle.atl_instant.specs.Steps.{carried, one_order, ordered};
+ghost use Rattle.atl_instant.specs.OrderEffects.{faction_effect, one_order, order_result};
 
-use crate::holders::Holders;
-use crate::month::{Month, tell_all};
+use crate::month::{Month, add_events};
+use crate::order_phase::own_unit;
 use crate::orders::PhaseVerbs;
-use crate::outcome::failed;
-use crate::phase::{Phase, Ran};
-use crate::steps::own_unit;
-use crate::written::{Arrangement, Written};
-use atl_orders::{Order, Verb};
+use crate::outcome::fault_outcome;
+use crate::phase::{Phase, PhaseResult};
+use crate::phase_order::{Arrangement, PhaseOrder};
+use crate::region_guards::RegionGuards;
+use atl_orders::{Operands, Verb};
 use atl_state::{Campaign, Event, EventFault, Outcome, Unit};
 use atl_tables::World;
 use std::alloc::{AllocError, Global};
@@ -26,13 +26,14 @@ use std::alloc::{AllocError, Global};
 pub struct GuardPhase;
 
 /// Why a unit can't guard, in a campaign whose regions are so held.
-fn guard_fault(holders: &Holders, unit: &Unit) -> Option<EventFault>
-    ensures { (c : CampaignValue) → AreHolders c holders.now → result ≡ guard_fault c unit.now }
+fn guard_fault(holders: &RegionGuards, unit: &Unit) -> Option<EventFault>
+    ensures { (c : CampaignValue) → AreRegionGuards c holders.now
+        → result ≡ guard_fault c unit.now }
 {
     if unit.holding.men() == 0 {
         return Some(EventFault::NoMen);
     }
-    if holders.is_held_against(unit.region, unit.faction) {
+    if holders.has_other_guard(unit.region, unit.faction) {
         return Some(EventFault::Guarded);
     }
     None
@@ -42,19 +43,22 @@ fn guard_fault(holders: &Holders, unit: &Unit) -> Option<EventFault>
 #[tactic(auto, unfolding(crate::specs::Guard::guard))]
 fn guard(
     campaign: &mut Campaign,
-    holders: &mut Holders,
-    order: Written<'_>,
+    holders: &mut RegionGuards,
+    order: PhaseOrder<'_>,
 ) -> Result<Outcome, AllocError>
-    requires held { AreHolders campaign.old.value holders.old }
-    ensures what { IfOk result (λ outcome. (campaign.new.value, outcome) ≡ carried (guard order.entry.unit) campaign.old.value order.entry.faction order.entry.unit) }
-    ensures held { OnOk result (AreHolders campaign.new.value holders.new) }
+    requires held { AreRegionGuards campaign.old.value holders.old }
+    ensures what { IfOk result
+        (λ outcome. (campaign.new.value, outcome)
+        ≡ faction_effect (guard order.entry.unit) campaign.old.value order.entry.faction
+        order.entry.unit) }
+    ensures held { OnOk result (AreRegionGuards campaign.new.value holders.new) }
     ensures marks { OnOk result (MarksChanges campaign.old campaign.new) }
 {
     let Some(unit) = own_unit(campaign, order) else {
-        return Ok(failed(EventFault::NotYours));
+        return Ok(fault_outcome(EventFault::NotYours));
     };
     if let Some(fault) = guard_fault(holders, unit) {
-        return Ok(failed(fault));
+        return Ok(fault_outcome(fault));
     }
     holders.set(unit.region, unit.faction)?;
     campaign.set_guard(order.unit, true);
@@ -64,16 +68,19 @@ fn guard(
 /// What comes of an order, or None where it is passed over, as GUARD 0 is.
 fn carry_out(
     campaign: &mut Campaign,
-    holders: &mut Holders,
-    order: Written<'_>,
+    holders: &mut RegionGuards,
+    order: PhaseOrder<'_>,
 ) -> Result<Option<Outcome>, AllocError>
-    requires held { AreHolders campaign.old.value holders.old }
-    ensures what { IfOk result (λ outcome. (campaign.new.value, outcome) ≡ ordered (guard_said order.entry.unit (task_of order.entry).said) campaign.old.value order.entry.faction order.entry.unit) }
-    ensures held { OnOk result (AreHolders campaign.new.value holders.new) }
+    requires held { AreRegionGuards campaign.old.value holders.old }
+    ensures what { IfOk result
+        (λ outcome. (campaign.new.value, outcome)
+        ≡ order_result (guard_effect order.entry.unit (task_of order.entry).order_value.operands)
+        campaign.old.value order.entry.faction order.entry.unit) }
+    ensures held { OnOk result (AreRegionGuards campaign.new.value holders.new) }
     ensures marks { OnOk result (MarksChanges campaign.old campaign.new) }
 {
-    match order.order {
-        Order::Guard(true) => Ok(Some(guard(campaign, holders, order)?)),
+    match &order.order.operands {
+        Operands::Flag(true) => Ok(Some(guard(campaign, holders, order)?)),
         _ => Ok(None),
     }
 }
@@ -81,13 +88,16 @@ fn carry_out(
 /// Carries out an order, and puts what came of it behind other events.
 fn guard_one(
     campaign: &mut Campaign,
-    holders: &mut Holders,
-    order: Written<'_>,
+    holders: &mut RegionGuards,
+    order: PhaseOrder<'_>,
     events: &mut Vec<Event>,
 ) -> Result<(), AllocError>
-    requires held { AreHolders campaign.old.value holders.old }
-    ensures step { (w : WorldValue) (m : MonthValue) → OnOk result ((campaign.new.value, with_events m events.new.items) ≡ one_order guard_step w (campaign.old.value, with_events m events.old.items) (task_of order.entry)) }
-    ensures held { OnOk result (AreHolders campaign.new.value holders.new) }
+    requires held { AreRegionGuards campaign.old.value holders.old }
+    ensures step { (w : WorldValue) (m : MonthValue)
+        → OnOk result ((campaign.new.value, with_events m events.new.items)
+        ≡ one_order guard_step w (campaign.old.value, with_events m events.old.items)
+        (task_of order.entry)) }
+    ensures held { OnOk result (AreRegionGuards campaign.new.value holders.new) }
     ensures marks { OnOk result (MarksChanges campaign.old campaign.new) }
 {
     if let Some(outcome) = carry_out(campaign, holders, order)? {
@@ -105,19 +115,25 @@ impl PhaseVerbs for GuardPhase {
 }
 
 impl Phase for GuardPhase {
-    ghost meaning = { guard_terms.meaning };
+    ghost meaning = { guard_spec.meaning };
 
-    ghost keeps = { guard_terms.keeps };
+    ghost keeps = { guard_spec.keeps };
 
-    fn run(&self, alloc: Global, _world: &World, mut campaign: Campaign, mut month: Month) -> Ran {
-        let mut holders = Holders::of(alloc, &campaign)?;
+    fn run(
+        &self,
+        alloc: Global,
+        _world: &World,
+        mut campaign: Campaign,
+        mut month: Month,
+    ) -> PhaseResult {
+        let mut holders = RegionGuards::of(alloc, &campaign)?;
         let orders = month.orders(alloc, self, Arrangement::ByUnit)?;
         let mut events = Vec::new(alloc);
         for order in &orders {
             guard_one(&mut campaign, &mut holders, *order, &mut events)?;
         }
         drop(orders);
-        tell_all(&mut month, &events)?;
+        add_events(&mut month, &events)?;
         Ok((campaign, month))
     }
 }

@@ -1,4 +1,4 @@
-//! What phases set of a unit's men and of their days.
+//! Sets the men of a unit together with its days.
 ghost use Rattle.std.specs.Prelude.{◌≡◌, ◌≤◌, OnOk};
 ghost use Rattle.atl_records.specs.Limits.{men_limit};
 ghost use Rattle.atl_instant.specs.Holdings.{ChangesHolding, with_days};
@@ -8,7 +8,9 @@ use std::alloc::AllocError;
 
 /// Sets the days of some skills of a unit, each over all men.
 fn set_each(campaign: &mut Campaign, unit: u32, list: &[(u32, u32)]) -> Result<(), AllocError>
-    ensures what { OnOk result (ChangesHolding campaign.old campaign.new unit (λ h. record h { days = with_days h.days list.now })) }
+    ensures what { OnOk result
+        (ChangesHolding campaign.old campaign.new unit
+        (λ h. record h { days = with_days h.days list.now })) }
     ensures items { OnOk result (campaign.new.marks.items ≡ campaign.old.marks.items) }
 {
     for (skill, days) in list.iter() {
@@ -27,7 +29,9 @@ pub fn set_people(
     days: &[(u32, u32)],
 ) -> Result<(), AllocError>
     requires { men ≤ men_limit }
-    ensures what { OnOk result (ChangesHolding campaign.old campaign.new unit (λ h. record h { men = men; days = with_days h.days days.now })) }
+    ensures what { OnOk result
+        (ChangesHolding campaign.old campaign.new unit
+        (λ h. record h { men = men; days = with_days h.days days.now })) }
     ensures items { OnOk result (campaign.new.marks.items ≡ campaign.old.marks.items) }
 {
     campaign.set_men(unit, men);

@@ -1,4 +1,4 @@
-//! Where a unit is.
+//! The region and the structure that a unit is in.
 ghost use Rattle.std.specs.Prelude.{◌≡◌};
 ghost use Rattle.atl_instant.specs.Inside.{inside, region_of};
 

@@ -1,4 +1,4 @@
-//! The items that units hold.
+//! A list of the items that a unit holds.
 ghost use Rattle.std.specs.Prelude.{◌≡◌, ◌<◌, IfOk, length};
 ghost use Rattle.std.specs.FinMap.{entries};
 ghost use Rattle.atl_records.specs.Every.{Every};

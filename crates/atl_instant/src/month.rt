@@ -1,15 +1,15 @@
-//! What a month carries from phase to phase.
+//! A month: its mailings, aliases, dice words and events, which phases hand on.
 ghost use Rattle.std.specs.Prelude.{◌≡◌, ◌++◌, ◌∷◌, [], IfOk, OnOk, OnErr, map, option_copied, option_map};
 ghost use Rattle.std.specs.FinMap.{empty, get, values};
 ghost use Rattle.atl_orders.specs.Mailing.{reading_of};
 ghost use Rattle.atl_instant.specs.Month.{HaveOwnFactions, HaveNoOrder, alias_unit, by_faction, with_alias, with_events};
 ghost use Rattle.atl_instant.specs.PhaseOrders.{orders_of, task_of, unit_of};
-ghost use Rattle.atl_instant.specs.Collecting.{AreByFaction};
+ghost use Rattle.atl_instant.specs.OrderIndices.{AreByFaction};
 
-use crate::gathering::{Placed, gathered};
+use crate::order_indices::{OrderIndex, order_indices};
 use crate::orders::{PhaseVerbs, orders_of};
+use crate::phase_order::{Arrangement, PhaseOrder};
 use crate::standing::unit_of;
-use crate::written::{Arrangement, Written};
 use atl_orders::{Mailing, UnitRef};
 use atl_state::Event;
 use atl_tables::{Numbered, let_go};
@@ -26,7 +26,7 @@ pub struct Month {
     words: Vec<u32>,
     events: Vec<Event>,
     // The places of the orders that stand by these aliases, by unit, line and faction; None until they are gathered.
-    standing: Option<Vec<Placed>>,
+    standing: Option<Vec<OrderIndex>>,
 }
 
 impl Drop for Month {
@@ -39,7 +39,7 @@ impl Model for Month {
     ghost use Rattle.std.specs.Prelude.{map};
     ghost use Rattle.atl_orders.specs.Mailing.{reading_of};
     ghost use Rattle.atl_instant.specs.Month.{MonthValue, month_code, by_faction};
-    ghost use Rattle.atl_instant.specs.Collecting.{IsReady};
+    ghost use Rattle.atl_instant.specs.OrderIndices.{IsReady};
 
     ghost Value = { MonthValue };
 
@@ -59,7 +59,13 @@ impl Month {
     /// A month with these mailings, no two of one faction, and these words, before its first phase. It takes no memory.
     pub fn new(alloc: Global, mut mailings: Vec<Mailing>, words: Vec<u32>) -> Month
         requires { HaveOwnFactions mailings.items }
-        ensures { result ≡ record { readings = by_faction (map reading_of mailings.items); aliases = empty; words = words.items; events = [] } }
+        ensures { result ≡ record {
+          readings = by_faction (map reading_of mailings.items);
+          aliases = empty;
+          words =
+              words.items;
+          events = [];
+        } }
     {
         sort(&mut mailings);
         Month {
@@ -100,8 +106,9 @@ impl Month {
     }
 
     /// Notes what came of an order. Without memory the month stays as it is.
-    pub fn tell(&mut self, event: Event) -> Result<(), AllocError>
-        ensures ok { OnOk result (self.new ≡ record self.old { events = self.old.events ++ event ∷ [] }) }
+    pub fn add_event(&mut self, event: Event) -> Result<(), AllocError>
+        ensures ok { OnOk result
+            (self.new ≡ record self.old { events = self.old.events ++ event ∷ [] }) }
         ensures err { OnErr result (self.new ≡ self.old) }
     {
         self.events.push(event)?;
@@ -116,7 +123,9 @@ impl Month {
         alias: u32,
         unit: u32,
     ) -> Result<(), AllocError>
-        ensures ok { OnOk result (self.new ≡ record self.old { aliases = with_alias self.old.aliases faction alias unit }) }
+        ensures ok { OnOk result
+            (self.new ≡ record self.old
+            { aliases = with_alias self.old.aliases faction alias unit }) }
         ensures err { OnErr result (self.new ≡ self.old) }
     {
         self.standing = None;
@@ -127,7 +136,7 @@ impl Month {
     pub(crate) fn gather(&mut self, alloc: Global) -> Result<(), AllocError>
         ensures { self.new ≡ self.old }
     {
-        let places = gathered(alloc, Arrangement::ByUnit, &self.aliases, &self.mailings)?;
+        let places = order_indices(alloc, Arrangement::ByUnit, &self.aliases, &self.mailings)?;
         self.standing = Some(places);
         Ok(())
     }
@@ -140,8 +149,9 @@ impl Month {
         alloc: Global,
         phase: &P,
         arrangement: Arrangement,
-    ) -> Result<Vec<Written<'_>>, AllocError>
-        ensures { IfOk result (λ list. map task_of list.items ≡ values (orders_of P.is_of arrangement self.now.aliases self.now.readings)) }
+    ) -> Result<Vec<PhaseOrder<'_>>, AllocError>
+        ensures { IfOk result (λ list. map task_of list.items
+            ≡ values (orders_of P.is_of arrangement self.now.aliases self.now.readings)) }
     {
         orders_of(
             alloc,
@@ -176,11 +186,11 @@ impl Month {
 }
 
 /// Notes what came of orders. Without memory some of the events may have come to the month.
-pub fn tell_all(month: &mut Month, events: &[Event]) -> Result<(), AllocError>
+pub fn add_events(month: &mut Month, events: &[Event]) -> Result<(), AllocError>
     ensures { OnOk result (month.new ≡ with_events month.old events.now) }
 {
     for event in events {
-        month.tell(*event)?;
+        month.add_event(*event)?;
     }
     Ok(())
 }
@@ -189,7 +199,8 @@ pub fn tell_all(month: &mut Month, events: &[Event]) -> Result<(), AllocError>
 fn sort(mailings: &mut Vec<Mailing>)
     requires { HaveOwnFactions mailings.old.items }
     ensures sorted { AreByFaction mailings.new.items }
-    ensures same { by_faction (map reading_of mailings.new.items) ≡ by_faction (map reading_of mailings.old.items) }
+    ensures same { by_faction (map reading_of mailings.new.items)
+        ≡ by_faction (map reading_of mailings.old.items) }
 {
     mailings.sort_unstable_by_key(|mailing| mailing.faction);
 }
@@ -197,7 +208,8 @@ fn sort(mailings: &mut Vec<Mailing>)
 /// The mailing of a faction, of mailings that are sorted by their factions.
 fn mailing_of(mailings: &[Mailing], faction: u32) -> Option<&Mailing>
     requires { AreByFaction mailings.now }
-    ensures { option_map reading_of (option_copied result) ≡ get (by_faction (map reading_of mailings.now)) faction }
+    ensures { option_map reading_of (option_copied result)
+        ≡ get (by_faction (map reading_of mailings.now)) faction }
 {
     match mailings.binary_search_by_key(&faction, |mailing| mailing.faction) {
         Ok(place) => Some(&mailings[place]),

@@ -1,4 +1,4 @@
-//! NAME and GUARD 0: units give names, and leave their guard.
+//! NAME and GUARD 0: units give names, and stop guarding. See docs/RULES.md, "Name".
 ghost use Rattle.std.specs.Prelude.{◌≡◌, IfOk, IsTrue, OnOk, false};
 ghost use Rattle.std.specs.FinMap as map;
 ghost use Rattle.atl_tables.specs.Names.{name_ok};
@@ -6,15 +6,15 @@ ghost use Rattle.atl_orders.specs.Orders.{name_in};
 ghost use Rattle.atl_state.specs.Campaign.{with_faction_name, with_guard, with_unit_name};
 ghost use Rattle.atl_state.specs.Covers.{MarksChanges};
 ghost use Rattle.atl_state.specs.Good.{IsEarly};
-ghost use Rattle.atl_instant.specs.Name.{is_naming, is_of_sort, name_concerns, name_step, named, names, structure_fault, structure_named, unguarded};
-ghost use Rattle.atl_instant.specs.Steps.{carried};
+ghost use Rattle.atl_instant.specs.Name.{is_naming, is_of_kind, leave_guard, name_concerns, name_result, name_step, naming, structure_fault, structure_name_result};
+ghost use Rattle.atl_instant.specs.OrderEffects.{faction_effect};
 
 use crate::month::Month;
+use crate::order_phase::{OrderPhase, PlainPhase, own_unit};
 use crate::orders::PhaseVerbs;
-use crate::outcome::failed;
-use crate::steps::{OrderPhase, PlainPhase, own_unit};
-use crate::written::Written;
-use atl_orders::{Mailing, NameKind, Order, Span, Verb};
+use crate::outcome::fault_outcome;
+use crate::phase_order::PhaseOrder;
+use atl_orders::{Mailing, NameKind, Operands, Span, Verb};
 use atl_state::{Campaign, EventFault, Outcome, Structure};
 use atl_tables::{Text, World};
 use std::alloc::{AllocError, Global};
@@ -51,8 +51,8 @@ fn name_faction(campaign: &mut Campaign, faction: u32, name: Text)
 }
 
 /// Whether a structure is a ship, or else a building.
-fn is_of_sort(world: &World, ship: bool, structure: &Structure) -> bool
-    ensures { result ≡ is_of_sort world.now ship structure.now }
+fn is_of_kind(world: &World, ship: bool, structure: &Structure) -> bool
+    ensures { result ≡ is_of_kind world.now ship structure.now }
 {
     let is_ship = match world.kinds().get(usize::from(structure.kind)) {
         Some(kind) => kind.ship,
@@ -69,10 +69,11 @@ fn structure_fault(
     inside: u32,
     ship: bool,
 ) -> Option<EventFault>
-    ensures { result ≡ structure_fault world.now unit ship (map.get campaign.now.value.structures inside) }
+    ensures { result ≡ structure_fault world.now unit ship
+        (map.get campaign.now.value.structures inside) }
 {
     match campaign.structure(inside) {
-        Some(structure) if !is_of_sort(world, ship, structure) => Some(EventFault::NotInside),
+        Some(structure) if !is_of_kind(world, ship, structure) => Some(EventFault::NotInside),
         Some(structure) if structure.owner != unit => Some(EventFault::NotOwner),
         Some(_) => None,
         None => Some(EventFault::NotInside),
@@ -88,11 +89,12 @@ fn name_structure(
     ship: bool,
     name: Text,
 ) -> Outcome
-    ensures value { (campaign.new.value, result) ≡ structure_named world.now campaign.old.value unit inside ship name }
+    ensures value { (campaign.new.value, result)
+        ≡ structure_name_result world.now campaign.old.value unit inside ship name }
     ensures marks { MarksChanges campaign.old campaign.new }
 {
     match structure_fault(world, campaign, unit, inside, ship) {
-        Some(fault) => failed(fault),
+        Some(fault) => fault_outcome(fault),
         None => {
             campaign.set_structure_name(inside, name);
             Outcome::Done(0)
@@ -109,12 +111,14 @@ fn clear_guard(campaign: &mut Campaign, unit: u32)
 }
 
 /// Clears the flag of a unit of the order's faction.
-fn leave_guard(campaign: &mut Campaign, order: Written<'_>) -> Outcome
-    ensures what { (campaign.new.value, result) ≡ carried (unguarded order.entry.unit) campaign.old.value order.entry.faction order.entry.unit }
+fn leave_guard(campaign: &mut Campaign, order: PhaseOrder<'_>) -> Outcome
+    ensures what { (campaign.new.value, result)
+        ≡ faction_effect (leave_guard order.entry.unit) campaign.old.value order.entry.faction
+        order.entry.unit }
     ensures marks { MarksChanges campaign.old campaign.new }
 {
     if own_unit(campaign, order).is_none() {
-        return failed(EventFault::NotYours);
+        return fault_outcome(EventFault::NotYours);
     }
     clear_guard(campaign, order.unit);
     Outcome::Done(0)
@@ -130,7 +134,8 @@ fn name(
     what: NameKind,
     name: Text,
 ) -> Outcome
-    ensures value { (campaign.new.value, result) ≡ named world.now campaign.old.value unit faction inside what name }
+    ensures value { (campaign.new.value, result)
+        ≡ name_result world.now campaign.old.value unit faction inside what name }
     ensures marks { MarksChanges campaign.old campaign.new }
 {
     match what {
@@ -147,16 +152,20 @@ fn give_name(
     alloc: Global,
     world: &World,
     campaign: &mut Campaign,
-    order: Written<'_>,
+    order: PhaseOrder<'_>,
     what: NameKind,
     span: Span,
 ) -> Result<Outcome, AllocError>
     requires fit { IsTrue (name_ok (name_in order.mailing.now.text span)) }
-    ensures value { IfOk result (λ outcome. (campaign.new.value, outcome) ≡ carried (names world.now order.entry.unit what (name_in order.entry.mailing.now.text span)) campaign.old.value order.entry.faction order.entry.unit) }
+    ensures value { IfOk result
+        (λ outcome. (campaign.new.value, outcome)
+        ≡ faction_effect (naming world.now order.entry.unit what
+        (name_in order.entry.mailing.now.text span)) campaign.old.value order.entry.faction
+        order.entry.unit) }
     ensures marks { OnOk result (MarksChanges campaign.old campaign.new) }
 {
     let Some(unit) = own_unit(campaign, order) else {
-        return Ok(failed(EventFault::NotYours));
+        return Ok(fault_outcome(EventFault::NotYours));
     };
     let (faction, inside) = (unit.faction, unit.structure);
     let given = name_of(alloc, order.mailing, span)?;
@@ -185,14 +194,14 @@ impl OrderPhase for NamePhase {
         world: &World,
         campaign: &mut Campaign,
         _month: &Month,
-        order: Written<'_>,
+        order: PhaseOrder<'_>,
     ) -> Result<Option<Outcome>, AllocError> {
-        match order.order {
-            Order::Name {
+        match &order.order.operands {
+            Operands::Name {
                 what: kind,
                 name: span,
             } => Ok(Some(give_name(alloc, world, campaign, order, *kind, *span)?)),
-            Order::Guard(false) => Ok(Some(leave_guard(campaign, order))),
+            Operands::Flag(false) => Ok(Some(leave_guard(campaign, order))),
             _ => Ok(None),
         }
     }

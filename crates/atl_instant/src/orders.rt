@@ -1,4 +1,4 @@
-//! The orders of a phase.
+//! The orders that a phase carries out, in their order. See docs/RULES.md, "Orders of a month".
 ghost use Rattle.std.specs.Prelude.{◌≡◌, map, IfOk, Bool};
 ghost use Rattle.std.specs.List.{All};
 ghost use Rattle.std.specs.FinMap.{values};
@@ -7,12 +7,12 @@ ghost use Rattle.atl_orders.specs.Mailing.{reading_of};
 ghost use Rattle.atl_instant.specs.Month.{by_faction};
 ghost use Rattle.atl_instant.specs.PhaseOrders.{OrdersAreInMailings, is_month_long, task_of, orders_of};
 ghost use Rattle.atl_instant.specs.StandOnce.{OneOrderStands};
-ghost use Rattle.atl_instant.specs.Collecting.{IsReady, IsThere, task_at, tasks_picked};
+ghost use Rattle.atl_instant.specs.OrderIndices.{IsReady, IsThere, task_at, tasks_picked};
 
-use crate::gathering::{Placed, gathered};
-use crate::standing::{Slot, is_slot, slot_of};
-use crate::written::{Arrangement, Written};
-use atl_orders::{Mailing, Verb};
+use crate::order_indices::{OrderIndex, order_indices};
+use crate::phase_order::{Arrangement, PhaseOrder};
+use crate::standing::is_slot;
+use atl_orders::{Mailing, Slot, Verb};
 use atl_tables::Numbered;
 use std::alloc::{AllocError, Global};
 
@@ -34,18 +34,18 @@ impl PhaseVerbs for MonthLongVerbs {
     ghost is_of = { is_month_long };
 
     fn has(&self, verb: Verb) -> bool {
-        is_slot(Slot::MonthLong, slot_of(verb))
+        is_slot(Slot::MonthLong, verb.row().slot)
     }
 }
 
 /// The order at a place.
-fn order_at<'m>(mailings: &'m [Mailing], placed: &Placed) -> Written<'m>
+fn order_at<'m>(mailings: &'m [Mailing], placed: &OrderIndex) -> PhaseOrder<'m>
     requires { IsThere mailings.now placed.now }
     ensures { task_of result ≡ task_at mailings.now placed.now }
 {
     let mailing = &mailings[placed.mailing];
     let entry = &mailing.entries.as_slice()[placed.place];
-    Written {
+    PhaseOrder {
         unit: placed.unit,
         line: placed.line,
         faction: placed.faction,
@@ -56,19 +56,20 @@ fn order_at<'m>(mailings: &'m [Mailing], placed: &Placed) -> Written<'m>
 }
 
 /// The orders at places that are of a phase.
-fn picked<'m, P: PhaseVerbs>(
+fn phase_orders_at<'m, P: PhaseVerbs>(
     alloc: Global,
     phase: &P,
     mailings: &'m [Mailing],
-    places: &[Placed],
-) -> Result<Vec<Written<'m>>, AllocError>
+    places: &[OrderIndex],
+) -> Result<Vec<PhaseOrder<'m>>, AllocError>
     requires { All (IsThere mailings.now) places.now }
-    ensures { IfOk result (λ list. map task_of list.items ≡ tasks_picked P.is_of mailings.now places.now) }
+    ensures { IfOk result (λ list. map task_of list.items
+        ≡ tasks_picked P.is_of mailings.now places.now) }
 {
     let mut list = Vec::new(alloc);
     for placed in places {
         let order = order_at(mailings, placed);
-        if phase.has(order.order.verb()) {
+        if phase.has(order.order.verb) {
             list.push(order)?;
         }
     }
@@ -84,16 +85,18 @@ pub(crate) fn orders_of<'m, P: PhaseVerbs>(
     arrangement: Arrangement,
     aliases: &Numbered<Numbered<u32>>,
     mailings: &'m [Mailing],
-    standing: &Option<Vec<Placed>>,
-) -> Result<Vec<Written<'m>>, AllocError>
+    standing: &Option<Vec<OrderIndex>>,
+) -> Result<Vec<PhaseOrder<'m>>, AllocError>
     requires { IsReady aliases.now mailings.now standing.now }
-    ensures { IfOk result (λ list. map task_of list.items ≡ values (orders_of P.is_of arrangement aliases.now (by_faction (map reading_of mailings.now)))) }
+    ensures { IfOk result (λ list. map task_of list.items
+        ≡ values (orders_of P.is_of arrangement aliases.now
+        (by_faction (map reading_of mailings.now)))) }
 {
     match (arrangement, standing) {
-        (Arrangement::ByUnit, Some(places)) => picked(alloc, phase, mailings, places),
+        (Arrangement::ByUnit, Some(places)) => phase_orders_at(alloc, phase, mailings, places),
         _ => {
-            let places = gathered(alloc, arrangement, aliases, mailings)?;
-            picked(alloc, phase, mailings, &places)
+            let places = order_indices(alloc, arrangement, aliases, mailings)?;
+            phase_orders_at(alloc, phase, mailings, &places)
         }
     }
 }

@@ -1,9 +1,9 @@
-//! A phase of the month.
+//! A phase of the month, and two phases in turn. See docs/RULES.md, "Closing a month".
 ghost use Rattle.std.specs.Prelude.{◌≡◌, IfOk};
 ghost use Rattle.atl_state.specs.Covers.{MarksChanges};
 ghost use Rattle.atl_state.specs.Good.{IsSteady};
 ghost use Rattle.atl_instant.specs.Fit.{AreFit};
-ghost use Rattle.atl_instant.specs.Meaning.{Meaning, Condition, Keeping, Moving, LeavesWell, HaveRoom, then_also, both_need, both_keep, both_move};
+ghost use Rattle.atl_instant.specs.Meaning.{Meaning, Condition, Frame, BookBound, LeavesWell, HaveRoom, then_also, both_need, both_keep, both_move};
 ghost use Rattle.atl_instant.specs.Unbooked.{moves_nothing};
 
 use crate::month::Month;
@@ -12,7 +12,7 @@ use atl_tables::World;
 use std::alloc::{AllocError, Global};
 
 /// The campaign and the month that a phase leaves, or AllocError where memory ran out.
-pub type Ran = Result<(Campaign, Month), AllocError>;
+pub type PhaseResult = Result<(Campaign, Month), AllocError>;
 
 /// A phase of the month, or some phases one after the other: `(first, second)` is a phase too.
 pub trait Phase {
@@ -26,19 +26,21 @@ pub trait Phase {
 
     // By how much it may move each amount of the books: by less than 10^14 for a phase, and so far for each of some phases.
     // Where nothing is said it moves none.
-    ghost moving: { Moving } = { moves_nothing };
+    ghost moving: { BookBound } = { moves_nothing };
 
     // What it leaves to the units whose own faction wrote no order of it.
-    ghost keeps: { Keeping };
+    ghost keeps: { Frame };
 
     /// Runs the phase, with orders as they can be read with the world. AllocError without memory; the campaign and the
     /// month are then given up.
-    fn run(&self, alloc: Global, world: &World, campaign: Campaign, month: Month) -> Ran
+    fn run(&self, alloc: Global, world: &World, campaign: Campaign, month: Month) -> PhaseResult
         requires needs { needs world.now campaign.value }
         requires room { HaveRoom moving campaign.value }
         requires read { AreFit world.now month.readings }
-        ensures meaning { IfOk result (λ r. (r.0.value, r.1) ≡ meaning world.now campaign.value month) }
-        ensures leaves { IfOk result (λ r. LeavesWell leaves moving world.now campaign.value r.0.value) }
+        ensures meaning { IfOk result
+            (λ r. (r.0.value, r.1) ≡ meaning world.now campaign.value month) }
+        ensures leaves { IfOk result
+            (λ r. LeavesWell leaves moving world.now campaign.value r.0.value) }
         ensures keeps { IfOk result (λ r. keeps world.now month campaign.value r.0.value) }
         ensures readings { IfOk result (λ r. r.1.readings ≡ month.readings) }
         ensures marks { IfOk result (λ r. MarksChanges campaign r.0) };
@@ -55,7 +57,7 @@ impl<P: Phase, Q: Phase> Phase for (P, Q) {
 
     ghost keeps = { both_keep P.meaning P.keeps Q.keeps };
 
-    fn run(&self, alloc: Global, world: &World, campaign: Campaign, month: Month) -> Ran {
+    fn run(&self, alloc: Global, world: &World, campaign: Campaign, month: Month) -> PhaseResult {
         let (campaign, month) = self.0.run(alloc, world, campaign, month)?;
         let (campaign, month) = self.1.run(alloc, world, campaign, month)?;
         Ok((campaign, month))

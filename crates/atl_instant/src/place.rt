@@ -1,20 +1,21 @@
-//! LEAVE, ENTER and PROMOTE: units leave structures, enter them, and make others their owners.
+//! LEAVE, ENTER and PROMOTE: units leave structures, enter them, and make others their owners. See
+//! docs/RULES.md, "Place".
 ghost use Rattle.std.specs.Prelude.{◌≡◌, IfOk, OnOk};
 ghost use Rattle.std.specs.FinMap as map;
 ghost use Rattle.atl_state.specs.Covers.{MarksChanges};
 ghost use Rattle.atl_state.specs.Good.{IsEarly};
 ghost use Rattle.atl_state.specs.Owners.{is_owned_by, with_place};
 ghost use Rattle.atl_state.specs.Campaign.{with_owner};
-ghost use Rattle.atl_instant.specs.Place.{entered, entered_other, is_in, is_placing, leave_fault, left, place_step, promote_fault, promoted};
-ghost use Rattle.atl_instant.specs.Steps.{carried};
+ghost use Rattle.atl_instant.specs.Place.{enter, is_in, is_placing, leave, leave_fault, place_step, promote, promote_fault, with_unit_inside};
+ghost use Rattle.atl_instant.specs.OrderEffects.{faction_effect};
 
 use crate::inside::structure_of;
 use crate::month::Month;
+use crate::order_phase::{OrderPhase, PlainPhase, own_unit};
 use crate::orders::PhaseVerbs;
-use crate::outcome::failed;
-use crate::steps::{OrderPhase, PlainPhase, own_unit};
-use crate::written::Written;
-use atl_orders::{Order, Verb};
+use crate::outcome::fault_outcome;
+use crate::phase_order::PhaseOrder;
+use atl_orders::{Operands, Verb};
 use atl_state::{Campaign, EventFault, Outcome, Unit};
 use atl_tables::World;
 use std::alloc::{AllocError, Global};
@@ -51,7 +52,8 @@ fn put_inside(
     region: u32,
     structure: u32,
 ) -> Result<(), AllocError>
-    ensures what { OnOk result (campaign.new.value ≡ with_place campaign.old.value unit region structure) }
+    ensures what { OnOk result
+        (campaign.new.value ≡ with_place campaign.old.value unit region structure) }
     ensures marks { OnOk result (MarksChanges campaign.old campaign.new) }
 {
     campaign.place(unit, region, structure)
@@ -71,16 +73,23 @@ fn leave_fault(world: &World, unit: &Unit) -> Option<EventFault>
 }
 
 /// A unit leaves the structure that it is inside.
-#[tactic(auto, unfolding(crate::specs::Place::left))]
-fn leave(world: &World, campaign: &mut Campaign, order: Written<'_>) -> Result<Outcome, AllocError>
-    ensures what { IfOk result (λ outcome. (campaign.new.value, outcome) ≡ carried (left world.now order.entry.unit) campaign.old.value order.entry.faction order.entry.unit) }
+#[tactic(auto, unfolding(crate::specs::Place::leave))]
+fn leave(
+    world: &World,
+    campaign: &mut Campaign,
+    order: PhaseOrder<'_>,
+) -> Result<Outcome, AllocError>
+    ensures what { IfOk result
+        (λ outcome. (campaign.new.value, outcome)
+        ≡ faction_effect (leave world.now order.entry.unit) campaign.old.value order.entry.faction
+        order.entry.unit) }
     ensures marks { OnOk result (MarksChanges campaign.old campaign.new) }
 {
     let Some(unit) = own_unit(campaign, order) else {
-        return Ok(failed(EventFault::NotYours));
+        return Ok(fault_outcome(EventFault::NotYours));
     };
     if let Some(fault) = leave_fault(world, unit) {
-        return Ok(failed(fault));
+        return Ok(fault_outcome(fault));
     }
     let region = unit.region;
     put_inside(campaign, order.unit, region, 0)?;
@@ -95,7 +104,8 @@ fn enter_other(
     from: u32,
     structure: u32,
 ) -> Result<(), AllocError>
-    ensures what { OnOk result (campaign.new.value ≡ entered_other campaign.old.value unit region from structure) }
+    ensures what { OnOk result
+        (campaign.new.value ≡ with_unit_inside campaign.old.value unit region from structure) }
     ensures marks { OnOk result (MarksChanges campaign.old campaign.new) }
 {
     if from == structure {
@@ -106,16 +116,23 @@ fn enter_other(
 }
 
 /// A unit enters a structure of its region.
-#[tactic(auto, unfolding(crate::specs::Place::entered))]
-fn enter(campaign: &mut Campaign, order: Written<'_>, structure: u32) -> Result<Outcome, AllocError>
-    ensures what { IfOk result (λ outcome. (campaign.new.value, outcome) ≡ carried (entered order.entry.unit structure) campaign.old.value order.entry.faction order.entry.unit) }
+#[tactic(auto, unfolding(crate::specs::Place::enter))]
+fn enter(
+    campaign: &mut Campaign,
+    order: PhaseOrder<'_>,
+    structure: u32,
+) -> Result<Outcome, AllocError>
+    ensures what { IfOk result
+        (λ outcome. (campaign.new.value, outcome)
+        ≡ faction_effect (enter order.entry.unit structure) campaign.old.value order.entry.faction
+        order.entry.unit) }
     ensures marks { OnOk result (MarksChanges campaign.old campaign.new) }
 {
     let Some(unit) = own_unit(campaign, order) else {
-        return Ok(failed(EventFault::NotYours));
+        return Ok(fault_outcome(EventFault::NotYours));
     };
     if !is_in(campaign, structure, unit.region) {
-        return Ok(failed(EventFault::NotHere));
+        return Ok(fault_outcome(EventFault::NotHere));
     }
     let (region, from) = (unit.region, unit.structure);
     enter_other(campaign, order.unit, region, from, structure)?;
@@ -146,16 +163,18 @@ fn give_to(campaign: &mut Campaign, structure: u32, owner: u32)
 }
 
 /// A unit makes another the owner of the structure that both are inside.
-#[tactic(auto, unfolding(crate::specs::Place::promoted))]
-fn promote(campaign: &mut Campaign, order: Written<'_>, to: u32) -> Outcome
-    ensures what { (campaign.new.value, result) ≡ carried (promoted order.entry.unit to) campaign.old.value order.entry.faction order.entry.unit }
+#[tactic(auto, unfolding(crate::specs::Place::promote))]
+fn promote(campaign: &mut Campaign, order: PhaseOrder<'_>, to: u32) -> Outcome
+    ensures what { (campaign.new.value, result)
+        ≡ faction_effect (promote order.entry.unit to) campaign.old.value order.entry.faction
+        order.entry.unit }
     ensures marks { MarksChanges campaign.old campaign.new }
 {
     let Some(unit) = own_unit(campaign, order) else {
-        return failed(EventFault::NotYours);
+        return fault_outcome(EventFault::NotYours);
     };
     if let Some(fault) = promote_fault(campaign, order.unit, to, unit) {
-        return failed(fault);
+        return fault_outcome(fault);
     }
     let inside = unit.structure;
     give_to(campaign, inside, to);
@@ -182,12 +201,12 @@ impl OrderPhase for PlacePhase {
         world: &World,
         campaign: &mut Campaign,
         month: &Month,
-        order: Written<'_>,
+        order: PhaseOrder<'_>,
     ) -> Result<Option<Outcome>, AllocError> {
-        match order.order {
-            Order::Leave => Ok(Some(leave(world, campaign, order)?)),
-            Order::Enter(structure) => Ok(Some(enter(campaign, order, *structure)?)),
-            Order::Promote(to) => {
+        match &order.order.operands {
+            Operands::Nothing => Ok(Some(leave(world, campaign, order)?)),
+            Operands::Number(structure) => Ok(Some(enter(campaign, order, *structure)?)),
+            Operands::Unit(to) => {
                 let owner = month.unit(order.faction, *to);
                 Ok(Some(promote(campaign, order, owner)))
             }

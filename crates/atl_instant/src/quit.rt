@@ -1,6 +1,6 @@
-//! QUIT.
+//! QUIT: a faction leaves the campaign with all its units. See docs/RULES.md, "Quitting".
 ghost use Rattle.std.specs.Prelude.{◌≡◌, ◌<◌, IfOk, OnOk, fold, length, true};
-ghost use Rattle.atl_records.specs.Books.{IsGrid, amount_in, thing_place};
+ghost use Rattle.atl_records.specs.Books.{IsGrid, amount_in, thing_index};
 ghost use Rattle.atl_state.specs.Covers.{MarksChanges};
 ghost use Rattle.atl_records.specs.Every.{EachOf};
 ghost use Rattle.atl_state.specs.Founding.{things_of};
@@ -9,19 +9,19 @@ ghost use Rattle.atl_state.specs.Marking.{mark_amount};
 ghost use Rattle.atl_records.specs.declared.books.Entry.TheVariants.{Left, Lost};
 ghost use Rattle.atl_records.specs.declared.books.Thing.TheVariants.{Money, People};
 ghost use Rattle.atl_instant.specs.Meaning.{HasRoom, HaveRoom, both_move, moves_only};
-ghost use Rattle.atl_instant.specs.Quit.{gone_under, is_quitting, item_gone, left_at, quit, quit_concerns, quit_fault, quit_keeps, quit_meaning, quit_moves, quit_reserve, quit_step, with_gone_amount};
+ghost use Rattle.atl_instant.specs.Quit.{after_leaving, is_quitting, loss_entry, quit, quit_concerns, quit_fault, quit_keeps, quit_meaning, quit_moves, quit_reserve, quit_step, with_item_loss, with_loss};
 ghost use Rattle.atl_instant.specs.LostItems.{moving_items};
-ghost use Rattle.atl_instant.specs.Steps.{carried};
+ghost use Rattle.atl_instant.specs.OrderEffects.{faction_effect};
 
 use crate::booking::book_taken;
 use crate::items::items_of;
 use crate::month::Month;
+use crate::order_phase::{OrderPhase, carry_out_orders, own_unit};
 use crate::orders::PhaseVerbs;
-use crate::outcome::failed;
-use crate::phase::{Phase, Ran};
-use crate::steps::{OrderPhase, carry_out_orders, own_unit};
-use crate::written::Written;
-use atl_orders::{Order, Verb};
+use crate::outcome::fault_outcome;
+use crate::phase::{Phase, PhaseResult};
+use crate::phase_order::PhaseOrder;
+use atl_orders::{Operands, Verb};
 use atl_state::{Campaign, Entry, EventFault, Outcome, Thing, Unit};
 use atl_tables::World;
 use std::alloc::{AllocError, Global};
@@ -31,8 +31,8 @@ use std::alloc::{AllocError, Global};
 pub struct QuitPhase;
 
 /// What a thing that goes is booked under.
-fn gone_under(thing: Thing) -> Entry
-    ensures { result ≡ gone_under thing }
+fn loss_entry(thing: Thing) -> Entry
+    ensures { result ≡ loss_entry thing }
 {
     match thing {
         Thing::People => Entry::Left,
@@ -41,13 +41,13 @@ fn gone_under(thing: Thing) -> Entry
 }
 
 /// Books that so much of a thing is gone.
-fn book_gone(campaign: &mut Campaign, thing: Thing, amount: u32)
-    requires there { thing_place thing < length campaign.old.value.books }
-    requires room { HasRoom amount (amount_in campaign.old.value.books (gone_under thing) thing) }
-    ensures what { campaign.new.value ≡ with_gone_amount campaign.old.value thing amount }
-    ensures marks { campaign.new.marks ≡ mark_amount campaign.old (gone_under thing) thing }
+fn book_loss(campaign: &mut Campaign, thing: Thing, amount: u32)
+    requires there { thing_index thing < length campaign.old.value.books }
+    requires room { HasRoom amount (amount_in campaign.old.value.books (loss_entry thing) thing) }
+    ensures what { campaign.new.value ≡ with_loss campaign.old.value thing amount }
+    ensures marks { campaign.new.marks ≡ mark_amount campaign.old (loss_entry thing) thing }
 {
-    book_taken(campaign, gone_under(thing), thing, amount);
+    book_taken(campaign, loss_entry(thing), thing, amount);
 }
 
 /// Books that items are gone.
@@ -55,11 +55,11 @@ fn book_items(world: &World, campaign: &mut Campaign, items: &[(u16, u32)])
     requires grid { IsGrid (things_of world.now) campaign.old.value.books }
     requires known { EachOf (λ i amount. i < length world.now.items) items.now }
     requires room { HaveRoom (moving_items items.now) campaign.old.value }
-    ensures what { campaign.new.value ≡ fold item_gone campaign.old.value items.now }
+    ensures what { campaign.new.value ≡ fold with_item_loss campaign.old.value items.now }
     ensures marks { MarksChanges campaign.old campaign.new }
 {
     for (item, amount) in items.iter() {
-        book_gone(campaign, Thing::Item(*item), *amount);
+        book_loss(campaign, Thing::Item(*item), *amount);
     }
 }
 
@@ -67,17 +67,21 @@ fn book_items(world: &World, campaign: &mut Campaign, items: &[(u16, u32)])
 fn book_off(world: &World, campaign: &mut Campaign, men: u32, money: u32, items: &[(u16, u32)])
     requires grid { IsGrid (things_of world.now) campaign.old.value.books }
     requires known { EachOf (λ i amount. i < length world.now.items) items.now }
-    requires room { HaveRoom (both_move (moves_only men Left People) (both_move (moves_only money Lost Money) (moving_items items.now))) campaign.old.value }
-    ensures what { campaign.new.value ≡ fold item_gone (with_gone_amount (with_gone_amount campaign.old.value People men) Money money) items.now }
+    requires room { HaveRoom
+        (both_move (moves_only men Left People)
+        (both_move (moves_only money Lost Money) (moving_items items.now))) campaign.old.value }
+    ensures what { campaign.new.value
+        ≡ fold with_item_loss (with_loss (with_loss campaign.old.value People men) Money money)
+        items.now }
     ensures marks { MarksChanges campaign.old campaign.new }
 {
-    book_gone(campaign, Thing::People, men);
-    book_gone(campaign, Thing::Money, money);
+    book_loss(campaign, Thing::People, men);
+    book_loss(campaign, Thing::Money, money);
     book_items(world, campaign, items);
 }
 
 /// A unit leaves with all that it has.
-#[tactic(auto, unfolding(crate::specs::Quit::left_at))]
+#[tactic(auto, unfolding(crate::specs::Quit::after_leaving))]
 fn leave(
     alloc: Global,
     world: &World,
@@ -86,7 +90,7 @@ fn leave(
 ) -> Result<(), AllocError>
     requires steady { IsSteady world.now campaign.old.value }
     requires room { HaveRoom (quit_reserve campaign.old.value) campaign.old.value }
-    ensures what { OnOk result (campaign.new.value ≡ left_at campaign.old.value number) }
+    ensures what { OnOk result (campaign.new.value ≡ after_leaving campaign.old.value number) }
     ensures marks { OnOk result (MarksChanges campaign.old campaign.new) }
 {
     let Some(unit) = campaign.unit(number) else {
@@ -109,7 +113,8 @@ fn leave_all(
 ) -> Result<(), AllocError>
     requires steady { IsSteady world.now campaign.old.value }
     requires room { HaveRoom (quit_reserve campaign.old.value) campaign.old.value }
-    ensures what { OnOk result (campaign.new.value ≡ fold left_at campaign.old.value numbers.now) }
+    ensures what { OnOk result
+        (campaign.new.value ≡ fold after_leaving campaign.old.value numbers.now) }
     ensures marks { OnOk result (MarksChanges campaign.old campaign.new) }
 {
     for number in numbers.iter() {
@@ -134,19 +139,21 @@ fn quit(
     alloc: Global,
     world: &World,
     campaign: &mut Campaign,
-    order: Written<'_>,
+    order: PhaseOrder<'_>,
     number: u32,
 ) -> Result<Outcome, AllocError>
     requires steady { IsSteady world.now campaign.old.value }
     requires room { HaveRoom (quit_reserve campaign.old.value) campaign.old.value }
-    ensures what { IfOk result (λ outcome. (campaign.new.value, outcome) ≡ carried (quit number) campaign.old.value order.entry.faction order.entry.unit) }
+    ensures what { IfOk result
+        (λ outcome. (campaign.new.value, outcome)
+        ≡ faction_effect (quit number) campaign.old.value order.entry.faction order.entry.unit) }
     ensures marks { OnOk result (MarksChanges campaign.old campaign.new) }
 {
     let Some(unit) = own_unit(campaign, order) else {
-        return Ok(failed(EventFault::NotYours));
+        return Ok(fault_outcome(EventFault::NotYours));
     };
     if let Some(fault) = quit_fault(number, unit) {
-        return Ok(failed(fault));
+        return Ok(fault_outcome(fault));
     }
     let numbers = Vec::from_slice(alloc, campaign.of_faction(unit.faction))?;
     leave_all(alloc, world, campaign, &numbers)?;
@@ -178,10 +185,10 @@ impl OrderPhase for QuitPhase {
         world: &World,
         campaign: &mut Campaign,
         _: &Month,
-        order: Written<'_>,
+        order: PhaseOrder<'_>,
     ) -> Result<Option<Outcome>, AllocError> {
-        match order.order {
-            Order::Quit(number) => Ok(Some(quit(alloc, world, campaign, order, *number)?)),
+        match &order.order.operands {
+            Operands::Number(number) => Ok(Some(quit(alloc, world, campaign, order, *number)?)),
             _ => Ok(None),
         }
     }
@@ -196,7 +203,13 @@ impl Phase for QuitPhase {
 
     ghost keeps = { quit_keeps };
 
-    fn run(&self, alloc: Global, world: &World, mut campaign: Campaign, mut month: Month) -> Ran {
+    fn run(
+        &self,
+        alloc: Global,
+        world: &World,
+        mut campaign: Campaign,
+        mut month: Month,
+    ) -> PhaseResult {
         carry_out_orders(alloc, self, world, &mut campaign, &mut month)?;
         Ok((campaign, month))
     }

@@ -1,66 +1,25 @@
-//! Which orders of a mailing stand.
+//! Which orders of a mailing count: of some verbs only the last one for a unit. See docs/RULES.md,
+//! "Orders of a month".
 ghost use Rattle.std.specs.Prelude.{◌≡◌, IfOk, OnOk};
 ghost use Rattle.atl_orders.specs.Mailing.{reading_of};
-ghost use Rattle.atl_instant.specs.PhaseOrders.{unit_of, slot_of, slot_number, is_slot, tasks_of};
-ghost use Rattle.atl_instant.specs.Collecting.{AreLastLines, line_in, stands_by, with_line};
+ghost use Rattle.atl_instant.specs.PhaseOrders.{unit_of, slot_number, is_slot, tasks_of};
+ghost use Rattle.atl_instant.specs.OrderIndices.{AreLastLines, line_in, stands_by, with_line};
 
 use crate::month::unit_under;
-use atl_orders::{Mailing, UnitRef, Verb};
+use atl_orders::{Mailing, Slot, UnitRef};
 use atl_tables::Numbered;
 use std::alloc::{AllocError, Global};
 
-/// Orders of which a unit carries out only one.
-#[derive(Drop, Clone, Copy, Debug, PartialEq, Eq)]
-pub enum Slot {
-    /// Of the verbs that take the whole month.
-    MonthLong,
-    Selling,
-    Buying,
-    Taxing,
-    Recruiting,
-}
-
-/// The slot that an order takes, if it takes one.
-pub(crate) fn slot_of(verb: Verb) -> Option<Slot>
-    ensures { result ≡ slot_of verb }
+/// The slot's number, from 0 on.
+fn number_of(slot: Slot) -> u32
+    ensures { result ≡ slot_number slot }
 {
-    match verb {
-        Verb::Move
-        | Verb::Sail
-        | Verb::Build
-        | Verb::Teach
-        | Verb::Study
-        | Verb::Produce
-        | Verb::Work => Some(Slot::MonthLong),
-        Verb::Sell => Some(Slot::Selling),
-        Verb::Buy => Some(Slot::Buying),
-        Verb::Tax => Some(Slot::Taxing),
-        Verb::Recruit => Some(Slot::Recruiting),
-        Verb::Form
-        | Verb::Name
-        | Verb::Guard
-        | Verb::Enter
-        | Verb::Leave
-        | Verb::Promote
-        | Verb::Give
-        | Verb::Pay
-        | Verb::Transfer
-        | Verb::Quit => None,
-    }
-}
-
-impl Slot {
-    /// The slot's number, from 0 on.
-    fn number(self) -> u32
-        ensures { result ≡ slot_number self }
-    {
-        match self {
-            Slot::MonthLong => 0,
-            Slot::Selling => 1,
-            Slot::Buying => 2,
-            Slot::Taxing => 3,
-            Slot::Recruiting => 4,
-        }
+    match slot {
+        Slot::MonthLong => 0,
+        Slot::Selling => 1,
+        Slot::Buying => 2,
+        Slot::Taxing => 3,
+        Slot::Recruiting => 4,
     }
 }
 
@@ -69,7 +28,7 @@ pub(crate) fn is_slot(slot: Slot, other: Option<Slot>) -> bool
     ensures { result ≡ is_slot slot other }
 {
     match other {
-        Some(other) => slot.number() == other.number(),
+        Some(other) => number_of(slot) == number_of(other),
         None => false,
     }
 }
@@ -91,7 +50,7 @@ pub(crate) type LastLines = Numbered<Numbered<u32>>;
 fn line_in(lines: &LastLines, slot: Slot, unit: u32) -> u32
     ensures { result ≡ line_in lines.now (slot_number slot) unit }
 {
-    match lines.get_under(slot.number(), unit) {
+    match lines.get_under(number_of(slot), unit) {
         Some(line) => *line,
         None => 0,
     }
@@ -108,7 +67,7 @@ fn note(
     ensures { OnOk result (lines.new ≡ with_line lines.old (slot_number slot) unit line) }
 {
     let last = line_in(lines, slot, unit).max(line);
-    lines.insert_under(alloc, slot.number(), unit, last)
+    lines.insert_under(alloc, number_of(slot), unit, last)
 }
 
 /// The greatest line of a mailing's orders in each slot, of each unit.
@@ -117,11 +76,12 @@ pub(crate) fn last_lines(
     aliases: &Numbered<Numbered<u32>>,
     mailing: &Mailing,
 ) -> Result<LastLines, AllocError>
-    ensures { IfOk result (AreLastLines (tasks_of aliases.now mailing.now.faction (reading_of mailing.now))) }
+    ensures { IfOk result (AreLastLines
+        (tasks_of aliases.now mailing.now.faction (reading_of mailing.now))) }
 {
     let mut lines = Numbered::new(alloc);
     for entry in mailing.entries.as_slice() {
-        if let Some(slot) = slot_of(entry.order.verb()) {
+        if let Some(slot) = entry.order.verb.row().slot {
             let unit = unit_of(aliases, mailing.faction, entry.target);
             note(alloc, &mut lines, slot, unit, entry.line)?;
         }

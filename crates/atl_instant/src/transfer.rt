@@ -1,4 +1,4 @@
-//! TRANSFER.
+//! TRANSFER: men move from one unit to another. See docs/RULES.md, "Transferring".
 ghost use Rattle.std.specs.Prelude.{◌≡◌, ◌≢◌, ◌≤◌, ◌+◌, ◌*◌, IfOk, OnOk, Some, true};
 ghost use Rattle.std.specs.FinMap as map;
 ghost use Rattle.std.specs.Option.{option_copied};
@@ -7,17 +7,17 @@ ghost use Rattle.atl_records.specs.Every.{Every};
 ghost use Rattle.atl_state.specs.Good.{AreDays, IsEarly};
 ghost use Rattle.atl_records.specs.Limits.{men_limit, most_days};
 ghost use Rattle.atl_records.specs.declared.records.Unit.{Unit};
-ghost use Rattle.atl_instant.specs.Raising.{left_list, raised_list};
-ghost use Rattle.atl_instant.specs.Transfer.{DaysGoWithMen, days_going, is_transferring, sent, transfer, transfer_fault, transfer_step};
-ghost use Rattle.atl_instant.specs.Steps.{carried};
+ghost use Rattle.atl_instant.specs.SkillDays.{left_list, raised_list};
+ghost use Rattle.atl_instant.specs.Transfer.{DaysGoWithMen, after_transfer, days_going, is_transferring, transfer, transfer_fault, transfer_step};
+ghost use Rattle.atl_instant.specs.OrderEffects.{faction_effect};
 
 use crate::holdings::set_people;
 use crate::month::Month;
+use crate::order_phase::{OrderPhase, PlainPhase, own_unit};
 use crate::orders::PhaseVerbs;
-use crate::outcome::failed;
-use crate::steps::{OrderPhase, PlainPhase, own_unit};
-use crate::written::Written;
-use atl_orders::{Order, Verb};
+use crate::outcome::fault_outcome;
+use crate::phase_order::PhaseOrder;
+use atl_orders::{Operands, Verb};
 use atl_state::{Campaign, EventFault, Holding, MEN_LIMIT, Outcome, Unit};
 use atl_tables::World;
 use std::alloc::{AllocError, Global};
@@ -39,7 +39,8 @@ fn days_going(going: u32, men: u32, days: u32) -> u32
 /// The days of each skill that stay as so many of a unit's men go.
 fn days_left(alloc: Global, going: u32, holding: &Holding) -> Result<Vec<(u32, u32)>, AllocError>
     requires fewer { going ≤ holding.now.men }
-    requires days { Every (λ s days. (1 ≤ days) × (days ≤ most_days * holding.now.men)) holding.now.days }
+    requires days { Every (λ s days. (1 ≤ days) × (days ≤ most_days * holding.now.men))
+        holding.now.days }
     ensures { IfOk result (λ list. list.items ≡ left_list going holding.now.men holding.now.days) }
 {
     let men = holding.men();
@@ -58,10 +59,13 @@ fn days_raised(
     receiver: &Holding,
 ) -> Result<Vec<(u32, u32)>, AllocError>
     requires fewer { going ≤ sender.now.men }
-    requires sent { Every (λ s days. (1 ≤ days) × (days ≤ most_days * sender.now.men)) sender.now.days }
+    requires sent { Every (λ s days. (1 ≤ days) × (days ≤ most_days * sender.now.men))
+        sender.now.days }
     requires room { receiver.now.men + going ≤ men_limit }
-    requires had { Every (λ s days. (1 ≤ days) × (days ≤ most_days * receiver.now.men)) receiver.now.days }
-    ensures { IfOk result (λ list. list.items ≡ raised_list going sender.now.men sender.now.days receiver.now.days) }
+    requires had { Every (λ s days. (1 ≤ days) × (days ≤ most_days * receiver.now.men))
+        receiver.now.days }
+    ensures { IfOk result (λ list. list.items
+        ≡ raised_list going sender.now.men sender.now.days receiver.now.days) }
 {
     let men = sender.men();
     let mut list = Vec::new(alloc);
@@ -82,9 +86,13 @@ fn send(
 ) -> Result<(), AllocError>
     requires days { AreDays campaign.old.value }
     requires apart { to ≢ from }
-    requires enough { (u : Unit) → map.get campaign.old.value.units from ≡ Some u → going ≤ u.holding.men }
-    requires room { (v : Unit) → map.get campaign.old.value.units to ≡ Some v → v.holding.men + going ≤ men_limit }
-    ensures what { OnOk result (campaign.new.value ≡ sent campaign.old.value from to going (map.get campaign.old.value.units from) (map.get campaign.old.value.units to)) }
+    requires enough { (u : Unit) → map.get campaign.old.value.units from ≡ Some u
+        → going ≤ u.holding.men }
+    requires room { (v : Unit) → map.get campaign.old.value.units to ≡ Some v
+        → v.holding.men + going ≤ men_limit }
+    ensures what { OnOk result
+        (campaign.new.value ≡ after_transfer campaign.old.value from to going
+        (map.get campaign.old.value.units from) (map.get campaign.old.value.units to)) }
     ensures marks { OnOk result (MarksChanges campaign.old campaign.new) }
 {
     let (Some(sender), Some(receiver)) = (campaign.unit(from), campaign.unit(to)) else {
@@ -130,20 +138,23 @@ fn transfer_fault(
 fn transfer(
     alloc: Global,
     campaign: &mut Campaign,
-    order: Written<'_>,
+    order: PhaseOrder<'_>,
     to: u32,
     going: u32,
 ) -> Result<Outcome, AllocError>
     requires days { AreDays campaign.old.value }
-    ensures what { IfOk result (λ outcome. (campaign.new.value, outcome) ≡ carried (transfer order.entry.unit to going) campaign.old.value order.entry.faction order.entry.unit) }
+    ensures what { IfOk result
+        (λ outcome. (campaign.new.value, outcome)
+        ≡ faction_effect (transfer order.entry.unit to going) campaign.old.value order.entry.faction
+        order.entry.unit) }
     ensures marks { OnOk result (MarksChanges campaign.old campaign.new) }
 {
     let Some(sender) = own_unit(campaign, order) else {
-        return Ok(failed(EventFault::NotYours));
+        return Ok(fault_outcome(EventFault::NotYours));
     };
     let receiver = campaign.unit(to);
     if let Some(fault) = transfer_fault(going, to == order.unit, sender, receiver) {
-        return Ok(failed(fault));
+        return Ok(fault_outcome(fault));
     }
     if to != order.unit {
         send(alloc, campaign, order.unit, to, going)?;
@@ -170,12 +181,12 @@ impl OrderPhase for TransferPhase {
         _: &World,
         campaign: &mut Campaign,
         month: &Month,
-        order: Written<'_>,
+        order: PhaseOrder<'_>,
     ) -> Result<Option<Outcome>, AllocError> {
-        match order.order {
-            Order::Transfer { to, men } => {
+        match &order.order.operands {
+            Operands::UnitAndNumber { to, number } => {
                 let receiver = month.unit(order.faction, *to);
-                Ok(Some(transfer(alloc, campaign, order, receiver, *men)?))
+                Ok(Some(transfer(alloc, campaign, order, receiver, *number)?))
             }
             _ => Ok(None),
         }

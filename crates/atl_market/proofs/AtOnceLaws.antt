@@ -14,8 +14,8 @@ use Rattle.atl_state.specs.Campaign.{CampaignValue}
 use Rattle.atl_state.proofs.BackLaws.{Rise, entries_rise}
 use Rattle.atl_records.proofs.EveryLaws.{each-from_every, first, other_number, same_number}
 use Rattle.atl_instant.specs.PhaseOrders.{Task}
-use Rattle.atl_market.specs.AtOnce.{Gets, Gives, PaysAtOnce, paid_unit, stands_in}
-use Rattle.atl_market.specs.PotPhase.{PotMeaning, given_by, items_by, shared_out}
+use Rattle.atl_market.specs.AtOnce.{PaysAtOnce, RegionChange, UnitChange, paid_unit, stands_in}
+use Rattle.atl_market.specs.PotPhase.{PotMeaning, after_sharing, given_by, items_by}
 use Rattle.atl_market.proofs.DrawLaws.{AreUntouched, Drawers, all_pairs, drawn, still, untouched, who_stand}
 use Rattle.atl_market.proofs.PotLaws.{found_other}
 
@@ -28,7 +28,7 @@ Around true d u = IsThere d.regions u.region
 Around false d u = ⊤
 
 -- what one payment makes of a unit and of its region, and that it changes no other
-pub record Pays (needs : Bool) (step : CampaignValue → ℕ × ℕ → CampaignValue) (gets : ℕ → Gets) (gives : Gives) : Type 0 where
+pub record Pays (needs : Bool) (step : CampaignValue → ℕ × ℕ → CampaignValue) (gets : ℕ → UnitChange) (gives : RegionChange) : Type 0 where
   pub mine : (d : CampaignValue) (e : ℕ × ℕ) (u : Unit) → get d.units e.0 ≡ Some u → Around needs d u → get (step d e).units e.0 ≡ Some (gets e.0 u e.1)
   pub others : (d : CampaignValue) (e : ℕ × ℕ) (u : Unit) → get d.units e.0 ≡ Some u → Around needs d u → (k : ℕ) → k ≢ e.0 → get (step d e).units k ≡ get d.units k
   pub region : (d : CampaignValue) (e : ℕ × ℕ) (u : Unit) (q : Region) → get d.units e.0 ≡ Some u → get d.regions u.region ≡ Some q → get (step d e).regions u.region ≡ Some (gives q e.1)
@@ -36,7 +36,7 @@ pub record Pays (needs : Bool) (step : CampaignValue → ℕ × ℕ → Campaign
   pub nothing : (q : Region) → gives q 0 ≡ q
   pub twice : (q : Region) (s t : ℕ) → gives (gives q s) t ≡ gives q (s + t)
 
-module _ {needs : Bool} {step : CampaignValue → ℕ × ℕ → CampaignValue} {gets : ℕ → Gets} {gives : Gives} (pays : Pays needs step gets gives) where
+module _ {needs : Bool} {step : CampaignValue → ℕ × ℕ → CampaignValue} {gets : ℕ → UnitChange} {gives : RegionChange} (pays : Pays needs step gets gives) where
   -- regions that are there stay there
   still_around : (d : CampaignValue) (e : ℕ × ℕ) (u v : Unit) → get d.units e.0 ≡ Some u → Around needs d u → Around needs d v → Around needs (step d e) v
   still_around d e u v is here there = by_need needs (λ k apart. pays.regions d e u is here k apart) (λ q at. pays.region d e u q is at) there
@@ -125,9 +125,9 @@ drawn_is draws (e ∷ es) = by_test (draws e.0) (drawn_is draws es)
 abbrev pub GivesWhoIsThere : Bool → PotMeaning → WorldValue → CampaignValue → List Task → Type 0
 GivesWhoIsThere needs p w c os = (n share : ℕ) → get (given_by p w c os) n ≡ Some share → (u : Unit) × (get c.units n ≡ Some u) × Around needs c u
 
-pub all_at_once : {needs : Bool} (p : PotMeaning) (w : WorldValue) (gets : ℕ → Gets) (gives : Gives) (c : CampaignValue) (os : List Task)
+pub all_at_once : {needs : Bool} (p : PotMeaning) (w : WorldValue) (gets : ℕ → UnitChange) (gives : RegionChange) (c : CampaignValue) (os : List Task)
     → Pays needs (p.paid (items_by p w c os) w) gets gives → GivesWhoIsThere needs p w c os → PaysAtOnce p w gets gives c os
-unfolding shared_out
+unfolding after_sharing
 all_at_once {needs} p w gets gives c os pays gives_them =
     let given = given_by p w c os in
     let ready : AreReady pays c c (entries given) = record {

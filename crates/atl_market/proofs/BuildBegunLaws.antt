@@ -16,10 +16,10 @@ use Rattle.atl_state.specs.Totals.{total}
 use Rattle.atl_state.proofs.BegunLaws.{IsFresh, built, raised, steady_built, steady_raised, total_built, total_raised}
 use Rattle.atl_state.proofs.NumberedNameLaws.{numbered_name_ok}
 use Rattle.atl_instant.specs.Meaning.{IsSameMonth}
-use Rattle.atl_instant.specs.Steps.{StepsWell}
-use Rattle.atl_market.specs.Build.{CanBuild, build_reserve, sort_of}
+use Rattle.atl_instant.specs.OrderEffects.{StepsWell}
+use Rattle.atl_market.specs.Build.{CanBuild, build_reserve, name_prefix}
 use Rattle.atl_instant.proofs.MeaningLaws.{same_month_by}
-use Rattle.atl_instant.proofs.StepLaws.{not_drawn}
+use Rattle.atl_instant.proofs.OrderEffectLaws.{not_drawn}
 
 -- ---- where units hold what they held, and nothing is booked
 
@@ -33,7 +33,7 @@ still_well w c d can same books totals reserves = record {
 
 -- ---- a structure more
 
-pub sort_name_ok : (k : Kind) (number : ℕ) → number ≤ last_unit → IsTrue (name_ok (sort_of k ++ decimal number))
+pub sort_name_ok : (k : Kind) (number : ℕ) → number ≤ last_unit → IsTrue (name_ok (name_prefix k ++ decimal number))
 sort_name_ok k number l = by_sort k.ship
   where
     by_sort : (ship : Bool) → name_ok ((if ship then codes "Ship " else codes "Building ") ++ decimal number) ≡ true

@@ -13,8 +13,8 @@ use Rattle.atl_tables.specs.Worlds.{IsKind, WorldValue}
 use Rattle.atl_tables.specs.Sums.{sum_over}
 use Rattle.atl_tables.specs.declared.world.Kind.{Kind}
 use Rattle.atl_tables.specs.ByNumber.{is_land_at, size_of}
-use Rattle.atl_orders.specs.declared.order.Order.TheVariants as orders
-use Rattle.atl_orders.specs.Orders.{Said}
+use Rattle.atl_orders.specs.declared.order.Operands.TheVariants as operands
+use Rattle.atl_orders.specs.Orders.{OperandsValue}
 use Rattle.atl_records.specs.declared.event.EventFault.{EventFault}
 use Rattle.atl_records.specs.declared.event.EventFault.TheVariants.{AtSea, Complete, NoMaterial, NoMen, NoSkill, NotInside, StructureLimit}
 use Rattle.atl_records.specs.declared.event.Outcome.{Outcome}
@@ -25,26 +25,26 @@ use Rattle.atl_records.specs.declared.books.Thing.{Thing}
 use Rattle.atl_records.specs.declared.books.Thing.TheVariants.{Item, Money, People}
 use Rattle.atl_records.specs.declared.records.Structure.{Structure}
 use Rattle.atl_records.specs.declared.records.Unit.{Unit}
-use Rattle.atl_records.specs.Books.{entry_place}
+use Rattle.atl_records.specs.Books.{entry_index}
 use Rattle.atl_state.specs.Good.{IsNumbered, IsSteady}
 use Rattle.atl_records.specs.Levels.{level_in}
 use Rattle.atl_state.proofs.BegunLaws.{IsFresh, built, built_is, nobody_inside, raised, raised_there}
-use Rattle.atl_records.specs.Held.{Held, IsHolding, amount_of}
+use Rattle.atl_records.specs.Holdings.{HoldingValue, IsHolding, amount_of}
 use Rattle.atl_records.specs.Limits.{holding_limit, most_structures, most_units}
 use Rattle.atl_state.specs.Owners.{with_place}
 use Rattle.atl_state.specs.Campaign.{CampaignValue, with_done}
 use Rattle.atl_records.proofs.EveryLaws.{each-from_every}
 use Rattle.atl_instant.specs.Meaning.{HaveRoom, LeavesWell, most_moved}
 use Rattle.atl_instant.specs.Outcomes.{unless}
-use Rattle.atl_instant.specs.Staying.{IsNoWorse}
-use Rattle.atl_instant.specs.Steps.{IsOrderly, IsOwnOrder, StepsWell, carried, done_for, of_faction}
-use Rattle.atl_records.proofs.HeldLaws.{amount_within}
+use Rattle.atl_instant.specs.NoWorse.{IsNoWorse}
+use Rattle.atl_instant.specs.OrderEffects.{IsOrderly, IsOwnOrder, StepsWell, effect_on, faction_effect, of_faction}
+use Rattle.atl_records.proofs.HoldingLaws.{amount_within}
 use Rattle.atl_instant.proofs.OutcomeLaws.{none_fits, not_less}
 use Rattle.atl_instant.proofs.PlacingLaws.{place_stays}
 use Rattle.atl_instant.proofs.QuitLaws.{sum_within}
-use Rattle.atl_instant.proofs.StepLaws.{no_worse_spares, well_same, well_twice}
+use Rattle.atl_instant.proofs.OrderEffectLaws.{no_worse_spares, well_same, well_twice}
 use Rattle.atl_instant.proofs.UnbookedLaws.{stays_spared}
-use Rattle.atl_market.specs.Build.{CanBuild, begin, begin_fault, build_moves, build_reserve, build_said, build_step, built_at, go_on, go_on_at, gone_on, inside_fault, is_structure_limit, new_structure, size_added, started, with_kind, with_new}
+use Rattle.atl_market.specs.Build.{CanBuild, after_building_on, after_start, begin, begin_fault, build_effect, build_moves, build_reserve, build_step, go_on, go_on_at, inside_fault, is_structure_limit, new_structure, size_added, structure_and_kind_at, with_kind, with_new}
 use Rattle.atl_market.specs.Making.{CanUse}
 use Rattle.atl_market.proofs.BuildBegunLaws.{built_well, raised_well, sort_name_ok}
 use Rattle.atl_market.proofs.BuildPlaceLaws.{place_well}
@@ -133,7 +133,7 @@ missing_of x y z = omega arith
 product : (a b : ℕ) → 1 ≤ a → 1 ≤ b → 1 ≤ a * b
 product a b l m = let h : a * 1 ≤ a * b = mul-le-mul_left a m in omega (arith, l, h)
 
-module _ (k : Kind) (h : Held) (done : ℕ) where
+module _ (k : Kind) (h : HoldingValue) (done : ℕ) where
   pub size_held : size_added k h done ≤ amount_of h.items k.material
   size_held = within_of (h.men * level_in h k.skill) (amount_of h.items k.material) (k.size - done)
 
@@ -159,10 +159,10 @@ module _ (w : WorldValue) (c : CampaignValue) (n kind : ℕ) (u : Unit) (k : Kin
   abbrev from_used : CampaignValue → CampaignValue
   from_used d = with_place (with_new d kind k u.region size) n u.region c.next_structure
 
-  begun_is : started c n kind k u.region size ≡ from_used one
+  begun_is : after_start c n kind k u.region size ≡ from_used one
   begun_is = ap from_used (used_is w c n k.material size u is)
 
-  begun_stays : (j : ℕ) → j ≢ n → get (started c n kind k u.region size).units j ≡ get c.units j
+  begun_stays : (j : ℕ) → j ≢ n → get (after_start c n kind k u.region size).units j ≡ get c.units j
   begun_stays j apart =
       ap (λ (d : CampaignValue). get d.units j) begun_is ∙ place_stays (with_new one kind k u.region size) n u.region c.next_structure j apart
       ∙ others_stay w c n k.material size u is j apart
@@ -194,7 +194,7 @@ module _ (w : WorldValue) (c : CampaignValue) (n kind : ℕ) (u : Unit) (k : Kin
     two : CampaignValue
     two = raised w one new fresh room one_well.holds_still.steady
 
-    begun_well : StepsWell CanBuild build_reserve w c (started c n kind k u.region size)
+    begun_well : StepsWell CanBuild build_reserve w c (after_start c n kind k u.region size)
     unfolding two
     begun_well =
         let between = one_well.holds_still in
@@ -217,10 +217,10 @@ module _ (w : WorldValue) (c : CampaignValue) (n : ℕ) (u : Unit) (s : Structur
   abbrev further : CampaignValue → CampaignValue
   further d = with_done d u.structure (s.done + added)
 
-  on_is : gone_on c n k.material added u.structure (s.done + added) ≡ further paid
+  on_is : after_building_on c n k.material added u.structure (s.done + added) ≡ further paid
   on_is = ap further (used_is w c n k.material added u is)
 
-  on_stays : (j : ℕ) → j ≢ n → get (gone_on c n k.material added u.structure (s.done + added)).units j ≡ get c.units j
+  on_stays : (j : ℕ) → j ≢ n → get (after_building_on c n k.material added u.structure (s.done + added)).units j ≡ get c.units j
   on_stays j apart = ap (λ (d : CampaignValue). get d.units j) on_is ∙ others_stay w c n k.material added u is j apart
 
   module _ (there : get c.structures u.structure ≡ Some s) (kind_is : slice_get w.kinds s.kind ≡ Some k) (can : CanBuild w c) (fit : CanGoOn u s k) where
@@ -233,7 +233,7 @@ module _ (w : WorldValue) (c : CampaignValue) (n : ℕ) (u : Unit) (s : Structur
         up : (a d m : ℕ) → a ≤ m - d → d < m → d + a ≤ m
         up a d m l h = omega (arith, l, h)
 
-    on_well : StepsWell CanBuild build_reserve w c (gone_on c n k.material added u.structure (s.done + added))
+    on_well : StepsWell CanBuild build_reserve w c (after_building_on c n k.material added u.structure (s.done + added))
     on_well =
         let done_is = built_is w paid u.structure s (s.done + added) there in
         subst (StepsWell CanBuild build_reserve w c) (sym (on_is ∙ done_is))
@@ -243,23 +243,23 @@ module _ (w : WorldValue) (c : CampaignValue) (n : ℕ) (u : Unit) (s : Structur
 
 -- what is so of the campaign as it is, and of that in which the structure is begun, is so of the campaign behind the order
 begin_cases : (P : CampaignValue → Type 0) (w : WorldValue) (c : CampaignValue) (n kind : ℕ) (k : Kind) (u : Unit) → P c
-    → (CanBegin w c u k → P (started c n kind k u.region (size_added k u.holding 0))) → P (begin w n kind k c u).0
+    → (CanBegin w c u k → P (after_start c n kind k u.region (size_added k u.holding 0))) → P (begin w n kind k c u).0
 unfolding begin
 begin_cases P w c n kind k u same go = by_fault (begin_fault w c u k) refl
   where
-    by_fault : (o : Option EventFault) → begin_fault w c u k ≡ o → P (unless c o (started c n kind k u.region (size_added k u.holding 0), Done (size_added k u.holding 0))).0
+    by_fault : (o : Option EventFault) → begin_fault w c u k ≡ o → P (unless c o (after_start c n kind k u.region (size_added k u.holding 0), Done (size_added k u.holding 0))).0
     by_fault (Some fault) e = same
     by_fault None e = go (can_begin w c u k e)
 
 -- and so where a unit goes on
 go_on_cases : (P : CampaignValue → Type 0) (w : WorldValue) (c : CampaignValue) (n : ℕ) (u : Unit) → P c
     → ((s : Structure) (k : Kind) → get c.structures u.structure ≡ Some s → slice_get w.kinds s.kind ≡ Some k → CanGoOn u s k
-    → P (gone_on c n k.material (size_added k u.holding s.done) u.structure (s.done + size_added k u.holding s.done))) → P (go_on w n c u).0
+    → P (after_building_on c n k.material (size_added k u.holding s.done) u.structure (s.done + size_added k u.holding s.done))) → P (go_on w n c u).0
 unfolding go_on
 go_on_cases P w c n u same go = by_structure (get c.structures u.structure) refl
   where
     by_fault : (s : Structure) (k : Kind) → get c.structures u.structure ≡ Some s → slice_get w.kinds s.kind ≡ Some k → (o : Option EventFault) → inside_fault u s k ≡ o
-        → P (unless c o (gone_on c n k.material (size_added k u.holding s.done) u.structure (s.done + size_added k u.holding s.done), Done (size_added k u.holding s.done))).0
+        → P (unless c o (after_building_on c n k.material (size_added k u.holding s.done) u.structure (s.done + size_added k u.holding s.done), Done (size_added k u.holding s.done))).0
     by_fault s k there kind_is (Some fault) e = same
     by_fault s k there kind_is None e = go s k there kind_is (can_go_on u s k e)
 
@@ -293,7 +293,7 @@ module _ (w : WorldValue) (c : CampaignValue) (n : ℕ) (u : Unit) (is : get c.u
 reserve_within : (w : WorldValue) (c : CampaignValue) → CanBuild w c → (e : Entry) (t : Thing) → build_reserve c e t ≤ build_moves e t
 reserve_within w c can e t = by_thing t
   where
-    all_within : (f : Held → ℕ) (most : ℕ) → ((h : Held) → IsHolding h → f h ≤ most) → sum_over (λ (u : Unit). f u.holding) c.units ≤ length (entries c.units) * most
+    all_within : (f : HoldingValue → ℕ) (most : ℕ) → ((h : HoldingValue) → IsHolding h → f h ≤ most) → sum_over (λ (u : Unit). f u.holding) c.units ≤ length (entries c.units) * most
     all_within f most each = sum_within (λ (u : Unit). f u.holding) most (entries c.units) (each-from_every (λ n u. f u.holding ≤ most) c.units (λ n u is. each u.holding (can.steady.numbers.units n u is).1))
 
     few : (s n : ℕ) → s ≤ n * holding_limit → n ≤ most_units → s ≤ most_moved
@@ -312,34 +312,34 @@ reserve_within w c can e t = by_thing t
     by_thing : (s : Thing) → build_reserve c e s ≤ build_moves e s
     by_thing Money = none
     by_thing People = none
-    by_thing (Item i) = by_entry i (entry_place e == entry_place Used)
+    by_thing (Item i) = by_entry i (entry_index e == entry_index Used)
 
 -- ---- the phase
 
 pub build_orderly : IsOrderly build_step CanBuild build_reserve build_moves IsOwnOrder IsNoWorse
 build_orderly = record {
-  well = λ w a c t x can fit own. well w c t.unit x own.there can t.said;
+  well = λ w a c t x can fit own. well w c t.unit x own.there can t.order_value.operands;
   sparing = no_worse_spares;
-  spared = λ w a c t x can own j v there apart. stays_spared (build_step w a t) c t x own j v there apart (λ i other. stays w c t.unit x own.there i other t.said);
+  spared = λ w a c t x can own j v there apart. stays_spared (build_step w a t) c t x own j v there apart (λ i other. stays w c t.unit x own.there i other t.order_value.operands);
   bounded = reserve_within;
 }
   where
-    well : (w : WorldValue) (c : CampaignValue) (n : ℕ) (x : Unit) → get c.units n ≡ Some x → CanBuild w c → (s : Said) → IfSome (build_said w n s) (λ deed. StepsWell CanBuild build_reserve w c (deed c x).0)
-    well w c n x is can (orders.Build (Some kind)) = by_kind (slice_get w.kinds kind) refl
+    well : (w : WorldValue) (c : CampaignValue) (n : ℕ) (x : Unit) → get c.units n ≡ Some x → CanBuild w c → (s : OperandsValue) → IfSome (build_effect w n s) (λ deed. StepsWell CanBuild build_reserve w c (deed c x).0)
+    well w c n x is can (operands.Kind (Some kind)) = by_kind (slice_get w.kinds kind) refl
       where
         by_kind : (o : Option Kind) → slice_get w.kinds kind ≡ o → IfSome (option_map (begin w n kind) o) (λ deed. StepsWell CanBuild build_reserve w c (deed c x).0)
         by_kind None kind_is = tt
         by_kind (Some k) kind_is = begin_well w c n x is kind k kind_is can
-    well w c n x is can (orders.Build None) = go_on_well w c n x is can
+    well w c n x is can (operands.Kind None) = go_on_well w c n x is can
     well w c n x is can other = tt
 
-    stays : (w : WorldValue) (c : CampaignValue) (n : ℕ) (x : Unit) → get c.units n ≡ Some x → (j : ℕ) → j ≢ n → (s : Said) → IfSome (build_said w n s) (λ deed. get (deed c x).0.units j ≡ get c.units j)
-    stays w c n x is j apart (orders.Build (Some kind)) = by_kind (slice_get w.kinds kind)
+    stays : (w : WorldValue) (c : CampaignValue) (n : ℕ) (x : Unit) → get c.units n ≡ Some x → (j : ℕ) → j ≢ n → (s : OperandsValue) → IfSome (build_effect w n s) (λ deed. get (deed c x).0.units j ≡ get c.units j)
+    stays w c n x is j apart (operands.Kind (Some kind)) = by_kind (slice_get w.kinds kind)
       where
         by_kind : (o : Option Kind) → IfSome (option_map (begin w n kind) o) (λ deed. get (deed c x).0.units j ≡ get c.units j)
         by_kind None = tt
         by_kind (Some k) = begin_stays w c n x is kind k j apart
-    stays w c n x is j apart (orders.Build None) = go_on_stays w c n x is j apart
+    stays w c n x is j apart (operands.Kind None) = go_on_stays w c n x is j apart
     stays w c n x is j apart other = tt
 
 -- a phase that leaves a campaign in which units can build leaves a steady one
@@ -360,30 +360,30 @@ can_use w c n item amount u is enough known can room = record {
 -- ---- what the code does is what is said
 
 -- a structure and its kind that stand under a number
-built_is_both : (w : WorldValue) (c : CampaignValue) (place : ℕ) (s : Structure) (k : Kind) → get c.structures place ≡ Some s → slice_get w.kinds s.kind ≡ Some k → built_at w c place ≡ Some (s, k)
+built_is_both : (w : WorldValue) (c : CampaignValue) (place : ℕ) (s : Structure) (k : Kind) → get c.structures place ≡ Some s → slice_get w.kinds s.kind ≡ Some k → structure_and_kind_at w c place ≡ Some (s, k)
 built_is_both w c place s k there kind_is = ap (option_and_then (with_kind w)) there ∙ ap (option_map {U = Structure × Kind} (λ x. (s, x))) kind_is
 
 abbrev begun_told : CampaignValue → (n kind : ℕ) → Kind → (region size : ℕ) → CampaignValue × Outcome
-begun_told c n kind k region size = (started c n kind k region size, Done size)
+begun_told c n kind k region size = (after_start c n kind k region size, Done size)
 
 abbrev on_told : CampaignValue → (n material size place done : ℕ) → CampaignValue × Outcome
-on_told c n material size place done = (gone_on c n material size place done, Done size)
+on_told c n material size place done = (after_building_on c n material size place done, Done size)
 
 pub begin_done : (w : WorldValue) (c d : CampaignValue) (f n kind : ℕ) (u : Unit) (k : Kind) (size told : ℕ) → of_faction f (get c.units n) ≡ Some u → begin_fault w c u k ≡ None
-    → d ≡ started c n kind k u.region size → told ≡ size → size ≡ size_added k u.holding 0 → (d, Done told) ≡ carried (begin w n kind k) c f n
+    → d ≡ after_start c n kind k u.region size → told ≡ size → size ≡ size_added k u.holding 0 → (d, Done told) ≡ faction_effect (begin w n kind k) c f n
 unfolding begin
 begin_done w c d f n kind u k size told is none first told_is size_is =
     let whole = begun_told c n kind k u.region (size_added k u.holding 0) in
-    let chain : carried (begin w n kind k) c f n ≡ whole = ap (done_for (begin w n kind k) c) is ∙ ap (λ o. unless c o whole) none in
+    let chain : faction_effect (begin w n kind k) c f n ≡ whole = ap (effect_on (begin w n kind k) c) is ∙ ap (λ o. unless c o whole) none in
     rw (first, told_is, size_is) (sym chain)
 
 pub go_on_done : (w : WorldValue) (c d : CampaignValue) (f n : ℕ) (u : Unit) (s : Structure) (k : Kind) (size told : ℕ) → of_faction f (get c.units n) ≡ Some u → get c.structures u.structure ≡ Some s → slice_get w.kinds s.kind ≡ Some k
-    → inside_fault u s k ≡ None → d ≡ gone_on c n k.material size u.structure (s.done + size) → told ≡ size → size ≡ size_added k u.holding s.done → (d, Done told) ≡ carried (go_on w n) c f n
+    → inside_fault u s k ≡ None → d ≡ after_building_on c n k.material size u.structure (s.done + size) → told ≡ size → size ≡ size_added k u.holding s.done → (d, Done told) ≡ faction_effect (go_on w n) c f n
 unfolding go_on
 go_on_done w c d f n u s k size told is there kind_is none first told_is size_is =
     let added = size_added k u.holding s.done in
     let whole = on_told c n k.material added u.structure (s.done + added) in
-    let chain : carried (go_on w n) c f n ≡ whole = ap (done_for (go_on w n) c) is ∙ ap (go_on_at c n u) (built_is_both w c u.structure s k there kind_is) ∙ ap (λ o. unless c o whole) none in
+    let chain : faction_effect (go_on w n) c f n ≡ whole = ap (effect_on (go_on w n) c) is ∙ ap (go_on_at c n u) (built_is_both w c u.structure s k there kind_is) ∙ ap (λ o. unless c o whole) none in
     rw (first, told_is, size_is) (sym chain)
 
 -- what is done then isn't more than the kind's size

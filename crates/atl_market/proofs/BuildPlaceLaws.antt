@@ -11,7 +11,7 @@ use Rattle.atl_records.specs.declared.records.Unit.{Unit}
 use Rattle.atl_state.specs.Good.{is_ship}
 use Rattle.atl_state.specs.Owners.{with_place}
 use Rattle.atl_state.specs.Campaign.{CampaignValue}
-use Rattle.atl_instant.specs.Steps.{StepsWell}
+use Rattle.atl_instant.specs.OrderEffects.{StepsWell}
 use Rattle.atl_instant.proofs.MeaningLaws.{same_month_by}
 use Rattle.atl_instant.proofs.PlacingLaws.{behind, place_is, placed_steady, placed_total}
 use Rattle.atl_market.specs.Build.{CanBuild, build_reserve, usable}

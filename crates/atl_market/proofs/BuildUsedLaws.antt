@@ -13,9 +13,9 @@ use Rattle.atl_records.specs.declared.books.Entry.TheVariants.{Used}
 use Rattle.atl_records.specs.declared.books.Thing.{Thing}
 use Rattle.atl_records.specs.declared.books.Thing.TheVariants.{Item, Money, People}
 use Rattle.atl_records.specs.declared.records.Unit.{Unit}
-use Rattle.atl_records.specs.Books.{amount_in, entry_place, thing_place, amount_number}
+use Rattle.atl_records.specs.Books.{amount_in, entry_index, thing_index, amount_number}
 use Rattle.atl_state.specs.Good.{IsSteady}
-use Rattle.atl_records.specs.Held.{Held, amount_of, with_amount_of}
+use Rattle.atl_records.specs.Holdings.{HoldingValue, amount_of, with_amount_of}
 use Rattle.atl_records.specs.Limits.{entry_count}
 use Rattle.atl_state.specs.Campaign.{CampaignValue, with_amount}
 use Rattle.atl_records.proofs.EveryEntryLaws.{entry_small}
@@ -23,10 +23,10 @@ use Rattle.atl_records.proofs.EveryLaws.{get-insert_other}
 use Rattle.atl_state.proofs.RegionLaws.{get-insert_same}
 use Rattle.atl_records.proofs.RemovedLaws.{sum_over-remove}
 use Rattle.atl_instant.specs.Meaning.{HasRoom, HaveRoom, LeavesWell, moves_only}
-use Rattle.atl_instant.specs.Steps.{IsDrawn, StepsWell}
-use Rattle.atl_records.proofs.HeldLaws.{alike, set_amount}
+use Rattle.atl_instant.specs.OrderEffects.{StepsWell, UsesBound}
+use Rattle.atl_records.proofs.HoldingLaws.{alike, set_amount}
 use Rattle.atl_instant.proofs.MeaningLaws.{less_room, near_more}
-use Rattle.atl_instant.proofs.StepLaws.{drawn_near}
+use Rattle.atl_instant.proofs.OrderEffectLaws.{drawn_near}
 use Rattle.atl_market.specs.Build.{CanBuild, build_reserve, usable}
 use Rattle.atl_market.specs.Goods.{with_used}
 use Rattle.atl_market.proofs.GoodsLaws.{item_held, used_is, used_up_to}
@@ -34,11 +34,11 @@ use Rattle.atl_market.proofs.ThereLaws.{by_unit}
 
 -- ---- what a unit holds less
 
-abbrev with_less : Held → (item amount : ℕ) → Held
+abbrev with_less : HoldingValue → (item amount : ℕ) → HoldingValue
 with_less h item amount = record h { items = with_amount_of h.items item (amount_of h.items item - amount) }
 
 -- so much of an item is gone, and nothing of another
-item_less : (h : Held) (item amount j : ℕ) → amount ≤ amount_of h.items item → amount_of h.items j ≡ amount_of (with_less h item amount).items j + cond (eq_by_cmp nat_cmp j item) amount 0
+item_less : (h : HoldingValue) (item amount j : ℕ) → amount ≤ amount_of h.items item → amount_of h.items j ≡ amount_of (with_less h item amount).items j + cond (eq_by_cmp nat_cmp j item) amount 0
 item_less h item amount j enough =
     by_test (eq_by_cmp nat_cmp j item) refl ∙ ap (λ x. x + cond (eq_by_cmp nat_cmp j item) amount 0) (sym (set_amount h.items item (amount_of h.items item - amount) j))
   where
@@ -51,13 +51,13 @@ item_less h item amount j enough =
 
 -- how much of it is booked under an entry
 abbrev used_of : (item amount : ℕ) → Entry → Thing → ℕ
-used_of item amount e (Item j) = if entry_place e == entry_place Used then cond (eq_by_cmp nat_cmp j item) amount 0 else 0
+used_of item amount e (Item j) = if entry_index e == entry_index Used then cond (eq_by_cmp nat_cmp j item) amount 0 else 0
 used_of item amount e t = 0
 
-usable_less : (h : Held) (item amount : ℕ) → amount ≤ amount_of h.items item → (e : Entry) (t : Thing) → usable e t h ≡ usable e t (with_less h item amount) + used_of item amount e t
+usable_less : (h : HoldingValue) (item amount : ℕ) → amount ≤ amount_of h.items item → (e : Entry) (t : Thing) → usable e t h ≡ usable e t (with_less h item amount) + used_of item amount e t
 usable_less h item amount enough e Money = refl
 usable_less h item amount enough e People = refl
-usable_less h item amount enough e (Item j) = by_entry (entry_place e == entry_place Used)
+usable_less h item amount enough e (Item j) = by_entry (entry_index e == entry_index Used)
   where
     by_entry : (b : Bool) → (if b then amount_of h.items j else 0) ≡ (if b then amount_of (with_less h item amount).items j else 0) + (if b then cond (eq_by_cmp nat_cmp j item) amount 0 else 0)
     by_entry true = item_less h item amount j enough
@@ -74,18 +74,18 @@ only_used item amount e t = by_number (amount_number e t == amount_number Used (
     places : (i j p q : ℕ) → entry_count * i + p ≡ entry_count * j + q → p < entry_count → q < entry_count → (i ≡ j) × (p ≡ q)
     places i j p q e l m = (omega (arith, e, l, m), omega (arith, e, l, m))
 
-    by_thing : (s : Thing) → entry_count * thing_place s + entry_place e ≡ entry_count * thing_place (Item item) + entry_place Used → amount ≤ used_of item amount e s
-    by_thing Money same = let p = places 0 (2 + item) (entry_place e) (entry_place Used) same (entry_small e) (entry_small Used) in absurd (omega (arith, p.0))
-    by_thing People same = let p = places 1 (2 + item) (entry_place e) (entry_place Used) same (entry_small e) (entry_small Used) in absurd (omega (arith, p.0))
+    by_thing : (s : Thing) → entry_count * thing_index s + entry_index e ≡ entry_count * thing_index (Item item) + entry_index Used → amount ≤ used_of item amount e s
+    by_thing Money same = let p = places 0 (2 + item) (entry_index e) (entry_index Used) same (entry_small e) (entry_small Used) in absurd (omega (arith, p.0))
+    by_thing People same = let p = places 1 (2 + item) (entry_index e) (entry_index Used) same (entry_small e) (entry_small Used) in absurd (omega (arith, p.0))
     by_thing (Item j) same =
-        let p = places (2 + j) (2 + item) (entry_place e) (entry_place Used) same (entry_small e) (entry_small Used) in
+        let p = places (2 + j) (2 + item) (entry_index e) (entry_index Used) same (entry_small e) (entry_small Used) in
         let number : j ≡ item = omega (arith, p.0) in
-        let entry : entry_place e ≡ entry_place Used = p.1 in
-        at (entry_place e == entry_place Used) (eq_by_cmp nat_cmp j item) (let f : (entry_place e == entry_place Used) ≡ true = grind (arith, nat_tests) in f)
+        let entry : entry_index e ≡ entry_index Used = p.1 in
+        at (entry_index e == entry_index Used) (eq_by_cmp nat_cmp j item) (let f : (entry_index e == entry_index Used) ≡ true = grind (arith, nat_tests) in f)
         (sym (unsigned_ties j item) ∙ (let g : (j == item) ≡ true = grind (arith, nat_tests) in g))
 
     by_number : (b : Bool) → (amount_number e t == amount_number Used (Item item)) ≡ b → (if b then amount else 0) ≤ used_of item amount e t
-    by_number true is = by_thing t (let same : entry_count * thing_place t + entry_place e ≡ entry_count * thing_place (Item item) + entry_place Used = grind (arith, nat_tests) in same)
+    by_number true is = by_thing t (let same : entry_count * thing_index t + entry_index e ≡ entry_count * thing_index (Item item) + entry_index Used = grind (arith, nat_tests) in same)
     by_number false is = omega arith
 
 -- ---- the campaign
@@ -111,7 +111,7 @@ module _ (w : WorldValue) (c : CampaignValue) (n item amount : ℕ) (u : Unit) (
     well : LeavesWell IsSteady (moves_only amount Used (Item item)) w c used
     well = subst (LeavesWell IsSteady (moves_only amount Used (Item item)) w c) (used_is w c n item amount u is) (used_up_to w c n item amount amount (omega arith) u is known enough can.steady)
 
-    drawn : (e : Entry) (t : Thing) → IsDrawn (build_reserve c e t) (build_reserve used e t) (amount_in c.books e t) (amount_in used.books e t)
+    drawn : (e : Entry) (t : Thing) → UsesBound (build_reserve c e t) (build_reserve used e t) (amount_in c.books e t) (amount_in used.books e t)
     drawn e t =
         let f = λ (x : Unit). usable e t x.holding in
         drawn_near (used_of item amount e t) (build_reserve c e t) (build_reserve used e t) (amount_in c.books e t) (amount_in used.books e t)

@@ -13,25 +13,25 @@ use Rattle.atl_records.specs.declared.records.Unit.{Unit}
 use Rattle.atl_records.specs.Books.{IsWithin}
 use Rattle.atl_state.specs.Founding.{things_of}
 use Rattle.atl_state.specs.Good.{IsEarly, IsSteady}
-use Rattle.atl_records.specs.Held.{Held, amount_of}
+use Rattle.atl_records.specs.Holdings.{HoldingValue, amount_of}
 use Rattle.atl_state.specs.Campaign.{CampaignValue, region_changed, with_amount}
-use Rattle.atl_records.specs.Amounts.{held, kept}
+use Rattle.atl_records.specs.Amounts.{region_amount, unit_amount}
 use Rattle.atl_state.specs.Totals.{total}
-use Rattle.atl_records.proofs.BookLaws.{booked-with_booked, share_of}
+use Rattle.atl_records.proofs.BookLaws.{booked-after_booking, share_of}
 use Rattle.atl_state.proofs.HavingLaws.{MayHave, early-having}
-use Rattle.atl_state.proofs.HoldingLaws.{total-held}
+use Rattle.atl_state.proofs.HoldingLaws.{total-unit_amount}
 use Rattle.atl_state.proofs.RegionLaws.{steady-amount, total-amount, total-region}
 use Rattle.atl_instant.specs.Meaning.{LeavesWell, moves_only}
 use Rattle.atl_instant.proofs.BookingLaws.{booked-near}
 use Rattle.atl_instant.proofs.MeaningLaws.{same_month_by}
 
 -- both have together what they had, but for the money that is booked
-pub record KeepsTogether (u : Unit) (q : Region) (f : Region → Region) (more : Held) (z : ℤ) : Type 0 where
+pub record KeepsTogether (u : Unit) (q : Region) (f : Region → Region) (more : HoldingValue) (z : ℤ) : Type 0 where
   pub money : pos (more.money + (f q).money) ≡ pos (u.holding.money + q.money) +ℤ z
   pub people : more.men + (f q).peasants ≡ u.holding.men + q.peasants
   pub items : (i : ℕ) → amount_of more.items i + amount_of (f q).stocks i ≡ amount_of u.holding.items i + amount_of q.stocks i
 
-module _ (w : WorldValue) (c : CampaignValue) (n : ℕ) (u : Unit) (q : Region) (f : Region → Region) (more : Held) (entry : Entry) (z : ℤ)
+module _ (w : WorldValue) (c : CampaignValue) (n : ℕ) (u : Unit) (q : Region) (f : Region → Region) (more : HoldingValue) (entry : Entry) (z : ℤ)
     (is : get c.units n ≡ Some u) (around : get c.regions u.region ≡ Some q) where
   abbrev supplied : CampaignValue
   supplied = record c { units = insert c.units n (record u { holding = more }) }
@@ -43,7 +43,7 @@ module _ (w : WorldValue) (c : CampaignValue) (n : ℕ) (u : Unit) (q : Region) 
   exchanged = with_amount left entry Money z
 
   total_of : KeepsTogether u q f more z → (t : Thing) → pos (total exchanged t) ≡ pos (total c t) +ℤ share_of t Money z
-  total_of keeps t = by_thing t (total-amount left entry Money t z) (total-region f supplied u.region q around t) (total-held w c n u more is t)
+  total_of keeps t = by_thing t (total-amount left entry Money t z) (total-region f supplied u.region q around t) (total-unit_amount w c n u more is t)
     where
       same : (a b d e g h i j : ℕ) → a ≡ b → b + g ≡ d + h → d + i ≡ e + j → j + h ≡ i + g → a ≡ e
       same a b d e g h i j s k l m = omega (arith, s, k, l, m)
@@ -56,8 +56,8 @@ module _ (w : WorldValue) (c : CampaignValue) (n : ℕ) (u : Unit) (q : Region) 
           zero_more : pos x +ℤ pos 0 ≡ pos x
           zero_more = omega (arith, ints)
 
-      by_thing : (t : Thing) → total exchanged t ≡ total left t → total left t + kept t q ≡ total supplied t + kept t (f q)
-          → total supplied t + held t u.holding ≡ total c t + held t more → pos (total exchanged t) ≡ pos (total c t) +ℤ share_of t Money z
+      by_thing : (t : Thing) → total exchanged t ≡ total left t → total left t + region_amount t q ≡ total supplied t + region_amount t (f q)
+          → total supplied t + unit_amount t u.holding ≡ total c t + unit_amount t more → pos (total exchanged t) ≡ pos (total c t) +ℤ share_of t Money z
       by_thing Money s a b = omega (arith, ints, s, a, b, keeps.money)
       by_thing People s a b = omega (arith, ints, s, a, b, keeps.people)
       by_thing (Item i) s a b =
@@ -71,6 +71,6 @@ module _ (w : WorldValue) (c : CampaignValue) (n : ℕ) (u : Unit) (q : Region) 
       record {
         leaves_it = record { steady = steady-amount w left entry Money z (region before.steady); flags = before.flags };
         same_month = same_month_by refl;
-        balances = λ old t. total_of keeps t ∙ ap (λ y. y +ℤ share_of t Money z) (old t) ∙ sym (booked-with_booked (things_of w) c.books entry Money z grid (omega arith) t);
+        balances = λ old t. total_of keeps t ∙ ap (λ y. y +ℤ share_of t Money z) (old t) ∙ sym (booked-after_booking (things_of w) c.books entry Money z grid (omega arith) t);
         near = booked-near (things_of w) c.books entry Money z limit grid (omega arith) small;
       }

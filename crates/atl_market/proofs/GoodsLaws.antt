@@ -15,18 +15,18 @@ use Rattle.atl_records.specs.declared.records.Unit.{Unit}
 use Rattle.atl_records.specs.Books.{IsWithin}
 use Rattle.atl_state.specs.Founding.{things_of}
 use Rattle.atl_state.specs.Good.{IsSteady}
-use Rattle.atl_records.specs.Held.{Held, amount_of, with_amount_of}
+use Rattle.atl_records.specs.Holdings.{HoldingValue, amount_of, with_amount_of}
 use Rattle.atl_state.specs.Lending.{with_held}
 use Rattle.atl_records.specs.Limits.{holding_limit}
 use Rattle.atl_state.specs.Campaign.{CampaignValue, with_amount, with_item}
-use Rattle.atl_records.specs.Amounts.{held}
+use Rattle.atl_records.specs.Amounts.{unit_amount}
 use Rattle.atl_state.specs.Totals.{total}
-use Rattle.atl_records.proofs.BookLaws.{booked-with_booked, share_of}
+use Rattle.atl_records.proofs.BookLaws.{booked-after_booking, share_of}
 use Rattle.atl_state.proofs.HavingLaws.{MayHave, may_have}
-use Rattle.atl_state.proofs.HoldingLaws.{steady-held, total-held}
+use Rattle.atl_state.proofs.HoldingLaws.{steady-unit_amount, total-unit_amount}
 use Rattle.atl_state.proofs.RegionLaws.{get-insert_same, steady-amount, total-amount}
 use Rattle.atl_instant.specs.Meaning.{LeavesWell, moves_only}
-use Rattle.atl_records.proofs.HeldLaws.{alike, amount_within, every_amount, set_amount}
+use Rattle.atl_records.proofs.HoldingLaws.{alike, amount_within, every_amount, set_amount}
 use Rattle.atl_instant.proofs.MeaningLaws.{same_month_by}
 use Rattle.atl_instant.proofs.BookingLaws.{booked-near, within-neg, within-pos}
 use Rattle.atl_instant.proofs.ChangeLaws.{changed_held, others_held}
@@ -50,7 +50,7 @@ item_is c n u i amount is = changed_held (λ h. record h { items = with_amount_o
 -- ---- a unit holds another amount of an item, which is booked
 
 module _ (w : WorldValue) (c : CampaignValue) (n : ℕ) (u : Unit) (i amount : ℕ) (is : get c.units n ≡ Some u) where
-  abbrev more : Held
+  abbrev more : HoldingValue
   more = record u.holding { items = with_amount_of u.holding.items i amount }
 
   abbrev with_set : CampaignValue
@@ -81,7 +81,7 @@ module _ (w : WorldValue) (c : CampaignValue) (n : ℕ) (u : Unit) (i amount : �
           let other : (2 + j == 2 + i) ≡ false = grind (arith, nat_tests) in
           unmoved x y t (amount_of u.holding.items j) a b ∙ sym (ap (λ p. pos t +ℤ cond p z (pos 0)) other)
 
-      total_of : (t : Thing) → total after t ≡ total with_set t → total with_set t + held t u.holding ≡ total c t + held t more → pos (total after t) ≡ pos (total c t) +ℤ share_of t (Item i) z
+      total_of : (t : Thing) → total after t ≡ total with_set t → total with_set t + unit_amount t u.holding ≡ total c t + unit_amount t more → pos (total after t) ≡ pos (total c t) +ℤ share_of t (Item i) z
       total_of Money a b =
           let other : (0 == 2 + i) ≡ false = grind (arith, nat_tests) in
           unmoved (total after Money) (total with_set Money) (total c Money) u.holding.money a b ∙ sym (ap (λ p. pos (total c Money) +ℤ cond p z (pos 0)) other)
@@ -99,11 +99,11 @@ module _ (w : WorldValue) (c : CampaignValue) (n : ℕ) (u : Unit) (i amount : �
           record {
             leaves_it =
                 steady-amount w with_set e (Item i) z
-                (steady-held w c n u more is (record { limits = has.limits; name = has.name; items = has.items; skills = has.skills; days = has.days; guard = λ g. g }) steady);
+                (steady-unit_amount w c n u more is (record { limits = has.limits; name = has.name; items = has.items; skills = has.skills; days = has.days; guard = λ g. g }) steady);
             same_month = same_month_by refl;
             balances = λ old t.
-                total_of t (total-amount with_set e (Item i) t z) (total-held w c n u more is t)
-                ∙ ap (λ y. y +ℤ share_of t (Item i) z) (old t) ∙ sym (booked-with_booked (things_of w) c.books e (Item i) z grid (omega (arith, known)) t);
+                total_of t (total-amount with_set e (Item i) t z) (total-unit_amount w c n u more is t)
+                ∙ ap (λ y. y +ℤ share_of t (Item i) z) (old t) ∙ sym (booked-after_booking (things_of w) c.books e (Item i) z grid (omega (arith, known)) t);
             near = booked-near (things_of w) c.books e (Item i) z limit grid (omega (arith, known)) small;
           }
 
@@ -163,7 +163,7 @@ module _ (w : WorldValue) (c : CampaignValue) (n i k : ℕ) where
   made_others m apart = by_unit c n (λ (d : CampaignValue). get d.units m ≡ get c.units m) _ refl (λ u is. item_others (amount_of u.holding.items i + k) m apart)
 
 -- with less of one item a unit has no more of another
-pub no_more : (h : Held) (r i k : ℕ) → amount_of (with_amount_of h.items r (amount_of h.items r - k)) i ≤ amount_of h.items i
+pub no_more : (h : HoldingValue) (r i k : ℕ) → amount_of (with_amount_of h.items r (amount_of h.items r - k)) i ≤ amount_of h.items i
 no_more h r i k = subst (λ a. a ≤ amount_of h.items i) (sym (set_amount h.items r (amount_of h.items r - k) i)) (by_test (eq_by_cmp nat_cmp i r) refl)
   where
     less : (a b k : ℕ) → b ≡ a → a - k ≤ b

@@ -17,7 +17,7 @@ use Rattle.atl_records.proofs.EveryLaws.{each-from_every, first, found_of, get-i
 use Rattle.atl_state.proofs.OrderLaws.{each_so}
 use Rattle.atl_state.proofs.RegionLaws.{get-insert_same}
 use Rattle.atl_instant.proofs.MappedLaws.{no_entries}
-use Rattle.atl_market.specs.ItemGroups.{Groups, item_shares_in, region_shares, want_put, with_want}
+use Rattle.atl_market.specs.ItemGroups.{Groups, item_shares_in, region_shares, with_item_want, with_want}
 use Rattle.atl_market.specs.ItemPots.{is_for, item_share, item_shares, wants_for}
 use Rattle.atl_market.specs.Pots.{share_of, shares_in, takers_in, want_of}
 use Rattle.atl_market.specs.Puts.{with_each}
@@ -163,7 +163,7 @@ module _ (item_of : ℕ → Option ℕ) (wants : FinMap nat_cmp ℕ) where
   one_put : (groups : Groups) (n : ℕ) (rest : Entries) (i : ℕ) → with_each (group_of (with_want item_of wants groups n) i) rest ≡ with_each (group_of groups i) (told n (get (mine i) n) ++ rest)
   one_put groups n rest i = by_item (item_of n) (get wants n) ∙ sym (ap (λ o. with_each (group_of groups i) (told n o ++ rest)) (mine_at i n))
     where
-      by_item : (o v : Option ℕ) → with_each (group_of (want_put groups n o v) i) rest ≡ with_each (group_of groups i) (told n (cond (is_for i o) v None) ++ rest)
+      by_item : (o v : Option ℕ) → with_each (group_of (with_item_want groups n o v) i) rest ≡ with_each (group_of groups i) (told n (cond (is_for i o) v None) ++ rest)
       by_item None v = refl
       by_item (Some j) None = elim (j == i) as (λ b. with_each (group_of groups i) rest ≡ with_each (group_of groups i) (told n (cond b None None) ++ rest)) [ true ↦ refl | false ↦ refl ]
       by_item (Some j) (Some v) =
@@ -349,7 +349,7 @@ module _ (item_of : ℕ → Option ℕ) (pot_of : (item region : ℕ) → ℕ) (
   pub nothing_put : (r : ℕ) → takers_in wants c.units r ≡ [] → region_shares item_of pot_of wants c r ≡ []
   nothing_put r nobody = ap (λ (gs : Groups). flat_map (item_shares_in pot_of wants r) (entries gs)) (unwanted empty (numbers_in r c.units) nobody) ∙ ap (flat_map (item_shares_in pot_of wants r)) (no_entries nat_cmp)
     where
-      skipped : (groups : Groups) (n : ℕ) (i v : Option ℕ) → is_some v ≡ false → want_put groups n i v ≡ groups
+      skipped : (groups : Groups) (n : ℕ) (i v : Option ℕ) → is_some v ≡ false → with_item_want groups n i v ≡ groups
       skipped groups n None v h = refl
       skipped groups n (Some i) None h = refl
       skipped groups n (Some i) (Some v) h = absurd (false≢true (sym h))

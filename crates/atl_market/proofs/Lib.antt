@@ -6,7 +6,7 @@ pub mod DrawLaws
 pub mod OrderedLaws
 pub mod AtOnceLaws
 pub mod ThereLaws
-pub mod PurseLaws
+pub mod MoneyInTurnLaws
 pub mod TaxLaws
 pub mod ExchangeLaws
 pub mod RecruitLaws
@@ -21,7 +21,7 @@ pub mod ItemPotLaws
 pub mod MakesLaws
 pub mod GoodsLaws
 pub mod ProduceLaws
-pub mod PaidLaws
+pub mod AfterPotsLaws
 pub mod UnmailedMakeLaws
 pub mod TradeLaws
-pub mod TradedLaws
+pub mod AfterTradeLaws

@@ -11,7 +11,7 @@ use Rattle.atl_state.specs.Campaign.{CampaignValue}
 use Rattle.atl_state.proofs.BackLaws.{Rise, entries_rise}
 use Rattle.atl_records.proofs.EveryLaws.{first, none_some}
 use Rattle.atl_market.specs.Puts.{with_each}
-use Rattle.atl_market.specs.Produce.{gathered, made_by, makes, output_at, output_share, produce_pots}
+use Rattle.atl_market.specs.Produce.{made_amounts, made_by, output_at, output_item, output_share, produce_pots}
 use Rattle.atl_market.proofs.ItemPotLaws.{items_give}
 use Rattle.atl_market.proofs.PotLaws.{found_other, risen_put}
 use Rattle.atl_market.proofs.WantLaws.{GivesToWants}
@@ -46,16 +46,16 @@ module _ (f : ℕ × ℕ → ℕ) where
 
 module _ (asked : FinMap nat_cmp ℕ) (w : WorldValue) (c : CampaignValue) (wants : FinMap nat_cmp ℕ) where
   -- put unit by unit
-  pub makes_are : with_each empty (map (λ e. (e.0, made_by w asked c wants e)) (entries wants)) ≡ makes asked w c wants
+  pub makes_are : with_each empty (map (λ e. (e.0, made_by w asked c wants e)) (entries wants)) ≡ made_amounts asked w c wants
   makes_are = risen_put (instead (made_by w asked c wants) (entries wants)) (rise_instead (made_by w asked c wants) (entries wants) (entries_rise wants))
 
   least : (n want : ℕ) → get wants n ≡ Some want → made_by w asked c wants (n, want) ≤ want
-  least n want wanted = by_item (is_some (gathered w asked n))
+  least n want wanted = by_item (is_some (output_item w asked n))
     where
       by_share : (o : Option ℕ) → output_share w asked c wants n ≡ o → unwrap_or o 0 ≤ want
       by_share None is = omega arith
       by_share (Some share) is =
-          let (most, also, low) = items_give (gathered w asked) (output_at w) wants c n share is in
+          let (most, also, low) = items_give (output_item w asked) (output_at w) wants c n share is in
           let same : most ≡ want = cc in
           subst (λ k. share ≤ k) same low
 

@@ -13,8 +13,8 @@ use Rattle.atl_records.specs.declared.records.Unit.{Unit}
 use Rattle.atl_state.specs.Campaign.{CampaignValue}
 use Rattle.atl_records.proofs.EveryLaws.{each-from_every, get-insert_other, none_some}
 use Rattle.atl_instant.specs.PhaseOrders.{Task}
-use Rattle.atl_instant.proofs.StayingLaws.{no_worse}
-use Rattle.atl_market.specs.PotPhase.{PotMeaning, given_by, items_by, shared_out, unit_for, want_by, wants_by}
+use Rattle.atl_instant.proofs.NoWorseLaws.{no_worse}
+use Rattle.atl_market.specs.PotPhase.{PotMeaning, after_sharing, given_by, items_by, unit_for, want_by, wants_by}
 use Rattle.atl_market.specs.Puts.{with_any, with_each}
 use Rattle.atl_market.specs.Unordered.{OthersAreNoWorse, is_ordered}
 use Rattle.atl_market.proofs.DrawLaws.{all_pairs}
@@ -68,13 +68,13 @@ module _ (step : CampaignValue → ℕ × ℕ → CampaignValue) (others : (c : 
   passed_over c (e ∷ es) n apart = passed_over (step c e) es n apart.1 ∙ others c e n apart.0
 
 pub unordered_stays : (p : PotMeaning) (w : WorldValue) → ((items : FinMap nat_cmp ℕ) (c : CampaignValue) (e : ℕ × ℕ) (k : ℕ) → k ≢ e.0 → get (p.paid items w c e).units k ≡ get c.units k)
-    → (c : CampaignValue) → GivesToWants p w c → (os : List Task) (n : ℕ) (u : Unit) → get c.units n ≡ Some u → is_ordered os n u ≡ false → get (shared_out p w c os).units n ≡ get c.units n
-unfolding shared_out
+    → (c : CampaignValue) → GivesToWants p w c → (os : List Task) (n : ℕ) (u : Unit) → get c.units n ≡ Some u → is_ordered os n u ≡ false → get (after_sharing p w c os).units n ≡ get c.units n
+unfolding after_sharing
 unordered_stays p w others c gives os n u there none =
     let given = given_by p w c os in
     let apart = each-from_every (λ k share. n ≢ k) given (λ k share is same. not_given p w c n u there gives os none share (ap (get given) same ∙ is)) in
     passed_over (p.paid (items_by p w c os) w) (others (items_by p w c os)) c (entries given) n (all_pairs (λ e. n ≢ e.0) (entries given) apart)
 
 pub others_no_worse : (p : PotMeaning) (w : WorldValue) → ((items : FinMap nat_cmp ℕ) (c : CampaignValue) (e : ℕ × ℕ) (k : ℕ) → k ≢ e.0 → get (p.paid items w c e).units k ≡ get c.units k)
-    → (c : CampaignValue) → GivesToWants p w c → (os : List Task) → OthersAreNoWorse os c (shared_out p w c os)
+    → (c : CampaignValue) → GivesToWants p w c → (os : List Task) → OthersAreNoWorse os c (after_sharing p w c os)
 others_no_worse p w others c gives os n u there none = (u, unordered_stays p w others c gives os n u there none ∙ there, no_worse u)

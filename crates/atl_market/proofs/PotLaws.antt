@@ -22,7 +22,7 @@ use Rattle.atl_state.proofs.BackLaws.{Rise}
 use Rattle.atl_records.proofs.EveryLaws.{every-from_each, none_some, first, later, sorted, same_number}
 use Rattle.atl_state.proofs.RegionLaws.{get-insert_same}
 use Rattle.atl_state.proofs.OrderLaws.{each_so}
-use Rattle.atl_market.specs.Asked.{region_at, regions_asked}
+use Rattle.atl_market.specs.RegionsWithWants.{region_at, regions_with_wants}
 use Rattle.atl_market.specs.Share.{shares}
 use Rattle.atl_market.specs.Pots.{want_of, takers_in, wants_in, shares_in, pot_shares, share_of, OnlyTakersGet, EachTakerGets, SharesEachPot, GivesEachPot, OtherRegionsDoNotCount}
 use Rattle.atl_market.specs.Puts.{with_each}
@@ -449,19 +449,19 @@ module _ (wants : FinMap nat_cmp ℕ) (c : CampaignValue) where
       )
 
   -- where a unit that has a want stands
-  taker_asks : (n : ℕ) (u : Unit) → IsThere wants n → get c.units n ≡ Some u → is_some (get (regions_asked wants c) u.region) ≡ true
+  taker_asks : (n : ℕ) (u : Unit) → IsThere wants n → get c.units n ≡ Some u → is_some (get (regions_with_wants wants c) u.region) ≡ true
   taker_asks n u (want, wanted) is =
-      every-from_each (λ k x. (v : Unit) → get c.units k ≡ Some v → is_some (get (regions_asked wants c) v.region) ≡ true) wants (as_pairs _ (entries wants) (asked_each empty (entries wants))) n want wanted u is
+      every-from_each (λ k x. (v : Unit) → get c.units k ≡ Some v → is_some (get (regions_with_wants wants c) v.region) ≡ true) wants (as_pairs _ (entries wants) (asked_each empty (entries wants))) n want wanted u is
 
   -- in other regions nobody takes part
-  pub none_asked : (r : ℕ) → is_some (get (regions_asked wants c) r) ≡ false → takers_in wants c.units r ≡ []
+  pub none_asked : (r : ℕ) → is_some (get (regions_with_wants wants c) r) ≡ false → takers_in wants c.units r ≡ []
   none_asked r free = by_takers (takers_in wants c.units r) (takers_each wants c.units r)
     where
       by_takers : (ns : List ℕ) → AllByRecursion (Takes wants c.units r) ns → ns ≡ []
       by_takers [] all = refl
       by_takers (n ∷ ns) all =
           let ((u, at, here), want) = all.0 in
-          absurd (false≢true (sym free ∙ ap (λ k. is_some (get (regions_asked wants c) k)) (sym here) ∙ taker_asks n u want at))
+          absurd (false≢true (sym free ∙ ap (λ k. is_some (get (regions_with_wants wants c) k)) (sym here) ∙ taker_asks n u want at))
 
 -- ---- the laws
 

@@ -19,20 +19,20 @@ use Rattle.atl_records.specs.declared.records.Unit.{Unit}
 use Rattle.atl_records.specs.Books.{amount_in, amount_number}
 use Rattle.atl_records.specs.Every.{Every}
 use Rattle.atl_state.specs.Good.{IsSteady}
-use Rattle.atl_records.specs.Held.{Held, amount_of, with_amount_of}
+use Rattle.atl_records.specs.Holdings.{HoldingValue, amount_of, with_amount_of}
 use Rattle.atl_records.specs.Levels.{level_in_any}
 use Rattle.atl_records.specs.Limits.{holding_limit, most_units}
 use Rattle.atl_state.specs.Campaign.{CampaignValue}
 use Rattle.atl_state.proofs.BackLaws.{Rise, entries_rise}
 use Rattle.atl_records.proofs.EveryLaws.{each-from_every, none_some, same_number}
 use Rattle.atl_instant.specs.Outcomes.{first_fault}
-use Rattle.atl_instant.specs.Meaning.{HasRoom, HaveRoom, LeavesWell, Moving, both_move, most_moved, moved_times, moves_only}
+use Rattle.atl_instant.specs.Meaning.{BookBound, HasRoom, HaveRoom, LeavesWell, both_move, most_moved, moved_times, moves_only}
 use Rattle.atl_instant.specs.PhaseOrders.{Task}
-use Rattle.atl_records.proofs.HeldLaws.{amount_within}
+use Rattle.atl_records.proofs.HoldingLaws.{amount_within}
 use Rattle.atl_instant.proofs.MeaningLaws.{MovesLess, both_leave_well, less_room, room_behind, room_less, well_unchanged, well_within}
 use Rattle.atl_market.specs.Making.{CanMake, CanMakeOf, CanProduce, CanUse, Fits}
-use Rattle.atl_market.specs.PotPhase.{CanInTurn, given_by, item_in, items_by, shared_out}
-use Rattle.atl_market.specs.Produce.{can_make, can_make_of, item_of, make_fault, produce_moves, produce_pots, produced, up_to_raw, with_raw_used}
+use Rattle.atl_market.specs.PotPhase.{CanInTurn, after_sharing, given_by, item_in, items_by}
+use Rattle.atl_market.specs.Produce.{after_production, can_make, can_make_of, item_of, make_fault, produce_moves, produce_pots, up_to_raw, with_raw_used}
 use Rattle.atl_market.specs.Goods.{with_made, with_used}
 use Rattle.atl_market.specs.Unordered.{OthersAreNoWorse}
 use Rattle.atl_market.proofs.DrawLaws.{all_pairs}
@@ -119,7 +119,7 @@ module _ (asked : FinMap nat_cmp ℕ) (w : WorldValue) (c : CampaignValue) (e : 
         let fits = can.fits i x told there in
         let well = used_well w c e.0 r (e.1 * x.raw_count) (can_use r raw) in
         let left = no_more can.unit.holding r i (e.1 * x.raw_count) in
-        let h : Held = record can.unit.holding { items = with_amount_of can.unit.holding.items r (amount_of can.unit.holding.items r - e.1 * x.raw_count) } in
+        let h : HoldingValue = record can.unit.holding { items = with_amount_of can.unit.holding.items r (amount_of can.unit.holding.items r - e.1 * x.raw_count) } in
         record {
           unit = record can.unit { holding = h };
           there = used_unit w c e.0 r (e.1 * x.raw_count) can.unit can.there;
@@ -162,8 +162,8 @@ module _ (asked : FinMap nat_cmp ℕ) (w : WorldValue) (c : CampaignValue) (e : 
             well_within (both_move one two) (produce_moves holding_limit) w c (with_made d e.0 i e.1) (both_less r i)
             (both_leave_well one two w c d (with_made d e.0 i e.1) (used_well w c e.0 r (e.1 * x.raw_count) (can_use r is)) (made_well w d e.0 i e.1 (can_behind r is)))
 
-  pub produced_well : CanProduce asked w c e → LeavesWell IsSteady (produce_moves holding_limit) w c (produced asked w c e)
-  unfolding produced
+  pub produced_well : CanProduce asked w c e → LeavesWell IsSteady (produce_moves holding_limit) w c (after_production asked w c e)
+  unfolding after_production
   produced_well can =
       let unchanged = well_unchanged (produce_moves holding_limit) w c can.steady in
       by_option (λ d. LeavesWell IsSteady (produce_moves holding_limit) w c d) _ (get asked e.0) c unchanged (λ i told.
@@ -173,8 +173,8 @@ module _ (asked : FinMap nat_cmp ℕ) (w : WorldValue) (c : CampaignValue) (e : 
   abbrev IsStill : ℕ → CampaignValue → Type 0
   IsStill k d = get d.units k ≡ get c.units k
 
-  pub produced_others : (k : ℕ) → k ≢ e.0 → get (produced asked w c e).units k ≡ get c.units k
-  unfolding produced
+  pub produced_others : (k : ℕ) → k ≢ e.0 → get (after_production asked w c e).units k ≡ get c.units k
+  unfolding after_production
   produced_others k apart =
       by_option (IsStill k) _ (get asked e.0) c refl (λ i told.
       by_option (IsStill k) _ (slice_get w.items i) c refl (λ x is.
@@ -182,13 +182,13 @@ module _ (asked : FinMap nat_cmp ℕ) (w : WorldValue) (c : CampaignValue) (e : 
       made_others w (with_raw_used c e.0 amount x.raw) e.0 i e.1 k apart
       ∙ by_option (IsStill k) (λ r. with_used c e.0 r amount) x.raw c refl (λ r raw. used_others w c e.0 r amount k apart)))
 
-pub produce_keeps_others : (w : WorldValue) (c : CampaignValue) (os : List Task) → OthersAreNoWorse os c (shared_out produce_pots w c os)
+pub produce_keeps_others : (w : WorldValue) (c : CampaignValue) (os : List Task) → OthersAreNoWorse os c (after_sharing produce_pots w c os)
 produce_keeps_others w c os = others_no_worse produce_pots w (λ items. produced_others items w) c (makes_give w c) os
 
 -- ---- what a unit makes it can make
 
 -- who makes something without an item has a fault
-needs_item : (w : WorldValue) (h : Held) → make_fault h (item_of w None) ≡ None → ⊥
+needs_item : (w : WorldValue) (h : HoldingValue) → make_fault h (item_of w None) ≡ None → ⊥
 needs_item w h fine = by_men (h.men == 0) fine
   where
     by_men : (b : Bool) → first_fault ((b, NoMen) ∷ (true, NoSkill) ∷ []) ≡ None → ⊥
@@ -206,17 +206,17 @@ module _ (w : WorldValue) (c : CampaignValue) (os : List Task) where
   pub given_can : Every (λ n made. Makes (n, made)) (given_by produce_pots w c os)
   given_can n made is =
       let (u, t, there, own, low, fine, named) = given_is_named produce_pots w c (makes_give w c) os n made is in
-      (u, there, by_item u (item_in t.said) low fine named)
+      (u, there, by_item u (item_in t.order_value.operands) low fine named)
     where
       by_item : (u : Unit) (s : Option ℕ) → made ≤ can_make w u.holding s → make_fault u.holding (item_of w s) ≡ None → ((i : ℕ) → s ≡ Some i → get items n ≡ Some i) → made ≤ can_make w u.holding (get items n)
       by_item u None low fine named = absurd (needs_item w u.holding fine)
       by_item u (Some i) low fine named = subst (λ o. made ≤ can_make w u.holding o) (sym (named i refl)) low
 
-up_to_most : (h : Held) (count : ℕ) (raw : Option ℕ) (most : ℕ) → up_to_raw h count raw most ≤ most
+up_to_most : (h : HoldingValue) (count : ℕ) (raw : Option ℕ) (most : ℕ) → up_to_raw h count raw most ≤ most
 up_to_most h count None most = omega arith
 up_to_most h count (Some r) most = omega arith
 
-up_to_held : (h : Held) (count : ℕ) (raw : Option ℕ) (most r : ℕ) → raw ≡ Some r → up_to_raw h count raw most ≤ amount_of h.items r / count
+up_to_held : (h : HoldingValue) (count : ℕ) (raw : Option ℕ) (most r : ℕ) → raw ≡ Some r → up_to_raw h count raw most ≤ amount_of h.items r / count
 up_to_held h count raw most r is = subst (λ o. up_to_raw h count o most ≤ amount_of h.items r / count) (sym is) (omega arith)
 
 has_room : (made skilled limit held most : ℕ) → held ≤ limit → made ≤ most → most ≤ min skilled (limit - held) → held + made ≤ limit
@@ -249,21 +249,21 @@ abbrev HasRoomFor : (FinMap nat_cmp ℕ) → WorldValue → CampaignValue → �
 HasRoomFor asked w c e = (u : Unit) × (get c.units e.0 ≡ Some u) × ((i : ℕ) (x : Item) → get asked e.0 ≡ Some i → slice_get w.items i ≡ Some x → Fits w u e.1 i x)
 
 module _ (asked : FinMap nat_cmp ℕ) (w : WorldValue) where
-  abbrev step_moves : Moving
+  abbrev step_moves : BookBound
   step_moves = produce_moves holding_limit
 
   still : (c d : CampaignValue) (n : ℕ) (es : List (ℕ × ℕ)) → ((k : ℕ) → k ≢ n → get d.units k ≡ get c.units k) → AllByRecursion (λ f. n < f.0) es → AllByRecursion (HasRoomFor asked w c) es → AllByRecursion (HasRoomFor asked w d) es
   still c d n [] same above all = tt
   still c d n (f ∷ es) same above ((u, there, fits), all) = ((u, same f.0 (λ e. absurd (omega (arith, e, above.0))) ∙ there, fits), still c d n es same above.1 all)
 
-  pub produce_in_turn : (c : CampaignValue) (es : List (ℕ × ℕ)) → Rise es → IsSteady w c → HaveRoom (moved_times (length es) step_moves) c → AllByRecursion (HasRoomFor asked w c) es → CanInTurn (CanProduce asked w) (produced asked w) c es
+  pub produce_in_turn : (c : CampaignValue) (es : List (ℕ × ℕ)) → Rise es → IsSteady w c → HaveRoom (moved_times (length es) step_moves) c → AllByRecursion (HasRoomFor asked w c) es → CanInTurn (CanProduce asked w) (after_production asked w) c es
   produce_in_turn c [] rise steady room all = tt
   produce_in_turn c (e ∷ es) rise steady room ((u, there, fits), all) =
       let can : CanProduce asked w c e = record { unit = u; there = there; fits = fits; steady = steady; room = first_room step_moves c e es room } in
       let well = produced_well asked w c e can in (
         can,
-        produce_in_turn (produced asked w c e) es rise.1 well.leaves_it (later_room step_moves w c (produced asked w c e) e es well room)
-            (still c (produced asked w c e) e.0 es (produced_others asked w c e) rise.0 all),
+        produce_in_turn (after_production asked w c e) es rise.1 well.leaves_it (later_room step_moves w c (after_production asked w c e) e es well room)
+            (still c (after_production asked w c e) e.0 es (produced_others asked w c e) rise.0 all),
       )
 
 module _ (w : WorldValue) (c : CampaignValue) (world : IsWorld w) (steady : IsSteady w c) (os : List Task) where
@@ -284,13 +284,13 @@ module _ (w : WorldValue) (c : CampaignValue) (world : IsWorld w) (steady : IsSt
   little : MovesLess (moved_times (length shares) (produce_moves holding_limit)) (produce_moves most_moved)
   little e t = scaled (length shares) holding_limit most_moved (omega (arith, few)) e t
 
-  pub can_share_out : HaveRoom (produce_moves most_moved) c → CanInTurn (CanProduce named w) (produced named w) c shares
+  pub can_share_out : HaveRoom (produce_moves most_moved) c → CanInTurn (CanProduce named w) (after_production named w) c shares
   can_share_out room =
       produce_in_turn named w c shares (entries_rise (given_by produce_pots w c os)) steady (room_less (moved_times (length shares) (produce_moves holding_limit)) (produce_moves most_moved) c little room)
       (all_pairs (HasRoomFor named w c) shares (each-from_every (λ n made. HasRoomFor named w c (n, made)) (given_by produce_pots w c os) each_fits))
 
-  pub produce_leaves_well : HaveRoom (produce_moves most_moved) c → LeavesWell IsSteady (produce_moves most_moved) w c (shared_out produce_pots w c os)
-  unfolding shared_out
+  pub produce_leaves_well : HaveRoom (produce_moves most_moved) c → LeavesWell IsSteady (produce_moves most_moved) w c (after_sharing produce_pots w c os)
+  unfolding after_sharing
   produce_leaves_well room =
-      well_within (moved_times (length shares) (produce_moves holding_limit)) (produce_moves most_moved) w c (fold (produced named w) c shares) little
-      (turns_leave_well (produce_moves holding_limit) w (CanProduce named w) (produced named w) (produced_well named w) c shares steady (can_share_out room))
+      well_within (moved_times (length shares) (produce_moves holding_limit)) (produce_moves most_moved) w c (fold (after_production named w) c shares) little
+      (turns_leave_well (produce_moves holding_limit) w (CanProduce named w) (after_production named w) (produced_well named w) c shares steady (can_share_out room))

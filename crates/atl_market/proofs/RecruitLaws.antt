@@ -19,7 +19,7 @@ use Rattle.atl_records.specs.Books.{IsGrid}
 use Rattle.atl_state.specs.Covers.{MarksChanges}
 use Rattle.atl_records.specs.Every.{Every}
 use Rattle.atl_state.specs.Good.{IsEarly}
-use Rattle.atl_records.specs.Held.{Held}
+use Rattle.atl_records.specs.Holdings.{HoldingValue}
 use Rattle.atl_state.specs.Lending.{with_held, with_holding}
 use Rattle.atl_records.specs.Limits.{holding_limit, men_limit, most_units}
 use Rattle.atl_state.specs.Marking.{mark_amount, mark_region, mark_unit_row}
@@ -30,13 +30,13 @@ use Rattle.atl_state.proofs.CoverLaws.{marks-amount, marks-region, marks-trans}
 use Rattle.atl_records.proofs.EveryLaws.{each-from_every, get-insert_other}
 use Rattle.atl_state.proofs.HoldingLaws.{marks-unit_row}
 use Rattle.atl_state.proofs.RegionLaws.{IsRegion-peasants, get-insert_same, steady-region}
-use Rattle.atl_instant.specs.Meaning.{HaveRoom, LeavesWell, Moving, moved_times, most_moved}
+use Rattle.atl_instant.specs.Meaning.{HaveRoom, LeavesWell, BookBound, moved_times, most_moved}
 use Rattle.atl_instant.specs.PhaseOrders.{Task}
 use Rattle.atl_instant.proofs.BookingLaws.{within-neg}
 use Rattle.atl_instant.proofs.MarkLaws.{marks_by}
 use Rattle.atl_instant.proofs.MeaningLaws.{room_less, well_within}
-use Rattle.atl_market.specs.PotPhase.{CanInTurn, given_by, shared_out}
-use Rattle.atl_market.specs.Recruit.{recruit_moves, recruit_pots, recruited, recruits_at, with_men}
+use Rattle.atl_market.specs.PotPhase.{CanInTurn, after_sharing, given_by}
+use Rattle.atl_market.specs.Recruit.{after_recruiting, recruit_moves, recruit_pots, recruits_at, with_men}
 use Rattle.atl_market.specs.Unordered.{OthersAreNoWorse}
 use Rattle.atl_market.proofs.DrawLaws.{AreReady, Drains, DrawnPots, HaveEnough, all_pairs, drawn, one_drains, one_draws, pot_is_enough, ready_behind, region_pots, untouched, who_stand}
 use Rattle.atl_state.proofs.HavingLaws.{MayHave, may_have}
@@ -66,7 +66,7 @@ module _ (w : WorldValue) (c : CampaignValue) (n : ℕ) (u : Unit) (q : Region) 
   abbrev after : CampaignValue
   after = recruited_to c n u q recruits cost
 
-  abbrev more : Held
+  abbrev more : HoldingValue
   more = with_men u.holding recruits cost
 
   abbrev peopled : CampaignValue
@@ -113,7 +113,7 @@ leaving_marks things c d e region peasants z d_is d_marks e_is e_marks grid two 
     (marks_by d e _ e_is e_marks (marks-amount things d Recruiting Money z d_grid (omega arith)))
 
 -- a unit that is there has another holding
-pub held_is : (c d : CampaignValue) (n : ℕ) (u : Unit) (h : Held) → get c.units n ≡ Some u → d ≡ with_holding c n h → d ≡ record c { units = insert c.units n (record u { holding = h }) }
+pub held_is : (c d : CampaignValue) (n : ℕ) (u : Unit) (h : HoldingValue) → get c.units n ≡ Some u → d ≡ with_holding c n h → d ≡ record c { units = insert c.units n (record u { holding = h }) }
 held_is c d n u h is same = same ∙ ap (with_held c n h) is
 
 -- it has other men, and then other money
@@ -139,39 +139,39 @@ module _ (w : WorldValue) (c : CampaignValue) (e : ℕ × ℕ) where
   abbrev price : ℕ
   price = e.1 * w.rules.recruit_price
 
-  pub recruited_is : (u : Unit) (q : Region) → get c.units e.0 ≡ Some u → get c.regions u.region ≡ Some q → recruited w c e ≡ recruited_to c e.0 u q e.1 price
-  unfolding recruited
+  pub recruited_is : (u : Unit) (q : Region) → get c.units e.0 ≡ Some u → get c.regions u.region ≡ Some q → after_recruiting w c e ≡ recruited_to c e.0 u q e.1 price
+  unfolding after_recruiting
   recruited_is u q is around = unit_there c e.0 _ u is ∙ region_there c u.region _ q around ∙ recruits_are w c e.0 u q e.1 price is around
 
-  made_is : (can : CanRecruit w c e) → recruited w c e ≡ recruited_to c e.0 can.at.unit can.at.region e.1 price
+  made_is : (can : CanRecruit w c e) → after_recruiting w c e ≡ recruited_to c e.0 can.at.unit can.at.region e.1 price
   made_is can = recruited_is can.at.unit can.at.region can.at.there can.at.around
 
-  pub recruited_well : CanRecruit w c e → LeavesWell IsEarly (recruit_moves holding_limit) w c (recruited w c e)
+  pub recruited_well : CanRecruit w c e → LeavesWell IsEarly (recruit_moves holding_limit) w c (after_recruiting w c e)
   recruited_well can =
       subst (λ d. LeavesWell IsEarly (recruit_moves holding_limit) w c d) (sym (made_is can))
       (recruits_leave_well w c e.0 can.at.unit can.at.region e.1 price can.at.there can.at.around can.fits can.payable can.enough can.early)
 
-  recruited_drains : (can : CanRecruit w c e) (units : FinMap nat_cmp Unit) → get units e.0 ≡ Some can.at.unit → Drains (region_pots units peasants_of) c e (recruited w c e)
+  recruited_drains : (can : CanRecruit w c e) (units : FinMap nat_cmp Unit) → get units e.0 ≡ Some can.at.unit → Drains (region_pots units peasants_of) c e (after_recruiting w c e)
   recruited_drains can units there =
-      one_drains units peasants_of c e can.at.unit can.at.region there can.at.around (recruited w c e) (leave can.at.region e.1) (ap (λ (d : CampaignValue). d.regions) (made_is can)) (less can.at.region.peasants can.enough)
+      one_drains units peasants_of c e can.at.unit can.at.region there can.at.around (after_recruiting w c e) (leave can.at.region e.1) (ap (λ (d : CampaignValue). d.regions) (made_is can)) (less can.at.region.peasants can.enough)
     where
       less : (all : ℕ) → e.1 ≤ all → all - e.1 + e.1 ≡ all
       less all enough = omega (arith, enough)
 
-  pub recruited_others : (k : ℕ) → k ≢ e.0 → get (recruited w c e).units k ≡ get c.units k
-  unfolding recruited
+  pub recruited_others : (k : ℕ) → k ≢ e.0 → get (after_recruiting w c e).units k ≡ get c.units k
+  unfolding after_recruiting
   recruited_others k apart =
       by_unit c e.0 (λ (d : CampaignValue). get d.units k ≡ get c.units k) _ refl (λ u is.
       by_region c u.region (λ (d : CampaignValue). get d.units k ≡ get c.units k) _ refl (λ q around.
       ap (λ o. get (with_held c e.0 (with_men u.holding e.1 price) o).units k) is
       ∙ get-insert_other c.units e.0 k (record u { holding = with_men u.holding e.1 price }) apart))
 
-pub recruit_keeps_others : (w : WorldValue) (c : CampaignValue) (os : List Task) → OthersAreNoWorse os c (shared_out recruit_pots w c os)
+pub recruit_keeps_others : (w : WorldValue) (c : CampaignValue) (os : List Task) → OthersAreNoWorse os c (after_sharing recruit_pots w c os)
 recruit_keeps_others w c os = others_no_worse recruit_pots w (λ items. recruited_others w) c (λ items. pots_give (recruits_at w c) c) os
 
 -- ---- all steps can be taken
 
-abbrev step_moves : Moving
+abbrev step_moves : BookBound
 step_moves = recruit_moves holding_limit
 
 module _ (w : WorldValue) (c : CampaignValue) where
@@ -198,12 +198,12 @@ module _ (w : WorldValue) (c : CampaignValue) where
       let draws = one_draws c.units peasants_of d e u q there around es ready.enough in
       record { at = record { unit = u; there = now; region = q; around = around }; fits = fits; payable = payable; enough = draws; early = ready.early; room = first_room step_moves d e es room }
 
-  all_can : (d : CampaignValue) (es : List (ℕ × ℕ)) → AreToJoin d es → CanBook d es → CanInTurn (CanRecruit w) (recruited w) d es
+  all_can : (d : CampaignValue) (es : List (ℕ × ℕ)) → AreToJoin d es → CanBook d es → CanInTurn (CanRecruit w) (after_recruiting w) d es
   all_can d [] ready room = tt
   all_can d (e ∷ es) ready room =
       let can = first_can d e es ready room in
       let well = recruited_well w d e can in
-      let joined = recruited w d e in (
+      let joined = after_recruiting w d e in (
         can,
         all_can joined es (ready_behind pots w c d e es joined ready well.leaves_it (recruited_others w d e) (recruited_drains w d e can c.units (sym ready.same.0 ∙ can.at.there)))
             (later_room step_moves w d joined e es well room),
@@ -240,7 +240,7 @@ module _ (w : WorldValue) (c : CampaignValue) where
     little : (e : Entry) (t : Thing) → moved_times (length shares) step_moves e t ≤ recruit_moves most_moved e t
     little e t = few_holdings (length shares) few Recruiting Money e t
 
-    pub can_share_out : CanInTurn (CanRecruit w) (recruited w) c shares
+    pub can_share_out : CanInTurn (CanRecruit w) (after_recruiting w) c shares
     can_share_out = all_can c shares (record {
       early = early;
       rise = entries_rise (given_by recruit_pots w c os);
@@ -249,8 +249,8 @@ module _ (w : WorldValue) (c : CampaignValue) where
       enough = all_enough;
     }) (room_less (moved_times (length shares) step_moves) (recruit_moves most_moved) c little room)
 
-    pub all_recruits_leave_well : LeavesWell IsEarly (recruit_moves most_moved) w c (shared_out recruit_pots w c os)
-    unfolding shared_out
+    pub all_recruits_leave_well : LeavesWell IsEarly (recruit_moves most_moved) w c (after_sharing recruit_pots w c os)
+    unfolding after_sharing
     all_recruits_leave_well =
-        well_within (moved_times (length shares) step_moves) (recruit_moves most_moved) w c (fold (recruited w) c shares) little
-        (turns_leave_well step_moves w (CanRecruit w) (recruited w) (recruited_well w) c shares early can_share_out)
+        well_within (moved_times (length shares) step_moves) (recruit_moves most_moved) w c (fold (after_recruiting w) c shares) little
+        (turns_leave_well step_moves w (CanRecruit w) (after_recruiting w) (recruited_well w) c shares early can_share_out)

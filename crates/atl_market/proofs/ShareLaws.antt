@@ -4,7 +4,7 @@ use Rattle.std.proofs.Math.Nat.{mul-div-le, mul-add, add-mul-div_left, div-add-m
 use Rattle.std.proofs.lemmas.List.Sums.{sum_by-cons, sum_by-append}
 use Rattle.std.proofs.lemmas.Bool.Decides.{nat_tests}
 use Rattle.std.proofs.lemmas.Bool.{cases_lt}
-use Rattle.atl_market.specs.Share.{IsNearPart, SplittingKeepsOthers, share_upto, shares, shares_behind}
+use Rattle.atl_market.specs.Share.{IsNearPart, SplittingKeepsOthers, share_upto, shares, shares_after}
 
 -- the quotient and what is left of it
 quotient : (pot total x : ℕ) → 0 < total → (total * share_upto pot total x ≤ pot * x) × (pot * x < total * share_upto pot total x + total)
@@ -30,23 +30,23 @@ part_le pot total before want p h =
     omega arith
 
 -- what a run of wants is given in all
-pub sum-shares_behind : (pot total before : ℕ) → 0 < total → (wants : List ℕ) → sum (shares_behind pot total before wants) + share_upto pot total before ≡ share_upto pot total (before + sum wants)
-sum-shares_behind pot total before p [] = zero-add (share_upto pot total before) ∙ ap (share_upto pot total) (sym (add-zero before))
-sum-shares_behind pot total before p (w ∷ ws) =
+pub sum-shares_after : (pot total before : ℕ) → 0 < total → (wants : List ℕ) → sum (shares_after pot total before wants) + share_upto pot total before ≡ share_upto pot total (before + sum wants)
+sum-shares_after pot total before p [] = zero-add (share_upto pot total before) ∙ ap (share_upto pot total) (sym (add-zero before))
+sum-shares_after pot total before p (w ∷ ws) =
     let here = share_upto pot total (before + w) - share_upto pot total before in
-    let first : sum (here ∷ shares_behind pot total (before + w) ws) ≡ here + sum (shares_behind pot total (before + w) ws) = sum_by-cons (λ x. x) here (shares_behind pot total (before + w) ws) in
-    let rest : sum (shares_behind pot total (before + w) ws) + share_upto pot total (before + w) ≡ share_upto pot total ((before + w) + sum ws) = sum-shares_behind pot total (before + w) p ws in
+    let first : sum (here ∷ shares_after pot total (before + w) ws) ≡ here + sum (shares_after pot total (before + w) ws) = sum_by-cons (λ x. x) here (shares_after pot total (before + w) ws) in
+    let rest : sum (shares_after pot total (before + w) ws) + share_upto pot total (before + w) ≡ share_upto pot total ((before + w) + sum ws) = sum-shares_after pot total (before + w) p ws in
     let mono : share_upto pot total before ≤ share_upto pot total (before + w) = upto_mono pot total before (before + w) p (omega arith) in
     let whole : sum (w ∷ ws) ≡ w + sum ws = sum_by-cons (λ x. x) w ws in
     let same : share_upto pot total ((before + w) + sum ws) ≡ share_upto pot total (before + sum (w ∷ ws)) = ap (share_upto pot total) (omega arith) in
     omega arith
 
-pub shares_behind-append : (pot total before : ℕ) (xs ys : List ℕ) → shares_behind pot total before (xs ++ ys) ≡ shares_behind pot total before xs ++ shares_behind pot total (before + sum xs) ys
-shares_behind-append pot total before [] ys = ap (λ n. shares_behind pot total n ys) (omega arith)
-shares_behind-append pot total before (x ∷ xs) ys =
+pub shares_after-append : (pot total before : ℕ) (xs ys : List ℕ) → shares_after pot total before (xs ++ ys) ≡ shares_after pot total before xs ++ shares_after pot total (before + sum xs) ys
+shares_after-append pot total before [] ys = ap (λ n. shares_after pot total n ys) (omega arith)
+shares_after-append pot total before (x ∷ xs) ys =
     ap (λ l. (share_upto pot total (before + x) - share_upto pot total before) ∷ l)
-    (shares_behind-append pot total (before + x) xs ys
-    ∙ ap (λ n. shares_behind pot total (before + x) xs ++ shares_behind pot total n ys) (let e : sum (x ∷ xs) ≡ x + sum xs = sum_by-cons (λ x. x) x xs in omega arith))
+    (shares_after-append pot total (before + x) xs ys
+    ∙ ap (λ n. shares_after pot total (before + x) xs ++ shares_after pot total n ys) (let e : sum (x ∷ xs) ≡ x + sum xs = sum_by-cons (λ x. x) x xs in omega arith))
 
 -- what a share is off by, from its exact part: less than one
 pub share_near : (pot total before want : ℕ) → 0 < total →
@@ -67,11 +67,11 @@ share_near pot total before want p =
 pub shares-enough : (pot : ℕ) (wants : List ℕ) → sum wants ≤ pot → shares pot wants ≡ wants
 shares-enough pot wants h = grind (arith, nat_tests)
 
-pub shares-short : (pot : ℕ) (wants : List ℕ) → pot < sum wants → shares pot wants ≡ shares_behind pot (sum wants) 0 wants
+pub shares-short : (pot : ℕ) (wants : List ℕ) → pot < sum wants → shares pot wants ≡ shares_after pot (sum wants) 0 wants
 shares-short pot wants h = grind (arith, nat_tests)
 
 -- what holds of each want and its share, in place
-each_behind : (P : ℕ → ℕ → Type 0) (pot total : ℕ) → ((before want : ℕ) → P want (share_upto pot total (before + want) - share_upto pot total before)) → P 0 0 → (before : ℕ) (wants : List ℕ) (i : ℕ) → P (get_or wants i 0) (get_or (shares_behind pot total before wants) i 0)
+each_behind : (P : ℕ → ℕ → Type 0) (pot total : ℕ) → ((before want : ℕ) → P want (share_upto pot total (before + want) - share_upto pot total before)) → P 0 0 → (before : ℕ) (wants : List ℕ) (i : ℕ) → P (get_or wants i 0) (get_or (shares_after pot total before wants) i 0)
 each_behind P pot total here none before [] i = none
 each_behind P pot total here none before (w ∷ ws) zero = here before w
 each_behind P pot total here none before (w ∷ ws) (suc i) = each_behind P pot total here none (before + w) ws i
@@ -88,7 +88,7 @@ all_is_given pot wants =
     elim (cases_lt pot (sum wants)) [
       | inl h ↦
           let p : 0 < sum wants = omega arith in
-          let all : sum (shares_behind pot (sum wants) 0 wants) + share_upto pot (sum wants) 0 ≡ share_upto pot (sum wants) (0 + sum wants) = sum-shares_behind pot (sum wants) 0 p wants in
+          let all : sum (shares_after pot (sum wants) 0 wants) + share_upto pot (sum wants) 0 ≡ share_upto pot (sum wants) (0 + sum wants) = sum-shares_after pot (sum wants) 0 p wants in
           let full : share_upto pot (sum wants) (0 + sum wants) ≡ pot = ap (share_upto pot (sum wants)) (zero-add (sum wants)) ∙ mul-div_left pot p in
           let nothing : share_upto pot (sum wants) 0 ≡ 0 = ap (λ n. n / sum wants) (mul-zero pot) ∙ zero-div (sum wants) in
           ap sum (shares-short pot wants h) ∙ omega arith
@@ -101,13 +101,13 @@ share_is_near pot wants i h =
     (λ b w. let n = share_near pot (sum wants) b w (omega arith) in record { above = n.0; below = n.1 })
     (record { above = omega arith; below = omega arith }) 0 wants i)
 
-pub length-shares_behind : (pot total before : ℕ) (wants : List ℕ) → length (shares_behind pot total before wants) ≡ length wants
-length-shares_behind pot total before [] = refl
-length-shares_behind pot total before (w ∷ ws) = ap suc (length-shares_behind pot total (before + w) ws)
+pub length-shares_after : (pot total before : ℕ) (wants : List ℕ) → length (shares_after pot total before wants) ≡ length wants
+length-shares_after pot total before [] = refl
+length-shares_after pot total before (w ∷ ws) = ap suc (length-shares_after pot total (before + w) ws)
 
 pub length-shares : (pot : ℕ) (wants : List ℕ) → length (shares pot wants) ≡ length wants
 length-shares pot wants = elim (cases_lt pot (sum wants)) [
-  | inl h ↦ ap length (shares-short pot wants h) ∙ length-shares_behind pot (sum wants) 0 wants
+  | inl h ↦ ap length (shares-short pot wants h) ∙ length-shares_after pot (sum wants) 0 wants
   | inr h ↦ ap length (shares-enough pot wants h)
 ]
 
@@ -120,20 +120,20 @@ sum-split ahead parts behind =
     omega arith
 
 split_behind : (pot total : ℕ) → 0 < total → (ahead parts behind : List ℕ)
-    → (shares_behind pot total 0 (ahead ++ parts ++ behind) ≡ shares_behind pot total 0 ahead ++ shares_behind pot total (sum ahead) parts ++ shares_behind pot total (sum ahead + sum parts) behind)
-    × (shares_behind pot total 0 (ahead ++ sum parts ∷ behind) ≡ shares_behind pot total 0 ahead ++ sum (shares_behind pot total (sum ahead) parts) ∷ shares_behind pot total (sum ahead + sum parts) behind)
+    → (shares_after pot total 0 (ahead ++ parts ++ behind) ≡ shares_after pot total 0 ahead ++ shares_after pot total (sum ahead) parts ++ shares_after pot total (sum ahead + sum parts) behind)
+    × (shares_after pot total 0 (ahead ++ sum parts ∷ behind) ≡ shares_after pot total 0 ahead ++ sum (shares_after pot total (sum ahead) parts) ∷ shares_after pot total (sum ahead + sum parts) behind)
 split_behind pot total p ahead parts behind =
-    let front = shares_behind pot total 0 ahead in
+    let front = shares_after pot total 0 ahead in
     let two : sum (ahead ++ parts) ≡ sum ahead + sum parts = sum_by-append (λ x. x) ahead parts in
-    let given : sum (shares_behind pot total (sum ahead) parts) + share_upto pot total (sum ahead) ≡ share_upto pot total (sum ahead + sum parts) = sum-shares_behind pot total (sum ahead) p parts in
-    let one : share_upto pot total (sum ahead + sum parts) - share_upto pot total (sum ahead) ≡ sum (shares_behind pot total (sum ahead) parts) = omega arith in (
-      shares_behind-append pot total 0 (ahead ++ parts) behind
-          ∙ ap (λ l. l ++ shares_behind pot total (0 + sum (ahead ++ parts)) behind)
-          (shares_behind-append pot total 0 ahead parts ∙ ap (λ n. front ++ shares_behind pot total n parts) (zero-add (sum ahead)))
-          ∙ ap (λ n. front ++ shares_behind pot total (sum ahead) parts ++ shares_behind pot total n behind) (zero-add (sum (ahead ++ parts)) ∙ two),
-      shares_behind-append pot total 0 ahead (sum parts ∷ behind)
-          ∙ ap (λ n. front ++ shares_behind pot total n (sum parts ∷ behind)) (zero-add (sum ahead))
-          ∙ ap (λ n. front ++ n ∷ shares_behind pot total (sum ahead + sum parts) behind) one,
+    let given : sum (shares_after pot total (sum ahead) parts) + share_upto pot total (sum ahead) ≡ share_upto pot total (sum ahead + sum parts) = sum-shares_after pot total (sum ahead) p parts in
+    let one : share_upto pot total (sum ahead + sum parts) - share_upto pot total (sum ahead) ≡ sum (shares_after pot total (sum ahead) parts) = omega arith in (
+      shares_after-append pot total 0 (ahead ++ parts) behind
+          ∙ ap (λ l. l ++ shares_after pot total (0 + sum (ahead ++ parts)) behind)
+          (shares_after-append pot total 0 ahead parts ∙ ap (λ n. front ++ shares_after pot total n parts) (zero-add (sum ahead)))
+          ∙ ap (λ n. front ++ shares_after pot total (sum ahead) parts ++ shares_after pot total n behind) (zero-add (sum (ahead ++ parts)) ∙ two),
+      shares_after-append pot total 0 ahead (sum parts ∷ behind)
+          ∙ ap (λ n. front ++ shares_after pot total n (sum parts ∷ behind)) (zero-add (sum ahead))
+          ∙ ap (λ n. front ++ n ∷ shares_after pot total (sum ahead + sum parts) behind) one,
     )
 
 pub splitting_keeps_others : SplittingKeepsOthers
@@ -143,14 +143,14 @@ splitting_keeps_others pot ahead parts behind =
       | inl h ↦
           let total = sum (ahead ++ parts ++ behind) in
           let split = split_behind pot total (omega arith) ahead parts behind in (
-            shares_behind pot total 0 ahead,
-            shares_behind pot total (sum ahead) parts,
-            shares_behind pot total (sum ahead + sum parts) behind,
-            length-shares_behind pot total 0 ahead,
-            length-shares_behind pot total (sum ahead) parts,
+            shares_after pot total 0 ahead,
+            shares_after pot total (sum ahead) parts,
+            shares_after pot total (sum ahead + sum parts) behind,
+            length-shares_after pot total 0 ahead,
+            length-shares_after pot total (sum ahead) parts,
             shares-short pot (ahead ++ parts ++ behind) h ∙ split.0,
             shares-short pot (ahead ++ sum parts ∷ behind) (omega arith)
-                ∙ ap (λ n. shares_behind pot n 0 (ahead ++ sum parts ∷ behind)) (sym same) ∙ split.1,
+                ∙ ap (λ n. shares_after pot n 0 (ahead ++ sum parts ∷ behind)) (sym same) ∙ split.1,
           )
       | inr h ↦ (
         ahead,

@@ -13,28 +13,28 @@ use Rattle.atl_records.specs.Books.{amount_in}
 use Rattle.atl_state.specs.Covers.{MarksChanges}
 use Rattle.atl_records.specs.Every.{Every}
 use Rattle.atl_state.specs.Good.{IsEarly}
-use Rattle.atl_records.specs.Held.{amount_of}
+use Rattle.atl_records.specs.Holdings.{amount_of}
 use Rattle.atl_records.specs.Limits.{holding_limit}
 use Rattle.atl_state.specs.Marking.{mark_region, mark_unit_row}
 use Rattle.atl_state.specs.Campaign.{MarkedCampaign, CampaignValue, region_changed, with_money, with_region_money}
-use Rattle.atl_records.specs.Amounts.{held, kept}
+use Rattle.atl_records.specs.Amounts.{region_amount, unit_amount}
 use Rattle.atl_state.specs.Totals.{total}
 use Rattle.atl_state.proofs.BackLaws.{entries_rise}
 use Rattle.atl_state.proofs.CoverLaws.{marks-region, marks-trans}
 use Rattle.atl_records.proofs.EveryLaws.{each-from_every}
-use Rattle.atl_state.proofs.HoldingLaws.{marks-unit_row, may_hold_money, of_one_faction_kept, steady-held, total-held}
+use Rattle.atl_state.proofs.HoldingLaws.{marks-unit_row, may_hold_money, of_one_faction_kept, steady-unit_amount, total-unit_amount}
 use Rattle.atl_state.proofs.RegionLaws.{IsRegion-money, steady-region, total-region}
 use Rattle.atl_instant.specs.Meaning.{LeavesWell, moved_times}
-use Rattle.atl_instant.specs.Staying.{AreNoWorse}
+use Rattle.atl_instant.specs.NoWorse.{AreNoWorse}
 use Rattle.atl_instant.specs.Unbooked.{moves_nothing}
 use Rattle.atl_instant.specs.PhaseOrders.{Task}
 use Rattle.atl_instant.proofs.MarkLaws.{marks_by}
 use Rattle.atl_instant.proofs.MeaningLaws.{near_same, same_month_by, well_within}
-use Rattle.atl_instant.proofs.StayingLaws.{are_no_worse, are_no_worse_twice}
-use Rattle.atl_market.specs.PotPhase.{CanInTurn, given_by, shared_out}
-use Rattle.atl_market.specs.Tax.{money_at, tax_pots, taxed}
+use Rattle.atl_instant.proofs.NoWorseLaws.{are_no_worse, are_no_worse_twice}
+use Rattle.atl_market.specs.PotPhase.{CanInTurn, after_sharing, given_by}
+use Rattle.atl_market.specs.Tax.{after_tax, money_at, tax_pots}
 use Rattle.atl_market.proofs.DrawLaws.{AreReady, Drains, DrawnPots, HaveEnough, all_pairs, drawn, one_drains, one_draws, pot_is_enough, ready_behind, region_pots, untouched, who_stand}
-use Rattle.atl_market.proofs.PurseLaws.{others_stay, paid, richer, richer_is, richer_no_worse}
+use Rattle.atl_market.proofs.MoneyInTurnLaws.{others_stay, paid, richer, richer_is, richer_no_worse}
 use Rattle.atl_market.proofs.ThereLaws.{by_region, by_unit, region_there, unit_there}
 use Rattle.atl_market.proofs.TurnLaws.{turns_leave_well}
 use Rattle.atl_market.proofs.PotLaws.{pots_give}
@@ -60,8 +60,8 @@ module _ (w : WorldValue) (c : CampaignValue) (n : ℕ) (u : Unit) (q : Region) 
   tax_is = ap (λ d. with_region_money d u.region (q.money - share)) (richer_is c n u share is)
 
   module _ (enough : share ≤ q.money) where
-    same_total : (t : Thing) → total after t + kept t q ≡ total (richer c n u share) t + kept t (drain q share q)
-        → total (richer c n u share) t + held t u.holding ≡ total c t + held t (paid c n u share) → total after t ≡ total c t
+    same_total : (t : Thing) → total after t + region_amount t q ≡ total (richer c n u share) t + region_amount t (drain q share q)
+        → total (richer c n u share) t + unit_amount t u.holding ≡ total c t + unit_amount t (paid c n u share) → total after t ≡ total c t
     same_total Money a b = omega (arith, a, b, enough)
     same_total People a b = omega (arith, a, b)
     same_total (Item i) a b = same (total after (Item i)) (total (richer c n u share) (Item i)) (total c (Item i)) (amount_of q.stocks i) (amount_of u.holding.items i) a b
@@ -76,11 +76,11 @@ module _ (w : WorldValue) (c : CampaignValue) (n : ℕ) (u : Unit) (q : Region) 
         record {
           leaves_it = record {
             steady = steady-region (drain q share) (richer c n u share) u.region q around w (IsRegion-money q (q.money - share) (omega (arith, within.money)) within) (steady.known.markets u.region q around)
-                (steady-held w c n u (paid c n u share) is (may_hold_money w c n (u.holding.money + share) u is fits steady) steady);
+                (steady-unit_amount w c n u (paid c n u share) is (may_hold_money w c n (u.holding.money + share) u is fits steady) steady);
             flags = of_one_faction_kept w c n u (paid c n u share) is (λ v. v.holding.guard) (λ g. g) early.flags;
           };
           same_month = same_month_by refl;
-          balances = λ old t. ap pos (same_total t (total-region (drain q share) (richer c n u share) u.region q around t) (total-held w c n u (paid c n u share) is t)) ∙ old t;
+          balances = λ old t. ap pos (same_total t (total-region (drain q share) (richer c n u share) u.region q around t) (total-unit_amount w c n u (paid c n u share) is t)) ∙ old t;
           near = λ e t. near_same 0 (amount_in c.books e t);
         }
 
@@ -95,40 +95,40 @@ tax_marks c d e n money region left d_is d_marks e_is e_marks =
 -- ---- one step
 
 module _ (w : WorldValue) (c : CampaignValue) (e : ℕ × ℕ) where
-  pub taxed_is : (u : Unit) (q : Region) → get c.units e.0 ≡ Some u → get c.regions u.region ≡ Some q → taxed c e ≡ drained c e.0 u q e.1
-  unfolding taxed
+  pub taxed_is : (u : Unit) (q : Region) → get c.units e.0 ≡ Some u → get c.regions u.region ≡ Some q → after_tax c e ≡ drained c e.0 u q e.1
+  unfolding after_tax
   taxed_is u q is around = unit_there c e.0 _ u is ∙ region_there c u.region _ q around ∙ tax_is w c e.0 u q e.1 is around
 
-  pub taxed_well : CanTax w c e → LeavesWell IsEarly moves_nothing w c (taxed c e)
+  pub taxed_well : CanTax w c e → LeavesWell IsEarly moves_nothing w c (after_tax c e)
   taxed_well can =
       subst (λ d. LeavesWell IsEarly moves_nothing w c d) (sym (taxed_is can.at.unit can.at.region can.at.there can.at.around))
       (tax_leaves_well w c e.0 can.at.unit can.at.region e.1 can.at.there can.at.around can.enough can.fits can.early)
 
-  taxed_others : CanTax w c e → (k : ℕ) → k ≢ e.0 → get (taxed c e).units k ≡ get c.units k
+  taxed_others : CanTax w c e → (k : ℕ) → k ≢ e.0 → get (after_tax c e).units k ≡ get c.units k
   taxed_others can k apart = ap (λ (d : CampaignValue). get d.units k) (taxed_is can.at.unit can.at.region can.at.there can.at.around) ∙ others_stay c e.0 can.at.unit e.1 can.at.there k apart
 
-  taxed_drains : (can : CanTax w c e) (units : FinMap nat_cmp Unit) → get units e.0 ≡ Some can.at.unit → Drains (region_pots units money_of) c e (taxed c e)
+  taxed_drains : (can : CanTax w c e) (units : FinMap nat_cmp Unit) → get units e.0 ≡ Some can.at.unit → Drains (region_pots units money_of) c e (after_tax c e)
   taxed_drains can units there =
-      one_drains units money_of c e can.at.unit can.at.region there can.at.around (taxed c e) (drain can.at.region e.1)
+      one_drains units money_of c e can.at.unit can.at.region there can.at.around (after_tax c e) (drain can.at.region e.1)
       (ap (λ (d : CampaignValue). d.regions) (taxed_is can.at.unit can.at.region can.at.there can.at.around)) (less can.at.region.money can.enough)
     where
       less : (all : ℕ) → e.1 ≤ all → all - e.1 + e.1 ≡ all
       less all enough = omega (arith, enough)
 
-  taxed_no_worse : AreNoWorse c (taxed c e)
-  unfolding taxed
+  taxed_no_worse : AreNoWorse c (after_tax c e)
+  unfolding after_tax
   taxed_no_worse =
       by_unit c e.0 (AreNoWorse c) _ (are_no_worse c) (λ u is.
       by_region c u.region (AreNoWorse c) _ (are_no_worse c) (λ q around.
       subst (λ (d : CampaignValue). AreNoWorse c (with_region_money d u.region (q.money - e.1))) (sym (richer_is c e.0 u e.1 is))
       (λ k v there. richer_no_worse c e.0 u e.1 is k v there)))
 
-each_no_worse : (w : WorldValue) (c : CampaignValue) (es : List (ℕ × ℕ)) → AreNoWorse c (fold taxed c es)
+each_no_worse : (w : WorldValue) (c : CampaignValue) (es : List (ℕ × ℕ)) → AreNoWorse c (fold after_tax c es)
 each_no_worse w c [] = are_no_worse c
-each_no_worse w c (e ∷ es) = are_no_worse_twice c (taxed c e) (fold taxed (taxed c e) es) (taxed_no_worse w c e) (each_no_worse w (taxed c e) es)
+each_no_worse w c (e ∷ es) = are_no_worse_twice c (after_tax c e) (fold after_tax (after_tax c e) es) (taxed_no_worse w c e) (each_no_worse w (after_tax c e) es)
 
-pub tax_keeps_units : (w : WorldValue) (c : CampaignValue) (os : List Task) → AreNoWorse c (shared_out tax_pots w c os)
-unfolding shared_out
+pub tax_keeps_units : (w : WorldValue) (c : CampaignValue) (os : List Task) → AreNoWorse c (after_sharing tax_pots w c os)
+unfolding after_sharing
 tax_keeps_units w c os = each_no_worse w c (entries (given_by tax_pots w c os))
 
 -- ---- all steps can be taken
@@ -153,13 +153,13 @@ module _ (w : WorldValue) (c : CampaignValue) where
       let draws = one_draws c.units money_of d e u q there around es ready.enough in
       record { at = record { unit = u; there = now; region = q; around = around }; fits = fits; enough = draws; early = ready.early }
 
-  all_can : (d : CampaignValue) (es : List (ℕ × ℕ)) → AreTaken d es → CanInTurn (CanTax w) taxed d es
+  all_can : (d : CampaignValue) (es : List (ℕ × ℕ)) → AreTaken d es → CanInTurn (CanTax w) after_tax d es
   all_can d [] ready = tt
   all_can d (e ∷ es) ready =
       let can = first_can d e es ready in
       let early = (taxed_well w d e can).leaves_it in (
         can,
-        all_can (taxed d e) es (ready_behind pots w c d e es (taxed d e) ready early (taxed_others w d e can) (taxed_drains w d e can c.units (sym ready.same.0 ∙ can.at.there))),
+        all_can (after_tax d e) es (ready_behind pots w c d e es (after_tax d e) ready early (taxed_others w d e can) (taxed_drains w d e can c.units (sym ready.same.0 ∙ can.at.there))),
       )
 
   module _ (early : IsEarly w c) (os : List Task) where
@@ -177,7 +177,7 @@ module _ (w : WorldValue) (c : CampaignValue) where
     all_enough : HaveEnough pots c shares
     all_enough r q around = subst (λ pot. drawn (who_stand c.units r) shares ≤ pot) (ap (λ o. option_map_or money_of o 0) around) (pot_is_enough _ _ c r (q, around))
 
-    pub can_share_out : CanInTurn (CanTax w) taxed c shares
+    pub can_share_out : CanInTurn (CanTax w) after_tax c shares
     can_share_out = all_can c shares (record {
       early = early;
       rise = entries_rise (given_by tax_pots w c os);
@@ -186,8 +186,8 @@ module _ (w : WorldValue) (c : CampaignValue) where
       enough = all_enough;
     })
 
-    pub all_taxes_leave_well : LeavesWell IsEarly moves_nothing w c (shared_out tax_pots w c os)
-    unfolding shared_out
+    pub all_taxes_leave_well : LeavesWell IsEarly moves_nothing w c (after_sharing tax_pots w c os)
+    unfolding after_sharing
     all_taxes_leave_well =
-        well_within (moved_times (length shares) moves_nothing) moves_nothing w c (fold taxed c shares) (λ e t. omega arith)
-        (turns_leave_well moves_nothing w (CanTax w) taxed (taxed_well w) c shares early can_share_out)
+        well_within (moved_times (length shares) moves_nothing) moves_nothing w c (fold after_tax c shares) (λ e t. omega arith)
+        (turns_leave_well moves_nothing w (CanTax w) after_tax (taxed_well w) c shares early can_share_out)

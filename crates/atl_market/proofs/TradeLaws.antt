@@ -26,7 +26,7 @@ use Rattle.atl_state.specs.Covers.{MarksChanges}
 use Rattle.atl_state.specs.Founding.{things_of}
 use Rattle.atl_records.specs.Every.{Every}
 use Rattle.atl_state.specs.Good.{IsEarly}
-use Rattle.atl_records.specs.Held.{Held, IsHolding, amount_of, with_amount_of}
+use Rattle.atl_records.specs.Holdings.{HoldingValue, IsHolding, amount_of, with_amount_of}
 use Rattle.atl_state.specs.Lending.{with_held, with_holding}
 use Rattle.atl_records.specs.Limits.{holding_limit, most_units}
 use Rattle.atl_state.specs.Marking.{mark_region}
@@ -36,9 +36,9 @@ use Rattle.atl_state.proofs.BackLaws.{entries_rise}
 use Rattle.atl_state.proofs.CoverLaws.{marks-region, marks-trans}
 use Rattle.atl_records.proofs.EveryLaws.{each-from_every, get-insert_other, none_some, other_number, same_number}
 use Rattle.atl_state.proofs.HavingLaws.{MayHave, may_have}
-use Rattle.atl_records.proofs.HeldLaws.{alike, amount_within, every_amount, set_amount}
+use Rattle.atl_records.proofs.HoldingLaws.{alike, amount_within, every_amount, set_amount}
 use Rattle.atl_state.proofs.StockLaws.{restocked, steady-stock}
-use Rattle.atl_instant.specs.Meaning.{HasRoom, HaveRoom, LeavesWell, Moving, moved_times, moves_only, most_moved}
+use Rattle.atl_instant.specs.Meaning.{HasRoom, HaveRoom, LeavesWell, BookBound, moved_times, moves_only, most_moved}
 use Rattle.atl_instant.specs.Holdings.{ChangesHolding}
 use Rattle.atl_instant.specs.PhaseOrders.{Task}
 use Rattle.atl_instant.proofs.BookingLaws.{within-neg, within-pos}
@@ -47,11 +47,11 @@ use Rattle.atl_instant.proofs.MarkLaws.{marks_by}
 use Rattle.atl_instant.proofs.MeaningLaws.{room_less, well_unchanged, well_within}
 use Rattle.atl_market.specs.AtOnce.{stands_in}
 use Rattle.atl_market.specs.ItemPots.{is_for, wants_for}
-use Rattle.atl_market.specs.PotPhase.{CanInTurn, count_in, given_by, item_in, items_by, shared_out, wants_by}
-use Rattle.atl_market.specs.Trade.{deal_of, dealt, limit_of, market_for, pot_by, trade_entry, trade_fault, trade_moves, trade_pot, trade_pots, trade_wanted, traded, with_deal}
-use Rattle.atl_market.specs.Trading.{CanDeal, CanSettle, CanTrade, HasPot}
+use Rattle.atl_market.specs.PotPhase.{CanInTurn, after_sharing, count_in, given_by, item_in, items_by, wants_by}
+use Rattle.atl_market.specs.Trade.{after_trade, limit_of, market_for, pot_by, trade_entry, trade_fault, trade_moves, trade_pot, trade_pots, trade_result_of, trade_want, with_result, with_trade_result}
+use Rattle.atl_market.specs.Trading.{CanAfford, CanBookTrade, CanTrade, HasPot}
 use Rattle.atl_market.specs.Unordered.{OthersAreNoWorse}
-use Rattle.atl_market.specs.declared.trade.Deal.{Deal}
+use Rattle.atl_market.specs.declared.trade.TradeResult.{TradeResult}
 use Rattle.atl_market.specs.declared.trade.Trade.{Trade}
 use Rattle.atl_market.specs.declared.trade.Trade.TheVariants.{Sell, Buy}
 use Rattle.atl_market.proofs.DrawLaws.{AreReady, Drains, DrawnPots, HaveEnough, all_pairs, drawn, first_draws, nothing_drains, ready_behind, region_drains, shares_are_enough, untouched}
@@ -65,7 +65,7 @@ use Rattle.atl_market.proofs.WantLaws.{GivesToWants, few_given, given_is_named}
 
 -- ---- a deal that keeps the goods and the money together
 
-pub record Fits (w : WorldValue) (u : Unit) (i before : ℕ) (d : Deal) : Type 0 where
+pub record Fits (w : WorldValue) (u : Unit) (i before : ℕ) (d : TradeResult) : Type 0 where
   pub money : d.money ≤ holding_limit
   pub amount : d.amount ≤ holding_limit
   pub stock : d.stock ≤ stock_limit w u.region i
@@ -73,18 +73,18 @@ pub record Fits (w : WorldValue) (u : Unit) (i before : ℕ) (d : Deal) : Type 0
   pub paid : pos d.money ≡ pos u.holding.money +ℤ d.booked
   pub small : IsWithin holding_limit d.booked
 
-abbrev pub supplied : CampaignValue → ℕ → Unit → ℕ → Deal → CampaignValue
-supplied c n u i d = record c { units = insert c.units n (record u { holding = with_deal u.holding i d }) }
+abbrev pub supplied : CampaignValue → ℕ → Unit → ℕ → TradeResult → CampaignValue
+supplied c n u i d = record c { units = insert c.units n (record u { holding = with_trade_result u.holding i d }) }
 
-abbrev pub dealt_to : CampaignValue → ℕ → Unit → ℕ → Entry → Deal → CampaignValue
+abbrev pub dealt_to : CampaignValue → ℕ → Unit → ℕ → Entry → TradeResult → CampaignValue
 dealt_to c n u i entry d = with_amount (region_changed (λ r. restocked r i d.stock) (supplied c n u i d) u.region) entry Money d.booked
 
-module _ (w : WorldValue) (c : CampaignValue) (n : ℕ) (u : Unit) (q : Region) (i : ℕ) (entry : Entry) (d : Deal) (is : get c.units n ≡ Some u) (around : get c.regions u.region ≡ Some q) where
+module _ (w : WorldValue) (c : CampaignValue) (n : ℕ) (u : Unit) (q : Region) (i : ℕ) (entry : Entry) (d : TradeResult) (is : get c.units n ≡ Some u) (around : get c.regions u.region ≡ Some q) where
   abbrev after : CampaignValue
   after = dealt_to c n u i entry d
 
-  abbrev more : Held
-  more = with_deal u.holding i d
+  abbrev more : HoldingValue
+  more = with_trade_result u.holding i d
 
   abbrev paid : CampaignValue
   paid = supplied c n u i d
@@ -92,7 +92,7 @@ module _ (w : WorldValue) (c : CampaignValue) (n : ℕ) (u : Unit) (q : Region) 
   abbrev left : CampaignValue
   left = region_changed (λ r. restocked r i d.stock) paid u.region
 
-  pub deal_is : dealt c n u i entry d ≡ after
+  pub deal_is : with_result c n u i entry d ≡ after
   deal_is = ap (λ o. with_amount (with_stock (with_held c n more o) u.region i d.stock) entry Money d.booked) is
 
   module _ (fits : Fits w u i (amount_of q.stocks i) d) (known : i < length w.items) (market : IsSome (market_of w u.region i)) (early : IsEarly w c) where
@@ -170,7 +170,7 @@ module _ (w : WorldValue) (u : Unit) (m : Market) (stock share : ℕ) (there : m
   up_to : (a k limit : ℕ) → k ≤ a → a ≤ limit → k ≤ limit
   up_to a k limit few most = omega (arith, few, most)
 
-  pub deal_fits : (trade : Trade) → CanDeal trade u.holding share (Some m) → HasPot trade stock share (Some m) → Fits w u m.item stock (deal_of trade u.holding stock share m)
+  pub deal_fits : (trade : Trade) → CanAfford trade u.holding share (Some m) → HasPot trade stock share (Some m) → Fits w u m.item stock (trade_result_of trade u.holding stock share m)
   deal_fits Sell (enough, room) pot = record {
     money = room;
     amount = less (amount_of u.holding.items m.item) share holding_limit (amount_within u.holding m.item holds);
@@ -209,31 +209,31 @@ abbrev pub item_pots : Trade → WorldValue → FinMap nat_cmp Unit → FinMap n
 item_pots trade w units items = record { place = λ k. k.0; draws = told_there units items; left = λ k q. pot_by trade (limit_of w k.1 k.0) (amount_of q.stocks k.1) }
 
 -- a pot has less by what is traded
-pot_less : (trade : Trade) (h : Held) (limit stock share : ℕ) (m : Market) → limit ≡ m.limit → HasPot trade stock share (Some m)
-    → pot_by trade limit (deal_of trade h stock share m).stock + share ≡ pot_by trade limit stock
+pot_less : (trade : Trade) (h : HoldingValue) (limit stock share : ℕ) (m : Market) → limit ≡ m.limit → HasPot trade stock share (Some m)
+    → pot_by trade limit (trade_result_of trade h stock share m).stock + share ≡ pot_by trade limit stock
 pot_less Sell h limit stock share m same pot = omega (arith, same, pot)
 pot_less Buy h limit stock share m same pot = omega (arith, pot)
 
 -- what a unit makes of a campaign by the market that it trades with, if there is one
 abbrev pub traded_at : Trade → CampaignValue → ℕ × ℕ → Unit → Option Market → CampaignValue
-traded_at trade c e u o = option_map_or (λ m. dealt c e.0 u m.item (trade_entry trade) (deal_of trade u.holding (stock_of c u.region m.item) e.1 m)) o c
+traded_at trade c e u o = option_map_or (λ m. with_result c e.0 u m.item (trade_entry trade) (trade_result_of trade u.holding (stock_of c u.region m.item) e.1 m)) o c
 
 module _ (trade : Trade) (items : FinMap nat_cmp ℕ) (w : WorldValue) (c : CampaignValue) (e : ℕ × ℕ) where
-  pub traded_is : (u : Unit) → get c.units e.0 ≡ Some u → (o : Option Market) → market_for w u (get items e.0) ≡ o → traded trade items w c e ≡ traded_at trade c e u o
-  unfolding traded
+  pub traded_is : (u : Unit) → get c.units e.0 ≡ Some u → (o : Option Market) → market_for w u (get items e.0) ≡ o → after_trade trade items w c e ≡ traded_at trade c e u o
+  unfolding after_trade
   traded_is u is o at = unit_there c e.0 _ u is ∙ ap (traded_at trade c e u) at
 
   module _ (can : CanTrade trade items w c e) (m : Market) (at : market_for w can.at.unit (get items e.0) ≡ Some m) where
-    abbrev deal : Deal
-    deal = deal_of trade can.at.unit.holding (amount_of can.at.region.stocks m.item) e.1 m
+    abbrev deal : TradeResult
+    deal = trade_result_of trade can.at.unit.holding (amount_of can.at.region.stocks m.item) e.1 m
 
     market : IsMarketFor w can.at.unit (get items e.0) m
     market = market_is w can.world can.at.unit (get items e.0) m at
 
-    made_is : traded trade items w c e ≡ dealt_to c e.0 can.at.unit m.item (trade_entry trade) deal
+    made_is : after_trade trade items w c e ≡ dealt_to c e.0 can.at.unit m.item (trade_entry trade) deal
     made_is =
         traded_is can.at.unit can.at.there (Some m) at
-        ∙ ap (λ stock. dealt c e.0 can.at.unit m.item (trade_entry trade) (deal_of trade can.at.unit.holding stock e.1 m)) (stock_is c can.at.unit.region can.at.region m.item can.at.around)
+        ∙ ap (λ stock. with_result c e.0 can.at.unit m.item (trade_entry trade) (trade_result_of trade can.at.unit.holding stock e.1 m)) (stock_is c can.at.unit.region can.at.region m.item can.at.around)
         ∙ deal_is w c e.0 can.at.unit can.at.region m.item (trade_entry trade) deal can.at.there can.at.around
 
     fits : Fits w can.at.unit m.item (amount_of can.at.region.stocks m.item) deal
@@ -241,16 +241,16 @@ module _ (trade : Trade) (items : FinMap nat_cmp ℕ) (w : WorldValue) (c : Camp
         let u = can.at.unit in
         let limit : stock_limit w u.region m.item ≡ m.limit = ap (λ o. option_map_or (λ (x : Market). x.limit) o most_amount) market.there in
         let low = subst (λ k. amount_of can.at.region.stocks m.item ≤ k) limit (stock_low w c u.region can.at.region m.item can.early can.at.around) in
-        deal_fits w u m (amount_of can.at.region.stocks m.item) e.1 market.there (can.early.steady.numbers.units e.0 u can.at.there).1 low trade (subst (CanDeal trade u.holding e.1) at can.deal) (can.pot m at)
+        deal_fits w u m (amount_of can.at.region.stocks m.item) e.1 market.there (can.early.steady.numbers.units e.0 u can.at.there).1 low trade (subst (CanAfford trade u.holding e.1) at can.deal) (can.pot m at)
 
-    made_well : LeavesWell IsEarly (trade_moves trade holding_limit) w c (traded trade items w c e)
+    made_well : LeavesWell IsEarly (trade_moves trade holding_limit) w c (after_trade trade items w c e)
     made_well =
         subst (λ d. LeavesWell IsEarly (trade_moves trade holding_limit) w c d) (sym made_is)
         (deal_well w c e.0 can.at.unit can.at.region m.item (trade_entry trade) deal can.at.there can.at.around fits market.bounds.item (subst IsSome (sym market.there) refl) can.early)
 
-    made_drains : (units : FinMap nat_cmp Unit) → get units e.0 ≡ Some can.at.unit → Drains (item_pots trade w units items) c e (traded trade items w c e)
+    made_drains : (units : FinMap nat_cmp Unit) → get units e.0 ≡ Some can.at.unit → Drains (item_pots trade w units items) c e (after_trade trade items w c e)
     made_drains units there =
-        region_drains (item_pots trade w units items) c e (traded trade items w c e) can.at.unit.region can.at.region can.at.around (λ r. restocked r m.item deal.stock) (ap (λ (d : CampaignValue). d.regions) made_is)
+        region_drains (item_pots trade w units items) c e (after_trade trade items w c e) can.at.unit.region can.at.region can.at.around (λ r. restocked r m.item deal.stock) (ap (λ (d : CampaignValue). d.regions) made_is)
         (λ k same. here k same (eq_by_cmp nat_cmp k.1 m.item) refl)
         (λ k apart. ap (λ b. b && is_for k.1 (get items e.0)) (ap (stands_in k.0) there ∙ other_number can.at.unit.region k.0 (λ is. apart (sym is))))
       where
@@ -278,29 +278,29 @@ module _ (trade : Trade) (items : FinMap nat_cmp ℕ) (w : WorldValue) (c : Camp
             ∙ no_less (pot_by trade (limit_of w k.1 k.0) (amount_of (with_amount_of can.at.region.stocks m.item deal.stock) k.1))
             ∙ ap (pot_by trade (limit_of w k.1 k.0)) (set_amount can.at.region.stocks m.item deal.stock k.1 ∙ ap (λ b. cond b deal.stock (amount_of can.at.region.stocks k.1)) is)
 
-  pub traded_well : CanTrade trade items w c e → LeavesWell IsEarly (trade_moves trade holding_limit) w c (traded trade items w c e)
+  pub traded_well : CanTrade trade items w c e → LeavesWell IsEarly (trade_moves trade holding_limit) w c (after_trade trade items w c e)
   traded_well can = by_market (market_for w can.at.unit (get items e.0)) refl
     where
-      by_market : (o : Option Market) → market_for w can.at.unit (get items e.0) ≡ o → LeavesWell IsEarly (trade_moves trade holding_limit) w c (traded trade items w c e)
+      by_market : (o : Option Market) → market_for w can.at.unit (get items e.0) ≡ o → LeavesWell IsEarly (trade_moves trade holding_limit) w c (after_trade trade items w c e)
       by_market None at =
           subst (λ d. LeavesWell IsEarly (trade_moves trade holding_limit) w c d) (sym (traded_is can.at.unit can.at.there None at))
           (well_unchanged (trade_moves trade holding_limit) w c can.early)
       by_market (Some m) at = made_well can m at
 
-  traded_drains : (can : CanTrade trade items w c e) (units : FinMap nat_cmp Unit) → get units e.0 ≡ Some can.at.unit → Drains (item_pots trade w units items) c e (traded trade items w c e)
+  traded_drains : (can : CanTrade trade items w c e) (units : FinMap nat_cmp Unit) → get units e.0 ≡ Some can.at.unit → Drains (item_pots trade w units items) c e (after_trade trade items w c e)
   traded_drains can units there = by_market (market_for w can.at.unit (get items e.0)) refl
     where
-      by_market : (o : Option Market) → market_for w can.at.unit (get items e.0) ≡ o → Drains (item_pots trade w units items) c e (traded trade items w c e)
+      by_market : (o : Option Market) → market_for w can.at.unit (get items e.0) ≡ o → Drains (item_pots trade w units items) c e (after_trade trade items w c e)
       by_market None at =
-          nothing_drains (item_pots trade w units items) c e (traded trade items w c e) (ap (λ (d : CampaignValue). d.regions) (traded_is can.at.unit can.at.there None at)) (subst (CanDeal trade can.at.unit.holding e.1) at can.deal)
+          nothing_drains (item_pots trade w units items) c e (after_trade trade items w c e) (ap (λ (d : CampaignValue). d.regions) (traded_is can.at.unit can.at.there None at)) (subst (CanAfford trade can.at.unit.holding e.1) at can.deal)
       by_market (Some m) at = made_drains can m at units there
 
-  pub traded_others : (k : ℕ) → k ≢ e.0 → get (traded trade items w c e).units k ≡ get c.units k
-  unfolding traded
+  pub traded_others : (k : ℕ) → k ≢ e.0 → get (after_trade trade items w c e).units k ≡ get c.units k
+  unfolding after_trade
   traded_others k apart =
       by_unit c e.0 (λ (d : CampaignValue). get d.units k ≡ get c.units k) _ refl (λ u is.
       by_option (λ (d : CampaignValue). get d.units k ≡ get c.units k) _ (market_for w u (get items e.0)) c refl (λ m at.
-      let h = with_deal u.holding m.item (deal_of trade u.holding (stock_of c u.region m.item) e.1 m) in
+      let h = with_trade_result u.holding m.item (trade_result_of trade u.holding (stock_of c u.region m.item) e.1 m) in
       ap (λ o. get (with_held c e.0 h o).units k) is ∙ get-insert_other c.units e.0 k (record u { holding = h }) apart))
 
 -- ---- who gets something
@@ -308,11 +308,11 @@ module _ (trade : Trade) (items : FinMap nat_cmp ℕ) (w : WorldValue) (c : Camp
 pub trades_give : (trade : Trade) (w : WorldValue) (c : CampaignValue) → GivesToWants (trade_pots trade) w c
 trades_give trade w c items wants n share is = items_give (get items) (trade_pot trade w c) wants c n share (sym (shares_at (get items) (trade_pot trade w c) wants c n) ∙ is)
 
-pub trade_keeps_others : (trade : Trade) (w : WorldValue) (c : CampaignValue) (os : List Task) → OthersAreNoWorse os c (shared_out (trade_pots trade) w c os)
+pub trade_keeps_others : (trade : Trade) (w : WorldValue) (c : CampaignValue) (os : List Task) → OthersAreNoWorse os c (after_sharing (trade_pots trade) w c os)
 trade_keeps_others trade w c os = others_no_worse (trade_pots trade) w (λ items. traded_others trade items w) c (trades_give trade w c) os
 
 -- what a unit wants it can trade
-module _ (h : Held) (m : Market) (told share : ℕ) (holds : IsHolding h) where
+module _ (h : HoldingValue) (m : Market) (told share : ℕ) (holds : IsHolding h) where
   few_of : (told a b : ℕ) → share ≤ min told (min a b) → (share ≤ a) × (share ≤ b)
   few_of told a b low = (omega (arith, low), omega (arith, low))
 
@@ -322,7 +322,7 @@ module _ (h : Held) (m : Market) (told share : ℕ) (holds : IsHolding h) where
   room_for : (a k limit : ℕ) → a ≤ limit → k ≤ limit - a → a + k ≤ limit
   room_for a k limit fits few = omega (arith, fits, few)
 
-  pub wanted_fits : (trade : Trade) → share ≤ trade_wanted trade h told (Some m) → CanDeal trade h share (Some m)
+  pub wanted_fits : (trade : Trade) → share ≤ trade_want trade h told (Some m) → CanAfford trade h share (Some m)
   wanted_fits Sell low =
       let (few, payable) = few_of told (amount_of h.items m.item) ((holding_limit - h.money) / m.pays) low in
       (few, room_for h.money (share * m.pays) holding_limit holds.money (times (holding_limit - h.money) m.pays payable))
@@ -333,7 +333,7 @@ module _ (h : Held) (m : Market) (told share : ℕ) (holds : IsHolding h) where
 -- ---- all steps can be taken
 
 module _ (trade : Trade) (items : FinMap nat_cmp ℕ) (w : WorldValue) (world : IsWorld w) (c : CampaignValue) where
-  abbrev step_moves : Moving
+  abbrev step_moves : BookBound
   step_moves = trade_moves trade holding_limit
 
   abbrev pots : DrawnPots (ℕ × ℕ)
@@ -341,7 +341,7 @@ module _ (trade : Trade) (items : FinMap nat_cmp ℕ) (w : WorldValue) (world : 
 
   -- a unit is there, and can trade so many
   abbrev CanHave : ℕ × ℕ → Type 0
-  CanHave e = (u : Unit) × (get c.units e.0 ≡ Some u) × CanDeal trade u.holding e.1 (market_for w u (get items e.0))
+  CanHave e = (u : Unit) × (get c.units e.0 ≡ Some u) × CanAfford trade u.holding e.1 (market_for w u (get items e.0))
 
   abbrev AreToTrade : CampaignValue → List (ℕ × ℕ) → Type 0
   AreToTrade = AreReady pots CanHave w c
@@ -379,12 +379,12 @@ module _ (trade : Trade) (items : FinMap nat_cmp ℕ) (w : WorldValue) (world : 
         room = first_room step_moves d e es room;
       }
 
-  all_can : (d : CampaignValue) (es : List (ℕ × ℕ)) → AreToTrade d es → CanBook d es → CanInTurn (CanTrade trade items w) (traded trade items w) d es
+  all_can : (d : CampaignValue) (es : List (ℕ × ℕ)) → AreToTrade d es → CanBook d es → CanInTurn (CanTrade trade items w) (after_trade trade items w) d es
   all_can d [] ready room = tt
   all_can d (e ∷ es) ready room =
       let can = first_can d e es ready room in
       let well = traded_well trade items w d e can in
-      let next = traded trade items w d e in (
+      let next = after_trade trade items w d e in (
         can,
         all_can next es (ready_behind pots w c d e es next ready well.leaves_it (traded_others trade items w d e) (traded_drains trade items w d e can c.units (sym ready.same.0 ∙ can.at.there)))
             (later_room step_moves w d next e es well room),
@@ -400,7 +400,7 @@ module _ (trade : Trade) (w : WorldValue) (world : IsWorld w) (c : CampaignValue
   abbrev shares : List (ℕ × ℕ)
   shares = entries given
 
-  abbrev moves : Moving
+  abbrev moves : BookBound
   moves = trade_moves trade holding_limit
 
   abbrev drawn_pots : DrawnPots (ℕ × ℕ)
@@ -412,15 +412,15 @@ module _ (trade : Trade) (w : WorldValue) (world : IsWorld w) (c : CampaignValue
   each_fits : Every (λ n share. MayTrade (n, share)) given
   each_fits n share is =
       let (u, t, there, own, low, fine, told) = given_is_named (trade_pots trade) w c (trades_give trade w c) os n share is in
-      (u, there, by_item u there (count_in t.said) (item_in t.said) low fine told)
+      (u, there, by_item u there (count_in t.order_value.operands) (item_in t.order_value.operands) low fine told)
     where
-      by_market : (asked : ℕ) (u : Unit) → get c.units n ≡ Some u → (m : Option Market) → share ≤ trade_wanted trade u.holding asked m → CanDeal trade u.holding share m
+      by_market : (asked : ℕ) (u : Unit) → get c.units n ≡ Some u → (m : Option Market) → share ≤ trade_want trade u.holding asked m → CanAfford trade u.holding share m
       by_market asked u there None low = omega (arith, low)
       by_market asked u there (Some m) low = wanted_fits u.holding m asked share (early.steady.numbers.units n u there).1 trade low
 
-      by_item : (u : Unit) → get c.units n ≡ Some u → (asked : ℕ) (s : Option ℕ) → share ≤ trade_wanted trade u.holding asked (market_for w u s) → trade_fault trade u.holding (market_for w u s) ≡ None → ((i : ℕ) → s ≡ Some i → get named n ≡ Some i) → CanDeal trade u.holding share (market_for w u (get named n))
+      by_item : (u : Unit) → get c.units n ≡ Some u → (asked : ℕ) (s : Option ℕ) → share ≤ trade_want trade u.holding asked (market_for w u s) → trade_fault trade u.holding (market_for w u s) ≡ None → ((i : ℕ) → s ≡ Some i → get named n ≡ Some i) → CanAfford trade u.holding share (market_for w u (get named n))
       by_item u there asked None low fine told = none_some NoMarket (sym fine)
-      by_item u there asked (Some i) low fine told = subst (λ o. CanDeal trade u.holding share (market_for w u o)) (sym (told i refl)) (by_market asked u there (market_for w u (Some i)) low)
+      by_item u there asked (Some i) low fine told = subst (λ o. CanAfford trade u.holding share (market_for w u o)) (sym (told i refl)) (by_market asked u there (market_for w u (Some i)) low)
 
   all_enough : HaveEnough drawn_pots c shares
   all_enough k q around =
@@ -441,7 +441,7 @@ module _ (trade : Trade) (w : WorldValue) (world : IsWorld w) (c : CampaignValue
   little : (e : Entry) (t : Thing) → moved_times (length shares) moves e t ≤ trade_moves trade most_moved e t
   little e t = few_holdings (length shares) few (trade_entry trade) Money e t
 
-  pub can_share_out : CanInTurn (CanTrade trade named w) (traded trade named w) c shares
+  pub can_share_out : CanInTurn (CanTrade trade named w) (after_trade trade named w) c shares
   can_share_out = all_can trade named w world c c shares (record {
     early = early;
     rise = entries_rise given;
@@ -450,35 +450,35 @@ module _ (trade : Trade) (w : WorldValue) (world : IsWorld w) (c : CampaignValue
     enough = all_enough;
   }) (room_less (moved_times (length shares) moves) (trade_moves trade most_moved) c little room)
 
-  pub all_trades_leave_well : LeavesWell IsEarly (trade_moves trade most_moved) w c (shared_out (trade_pots trade) w c os)
-  unfolding shared_out
+  pub all_trades_leave_well : LeavesWell IsEarly (trade_moves trade most_moved) w c (after_sharing (trade_pots trade) w c os)
+  unfolding after_sharing
   all_trades_leave_well =
-      well_within (moved_times (length shares) moves) (trade_moves trade most_moved) w c (fold (traded trade named w) c shares) little
-      (turns_leave_well moves w (CanTrade trade named w) (traded trade named w) (traded_well trade named w) c shares early can_share_out)
+      well_within (moved_times (length shares) moves) (trade_moves trade most_moved) w c (fold (after_trade trade named w) c shares) little
+      (turns_leave_well moves w (CanTrade trade named w) (after_trade trade named w) (traded_well trade named w) c shares early can_share_out)
 
 -- ---- what the code does
 
--- the deal of a trade can be settled
+-- the result of a trade can be booked
 pub can_settle : (trade : Trade) (items : FinMap nat_cmp ℕ) (w : WorldValue) (c : CampaignValue) (n share : ℕ) → CanTrade trade items w c (n, share)
-    → (u : Unit) (m : Market) (stock : ℕ) (entry : Entry) (d : Deal) → get c.units n ≡ Some u → market_for w u (get items n) ≡ Some m → stock ≡ stock_of c u.region m.item
-    → entry ≡ trade_entry trade → d ≡ deal_of trade u.holding stock share m → CanSettle c n entry d
+    → (u : Unit) (m : Market) (stock : ℕ) (entry : Entry) (d : TradeResult) → get c.units n ≡ Some u → market_for w u (get items n) ≡ Some m → stock ≡ stock_of c u.region m.item
+    → entry ≡ trade_entry trade → d ≡ trade_result_of trade u.holding stock share m → CanBookTrade c n entry d
 can_settle trade items w c n share can u m stock entry d there at stock_at entry_at d_at =
     let e : ℕ × ℕ = (n, share) in
     let same : can.at.unit ≡ u = same_Some _ _ (sym can.at.there ∙ there) in
     let mine : market_for w can.at.unit (get items n) ≡ Some m = ap (λ v. market_for w v (get items n)) same ∙ at in
     let stocked : amount_of can.at.region.stocks m.item ≡ stock = sym (stock_is c can.at.unit.region can.at.region m.item can.at.around) ∙ ap (λ (v : Unit). stock_of c v.region m.item) same ∙ sym stock_at in
     let is : deal trade items w c e can m mine ≡ d =
-    ap (λ (v : Unit). deal_of trade v.holding (amount_of can.at.region.stocks m.item) share m) same ∙ ap (λ k. deal_of trade u.holding k share m) stocked ∙ sym d_at in
+    ap (λ (v : Unit). trade_result_of trade v.holding (amount_of can.at.region.stocks m.item) share m) same ∙ ap (λ k. trade_result_of trade u.holding k share m) stocked ∙ sym d_at in
     let fit = fits trade items w c e can m mine in
     record {
       unit = u;
       there = there;
-      money = subst (λ (x : Deal). x.money ≤ holding_limit) is fit.money;
-      amount = subst (λ (x : Deal). x.amount ≤ holding_limit) is fit.amount;
+      money = subst (λ (x : TradeResult). x.money ≤ holding_limit) is fit.money;
+      amount = subst (λ (x : TradeResult). x.amount ≤ holding_limit) is fit.amount;
       things = things_of w;
       some = omega arith;
       grid = can.early.steady.numbers.books;
-      small = subst (λ (x : Deal). IsWithin holding_limit x.booked) is fit.small;
+      small = subst (λ (x : TradeResult). IsWithin holding_limit x.booked) is fit.small;
       room = subst (λ f. HasRoom holding_limit (amount_in c.books f Money)) (sym entry_at) (only_room (trade_entry trade) Money (amount_in c.books (trade_entry trade) Money) (can.room (trade_entry trade) Money));
     }
 
@@ -502,7 +502,7 @@ stock_most w c r i world early = by_region (get c.regions r) refl
         omega (arith, low, limit)
 
 -- a unit with other goods, and then the stock of a region
-module _ (c d e : MarkedCampaign) (n region item stock : ℕ) (f : Held → Held) (set : ChangesHolding c d n f) (put : e.value ≡ with_stock d.value region item stock) where
+module _ (c d e : MarkedCampaign) (n region item stock : ℕ) (f : HoldingValue → HoldingValue) (set : ChangesHolding c d n f) (put : e.value ≡ with_stock d.value region item stock) where
   pub settled_books : e.value.books ≡ c.value.books
   settled_books = ap (λ (s : CampaignValue). s.books) put ∙ ap (λ (s : CampaignValue). s.books) set.value
 

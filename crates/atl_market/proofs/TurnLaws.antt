@@ -8,7 +8,7 @@ use Rattle.atl_records.specs.declared.books.Thing.{Thing}
 use Rattle.atl_records.specs.Limits.{holding_limit, most_units}
 use Rattle.atl_records.specs.Books.{amount_number}
 use Rattle.atl_state.specs.Campaign.{CampaignValue}
-use Rattle.atl_instant.specs.Meaning.{Condition, HaveRoom, LeavesWell, Moving, both_move, most_moved, moved_times, moves_only}
+use Rattle.atl_instant.specs.Meaning.{BookBound, Condition, HaveRoom, LeavesWell, both_move, most_moved, moved_times, moves_only}
 use Rattle.atl_instant.proofs.MeaningLaws.{MovesLess, both_leave_well, room_behind, room_less, well_unchanged, well_within}
 use Rattle.atl_market.specs.PotPhase.{CanInTurn}
 
@@ -21,21 +21,21 @@ few_holdings k few a b e t = by_test (amount_number e t == amount_number a b)
     by_test false = omega (arith, few)
 
 -- one step and the steps behind it move as much as all of them
-pub one_more : {B : Type 0} (moving : Moving) (x : B) (xs : List B) → MovesLess (both_move moving (moved_times (length xs) moving)) (moved_times (length (x ∷ xs)) moving)
+pub one_more : {B : Type 0} (moving : BookBound) (x : B) (xs : List B) → MovesLess (both_move moving (moved_times (length xs) moving)) (moved_times (length (x ∷ xs)) moving)
 one_more moving x xs e t = let one : length (x ∷ xs) * moving e t ≡ length xs * moving e t + moving e t = suc-mul (length xs) (moving e t) in omega arith
 
 -- room for all steps is room for the first
-pub first_room : {B : Type 0} (moving : Moving) (c : CampaignValue) (x : B) (xs : List B) → HaveRoom (moved_times (length (x ∷ xs)) moving) c → HaveRoom moving c
+pub first_room : {B : Type 0} (moving : BookBound) (c : CampaignValue) (x : B) (xs : List B) → HaveRoom (moved_times (length (x ∷ xs)) moving) c → HaveRoom moving c
 first_room moving c x xs room = room_less moving (moved_times (length (x ∷ xs)) moving) c (λ e t. omega (arith, one_more moving x xs e t)) room
 
 -- and behind it for the others
-pub later_room : {B : Type 0} {leaves : Condition} (moving : Moving) (w : WorldValue) (c d : CampaignValue) (x : B) (xs : List B)
+pub later_room : {B : Type 0} {leaves : Condition} (moving : BookBound) (w : WorldValue) (c d : CampaignValue) (x : B) (xs : List B)
     → LeavesWell leaves moving w c d → HaveRoom (moved_times (length (x ∷ xs)) moving) c → HaveRoom (moved_times (length xs) moving) d
 later_room moving w c d x xs well room =
     room_behind moving (moved_times (length xs) moving) w c d well
     (room_less (both_move moving (moved_times (length xs) moving)) (moved_times (length (x ∷ xs)) moving) c (one_more moving x xs) room)
 
-module _ {A : Type 0} {leaves : Condition} (moving : Moving) (w : WorldValue) (can : CampaignValue → A → Type 0) (step : CampaignValue → A → CampaignValue) (each : (c : CampaignValue) (x : A) → can c x → LeavesWell leaves moving w c (step c x)) where
+module _ {A : Type 0} {leaves : Condition} (moving : BookBound) (w : WorldValue) (can : CampaignValue → A → Type 0) (step : CampaignValue → A → CampaignValue) (each : (c : CampaignValue) (x : A) → can c x → LeavesWell leaves moving w c (step c x)) where
   pub turns_leave_well : (c : CampaignValue) (xs : List A) → leaves w c → CanInTurn can step c xs → LeavesWell leaves (moved_times (length xs) moving) w c (fold step c xs)
   turns_leave_well c [] h turns = well_unchanged (moved_times 0 moving) w c h
   turns_leave_well c (x ∷ xs) h turns =

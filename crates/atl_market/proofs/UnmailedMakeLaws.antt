@@ -6,21 +6,21 @@ use Rattle.std.specs.Ordering.{nat_cmp}
 use Rattle.std.specs.FinMap.{FinMap, get}
 use Rattle.atl_tables.specs.Worlds.{WorldValue}
 use Rattle.atl_tables.specs.declared.world.Kind.{Kind}
-use Rattle.atl_orders.specs.declared.order.Order.TheVariants as orders
-use Rattle.atl_orders.specs.Orders.{Said}
+use Rattle.atl_orders.specs.declared.order.Operands.TheVariants as operands
+use Rattle.atl_orders.specs.Orders.{OperandsValue}
 use Rattle.atl_records.specs.declared.books.Entry.TheVariants.{Made, Used}
 use Rattle.atl_records.specs.declared.books.Thing.TheVariants.{Item}
 use Rattle.atl_records.specs.declared.event.Outcome.TheVariants.{Done}
 use Rattle.atl_records.specs.declared.records.Structure.{Structure}
 use Rattle.atl_records.specs.declared.records.Unit.{Unit}
-use Rattle.atl_records.specs.Held.{amount_of, with_amount_of}
+use Rattle.atl_records.specs.Holdings.{amount_of, with_amount_of}
 use Rattle.atl_state.specs.Owners.{with_place}
 use Rattle.atl_state.specs.Campaign.{CampaignValue, with_amount, with_item}
 use Rattle.atl_state.proofs.RegionLaws.{changed-known}
-use Rattle.atl_instant.proofs.TermsLaws.{Leaves}
+use Rattle.atl_instant.proofs.PhaseSpecLaws.{Leaves}
 use Rattle.atl_instant.proofs.UnmailedLaws.{HaveTheirMen, OthersHaveMen, SparesMen, carried_leaves, items_of_no_worse, men_put, men_same, men_stay, men_twice, men_unless, others_men, own_faction, unmailed_spared}
 use Rattle.atl_instant.proofs.UnmailedStepLaws.{place_men}
-use Rattle.atl_market.specs.Build.{begin, begin_fault, build_said, build_step, build_terms, go_on, go_on_at, gone_on, inside_fault, is_building, outside_fault, size_added, started, with_kind, with_new}
+use Rattle.atl_market.specs.Build.{after_building_on, after_start, begin, begin_fault, build_effect, build_spec, build_step, go_on, go_on_at, inside_fault, is_building, outside_fault, size_added, with_kind, with_new}
 use Rattle.atl_market.specs.Goods.{with_made, with_used}
 use Rattle.atl_market.specs.Produce as produce
 use Rattle.atl_market.proofs.ThereLaws.{by_option, by_unit}
@@ -40,7 +40,7 @@ used_men c n i amount =
 
 -- ---- BUILD
 
-begun_men : (c : CampaignValue) (n kind : ℕ) (k : Kind) (region size : ℕ) → HaveTheirMen c (started c n kind k region size)
+begun_men : (c : CampaignValue) (n kind : ℕ) (k : Kind) (region size : ℕ) → HaveTheirMen c (after_start c n kind k region size)
 begun_men c n kind k region size =
     let used = with_used c n k.material size in
     let new = with_new used kind k region size in
@@ -49,10 +49,10 @@ begun_men c n kind k region size =
 
 begin_men : (w : WorldValue) (c : CampaignValue) (n kind : ℕ) (k : Kind) (u : Unit) → HaveTheirMen c (begin w n kind k c u).0
 unfolding begin
-begin_men w c n kind k u = let size = size_added k u.holding 0 in men_unless c (started c n kind k u.region size) (Done size) (begin_fault w c u k) (begun_men c n kind k u.region size)
+begin_men w c n kind k u = let size = size_added k u.holding 0 in men_unless c (after_start c n kind k u.region size) (Done size) (begin_fault w c u k) (begun_men c n kind k u.region size)
 
-gone_on_men : (c : CampaignValue) (n material size place done : ℕ) → HaveTheirMen c (gone_on c n material size place done)
-gone_on_men c n material size place done = let used = with_used c n material size in men_twice c used (gone_on c n material size place done) (used_men c n material size) (men_same used (gone_on c n material size place done) refl)
+gone_on_men : (c : CampaignValue) (n material size place done : ℕ) → HaveTheirMen c (after_building_on c n material size place done)
+gone_on_men c n material size place done = let used = with_used c n material size in men_twice c used (after_building_on c n material size place done) (used_men c n material size) (men_same used (after_building_on c n material size place done) refl)
 
 go_on_men : (w : WorldValue) (c : CampaignValue) (n : ℕ) (u : Unit) → HaveTheirMen c (go_on w n c u).0
 unfolding go_on
@@ -60,25 +60,25 @@ go_on_men w c n u = by_structure (get c.structures u.structure)
   where
     by_kind : (s : Structure) (o : Option Kind) → HaveTheirMen c (go_on_at c n u (option_map (λ k. (s, k)) o)).0
     by_kind s None = men_unless c c (Done 0) (outside_fault u) (men_stay c)
-    by_kind s (Some k) = let size = size_added k u.holding s.done in men_unless c (gone_on c n k.material size u.structure (s.done + size)) (Done size) (inside_fault u s k) (gone_on_men c n k.material size u.structure (s.done + size))
+    by_kind s (Some k) = let size = size_added k u.holding s.done in men_unless c (after_building_on c n k.material size u.structure (s.done + size)) (Done size) (inside_fault u s k) (gone_on_men c n k.material size u.structure (s.done + size))
 
     by_structure : (o : Option Structure) → HaveTheirMen c (go_on_at c n u (option_and_then (with_kind w) o)).0
     by_structure None = men_unless c c (Done 0) (outside_fault u) (men_stay c)
     by_structure (Some s) = by_kind s (slice_get w.kinds s.kind)
 
-built_men : (w : WorldValue) (c : CampaignValue) (f n : ℕ) (x : Unit) (s : Said) → IfSome (build_said w n s) (λ deed. OthersHaveMen f c (deed c x).0)
-built_men w c f n x (orders.Build (Some kind)) = by_kind (slice_get w.kinds kind)
+built_men : (w : WorldValue) (c : CampaignValue) (f n : ℕ) (x : Unit) (s : OperandsValue) → IfSome (build_effect w n s) (λ deed. OthersHaveMen f c (deed c x).0)
+built_men w c f n x (operands.Kind (Some kind)) = by_kind (slice_get w.kinds kind)
   where
     by_kind : (o : Option Kind) → IfSome (option_map (begin w n kind) o) (λ deed. OthersHaveMen f c (deed c x).0)
     by_kind None = tt
     by_kind (Some k) = others_men f c (begin w n kind k c x).0 (begin_men w c n kind k x)
-built_men w c f n x (orders.Build None) = others_men f c (go_on w n c x).0 (go_on_men w c n x)
+built_men w c f n x (operands.Kind None) = others_men f c (go_on w n c x).0 (go_on_men w c n x)
 built_men w c f n x other = tt
 
 build_spares : SparesMen build_step
-build_spares w a c t x own = built_men w c t.faction t.unit x t.said
+build_spares w a c t x own = built_men w c t.faction t.unit x t.order_value.operands
 
-pub build_leaves : Leaves build_terms
+pub build_leaves : Leaves build_spec
 build_leaves = carried_leaves build_step is_building build_spares (unmailed_spared is_building own_faction items_of_no_worse)
 
 -- ---- PRODUCE
@@ -89,8 +89,8 @@ made_men c n i amount =
     let more = amount_of u.holding.items i + amount in
     men_put c (with_amount (with_item c n i more) Made (Item i) (pos amount)) n u (item_set i more u) is (record { faction = refl; men = refl }) (changed-known (item_set i more) c.units n u is))
 
-produced_men : (asked : FinMap nat_cmp ℕ) (w : WorldValue) (c : CampaignValue) (e : ℕ × ℕ) → HaveTheirMen c (produce.produced asked w c e)
-unfolding produce.produced
+produced_men : (asked : FinMap nat_cmp ℕ) (w : WorldValue) (c : CampaignValue) (e : ℕ × ℕ) → HaveTheirMen c (produce.after_production asked w c e)
+unfolding produce.after_production
 produced_men asked w c e =
     by_option (HaveTheirMen c) _ (get asked e.0) c (men_stay c) (λ i told.
     by_option (HaveTheirMen c) _ (slice_get w.items i) c (men_stay c) (λ x is.
@@ -99,7 +99,7 @@ produced_men asked w c e =
     (by_option (HaveTheirMen c) (λ r. with_used c e.0 r (e.1 * x.raw_count)) x.raw c (men_stay c) (λ r raw. used_men c e.0 r (e.1 * x.raw_count)))
     (made_men used e.0 i e.1)))
 
-pub produce_leaves : Leaves produce.produce_terms
+pub produce_leaves : Leaves produce.produce_spec
 produce_leaves =
     shared_leave produce.produce_pots (ordered_for produce.is_produce)
     (paid_men produce.produce_pots (ordered_for produce.is_produce) (λ w items. produced_men items w))

@@ -15,21 +15,21 @@ use Rattle.atl_records.specs.declared.records.Unit.{Unit}
 use Rattle.atl_state.specs.Campaign.{CampaignValue, with_amount, with_money, with_region_money}
 use Rattle.atl_records.proofs.EveryLaws.{other_number}
 use Rattle.atl_instant.specs.Month.{MonthValue}
-use Rattle.atl_instant.specs.Meaning.{Keeping, Meaning}
+use Rattle.atl_instant.specs.Meaning.{Frame, Meaning}
 use Rattle.atl_instant.specs.PhaseOrders.{Task, orders_by_unit}
-use Rattle.atl_instant.specs.Staying.{AreNoWorse}
-use Rattle.atl_instant.specs.Unmailed.{starved_in, starved_told}
-use Rattle.atl_instant.specs.declared.written.Arrangement.TheVariants.{ByUnit}
-use Rattle.atl_instant.proofs.TermsLaws.{Leaves}
+use Rattle.atl_instant.specs.NoWorse.{AreNoWorse}
+use Rattle.atl_instant.specs.Unmailed.{men_starved_by, starved_in}
+use Rattle.atl_instant.specs.declared.phase_order.Arrangement.TheVariants.{ByUnit}
+use Rattle.atl_instant.proofs.PhaseSpecLaws.{Leaves}
 use Rattle.atl_instant.proofs.UnmailedLaws.{HasItsItems, HasItsMen, HaveTheirMen, LeavesUnmailed, UnmailedAre, items_of_no_worse, men_changed, men_in_turn, men_stay, none_ordered, whole_leaves}
-use Rattle.atl_market.specs.PotPhase.{PotMeaning, event_of, events_by, given_by, items_by, pots_meaning, shared_out}
-use Rattle.atl_market.specs.Recruit.{is_recruit, recruit_pots, recruit_terms, recruits_at}
-use Rattle.atl_market.specs.Tax.{is_tax, tax_pots, tax_terms, taxed}
-use Rattle.atl_market.specs.Trade.{buy_terms, is_trade, sell_terms, trade_keeps, trade_meaning, trade_pots}
+use Rattle.atl_market.specs.PotPhase.{PotMeaning, after_sharing, event_of, events_by, given_by, items_by, pots_meaning}
+use Rattle.atl_market.specs.Recruit.{is_recruit, recruit_pots, recruit_spec, recruits_at}
+use Rattle.atl_market.specs.Tax.{after_tax, is_tax, tax_pots, tax_spec}
+use Rattle.atl_market.specs.Trade.{buy_spec, is_trade, sell_spec, trade_keeps, trade_meaning, trade_pots}
 use Rattle.atl_market.specs.declared.trade.Trade.{Trade}
 use Rattle.atl_market.specs.declared.trade.Trade.TheVariants.{Buy, Sell}
 use Rattle.atl_market.specs.Unordered.{OthersAreNoWorse, is_ordered}
-use Rattle.atl_market.specs.Work.{earned, work_orders, work_pots, work_terms, worked}
+use Rattle.atl_market.specs.Work.{after_work, wages_for, work_orders, work_pots, work_spec}
 use Rattle.atl_market.proofs.OrderedLaws.{unordered_stays}
 use Rattle.atl_market.proofs.PotLaws.{pots_give}
 use Rattle.atl_market.proofs.RecruitLaws.{recruited_others}
@@ -45,7 +45,7 @@ module _ (p : PotMeaning) (w : WorldValue) (c : CampaignValue) where
   none_starve : (given : FinMap nat_cmp ℕ) (os : List Task) (n : ℕ) → starved_in (map (event_of p w c given) os) n ≡ 0
   none_starve given [] n = refl
   none_starve given (o ∷ os) n =
-      sum_by-cons (λ (e : Event). if e.unit == n then starved_told e.verb e.outcome else 0) (event_of p w c given o) (map (event_of p w c given) os)
+      sum_by-cons (λ (e : Event). if e.unit == n then men_starved_by e.verb e.outcome else 0) (event_of p w c given o) (map (event_of p w c given) os)
       ∙ ap (λ x. (if o.unit == n then 0 else 0) + x) (none_starve given os n) ∙ nobody (o.unit == n)
     where
       nobody : (b : Bool) → (if b then 0 else 0) + 0 ≡ 0
@@ -56,7 +56,7 @@ module _ (p : PotMeaning) (w : WorldValue) (c : CampaignValue) where
   told_of_pots : (events : List Event) (os : List Task) (n : ℕ) → starved_in (events ++ events_by p w c os) n ≡ starved_in events n
   unfolding events_by
   told_of_pots events os n =
-      sum_by-append (λ (e : Event). if e.unit == n then starved_told e.verb e.outcome else 0) events (map (event_of p w c (given_by p w c os)) os)
+      sum_by-append (λ (e : Event). if e.unit == n then men_starved_by e.verb e.outcome else 0) events (map (event_of p w c (given_by p w c os)) os)
       ∙ ap (λ x. starved_in events n + x) (none_starve (given_by p w c os) os n) ∙ plus_none (starved_in events n)
     where
       plus_none : (x : ℕ) → x + 0 ≡ x
@@ -67,13 +67,13 @@ module _ (p : PotMeaning) (orders : CampaignValue → MonthValue → List Task) 
   abbrev pub shared : Meaning
   shared = pots_meaning p orders
 
-  pub shared_leave : {keeps : Keeping} → ((w : WorldValue) (c : CampaignValue) (m : MonthValue) → UnmailedAre HasItsMen m c (shared w c m).0) → ((w : WorldValue) (c d : CampaignValue) (m : MonthValue) → keeps w m c d → UnmailedAre HasItsItems m c d) → LeavesUnmailed shared keeps
+  pub shared_leave : {keeps : Frame} → ((w : WorldValue) (c : CampaignValue) (m : MonthValue) → UnmailedAre HasItsMen m c (shared w c m).0) → ((w : WorldValue) (c d : CampaignValue) (m : MonthValue) → keeps w m c d → UnmailedAre HasItsItems m c d) → LeavesUnmailed shared keeps
   shared_leave {keeps} men items =
       whole_leaves {meaning = shared} {keeps = keeps} (λ w c m. refl) (λ w c m n. told_of_pots p w c m.events (orders c m) n) (λ w c m h. men w c m) (λ w c m h. items w c (shared w c m).0 m h)
 
   -- payments that keep the men of all units
   pub paid_men : ((w : WorldValue) (items : FinMap nat_cmp ℕ) (d : CampaignValue) (e : ℕ × ℕ) → HaveTheirMen d (p.paid items w d e)) → (w : WorldValue) (c : CampaignValue) (m : MonthValue) → UnmailedAre HasItsMen m c (shared w c m).0
-  unfolding shared_out
+  unfolding after_sharing
   paid_men paid w c m n u there none = let items = items_by p w c (orders c m) in men_in_turn (p.paid items w) (paid w items) c (entries (given_by p w c (orders c m))) n u there
 
 -- a phase that takes nothing from any unit
@@ -82,28 +82,28 @@ none_worse w c d m h n u there none = let (v, behind, better) = h n u there in r
 
 -- ---- TAX
 
-tax_men : (w : WorldValue) (c : CampaignValue) (e : ℕ × ℕ) → HaveTheirMen c (taxed c e)
-unfolding taxed
+tax_men : (w : WorldValue) (c : CampaignValue) (e : ℕ × ℕ) → HaveTheirMen c (after_tax c e)
+unfolding after_tax
 tax_men w c e =
     by_unit c e.0 (HaveTheirMen c) _ (men_stay c) (λ u is.
     by_region c u.region (HaveTheirMen c) _ (men_stay c) (λ q around.
     men_changed (λ v. record v { holding = record v.holding { money = u.holding.money + e.1 } }) (λ v. record { faction = refl; men = refl })
     c (with_region_money (with_money c e.0 (u.holding.money + e.1)) u.region (q.money - e.1)) e.0 refl))
 
-pub tax_leaves : Leaves tax_terms
+pub tax_leaves : Leaves tax_spec
 tax_leaves = shared_leave tax_pots (ordered_for is_tax) (paid_men tax_pots (ordered_for is_tax) (λ w items. tax_men w)) none_worse
 
 -- ---- WORK
 
-work_men : (w : WorldValue) (c : CampaignValue) (e : ℕ × ℕ) → HaveTheirMen c (worked w c e)
-unfolding worked
+work_men : (w : WorldValue) (c : CampaignValue) (e : ℕ × ℕ) → HaveTheirMen c (after_work w c e)
+unfolding after_work
 work_men w c e =
     by_unit c e.0 (HaveTheirMen c) _ (men_stay c) (λ u is.
-    let wages = earned w u.region e.1 in
+    let wages = wages_for w u.region e.1 in
     men_changed (λ v. record v { holding = record v.holding { money = u.holding.money + wages } }) (λ v. record { faction = refl; men = refl })
     c (with_amount (with_money c e.0 (u.holding.money + wages)) Wages Money (pos wages)) e.0 refl)
 
-pub work_leaves : Leaves work_terms
+pub work_leaves : Leaves work_spec
 work_leaves = shared_leave work_pots work_orders (paid_men work_pots work_orders (λ w items. work_men w)) none_worse
 
 -- ---- RECRUIT
@@ -127,7 +127,7 @@ module _ (is_of : Verb → Bool) (m : MonthValue) where
   pub others_items : (c d : CampaignValue) → OthersAreNoWorse (orders_by_unit is_of m) c d → UnmailedAre HasItsItems m c d
   others_items c d h n u there none = let (v, behind, better) = h n u there (unordered n u none) in record { unit = v; there = behind; spared = items_of_no_worse u v better }
 
-pub recruit_leaves : Leaves recruit_terms
+pub recruit_leaves : Leaves recruit_spec
 recruit_leaves =
     shared_leave recruit_pots (ordered_for is_recruit)
     (λ w c m n u there none.
@@ -152,8 +152,8 @@ module _ (trade : Trade) where
       })
       (λ w c d m. others_items (is_trade trade) m c d)
 
-pub sell_leaves : Leaves sell_terms
+pub sell_leaves : Leaves sell_spec
 sell_leaves = trade_leaves Sell
 
-pub buy_leaves : Leaves buy_terms
+pub buy_leaves : Leaves buy_spec
 buy_leaves = trade_leaves Buy

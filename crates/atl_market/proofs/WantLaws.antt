@@ -25,7 +25,7 @@ use Rattle.atl_state.proofs.BackLaws.{Rise, entries_rise}
 use Rattle.atl_records.proofs.EveryLaws.{every-empty, every-insert, get-insert_other, none_some}
 use Rattle.atl_state.proofs.RegionLaws.{get-insert_same}
 use Rattle.atl_instant.specs.PhaseOrders.{Task}
-use Rattle.atl_instant.specs.Steps.{of_faction}
+use Rattle.atl_instant.specs.OrderEffects.{of_faction}
 use Rattle.atl_instant.proofs.ListedLaws.{find_is}
 use Rattle.atl_market.proofs.PotLaws.{put_in_turn}
 use Rattle.atl_market.specs.PotPhase.{PotMeaning, given_by, item_by, item_in, items_by, unit_for, want_by, wants_by}
@@ -35,7 +35,7 @@ use Rattle.atl_market.specs.Puts.{with_any, with_each}
 -- who gets something wants that much at least
 abbrev pub GivesToWants : PotMeaning → WorldValue → CampaignValue → Type 0
 GivesToWants p w c =
-    (items wants : FinMap nat_cmp ℕ) (n share : ℕ) → get (p.given items w c wants) n ≡ Some share
+    (items wants : FinMap nat_cmp ℕ) (n share : ℕ) → get (p.grants items w c wants) n ≡ Some share
     → (want : ℕ) × (get wants n ≡ Some want) × (share ≤ want)
 
 -- entries put one list behind the other
@@ -71,7 +71,7 @@ module _ (p : PotMeaning) (w : WorldValue) (c : CampaignValue) where
   -- a unit wants so much by some order for it without fault, and the item that this names is the unit's
   abbrev IsWanted : FinMap nat_cmp ℕ → ℕ → ℕ → Type 0
   IsWanted items n want =
-      (u : Unit) × (t : Task) × (get c.units n ≡ Some u) × (t.unit ≡ n) × (want ≡ p.want w u t) × (p.fault w u t ≡ None) × ((i : ℕ) → item_in t.said ≡ Some i → get items n ≡ Some i)
+      (u : Unit) × (t : Task) × (get c.units n ≡ Some u) × (t.unit ≡ n) × (want ≡ p.want w u t) × (p.fault w u t ≡ None) × ((i : ℕ) → item_in t.order_value.operands ≡ Some i → get items n ≡ Some i)
 
   -- a unit that carries an order out
   pub record Carries (t : Task) (u : Unit) : Type 0 where
@@ -112,7 +112,7 @@ module _ (p : PotMeaning) (w : WorldValue) (c : CampaignValue) where
     item_elsewhere None n apart = refl
     item_elsewhere (Some i) n apart = get-insert_other items t.unit n i apart
 
-    wanted_by : (r : Result Unit EventFault) → unit_for p w c t ≡ r → Every (IsWanted items) m → Every (IsWanted (with_any items (cond (is_ok r) (named (item_in t.said)) None))) (with_any m (wanting r))
+    wanted_by : (r : Result Unit EventFault) → unit_for p w c t ≡ r → Every (IsWanted items) m → Every (IsWanted (with_any items (cond (is_ok r) (named (item_in t.order_value.operands)) None))) (with_any m (wanting r))
     wanted_by (Err f) is old = old
     wanted_by (Ok u) is old = λ n want there. elim (cases_eq n t.unit) [
       | inl same ↦
@@ -124,11 +124,11 @@ module _ (p : PotMeaning) (w : WorldValue) (c : CampaignValue) where
             sym same,
             sym (same_Some _ _ mine),
             of.fine,
-            λ i is_i. ap (get (with_any items (named (item_in t.said)))) same ∙ item_put (item_in t.said) i is_i,
+            λ i is_i. ap (get (with_any items (named (item_in t.order_value.operands)))) same ∙ item_put (item_in t.order_value.operands) i is_i,
           )
       | inr apart ↦
           let (v, o, here, own, wanted, fine, names) = old n want (sym (get-insert_other m t.unit n (p.want w u t) apart) ∙ there) in
-          (v, o, here, own, wanted, fine, λ i is_i. item_elsewhere (item_in t.said) n apart ∙ names i is_i)
+          (v, o, here, own, wanted, fine, λ i is_i. item_elsewhere (item_in t.order_value.operands) n apart ∙ names i is_i)
     ]
 
   all_wanted : (m items : FinMap nat_cmp ℕ) (ts : List Task) → Every (IsWanted items) m → Every (IsWanted (with_each items (filter_map (item_by p w c) ts))) (with_each m (filter_map (want_by p w c) ts))
@@ -146,7 +146,7 @@ module _ (p : PotMeaning) (w : WorldValue) (c : CampaignValue) where
   module _ (gives : GivesToWants p w c) where
     -- a unit gets at most what it wants by some order without fault, and the item that this names is the unit's
     pub given_is_named : (ts : List Task) →
-        Every (λ n share. (u : Unit) × (t : Task) × (get c.units n ≡ Some u) × (t.unit ≡ n) × (share ≤ p.want w u t) × (p.fault w u t ≡ None) × ((i : ℕ) → item_in t.said ≡ Some i → get (items_by p w c ts) n ≡ Some i)) (given_by p w c ts)
+        Every (λ n share. (u : Unit) × (t : Task) × (get c.units n ≡ Some u) × (t.unit ≡ n) × (share ≤ p.want w u t) × (p.fault w u t ≡ None) × ((i : ℕ) → item_in t.order_value.operands ≡ Some i → get (items_by p w c ts) n ≡ Some i)) (given_by p w c ts)
     given_is_named ts n share is =
         let (want, wanted, low) = gives (items_by p w c ts) (wants_by p w c ts) n share is in
         let (u, t, there, own, same, fine, named) = wants_are_wanted ts n want wanted in

@@ -20,29 +20,29 @@ use Rattle.atl_state.specs.Covers.{MarksChanges}
 use Rattle.atl_state.specs.Founding.{things_of}
 use Rattle.atl_records.specs.Every.{Every}
 use Rattle.atl_state.specs.Good.{IsSteady}
-use Rattle.atl_records.specs.Held.{Held, amount_of}
+use Rattle.atl_records.specs.Holdings.{HoldingValue, amount_of}
 use Rattle.atl_records.specs.Limits.{holding_limit, most_units}
 use Rattle.atl_state.specs.Marking.{mark_amount, mark_unit_row}
 use Rattle.atl_state.specs.Campaign.{MarkedCampaign, CampaignValue, with_amount, with_money}
-use Rattle.atl_records.specs.Amounts.{held}
+use Rattle.atl_records.specs.Amounts.{unit_amount}
 use Rattle.atl_state.specs.Totals.{total}
 use Rattle.atl_state.proofs.BackLaws.{Rise, entries_rise}
-use Rattle.atl_records.proofs.BookLaws.{booked-with_booked, share_of}
+use Rattle.atl_records.proofs.BookLaws.{booked-after_booking, share_of}
 use Rattle.atl_state.proofs.CoverLaws.{marks-amount, marks-trans}
 use Rattle.atl_records.proofs.EveryLaws.{each-from_every}
-use Rattle.atl_state.proofs.HoldingLaws.{marks-unit_row, may_hold_money, steady-held, total-held}
+use Rattle.atl_state.proofs.HoldingLaws.{marks-unit_row, may_hold_money, steady-unit_amount, total-unit_amount}
 use Rattle.atl_state.proofs.RegionLaws.{steady-amount, total-amount}
-use Rattle.atl_instant.specs.Meaning.{HaveRoom, LeavesWell, Moving, moved_times, most_moved}
-use Rattle.atl_instant.specs.Staying.{AreNoWorse}
+use Rattle.atl_instant.specs.Meaning.{HaveRoom, LeavesWell, BookBound, moved_times, most_moved}
+use Rattle.atl_instant.specs.NoWorse.{AreNoWorse}
 use Rattle.atl_instant.specs.PhaseOrders.{Task}
 use Rattle.atl_instant.proofs.BookingLaws.{booked-near, within-pos}
 use Rattle.atl_instant.proofs.MarkLaws.{marks_by}
 use Rattle.atl_instant.proofs.MeaningLaws.{room_less, same_month_by, well_within}
-use Rattle.atl_instant.proofs.StayingLaws.{are_no_worse, are_no_worse_twice}
-use Rattle.atl_market.specs.PotPhase.{CanInTurn, given_by, shared_out}
-use Rattle.atl_market.specs.Work.{earned, places_at, places_wanted, work_moves, work_pots, worked}
+use Rattle.atl_instant.proofs.NoWorseLaws.{are_no_worse, are_no_worse_twice}
+use Rattle.atl_market.specs.PotPhase.{CanInTurn, after_sharing, given_by}
+use Rattle.atl_market.specs.Work.{after_work, places_at, wages_for, work_moves, work_pots, work_want}
 use Rattle.atl_market.proofs.DrawLaws.{all_pairs}
-use Rattle.atl_market.proofs.PurseLaws.{others_stay, paid, richer, richer_is, richer_no_worse}
+use Rattle.atl_market.proofs.MoneyInTurnLaws.{others_stay, paid, richer, richer_is, richer_no_worse}
 use Rattle.atl_market.proofs.ThereLaws.{by_unit, unit_there}
 use Rattle.atl_market.proofs.TurnLaws.{few_holdings, first_room, later_room, turns_leave_well}
 use Rattle.atl_market.proofs.PotLaws.{pots_give}
@@ -52,7 +52,7 @@ use Rattle.atl_market.specs.Payable.{CanWork}
 -- ---- one unit gets its wages
 
 module _ (w : WorldValue) (c : CampaignValue) (n : ℕ) (u : Unit) (money : ℕ) (is : get c.units n ≡ Some u) where
-  abbrev more : Held
+  abbrev more : HoldingValue
   more = paid c n u money
 
   abbrev given : CampaignValue
@@ -65,9 +65,9 @@ module _ (w : WorldValue) (c : CampaignValue) (n : ℕ) (u : Unit) (money : ℕ)
   wages_are = ap (λ d. with_amount d Wages Money (pos money)) (richer_is c n u money is)
 
   total_paid : (t : Thing) → pos (total wages_paid t) ≡ pos (total c t) +ℤ share_of t Money (pos money)
-  total_paid t = total_of t (total-amount given Wages Money t (pos money)) (total-held w c n u more is t)
+  total_paid t = total_of t (total-amount given Wages Money t (pos money)) (total-unit_amount w c n u more is t)
     where
-      total_of : (t : Thing) → total wages_paid t ≡ total given t → total given t + held t u.holding ≡ total c t + held t more → pos (total wages_paid t) ≡ pos (total c t) +ℤ share_of t Money (pos money)
+      total_of : (t : Thing) → total wages_paid t ≡ total given t → total given t + unit_amount t u.holding ≡ total c t + unit_amount t more → pos (total wages_paid t) ≡ pos (total c t) +ℤ share_of t Money (pos money)
       total_of Money a b = omega (arith, ints, a, b)
       total_of People a b = omega (arith, ints, a, b)
       total_of (Item i) a b =
@@ -83,11 +83,11 @@ module _ (w : WorldValue) (c : CampaignValue) (n : ℕ) (u : Unit) (money : ℕ)
 
   pub wages_leave_well : u.holding.money + money ≤ holding_limit → IsSteady w c → LeavesWell IsSteady (work_moves holding_limit) w c wages_paid
   wages_leave_well fits steady = record {
-    leaves_it = steady-amount w given Wages Money (pos money) (steady-held w c n u more is (may_hold_money w c n (u.holding.money + money) u is fits steady) steady);
+    leaves_it = steady-amount w given Wages Money (pos money) (steady-unit_amount w c n u more is (may_hold_money w c n (u.holding.money + money) u is fits steady) steady);
     same_month = same_month_by refl;
     balances = λ old t.
         total_paid t ∙ ap (λ z. z +ℤ share_of t Money (pos money)) (old t)
-        ∙ sym (booked-with_booked (things_of w) c.books Wages Money (pos money) steady.numbers.books (omega arith) t);
+        ∙ sym (booked-after_booking (things_of w) c.books Wages Money (pos money) steady.numbers.books (omega arith) t);
     near = booked-near (things_of w) c.books Wages Money (pos money) holding_limit steady.numbers.books (omega arith) (within-pos money holding_limit (omega (arith, fits)));
   }
 
@@ -100,68 +100,68 @@ module _ (w : WorldValue) (c : CampaignValue) (n : ℕ) (u : Unit) (money : ℕ)
 
 -- ---- what is marked
 
-pub wages_marks : (things : ℕ) (c d e : MarkedCampaign) (n money held : ℕ) → d.value ≡ with_money c.value n held → d.marks ≡ mark_unit_row c n
+pub wages_marks : (things : ℕ) (c d e : MarkedCampaign) (n money unit_amount : ℕ) → d.value ≡ with_money c.value n unit_amount → d.marks ≡ mark_unit_row c n
     → e.value ≡ with_amount d.value Wages Money (pos money) → e.marks ≡ mark_amount d Wages Money → IsGrid things c.value.books → 2 ≤ things → MarksChanges c e
-wages_marks things c d e n money held d_is d_marks e_is e_marks grid two =
+wages_marks things c d e n money unit_amount d_is d_marks e_is e_marks grid two =
     let books : d.value.books ≡ c.value.books = ap (λ (s : CampaignValue). s.books) d_is in
     let d_grid : IsGrid things d.value.books = rw books grid in
-    marks-trans c d e (marks_by c d _ d_is d_marks (marks-unit_row (λ u. record u { holding = record u.holding { money = held } }) (λ u. refl) c n))
+    marks-trans c d e (marks_by c d _ d_is d_marks (marks-unit_row (λ u. record u { holding = record u.holding { money = unit_amount } }) (λ u. refl) c n))
     (marks_by d e _ e_is e_marks (marks-amount things d Wages Money (pos money) d_grid (omega arith)))
 
 -- ---- one step
 
 module _ (w : WorldValue) (c : CampaignValue) (e : ℕ × ℕ) where
-  pub worked_is : (u : Unit) (is : get c.units e.0 ≡ Some u) → worked w c e ≡ wages_paid w c e.0 u (earned w u.region e.1) is
-  unfolding worked
-  worked_is u is = unit_there c e.0 _ u is ∙ wages_are w c e.0 u (earned w u.region e.1) is
+  pub worked_is : (u : Unit) (is : get c.units e.0 ≡ Some u) → after_work w c e ≡ wages_paid w c e.0 u (wages_for w u.region e.1) is
+  unfolding after_work
+  worked_is u is = unit_there c e.0 _ u is ∙ wages_are w c e.0 u (wages_for w u.region e.1) is
 
-  pub worked_well : CanWork w c e → LeavesWell IsSteady (work_moves holding_limit) w c (worked w c e)
+  pub worked_well : CanWork w c e → LeavesWell IsSteady (work_moves holding_limit) w c (after_work w c e)
   worked_well can =
       subst (λ d. LeavesWell IsSteady (work_moves holding_limit) w c d) (sym (worked_is can.unit can.there))
-      (wages_leave_well w c e.0 can.unit (earned w can.unit.region e.1) can.there can.fits can.steady)
+      (wages_leave_well w c e.0 can.unit (wages_for w can.unit.region e.1) can.there can.fits can.steady)
 
-  pub worked_others : CanWork w c e → (k : ℕ) → k ≢ e.0 → get (worked w c e).units k ≡ get c.units k
+  pub worked_others : CanWork w c e → (k : ℕ) → k ≢ e.0 → get (after_work w c e).units k ≡ get c.units k
   worked_others can k apart =
       ap (λ (d : CampaignValue). get d.units k) (worked_is can.unit can.there)
-      ∙ wages_leave_others w c e.0 can.unit (earned w can.unit.region e.1) can.there k apart
+      ∙ wages_leave_others w c e.0 can.unit (wages_for w can.unit.region e.1) can.there k apart
 
-  pub worked_no_worse : AreNoWorse c (worked w c e)
-  unfolding worked
+  pub worked_no_worse : AreNoWorse c (after_work w c e)
+  unfolding after_work
   worked_no_worse =
       by_unit c e.0 (AreNoWorse c) _ (are_no_worse c) (λ u is.
-      subst (λ d. AreNoWorse c d) (sym (wages_are w c e.0 u (earned w u.region e.1) is)) (wages_no_worse w c e.0 u (earned w u.region e.1) is))
+      subst (λ d. AreNoWorse c d) (sym (wages_are w c e.0 u (wages_for w u.region e.1) is)) (wages_no_worse w c e.0 u (wages_for w u.region e.1) is))
 
-each_no_worse : (w : WorldValue) (c : CampaignValue) (es : List (ℕ × ℕ)) → AreNoWorse c (fold (worked w) c es)
+each_no_worse : (w : WorldValue) (c : CampaignValue) (es : List (ℕ × ℕ)) → AreNoWorse c (fold (after_work w) c es)
 each_no_worse w c [] = are_no_worse c
-each_no_worse w c (e ∷ es) = are_no_worse_twice c (worked w c e) (fold (worked w) (worked w c e) es) (worked_no_worse w c e) (each_no_worse w (worked w c e) es)
+each_no_worse w c (e ∷ es) = are_no_worse_twice c (after_work w c e) (fold (after_work w) (after_work w c e) es) (worked_no_worse w c e) (each_no_worse w (after_work w c e) es)
 
-pub work_keeps_units : (w : WorldValue) (c : CampaignValue) (os : List Task) → AreNoWorse c (shared_out work_pots w c os)
-unfolding shared_out
+pub work_keeps_units : (w : WorldValue) (c : CampaignValue) (os : List Task) → AreNoWorse c (after_sharing work_pots w c os)
+unfolding after_sharing
 work_keeps_units w c os = each_no_worse w c (entries (given_by work_pots w c os))
 
 -- ---- all steps can be taken
 
 -- a unit is there and has room for the wages of so many places
 abbrev pub HasRoomFor : WorldValue → CampaignValue → ℕ × ℕ → Type 0
-HasRoomFor w c e = (u : Unit) × (get c.units e.0 ≡ Some u) × (u.holding.money + earned w u.region e.1 ≤ holding_limit)
+HasRoomFor w c e = (u : Unit) × (get c.units e.0 ≡ Some u) × (u.holding.money + wages_for w u.region e.1 ≤ holding_limit)
 
 module _ (w : WorldValue) where
-  abbrev step_moves : Moving
+  abbrev step_moves : BookBound
   step_moves = work_moves holding_limit
 
   still : (c d : CampaignValue) (n : ℕ) (es : List (ℕ × ℕ)) → ((k : ℕ) → k ≢ n → get d.units k ≡ get c.units k) → AllByRecursion (λ f. n < f.0) es → AllByRecursion (HasRoomFor w c) es → AllByRecursion (HasRoomFor w d) es
   still c d n [] same above all = tt
   still c d n (f ∷ es) same above ((u, there, fits), all) = ((u, same f.0 (λ e. absurd (omega (arith, e, above.0))) ∙ there, fits), still c d n es same above.1 all)
 
-  pub work_in_turn : (c : CampaignValue) (es : List (ℕ × ℕ)) → Rise es → IsSteady w c → HaveRoom (moved_times (length es) step_moves) c → AllByRecursion (HasRoomFor w c) es → CanInTurn (CanWork w) (worked w) c es
+  pub work_in_turn : (c : CampaignValue) (es : List (ℕ × ℕ)) → Rise es → IsSteady w c → HaveRoom (moved_times (length es) step_moves) c → AllByRecursion (HasRoomFor w c) es → CanInTurn (CanWork w) (after_work w) c es
   work_in_turn c [] rise steady room all = tt
   work_in_turn c (e ∷ es) rise steady room ((u, there, fits), all) =
       let can : CanWork w c e = record { unit = u; there = there; fits = fits; steady = steady; room = first_room step_moves c e es room } in
       let well = worked_well w c e can in
-      (can, work_in_turn (worked w c e) es rise.1 well.leaves_it (later_room step_moves w c (worked w c e) e es well room) (still c (worked w c e) e.0 es (worked_others w c e can) rise.0 all))
+      (can, work_in_turn (after_work w c e) es rise.1 well.leaves_it (later_room step_moves w c (after_work w c e) e es well room) (still c (after_work w c e) e.0 es (worked_others w c e can) rise.0 all))
 
   -- what a unit wants it has room for
-  wanted_fits : (u : Unit) (o : Option Terrain) (places : ℕ) → u.holding.money ≤ holding_limit → places ≤ places_wanted u o → u.holding.money + places * option_map_or (λ (t : Terrain). t.wage) o 0 ≤ holding_limit
+  wanted_fits : (u : Unit) (o : Option Terrain) (places : ℕ) → u.holding.money ≤ holding_limit → places ≤ work_want u o → u.holding.money + places * option_map_or (λ (t : Terrain). t.wage) o 0 ≤ holding_limit
   wanted_fits u None places fits low = omega (arith, fits)
   wanted_fits u (Some t) places fits low =
       let room = holding_limit - u.holding.money in
@@ -185,11 +185,11 @@ module _ (w : WorldValue) where
     little : (e : Entry) (t : Thing) → moved_times (length shares) step_moves e t ≤ work_moves most_moved e t
     little e t = few_holdings (length shares) few Wages Money e t
 
-    pub can_share_out : HaveRoom (work_moves most_moved) c → CanInTurn (CanWork w) (worked w) c shares
+    pub can_share_out : HaveRoom (work_moves most_moved) c → CanInTurn (CanWork w) (after_work w) c shares
     can_share_out room = work_in_turn c shares (entries_rise (given_by work_pots w c os)) steady (room_less (moved_times (length shares) step_moves) (work_moves most_moved) c little room) (all_pairs (HasRoomFor w c) shares (each-from_every (λ n places. HasRoomFor w c (n, places)) (given_by work_pots w c os) each_fits))
 
-    pub work_leaves_well : HaveRoom (work_moves most_moved) c → LeavesWell IsSteady (work_moves most_moved) w c (shared_out work_pots w c os)
-    unfolding shared_out
+    pub work_leaves_well : HaveRoom (work_moves most_moved) c → LeavesWell IsSteady (work_moves most_moved) w c (after_sharing work_pots w c os)
+    unfolding after_sharing
     work_leaves_well room =
-        well_within (moved_times (length shares) step_moves) (work_moves most_moved) w c (fold (worked w) c shares) little
-        (turns_leave_well step_moves w (CanWork w) (worked w) (worked_well w) c shares steady (can_share_out room))
+        well_within (moved_times (length shares) step_moves) (work_moves most_moved) w c (fold (after_work w) c shares) little
+        (turns_leave_well step_moves w (CanWork w) (after_work w) (worked_well w) c shares steady (can_share_out room))

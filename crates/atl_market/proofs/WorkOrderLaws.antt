@@ -20,16 +20,15 @@ use Rattle.atl_state.proofs.BackLaws.{append_apart, append_each, entries_rise, f
 use Rattle.atl_state.proofs.GroupLaws.{filter_apart, filter_each}
 use Rattle.atl_records.proofs.EveryLaws.{each-from_every, get-insert_other, other_number, same_number}
 use Rattle.atl_state.proofs.OrderLaws.{each_so}
-use Rattle.atl_orders.specs.Orders.{verb_of_order}
 use Rattle.atl_instant.specs.Month.{MonthValue}
 use Rattle.atl_instant.specs.PhaseOrders.{Task, is_month_long, key_of, orders_by_unit, task_of}
-use Rattle.atl_instant.specs.declared.written.Arrangement.TheVariants.{ByUnit}
-use Rattle.atl_instant.specs.declared.written.Written.{Written}
+use Rattle.atl_instant.specs.declared.phase_order.Arrangement.TheVariants.{ByUnit}
+use Rattle.atl_instant.specs.declared.phase_order.PhaseOrder.{PhaseOrder}
 use Rattle.atl_instant.proofs.MappedLaws.{no_entries}
 use Rattle.atl_instant.proofs.OrderLaws.{listed_tasks}
-use Rattle.atl_instant.specs.Steps.{is_of_faction}
+use Rattle.atl_instant.specs.OrderEffects.{is_of_faction}
 use Rattle.atl_market.specs.Puts.{with_each}
-use Rattle.atl_market.specs.Idle.{all_found, all_idle, idle_by, own_unit, own_writers}
+use Rattle.atl_market.specs.Idle.{all_idle, all_work, idle_by, own_unit, own_writers}
 use Rattle.atl_market.specs.Unordered.{is_ordered}
 use Rattle.atl_market.specs.Work.{idle_task, idle_work, is_idle, is_work, sorted_by_unit, work_orders, written_work}
 use Rattle.atl_market.proofs.PotLaws.{some_new, still_some}
@@ -157,12 +156,12 @@ module _ (c : CampaignValue) where
         let own : is_of_faction o.faction (get c.units o.unit) ≡ true = ap (is_of_faction o.faction) there ∙ same_faction idle.unit.faction o.faction (sym idle.own ∙ sym faction) in
         false≢true (sym (ap (λ n. is_some (get writers n)) unit ∙ idle.unordered) ∙ listed own))
 
-    work_apart : IsDistinct same_work os → IsDistinct same_work (all_found c os)
+    work_apart : IsDistinct same_work os → IsDistinct same_work (all_work c os)
     work_apart apart =
-        let chosen = filter (λ (o : Task). is_work (verb_of_order o.said)) os in
-        append_apart same_work chosen (all_idle c os) (filter_apart (λ o. is_work (verb_of_order o.said)) same_work os apart) idle_apart
+        let chosen = filter (λ (o : Task). is_work o.order_value.verb) os in
+        append_apart same_work chosen (all_idle c os) (filter_apart (λ o. is_work o.order_value.verb) same_work os apart) idle_apart
         (each_so (IsListed writers) (λ o. AllByRecursion (λ i. same_work o i ≡ false) (all_idle c os)) (λ o listed. each_so IsIdle (λ i. same_work o i ≡ false) (λ i idle. written_idle o i listed idle) (all_idle c os) each_idle) chosen
-        (filter_each (λ o. is_work (verb_of_order o.said)) (IsListed writers) os (own_is_listed empty os)))
+        (filter_each (λ o. is_work o.order_value.verb) (IsListed writers) os (own_is_listed empty os)))
 
 -- ---- who has an order
 
@@ -223,12 +222,12 @@ module _ (c : CampaignValue) (ts : List Task) where
       by_test true = refl
       by_test false = refl
 
-  all_are : all_found c ts ≡ written_work ts ++ idle_work c ts
+  all_are : all_work c ts ≡ written_work ts ++ idle_work c ts
   all_are = ap (λ os. written_work ts ++ os) (idle_are (entries c.units) (each-from_every (λ n u. get c.units n ≡ Some u) c.units (λ n u is. is)))
 
-pub work_sorted : (c : CampaignValue) (m : MonthValue) (os list : List Written) → map task_of os ≡ all_found c (orders_by_unit is_month_long m) → IsPermutation os list → IsSortedByKey (λ o. key_of ByUnit (task_of o)) (slice_cmp nat_cmp) list → map task_of list ≡ work_orders c m
+pub work_sorted : (c : CampaignValue) (m : MonthValue) (os list : List PhaseOrder) → map task_of os ≡ all_work c (orders_by_unit is_month_long m) → IsPermutation os list → IsSortedByKey (λ o. key_of ByUnit (task_of o)) (slice_cmp nat_cmp) list → map task_of list ≡ work_orders c m
 unfolding work_orders
 work_sorted c m os list are moved up =
     let ts = orders_by_unit is_month_long m in
-    listed_tasks (key_of ByUnit) os list (all_found c ts) are (work_apart c ts (long_apart m)) moved up
+    listed_tasks (key_of ByUnit) os list (all_work c ts) are (work_apart c ts (long_apart m)) moved up
     ∙ ap sorted_by_unit (all_are c ts)

@@ -6,11 +6,11 @@ use Rattle.std.specs.FinMap.{FinMap, entries, get}
 use Rattle.atl_tables.specs.Worlds.{WorldValue}
 use Rattle.atl_records.specs.declared.records.Region.{Region}
 use Rattle.atl_records.specs.declared.records.Unit.{Unit}
-use Rattle.atl_records.specs.Held.{amount_of}
+use Rattle.atl_records.specs.Holdings.{amount_of}
 use Rattle.atl_state.specs.Campaign.{CampaignValue}
 use Rattle.atl_instant.specs.PhaseOrders.{Task}
 use Rattle.atl_market.specs.ItemPots.{is_for}
-use Rattle.atl_market.specs.PotPhase.{PotMeaning, given_by, shared_out}
+use Rattle.atl_market.specs.PotPhase.{PotMeaning, after_sharing, given_by}
 
 -- a unit that is there and stands in a region
 abbrev pub stands_in : ℕ → Option Unit → Bool
@@ -21,27 +21,27 @@ abbrev pub given_in : FinMap nat_cmp ℕ → FinMap nat_cmp Unit → (region : �
 given_in given units region = sum (map (λ e. e.1) (filter (λ e. stands_in region (get units e.0)) (entries given)))
 
 -- a unit with a share, and a region without so much
-abbrev pub Gets : Type 0
-Gets = Unit → (share : ℕ) → Unit
+abbrev pub UnitChange : Type 0
+UnitChange = Unit → (share : ℕ) → Unit
 
-abbrev pub Gives : Type 0
-Gives = Region → (given : ℕ) → Region
+abbrev pub RegionChange : Type 0
+RegionChange = Region → (given : ℕ) → Region
 
 -- a unit by what it got, if it got something
-abbrev pub paid_unit : Gets → Unit → Option ℕ → Unit
+abbrev pub paid_unit : UnitChange → Unit → Option ℕ → Unit
 paid_unit gets u share = option_map_or (gets u) share u
 
 -- By `gets` a unit follows from what it was and its share, and by `gives` a region from what it was and all that its units got.
-pub record PaysAtOnce (p : PotMeaning) (w : WorldValue) (gets : ℕ → Gets) (gives : Gives) (c : CampaignValue) (os : List Task) : Type 0 where
+pub record PaysAtOnce (p : PotMeaning) (w : WorldValue) (gets : ℕ → UnitChange) (gives : RegionChange) (c : CampaignValue) (os : List Task) : Type 0 where
   pub units :
       (n : ℕ) (u : Unit) → get c.units n ≡ Some u
-      → get (shared_out p w c os).units n ≡ Some (paid_unit (gets n) u (get (given_by p w c os) n))
+      → get (after_sharing p w c os).units n ≡ Some (paid_unit (gets n) u (get (given_by p w c os) n))
   pub regions :
       (r : ℕ) (q : Region) → get c.regions r ≡ Some q
-      → get (shared_out p w c os).regions r ≡ Some (gives q (given_in (given_by p w c os) c.units r))
+      → get (after_sharing p w c os).regions r ≡ Some (gives q (given_in (given_by p w c os) c.units r))
 
 -- a region that gives nothing that it has
-abbrev pub stays : Gives
+abbrev pub stays : RegionChange
 stays q share = q
 
 -- ---- pots by region and item: each changes what the region has of the item
@@ -59,11 +59,11 @@ pub record HasNewStocks (q : Region) (becomes : (stock given : ℕ) → ℕ) (gi
 
 -- By `gets` a unit follows from what it was and its share, and by `becomes` a region's stock of an item from what it was
 -- and all that those of its units got that ask for the item.
-pub record PaysItemsAtOnce (p : PotMeaning) (w : WorldValue) (item_of : ℕ → Option ℕ) (gets : ℕ → Gets)
+pub record PaysItemsAtOnce (p : PotMeaning) (w : WorldValue) (item_of : ℕ → Option ℕ) (gets : ℕ → UnitChange)
     (becomes : (stock given : ℕ) → ℕ) (c : CampaignValue) (os : List Task) : Type 0 where
   pub units :
       (n : ℕ) (u : Unit) → get c.units n ≡ Some u
-      → get (shared_out p w c os).units n ≡ Some (paid_unit (gets n) u (get (given_by p w c os) n))
+      → get (after_sharing p w c os).units n ≡ Some (paid_unit (gets n) u (get (given_by p w c os) n))
   pub regions :
       (r : ℕ) (q : Region) → get c.regions r ≡ Some q
-      → HasNewStocks q becomes (given_of item_of (given_by p w c os) c.units r) (get (shared_out p w c os).regions r)
+      → HasNewStocks q becomes (given_of item_of (given_by p w c os) c.units r) (get (after_sharing p w c os).regions r)

@@ -1,8 +1,8 @@
--- What units use of items, and what they make; both is booked.
+-- Units use items and make items; both are booked.
 use Rattle.std.specs.Prelude.{◌+◌, ◌-◌, ℕ, pos, neg_ℤ}
 use Rattle.atl_records.specs.declared.books.Entry.TheVariants.{Made, Used}
 use Rattle.atl_records.specs.declared.books.Thing.TheVariants.{Item}
-use Rattle.atl_records.specs.Held.{amount_of}
+use Rattle.atl_records.specs.Holdings.{amount_of}
 use Rattle.atl_state.specs.Campaign.{CampaignValue, with_amount, with_item}
 use Rattle.atl_instant.specs.There.{at_unit}
 

@@ -1,4 +1,4 @@
--- For proofs alone: how the work of units without an order is found.
+-- For proofs alone: how the code finds the units that work without an order.
 use Rattle.std.specs.Prelude.{◌&&◌, ◌++◌, ℕ, List, [], ◌∷◌, is_some, nat_lt, not, if◌then◌else◌}
 use Rattle.std.specs.List.{flat_map}
 use Rattle.std.specs.Ordering.{nat_cmp}
@@ -6,7 +6,7 @@ use Rattle.std.specs.FinMap.{FinMap, empty, entries, get}
 use Rattle.atl_records.specs.declared.records.Unit.{Unit}
 use Rattle.atl_state.specs.Campaign.{CampaignValue}
 use Rattle.atl_instant.specs.PhaseOrders.{Task}
-use Rattle.atl_instant.specs.Steps.{is_of_faction}
+use Rattle.atl_instant.specs.OrderEffects.{is_of_faction}
 use Rattle.atl_market.specs.Puts.{with_each}
 use Rattle.atl_market.specs.Work.{idle_task, written_work}
 
@@ -24,5 +24,5 @@ idle_by writers (n, u) = if nat_lt 0 u.holding.men && not (is_some (get writers 
 abbrev pub all_idle : CampaignValue → List Task → List Task
 all_idle c ts = flat_map (idle_by (own_writers c ts)) (entries c.units)
 
-abbrev pub all_found : CampaignValue → List Task → List Task
-all_found c ts = written_work ts ++ all_idle c ts
+abbrev pub all_work : CampaignValue → List Task → List Task
+all_work c ts = written_work ts ++ all_idle c ts

@@ -1,4 +1,4 @@
--- For proofs alone: how the wants of a region's units are kept by item, and which shares are put.
+-- For proofs alone: the wants of a region's units, grouped by item, and the shares of each group.
 use Rattle.std.specs.Prelude.{ℕ, List, map, Option, Some}
 use Rattle.std.specs.List.{flat_map, fold, zip}
 use Rattle.std.specs.Ordering.{nat_cmp}
@@ -11,13 +11,13 @@ use Rattle.atl_market.specs.Share.{shares}
 abbrev pub Groups : Type 0
 Groups = FinMap nat_cmp (FinMap nat_cmp ℕ)
 
-abbrev pub want_put : Groups → ℕ → Option ℕ → Option ℕ → Groups
-want_put groups number (Some item) (Some want) = insert groups item (insert (group_of groups item) number want)
-want_put groups number item want = groups
+abbrev pub with_item_want : Groups → ℕ → Option ℕ → Option ℕ → Groups
+with_item_want groups number (Some item) (Some want) = insert groups item (insert (group_of groups item) number want)
+with_item_want groups number item want = groups
 
 -- a unit's want beside those of its item
 abbrev pub with_want : (ℕ → Option ℕ) → FinMap nat_cmp ℕ → Groups → ℕ → Groups
-with_want item_of wants groups number = want_put groups number (item_of number) (get wants number)
+with_want item_of wants groups number = with_item_want groups number (item_of number) (get wants number)
 
 -- the units of a group with their shares of what a region has of its item
 abbrev pub item_shares_in : (pot_of : ℕ → ℕ → ℕ) → FinMap nat_cmp ℕ → (region : ℕ) → ℕ × FinMap nat_cmp ℕ → List (ℕ × ℕ)

@@ -1,7 +1,7 @@
 pub mod Share
 pub mod Pots
 pub mod Puts
-pub mod Asked
+pub mod RegionsWithWants
 pub mod ItemPots
 pub mod ItemGroups
 pub mod PotPhase
@@ -16,6 +16,6 @@ pub mod Goods
 pub mod Build
 pub mod Produce
 pub mod Making
-pub mod Paid
+pub mod AfterPots
 pub mod Trade
 pub mod Trading

@@ -10,7 +10,7 @@ use Rattle.atl_records.specs.declared.books.Thing.TheVariants as things
 use Rattle.atl_records.specs.declared.records.Unit.{Unit}
 use Rattle.atl_records.specs.Books.{amount_in}
 use Rattle.atl_state.specs.Good.{IsSteady}
-use Rattle.atl_records.specs.Held.{amount_of}
+use Rattle.atl_records.specs.Holdings.{amount_of}
 use Rattle.atl_records.specs.Limits.{holding_limit}
 use Rattle.atl_state.specs.Campaign.{CampaignValue}
 use Rattle.atl_instant.specs.Meaning.{HasRoom, HaveRoom}

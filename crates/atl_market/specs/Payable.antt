@@ -9,7 +9,7 @@ use Rattle.atl_records.specs.Limits.{holding_limit, men_limit}
 use Rattle.atl_state.specs.Campaign.{CampaignValue}
 use Rattle.atl_instant.specs.Meaning.{HaveRoom}
 use Rattle.atl_market.specs.Recruit.{recruit_moves}
-use Rattle.atl_market.specs.Work.{earned, work_moves}
+use Rattle.atl_market.specs.Work.{wages_for, work_moves}
 
 -- a unit, by its number, is there, and so is its region
 pub record IsSomewhere (c : CampaignValue) (n : ℕ) : Type 0 where
@@ -38,6 +38,6 @@ pub record CanRecruit (w : WorldValue) (c : CampaignValue) (e : ℕ × ℕ) : Ty
 pub record CanWork (w : WorldValue) (c : CampaignValue) (e : ℕ × ℕ) : Type 0 where
   pub unit : Unit
   pub there : get c.units e.0 ≡ Some unit
-  pub fits : unit.holding.money + earned w unit.region e.1 ≤ holding_limit
+  pub fits : unit.holding.money + wages_for w unit.region e.1 ≤ holding_limit
   pub steady : IsSteady w c
   pub room : HaveRoom (work_moves holding_limit) c

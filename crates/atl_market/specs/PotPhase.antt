@@ -7,9 +7,9 @@ use Rattle.std.specs.Result.{is_ok, result_ok}
 use Rattle.std.specs.Ordering.{nat_cmp}
 use Rattle.std.specs.FinMap.{FinMap, entries, from_entries, get}
 use Rattle.atl_tables.specs.Worlds.{WorldValue}
-use Rattle.atl_orders.specs.declared.order.Order.TheVariants as orders
+use Rattle.atl_orders.specs.declared.order.Operands.TheVariants as operands
 use Rattle.atl_orders.specs.declared.verb.Verb.{Verb}
-use Rattle.atl_orders.specs.Orders.{Said}
+use Rattle.atl_orders.specs.Orders.{OperandsValue}
 use Rattle.atl_records.specs.declared.event.Event.{Event}
 use Rattle.atl_records.specs.declared.event.EventFault.{EventFault}
 use Rattle.atl_records.specs.declared.event.EventFault.TheVariants.{NotYours}
@@ -20,23 +20,21 @@ use Rattle.atl_records.specs.Events.{event_fault_number}
 use Rattle.atl_state.specs.Campaign.{CampaignValue}
 use Rattle.atl_instant.specs.Month.{MonthValue, with_events}
 use Rattle.atl_instant.specs.PhaseOrders.{Task, orders_by_unit}
-use Rattle.atl_instant.specs.Steps.{of_faction, told}
+use Rattle.atl_instant.specs.OrderEffects.{event_for, of_faction}
 use Rattle.atl_instant.specs.Meaning.{Meaning}
 
 -- ---- what an order names
 
 -- the item, if it names one
-abbrev pub item_in : Said → Option ℕ
-item_in (orders.Produce i) = Some i
-item_in (orders.Sell n i) = Some i
-item_in (orders.Buy n i) = Some i
+abbrev pub item_in : OperandsValue → Option ℕ
+item_in (operands.Item i) = Some i
+item_in (operands.Goods n i) = Some i
 item_in other = None
 
 -- how many it asks for; 0 where it names no number
-abbrev pub count_in : Said → ℕ
-count_in (orders.Recruit n) = n
-count_in (orders.Sell n i) = n
-count_in (orders.Buy n i) = n
+abbrev pub count_in : OperandsValue → ℕ
+count_in (operands.Number n) = n
+count_in (operands.Goods n i) = n
 count_in other = 0
 
 -- ---- what a phase says of its pots
@@ -47,9 +45,9 @@ pub record PotMeaning : Type 0 where
   -- how much of the pot of its region a unit wants by an order
   pub want : WorldValue → Unit → Task → ℕ
   -- what the units get by the items that their orders name, and by what they want
-  pub given : (items : FinMap nat_cmp ℕ) → WorldValue → CampaignValue → (wants : FinMap nat_cmp ℕ) → FinMap nat_cmp ℕ
+  pub grants : (items : FinMap nat_cmp ℕ) → WorldValue → CampaignValue → (wants : FinMap nat_cmp ℕ) → FinMap nat_cmp ℕ
   -- what the event says of a unit that got so much of the pot
-  pub told : WorldValue → Unit → ℕ → ℕ
+  pub event_number : WorldValue → Unit → ℕ → ℕ
   -- a unit, by its number, gets so much of the pot of its region, or of that of its item there
   pub paid : (items : FinMap nat_cmp ℕ) → WorldValue → CampaignValue → ℕ × ℕ → CampaignValue
 
@@ -73,7 +71,7 @@ module _ (p : PotMeaning) (w : WorldValue) (c : CampaignValue) where
 
   -- the same with the item that the order names, if it names one
   abbrev pub item_by : Task → Option (ℕ × ℕ)
-  item_by t = if is_ok (unit_for t) then option_map (λ item. (t.unit, item)) (item_in t.said) else None
+  item_by t = if is_ok (unit_for t) then option_map (λ item. (t.unit, item)) (item_in t.order_value.operands) else None
 
   -- by unit, what each wants
   abbrev pub wants_by : List Task → FinMap nat_cmp ℕ
@@ -87,22 +85,22 @@ module _ (p : PotMeaning) (w : WorldValue) (c : CampaignValue) where
 
   -- by unit, how much each gets
   abbrev pub given_by : List Task → FinMap nat_cmp ℕ
-  given_by ts = p.given (items_by ts) w c (wants_by ts)
+  given_by ts = p.grants (items_by ts) w c (wants_by ts)
 
   -- the campaign in which each has got it
-  unfoldable pub shared_out : List Task → CampaignValue
-  shared_out ts = fold (p.paid (items_by ts) w) c (entries (given_by ts))
+  unfoldable pub after_sharing : List Task → CampaignValue
+  after_sharing ts = fold (p.paid (items_by ts) w) c (entries (given_by ts))
 
   -- ---- what is reported
 
   -- the fault of an order; or what its event says of its unit, where so much was given
   abbrev pub outcome_of : FinMap nat_cmp ℕ → Task → Result Unit EventFault → Outcome
   outcome_of given t (Err fault) = Fault (event_fault_number fault)
-  outcome_of given t (Ok u) = Done (p.told w u (unwrap_or (get given t.unit) 0))
+  outcome_of given t (Ok u) = Done (p.event_number w u (unwrap_or (get given t.unit) 0))
 
   -- what came of an order, where so much was given
   abbrev pub event_of : FinMap nat_cmp ℕ → Task → Event
-  event_of given t = told t (outcome_of given t (unit_for t))
+  event_of given t = event_for t (outcome_of given t (unit_for t))
 
   -- an event for each order, in the order of the orders
   unfoldable pub events_by : List Task → List Event
@@ -110,7 +108,7 @@ module _ (p : PotMeaning) (w : WorldValue) (c : CampaignValue) where
 
 -- what a phase makes of a campaign and of what the month carries, with the orders that it finds
 abbrev pub pots_meaning : PotMeaning → (CampaignValue → MonthValue → List Task) → Meaning
-pots_meaning p orders w c m = (shared_out p w c (orders c m), with_events m (events_by p w c (orders c m)))
+pots_meaning p orders w c m = (after_sharing p w c (orders c m), with_events m (events_by p w c (orders c m)))
 
 -- with the orders of its verbs
 abbrev pub pots_by_orders : PotMeaning → (Verb → Bool) → Meaning

@@ -1,4 +1,4 @@
--- What units get of the pots of their regions.
+-- What each unit gets of the pot of its region. See docs/RULES.md, "Pots".
 use Rattle.std.specs.Prelude.{◌≡◌, ◌≤◌, ℕ, List, map, filter, sum, min, is_some, unwrap_or, Option, Some}
 use Rattle.std.specs.List.{flat_map, zip}
 use Rattle.std.specs.Ordering.{nat_cmp}

@@ -13,13 +13,13 @@ use Rattle.atl_records.specs.declared.books.Entry.TheVariants.{Made, Used}
 use Rattle.atl_records.specs.declared.books.Thing.TheVariants as things
 use Rattle.atl_records.specs.declared.event.EventFault.{EventFault}
 use Rattle.atl_records.specs.declared.event.EventFault.TheVariants.{NoMaterial, NoMen, NoSkill}
-use Rattle.atl_records.specs.Held.{Held, amount_of}
+use Rattle.atl_records.specs.Holdings.{HoldingValue, amount_of}
 use Rattle.atl_records.specs.Levels.{level_in_any}
 use Rattle.atl_records.specs.Limits.{holding_limit}
 use Rattle.atl_state.specs.Campaign.{CampaignValue}
-use Rattle.atl_instant.specs.Meaning.{Keeping, Meaning, Moving, most_moved}
+use Rattle.atl_instant.specs.Meaning.{BookBound, Frame, Meaning, most_moved}
 use Rattle.atl_instant.specs.Outcomes.{first_fault}
-use Rattle.atl_instant.specs.Terms.{PhaseTerms}
+use Rattle.atl_instant.specs.PhaseSpecs.{PhaseSpec}
 use Rattle.atl_market.specs.Goods.{with_made, with_used}
 use Rattle.atl_market.specs.ItemPots.{item_share}
 use Rattle.atl_market.specs.PotPhase.{PotMeaning, item_in, pots_by_orders}
@@ -36,23 +36,23 @@ item_of w asked = option_and_then (slice_get w.items) asked
 -- ---- how much a unit can make
 
 -- no more than so many, nor than the raw items that it holds are enough for, if the item is made of any
-abbrev pub up_to_raw : Held → (count : ℕ) → (raw : Option ℕ) → (most : ℕ) → ℕ
+abbrev pub up_to_raw : HoldingValue → (count : ℕ) → (raw : Option ℕ) → (most : ℕ) → ℕ
 up_to_raw h count raw most = option_map_or (λ r. min (amount_of h.items r / count) most) raw most
 
 -- as much as its men can, as it has room for, and as its raw items are enough for
-abbrev pub can_make_of : Held → (item : ℕ) → Item → ℕ
+abbrev pub can_make_of : HoldingValue → (item : ℕ) → Item → ℕ
 can_make_of h i x =
     up_to_raw h x.raw_count x.raw (min (h.men * level_in_any h x.skill) (holding_limit - amount_of h.items i))
 
 -- of what it is told to make; 0 of what is no item of the world
-abbrev pub can_make : WorldValue → Held → Option ℕ → ℕ
+abbrev pub can_make : WorldValue → HoldingValue → Option ℕ → ℕ
 can_make w h asked = option_map_or (λ i. option_map_or (can_make_of h i) (slice_get w.items i) 0) asked 0
 
 -- ---- what the terrains give
 
 -- the item that a unit makes out of what its region gives: the one that it is told to make, if no raw item goes into it
-abbrev pub gathered : WorldValue → FinMap nat_cmp ℕ → ℕ → Option ℕ
-gathered w asked n = option_and_then (λ x. if is_some x.raw then None else get asked n) (item_of w (get asked n))
+abbrev pub output_item : WorldValue → FinMap nat_cmp ℕ → ℕ → Option ℕ
+output_item w asked n = option_and_then (λ x. if is_some x.raw then None else get asked n) (item_of w (get asked n))
 
 -- how much of an item a region's terrain gives
 abbrev pub output_at : WorldValue → (item region : ℕ) → ℕ
@@ -60,7 +60,7 @@ output_at w i region = option_map_or (λ t. unwrap_or (slice_get t.output i) 0) 
 
 -- what a unit gets, by its number, of what its region gives of the item that it makes so
 abbrev pub output_share : WorldValue → FinMap nat_cmp ℕ → CampaignValue → FinMap nat_cmp ℕ → ℕ → Option ℕ
-output_share w asked c wants n = item_share (gathered w asked) (output_at w) wants c n
+output_share w asked c wants n = item_share (output_item w asked) (output_at w) wants c n
 
 -- ---- who makes how much
 
@@ -68,11 +68,11 @@ output_share w asked c wants n = item_share (gathered w asked) (output_at w) wan
 -- what it wants
 abbrev pub made_by : WorldValue → FinMap nat_cmp ℕ → CampaignValue → FinMap nat_cmp ℕ → ℕ × ℕ → ℕ
 made_by w asked c wants (n, want) =
-    if is_some (gathered w asked n) then unwrap_or (output_share w asked c wants n) 0 else want
+    if is_some (output_item w asked n) then unwrap_or (output_share w asked c wants n) 0 else want
 
 -- by unit, how much each makes that wants to
-abbrev pub makes : FinMap nat_cmp ℕ → WorldValue → CampaignValue → FinMap nat_cmp ℕ → FinMap nat_cmp ℕ
-makes asked w c wants = from_entries (map (λ e. (e.0, made_by w asked c wants e)) (entries wants))
+abbrev pub made_amounts : FinMap nat_cmp ℕ → WorldValue → CampaignValue → FinMap nat_cmp ℕ → FinMap nat_cmp ℕ
+made_amounts asked w c wants = from_entries (map (λ e. (e.0, made_by w asked c wants e)) (entries wants))
 
 -- ---- what changes
 
@@ -85,22 +85,22 @@ abbrev pub with_item_made : CampaignValue → ℕ → (made item : ℕ) → Item
 with_item_made c n made i x = with_made (with_raw_used c n (made * x.raw_count) x.raw) n i made
 
 -- a unit, by its number, makes so many of the item that it is told to make
-unfoldable pub produced : FinMap nat_cmp ℕ → WorldValue → CampaignValue → ℕ × ℕ → CampaignValue
-produced asked w c (n, made) =
+unfoldable pub after_production : FinMap nat_cmp ℕ → WorldValue → CampaignValue → ℕ × ℕ → CampaignValue
+after_production asked w c (n, made) =
     option_map_or (λ i. option_map_or (with_item_made c n made i) (slice_get w.items i) c) (get asked n) c
 
 -- ---- the faults
 
 -- no skill makes the item, or the unit's level is too low
-abbrev pub is_unskilled : Held → Item → Bool
+abbrev pub is_unskilled : HoldingValue → Item → Bool
 is_unskilled h x = if is_some x.skill then nat_lt (level_in_any h x.skill) x.level else true
 
 -- the raw items that it holds are enough for none
-abbrev pub lacks_raw : Held → (count : ℕ) → (raw : Option ℕ) → Bool
+abbrev pub lacks_raw : HoldingValue → (count : ℕ) → (raw : Option ℕ) → Bool
 lacks_raw h count raw = option_map_or (λ r. amount_of h.items r / count == 0) raw false
 
 -- Why a unit doesn't make an item. A thing that is none of the world's items, no skill makes.
-abbrev pub make_fault : Held → Option Item → Option EventFault
+abbrev pub make_fault : HoldingValue → Option Item → Option EventFault
 make_fault h None = first_fault ((h.men == 0, NoMen) ∷ (true, NoSkill) ∷ [])
 make_fault h (Some x) =
     first_fault ((h.men == 0, NoMen) ∷ (is_unskilled h x, NoSkill) ∷ (lacks_raw h x.raw_count x.raw, NoMaterial) ∷ [])
@@ -110,28 +110,28 @@ make_fault h (Some x) =
 -- By the item that each order names. The event says how many were made.
 abbrev pub produce_pots : PotMeaning
 produce_pots = record {
-  fault = λ w u t. make_fault u.holding (item_of w (item_in t.said));
-  want = λ w u t. can_make w u.holding (item_in t.said);
-  given = makes;
-  told = λ w u made. made;
-  paid = produced;
+  fault = λ w u t. make_fault u.holding (item_of w (item_in t.order_value.operands));
+  want = λ w u t. can_make w u.holding (item_in t.order_value.operands);
+  grants = made_amounts;
+  event_number = λ w u made. made;
+  paid = after_production;
 }
 
 abbrev pub produce_meaning : Meaning
 produce_meaning = pots_by_orders produce_pots is_produce
 
 -- what is made and what is used is of items
-abbrev pub produce_moves : ℕ → Moving
+abbrev pub produce_moves : ℕ → BookBound
 produce_moves most Made (things.Item i) = most
 produce_moves most Used (things.Item i) = most
 produce_moves most e t = 0
 
 -- producing takes nothing from a unit whose own faction wrote no order of it
-abbrev pub produce_keeps : Keeping
+abbrev pub produce_keeps : Frame
 produce_keeps = spares_unordered is_produce
 
-abbrev pub produce_terms : PhaseTerms
-produce_terms = record {
+abbrev pub produce_spec : PhaseSpec
+produce_spec = record {
   meaning = produce_meaning;
   moving = produce_moves most_moved;
   moved = record { money = []; people = []; items = Made ∷ Used ∷ [] };

@@ -1,4 +1,4 @@
--- For proofs alone: a map with entries put into it in turn.
+-- For proofs alone: a map into which entries are put, one after another.
 use Rattle.std.specs.Prelude.{ℕ, List, Option}
 use Rattle.std.specs.List.{fold}
 use Rattle.std.specs.Option.{option_map_or}

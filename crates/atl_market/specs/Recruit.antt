@@ -10,17 +10,17 @@ use Rattle.atl_records.specs.declared.books.Thing.TheVariants.{Money}
 use Rattle.atl_records.specs.declared.event.EventFault.{EventFault}
 use Rattle.atl_records.specs.declared.event.EventFault.TheVariants.{NotEnough}
 use Rattle.atl_records.specs.declared.records.Unit.{Unit}
-use Rattle.atl_records.specs.Held.{Held}
+use Rattle.atl_records.specs.Holdings.{HoldingValue}
 use Rattle.atl_state.specs.Lending.{with_holding}
 use Rattle.atl_records.specs.Limits.{men_limit}
 use Rattle.atl_state.specs.Campaign.{CampaignValue, with_amount, with_peasants}
-use Rattle.atl_instant.specs.Meaning.{Keeping, Meaning, Moving, moves_only}
+use Rattle.atl_instant.specs.Meaning.{BookBound, Frame, Meaning, moves_only}
 use Rattle.atl_instant.specs.Outcomes.{first_fault}
 use Rattle.atl_instant.specs.There.{at_region, at_unit}
 use Rattle.atl_market.specs.Pots.{pot_shares}
 use Rattle.atl_market.specs.PotPhase.{PotMeaning, count_in, pots_by_orders}
 use Rattle.atl_market.specs.Unordered.{spares_unordered}
-use Rattle.atl_instant.specs.Terms.{PhaseTerms, books_money}
+use Rattle.atl_instant.specs.PhaseSpecs.{PhaseSpec, books_money}
 
 abbrev pub is_recruit : Verb → Bool
 is_recruit verbs.Recruit = true
@@ -31,20 +31,20 @@ abbrev pub recruit_fault : WorldValue → Unit → Option EventFault
 recruit_fault w u = first_fault ((nat_lt u.holding.money w.rules.recruit_price, NotEnough) ∷ [])
 
 -- as many as it asks for, as it can pay for, and as it has room for
-abbrev pub recruits_wanted : WorldValue → Unit → ℕ → ℕ
-recruits_wanted w u asked = min asked (min (u.holding.money / w.rules.recruit_price) (men_limit - u.holding.men))
+abbrev pub recruit_want : WorldValue → Unit → ℕ → ℕ
+recruit_want w u asked = min asked (min (u.holding.money / w.rules.recruit_price) (men_limit - u.holding.men))
 
 -- so many of a region's peasants can be recruited
 abbrev pub recruits_at : WorldValue → CampaignValue → ℕ → ℕ
 recruits_at w c region = option_map_or (λ q. q.peasants / w.rules.recruit_fraction) (get c.regions region) 0
 
 -- what a unit holds with so many recruits, who have studied nothing
-abbrev pub with_men : Held → (recruits cost : ℕ) → Held
+abbrev pub with_men : HoldingValue → (recruits cost : ℕ) → HoldingValue
 with_men h recruits cost = record h { men = h.men + recruits; money = h.money - cost }
 
 -- so many peasants of its region join a unit, by its number, which pays for them; that is booked
-unfoldable pub recruited : WorldValue → CampaignValue → ℕ × ℕ → CampaignValue
-recruited w c (n, recruits) =
+unfoldable pub after_recruiting : WorldValue → CampaignValue → ℕ × ℕ → CampaignValue
+after_recruiting w c (n, recruits) =
     let cost = recruits * w.rules.recruit_price in
     at_unit c n (λ u.
     at_region c u.region (λ q.
@@ -55,22 +55,22 @@ recruited w c (n, recruits) =
 abbrev pub recruit_pots : PotMeaning
 recruit_pots = record {
   fault = λ w u t. recruit_fault w u;
-  want = λ w u t. recruits_wanted w u (count_in t.said);
-  given = λ items w c wants. pot_shares (recruits_at w c) wants c;
-  told = λ w u recruits. recruits;
-  paid = λ items. recruited;
+  want = λ w u t. recruit_want w u (count_in t.order_value.operands);
+  grants = λ items w c wants. pot_shares (recruits_at w c) wants c;
+  event_number = λ w u recruits. recruits;
+  paid = λ items. after_recruiting;
 }
 
 abbrev pub recruit_meaning : Meaning
 recruit_meaning = pots_by_orders recruit_pots is_recruit
 
 -- what is paid for recruits is of money
-abbrev pub recruit_moves : ℕ → Moving
+abbrev pub recruit_moves : ℕ → BookBound
 recruit_moves most = moves_only most Recruiting Money
 
 -- recruiting takes nothing from a unit whose own faction wrote no order of it
-abbrev pub recruit_keeps : Keeping
+abbrev pub recruit_keeps : Frame
 recruit_keeps = spares_unordered is_recruit
 
-abbrev pub recruit_terms : PhaseTerms
-recruit_terms = books_money Recruiting recruit_meaning recruit_keeps
+abbrev pub recruit_spec : PhaseSpec
+recruit_spec = books_money Recruiting recruit_meaning recruit_keeps

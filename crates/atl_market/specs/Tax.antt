@@ -11,12 +11,12 @@ use Rattle.atl_records.specs.declared.records.Unit.{Unit}
 use Rattle.atl_records.specs.Limits.{holding_limit}
 use Rattle.atl_state.specs.Campaign.{CampaignValue, with_money, with_region_money}
 use Rattle.atl_instant.specs.Meaning.{Meaning}
-use Rattle.atl_instant.specs.Staying.{spares_all}
+use Rattle.atl_instant.specs.NoWorse.{spares_all}
 use Rattle.atl_instant.specs.Outcomes.{first_fault}
 use Rattle.atl_instant.specs.There.{at_region, at_unit}
 use Rattle.atl_market.specs.Pots.{pot_shares}
 use Rattle.atl_market.specs.PotPhase.{PotMeaning, pots_by_orders}
-use Rattle.atl_instant.specs.Terms.{PhaseTerms, books_none}
+use Rattle.atl_instant.specs.PhaseSpecs.{PhaseSpec, books_none}
 
 abbrev pub is_tax : Verb → Bool
 is_tax verbs.Tax = true
@@ -27,16 +27,16 @@ abbrev pub tax_fault : Unit → Option EventFault
 tax_fault u = first_fault ((u.holding.men == 0, NoMen) ∷ (not u.holding.guard, NotGuarding) ∷ [])
 
 -- as much as its men take, as far as it has room for it
-abbrev pub tax_wanted : WorldValue → Unit → ℕ
-tax_wanted w u = min (u.holding.men * w.rules.tax_per_man) (holding_limit - u.holding.money)
+abbrev pub tax_want : WorldValue → Unit → ℕ
+tax_want w u = min (u.holding.men * w.rules.tax_per_man) (holding_limit - u.holding.money)
 
 -- the money of a region
 abbrev pub money_at : CampaignValue → ℕ → ℕ
 money_at c region = option_map_or (λ q. q.money) (get c.regions region) 0
 
 -- a unit, by its number, takes so much of its region's money
-unfoldable pub taxed : CampaignValue → ℕ × ℕ → CampaignValue
-taxed c (n, share) =
+unfoldable pub after_tax : CampaignValue → ℕ × ℕ → CampaignValue
+after_tax c (n, share) =
     at_unit c n (λ u.
     at_region c u.region (λ q.
     with_region_money (with_money c n (u.holding.money + share)) u.region (q.money - share)))
@@ -45,15 +45,15 @@ taxed c (n, share) =
 abbrev pub tax_pots : PotMeaning
 tax_pots = record {
   fault = λ w u t. tax_fault u;
-  want = λ w u t. tax_wanted w u;
-  given = λ items w c wants. pot_shares (money_at c) wants c;
-  told = λ w u share. share;
-  paid = λ items w c e. taxed c e;
+  want = λ w u t. tax_want w u;
+  grants = λ items w c wants. pot_shares (money_at c) wants c;
+  event_number = λ w u share. share;
+  paid = λ items w c e. after_tax c e;
 }
 
 abbrev pub tax_meaning : Meaning
 tax_meaning = pots_by_orders tax_pots is_tax
 
 -- what a region's people pay was theirs: no entry of the books changes
-abbrev pub tax_terms : PhaseTerms
-tax_terms = books_none tax_meaning spares_all
+abbrev pub tax_spec : PhaseSpec
+tax_spec = books_none tax_meaning spares_all

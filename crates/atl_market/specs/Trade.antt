@@ -14,16 +14,16 @@ use Rattle.atl_records.specs.declared.books.Thing.TheVariants.{Money}
 use Rattle.atl_records.specs.declared.event.EventFault.{EventFault}
 use Rattle.atl_records.specs.declared.event.EventFault.TheVariants.{NoMarket, NotEnough}
 use Rattle.atl_records.specs.declared.records.Unit.{Unit}
-use Rattle.atl_records.specs.Held.{Held, amount_of, with_amount_of}
+use Rattle.atl_records.specs.Holdings.{HoldingValue, amount_of, with_amount_of}
 use Rattle.atl_state.specs.Lending.{with_holding}
 use Rattle.atl_records.specs.Limits.{holding_limit}
 use Rattle.atl_state.specs.Stocks.{stock_of}
 use Rattle.atl_state.specs.Campaign.{CampaignValue, with_amount, with_stock}
-use Rattle.atl_instant.specs.Meaning.{Keeping, Meaning, Moving, moves_only}
+use Rattle.atl_instant.specs.Meaning.{BookBound, Frame, Meaning, moves_only}
 use Rattle.atl_instant.specs.Outcomes.{first_fault}
 use Rattle.atl_instant.specs.There.{at_unit}
-use Rattle.atl_instant.specs.Terms.{PhaseTerms, books_money}
-use Rattle.atl_market.specs.declared.trade.Deal.{Deal}
+use Rattle.atl_instant.specs.PhaseSpecs.{PhaseSpec, books_money}
+use Rattle.atl_market.specs.declared.trade.TradeResult.{TradeResult}
 use Rattle.atl_market.specs.declared.trade.Trade.{Trade}
 use Rattle.atl_market.specs.declared.trade.Trade.TheVariants.{Sell, Buy}
 use Rattle.atl_market.specs.ItemPots.{item_shares}
@@ -47,23 +47,23 @@ market_for w u item = option_and_then (market_of w u.region) item
 -- ---- who trades
 
 -- none of the item to sell, or too little money to buy one
-abbrev pub has_too_little : Trade → Held → Market → Bool
+abbrev pub has_too_little : Trade → HoldingValue → Market → Bool
 has_too_little Sell h m = amount_of h.items m.item == 0
 has_too_little Buy h m = nat_lt h.money m.price
 
 -- why a unit doesn't trade
-abbrev pub trade_fault : Trade → Held → Option Market → Option EventFault
+abbrev pub trade_fault : Trade → HoldingValue → Option Market → Option EventFault
 trade_fault trade h None = Some NoMarket
 trade_fault trade h (Some m) = first_fault ((has_too_little trade h m, NotEnough) ∷ [])
 
 -- SELL: as many as it has, and as it has room for the money of. BUY: as many as it can pay for, and as it has room for.
-abbrev pub most_traded : Trade → Held → Market → ℕ
-most_traded Sell h m = min (amount_of h.items m.item) ((holding_limit - h.money) / m.pays)
-most_traded Buy h m = min (h.money / m.price) (holding_limit - amount_of h.items m.item)
+abbrev pub most_tradable : Trade → HoldingValue → Market → ℕ
+most_tradable Sell h m = min (amount_of h.items m.item) ((holding_limit - h.money) / m.pays)
+most_tradable Buy h m = min (h.money / m.price) (holding_limit - amount_of h.items m.item)
 
 -- how many of them a unit wants to trade that is told to trade so many
-abbrev pub trade_wanted : Trade → Held → (told : ℕ) → Option Market → ℕ
-trade_wanted trade h told market = option_map_or (λ m. min told (most_traded trade h m)) market 0
+abbrev pub trade_want : Trade → HoldingValue → (told : ℕ) → Option Market → ℕ
+trade_want trade h told market = option_map_or (λ m. min told (most_tradable trade h m)) market 0
 
 -- ---- the pots
 
@@ -83,14 +83,14 @@ trade_pot trade w c item region = pot_by trade (limit_of w item region) (stock_o
 -- ---- what changes
 
 -- what a trade of so many leaves of a unit's money, of how much it has of the item, and of the stock, and what is booked
-abbrev pub deal_of : Trade → Held → (stock share : ℕ) → Market → Deal
-deal_of Sell h stock share m = record {
+abbrev pub trade_result_of : Trade → HoldingValue → (stock share : ℕ) → Market → TradeResult
+trade_result_of Sell h stock share m = record {
   money = h.money + share * m.pays;
   amount = amount_of h.items m.item - share;
   stock = stock + share;
   booked = pos (share * m.pays);
 }
-deal_of Buy h stock share m = record {
+trade_result_of Buy h stock share m = record {
   money = h.money - share * m.price;
   amount = amount_of h.items m.item + share;
   stock = stock - share;
@@ -103,21 +103,21 @@ trade_entry Sell = Sold
 trade_entry Buy = Bought
 
 -- what a unit holds as a deal leaves it
-abbrev pub with_deal : Held → (item : ℕ) → Deal → Held
-with_deal h item d = record h { money = d.money; items = with_amount_of h.items item d.amount }
+abbrev pub with_trade_result : HoldingValue → (item : ℕ) → TradeResult → HoldingValue
+with_trade_result h item d = record h { money = d.money; items = with_amount_of h.items item d.amount }
 
 -- a unit, the stock of its region, and the books as a deal leaves them
-abbrev pub dealt : CampaignValue → ℕ → Unit → (item : ℕ) → Entry → Deal → CampaignValue
-dealt c n u item entry d =
-    let paid = with_holding c n (with_deal u.holding item d) in
+abbrev pub with_result : CampaignValue → ℕ → Unit → (item : ℕ) → Entry → TradeResult → CampaignValue
+with_result c n u item entry d =
+    let paid = with_holding c n (with_trade_result u.holding item d) in
     with_amount (with_stock paid u.region item d.stock) entry Money d.booked
 
 -- a unit, by its number, trades so many of its item, where its region has a market for that
-unfoldable pub traded : Trade → FinMap nat_cmp ℕ → WorldValue → CampaignValue → ℕ × ℕ → CampaignValue
-traded trade items w c (n, share) =
+unfoldable pub after_trade : Trade → FinMap nat_cmp ℕ → WorldValue → CampaignValue → ℕ × ℕ → CampaignValue
+after_trade trade items w c (n, share) =
     at_unit c n (λ u.
     option_map_or
-    (λ m. dealt c n u m.item (trade_entry trade) (deal_of trade u.holding (stock_of c u.region m.item) share m))
+    (λ m. with_result c n u m.item (trade_entry trade) (trade_result_of trade u.holding (stock_of c u.region m.item) share m))
     (market_for w u (get items n)) c)
 
 -- ---- the phases
@@ -125,25 +125,25 @@ traded trade items w c (n, share) =
 -- By the item that each order names, and by how many it asks for. The event says how many were traded.
 abbrev pub trade_pots : Trade → PotMeaning
 trade_pots trade = record {
-  fault = λ w u t. trade_fault trade u.holding (market_for w u (item_in t.said));
-  want = λ w u t. trade_wanted trade u.holding (count_in t.said) (market_for w u (item_in t.said));
-  given = λ items w c wants. item_shares (get items) (trade_pot trade w c) wants c;
-  told = λ w u share. share;
-  paid = traded trade;
+  fault = λ w u t. trade_fault trade u.holding (market_for w u (item_in t.order_value.operands));
+  want = λ w u t. trade_want trade u.holding (count_in t.order_value.operands) (market_for w u (item_in t.order_value.operands));
+  grants = λ items w c wants. item_shares (get items) (trade_pot trade w c) wants c;
+  event_number = λ w u share. share;
+  paid = after_trade trade;
 }
 
 abbrev pub trade_meaning : Trade → Meaning
 trade_meaning trade = pots_by_orders (trade_pots trade) (is_trade trade)
 
-abbrev pub trade_moves : Trade → ℕ → Moving
+abbrev pub trade_moves : Trade → ℕ → BookBound
 trade_moves trade most = moves_only most (trade_entry trade) Money
 
 -- trading takes nothing from a unit whose own faction wrote no order of it
-abbrev pub trade_keeps : Trade → Keeping
+abbrev pub trade_keeps : Trade → Frame
 trade_keeps trade = spares_unordered (is_trade trade)
 
-abbrev pub sell_terms : PhaseTerms
-sell_terms = books_money Sold (trade_meaning Sell) (trade_keeps Sell)
+abbrev pub sell_spec : PhaseSpec
+sell_spec = books_money Sold (trade_meaning Sell) (trade_keeps Sell)
 
-abbrev pub buy_terms : PhaseTerms
-buy_terms = books_money Bought (trade_meaning Buy) (trade_keeps Buy)
+abbrev pub buy_spec : PhaseSpec
+buy_spec = books_money Bought (trade_meaning Buy) (trade_keeps Buy)

@@ -10,21 +10,21 @@ use Rattle.atl_records.specs.declared.books.Thing.TheVariants.{Money}
 use Rattle.atl_records.specs.declared.records.Unit.{Unit}
 use Rattle.atl_records.specs.Books.{IsGrid, IsWithin, amount_in}
 use Rattle.atl_state.specs.Good.{IsEarly}
-use Rattle.atl_records.specs.Held.{Held, amount_of}
+use Rattle.atl_records.specs.Holdings.{HoldingValue, amount_of}
 use Rattle.atl_records.specs.Limits.{holding_limit}
 use Rattle.atl_state.specs.Campaign.{CampaignValue}
 use Rattle.atl_instant.specs.Meaning.{HaveRoom, HasRoom}
-use Rattle.atl_market.specs.declared.trade.Deal.{Deal}
+use Rattle.atl_market.specs.declared.trade.TradeResult.{TradeResult}
 use Rattle.atl_market.specs.declared.trade.Trade.{Trade}
 use Rattle.atl_market.specs.declared.trade.Trade.TheVariants.{Sell, Buy}
 use Rattle.atl_market.specs.Payable.{IsSomewhere}
 use Rattle.atl_market.specs.Trade.{market_for, trade_moves}
 
 -- a unit has so many of the item to sell and room for their money, or can pay for them and has room for them
-abbrev pub CanDeal : Trade → Held → (share : ℕ) → Option Market → Type 0
-CanDeal trade h share None = share ≡ 0
-CanDeal Sell h share (Some m) = (share ≤ amount_of h.items m.item) × (h.money + share * m.pays ≤ holding_limit)
-CanDeal Buy h share (Some m) = (share * m.price ≤ h.money) × (amount_of h.items m.item + share ≤ holding_limit)
+abbrev pub CanAfford : Trade → HoldingValue → (share : ℕ) → Option Market → Type 0
+CanAfford trade h share None = share ≡ 0
+CanAfford Sell h share (Some m) = (share ≤ amount_of h.items m.item) × (h.money + share * m.pays ≤ holding_limit)
+CanAfford Buy h share (Some m) = (share * m.price ≤ h.money) × (amount_of h.items m.item + share ≤ holding_limit)
 
 -- the market takes them, or has them
 abbrev pub HasPot : Trade → (stock share : ℕ) → Option Market → Type 0
@@ -41,14 +41,14 @@ pub record IsPriced (m : Market) : Type 0 where
 -- a unit, by its number, can trade so many of its item
 pub record CanTrade (trade : Trade) (items : FinMap nat_cmp ℕ) (w : WorldValue) (c : CampaignValue) (e : ℕ × ℕ) : Type 0 where
   pub at : IsSomewhere c e.0
-  pub deal : CanDeal trade at.unit.holding e.1 (market_for w at.unit (get items e.0))
+  pub deal : CanAfford trade at.unit.holding e.1 (market_for w at.unit (get items e.0))
   pub pot : (m : Market) → market_for w at.unit (get items e.0) ≡ Some m → HasPot trade (amount_of at.region.stocks m.item) e.1 (Some m)
   pub world : IsWorld w
   pub early : IsEarly w c
   pub room : HaveRoom (trade_moves trade holding_limit) c
 
 -- a deal is within the limits of a unit, and can be booked
-pub record CanSettle (c : CampaignValue) (n : ℕ) (entry : Entry) (d : Deal) : Type 0 where
+pub record CanBookTrade (c : CampaignValue) (n : ℕ) (entry : Entry) (d : TradeResult) : Type 0 where
   pub unit : Unit
   pub there : get c.units n ≡ Some unit
   pub money : d.money ≤ holding_limit

@@ -1,4 +1,4 @@
--- The units for which their own faction wrote no order.
+-- Units without an order of their own faction in a phase, and what the phase leaves them.
 use Rattle.std.specs.Prelude.{◌≡◌, ◌==◌, ◌&&◌, ℕ, Bool, false, List, Some}
 use Rattle.std.specs.List.{list_any}
 use Rattle.std.specs.FinMap.{get}
@@ -6,9 +6,9 @@ use Rattle.atl_records.specs.declared.records.Unit.{Unit}
 use Rattle.atl_records.specs.Every.{Every}
 use Rattle.atl_state.specs.Campaign.{CampaignValue}
 use Rattle.atl_orders.specs.declared.verb.Verb.{Verb}
-use Rattle.atl_instant.specs.Meaning.{Keeping}
+use Rattle.atl_instant.specs.Meaning.{Frame}
 use Rattle.atl_instant.specs.PhaseOrders.{Task, orders_by_unit}
-use Rattle.atl_instant.specs.Staying.{IsNoWorse}
+use Rattle.atl_instant.specs.NoWorse.{IsNoWorse}
 
 -- whether a unit, by its number, has an order of its own faction
 abbrev pub is_ordered : List Task → ℕ → Unit → Bool
@@ -19,5 +19,5 @@ abbrev pub OthersAreNoWorse : List Task → CampaignValue → CampaignValue → 
 OthersAreNoWorse os before after = Every (λ n u. is_ordered os n u ≡ false → (v : Unit) × (get after.units n ≡ Some v) × IsNoWorse u v) before.units
 
 -- a phase that takes nothing from a unit for which its own faction wrote no order of it
-abbrev pub spares_unordered : (Verb → Bool) → Keeping
+abbrev pub spares_unordered : (Verb → Bool) → Frame
 spares_unordered is_of w m before after = OthersAreNoWorse (orders_by_unit is_of m) before after

@@ -7,10 +7,10 @@ use Rattle.std.specs.FinMap.{entries, from_entries, values}
 use Rattle.atl_tables.specs.Worlds.{WorldValue}
 use Rattle.atl_tables.specs.declared.world.Terrain.{Terrain}
 use Rattle.atl_tables.specs.ByNumber.{terrain_of}
-use Rattle.atl_orders.specs.declared.order.Order.TheVariants as orders
+use Rattle.atl_orders.specs.declared.order.Operands.TheVariants.{Nothing}
 use Rattle.atl_orders.specs.declared.verb.Verb.{Verb}
 use Rattle.atl_orders.specs.declared.verb.Verb.TheVariants as verbs
-use Rattle.atl_orders.specs.Orders.{verb_of_order}
+use Rattle.atl_orders.specs.Orders.{order_of}
 use Rattle.atl_records.specs.declared.books.Entry.TheVariants.{Wages}
 use Rattle.atl_records.specs.declared.books.Thing.TheVariants.{Money}
 use Rattle.atl_records.specs.declared.event.EventFault.{EventFault}
@@ -19,22 +19,22 @@ use Rattle.atl_records.specs.declared.records.Unit.{Unit}
 use Rattle.atl_records.specs.Limits.{holding_limit}
 use Rattle.atl_state.specs.Campaign.{CampaignValue, with_amount, with_money}
 use Rattle.atl_instant.specs.Month.{MonthValue}
-use Rattle.atl_instant.specs.Meaning.{Meaning, Moving, moves_only}
+use Rattle.atl_instant.specs.Meaning.{BookBound, Meaning, moves_only}
 use Rattle.atl_instant.specs.PhaseOrders.{Task, is_month_long, key_of, orders_by_unit}
-use Rattle.atl_instant.specs.Staying.{spares_all}
-use Rattle.atl_instant.specs.declared.written.Arrangement.TheVariants.{ByUnit}
+use Rattle.atl_instant.specs.NoWorse.{spares_all}
+use Rattle.atl_instant.specs.declared.phase_order.Arrangement.TheVariants.{ByUnit}
 use Rattle.atl_instant.specs.Outcomes.{first_fault}
 use Rattle.atl_instant.specs.There.{at_unit}
 use Rattle.atl_market.specs.Unordered.{is_ordered}
 use Rattle.atl_market.specs.PotPhase.{PotMeaning, pots_meaning}
 use Rattle.atl_market.specs.Pots.{pot_shares}
-use Rattle.atl_instant.specs.Terms.{PhaseTerms, books_money}
+use Rattle.atl_instant.specs.PhaseSpecs.{PhaseSpec, books_money}
 
 -- ---- who works
 
 -- the work of a unit that has none: with line 0, as if its faction had written it
 abbrev pub idle_task : (unit faction : ℕ) → Task
-idle_task unit faction = record { faction = faction; unit = unit; line = 0; place = 0; said = orders.Work }
+idle_task unit faction = record { faction = faction; unit = unit; line = 0; place = 0; order_value = order_of verbs.Work Nothing }
 
 -- a unit with men for which its own faction wrote none of these orders
 abbrev pub is_idle : List Task → ℕ × Unit → Bool
@@ -50,7 +50,7 @@ is_work verb = false
 
 -- those of some orders that are WORK
 abbrev pub written_work : List Task → List Task
-written_work ts = filter (λ t. is_work (verb_of_order t.said)) ts
+written_work ts = filter (λ t. is_work t.order_value.verb) ts
 
 -- by unit, line and faction, as the orders of a phase are
 abbrev pub sorted_by_unit : List Task → List Task
@@ -71,19 +71,19 @@ abbrev pub places_at : WorldValue → ℕ → ℕ
 places_at w region = option_map_or (λ t. t.places) (terrain_of w region) 0
 
 -- a place for each of a unit's men, as far as it has room for the wages
-abbrev pub places_wanted : Unit → Option Terrain → ℕ
-places_wanted u terrain =
+abbrev pub work_want : Unit → Option Terrain → ℕ
+work_want u terrain =
     option_map_or (λ t. min u.holding.men ((holding_limit - u.holding.money) / t.wage)) terrain 0
 
 -- what so many places in a region pay
-abbrev pub earned : WorldValue → ℕ → ℕ → ℕ
-earned w region places = places * wage_at w region
+abbrev pub wages_for : WorldValue → ℕ → ℕ → ℕ
+wages_for w region places = places * wage_at w region
 
 -- a unit, by its number, is paid its wages for so many places, which are booked
-unfoldable pub worked : WorldValue → CampaignValue → ℕ × ℕ → CampaignValue
-worked w c (n, places) =
+unfoldable pub after_work : WorldValue → CampaignValue → ℕ × ℕ → CampaignValue
+after_work w c (n, places) =
     at_unit c n (λ u.
-    let wages = earned w u.region places in
+    let wages = wages_for w u.region places in
     with_amount (with_money c n (u.holding.money + wages)) Wages Money (pos wages))
 
 abbrev pub work_fault : Unit → Option EventFault
@@ -93,18 +93,18 @@ work_fault u = first_fault ((u.holding.men == 0, NoMen) ∷ [])
 abbrev pub work_pots : PotMeaning
 work_pots = record {
   fault = λ w u t. work_fault u;
-  want = λ w u t. places_wanted u (terrain_of w u.region);
-  given = λ items w c wants. pot_shares (places_at w) wants c;
-  told = λ w u places. earned w u.region places;
-  paid = λ items. worked;
+  want = λ w u t. work_want u (terrain_of w u.region);
+  grants = λ items w c wants. pot_shares (places_at w) wants c;
+  event_number = λ w u places. wages_for w u.region places;
+  paid = λ items. after_work;
 }
 
 abbrev pub work_meaning : Meaning
 work_meaning = pots_meaning work_pots work_orders
 
 -- wages are of money
-abbrev pub work_moves : ℕ → Moving
+abbrev pub work_moves : ℕ → BookBound
 work_moves most = moves_only most Wages Money
 
-abbrev pub work_terms : PhaseTerms
-work_terms = books_money Wages work_meaning spares_all
+abbrev pub work_spec : PhaseSpec
+work_spec = books_money Wages work_meaning spares_all

@@ -1,4 +1,5 @@
-//! BUILD: units begin structures, and go on with those that they are inside.
+//! BUILD: units begin structures, and go on with those that they are inside. See docs/RULES.md,
+//! "Building".
 ghost use Rattle.std.specs.Prelude.{◌≡◌, ◌≤◌, ◌<◌, ◌++◌, IfOk, None, OnOk, Some, true};
 ghost use Rattle.std.specs.FinMap as map;
 ghost use Rattle.std.specs.Fmt.{decimal};
@@ -9,15 +10,16 @@ ghost use Rattle.atl_state.specs.Good.{IsNumbered};
 ghost use Rattle.atl_records.specs.Limits.{last_unit, most_structures};
 ghost use Rattle.atl_records.specs.declared.records.Unit.{Unit};
 ghost use Rattle.atl_instant.specs.Meaning.{HaveRoom};
-ghost use Rattle.atl_instant.specs.Steps.{carried};
-ghost use Rattle.atl_market.specs.Build.{CanBuild, begin, begin_fault, build_moves, build_reserve, build_step, build_terms, go_on, gone_on, inside_fault, is_building, is_structure_limit, outside_fault, size_added, sort_of, started, with_new};
+ghost use Rattle.atl_instant.specs.OrderEffects.{faction_effect};
+ghost use Rattle.atl_market.specs.Build.{CanBuild, after_building_on, after_start, begin, begin_fault, build_moves, build_reserve, build_spec, build_step, go_on, inside_fault, is_building, is_structure_limit, name_prefix, outside_fault, size_added, with_new};
 ghost use Rattle.atl_market.specs.Making.{CanUse};
 
 use crate::goods::use_item;
 use atl_instant::{
-    Month, OrderPhase, Phase, PhaseVerbs, Ran, Written, carry_out_orders, failed, own_unit,
+    Month, OrderPhase, Phase, PhaseOrder, PhaseResult, PhaseVerbs, carry_out_orders, fault_outcome,
+    own_unit,
 };
-use atl_orders::{Order, Verb};
+use atl_orders::{Operands, Verb};
 use atl_state::{
     Campaign, EventFault, Holding, MOST_STRUCTURES, Outcome, Structure, Unit, level_in,
 };
@@ -104,7 +106,7 @@ fn inside_fault(unit: &Unit, structure: &Structure, kind: &Kind) -> Option<Event
 /// The name of a structure that has none of its own yet: `Ship 7` or `Building 7`.
 fn name_of(alloc: Global, kind: &Kind, number: u32) -> Result<Text, AllocError>
     requires { number ≤ last_unit }
-    ensures { IfOk result (λ name. name ≡ sort_of kind.now ++ decimal number) }
+    ensures { IfOk result (λ name. name ≡ name_prefix kind.now ++ decimal number) }
 {
     let letters = if kind.ship {
         format!(in alloc; "Ship {number}")?
@@ -123,9 +125,11 @@ fn raise(
     region: u32,
     size: u32,
 ) -> Result<u32, AllocError>
-    requires fresh { map.get campaign.old.value.structures campaign.old.value.next_structure ≡ None }
+    requires fresh { map.get campaign.old.value.structures campaign.old.value.next_structure
+        ≡ None }
     requires room { campaign.old.value.next_structure ≤ most_structures }
-    ensures what { OnOk result (campaign.new.value ≡ with_new campaign.old.value number kind.now region size) }
+    ensures what { OnOk result
+        (campaign.new.value ≡ with_new campaign.old.value number kind.now region size) }
     ensures number { IfOk result (λ place. place ≡ campaign.old.value.next_structure) }
     ensures marks { OnOk result (MarksChanges campaign.old campaign.new) }
 {
@@ -151,9 +155,11 @@ fn start(
     size: u32,
 ) -> Result<(), AllocError>
     requires uses { CanUse world.now campaign.old.value unit kind.now.material size }
-    requires fresh { map.get campaign.old.value.structures campaign.old.value.next_structure ≡ None }
+    requires fresh { map.get campaign.old.value.structures campaign.old.value.next_structure
+        ≡ None }
     requires room { campaign.old.value.next_structure ≤ most_structures }
-    ensures what { OnOk result (campaign.new.value ≡ started campaign.old.value unit number kind.now region size) }
+    ensures what { OnOk result
+        (campaign.new.value ≡ after_start campaign.old.value unit number kind.now region size) }
     ensures marks { OnOk result (MarksChanges campaign.old campaign.new) }
 {
     use_item(world, campaign, unit, kind.material, size)?;
@@ -168,21 +174,24 @@ fn begin(
     alloc: Global,
     world: &World,
     campaign: &mut Campaign,
-    order: Written<'_>,
+    order: PhaseOrder<'_>,
     number: u16,
     kind: &Kind,
 ) -> Result<Outcome, AllocError>
     requires kind { slice_get world.now.kinds number ≡ Some kind.now }
     requires can { CanBuild world.now campaign.old.value }
     requires room { HaveRoom (build_reserve campaign.old.value) campaign.old.value }
-    ensures what { IfOk result (λ outcome. (campaign.new.value, outcome) ≡ carried (begin world.now order.entry.unit number kind.now) campaign.old.value order.entry.faction order.entry.unit) }
+    ensures what { IfOk result
+        (λ outcome. (campaign.new.value, outcome)
+        ≡ faction_effect (begin world.now order.entry.unit number kind.now) campaign.old.value
+        order.entry.faction order.entry.unit) }
     ensures marks { OnOk result (MarksChanges campaign.old campaign.new) }
 {
     let Some(unit) = own_unit(campaign, order) else {
-        return Ok(failed(EventFault::NotYours));
+        return Ok(fault_outcome(EventFault::NotYours));
     };
     if let Some(fault) = begin_fault(world, campaign, unit, kind) {
-        return Ok(failed(fault));
+        return Ok(fault_outcome(fault));
     }
     let size = size_added(kind, &unit.holding, 0);
     let region = unit.region;
@@ -203,7 +212,9 @@ fn add(
     done: u32,
 ) -> Result<(), AllocError>
     requires { CanUse world.now campaign.old.value unit material size }
-    ensures what { OnOk result (campaign.new.value ≡ gone_on campaign.old.value unit material size structure done) }
+    ensures what { OnOk result
+        (campaign.new.value ≡ after_building_on campaign.old.value unit material size structure
+        done) }
     ensures marks { OnOk result (MarksChanges campaign.old campaign.new) }
 {
     use_item(world, campaign, unit, material, size)?;
@@ -213,24 +224,31 @@ fn add(
 
 /// A unit goes on with the structure that it is inside, or nothing changes where a fault fits.
 #[tactic(auto, unfolding(crate::specs::Build::go_on))]
-fn go_on(world: &World, campaign: &mut Campaign, order: Written<'_>) -> Result<Outcome, AllocError>
+fn go_on(
+    world: &World,
+    campaign: &mut Campaign,
+    order: PhaseOrder<'_>,
+) -> Result<Outcome, AllocError>
     requires can { CanBuild world.now campaign.old.value }
     requires room { HaveRoom (build_reserve campaign.old.value) campaign.old.value }
-    ensures what { IfOk result (λ outcome. (campaign.new.value, outcome) ≡ carried (go_on world.now order.entry.unit) campaign.old.value order.entry.faction order.entry.unit) }
+    ensures what { IfOk result
+        (λ outcome. (campaign.new.value, outcome)
+        ≡ faction_effect (go_on world.now order.entry.unit) campaign.old.value order.entry.faction
+        order.entry.unit) }
     ensures marks { OnOk result (MarksChanges campaign.old campaign.new) }
 {
     let Some(unit) = own_unit(campaign, order) else {
-        return Ok(failed(EventFault::NotYours));
+        return Ok(fault_outcome(EventFault::NotYours));
     };
     let place = unit.structure;
     let Some(structure) = campaign.structure(place) else {
-        return Ok(failed(outside_fault(unit)));
+        return Ok(fault_outcome(outside_fault(unit)));
     };
     let Some(kind) = kind_of(world, structure.kind) else {
-        return Ok(failed(outside_fault(unit)));
+        return Ok(fault_outcome(outside_fault(unit)));
     };
     if let Some(fault) = inside_fault(unit, structure, kind) {
-        return Ok(failed(fault));
+        return Ok(fault_outcome(fault));
     }
     let size = size_added(kind, &unit.holding, structure.done);
     let done = structure.done + size;
@@ -269,14 +287,14 @@ impl OrderPhase for BuildPhase {
         world: &World,
         campaign: &mut Campaign,
         _: &Month,
-        order: Written<'_>,
+        order: PhaseOrder<'_>,
     ) -> Result<Option<Outcome>, AllocError> {
-        match order.order {
-            Order::Build(Some(number)) => match kind_of(world, *number) {
+        match &order.order.operands {
+            Operands::Kind(Some(number)) => match kind_of(world, *number) {
                 Some(kind) => Ok(Some(begin(alloc, world, campaign, order, *number, kind)?)),
                 None => Ok(None),
             },
-            Order::Build(None) => Ok(Some(go_on(world, campaign, order)?)),
+            Operands::Kind(None) => Ok(Some(go_on(world, campaign, order)?)),
             _ => Ok(None),
         }
     }
@@ -285,13 +303,19 @@ impl OrderPhase for BuildPhase {
 }
 
 impl Phase for BuildPhase {
-    ghost meaning = { build_terms.meaning };
+    ghost meaning = { build_spec.meaning };
 
     ghost moving = { build_moves };
 
-    ghost keeps = { build_terms.keeps };
+    ghost keeps = { build_spec.keeps };
 
-    fn run(&self, alloc: Global, world: &World, mut campaign: Campaign, mut month: Month) -> Ran {
+    fn run(
+        &self,
+        alloc: Global,
+        world: &World,
+        mut campaign: Campaign,
+        mut month: Month,
+    ) -> PhaseResult {
         let _kinds = world.kinds();
         carry_out_orders(alloc, self, world, &mut campaign, &mut month)?;
         Ok((campaign, month))

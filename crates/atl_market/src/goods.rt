@@ -1,8 +1,8 @@
-//! What units use of items, and what they make.
+//! Units use items and make items; both are booked.
 ghost use Rattle.std.specs.Prelude.{◌≡◌, OnOk, Some};
 ghost use Rattle.std.specs.FinMap as map;
 ghost use Rattle.atl_state.specs.Covers.{MarksChanges};
-ghost use Rattle.atl_records.specs.Held.{amount_of};
+ghost use Rattle.atl_records.specs.Holdings.{amount_of};
 ghost use Rattle.atl_records.specs.declared.records.Unit.{Unit};
 ghost use Rattle.atl_market.specs.Goods.{with_made, with_used};
 ghost use Rattle.atl_market.specs.Making.{CanMake, CanUse};
@@ -14,7 +14,8 @@ use std::alloc::AllocError;
 
 /// How much of an item a unit holds that is there.
 fn held_of(campaign: &Campaign, number: u32, item: u16) -> u32
-    ensures { (u : Unit) → map.get campaign.now.value.units number ≡ Some u → result ≡ amount_of u.holding.items item }
+    ensures { (u : Unit) → map.get campaign.now.value.units number ≡ Some u
+        → result ≡ amount_of u.holding.items item }
 {
     match campaign.unit(number) {
         Some(unit) => unit.holding.amount(u32::from(item)),
@@ -31,7 +32,8 @@ pub(crate) fn use_item(
     amount: u32,
 ) -> Result<(), AllocError>
     requires can { CanUse world.now campaign.old.value number item amount }
-    ensures what { OnOk result (campaign.new.value ≡ with_used campaign.old.value number item amount) }
+    ensures what { OnOk result
+        (campaign.new.value ≡ with_used campaign.old.value number item amount) }
     ensures marks { OnOk result (MarksChanges campaign.old campaign.new) }
 {
     let left = held_of(campaign, number, item) - amount;
@@ -49,7 +51,8 @@ pub(crate) fn make_item(
     amount: u32,
 ) -> Result<(), AllocError>
     requires can { CanMake world.now campaign.old.value number item amount }
-    ensures what { OnOk result (campaign.new.value ≡ with_made campaign.old.value number item amount) }
+    ensures what { OnOk result
+        (campaign.new.value ≡ with_made campaign.old.value number item amount) }
     ensures marks { OnOk result (MarksChanges campaign.old campaign.new) }
 {
     let more = held_of(campaign, number, item) + amount;

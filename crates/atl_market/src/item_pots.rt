@@ -1,15 +1,16 @@
-//! Pots of items: in each region, those that ask for one item share what the region has of it.
+//! Pots of items: the units of a region that ask for the same item share what the region has of it.
+//! See docs/RULES.md, "Pots".
 ghost use Rattle.std.specs.Prelude.{ℕ, ◌≡◌, IfOk, OnOk};
 ghost use Rattle.std.specs.List.{flat_map, fold};
 ghost use Rattle.std.specs.FinMap as finmap;
 ghost use Rattle.atl_tables.specs.Limits.{most_amount};
-ghost use Rattle.atl_market.specs.Asked.{regions_asked};
+ghost use Rattle.atl_market.specs.RegionsWithWants.{regions_with_wants};
 ghost use Rattle.atl_market.specs.ItemGroups.{item_shares_in, region_shares, with_want};
 ghost use Rattle.atl_market.specs.ItemPots.{item_share};
 ghost use Rattle.atl_market.specs.Pots.{AreWants};
 ghost use Rattle.atl_market.specs.Puts.{with_each};
 
-use crate::pots::{regions_asked, share_pot};
+use crate::pots::{regions_with_wants, share_pot};
 use atl_state::Campaign;
 use atl_tables::Numbered;
 use std::alloc::{AllocError, Global};
@@ -64,7 +65,8 @@ fn wants_by_item<P: ItemPots>(
     units: &[u32],
     wants: &Numbered<u32>,
 ) -> Result<Groups, AllocError>
-    ensures { IfOk result (λ groups. groups ≡ fold (with_want (P.item_of pots.now) wants.now) finmap.empty units.now) }
+    ensures { IfOk result (λ groups. groups
+        ≡ fold (with_want (P.item_of pots.now) wants.now) finmap.empty units.now) }
 {
     let mut groups = Numbered::new(alloc);
     for unit in units {
@@ -95,7 +97,9 @@ fn share_items<P: ItemPots>(
 ) -> Result<(), AllocError>
     requires ready { P.ready pots.now }
     requires wants { AreWants wants.now }
-    ensures { OnOk result (given.new ≡ with_each given.old (flat_map (item_shares_in (P.pot_of pots.now) wants.now region) (finmap.entries groups.now))) }
+    ensures { OnOk result (given.new
+        ≡ with_each given.old (flat_map (item_shares_in (P.pot_of pots.now) wants.now region)
+        (finmap.entries groups.now))) }
 {
     for (item, group) in groups.iter() {
         let takers = takers_of(alloc, group)?;
@@ -116,8 +120,10 @@ fn share_region<P: ItemPots>(
 ) -> Result<(), AllocError>
     requires ready { P.ready pots.now }
     requires wants { AreWants wants.now }
-    requires asked { asked.now ≡ regions_asked wants.now campaign.now.value }
-    ensures { OnOk result (given.new ≡ with_each given.old (region_shares (P.item_of pots.now) (P.pot_of pots.now) wants.now campaign.now.value region)) }
+    requires asked { asked.now ≡ regions_with_wants wants.now campaign.now.value }
+    ensures { OnOk result (given.new
+        ≡ with_each given.old (region_shares (P.item_of pots.now) (P.pot_of pots.now) wants.now
+        campaign.now.value region)) }
 {
     if asked.get(region).is_none() {
         return Ok(());
@@ -136,9 +142,11 @@ pub(crate) fn item_shares<P: ItemPots>(
 ) -> Result<Numbered<u32>, AllocError>
     requires ready { P.ready pots.now }
     requires wants { AreWants wants.now }
-    ensures definition { IfOk result (λ given. (n : ℕ) → finmap.get given n ≡ item_share (P.item_of pots.now) (P.pot_of pots.now) wants.now campaign.now.value n) }
+    ensures definition { IfOk result
+        (λ given. (n : ℕ) → finmap.get given n
+        ≡ item_share (P.item_of pots.now) (P.pot_of pots.now) wants.now campaign.now.value n) }
 {
-    let asked = regions_asked(alloc, campaign, wants)?;
+    let asked = regions_with_wants(alloc, campaign, wants)?;
     let mut given = Numbered::new(alloc);
     for (region, _) in campaign.regions() {
         share_region(alloc, campaign, pots, wants, &asked, region, &mut given)?;

@@ -1,4 +1,5 @@
-//! Pots, what is shared of them, and the phases in which units share them.
+//! Pots, how they are shared, and the phases that share them: trade, tax, recruits, building,
+//! producing and work.
 #![tactic(auto)]
 
 mod build;

@@ -1,4 +1,4 @@
-//! How much a unit can make of an item, and that it makes it.
+//! How much of an item a unit can make, and making it. See docs/RULES.md, "Producing".
 ghost use Rattle.std.specs.Prelude.{ℕ, ◌≡◌, ◌≤◌, ◌*◌, IfSome, OnOk};
 ghost use Rattle.std.specs.Option.{option_copied, option_map_or};
 ghost use Rattle.std.specs.List.{slice_get};
@@ -101,9 +101,12 @@ fn use_raw(
     item: &Item,
     made: u32,
 ) -> Result<(), AllocError>
-    requires can { (r : ℕ) → item.now.raw ≡ Some r → CanUse world.now campaign.old.value number r (made * item.now.raw_count) }
+    requires can { (r : ℕ) → item.now.raw ≡ Some r
+        → CanUse world.now campaign.old.value number r (made * item.now.raw_count) }
     requires fits { (r : ℕ) → item.now.raw ≡ Some r → made * item.now.raw_count ≤ holding_limit }
-    ensures what { OnOk result (campaign.new.value ≡ with_raw_used campaign.old.value number (made * item.now.raw_count) item.now.raw) }
+    ensures what { OnOk result
+        (campaign.new.value ≡ with_raw_used campaign.old.value number (made * item.now.raw_count)
+        item.now.raw) }
     ensures marks { OnOk result (MarksChanges campaign.old campaign.new) }
 {
     match item.raw {
@@ -122,7 +125,8 @@ fn make_of(
     made: u32,
 ) -> Result<(), AllocError>
     requires { CanMakeOf world.now campaign.old.value number made item found.now }
-    ensures what { OnOk result (campaign.new.value ≡ with_item_made campaign.old.value number made item found.now) }
+    ensures what { OnOk result
+        (campaign.new.value ≡ with_item_made campaign.old.value number made item found.now) }
     ensures marks { OnOk result (MarksChanges campaign.old campaign.new) }
 {
     use_raw(world, campaign, number, found, made)?;
@@ -138,8 +142,11 @@ pub(crate) fn make(
     item: u16,
     made: u32,
 ) -> Result<(), AllocError>
-    requires { (x : Item) → slice_get world.now.items item ≡ Some x → CanMakeOf world.now campaign.old.value number made item x }
-    ensures what { OnOk result (campaign.new.value ≡ option_map_or (with_item_made campaign.old.value number made item) (slice_get world.now.items item) campaign.old.value) }
+    requires { (x : Item) → slice_get world.now.items item ≡ Some x
+        → CanMakeOf world.now campaign.old.value number made item x }
+    ensures what { OnOk result
+        (campaign.new.value ≡ option_map_or (with_item_made campaign.old.value number made item)
+        (slice_get world.now.items item) campaign.old.value) }
     ensures marks { OnOk result (MarksChanges campaign.old campaign.new) }
 {
     match item_of(world, Some(item)) {

@@ -1,8 +1,9 @@
-//! What units make out of what the terrains of their regions give.
+//! How much the units make of what the terrains of their regions give. See docs/RULES.md,
+//! "Producing".
 ghost use Rattle.std.specs.Prelude.{⊤, ℕ, ◌≡◌, map, IfOk};
 ghost use Rattle.std.specs.FinMap as finmap;
 ghost use Rattle.atl_market.specs.Pots.{AreWants};
-ghost use Rattle.atl_market.specs.Produce.{gathered, made_by, makes, output_at, output_share};
+ghost use Rattle.atl_market.specs.Produce.{made_amounts, made_by, output_at, output_item, output_share};
 ghost use Rattle.atl_market.specs.Puts.{with_each};
 
 use crate::item_pots::{ItemPots, item_shares};
@@ -19,8 +20,8 @@ struct Outputs<'a> {
 }
 
 /// The item that a unit makes out of what its region gives.
-fn gathered(world: &World, asked: &Numbered<u16>, unit: u32) -> Option<u16>
-    ensures { result ≡ gathered world.now asked.now unit }
+fn output_item(world: &World, asked: &Numbered<u16>, unit: u32) -> Option<u16>
+    ensures { result ≡ output_item world.now asked.now unit }
 {
     let number = asked.get(unit).copied();
     let item = item_of(world, number)?;
@@ -28,14 +29,14 @@ fn gathered(world: &World, asked: &Numbered<u16>, unit: u32) -> Option<u16>
 }
 
 impl<'a> ItemPots for Outputs<'a> {
-    ghost item_of = { λ pots. gathered pots.world.now pots.asked.now };
+    ghost item_of = { λ pots. output_item pots.world.now pots.asked.now };
 
     ghost pot_of = { λ pots. output_at pots.world.now };
 
     ghost ready = { λ _. ⊤ };
 
     fn item(&self, unit: u32) -> Option<u16> {
-        gathered(self.world, self.asked, unit)
+        output_item(self.world, self.asked, unit)
     }
 
     fn pot(&self, item: u32, region: u32) -> u64 {
@@ -59,17 +60,18 @@ fn made_by(
     unit: u32,
     want: u32,
 ) -> u32
-    requires { (n : ℕ) → finmap.get shares.now n ≡ output_share world.now asked.now campaign.now.value wants.now n }
+    requires { (n : ℕ) → finmap.get shares.now n
+        ≡ output_share world.now asked.now campaign.now.value wants.now n }
     ensures { result ≡ made_by world.now asked.now campaign.now.value wants.now (unit, want) }
 {
-    match gathered(world, asked, unit) {
+    match output_item(world, asked, unit) {
         Some(_) => shares.get(unit).copied().unwrap_or(0),
         None => want,
     }
 }
 
 /// How much the units make by what they want, by unit.
-pub(crate) fn makes(
+pub(crate) fn made_amounts(
     alloc: Global,
     world: &World,
     campaign: &Campaign,
@@ -77,7 +79,8 @@ pub(crate) fn makes(
     wants: &Numbered<u32>,
 ) -> Result<Numbered<u32>, AllocError>
     requires { AreWants wants.now }
-    ensures { IfOk result (λ made. made ≡ makes asked.now world.now campaign.now.value wants.now) }
+    ensures { IfOk result (λ made. made
+        ≡ made_amounts asked.now world.now campaign.now.value wants.now) }
 {
     let shares = item_shares(alloc, campaign, &Outputs { world, asked }, wants)?;
     let mut made = Numbered::new(alloc);

@@ -1,4 +1,4 @@
-//! A phase in which the units of each region share a pot.
+//! A phase in which the units of each region share a pot. See docs/RULES.md, "Pots".
 ghost use Rattle.std.specs.Prelude.{ℕ, ◌≡◌, ◌≤◌, IfOk, OnOk, fold, map};
 ghost use Rattle.std.specs.FinMap.{FinMap, entries};
 ghost use Rattle.std.specs.Result.{result_map_both};
@@ -8,12 +8,12 @@ ghost use Rattle.atl_state.specs.Covers.{MarksChanges};
 ghost use Rattle.atl_state.specs.Campaign.{CampaignValue};
 ghost use Rattle.std.specs.Ordering.{nat_cmp};
 ghost use Rattle.atl_instant.specs.PhaseOrders.{task_of};
-ghost use Rattle.atl_market.specs.PotPhase.{CanInTurn, PotMeaning, count_in, event_of, events_by, given_by, item_by, item_in, items_by, shared_out, unit_for, want_by, wants_by};
+ghost use Rattle.atl_market.specs.PotPhase.{CanInTurn, PotMeaning, after_sharing, count_in, event_of, events_by, given_by, item_by, item_in, items_by, unit_for, want_by, wants_by};
 ghost use Rattle.atl_market.specs.Pots.{AreWants};
 ghost use Rattle.atl_market.specs.Puts.{with_any};
 
-use atl_instant::{Written, own_unit};
-use atl_orders::Order;
+use atl_instant::{PhaseOrder, own_unit};
+use atl_orders::Operands;
 use atl_state::{Campaign, Event, EventFault, Outcome, Unit};
 use atl_tables::{Numbered, World};
 use std::alloc::{AllocError, Global};
@@ -29,16 +29,18 @@ pub(crate) trait PotPhase {
     ghost can_pay: { Self → FinMap nat_cmp ℕ → WorldValue → CampaignValue → ℕ × ℕ → Type 0 };
 
     /// Why a unit doesn't carry out an order of its own faction.
-    fn fault(&self, world: &World, unit: &Unit, order: Written<'_>) -> Option<EventFault>
-        ensures { result ≡ PotMeaning.fault (meaning self.now) world.now unit.now (task_of order.entry) };
+    fn fault(&self, world: &World, unit: &Unit, order: PhaseOrder<'_>) -> Option<EventFault>
+        ensures { result ≡ PotMeaning.fault (meaning self.now) world.now unit.now
+            (task_of order.entry) };
 
     /// How much of the pot of its region a unit wants by an order, at most 999,999,999.
-    fn want(&self, world: &World, unit: &Unit, order: Written<'_>) -> u32
-        ensures value { result ≡ PotMeaning.want (meaning self.now) world.now unit.now (task_of order.entry) }
+    fn want(&self, world: &World, unit: &Unit, order: PhaseOrder<'_>) -> u32
+        ensures value { result ≡ PotMeaning.want (meaning self.now) world.now unit.now
+            (task_of order.entry) }
         ensures bound { result ≤ most_amount };
 
     /// What the units get by the items that their orders name, and by what they want. AllocError without memory.
-    fn given(
+    fn grants(
         &self,
         alloc: Global,
         world: &World,
@@ -48,11 +50,12 @@ pub(crate) trait PotPhase {
     ) -> Result<Numbered<u32>, AllocError>
         requires needs { needs self.now world.now campaign.now.value }
         requires wants { AreWants wants.now }
-        ensures { IfOk result (λ given. given ≡ PotMeaning.given (meaning self.now) items.now world.now campaign.now.value wants.now) };
+        ensures { IfOk result (λ given. given
+            ≡ PotMeaning.grants (meaning self.now) items.now world.now campaign.now.value wants.now) };
 
     /// What the event says of a unit that got so much of the pot.
-    fn told(&self, world: &World, unit: &Unit, share: u32) -> u64
-        ensures { result ≡ PotMeaning.told (meaning self.now) world.now unit.now share };
+    fn event_number(&self, world: &World, unit: &Unit, share: u32) -> u64
+        ensures { result ≡ PotMeaning.event_number (meaning self.now) world.now unit.now share };
 
     /// A unit gets so much of the pot of its region. AllocError without memory; the campaign may then be changed in part.
     fn pay(
@@ -64,30 +67,30 @@ pub(crate) trait PotPhase {
         share: u32,
     ) -> Result<(), AllocError>
         requires can { can_pay self.now items.now world.now campaign.old.value (unit, share) }
-        ensures what { OnOk result (campaign.new.value ≡ PotMeaning.paid (meaning self.now) items.now world.now campaign.old.value (unit, share)) }
+        ensures what { OnOk result
+            (campaign.new.value ≡ PotMeaning.paid (meaning self.now) items.now world.now
+            campaign.old.value (unit, share)) }
         ensures marks { OnOk result (MarksChanges campaign.old campaign.new) };
 }
 
 /// The item that an order names.
-pub(crate) fn named_item(order: Written<'_>) -> Option<u16>
-    ensures { result ≡ item_in (task_of order.entry).said }
+pub(crate) fn named_item(order: PhaseOrder<'_>) -> Option<u16>
+    ensures { result ≡ item_in (task_of order.entry).order_value.operands }
 {
-    match order.order {
-        Order::Produce(item) => Some(*item),
-        Order::Sell { item, .. } => Some(*item),
-        Order::Buy { item, .. } => Some(*item),
+    match &order.order.operands {
+        Operands::Item(item) => Some(*item),
+        Operands::Goods { item, .. } => Some(*item),
         _ => None,
     }
 }
 
 /// How many an order asks for; 0 where it names no number.
-pub(crate) fn named_count(order: Written<'_>) -> u32
-    ensures { result ≡ count_in (task_of order.entry).said }
+pub(crate) fn named_count(order: PhaseOrder<'_>) -> u32
+    ensures { result ≡ count_in (task_of order.entry).order_value.operands }
 {
-    match order.order {
-        Order::Recruit(men) => *men,
-        Order::Sell { amount, .. } => *amount,
-        Order::Buy { amount, .. } => *amount,
+    match &order.order.operands {
+        Operands::Number(number) => *number,
+        Operands::Goods { amount, .. } => *amount,
         _ => 0,
     }
 }
@@ -98,9 +101,10 @@ fn unit_for<'c, P: PotPhase>(
     phase: &P,
     world: &World,
     campaign: &'c Campaign,
-    order: Written<'_>,
+    order: PhaseOrder<'_>,
 ) -> Result<&'c Unit, EventFault>
-    ensures { result_map_both (λ unit. unit.now) (λ fault. fault) result ≡ unit_for (P.meaning phase.now) world.now campaign.now.value (task_of order.entry) }
+    ensures { result_map_both (λ unit. unit.now) (λ fault. fault) result
+        ≡ unit_for (P.meaning phase.now) world.now campaign.now.value (task_of order.entry) }
 {
     let Some(unit) = own_unit(campaign, order) else {
         return Err(EventFault::NotYours);
@@ -117,11 +121,13 @@ fn note_want<P: PotPhase>(
     phase: &P,
     world: &World,
     campaign: &Campaign,
-    order: Written<'_>,
+    order: PhaseOrder<'_>,
     wants: &mut Numbered<u32>,
 ) -> Result<(), AllocError>
     requires { AreWants wants.old }
-    ensures value { OnOk result (wants.new ≡ with_any wants.old (want_by (P.meaning phase.now) world.now campaign.now.value (task_of order.entry))) }
+    ensures value { OnOk result
+        (wants.new ≡ with_any wants.old
+        (want_by (P.meaning phase.now) world.now campaign.now.value (task_of order.entry))) }
     ensures bound { OnOk result (AreWants wants.new) }
 {
     if let Ok(unit) = unit_for(phase, world, campaign, order) {
@@ -137,9 +143,11 @@ fn wants_of<P: PotPhase>(
     phase: &P,
     world: &World,
     campaign: &Campaign,
-    orders: &[Written<'_>],
+    orders: &[PhaseOrder<'_>],
 ) -> Result<Numbered<u32>, AllocError>
-    ensures value { IfOk result (λ wants. wants ≡ wants_by (P.meaning phase.now) world.now campaign.now.value (map task_of orders.now)) }
+    ensures value { IfOk result
+        (λ wants. wants ≡ wants_by (P.meaning phase.now) world.now campaign.now.value
+        (map task_of orders.now)) }
     ensures bound { IfOk result (λ wants. AreWants wants) }
 {
     let mut wants = Numbered::new(alloc);
@@ -154,10 +162,12 @@ fn note_item<P: PotPhase>(
     phase: &P,
     world: &World,
     campaign: &Campaign,
-    order: Written<'_>,
+    order: PhaseOrder<'_>,
     items: &mut Numbered<u16>,
 ) -> Result<(), AllocError>
-    ensures { OnOk result (items.new ≡ with_any items.old (item_by (P.meaning phase.now) world.now campaign.now.value (task_of order.entry))) }
+    ensures { OnOk result (items.new
+        ≡ with_any items.old (item_by (P.meaning phase.now) world.now campaign.now.value
+        (task_of order.entry))) }
 {
     if let (Ok(_), Some(item)) = (unit_for(phase, world, campaign, order), named_item(order)) {
         items.insert(order.unit, item)?;
@@ -172,9 +182,10 @@ fn items_of<P: PotPhase>(
     phase: &P,
     world: &World,
     campaign: &Campaign,
-    orders: &[Written<'_>],
+    orders: &[PhaseOrder<'_>],
 ) -> Result<Numbered<u16>, AllocError>
-    ensures { IfOk result (λ items. items ≡ items_by (P.meaning phase.now) world.now campaign.now.value (map task_of orders.now)) }
+    ensures { IfOk result (λ items. items
+        ≡ items_by (P.meaning phase.now) world.now campaign.now.value (map task_of orders.now)) }
 {
     let mut items = Numbered::new(alloc);
     for order in orders {
@@ -190,13 +201,15 @@ fn given_of<P: PotPhase>(
     world: &World,
     campaign: &Campaign,
     items: &Numbered<u16>,
-    orders: &[Written<'_>],
+    orders: &[PhaseOrder<'_>],
 ) -> Result<Numbered<u32>, AllocError>
     requires { P.needs phase.now world.now campaign.now.value }
-    ensures { IfOk result (λ given. given ≡ PotMeaning.given (P.meaning phase.now) items.now world.now campaign.now.value (wants_by (P.meaning phase.now) world.now campaign.now.value (map task_of orders.now))) }
+    ensures { IfOk result (λ given. given
+        ≡ PotMeaning.grants (P.meaning phase.now) items.now world.now campaign.now.value
+        (wants_by (P.meaning phase.now) world.now campaign.now.value (map task_of orders.now))) }
 {
     let wants = wants_of(alloc, phase, world, campaign, orders)?;
-    phase.given(alloc, world, campaign, items, &wants)
+    phase.grants(alloc, world, campaign, items, &wants)
 }
 
 /// What came of an order, where so much was given.
@@ -205,14 +218,15 @@ fn event_of<P: PotPhase>(
     world: &World,
     campaign: &Campaign,
     given: &Numbered<u32>,
-    order: Written<'_>,
+    order: PhaseOrder<'_>,
 ) -> Event
-    ensures { result ≡ event_of (P.meaning phase.now) world.now campaign.now.value given.now (task_of order.entry) }
+    ensures { result ≡ event_of (P.meaning phase.now) world.now campaign.now.value given.now
+        (task_of order.entry) }
 {
     let outcome = match unit_for(phase, world, campaign, order) {
         Ok(unit) => {
             let share = given.get(order.unit).copied().unwrap_or(0);
-            Outcome::Done(phase.told(world, unit, share))
+            Outcome::Done(phase.event_number(world, unit, share))
         }
         Err(fault) => Outcome::Fault(fault.number()),
     };
@@ -225,10 +239,12 @@ fn events_of<P: PotPhase>(
     phase: &P,
     world: &World,
     campaign: &Campaign,
-    orders: &[Written<'_>],
+    orders: &[PhaseOrder<'_>],
     given: &Numbered<u32>,
 ) -> Result<Vec<Event>, AllocError>
-    ensures { IfOk result (λ events. events.items ≡ map (event_of (P.meaning phase.now) world.now campaign.now.value given.now) (map task_of orders.now)) }
+    ensures { IfOk result (λ events. events.items
+        ≡ map (event_of (P.meaning phase.now) world.now campaign.now.value given.now)
+        (map task_of orders.now)) }
 {
     let mut events = Vec::new(alloc);
     for order in orders {
@@ -245,8 +261,12 @@ fn pay_all<P: PotPhase>(
     items: &Numbered<u16>,
     given: &Numbered<u32>,
 ) -> Result<(), AllocError>
-    requires can { CanInTurn (P.can_pay phase.now items.now world.now) (PotMeaning.paid (P.meaning phase.now) items.now world.now) campaign.old.value (entries given.now) }
-    ensures what { OnOk result (campaign.new.value ≡ fold (PotMeaning.paid (P.meaning phase.now) items.now world.now) campaign.old.value (entries given.now)) }
+    requires can { CanInTurn (P.can_pay phase.now items.now world.now)
+        (PotMeaning.paid (P.meaning phase.now) items.now world.now) campaign.old.value
+        (entries given.now) }
+    ensures what { OnOk result
+        (campaign.new.value ≡ fold (PotMeaning.paid (P.meaning phase.now) items.now world.now)
+        campaign.old.value (entries given.now)) }
     ensures marks { OnOk result (MarksChanges campaign.old campaign.new) }
 {
     for (unit, share) in given.iter() {
@@ -258,18 +278,29 @@ fn pay_all<P: PotPhase>(
 /// Shares the pots of all regions among the units by their orders, all at once: who takes part, what each wants and what
 /// there is to share is read from the campaign as it is handed in. The answer is an event for each order. AllocError without
 /// memory; the campaign may then be changed in part. See docs/RULES.md, "Pots".
-#[tactic(auto, unfolding(crate::specs::PotPhase::shared_out, crate::specs::PotPhase::events_by))]
+#[tactic(auto, unfolding(crate::specs::PotPhase::after_sharing, crate::specs::PotPhase::events_by))]
 pub(crate) fn share_out<P: PotPhase>(
     alloc: Global,
     phase: &P,
     world: &World,
     campaign: &mut Campaign,
-    orders: &[Written<'_>],
+    orders: &[PhaseOrder<'_>],
 ) -> Result<Vec<Event>, AllocError>
     requires needs { P.needs phase.now world.now campaign.old.value }
-    requires can { CanInTurn (P.can_pay phase.now (items_by (P.meaning phase.now) world.now campaign.old.value (map task_of orders.now)) world.now) (PotMeaning.paid (P.meaning phase.now) (items_by (P.meaning phase.now) world.now campaign.old.value (map task_of orders.now)) world.now) campaign.old.value (entries (given_by (P.meaning phase.now) world.now campaign.old.value (map task_of orders.now))) }
-    ensures what { OnOk result (campaign.new.value ≡ shared_out (P.meaning phase.now) world.now campaign.old.value (map task_of orders.now)) }
-    ensures events { IfOk result (λ events. events.items ≡ events_by (P.meaning phase.now) world.now campaign.old.value (map task_of orders.now)) }
+    requires can { CanInTurn
+        (P.can_pay phase.now (items_by (P.meaning phase.now) world.now campaign.old.value
+        (map task_of orders.now)) world.now)
+        (PotMeaning.paid (P.meaning phase.now)
+        (items_by (P.meaning phase.now) world.now campaign.old.value (map task_of orders.now))
+        world.now) campaign.old.value
+        (entries (given_by (P.meaning phase.now) world.now campaign.old.value
+        (map task_of orders.now))) }
+    ensures what { OnOk result
+        (campaign.new.value ≡ after_sharing (P.meaning phase.now) world.now campaign.old.value
+        (map task_of orders.now)) }
+    ensures events { IfOk result
+        (λ events. events.items
+        ≡ events_by (P.meaning phase.now) world.now campaign.old.value (map task_of orders.now)) }
     ensures marks { OnOk result (MarksChanges campaign.old campaign.new) }
 {
     let items = items_of(alloc, phase, world, campaign, orders)?;

@@ -1,8 +1,8 @@
-//! Pots of regions, all shared at once.
+//! The pots of all regions, shared at once. See docs/RULES.md, "Pots".
 ghost use Rattle.std.specs.Prelude.{◌≡◌, ◌≤◌, All, IfOk, OnOk, length, map};
 ghost use Rattle.std.specs.List.{zip};
 ghost use Rattle.atl_tables.specs.Limits.{most_amount};
-ghost use Rattle.atl_market.specs.Asked.{regions_asked};
+ghost use Rattle.atl_market.specs.RegionsWithWants.{regions_with_wants};
 ghost use Rattle.atl_market.specs.Share.{shares};
 ghost use Rattle.atl_market.specs.Pots.{AreWants, EachTakerGets, GivesEachPot, OnlyTakersGet, OtherRegionsDoNotCount, SharesEachPot, pot_shares, shares_in, takers_among, want_of};
 ghost use Rattle.atl_market.specs.Puts.{with_each};
@@ -89,7 +89,8 @@ pub(crate) fn share_pot(
 ) -> Result<(), AllocError>
     requires pot { pot ≤ most_amount }
     requires wants { AreWants wants.now }
-    ensures { OnOk result (given.new ≡ with_each given.old (zip takers.now (shares pot (map (want_of wants.now) takers.now)))) }
+    ensures { OnOk result (given.new
+        ≡ with_each given.old (zip takers.now (shares pot (map (want_of wants.now) takers.now)))) }
 {
     let wanted = wants_of(alloc, takers, wants)?;
     let shares = share(alloc, pot, &wanted)?;
@@ -97,12 +98,12 @@ pub(crate) fn share_pot(
 }
 
 /// The regions where a unit has a want.
-pub(crate) fn regions_asked(
+pub(crate) fn regions_with_wants(
     alloc: Global,
     campaign: &Campaign,
     wants: &Numbered<u32>,
 ) -> Result<Numbered<u32>, AllocError>
-    ensures { IfOk result (λ asked. asked ≡ regions_asked wants.now campaign.now.value) }
+    ensures { IfOk result (λ asked. asked ≡ regions_with_wants wants.now campaign.now.value) }
 {
     let mut asked = Numbered::new(alloc);
     for (number, _) in wants.iter() {
@@ -125,8 +126,10 @@ fn share_region<P: Pots>(
 ) -> Result<(), AllocError>
     requires ready { P.ready pots.now }
     requires wants { AreWants wants.now }
-    requires asked { asked.now ≡ regions_asked wants.now campaign.now.value }
-    ensures { OnOk result (given.new ≡ with_each given.old (shares_in (P.pot_of pots.now) wants.now campaign.now.value.units region)) }
+    requires asked { asked.now ≡ regions_with_wants wants.now campaign.now.value }
+    ensures { OnOk result (given.new
+        ≡ with_each given.old (shares_in (P.pot_of pots.now) wants.now campaign.now.value.units
+        region)) }
 {
     if asked.get(region).is_none() {
         return Ok(());
@@ -150,9 +153,10 @@ pub fn pot_shares<P: Pots>(
 ) -> Result<Numbered<u32>, AllocError>
     requires ready { P.ready pots.now }
     requires wants { AreWants wants.now }
-    ensures definition { IfOk result (λ given. given ≡ pot_shares (P.pot_of pots.now) wants.now campaign.now.value) }
+    ensures definition { IfOk result
+        (λ given. given ≡ pot_shares (P.pot_of pots.now) wants.now campaign.now.value) }
 {
-    let asked = regions_asked(alloc, campaign, wants)?;
+    let asked = regions_with_wants(alloc, campaign, wants)?;
     let mut given = Numbered::new(alloc);
     for (region, _) in campaign.regions() {
         share_region(alloc, campaign, pots, wants, &asked, region, &mut given)?;

@@ -1,15 +1,16 @@
-//! PRODUCE: units make items, of raw items or of what the terrain of their region gives.
+//! PRODUCE: units make items of raw items, or of what the terrain of their region gives. See
+//! docs/RULES.md, "Producing".
 ghost use Rattle.atl_tables.specs.Worlds.{IsWorld};
 ghost use Rattle.atl_state.specs.Good.{IsSteady};
 ghost use Rattle.atl_instant.specs.Meaning.{most_moved};
 ghost use Rattle.atl_market.specs.Making.{CanProduce};
-ghost use Rattle.atl_market.specs.Produce.{is_produce, produce_keeps, produce_meaning, produce_moves, produce_pots, produced};
-ghost use Rattle.atl_market.specs.Paid.{ProducesAtOnce};
+ghost use Rattle.atl_market.specs.Produce.{after_production, is_produce, produce_keeps, produce_meaning, produce_moves, produce_pots};
+ghost use Rattle.atl_market.specs.AfterPots.{ProducesAtOnce};
 
 use crate::making::{can_make, make, make_fault};
-use crate::outputs::makes;
+use crate::outputs::made_amounts;
 use crate::pot_phase::{PotPhase, named_item, share_out};
-use atl_instant::{Arrangement, Month, Phase, PhaseVerbs, Ran, Written, tell_all};
+use atl_instant::{Arrangement, Month, Phase, PhaseOrder, PhaseResult, PhaseVerbs, add_events};
 use atl_orders::Verb;
 use atl_state::{Campaign, EventFault, Unit};
 use atl_tables::{Numbered, World};
@@ -34,15 +35,15 @@ impl PotPhase for ProducePhase {
 
     ghost can_pay = { λ _. CanProduce };
 
-    fn fault(&self, world: &World, unit: &Unit, order: Written<'_>) -> Option<EventFault> {
+    fn fault(&self, world: &World, unit: &Unit, order: PhaseOrder<'_>) -> Option<EventFault> {
         make_fault(world, &unit.holding, named_item(order))
     }
 
-    fn want(&self, world: &World, unit: &Unit, order: Written<'_>) -> u32 {
+    fn want(&self, world: &World, unit: &Unit, order: PhaseOrder<'_>) -> u32 {
         can_make(world, &unit.holding, named_item(order))
     }
 
-    fn given(
+    fn grants(
         &self,
         alloc: Global,
         world: &World,
@@ -50,14 +51,14 @@ impl PotPhase for ProducePhase {
         items: &Numbered<u16>,
         wants: &Numbered<u32>,
     ) -> Result<Numbered<u32>, AllocError> {
-        makes(alloc, world, campaign, items, wants)
+        made_amounts(alloc, world, campaign, items, wants)
     }
 
-    fn told(&self, _world: &World, _unit: &Unit, share: u32) -> u64 {
+    fn event_number(&self, _world: &World, _unit: &Unit, share: u32) -> u64 {
         u64::from(share)
     }
 
-    #[tactic(auto, unfolding(crate::specs::Produce::produced))]
+    #[tactic(auto, unfolding(crate::specs::Produce::after_production))]
     fn pay(
         &self,
         world: &World,
@@ -87,12 +88,18 @@ impl Phase for ProducePhase {
 
     ghost keeps = { produce_keeps };
 
-    fn run(&self, alloc: Global, world: &World, mut campaign: Campaign, mut month: Month) -> Ran {
+    fn run(
+        &self,
+        alloc: Global,
+        world: &World,
+        mut campaign: Campaign,
+        mut month: Month,
+    ) -> PhaseResult {
         let orders = month.orders(alloc, self, Arrangement::ByUnit)?;
         world_is_sound(world);
         let events = share_out(alloc, self, world, &mut campaign, &orders)?;
         drop(orders);
-        tell_all(&mut month, &events)?;
+        add_events(&mut month, &events)?;
         Ok((campaign, month))
     }
 }

@@ -1,4 +1,4 @@
-//! RECRUIT: peasants of a region join its units, at a price.
+//! RECRUIT: peasants of a region join its units, at a price. See docs/RULES.md, "Recruiting".
 ghost use Rattle.std.specs.Prelude.{ℕ, pos, neg_ℤ, ◌≡◌, ◌≤◌, ◌+◌, ◌*◌, Some};
 ghost use Rattle.std.specs.FinMap as finmap;
 ghost use Rattle.atl_records.specs.declared.books.Entry.TheVariants.{Recruiting};
@@ -11,13 +11,15 @@ ghost use Rattle.atl_records.specs.Limits.{holding_limit, men_limit};
 ghost use Rattle.atl_state.specs.Campaign.{with_amount, with_peasants};
 ghost use Rattle.atl_instant.specs.Holdings.{MarksNoGoods};
 ghost use Rattle.atl_instant.specs.Meaning.{HaveRoom, most_moved};
-ghost use Rattle.atl_market.specs.Recruit.{is_recruit, recruit_keeps, recruit_meaning, recruit_moves, recruit_pots, recruited, recruits_at, with_men};
+ghost use Rattle.atl_market.specs.Recruit.{after_recruiting, is_recruit, recruit_keeps, recruit_meaning, recruit_moves, recruit_pots, recruits_at, with_men};
 ghost use Rattle.atl_market.specs.Payable.{CanRecruit};
-ghost use Rattle.atl_market.specs.Paid.{RecruitsAtOnce};
+ghost use Rattle.atl_market.specs.AfterPots.{RecruitsAtOnce};
 
 use crate::pot_phase::{PotPhase, named_count, share_out};
 use crate::pots::{Pots, pot_shares};
-use atl_instant::{Arrangement, Month, Phase, PhaseVerbs, Ran, Written, book_taken, tell_all};
+use atl_instant::{
+    Arrangement, Month, Phase, PhaseOrder, PhaseResult, PhaseVerbs, add_events, book_taken,
+};
 use atl_orders::Verb;
 use atl_state::{Campaign, Entry, EventFault, MEN_LIMIT, Thing, Unit};
 use atl_tables::{Numbered, World};
@@ -37,12 +39,12 @@ impl PhaseVerbs for RecruitPhase {
 
 /// How many peasants can be recruited in the regions.
 #[derive(Drop)]
-struct Recruitable<'a> {
+struct RecruitPots<'a> {
     world: &'a World,
     campaign: &'a Campaign,
 }
 
-impl<'a> Pots for Recruitable<'a> {
+impl<'a> Pots for RecruitPots<'a> {
     ghost pot_of = { λ pots. recruits_at pots.world.now pots.campaign.now.value };
 
     ghost ready = { λ pots. IsEarly pots.world.now pots.campaign.now.value };
@@ -57,9 +59,13 @@ impl<'a> Pots for Recruitable<'a> {
 
 /// Recruits join a unit that is there, which pays for them. Its goods stay as they are, and unmarked.
 fn join_unit(campaign: &mut Campaign, unit: u32, recruits: u32, cost: u32)
-    requires fits { (u : Unit) → finmap.get campaign.old.value.units unit ≡ Some u → u.holding.men + recruits ≤ men_limit }
-    requires payable { (u : Unit) → finmap.get campaign.old.value.units unit ≡ Some u → cost ≤ u.holding.money }
-    ensures what { (u : Unit) → finmap.get campaign.old.value.units unit ≡ Some u → campaign.new.value ≡ with_holding campaign.old.value unit (with_men u.holding recruits cost) }
+    requires fits { (u : Unit) → finmap.get campaign.old.value.units unit ≡ Some u
+        → u.holding.men + recruits ≤ men_limit }
+    requires payable { (u : Unit) → finmap.get campaign.old.value.units unit ≡ Some u
+        → cost ≤ u.holding.money }
+    ensures what { (u : Unit) → finmap.get campaign.old.value.units unit ≡ Some u
+        → campaign.new.value ≡ with_holding campaign.old.value unit
+        (with_men u.holding recruits cost) }
     ensures marks { MarksChanges campaign.old campaign.new }
     ensures goods { MarksNoGoods campaign.old.marks campaign.new.marks }
 {
@@ -76,7 +82,9 @@ fn leave_region(campaign: &mut Campaign, region: u32, peasants: u32, cost: u32)
     requires little { cost ≤ holding_limit }
     requires grid { (things : ℕ) × (2 ≤ things) × IsGrid things campaign.old.value.books }
     requires room { HaveRoom (recruit_moves holding_limit) campaign.old.value }
-    ensures what { campaign.new.value ≡ with_amount (with_peasants campaign.old.value region peasants) Recruiting Money (neg_ℤ (pos cost)) }
+    ensures what { campaign.new.value
+        ≡ with_amount (with_peasants campaign.old.value region peasants) Recruiting Money
+        (neg_ℤ (pos cost)) }
     ensures marks { MarksChanges campaign.old campaign.new }
 {
     campaign.set_peasants(region, peasants);
@@ -90,7 +98,7 @@ impl PotPhase for RecruitPhase {
 
     ghost can_pay = { λ _ _. CanRecruit };
 
-    fn fault(&self, world: &World, unit: &Unit, _order: Written<'_>) -> Option<EventFault> {
+    fn fault(&self, world: &World, unit: &Unit, _order: PhaseOrder<'_>) -> Option<EventFault> {
         if unit.holding.money() < world.rules().recruit_price {
             Some(EventFault::NotEnough)
         } else {
@@ -98,13 +106,13 @@ impl PotPhase for RecruitPhase {
         }
     }
 
-    fn want(&self, world: &World, unit: &Unit, order: Written<'_>) -> u32 {
+    fn want(&self, world: &World, unit: &Unit, order: PhaseOrder<'_>) -> u32 {
         let payable = unit.holding.money() / world.rules().recruit_price;
         let room = MEN_LIMIT - unit.holding.men();
         named_count(order).min(payable.min(room))
     }
 
-    fn given(
+    fn grants(
         &self,
         alloc: Global,
         world: &World,
@@ -112,14 +120,14 @@ impl PotPhase for RecruitPhase {
         _items: &Numbered<u16>,
         wants: &Numbered<u32>,
     ) -> Result<Numbered<u32>, AllocError> {
-        pot_shares(alloc, campaign, &Recruitable { world, campaign }, wants)
+        pot_shares(alloc, campaign, &RecruitPots { world, campaign }, wants)
     }
 
-    fn told(&self, _world: &World, _unit: &Unit, share: u32) -> u64 {
+    fn event_number(&self, _world: &World, _unit: &Unit, share: u32) -> u64 {
         u64::from(share)
     }
 
-    #[tactic(auto, unfolding(crate::specs::Recruit::recruited))]
+    #[tactic(auto, unfolding(crate::specs::Recruit::after_recruiting))]
     fn pay(
         &self,
         world: &World,
@@ -154,11 +162,17 @@ impl Phase for RecruitPhase {
 
     ghost keeps = { recruit_keeps };
 
-    fn run(&self, alloc: Global, world: &World, mut campaign: Campaign, mut month: Month) -> Ran {
+    fn run(
+        &self,
+        alloc: Global,
+        world: &World,
+        mut campaign: Campaign,
+        mut month: Month,
+    ) -> PhaseResult {
         let orders = month.orders(alloc, self, Arrangement::ByUnit)?;
         let events = share_out(alloc, self, world, &mut campaign, &orders)?;
         drop(orders);
-        tell_all(&mut month, &events)?;
+        add_events(&mut month, &events)?;
         Ok((campaign, month))
     }
 }

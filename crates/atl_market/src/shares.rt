@@ -1,4 +1,4 @@
-//! Shares of a pot.
+//! Shares a pot among wants with one running remainder. See docs/RULES.md, "Shares".
 ghost use Rattle.std.specs.Prelude.{◌≡◌, ◌≤◌, ◌<◌, ◌*◌, ℕ, length, sum, min, slice_index, All, IfOk};
 ghost use Rattle.atl_tables.specs.Limits.{most_amount};
 ghost use Rattle.atl_market.specs.Share.{IsNearPart, SplittingKeepsOthers, shares};
@@ -19,7 +19,7 @@ fn sum_of(wants: &[u64]) -> u128
 }
 
 /// The shares, with one running remainder.
-fn shared(alloc: Global, pot: u64, wants: &[u64]) -> Result<Vec<u64>, AllocError>
+fn proportional_shares(alloc: Global, pot: u64, wants: &[u64]) -> Result<Vec<u64>, AllocError>
     requires pot { pot ≤ most_amount }
     requires wants { All (λ want. want ≤ most_amount) wants.now }
     ensures { IfOk result (λ given. given.items ≡ shares pot wants.now) }
@@ -48,11 +48,14 @@ pub fn share(alloc: Global, pot: u64, wants: &[u64]) -> Result<Vec<u64>, AllocEr
     requires pot { pot ≤ most_amount }
     requires wants { All (λ want. want ≤ most_amount) wants.now }
     ensures definition { IfOk result (λ given. given.items ≡ shares pot wants.now) }
-    ensures at_most { IfOk result (λ given. (i : ℕ) → slice_index given.items i ≤ slice_index wants.now i) }
+    ensures at_most { IfOk result
+        (λ given. (i : ℕ) → slice_index given.items i ≤ slice_index wants.now i) }
     ensures all_given { IfOk result (λ given. sum given.items ≡ min pot (sum wants.now)) }
-    ensures near { IfOk result (λ given. pot < sum wants.now → (i : ℕ) → IsNearPart pot (sum wants.now) (slice_index wants.now i) (slice_index given.items i)) }
+    ensures near { IfOk result
+        (λ given. pot < sum wants.now → (i : ℕ)
+        → IsNearPart pot (sum wants.now) (slice_index wants.now i) (slice_index given.items i)) }
 {
-    shared(alloc, pot, wants)
+    proportional_shares(alloc, pot, wants)
 }
 
 /// Does nothing. Its clause is the law that splitting a want among neighbours gives them together what it got, and all

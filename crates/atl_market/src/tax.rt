@@ -1,4 +1,4 @@
-//! TAX: units on guard take the money of their region.
+//! TAX: units on guard take the money of their region. See docs/RULES.md, "Tax".
 ghost use Rattle.std.specs.Prelude.{◌≡◌, ◌≤◌};
 ghost use Rattle.atl_tables.specs.Worlds.{WorldValue};
 ghost use Rattle.atl_state.specs.Covers.{MarksChanges};
@@ -6,14 +6,14 @@ ghost use Rattle.atl_state.specs.Good.{IsEarly};
 ghost use Rattle.atl_records.specs.Limits.{holding_limit};
 ghost use Rattle.atl_state.specs.Campaign.{with_money, with_region_money};
 ghost use Rattle.atl_instant.specs.Holdings.{MarksNoGoods};
-ghost use Rattle.atl_instant.specs.Staying.{spares_all};
-ghost use Rattle.atl_market.specs.Tax.{is_tax, money_at, tax_meaning, tax_pots, taxed};
+ghost use Rattle.atl_instant.specs.NoWorse.{spares_all};
+ghost use Rattle.atl_market.specs.Tax.{after_tax, is_tax, money_at, tax_meaning, tax_pots};
 ghost use Rattle.atl_market.specs.Payable.{CanTax};
-ghost use Rattle.atl_market.specs.Paid.{TaxesAtOnce};
+ghost use Rattle.atl_market.specs.AfterPots.{TaxesAtOnce};
 
 use crate::pot_phase::{PotPhase, share_out};
 use crate::pots::{Pots, pot_shares};
-use atl_instant::{Arrangement, Month, Phase, PhaseVerbs, Ran, Written, tell_all};
+use atl_instant::{Arrangement, Month, Phase, PhaseOrder, PhaseResult, PhaseVerbs, add_events};
 use atl_orders::Verb;
 use atl_state::{Campaign, EventFault, HOLDING_LIMIT, Unit};
 use atl_tables::{Numbered, World};
@@ -53,7 +53,8 @@ impl<'a> Pots for RegionMoney<'a> {
 /// A unit has so much money, and its region so much.
 fn hand_over(campaign: &mut Campaign, unit: u32, money: u32, region: u32, left: u32)
     requires { money ≤ holding_limit }
-    ensures what { campaign.new.value ≡ with_region_money (with_money campaign.old.value unit money) region left }
+    ensures what { campaign.new.value
+        ≡ with_region_money (with_money campaign.old.value unit money) region left }
     ensures marks { MarksChanges campaign.old campaign.new }
     ensures goods { MarksNoGoods campaign.old.marks campaign.new.marks }
 {
@@ -68,7 +69,7 @@ impl PotPhase for TaxPhase {
 
     ghost can_pay = { λ _ _. CanTax };
 
-    fn fault(&self, _world: &World, unit: &Unit, _order: Written<'_>) -> Option<EventFault> {
+    fn fault(&self, _world: &World, unit: &Unit, _order: PhaseOrder<'_>) -> Option<EventFault> {
         if unit.holding.men() == 0 {
             Some(EventFault::NoMen)
         } else if !unit.holding.guard() {
@@ -78,12 +79,12 @@ impl PotPhase for TaxPhase {
         }
     }
 
-    fn want(&self, world: &World, unit: &Unit, _order: Written<'_>) -> u32 {
+    fn want(&self, world: &World, unit: &Unit, _order: PhaseOrder<'_>) -> u32 {
         let room = HOLDING_LIMIT - unit.holding.money();
         (unit.holding.men() * world.rules().tax_per_man).min(room)
     }
 
-    fn given(
+    fn grants(
         &self,
         alloc: Global,
         _world: &World,
@@ -94,11 +95,11 @@ impl PotPhase for TaxPhase {
         pot_shares(alloc, campaign, &RegionMoney { campaign }, wants)
     }
 
-    fn told(&self, _world: &World, _unit: &Unit, share: u32) -> u64 {
+    fn event_number(&self, _world: &World, _unit: &Unit, share: u32) -> u64 {
         u64::from(share)
     }
 
-    #[tactic(auto, unfolding(crate::specs::Tax::taxed))]
+    #[tactic(auto, unfolding(crate::specs::Tax::after_tax))]
     fn pay(
         &self,
         _world: &World,
@@ -129,11 +130,17 @@ impl Phase for TaxPhase {
 
     ghost keeps = { spares_all };
 
-    fn run(&self, alloc: Global, world: &World, mut campaign: Campaign, mut month: Month) -> Ran {
+    fn run(
+        &self,
+        alloc: Global,
+        world: &World,
+        mut campaign: Campaign,
+        mut month: Month,
+    ) -> PhaseResult {
         let orders = month.orders(alloc, self, Arrangement::ByUnit)?;
         let events = share_out(alloc, self, world, &mut campaign, &orders)?;
         drop(orders);
-        tell_all(&mut month, &events)?;
+        add_events(&mut month, &events)?;
         Ok((campaign, month))
     }
 }

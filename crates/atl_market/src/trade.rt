@@ -1,23 +1,24 @@
-//! SELL and BUY: units trade items with the markets of their regions.
+//! SELL and BUY: units trade items with the markets of their regions. See docs/RULES.md, "Selling"
+//! and docs/RULES.md, "Buying".
 ghost use Rattle.std.specs.Prelude.{◌≡◌, ◌≤◌, ◌+◌, ◌*◌, IfSome, OnOk, Some};
 ghost use Rattle.std.specs.FinMap as finmap;
 ghost use Rattle.std.specs.Option.{option_copied};
 ghost use Rattle.atl_tables.specs.Limits.{most_amount};
 ghost use Rattle.atl_state.specs.Covers.{MarksChanges};
 ghost use Rattle.atl_state.specs.Good.{IsEarly};
-ghost use Rattle.atl_records.specs.Held.{with_amount_of};
+ghost use Rattle.atl_records.specs.Holdings.{with_amount_of};
 ghost use Rattle.atl_records.specs.Limits.{holding_limit};
 ghost use Rattle.atl_records.specs.declared.records.Unit.{Unit};
 ghost use Rattle.atl_instant.specs.Holdings.{ChangesHolding};
 ghost use Rattle.atl_instant.specs.Meaning.{most_moved};
-ghost use Rattle.atl_market.specs.Trade.{deal_of, dealt, has_too_little, is_trade, limit_of, market_for, most_traded, trade_entry, trade_fault, trade_keeps, trade_meaning, trade_moves, trade_of, trade_pot, trade_pots, traded};
-ghost use Rattle.atl_market.specs.Trading.{CanDeal, CanSettle, CanTrade, HasPot, IsPriced};
-ghost use Rattle.atl_market.specs.Paid.{TradesAtOnce};
+ghost use Rattle.atl_market.specs.Trade.{after_trade, has_too_little, is_trade, limit_of, market_for, most_tradable, trade_entry, trade_fault, trade_keeps, trade_meaning, trade_moves, trade_of, trade_pot, trade_pots, trade_result_of, with_result};
+ghost use Rattle.atl_market.specs.Trading.{CanAfford, CanBookTrade, CanTrade, HasPot, IsPriced};
+ghost use Rattle.atl_market.specs.AfterPots.{TradesAtOnce};
 
 use crate::item_pots::{ItemPots, item_shares};
 use crate::pot_phase::{PotPhase, named_count, named_item, share_out};
 use crate::produce::world_is_sound;
-use atl_instant::{Arrangement, Month, Phase, PhaseVerbs, Ran, Written, tell_all};
+use atl_instant::{Arrangement, Month, Phase, PhaseOrder, PhaseResult, PhaseVerbs, add_events};
 use atl_orders::Verb;
 use atl_state::{Campaign, Entry, EventFault, HOLDING_LIMIT, Holding, Thing, Unit};
 use atl_tables::{Market, Numbered, World};
@@ -42,7 +43,7 @@ pub(crate) enum Trade {
 
 /// What a trade leaves.
 #[derive(Drop, Clone, Copy, Debug)]
-pub(crate) struct Deal {
+pub(crate) struct TradeResult {
     /// The unit's money.
     pub money: u32,
     /// How much the unit has of the item.
@@ -98,9 +99,9 @@ fn trade_fault(trade: Trade, holding: &Holding, market: Option<&Market>) -> Opti
 }
 
 /// How many of an item a unit can trade, at most 999,999,999.
-fn most_traded(trade: Trade, holding: &Holding, market: &Market) -> u32
+fn most_tradable(trade: Trade, holding: &Holding, market: &Market) -> u32
     requires { IsPriced market.now }
-    ensures value { result ≡ most_traded trade holding.now market.now }
+    ensures value { result ≡ most_tradable trade holding.now market.now }
     ensures bound { result ≤ most_amount }
 {
     let held = holding.amount(u32::from(market.item));
@@ -112,18 +113,24 @@ fn most_traded(trade: Trade, holding: &Holding, market: &Market) -> u32
 }
 
 /// What a trade of so many leaves of what a unit holds and of the stock.
-fn deal_of(trade: Trade, holding: &Holding, stock: u32, share: u32, market: &Market) -> Deal
-    requires holder { CanDeal trade holding.now share (Some market.now) }
+fn trade_result_of(
+    trade: Trade,
+    holding: &Holding,
+    stock: u32,
+    share: u32,
+    market: &Market,
+) -> TradeResult
+    requires holder { CanAfford trade holding.now share (Some market.now) }
     requires pot { HasPot trade stock share (Some market.now) }
     requires priced { IsPriced market.now }
-    ensures { result ≡ deal_of trade holding.now stock share market.now }
+    ensures { result ≡ trade_result_of trade holding.now stock share market.now }
 {
     let money = holding.money();
     let amount = holding.amount(u32::from(market.item));
     match trade {
         Trade::Sell => {
             let paid = share * market.pays;
-            Deal {
+            TradeResult {
                 money: money + paid,
                 amount: amount - share,
                 stock: stock + share,
@@ -132,7 +139,7 @@ fn deal_of(trade: Trade, holding: &Holding, stock: u32, share: u32, market: &Mar
         }
         Trade::Buy => {
             let paid = share * market.price;
-            Deal {
+            TradeResult {
                 money: money - paid,
                 amount: amount + share,
                 stock: stock - share,
@@ -152,7 +159,8 @@ fn set_goods(
 ) -> Result<(), AllocError>
     requires money { money ≤ holding_limit }
     requires amount { amount ≤ holding_limit }
-    ensures { OnOk result (ChangesHolding campaign.old campaign.new number (λ h. record h { money = money; items = with_amount_of h.items item amount })) }
+    ensures { OnOk result (ChangesHolding campaign.old campaign.new number
+        (λ h. record h { money = money; items = with_amount_of h.items item amount })) }
 {
     campaign.set_money(number, money);
     campaign.set_item(number, item, amount)
@@ -160,16 +168,18 @@ fn set_goods(
 
 /// A unit of a region, the region's stock and the books become what a deal leaves of them. AllocError without memory; the
 /// campaign may then be changed in part.
-fn settle(
+fn book_trade(
     campaign: &mut Campaign,
     number: u32,
     region: u32,
     item: u32,
     entry: Entry,
-    deal: Deal,
+    deal: TradeResult,
 ) -> Result<(), AllocError>
-    requires { CanSettle campaign.old.value number entry deal }
-    ensures what { OnOk result ((u : Unit) → finmap.get campaign.old.value.units number ≡ Some u → u.region ≡ region → campaign.new.value ≡ dealt campaign.old.value number u item entry deal) }
+    requires { CanBookTrade campaign.old.value number entry deal }
+    ensures what { OnOk result
+        ((u : Unit) → finmap.get campaign.old.value.units number ≡ Some u → u.region ≡ region
+        → campaign.new.value ≡ with_result campaign.old.value number u item entry deal) }
     ensures marks { OnOk result (MarksChanges campaign.old campaign.new) }
 {
     set_goods(campaign, number, item, deal.money, deal.amount)?;
@@ -194,14 +204,14 @@ fn limit_of(world: &World, item: u32, region: u32) -> u32
 
 /// The stocks of the markets, or what is missing of them, for the units that are told to trade.
 #[derive(Drop)]
-struct Tradable<'a> {
+struct MarketPots<'a> {
     trade: Trade,
     world: &'a World,
     campaign: &'a Campaign,
     items: &'a Numbered<u16>,
 }
 
-impl<'a> ItemPots for Tradable<'a> {
+impl<'a> ItemPots for MarketPots<'a> {
     ghost item_of = { λ pots. finmap.get pots.items.now };
 
     ghost pot_of = { λ pots. trade_pot pots.trade pots.world.now pots.campaign.now.value };
@@ -229,7 +239,7 @@ impl PotPhase for Trade {
 
     ghost can_pay = { CanTrade };
 
-    fn fault(&self, world: &World, unit: &Unit, order: Written<'_>) -> Option<EventFault> {
+    fn fault(&self, world: &World, unit: &Unit, order: PhaseOrder<'_>) -> Option<EventFault> {
         trade_fault(
             *self,
             &unit.holding,
@@ -237,14 +247,14 @@ impl PotPhase for Trade {
         )
     }
 
-    fn want(&self, world: &World, unit: &Unit, order: Written<'_>) -> u32 {
+    fn want(&self, world: &World, unit: &Unit, order: PhaseOrder<'_>) -> u32 {
         match market_for(world, unit, named_item(order)) {
-            Some(market) => named_count(order).min(most_traded(*self, &unit.holding, market)),
+            Some(market) => named_count(order).min(most_tradable(*self, &unit.holding, market)),
             None => 0,
         }
     }
 
-    fn given(
+    fn grants(
         &self,
         alloc: Global,
         world: &World,
@@ -252,7 +262,7 @@ impl PotPhase for Trade {
         items: &Numbered<u16>,
         wants: &Numbered<u32>,
     ) -> Result<Numbered<u32>, AllocError> {
-        let pots = Tradable {
+        let pots = MarketPots {
             trade: *self,
             world,
             campaign,
@@ -262,11 +272,11 @@ impl PotPhase for Trade {
         Ok(given)
     }
 
-    fn told(&self, _world: &World, _unit: &Unit, share: u32) -> u64 {
+    fn event_number(&self, _world: &World, _unit: &Unit, share: u32) -> u64 {
         u64::from(share)
     }
 
-    #[tactic(auto, unfolding(crate::specs::Trade::traded))]
+    #[tactic(auto, unfolding(crate::specs::Trade::after_trade))]
     fn pay(
         &self,
         world: &World,
@@ -284,8 +294,8 @@ impl PotPhase for Trade {
         let region = unit.region;
         let item = u32::from(market.item);
         let stock = campaign.stock(region, item);
-        let deal = deal_of(*self, &unit.holding, stock, share, market);
-        settle(campaign, number, region, item, self.entry(), deal)
+        let deal = trade_result_of(*self, &unit.holding, stock, share, market);
+        book_trade(campaign, number, region, item, self.entry(), deal)
     }
 }
 
@@ -318,13 +328,19 @@ impl<const SELLS: bool> Phase for TradePhase<SELLS> {
 
     ghost keeps = { trade_keeps (trade_of SELLS) };
 
-    fn run(&self, alloc: Global, world: &World, mut campaign: Campaign, mut month: Month) -> Ran {
+    fn run(
+        &self,
+        alloc: Global,
+        world: &World,
+        mut campaign: Campaign,
+        mut month: Month,
+    ) -> PhaseResult {
         let orders = month.orders(alloc, self, Arrangement::ByUnit)?;
         world_is_sound(world);
         let trade = trade_of(SELLS);
         let events = share_out(alloc, &trade, world, &mut campaign, &orders)?;
         drop(orders);
-        tell_all(&mut month, &events)?;
+        add_events(&mut month, &events)?;
         Ok((campaign, month))
     }
 }

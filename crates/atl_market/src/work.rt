@@ -1,4 +1,5 @@
-//! WORK: units take the places of their region's terrain, each of which pays the wage.
+//! WORK: units share the places of their region's terrain, each of which pays the wage. See
+//! docs/RULES.md, "Work".
 ghost use Rattle.std.specs.Prelude.{⊤, ℕ, pos, ◌≡◌, ◌≤◌, ◌+◌, ◌++◌, map, IfOk, OnOk};
 ghost use Rattle.std.specs.List.Sorted.{IsPermutation, IsSortedByKey};
 ghost use Rattle.std.specs.Cmp.Lexicographic.{slice_cmp};
@@ -12,22 +13,23 @@ ghost use Rattle.atl_records.specs.Limits.{holding_limit};
 ghost use Rattle.atl_state.specs.Campaign.{with_amount, with_money};
 ghost use Rattle.atl_instant.specs.Holdings.{MarksNoGoods};
 ghost use Rattle.atl_instant.specs.Meaning.{HaveRoom, most_moved};
-ghost use Rattle.atl_instant.specs.Staying.{spares_all};
+ghost use Rattle.atl_instant.specs.NoWorse.{spares_all};
 ghost use Rattle.atl_tables.specs.ByNumber.{terrain_of};
-ghost use Rattle.atl_market.specs.Work.{earned, is_work, places_at, wage_at, work_meaning, work_moves, work_orders, work_pots, written_work};
-ghost use Rattle.atl_orders.specs.declared.order.Order.TheVariants.{Work};
+ghost use Rattle.atl_market.specs.Work.{is_work, places_at, wage_at, wages_for, work_meaning, work_moves, work_orders, work_pots, written_work};
+ghost use Rattle.atl_orders.specs.declared.order.Operands.TheVariants.{Nothing};
+ghost use Rattle.atl_orders.specs.declared.verb.Verb.TheVariants.{Work};
 ghost use Rattle.atl_instant.specs.PhaseOrders.{key_of, task_of};
-ghost use Rattle.atl_instant.specs.declared.written.Arrangement.TheVariants.{ByUnit};
+ghost use Rattle.atl_instant.specs.declared.phase_order.Arrangement.TheVariants.{ByUnit};
 ghost use Rattle.atl_market.specs.Idle.{all_idle, own_writers};
-ghost use Rattle.atl_market.specs.Paid.{WorksAtOnce};
+ghost use Rattle.atl_market.specs.AfterPots.{WorksAtOnce};
 ghost use Rattle.atl_market.specs.Payable.{CanWork};
 
 use crate::pot_phase::{PotPhase, share_out};
 use crate::pots::{Pots, pot_shares};
 use atl_instant::{
-    Arrangement, Month, MonthLongVerbs, Phase, Ran, Written, is_of_faction, tell_all,
+    Arrangement, Month, MonthLongVerbs, Phase, PhaseOrder, PhaseResult, add_events, is_of_faction,
 };
-use atl_orders::{Mailing, Order, Verb};
+use atl_orders::{Mailing, Operands, Order, Verb};
 use atl_state::{Campaign, Entry, EventFault, HOLDING_LIMIT, Thing, Unit};
 use atl_tables::{Numbered, Sequence, World};
 use std::alloc::{AllocError, Global};
@@ -40,9 +42,10 @@ pub struct WorkPhase;
 fn own_writers(
     alloc: Global,
     campaign: &Campaign,
-    orders: &[Written<'_>],
+    orders: &[PhaseOrder<'_>],
 ) -> Result<Numbered<u32>, AllocError>
-    ensures { IfOk result (λ writers. writers ≡ own_writers campaign.now.value (map task_of orders.now)) }
+    ensures { IfOk result (λ writers. writers
+        ≡ own_writers campaign.now.value (map task_of orders.now)) }
 {
     let mut writers = Numbered::new(alloc);
     for order in orders {
@@ -60,12 +63,15 @@ fn is_work(verb: Verb) -> bool
 }
 
 /// The orders of WORK among the month-long ones.
-fn written_work<'m>(alloc: Global, orders: &[Written<'m>]) -> Result<Vec<Written<'m>>, AllocError>
+fn written_work<'m>(
+    alloc: Global,
+    orders: &[PhaseOrder<'m>],
+) -> Result<Vec<PhaseOrder<'m>>, AllocError>
     ensures { IfOk result (λ list. map task_of list.items ≡ written_work (map task_of orders.now)) }
 {
     let mut list = Vec::new(alloc);
     for order in orders {
-        if is_work(order.order.verb()) {
+        if is_work(order.order.verb) {
             list.push(*order)?;
         }
     }
@@ -76,18 +82,19 @@ fn written_work<'m>(alloc: Global, orders: &[Written<'m>]) -> Result<Vec<Written
 fn add_idle<'m>(
     alloc: Global,
     campaign: &Campaign,
-    orders: &[Written<'m>],
+    orders: &[PhaseOrder<'m>],
     mailing: &'m Mailing,
     work: &'m Order,
-    list: &mut Vec<Written<'m>>,
+    list: &mut Vec<PhaseOrder<'m>>,
 ) -> Result<(), AllocError>
-    requires { work.now ≡ Work }
-    ensures { OnOk result (map task_of list.new.items ≡ map task_of list.old.items ++ all_idle campaign.now.value (map task_of orders.now)) }
+    requires { work.now ≡ record { verb = Work; operands = Nothing } }
+    ensures { OnOk result (map task_of list.new.items
+        ≡ map task_of list.old.items ++ all_idle campaign.now.value (map task_of orders.now)) }
 {
     let writers = own_writers(alloc, campaign, orders)?;
     for (number, unit) in campaign.units() {
         if unit.holding.men() > 0 && writers.get(number).is_none() {
-            list.push(Written {
+            list.push(PhaseOrder {
                 unit: number,
                 line: 0,
                 faction: unit.faction,
@@ -101,9 +108,10 @@ fn add_idle<'m>(
 }
 
 /// Sorts orders by unit, line and faction, and last by their place.
-fn sort(list: &mut Vec<Written<'_>>)
+fn sort(list: &mut Vec<PhaseOrder<'_>>)
     ensures moved { IsPermutation list.old.items list.new.items }
-    ensures sorted { IsSortedByKey (λ o. key_of ByUnit (task_of o)) (slice_cmp nat_cmp) list.new.items }
+    ensures sorted { IsSortedByKey (λ o. key_of ByUnit (task_of o)) (slice_cmp nat_cmp)
+        list.new.items }
 {
     list.sort_unstable_by_key(
         |written|
@@ -126,9 +134,10 @@ fn work_orders<'m>(
     month: &'m Month,
     mailing: &'m Mailing,
     work: &'m Order,
-) -> Result<Vec<Written<'m>>, AllocError>
-    requires { work.now ≡ Work }
-    ensures { IfOk result (λ list. map task_of list.items ≡ work_orders campaign.now.value month.now) }
+) -> Result<Vec<PhaseOrder<'m>>, AllocError>
+    requires { work.now ≡ record { verb = Work; operands = Nothing } }
+    ensures { IfOk result (λ list. map task_of list.items
+        ≡ work_orders campaign.now.value month.now) }
 {
     let orders = month.orders(alloc, &MonthLongVerbs, Arrangement::ByUnit)?;
     let mut list = written_work(alloc, &orders)?;
@@ -177,8 +186,8 @@ fn wage_at(world: &World, region: u32) -> u32
 }
 
 /// What so many places in a region pay.
-fn earned(world: &World, region: u32, places: u32) -> u64
-    ensures { result ≡ earned world.now region places }
+fn wages_for(world: &World, region: u32, places: u32) -> u64
+    ensures { result ≡ wages_for world.now region places }
 {
     u64::from(places) * u64::from(wage_at(world, region))
 }
@@ -188,7 +197,9 @@ fn pay_wages(campaign: &mut Campaign, number: u32, held: u32, money: u32)
     requires fits { held + money ≤ holding_limit }
     requires grid { (things : ℕ) × (2 ≤ things) × IsGrid things campaign.old.value.books }
     requires room { HaveRoom (work_moves holding_limit) campaign.old.value }
-    ensures what { campaign.new.value ≡ with_amount (with_money campaign.old.value number (held + money)) Wages Money (pos money) }
+    ensures what { campaign.new.value
+        ≡ with_amount (with_money campaign.old.value number (held + money)) Wages Money
+        (pos money) }
     ensures marks { MarksChanges campaign.old campaign.new }
     ensures goods { MarksNoGoods campaign.old.marks campaign.new.marks }
 {
@@ -203,7 +214,7 @@ impl PotPhase for WorkPhase {
 
     ghost can_pay = { λ _ _. CanWork };
 
-    fn fault(&self, _world: &World, unit: &Unit, _order: Written<'_>) -> Option<EventFault> {
+    fn fault(&self, _world: &World, unit: &Unit, _order: PhaseOrder<'_>) -> Option<EventFault> {
         if unit.holding.men() == 0 {
             Some(EventFault::NoMen)
         } else {
@@ -211,7 +222,7 @@ impl PotPhase for WorkPhase {
         }
     }
 
-    fn want(&self, world: &World, unit: &Unit, _order: Written<'_>) -> u32 {
+    fn want(&self, world: &World, unit: &Unit, _order: PhaseOrder<'_>) -> u32 {
         match world.terrain_of(unit.region) {
             Some(terrain) => {
                 let room = HOLDING_LIMIT - unit.holding.money();
@@ -221,7 +232,7 @@ impl PotPhase for WorkPhase {
         }
     }
 
-    fn given(
+    fn grants(
         &self,
         alloc: Global,
         world: &World,
@@ -232,11 +243,11 @@ impl PotPhase for WorkPhase {
         pot_shares(alloc, campaign, &WorkPlaces { world }, wants)
     }
 
-    fn told(&self, world: &World, unit: &Unit, share: u32) -> u64 {
-        earned(world, unit.region, share)
+    fn event_number(&self, world: &World, unit: &Unit, share: u32) -> u64 {
+        wages_for(world, unit.region, share)
     }
 
-    #[tactic(auto, unfolding(crate::specs::Work::worked))]
+    #[tactic(auto, unfolding(crate::specs::Work::after_work))]
     fn pay(
         &self,
         world: &World,
@@ -249,7 +260,7 @@ impl PotPhase for WorkPhase {
             Some(unit) => (unit.region, unit.holding.money()),
             None => return Ok(()),
         };
-        let money = earned(world, region, share) as u32;
+        let money = wages_for(world, region, share) as u32;
         pay_wages(campaign, number, held, money);
         Ok(())
     }
@@ -262,13 +273,22 @@ impl Phase for WorkPhase {
 
     ghost keeps = { spares_all };
 
-    fn run(&self, alloc: Global, world: &World, mut campaign: Campaign, mut month: Month) -> Ran {
+    fn run(
+        &self,
+        alloc: Global,
+        world: &World,
+        mut campaign: Campaign,
+        mut month: Month,
+    ) -> PhaseResult {
         let mailing = no_mailing(alloc);
-        let work = Order::Work;
+        let work = Order {
+            verb: Verb::Work,
+            operands: Operands::Nothing,
+        };
         let orders = work_orders(alloc, &campaign, &month, &mailing, &work)?;
         let events = share_out(alloc, self, world, &mut campaign, &orders)?;
         drop(orders);
-        tell_all(&mut month, &events)?;
+        add_events(&mut month, &events)?;
         Ok((campaign, month))
     }
 }

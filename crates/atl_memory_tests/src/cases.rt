@@ -1,4 +1,4 @@
-//! The calls that are tried, and what comes of each where memory is ample.
+//! The calls that are tried, and the answer of each with enough memory.
 use crate::setting::{all_commands, begun, close, founded, join, next_mail, report};
 use crate::texts::{books, rows, told};
 use atl_service::{Command, Service};

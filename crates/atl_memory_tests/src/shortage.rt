@@ -1,4 +1,4 @@
-//! The two ways to be without memory.
+//! Two ways to run short of memory: a growth that is refused, or only a few blocks left.
 use crate::drought::Drought;
 use crate::fuse;
 use atl_tables::let_go;

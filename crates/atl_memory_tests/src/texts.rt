@@ -1,4 +1,4 @@
-//! Rows and answers as texts, so that all of them is compared at once.
+//! Turns rows and answers into texts, to compare all of them at once.
 use atl_service::{Answer, Service, open};
 use atl_state::{Campaign, Parts};
 use sqlite::{Alter, Connection};

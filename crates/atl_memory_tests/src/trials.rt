@@ -1,4 +1,4 @@
-//! A call with memory short, and what it leaves.
+//! Tries a call with too little memory, and checks what it leaves.
 use crate::cases::{Call, Case};
 use crate::setting::{begun, old_of};
 use crate::shortage::Shortage;

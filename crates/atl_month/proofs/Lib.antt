@@ -7,7 +7,7 @@ pub mod RestockLaws
 pub mod SeasonLaws
 pub mod CountLaws
 pub mod MonthLaws
-pub mod SettlingLaws
+pub mod UpkeepSharingLaws
 pub mod UpkeepLaws
 pub mod AloneLaws
 pub mod UnmailedEndLaws

@@ -16,23 +16,23 @@ use Rattle.atl_orders.specs.Mailing.{Reading}
 use Rattle.atl_records.proofs.EveryLaws.{every-empty}
 use Rattle.atl_state.proofs.GoodLaws.{posted-steady, posted-unsent}
 use Rattle.atl_instant.specs.Month.{MonthValue}
-use Rattle.atl_instant.specs.Meaning.{Condition, HaveRoom, IsNear, IsSameMonth, LeavesWell, Meaning, Moving}
+use Rattle.atl_instant.specs.Meaning.{BookBound, Condition, HaveRoom, IsNear, IsSameMonth, LeavesWell, Meaning}
 use Rattle.atl_instant.proofs.MonthLaws.{mailings_have_no_order}
 use Rattle.atl_instant.proofs.MeaningLaws.{MovesLess, near_more, room_when_sound}
-use Rattle.atl_month.specs.Month.{BooksAreNear, MonthHasNoOrder, begun, finished, month_meaning, month_moves, month_of, phases_moving}
-use Rattle.atl_month.specs.Swept.{IsSwept}
+use Rattle.atl_month.specs.Month.{BooksAreNear, MonthHasNoOrder, after_month, month_meaning, month_moves, month_of, new_month, phases_moving}
+use Rattle.atl_month.specs.AfterSweep.{IsSwept}
 use Rattle.atl_month.proofs.CountLaws.{has_all_back}
 use Rattle.atl_month.proofs.MoveLaws.{month_within, moves_in_month, phases_little}
 
 module _ (w : WorldValue) (d : CampaignValue) where
-  finished_steady : d.month < last_month → IsSteady w d → IsSteady w (finished d)
+  finished_steady : d.month < last_month → IsSteady w d → IsSteady w (after_month d)
   finished_steady early old = posted-steady w d (d.month + 1) empty d.reports (omega (arith, early)) (posted-unsent old.known.posts) old
 
-  finished_balances : Balances d → Balances (finished d)
+  finished_balances : Balances d → Balances (after_month d)
   unfolding total
   finished_balances old t = old t
 
-module _ (w : WorldValue) (c d : CampaignValue) (moving : Moving) (little : MovesLess moving moves_in_month) (early : c.month < last_month) (well : LeavesWell IsSwept moving w c d) where
+module _ (w : WorldValue) (c d : CampaignValue) (moving : BookBound) (little : MovesLess moving moves_in_month) (early : c.month < last_month) (well : LeavesWell IsSwept moving w c d) where
   abbrev same : IsSameMonth c d
   same = well.same_month
 
@@ -42,15 +42,15 @@ module _ (w : WorldValue) (c d : CampaignValue) (moving : Moving) (little : Move
   bound_grows : (a b f g : ℕ) → b ≡ a → g ≡ f → (200000000000000 * (a + 1) + 1000000000 * f) + 200000000000000 ≤ 200000000000000 * ((b + 1) + 1) + 1000000000 * g
   bound_grows a b f g month count = omega (arith, month, count)
 
-  amounts_within : AreAmountsWithin c → AreAmountsWithin (finished d)
+  amounts_within : AreAmountsWithin c → AreAmountsWithin (after_month d)
   amounts_within old e t =
-      near_within (amount_in c.books e t) (amount_in d.books e t) (moving e t) (amount_bound c) (amount_bound (finished d)) (little e t)
+      near_within (amount_in c.books e t) (amount_in d.books e t) (moving e t) (amount_bound c) (amount_bound (after_month d)) (little e t)
       (bound_grows c.month d.month (len c.factions) (len d.factions) same.month same.count) (well.near e t) (old e t)
 
   earlier : (a b : ℕ) → b ≡ a → a < last_month → b < last_month
   earlier a b is l = omega (arith, is, l)
 
-  finished_sound : IsSound w c → IsSound w (finished d)
+  finished_sound : IsSound w c → IsSound w (after_month d)
   finished_sound old = record {
     steady = finished_steady w d (earlier c.month d.month same.month early) well.leaves_it.steady;
     men = well.leaves_it.men;
@@ -60,7 +60,7 @@ module _ (w : WorldValue) (c d : CampaignValue) (moving : Moving) (little : Move
     mail = every-empty _;
   }
 
-  pub finished_good : IsGood w c → IsGood w (finished d)
+  pub finished_good : IsGood w c → IsGood w (after_month d)
   finished_good old = record {
     sound = finished_sound old.sound;
     reported = λ n f is. let there = same.factions n (f, is) in let report = old.reported n there.0 there.1 in (report.0, ap (λ reports. get reports n) same.reports ∙ report.1);
@@ -85,9 +85,9 @@ told_of : (phases : Meaning) (w : WorldValue) (c d : CampaignValue) (m n : Month
 told_of phases w c d m n begin events meaning begins told = ap (λ (es : List Event). (d, es)) told ∙ ap (λ (p : CampaignValue × MonthValue). (p.0, p.1.events)) (meaning ∙ ap (phases w c) begins)
 
 pub month_is : (w : WorldValue) (c d : CampaignValue) (m n : MonthValue) (readings : FinMap nat_cmp Reading) (words : List ℕ) (events : List Event)
-    → (d, n) ≡ month_meaning w c m → m ≡ begun readings words → events ≡ n.events → (d, events) ≡ month_of w c readings words
+    → (d, n) ≡ month_meaning w c m → m ≡ new_month readings words → events ≡ n.events → (d, events) ≡ month_of w c readings words
 unfolding month_of
-month_is w c d m n readings words events meaning begins told = told_of month_meaning w c d m n (begun readings words) events meaning begins told
+month_is w c d m n readings words events meaning begins told = told_of month_meaning w c d m n (new_month readings words) events meaning begins told
 
 -- in which order mailings come isn't seen
 pub month_has_no_order : MonthHasNoOrder

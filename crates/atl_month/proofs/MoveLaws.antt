@@ -5,15 +5,15 @@ use Rattle.std.proofs.lemmas.Bool.Decides.{nat_tests}
 use Rattle.atl_records.specs.declared.books.Thing.TheVariants.{Item, Money, People}
 use Rattle.atl_records.specs.Limits.{most_in_month}
 use Rattle.atl_records.proofs.EveryEntryLaws.{each_entry}
-use Rattle.atl_instant.specs.Meaning.{Moving}
-use Rattle.atl_instant.specs.Terms.{EachPhase, MovesItsOwn}
+use Rattle.atl_instant.specs.Meaning.{BookBound}
+use Rattle.atl_instant.specs.PhaseSpecs.{EachPhase, MovesItsOwn}
 use Rattle.atl_instant.proofs.MeaningLaws.{MovesLess}
-use Rattle.atl_instant.proofs.TermsLaws.{each_also, moved_within}
+use Rattle.atl_instant.proofs.PhaseSpecLaws.{each_also, moved_within}
 use Rattle.atl_month.specs.Month.{PhasesMoveLittle, TwoMoveAtMost, closing_phases, early_phases, later_phases, month_moves, moving_phases, phases_moving}
 use Rattle.atl_month.proofs.PhaseLaws.{IsPhase, closing_move, early_are, later_are}
 
 -- so far a month moves any amount at most
-abbrev pub moves_in_month : Moving
+abbrev pub moves_in_month : BookBound
 moves_in_month e t = most_in_month
 
 early_move : EachPhase MovesItsOwn early_phases

@@ -10,7 +10,7 @@ use Rattle.std.specs.Ordering.{nat_cmp, is_eq}
 use Rattle.std.specs.Cmp.{ranked}
 use Rattle.std.specs.FinMap.{FinMap, get, insert, nat_cmp-IsAntisymmetric}
 use Rattle.atl_tables.specs.Worlds.{WorldValue}
-use Rattle.atl_records.specs.Books.{amount_in, booked, thing_place}
+use Rattle.atl_records.specs.Books.{amount_in, booked, thing_index}
 use Rattle.atl_records.specs.declared.books.Entry.{Entry}
 use Rattle.atl_records.specs.declared.books.Entry.TheVariants.{Lost}
 use Rattle.atl_records.specs.declared.books.Thing.{Thing}
@@ -19,24 +19,24 @@ use Rattle.atl_records.specs.declared.records.Unit.{Unit}
 use Rattle.atl_records.specs.Every.{EachOf, Every}
 use Rattle.atl_state.specs.Founding.{things_of}
 use Rattle.atl_state.specs.Good.{IsSteady}
-use Rattle.atl_records.specs.Held.{Held, amount_of, with_amount_of}
+use Rattle.atl_records.specs.Holdings.{HoldingValue, amount_of, with_amount_of}
 use Rattle.atl_state.specs.Lending.{with_held}
 use Rattle.atl_records.specs.Limits.{holding_limit}
 use Rattle.atl_state.specs.Campaign.{CampaignValue, with_item, with_money}
-use Rattle.atl_records.specs.Amounts.{held}
+use Rattle.atl_records.specs.Amounts.{unit_amount}
 use Rattle.atl_state.specs.Totals.{total}
-use Rattle.atl_records.proofs.BookLaws.{booked-with_booked}
+use Rattle.atl_records.proofs.BookLaws.{booked-after_booking}
 use Rattle.atl_records.proofs.EveryLaws.{every-insert, get-insert_other}
-use Rattle.atl_state.proofs.HoldingLaws.{MayHold, may_hold_money, steady-held, total-held}
+use Rattle.atl_state.proofs.HoldingLaws.{MayHold, may_hold_money, steady-unit_amount, total-unit_amount}
 use Rattle.atl_state.proofs.RegionLaws.{changed-known, get-insert_same, steady-amount, total-amount}
-use Rattle.atl_instant.specs.Meaning.{IsNear, IsSameMonth, Moving, both_move, moves_only}
+use Rattle.atl_instant.specs.Meaning.{BookBound, IsNear, IsSameMonth, both_move, moves_only}
 use Rattle.atl_instant.proofs.MeaningLaws.{near_same, near_twice, same_month_by, same_month_twice}
-use Rattle.atl_records.proofs.HeldLaws.{amount_within, every_amount, set_amount}
+use Rattle.atl_records.proofs.HoldingLaws.{amount_within, every_amount, set_amount}
 use Rattle.atl_instant.proofs.BookingLaws.{booked-near, within-neg}
 use Rattle.atl_instant.proofs.QuitLaws.{owing_items, part_of}
-use Rattle.atl_instant.proofs.StayingLaws.{no_worse, no_worse_twice}
+use Rattle.atl_instant.proofs.NoWorseLaws.{no_worse, no_worse_twice}
 use Rattle.atl_instant.specs.LostItems.{moving_items}
-use Rattle.atl_month.specs.Sweep.{IsKept, passed_item, passed_money, taken_of, with_lost}
+use Rattle.atl_month.specs.Sweep.{IsKept, accepted_of, after_passing_item, after_passing_money, with_lost}
 
 -- ---- more than is booked
 
@@ -65,7 +65,7 @@ kept-with u money items more all = record {
 
 -- What a campaign was, and what it is once something of a unit was passed on: there is so much more of each thing than
 -- is booked, so far were the amounts of the books moved, and each unit keeps all.
-pub record PassesOn (w : WorldValue) (n : ℕ) (owing : Thing → ℕ) (moving : Moving) (c d : CampaignValue) : Type 0 where
+pub record PassesOn (w : WorldValue) (n : ℕ) (owing : Thing → ℕ) (moving : BookBound) (c d : CampaignValue) : Type 0 where
   pub steady : IsSteady w d
   pub owes : (s : Thing) (x : ℕ) → Owes c s x → Owes d s (x + owing s)
   pub near : (e : Entry) (s : Thing) → IsNear (moving e s) (amount_in c.books e s) (amount_in d.books e s)
@@ -88,7 +88,7 @@ passes-refl w n c steady = record {
     plain : (x : ℕ) → x ≡ x + 0
     plain x = omega arith
 
-pub passes-trans : {o p : Thing → ℕ} {i j : Moving} (w : WorldValue) (n : ℕ) (a b c : CampaignValue) → PassesOn w n o i a b → PassesOn w n p j b c
+pub passes-trans : {o p : Thing → ℕ} {i j : BookBound} (w : WorldValue) (n : ℕ) (a b c : CampaignValue) → PassesOn w n o i a b → PassesOn w n p j b c
     → PassesOn w n (λ s. o s + p s) (both_move i j) a c
 passes-trans {o} {p} {i} {j} w n a b c one two = record {
   steady = two.steady;
@@ -113,16 +113,16 @@ owed_all : (b : Bool) (lost x all : ℕ) (books : ℤ) → pos all ≡ books +�
 owed_all true lost x all books h = omega (arith, ints, h)
 owed_all false lost x all books h = omega (arith, ints, h)
 
-module _ (w : WorldValue) (c : CampaignValue) (n : ℕ) (t : Thing) (inside : thing_place t < things_of w) (steady : IsSteady w c) where
+module _ (w : WorldValue) (c : CampaignValue) (n : ℕ) (t : Thing) (inside : thing_index t < things_of w) (steady : IsSteady w c) where
   -- an amount that nobody takes
   pub all_lost : (amount : ℕ) → PassesOn w n (λ s. part_of s t amount) (moves_only amount Lost t) c (with_lost c t amount)
   all_lost amount = record {
     steady = steady-amount w c Lost t (neg_ℤ (pos amount)) steady;
     owes = λ s x h.
         ap pos (total-amount c Lost t s (neg_ℤ (pos amount)))
-        ∙ owed_all (thing_place s == thing_place t) amount x (total c s) (booked c.books s) h
+        ∙ owed_all (thing_index s == thing_index t) amount x (total c s) (booked c.books s) h
         ∙ ap (λ z. z +ℤ pos (x + part_of s t amount))
-        (sym (booked-with_booked (things_of w) c.books Lost t (neg_ℤ (pos amount)) steady.numbers.books inside s));
+        (sym (booked-after_booking (things_of w) c.books Lost t (neg_ℤ (pos amount)) steady.numbers.books inside s));
     near = booked-near (things_of w) c.books Lost t (neg_ℤ (pos amount)) amount steady.numbers.books inside (within-neg amount amount (omega arith));
     same = same_month_by refl;
     unit = refl;
@@ -131,26 +131,26 @@ module _ (w : WorldValue) (c : CampaignValue) (n : ℕ) (t : Thing) (inside : th
   }
 
   -- an amount of which a unit takes a part
-  module _ (k : ℕ) (v : Unit) (h : Held) (is : get c.units k ≡ Some v) (apart : n ≢ k) (may : MayHold w v h)
+  module _ (k : ℕ) (v : Unit) (h : HoldingValue) (is : get c.units k ≡ Some v) (apart : n ≢ k) (may : MayHold w v h)
       (kept : IsKept v (record v { holding = h })) (taken lost : ℕ)
-      (more : (s : Thing) → held s h ≡ held s v.holding + part_of s t taken) where
+      (more : (s : Thing) → unit_amount s h ≡ unit_amount s v.holding + part_of s t taken) where
     abbrev given : CampaignValue
     given = with_held c k h (Some v)
 
     grown : (s : Thing) → total given s ≡ total c s + part_of s t taken
-    grown s = sum (total given s) (held s v.holding) (total c s) (held s h) (part_of s t taken) (total-held w c k v h is s) (more s)
+    grown s = sum (total given s) (unit_amount s v.holding) (total c s) (unit_amount s h) (part_of s t taken) (total-unit_amount w c k v h is s) (more s)
       where
         sum : (a x b y p : ℕ) → a + x ≡ b + y → y ≡ x + p → a ≡ b + p
         sum a x b y p e f = omega (arith, e, f)
 
     pub part_lost : PassesOn w n (λ s. part_of s t (taken + lost)) (moves_only (taken + lost) Lost t) c (with_lost given t lost)
     part_lost = record {
-      steady = steady-amount w given Lost t (neg_ℤ (pos lost)) (steady-held w c k v h is may steady);
+      steady = steady-amount w given Lost t (neg_ℤ (pos lost)) (steady-unit_amount w c k v h is may steady);
       owes = λ s x e.
           ap pos (total-amount given Lost t s (neg_ℤ (pos lost)))
-          ∙ owed (thing_place s == thing_place t) taken lost x (total c s) (total given s) (booked c.books s) (grown s) e
+          ∙ owed (thing_index s == thing_index t) taken lost x (total c s) (total given s) (booked c.books s) (grown s) e
           ∙ ap (λ z. z +ℤ pos (x + part_of s t (taken + lost)))
-          (sym (booked-with_booked (things_of w) c.books Lost t (neg_ℤ (pos lost)) steady.numbers.books inside s));
+          (sym (booked-after_booking (things_of w) c.books Lost t (neg_ℤ (pos lost)) steady.numbers.books inside s));
       near =
           booked-near (things_of w) c.books Lost t (neg_ℤ (pos lost)) (taken + lost) steady.numbers.books inside
           (within-neg lost (taken + lost) (omega arith));
@@ -210,13 +210,13 @@ more_amount items i n j =
 
 -- ---- the part that a unit takes, and the rest
 
-whole : (amount have : ℕ) → taken_of amount have + (amount - taken_of amount have) ≡ amount
+whole : (amount have : ℕ) → accepted_of amount have + (amount - accepted_of amount have) ≡ amount
 whole amount have = omega (arith, least amount (holding_limit - have))
   where
     least : (a b : ℕ) → min a b ≤ a
     least a b = omega arith
 
-fits : (amount have : ℕ) → have ≤ holding_limit → have + taken_of amount have ≤ holding_limit
+fits : (amount have : ℕ) → have ≤ holding_limit → have + accepted_of amount have ≤ holding_limit
 fits amount have l = omega (arith, least amount (holding_limit - have))
   where
     least : (a b : ℕ) → min a b ≤ b
@@ -226,7 +226,7 @@ module _ (w : WorldValue) (c : CampaignValue) (n k : ℕ) (apart : n ≢ k) (ste
   abbrev Passed : Thing → ℕ → CampaignValue → Type 0
   Passed t amount d = PassesOn w n (λ s. part_of s t amount) (moves_only amount Lost t) c d
 
-  more_money : (h : Held) (n : ℕ) (s : Thing) → held s (record h { money = h.money + n }) ≡ held s h + part_of s Money n
+  more_money : (h : HoldingValue) (n : ℕ) (s : Thing) → unit_amount s (record h { money = h.money + n }) ≡ unit_amount s h + part_of s Money n
   more_money h n Money = refl
   more_money h n People = nothing_added false h.men n refl
   more_money h n (Item i) = nothing_added (2 + i == 0) (amount_of h.items i) n (let e : (2 + i == 0) ≡ false = grind (arith, nat_tests) in e)
@@ -240,17 +240,17 @@ module _ (w : WorldValue) (c : CampaignValue) (n k : ℕ) (apart : n ≢ k) (ste
 
   abbrev money_to : (amount : ℕ) → Option Unit → CampaignValue
   money_to amount o =
-      let taken = option_map_or (λ v. taken_of amount v.holding.money) o 0 in
+      let taken = option_map_or (λ v. accepted_of amount v.holding.money) o 0 in
       with_lost (option_map_or (λ v. with_money c k (v.holding.money + taken)) o c) Money (amount - taken)
 
-  pub pass_money : (amount : ℕ) → Passed Money amount (passed_money c k amount)
-  unfolding passed_money
+  pub pass_money : (amount : ℕ) → Passed Money amount (after_passing_money c k amount)
+  unfolding after_passing_money
   pass_money amount = by_unit (get c.units k) refl
     where
       by_unit : (o : Option Unit) → get c.units k ≡ o → Passed Money amount (money_to amount o)
       by_unit None is = all_left Money amount (all_lost w c n Money (omega arith) steady amount)
       by_unit (Some v) is =
-          let taken = taken_of amount v.holding.money in
+          let taken = accepted_of amount v.holding.money in
           let money = v.holding.money + taken in
           let h = record v.holding { money = money } in
           let most = (steady.numbers.units k v is).1.money in
@@ -262,29 +262,29 @@ module _ (w : WorldValue) (c : CampaignValue) (n k : ℕ) (apart : n ≢ k) (ste
           (kept-with v money v.holding.items (omega arith) (λ i. omega arith))
           taken (amount - taken) (more_money v.holding taken)))
 
-  more_item : (h : Held) (i n : ℕ) (s : Thing)
-      → held s (record h { items = with_amount_of h.items i (amount_of h.items i + n) }) ≡ held s h + part_of s (Item i) n
+  more_item : (h : HoldingValue) (i n : ℕ) (s : Thing)
+      → unit_amount s (record h { items = with_amount_of h.items i (amount_of h.items i + n) }) ≡ unit_amount s h + part_of s (Item i) n
   more_item h i n Money = nothing_added (0 == 2 + i) h.money n (let e : (0 == 2 + i) ≡ false = grind (arith, nat_tests) in e)
   more_item h i n People = nothing_added (1 == 2 + i) h.men n (let e : (1 == 2 + i) ≡ false = grind (arith, nat_tests) in e)
   more_item h i n (Item j) = more_amount h.items i n j
 
   abbrev item_to : (i amount : ℕ) → Option Unit → CampaignValue
   item_to i amount o =
-      let taken = option_map_or (λ v. taken_of amount (amount_of v.holding.items i)) o 0 in
+      let taken = option_map_or (λ v. accepted_of amount (amount_of v.holding.items i)) o 0 in
       with_lost (option_map_or (λ v. with_item c k i (amount_of v.holding.items i + taken)) o c) (Item i) (amount - taken)
 
-  pub pass_item : (i amount : ℕ) → i < length w.items → Passed (Item i) amount (passed_item k c (i, amount))
-  unfolding passed_item
+  pub pass_item : (i amount : ℕ) → i < length w.items → Passed (Item i) amount (after_passing_item k c (i, amount))
+  unfolding after_passing_item
   pass_item i amount known = by_unit (get c.units k) refl
     where
-      inside : thing_place (Item i) < things_of w
+      inside : thing_index (Item i) < things_of w
       inside = omega (arith, known)
 
       by_unit : (o : Option Unit) → get c.units k ≡ o → Passed (Item i) amount (item_to i amount o)
       by_unit None is = all_left (Item i) amount (all_lost w c n (Item i) inside steady amount)
       by_unit (Some v) is =
           let have = amount_of v.holding.items i in
-          let taken = taken_of amount have in
+          let taken = accepted_of amount have in
           let items = with_amount_of v.holding.items i (have + taken) in
           let most = fits amount have (amount_within v.holding i (steady.numbers.units k v is).1) in
           let place = steady.known.units k v is in
@@ -313,9 +313,9 @@ module _ (w : WorldValue) (c : CampaignValue) (n k : ℕ) (apart : n ≢ k) (ste
 -- ---- all that a unit has
 
 pub pass_items : (w : WorldValue) (c : CampaignValue) (n k : ℕ) → n ≢ k → (es : List (ℕ × ℕ)) → EachOf (λ i a. i < length w.items) es → IsSteady w c
-    → PassesOn w n (owing_items es) (moving_items es) c (fold (passed_item k) c es)
+    → PassesOn w n (owing_items es) (moving_items es) c (fold (after_passing_item k) c es)
 pass_items w c n k apart [] known steady = passes-refl w n c steady
 pass_items w c n k apart ((i, a) ∷ es) known steady =
     let one = pass_item w c n k apart steady i a known.0 in
-    passes-trans w n c (passed_item k c (i, a)) (fold (passed_item k) (passed_item k c (i, a)) es) one
-    (pass_items w (passed_item k c (i, a)) n k apart es known.1 one.steady)
+    passes-trans w n c (after_passing_item k c (i, a)) (fold (after_passing_item k) (after_passing_item k c (i, a)) es) one
+    (pass_items w (after_passing_item k c (i, a)) n k apart es known.1 one.steady)

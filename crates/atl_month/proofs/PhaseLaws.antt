@@ -6,48 +6,48 @@ use Rattle.atl_records.specs.declared.books.Entry.{Entry}
 use Rattle.atl_records.specs.declared.books.Entry.TheVariants as entries
 use Rattle.atl_records.specs.declared.books.Thing.{Thing}
 use Rattle.atl_records.specs.declared.books.Thing.TheVariants.{Item, Money, People}
-use Rattle.atl_records.specs.Books.{entry_place, thing_place, amount_number}
+use Rattle.atl_records.specs.Books.{entry_index, thing_index, amount_number}
 use Rattle.atl_records.specs.Limits.{entry_count}
 use Rattle.atl_records.proofs.EveryEntryLaws.{entry_small}
 use Rattle.atl_records.proofs.EveryLaws.{other_number}
-use Rattle.atl_instant.specs.Meaning.{Moving, both_move, most_moved, moves_only}
-use Rattle.atl_instant.specs.Quit.{quit_terms}
-use Rattle.atl_instant.specs.Terms.{EachPhase, Moved, MovesItsOwn, PhaseTerms, may_move, nothing_moved}
+use Rattle.atl_instant.specs.Meaning.{BookBound, both_move, most_moved, moves_only}
+use Rattle.atl_instant.specs.Quit.{quit_spec}
+use Rattle.atl_instant.specs.PhaseSpecs.{EachPhase, MovedEntries, MovesItsOwn, PhaseSpec, may_move, no_moved_entries}
 use Rattle.atl_instant.specs.Unbooked.{moves_nothing}
-use Rattle.atl_instant.proofs.TermsLaws.{CloseTogether, Leaves}
+use Rattle.atl_instant.proofs.PhaseSpecLaws.{CloseTogether, Leaves}
 use Rattle.atl_instant.proofs.UnmailedStepLaws.{form_leaves, give_leaves, guard_leaves, name_leaves, place_leaves, quit_leaves, transfer_leaves}
 use Rattle.atl_action.proofs.UnmailedLearnLaws.{learn_leaves}
 use Rattle.atl_action.proofs.UnmailedTravelLaws.{sail_leaves, walk_leaves}
-use Rattle.atl_market.specs.Build.{build_terms}
-use Rattle.atl_market.specs.Produce.{produce_terms}
-use Rattle.atl_market.specs.Work.{work_terms}
+use Rattle.atl_market.specs.Build.{build_spec}
+use Rattle.atl_market.specs.Produce.{produce_spec}
+use Rattle.atl_market.specs.Work.{work_spec}
 use Rattle.atl_market.proofs.UnmailedMakeLaws.{build_leaves, produce_leaves}
 use Rattle.atl_market.proofs.UnmailedPotLaws.{buy_leaves, recruit_leaves, sell_leaves, tax_leaves, work_leaves}
-use Rattle.atl_instant.specs.Form.{form_terms}
-use Rattle.atl_instant.specs.Name.{name_terms}
-use Rattle.atl_instant.specs.Place.{place_terms}
-use Rattle.atl_instant.specs.Give.{give_terms}
-use Rattle.atl_instant.specs.Transfer.{transfer_terms}
-use Rattle.atl_market.specs.Tax.{tax_terms}
-use Rattle.atl_market.specs.Trade.{buy_terms, sell_terms}
-use Rattle.atl_market.specs.Recruit.{recruit_terms}
-use Rattle.atl_instant.specs.Guard.{guard_terms}
-use Rattle.atl_action.specs.Walk.{walk_terms}
-use Rattle.atl_action.specs.Sail.{sail_terms}
-use Rattle.atl_action.specs.Study.{learn_terms}
+use Rattle.atl_instant.specs.Form.{form_spec}
+use Rattle.atl_instant.specs.Name.{name_spec}
+use Rattle.atl_instant.specs.Place.{place_spec}
+use Rattle.atl_instant.specs.Give.{give_spec}
+use Rattle.atl_instant.specs.Transfer.{transfer_spec}
+use Rattle.atl_market.specs.Tax.{tax_spec}
+use Rattle.atl_market.specs.Trade.{buy_spec, sell_spec}
+use Rattle.atl_market.specs.Recruit.{recruit_spec}
+use Rattle.atl_instant.specs.Guard.{guard_spec}
+use Rattle.atl_action.specs.Walk.{walk_spec}
+use Rattle.atl_action.specs.Sail.{sail_spec}
+use Rattle.atl_action.specs.Study.{learn_spec}
 use Rattle.atl_month.specs.Month.{closing_phases, early_phases, later_phases}
-use Rattle.atl_month.specs.Season.{season_terms}
-use Rattle.atl_month.specs.Sweep.{sweep_terms}
-use Rattle.atl_month.specs.Upkeep.{upkeep_terms}
+use Rattle.atl_month.specs.Season.{season_spec}
+use Rattle.atl_month.specs.Sweep.{sweep_spec}
+use Rattle.atl_month.specs.Upkeep.{upkeep_spec}
 use Rattle.atl_month.proofs.UnmailedEndLaws.{season_leaves, sweep_closes, upkeep_leaves}
 
 -- ---- the books
 
 -- a phase that may move some amounts moves no others
-abbrev MovesAlone : Moving → Moved → Type 0
+abbrev MovesAlone : BookBound → MovedEntries → Type 0
 MovesAlone moving moved = (e : Entry) (t : Thing) → moving e t ≤ (if may_move moved e t then most_moved else 0)
 
-nothing : (moved : Moved) → MovesAlone moves_nothing moved
+nothing : (moved : MovedEntries) → MovesAlone moves_nothing moved
 nothing moved e t = omega arith
 
 -- the amounts of one thing
@@ -62,13 +62,13 @@ other_thing : (m n : ℕ) → m ≢ n → (if m == n then most_moved else 0) ≤
 other_thing m n apart = subst (λ q. (if q then most_moved else 0) ≤ 0) (sym (other_number m n apart)) (omega arith)
 
 money_alone : (k : Entry) → MovesAlone (moves_only most_moved k Money) (record { money = k ∷ []; people = []; items = [] })
-money_alone k e Money = same_thing 0 (entry_place e) (entry_place k) (entry_place e == entry_place k) refl (amount_number e Money == amount_number k Money) refl
+money_alone k e Money = same_thing 0 (entry_index e) (entry_index k) (entry_index e == entry_index k) refl (amount_number e Money == amount_number k Money) refl
 money_alone k e People = other_thing (amount_number e People) (amount_number k Money) (λ same. omega (arith, same, entry_small k))
 money_alone k e (Item i) = other_thing (amount_number e (Item i)) (amount_number k Money) (λ same. omega (arith, same, entry_small k))
 
 people_alone : (k : Entry) → MovesAlone (moves_only most_moved k People) (record { money = []; people = k ∷ []; items = [] })
 people_alone k e Money = other_thing (amount_number e Money) (amount_number k People) (λ same. omega (arith, same, entry_small e))
-people_alone k e People = same_thing 1 (entry_place e) (entry_place k) (entry_place e == entry_place k) refl (amount_number e People == amount_number k People) refl
+people_alone k e People = same_thing 1 (entry_index e) (entry_index k) (entry_index e == entry_index k) refl (amount_number e People == amount_number k People) refl
 people_alone k e (Item i) = other_thing (amount_number e (Item i)) (amount_number k People) (λ same. omega (arith, same, entry_small k))
 
 money_and_people : (k j : Entry) → MovesAlone (both_move (moves_only most_moved k Money) (moves_only most_moved j People)) (record { money = k ∷ []; people = j ∷ []; items = [] })
@@ -76,25 +76,25 @@ money_and_people k j e Money = omega (arith, money_alone k e Money, people_alone
 money_and_people k j e People = omega (arith, money_alone k e People, people_alone j e People)
 money_and_people k j e (Item i) = omega (arith, money_alone k e (Item i), people_alone j e (Item i))
 
-quit_alone : MovesItsOwn quit_terms
+quit_alone : MovesItsOwn quit_spec
 quit_alone e Money = omega arith
 quit_alone e People = omega arith
 quit_alone e (Item i) = omega arith
 
-build_alone : MovesItsOwn build_terms
+build_alone : MovesItsOwn build_spec
 build_alone e Money = omega arith
 build_alone e People = omega arith
 build_alone e (Item i) = omega arith
 
-produce_alone : MovesItsOwn produce_terms
+produce_alone : MovesItsOwn produce_spec
 produce_alone entries.Made (Item i) = omega arith
 produce_alone entries.Used (Item i) = omega arith
 produce_alone e t = omega arith
 
-pub work_alone : MovesItsOwn work_terms
+pub work_alone : MovesItsOwn work_spec
 work_alone = money_alone entries.Wages
 
-pub upkeep_alone : MovesItsOwn upkeep_terms
+pub upkeep_alone : MovesItsOwn upkeep_spec
 upkeep_alone = money_and_people entries.Upkeep entries.Starved
 
 both_hold : (a b : Bool) → (if a && b then most_moved else 0) ≤ (if a then most_moved else 0)
@@ -106,23 +106,23 @@ never : (a : Bool) → (if a && false then most_moved else 0) ≤ 0
 never true = omega arith
 never false = omega arith
 
-pub season_alone : MovesItsOwn season_terms
-season_alone e Money = omega (arith, money_and_people entries.Income entries.Births e Money, never (entry_place e == entry_place entries.Stocked))
-season_alone e People = omega (arith, money_and_people entries.Income entries.Births e People, never (entry_place e == entry_place entries.Stocked))
-season_alone e (Item i) = omega (arith, money_and_people entries.Income entries.Births e (Item i), both_hold (entry_place e == entry_place entries.Stocked) true)
+pub season_alone : MovesItsOwn season_spec
+season_alone e Money = omega (arith, money_and_people entries.Income entries.Births e Money, never (entry_index e == entry_index entries.Stocked))
+season_alone e People = omega (arith, money_and_people entries.Income entries.Births e People, never (entry_index e == entry_index entries.Stocked))
+season_alone e (Item i) = omega (arith, money_and_people entries.Income entries.Births e (Item i), both_hold (entry_index e == entry_index entries.Stocked) true)
 
-pub sweep_alone : MovesItsOwn sweep_terms
-sweep_alone e Money = both_hold (entry_place e == entry_place entries.Lost) true
-sweep_alone e People = never (entry_place e == entry_place entries.Lost)
-sweep_alone e (Item i) = both_hold (entry_place e == entry_place entries.Lost) (not (thing_place (Item i) == thing_place People))
+pub sweep_alone : MovesItsOwn sweep_spec
+sweep_alone e Money = both_hold (entry_index e == entry_index entries.Lost) true
+sweep_alone e People = never (entry_index e == entry_index entries.Lost)
+sweep_alone e (Item i) = both_hold (entry_index e == entry_index entries.Lost) (not (thing_index (Item i) == thing_index People))
 
 -- ---- each phase
 
-pub record IsPhase (phase : PhaseTerms) : Type 0 where
+pub record IsPhase (phase : PhaseSpec) : Type 0 where
   pub moves : MovesItsOwn phase
   pub leaves : Leaves phase
 
-is_phase : (phase : PhaseTerms) → MovesItsOwn phase → Leaves phase → IsPhase phase
+is_phase : (phase : PhaseSpec) → MovesItsOwn phase → Leaves phase → IsPhase phase
 is_phase phase moves leaves = record { moves = moves; leaves = leaves }
 
 -- what is so of one phase, and what is so of the others
@@ -132,26 +132,26 @@ one ▹ others = (one, others)
 
 pub early_are : EachPhase IsPhase early_phases
 early_are =
-    is_phase form_terms (nothing nothing_moved) form_leaves
-    ▹ is_phase name_terms (nothing nothing_moved) name_leaves
-    ▹ is_phase place_terms (nothing nothing_moved) place_leaves
-    ▹ is_phase give_terms (nothing nothing_moved) give_leaves
-    ▹ is_phase transfer_terms (nothing nothing_moved) transfer_leaves
-    ▹ is_phase sell_terms (money_alone entries.Sold) sell_leaves
-    ▹ is_phase buy_terms (money_alone entries.Bought) buy_leaves
-    ▹ is_phase tax_terms (nothing nothing_moved) tax_leaves
-    ▹ is_phase recruit_terms (money_alone entries.Recruiting) recruit_leaves
+    is_phase form_spec (nothing no_moved_entries) form_leaves
+    ▹ is_phase name_spec (nothing no_moved_entries) name_leaves
+    ▹ is_phase place_spec (nothing no_moved_entries) place_leaves
+    ▹ is_phase give_spec (nothing no_moved_entries) give_leaves
+    ▹ is_phase transfer_spec (nothing no_moved_entries) transfer_leaves
+    ▹ is_phase sell_spec (money_alone entries.Sold) sell_leaves
+    ▹ is_phase buy_spec (money_alone entries.Bought) buy_leaves
+    ▹ is_phase tax_spec (nothing no_moved_entries) tax_leaves
+    ▹ is_phase recruit_spec (money_alone entries.Recruiting) recruit_leaves
     ▹ tt
 
 pub later_are : EachPhase IsPhase later_phases
 later_are =
-    is_phase guard_terms (nothing nothing_moved) guard_leaves
-    ▹ is_phase quit_terms quit_alone quit_leaves
-    ▹ is_phase walk_terms (nothing nothing_moved) walk_leaves
-    ▹ is_phase sail_terms (nothing nothing_moved) sail_leaves
-    ▹ is_phase build_terms build_alone build_leaves
-    ▹ is_phase learn_terms (money_alone entries.Study) learn_leaves
-    ▹ is_phase produce_terms produce_alone produce_leaves
+    is_phase guard_spec (nothing no_moved_entries) guard_leaves
+    ▹ is_phase quit_spec quit_alone quit_leaves
+    ▹ is_phase walk_spec (nothing no_moved_entries) walk_leaves
+    ▹ is_phase sail_spec (nothing no_moved_entries) sail_leaves
+    ▹ is_phase build_spec build_alone build_leaves
+    ▹ is_phase learn_spec (money_alone entries.Study) learn_leaves
+    ▹ is_phase produce_spec produce_alone produce_leaves
     ▹ tt
 
 pub closing_move : EachPhase MovesItsOwn closing_phases

@@ -19,8 +19,8 @@ use Rattle.atl_records.proofs.EveryLaws.{get-insert_other, sorted, other_number,
 use Rattle.atl_state.proofs.OrderedLaws.{below}
 use Rattle.atl_state.proofs.RegionLaws.{get-insert_same}
 use Rattle.atl_state.proofs.NumberListLaws.{IsListed, listed_passing, passing_listed}
-use Rattle.atl_month.specs.Receivers.{AreReceivers, ReceiverMap, or_if_zero, receiver_in, receiver_noted, with_receiver}
-use Rattle.atl_month.specs.Sweep.{IsKept, receiver, receives, swept_at}
+use Rattle.atl_month.specs.Receivers.{AreReceivers, ReceiverMap, or_if_zero, receiver_in, with_receiver, with_receiver_of}
+use Rattle.atl_month.specs.Sweep.{IsKept, after_sweeping_unit, receiver, receives}
 use Rattle.atl_month.proofs.SweepLaws.{first_listed}
 use Rattle.atl_month.proofs.SweepAllLaws.{swept_at_keeps, swept_at_leaves_well, swept_at_were}
 
@@ -95,9 +95,9 @@ module _ (w : WorldValue) (c : CampaignValue) (n : ℕ) (steady : IsSteady w c) 
       grind (arith, nat_tests)
 
   -- the receivers stay the same
-  pub receiver_stays : (region faction : ℕ) → receiver (swept_at c n) region faction ≡ receiver c region faction
+  pub receiver_stays : (region faction : ℕ) → receiver (after_sweeping_unit c n) region faction ≡ receiver c region faction
   receiver_stays region faction =
-      same_first (receives region faction) (swept_at c n).units c.units
+      same_first (receives region faction) (after_sweeping_unit c n).units c.units
       (λ k v is. ((swept_at_leaves_well w c n steady).leaves_it.numbers.units k v is).0)
       (λ k v is. (steady.numbers.units k v is).0)
       (λ k h. let (u, is, t) = h in let (v, there, kept) = swept_at_keeps w c n steady k u is (has_men region faction u t) in (v, there, sym (passes_still region faction u v kept) ∙ t))
@@ -134,7 +134,7 @@ module _ (m : ReceiverMap) (n : ℕ) (u : Unit) (es : List (ℕ × Unit)) (low :
   behind r f = first_or_zero (numbers_among (receives r f) es)
 
   abbrev GoesOn : (region faction : ℕ) → Type 0
-  GoesOn r f = or_if_zero (receiver_in (receiver_noted m n u) r f) (behind r f) ≡ or_if_zero (receiver_in m r f) (first_or_zero (numbers_among (receives r f) ((n, u) ∷ es)))
+  GoesOn r f = or_if_zero (receiver_in (with_receiver_of m n u) r f) (behind r f) ≡ or_if_zero (receiver_in m r f) (first_or_zero (numbers_among (receives r f) ((n, u) ∷ es)))
 
   first_of_cond : (b : Bool) (x : ℕ) (ns : List ℕ) → first_or_zero (cond b (x ∷ ns) ns) ≡ cond b x (first_or_zero ns)
   first_of_cond true x ns = refl
@@ -166,7 +166,7 @@ module _ (m : ReceiverMap) (n : ℕ) (u : Unit) (es : List (ℕ × Unit)) (low :
           by_test false e = refl
 
       by_tests : (k z : Bool) → nat_lt 0 u.holding.men ≡ k → (receiver_in m u.region u.faction == 0) ≡ z
-          → or_if_zero (receiver_in (receiver_noted m n u) u.region u.faction) F ≡ or_if_zero x (cond (nat_lt 0 u.holding.men) n F)
+          → or_if_zero (receiver_in (with_receiver_of m n u) u.region u.faction) F ≡ or_if_zero x (cond (nat_lt 0 u.holding.men) n F)
       by_tests true true k z =
           ap (λ a. or_if_zero (receiver_in (if a && (x == 0) then with_receiver m u.region u.faction n else m) u.region u.faction) F) k
           ∙ ap (λ a. or_if_zero (receiver_in (if a then with_receiver m u.region u.faction n else m) u.region u.faction) F) z

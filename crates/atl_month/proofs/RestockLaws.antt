@@ -20,37 +20,37 @@ use Rattle.atl_records.specs.declared.books.Thing.{Thing}
 use Rattle.atl_records.specs.declared.books.Thing.TheVariants.{Money, People, Item}
 use Rattle.atl_records.specs.declared.records.Region.{Region}
 use Rattle.atl_records.specs.Limits.{entry_count}
-use Rattle.atl_records.specs.Books.{IsGrid, amount_in, booked, entry_place, thing_at, thing_place, amount_number}
+use Rattle.atl_records.specs.Books.{IsGrid, amount_in, booked, entry_index, thing_at, thing_index, amount_number}
 use Rattle.atl_state.specs.Campaign.{MarkedCampaign, CampaignValue, with_amount, with_stock}
 use Rattle.atl_state.specs.Covers.{MarksChanges}
 use Rattle.atl_records.specs.Every.{EachOf, IsThere}
 use Rattle.atl_state.specs.Founding.{things_of}
 use Rattle.atl_state.specs.Good.{IsSteady}
-use Rattle.atl_records.specs.Held.{amount_of, with_amount_of}
+use Rattle.atl_records.specs.Holdings.{amount_of, with_amount_of}
 use Rattle.atl_state.specs.Marking.{mark_amount, mark_region}
 use Rattle.atl_state.specs.Stocks.{stock_limit, stock_of}
 use Rattle.atl_state.specs.Totals.{Balances, total}
-use Rattle.atl_records.proofs.BookLaws.{at_place, booked-with_booked}
+use Rattle.atl_records.proofs.BookLaws.{at_place, booked-after_booking}
 use Rattle.atl_state.proofs.CoverLaws.{marks-amount, marks-region, marks-trans}
 use Rattle.atl_records.proofs.EveryEntryLaws.{entry_small}
 use Rattle.atl_records.proofs.EveryLaws.{each-from_every, sorted}
 use Rattle.atl_state.proofs.RegionLaws.{steady-amount, total-amount}
 use Rattle.atl_state.proofs.StockLaws.{steady-stock, total-stock, total-stock_other}
-use Rattle.atl_instant.specs.Meaning.{HasRoom, HaveRoom, LeavesWell, Moving, moves_only}
+use Rattle.atl_instant.specs.Meaning.{BookBound, HasRoom, HaveRoom, LeavesWell, moves_only}
 use Rattle.atl_instant.proofs.BookingLaws.{booked-near, within-pos}
 use Rattle.atl_instant.proofs.MarkLaws.{marks_by}
 use Rattle.atl_instant.proofs.MeaningLaws.{both_leave_well, room_behind, room_less, same_month_by, well_unchanged, well_within}
-use Rattle.atl_month.specs.Restock.{market_restocked, markets_of, restock, restocked, stocks_by}
+use Rattle.atl_month.specs.Restock.{after_market_restock, after_restock, markets_of, restock, stocks_by}
 
 -- ---- how far new goods move the books
 
 -- so much of the item of each market
-abbrev pub stocking : List (ℕ × Market) → Moving
+abbrev pub stocking : List (ℕ × Market) → BookBound
 stocking [] e t = 0
 stocking (x ∷ xs) e t = moves_only most_amount Stocked (Item x.0) e t + stocking xs e t
 
 -- the goods of an item move its own amount alone
-one_stocked : (k : ℕ) (e : Entry) (t : Thing) → moves_only most_amount Stocked (Item k) e t ≤ (if (entry_place e == entry_place Stocked) && (thing_place t == 2 + k) then most_amount else 0)
+one_stocked : (k : ℕ) (e : Entry) (t : Thing) → moves_only most_amount Stocked (Item k) e t ≤ (if (entry_index e == entry_index Stocked) && (thing_index t == 2 + k) then most_amount else 0)
 one_stocked k e t = by_number (amount_number e t == amount_number Stocked (Item k)) refl
   where
     at_place : (a b : Bool) → a ≡ true → b ≡ true → most_amount ≤ (if a && b then most_amount else 0)
@@ -58,14 +58,14 @@ one_stocked k e t = by_number (amount_number e t == amount_number Stocked (Item 
     at_place true false f g = cc
     at_place false b f g = cc
 
-    by_number : (b : Bool) → (amount_number e t == amount_number Stocked (Item k)) ≡ b → (if b then most_amount else 0) ≤ (if (entry_place e == entry_place Stocked) && (thing_place t == 2 + k) then most_amount else 0)
+    by_number : (b : Bool) → (amount_number e t == amount_number Stocked (Item k)) ≡ b → (if b then most_amount else 0) ≤ (if (entry_index e == entry_index Stocked) && (thing_index t == 2 + k) then most_amount else 0)
     by_number true is =
-        let same : entry_count * thing_place t + entry_place e ≡ entry_count * (2 + k) + entry_place Stocked = grind (arith, nat_tests) in
+        let same : entry_count * thing_index t + entry_index e ≡ entry_count * (2 + k) + entry_index Stocked = grind (arith, nat_tests) in
         let small = entry_small e in
         let small_stocked = entry_small Stocked in
-        let thing : thing_place t ≡ 2 + k = omega arith in
-        let entry : entry_place e ≡ entry_place Stocked = omega arith in
-        at_place (entry_place e == entry_place Stocked) (thing_place t == 2 + k) (let f : (entry_place e == entry_place Stocked) ≡ true = grind (arith, nat_tests) in f) (let g : (thing_place t == 2 + k) ≡ true = grind (arith, nat_tests) in g)
+        let thing : thing_index t ≡ 2 + k = omega arith in
+        let entry : entry_index e ≡ entry_index Stocked = omega arith in
+        at_place (entry_index e == entry_index Stocked) (thing_index t == 2 + k) (let f : (entry_index e == entry_index Stocked) ≡ true = grind (arith, nat_tests) in f) (let g : (thing_index t == 2 + k) ≡ true = grind (arith, nat_tests) in g)
     by_number false is = omega arith
 
 -- nothing of it, where the item is another
@@ -74,14 +74,14 @@ no_part true true n f l = cc
 no_part true false n f l = omega (arith, l)
 no_part false b n f l = omega (arith, l)
 
-other_item : (k : ℕ) (e : Entry) (t : Thing) → (thing_place t == 2 + k) ≡ false → moves_only most_amount Stocked (Item k) e t ≡ 0
-other_item k e t apart = no_part (entry_place e == entry_place Stocked) (thing_place t == 2 + k) (moves_only most_amount Stocked (Item k) e t) apart (one_stocked k e t)
+other_item : (k : ℕ) (e : Entry) (t : Thing) → (thing_index t == 2 + k) ≡ false → moves_only most_amount Stocked (Item k) e t ≡ 0
+other_item k e t apart = no_part (entry_index e == entry_index Stocked) (thing_index t == 2 + k) (moves_only most_amount Stocked (Item k) e t) apart (one_stocked k e t)
 
 sum_of_none : (n y : ℕ) → n ≡ 0 → y ≡ 0 → n + y ≡ 0
 sum_of_none n y e f = omega (arith, e, f)
 
 -- a thing is the item of none of these markets, whose items are above it
-none_above : (k : ℕ) (xs : List (ℕ × Market)) (e : Entry) (t : Thing) → thing_place t ≡ 2 + k → below_all nat_cmp k xs ≡ true → stocking xs e t ≡ 0
+none_above : (k : ℕ) (xs : List (ℕ × Market)) (e : Entry) (t : Thing) → thing_index t ≡ 2 + k → below_all nat_cmp k xs ≡ true → stocking xs e t ≡ 0
 none_above k [] e t at above = refl
 none_above k (x ∷ xs) e t at above =
     let both = and_parts (is_lt (nat_cmp k x.0)) (below_all nat_cmp k xs) above in
@@ -92,7 +92,7 @@ none_above k (x ∷ xs) e t at above =
     is_below a b h = grind (arith, nat_tests)
 
 -- of the markets of a region, each has an item of its own
-little : (xs : List (ℕ × Market)) → is_sorted nat_cmp xs ≡ true → (e : Entry) (t : Thing) → stocking xs e t ≤ (if entry_place e == entry_place Stocked then most_amount else 0)
+little : (xs : List (ℕ × Market)) → is_sorted nat_cmp xs ≡ true → (e : Entry) (t : Thing) → stocking xs e t ≤ (if entry_index e == entry_index Stocked then most_amount else 0)
 little [] rising e t = omega arith
 little (x ∷ xs) rising e t = with_rest (little xs (and_parts _ _ rising).1 e t)
   where
@@ -100,7 +100,7 @@ little (x ∷ xs) rising e t = with_rest (little xs (and_parts _ _ rising).1 e t
     first = moves_only most_amount Stocked (Item x.0) e t
 
     bound : ℕ
-    bound = if entry_place e == entry_place Stocked then most_amount else 0
+    bound = if entry_index e == entry_index Stocked then most_amount else 0
 
     head : (a b : Bool) (n : ℕ) → n ≤ (if a && b then most_amount else 0) → n ≤ (if a then most_amount else 0)
     head true true n l = l
@@ -113,17 +113,17 @@ little (x ∷ xs) rising e t = with_rest (little xs (and_parts _ _ rising).1 e t
     behind : (n y z : ℕ) → n ≡ 0 → y ≤ z → n + y ≤ z
     behind n y z e l = omega (arith, l, e)
 
-    by_thing : (b : Bool) → (thing_place t == 2 + x.0) ≡ b → stocking xs e t ≤ bound → first + stocking xs e t ≤ bound
+    by_thing : (b : Bool) → (thing_index t == 2 + x.0) ≡ b → stocking xs e t ≤ bound → first + stocking xs e t ≤ bound
     by_thing true is rest =
-        alone first (stocking xs e t) bound (head (entry_place e == entry_place Stocked) (thing_place t == 2 + x.0) first (one_stocked x.0 e t))
-        (none_above x.0 xs e t (let at : thing_place t ≡ 2 + x.0 = grind (arith, nat_tests) in at) (and_parts _ _ rising).0)
+        alone first (stocking xs e t) bound (head (entry_index e == entry_index Stocked) (thing_index t == 2 + x.0) first (one_stocked x.0 e t))
+        (none_above x.0 xs e t (let at : thing_index t ≡ 2 + x.0 = grind (arith, nat_tests) in at) (and_parts _ _ rising).0)
     by_thing false is rest = behind first (stocking xs e t) bound (other_item x.0 e t is) rest
 
     with_rest : stocking xs e t ≤ bound → first + stocking xs e t ≤ bound
-    with_rest rest = by_thing (thing_place t == 2 + x.0) refl rest
+    with_rest rest = by_thing (thing_index t == 2 + x.0) refl rest
 
 -- and neither money nor people come into stock
-not_stocked : (xs : List (ℕ × Market)) (e : Entry) (t : Thing) → thing_place t ≤ 1 → stocking xs e t ≡ 0
+not_stocked : (xs : List (ℕ × Market)) (e : Entry) (t : Thing) → thing_index t ≤ 1 → stocking xs e t ≡ 0
 not_stocked [] e t low = refl
 not_stocked (x ∷ xs) e t low =
     sum_of_none (moves_only most_amount Stocked (Item x.0) e t) (stocking xs e t) (other_item x.0 e t (grind (arith, nat_tests))) (not_stocked xs e t low)
@@ -131,7 +131,7 @@ not_stocked (x ∷ xs) e t low =
 pub stocks_little : (xs : List (ℕ × Market)) → is_sorted nat_cmp xs ≡ true → (e : Entry) (t : Thing) → stocking xs e t ≤ stocks_by most_amount e t
 stocks_little xs rising e Money = omega (arith, not_stocked xs e Money (omega arith))
 stocks_little xs rising e People = omega (arith, not_stocked xs e People (omega arith))
-stocks_little xs rising e (Item i) = item (entry_place e == entry_place Stocked) (stocking xs e (Item i)) (little xs rising e (Item i))
+stocks_little xs rising e (Item i) = item (entry_index e == entry_index Stocked) (stocking xs e (Item i)) (little xs rising e (Item i))
   where
     item : (a : Bool) (n : ℕ) → n ≤ (if a then most_amount else 0) → n ≤ (if a && true then most_amount else 0)
     item true n l = l
@@ -169,7 +169,7 @@ module _ (w : WorldValue) (c : CampaignValue) (n i : ℕ) (m : Market) (r : Regi
   pub stock_fits : stock + more ≤ m.limit
   stock_fits = fits m.restock m.limit stock stock_small
 
-  inside : thing_place (Item i) < things_of w
+  inside : thing_index (Item i) < things_of w
   inside = omega (arith, known.item, known.number_is)
 
   abbrev filled : CampaignValue
@@ -178,22 +178,22 @@ module _ (w : WorldValue) (c : CampaignValue) (n i : ℕ) (m : Market) (r : Regi
   filled_steady : IsSteady w filled
   filled_steady = steady-stock c n i (stock + more) r here w (ap is_some market) (omega (arith, stock_fits, limit_is)) steady
 
-  filled_total : (t : Thing) → total filled t ≡ total c t + cond (thing_place t == 2 + i) more 0
-  filled_total t = by_place (thing_place t == 2 + i) refl
+  filled_total : (t : Thing) → total filled t ≡ total c t + cond (thing_index t == 2 + i) more 0
+  filled_total t = by_place (thing_index t == 2 + i) refl
     where
       added : (a b : ℕ) → a + stock ≡ b + (stock + more) → a ≡ b + more
       added a b e = omega (arith, e)
 
-      by_place : (b : Bool) → (thing_place t == 2 + i) ≡ b → total filled t ≡ total c t + cond b more 0
+      by_place : (b : Bool) → (thing_index t == 2 + i) ≡ b → total filled t ≡ total c t + cond b more 0
       by_place true is =
-          let place : thing_place t ≡ thing_place (Item i) = grind (arith, nat_tests) in
+          let place : thing_index t ≡ thing_index (Item i) = grind (arith, nat_tests) in
           let same : t ≡ Item i = sym (at_place t) ∙ ap thing_at place ∙ at_place (Item i) in
           subst (λ (u : Thing). total filled u ≡ total c u + more) (sym same) (added (total filled (Item i)) (total c (Item i)) (total-stock c n i (stock + more) r here))
       by_place false is =
-          let apart : t ≢ Item i = λ same. absurd (other (ap thing_place same) is) in
+          let apart : t ≢ Item i = λ same. absurd (other (ap thing_index same) is) in
           total-stock_other c n i (stock + more) r here t apart ∙ plain (total c t)
         where
-          other : thing_place t ≡ 2 + i → (thing_place t == 2 + i) ≡ false → ⊥
+          other : thing_index t ≡ 2 + i → (thing_index t == 2 + i) ≡ false → ⊥
           other e f = grind (arith, nat_tests)
 
           plain : (k : ℕ) → k ≡ k + 0
@@ -201,15 +201,15 @@ module _ (w : WorldValue) (c : CampaignValue) (n i : ℕ) (m : Market) (r : Regi
 
   balanced : Balances c → Balances (with_amount filled Stocked (Item i) (pos more))
   balanced old t =
-      ap pos (total-amount filled Stocked (Item i) t (pos more)) ∙ ap pos (filled_total t) ∙ added (thing_place t == 2 + i) (total c t) (booked c.books t) (old t)
-      ∙ sym (booked-with_booked (things_of w) c.books Stocked (Item i) (pos more) steady.numbers.books inside t)
+      ap pos (total-amount filled Stocked (Item i) t (pos more)) ∙ ap pos (filled_total t) ∙ added (thing_index t == 2 + i) (total c t) (booked c.books t) (old t)
+      ∙ sym (booked-after_booking (things_of w) c.books Stocked (Item i) (pos more) steady.numbers.books inside t)
     where
       added : (b : Bool) (x : ℕ) (z : ℤ) → pos x ≡ z → pos (x + cond b more 0) ≡ z +ℤ cond b (pos more) (pos 0)
       added true x z e = omega (arith, ints, e)
       added false x z e = omega (arith, ints, e)
 
-  pub market_leaves_well : LeavesWell IsSteady (moves_only most_amount Stocked (Item i)) w c (market_restocked n c (i, m))
-  unfolding market_restocked
+  pub market_leaves_well : LeavesWell IsSteady (moves_only most_amount Stocked (Item i)) w c (after_market_restock n c (i, m))
+  unfolding after_market_restock
   market_leaves_well =
       subst (λ s. LeavesWell IsSteady (moves_only most_amount Stocked (Item i)) w c (with_amount (with_stock c n i (s + restock m s)) Stocked (Item i) (pos (restock m s)))) (sym stock_is)
       (record {
@@ -226,15 +226,15 @@ abbrev pub IsOf : WorldValue → (n i : ℕ) → Market → Type 0
 IsOf w n i m = (market_of w n i ≡ Some m) × IsMarket (length w.items) i m
 
 module _ (w : WorldValue) (n : ℕ) (there : IsThere w.regions n) where
-  pub one_leaves_well : (c : CampaignValue) (x : ℕ × Market) → IsOf w n x.0 x.1 → IsSteady w c → LeavesWell IsSteady (moves_only most_amount Stocked (Item x.0)) w c (market_restocked n c x)
+  pub one_leaves_well : (c : CampaignValue) (x : ℕ × Market) → IsOf w n x.0 x.1 → IsSteady w c → LeavesWell IsSteady (moves_only most_amount Stocked (Item x.0)) w c (after_market_restock n c x)
   one_leaves_well c x of steady = let (r, here) = (steady.known.regions n).1 there in market_leaves_well w c n x.0 x.1 r here of.0 of.1 steady
 
-  all_leave_well : (xs : List (ℕ × Market)) → EachOf (IsOf w n) xs → (c : CampaignValue) → IsSteady w c → LeavesWell IsSteady (stocking xs) w c (restocked n c xs)
+  all_leave_well : (xs : List (ℕ × Market)) → EachOf (IsOf w n) xs → (c : CampaignValue) → IsSteady w c → LeavesWell IsSteady (stocking xs) w c (after_restock n c xs)
   all_leave_well [] each c steady = well_unchanged (stocking []) w c steady
   all_leave_well (x ∷ xs) each c steady =
       let one = one_leaves_well c x each.0 steady in
-      both_leave_well (moves_only most_amount Stocked (Item x.0)) (stocking xs) w c (market_restocked n c x) (restocked n c (x ∷ xs)) one
-      (all_leave_well xs each.1 (market_restocked n c x) one.leaves_it)
+      both_leave_well (moves_only most_amount Stocked (Item x.0)) (stocking xs) w c (after_market_restock n c x) (after_restock n c (x ∷ xs)) one
+      (all_leave_well xs each.1 (after_market_restock n c x) one.leaves_it)
 
 -- no markets
 pub none_there : entries (empty {X = Market} {R = nat_cmp}) ≡ []
@@ -245,30 +245,30 @@ module _ (w : WorldValue) (world : IsWorld w) (n : ℕ) where
   pub markets_there : (p : RegionPlan) → get w.regions n ≡ Some p → markets_of w n ≡ p.markets
   markets_there p is = ap (λ o. option_map_or (λ (q : RegionPlan). q.markets) o empty) is
 
-  pub none_of : (c : CampaignValue) → get w.regions n ≡ None → restocked n c (entries (markets_of w n)) ≡ c
-  none_of c is = ap (λ o. restocked n c (entries (option_map_or (λ (q : RegionPlan). q.markets) o empty))) is ∙ ap (restocked n c) none_there
+  pub none_of : (c : CampaignValue) → get w.regions n ≡ None → after_restock n c (entries (markets_of w n)) ≡ c
+  none_of c is = ap (λ o. after_restock n c (entries (option_map_or (λ (q : RegionPlan). q.markets) o empty))) is ∙ ap (after_restock n c) none_there
 
   -- the markets of a region are the world's
   pub markets_are : (p : RegionPlan) → get w.regions n ≡ Some p → EachOf (IsOf w n) (entries p.markets)
   markets_are p is = each-from_every (IsOf w n) p.markets (λ i m at. (ap (λ o. option_and_then (λ (q : RegionPlan). get q.markets i) o) is ∙ at, (world.regions n p is).markets i m at))
 
-  pub restocked_leaves_well : (c : CampaignValue) → IsSteady w c → LeavesWell IsSteady (stocks_by most_amount) w c (restocked n c (entries (markets_of w n)))
+  pub restocked_leaves_well : (c : CampaignValue) → IsSteady w c → LeavesWell IsSteady (stocks_by most_amount) w c (after_restock n c (entries (markets_of w n)))
   restocked_leaves_well c steady = by_plan (get w.regions n) refl
     where
-      by_plan : (o : Option RegionPlan) → get w.regions n ≡ o → LeavesWell IsSteady (stocks_by most_amount) w c (restocked n c (entries (option_map_or (λ (p : RegionPlan). p.markets) o empty)))
-      by_plan None is = subst (λ es. LeavesWell IsSteady (stocks_by most_amount) w c (restocked n c es)) (sym none_there) (well_unchanged (stocks_by most_amount) w c steady)
+      by_plan : (o : Option RegionPlan) → get w.regions n ≡ o → LeavesWell IsSteady (stocks_by most_amount) w c (after_restock n c (entries (option_map_or (λ (p : RegionPlan). p.markets) o empty)))
+      by_plan None is = subst (λ es. LeavesWell IsSteady (stocks_by most_amount) w c (after_restock n c es)) (sym none_there) (well_unchanged (stocks_by most_amount) w c steady)
       by_plan (Some p) is =
-          well_within (stocking (entries p.markets)) (stocks_by most_amount) w c (restocked n c (entries p.markets)) (stocks_little (entries p.markets) (sorted p.markets))
+          well_within (stocking (entries p.markets)) (stocks_by most_amount) w c (after_restock n c (entries p.markets)) (stocks_little (entries p.markets) (sorted p.markets))
           (all_leave_well w n (p, is) (entries p.markets) (markets_are p is) c steady)
 
 -- new goods change no unit
-one_keeps : (n : ℕ) (c : CampaignValue) (x : ℕ × Market) → (market_restocked n c x).units ≡ c.units
-unfolding market_restocked
+one_keeps : (n : ℕ) (c : CampaignValue) (x : ℕ × Market) → (after_market_restock n c x).units ≡ c.units
+unfolding after_market_restock
 one_keeps n c x = refl
 
-pub restocked_keeps : (n : ℕ) (c : CampaignValue) (xs : List (ℕ × Market)) → (restocked n c xs).units ≡ c.units
+pub restocked_keeps : (n : ℕ) (c : CampaignValue) (xs : List (ℕ × Market)) → (after_restock n c xs).units ≡ c.units
 restocked_keeps n c [] = refl
-restocked_keeps n c (x ∷ xs) = restocked_keeps n (market_restocked n c x) xs ∙ one_keeps n c x
+restocked_keeps n c (x ∷ xs) = restocked_keeps n (after_market_restock n c x) xs ∙ one_keeps n c x
 
 -- ---- the code
 
@@ -289,8 +289,8 @@ room_alone c i room =
 pub room_for_market : (x : ℕ × Market) (xs : List (ℕ × Market)) (c : CampaignValue) → HaveRoom (stocking (x ∷ xs)) c → HaveRoom (moves_only most_amount Stocked (Item x.0)) c
 room_for_market x xs c room = room_less (moves_only most_amount Stocked (Item x.0)) (stocking (x ∷ xs)) c (λ e t. omega arith) room
 
-pub room_behind_market : (w : WorldValue) (n : ℕ) → IsThere w.regions n → (x : ℕ × Market) (xs : List (ℕ × Market)) (c : CampaignValue) → IsOf w n x.0 x.1 → IsSteady w c → HaveRoom (stocking (x ∷ xs)) c → HaveRoom (stocking xs) (market_restocked n c x)
-room_behind_market w n there x xs c of steady room = room_behind (moves_only most_amount Stocked (Item x.0)) (stocking xs) w c (market_restocked n c x) (one_leaves_well w n there c x of steady) room
+pub room_behind_market : (w : WorldValue) (n : ℕ) → IsThere w.regions n → (x : ℕ × Market) (xs : List (ℕ × Market)) (c : CampaignValue) → IsOf w n x.0 x.1 → IsSteady w c → HaveRoom (stocking (x ∷ xs)) c → HaveRoom (stocking xs) (after_market_restock n c x)
+room_behind_market w n there x xs c of steady room = room_behind (moves_only most_amount Stocked (Item x.0)) (stocking xs) w c (after_market_restock n c x) (one_leaves_well w n there c x of steady) room
 
 pub market_marks : (things stock more n i : ℕ) (c d e : MarkedCampaign) → d.value ≡ with_stock c.value n i (stock + more) → d.marks ≡ mark_region c n
     → e.value ≡ with_amount d.value Stocked (Item i) (pos more) → e.marks ≡ mark_amount d Stocked (Item i)

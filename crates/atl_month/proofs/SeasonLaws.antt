@@ -17,16 +17,16 @@ use Rattle.atl_records.specs.declared.books.Entry.TheVariants.{Births, Income, S
 use Rattle.atl_records.specs.declared.books.Thing.{Thing}
 use Rattle.atl_records.specs.declared.books.Thing.TheVariants.{Money, People, Item}
 use Rattle.atl_records.specs.declared.records.Region.{Region}
-use Rattle.atl_records.specs.Books.{IsGrid, amount_in, entry_place, with_booked, amount_number}
+use Rattle.atl_records.specs.Books.{IsGrid, amount_in, entry_index, after_booking, amount_number}
 use Rattle.atl_state.specs.Founding.{things_of}
 use Rattle.atl_state.specs.Good.{IsSteady}
-use Rattle.atl_records.specs.Held.{amount_of}
+use Rattle.atl_records.specs.Holdings.{amount_of}
 use Rattle.atl_state.specs.Covers.{MarksChanges}
 use Rattle.atl_state.specs.Marking.{mark_amount, mark_region}
 use Rattle.atl_state.specs.Campaign.{MarkedCampaign, CampaignValue, with_amount, with_peasants, with_region_money}
-use Rattle.atl_records.specs.Amounts.{kept}
+use Rattle.atl_records.specs.Amounts.{region_amount}
 use Rattle.atl_state.specs.Totals.{Balances, total}
-use Rattle.atl_records.proofs.BookLaws.{IsGrid-with_booked, booked-with_booked, share_of}
+use Rattle.atl_records.proofs.BookLaws.{IsGrid-after_booking, booked-after_booking, share_of}
 use Rattle.atl_state.proofs.CoverLaws.{marks-amount, marks-region, marks-trans}
 use Rattle.atl_state.proofs.RegionLaws.{IsRegion-money, IsRegion-peasants, region-changed, steady-amount, steady-region, total-amount, total-region}
 use Rattle.atl_records.proofs.EveryLaws.{none_some}
@@ -35,7 +35,7 @@ use Rattle.atl_instant.specs.There.{at_region}
 use Rattle.atl_instant.proofs.MarkLaws.{marks_by}
 use Rattle.atl_instant.proofs.MeaningLaws.{both_leave_well, fold_leaves_well, near_more, near_twice, room_behind_one, room_for_one, room_less, same_month_by, well_unchanged, well_within}
 use Rattle.atl_instant.proofs.BookingLaws.{booked-near, within-pos}
-use Rattle.atl_month.specs.Restock.{is_item, markets_of, restocked, stocks_by}
+use Rattle.atl_month.specs.Restock.{after_restock, is_item, markets_of, stocks_by}
 use Rattle.atl_month.specs.Season.{births, grows_by, income, season, season_at, season_moves, season_of, with_growth}
 use Rattle.atl_month.proofs.RestockLaws.{restocked_keeps, restocked_leaves_well}
 
@@ -84,7 +84,7 @@ module _ (w : WorldValue) (c : CampaignValue) (n : ℕ) (r : Region) (born earne
       (total-region more_people c n r is t) (total-region more_money peopled n (more_people r) peopled_there t)
     where
       total_of : (t : Thing) → total (with_growth c n r.peasants r.money born earned) t ≡ total counted t → total counted t ≡ total paid t
-          → total peopled t + kept t r ≡ total c t + kept t (more_people r) → total paid t + kept t (more_people r) ≡ total peopled t + kept t (more_money (more_people r))
+          → total peopled t + region_amount t r ≡ total c t + region_amount t (more_people r) → total paid t + region_amount t (more_people r) ≡ total peopled t + region_amount t (more_money (more_people r))
           → pos (total (with_growth c n r.peasants r.money born earned) t) ≡ (pos (total c t) +ℤ share_of t People (pos born)) +ℤ share_of t Money (pos earned)
       total_of Money a b g h = omega (arith, ints, a, b, g, h)
       total_of People a b g h = omega (arith, ints, a, b, g, h)
@@ -103,17 +103,17 @@ module _ (w : WorldValue) (c : CampaignValue) (n : ℕ) (r : Region) (born earne
 
   module _ (grid : IsGrid (things_of w) c.books) where
     abbrev one_booked : List (List ℤ)
-    one_booked = with_booked c.books Births People (pos born)
+    one_booked = after_booking c.books Births People (pos born)
 
     grid_one : IsGrid (things_of w) one_booked
-    grid_one = IsGrid-with_booked (things_of w) c.books Births People (pos born) grid
+    grid_one = IsGrid-after_booking (things_of w) c.books Births People (pos born) grid
 
     growth_balances : Balances c → Balances (with_growth c n r.peasants r.money born earned)
     growth_balances old t =
         total_grown t
         ∙ ap (λ z. (z +ℤ share_of t People (pos born)) +ℤ share_of t Money (pos earned)) (old t)
-        ∙ ap (λ z. z +ℤ share_of t Money (pos earned)) (sym (booked-with_booked (things_of w) c.books Births People (pos born) grid (omega arith) t))
-        ∙ sym (booked-with_booked (things_of w) one_booked Income Money (pos earned) grid_one (omega arith) t)
+        ∙ ap (λ z. z +ℤ share_of t Money (pos earned)) (sym (booked-after_booking (things_of w) c.books Births People (pos born) grid (omega arith) t))
+        ∙ sym (booked-after_booking (things_of w) one_booked Income Money (pos earned) grid_one (omega arith) t)
 
     growth_near : born ≤ most_amount → earned ≤ most_amount → (e : Entry) (t : Thing) → IsNear (grows_by most_amount e t) (amount_in c.books e t) (amount_in (with_growth c n r.peasants r.money born earned).books e t)
     growth_near b m e t =
@@ -147,9 +147,9 @@ pub growth_marks : (things : ℕ) (c d e f g : MarkedCampaign) (n peasants money
 growth_marks things c d e f g n peasants money born earned d_is d_marks e_is e_marks f_is f_marks g_is g_marks grid two =
     let d_books : d.value.books ≡ c.value.books = ap (λ (s : CampaignValue). s.books) d_is in
     let e_books : e.value.books ≡ c.value.books = ap (λ (s : CampaignValue). s.books) e_is ∙ d_books in
-    let f_books : f.value.books ≡ with_booked e.value.books Births People (pos born) = ap (λ (s : CampaignValue). s.books) f_is in
+    let f_books : f.value.books ≡ after_booking e.value.books Births People (pos born) = ap (λ (s : CampaignValue). s.books) f_is in
     let e_grid : IsGrid things e.value.books = rw e_books grid in
-    let f_grid : IsGrid things f.value.books = rw f_books (IsGrid-with_booked things e.value.books Births People (pos born) e_grid) in
+    let f_grid : IsGrid things f.value.books = rw f_books (IsGrid-after_booking things e.value.books Births People (pos born) e_grid) in
     marks-trans c d g (marks_by c d _ d_is d_marks (marks-region (λ r. record r { peasants = peasants }) c n))
     (marks-trans d e g (marks_by d e _ e_is e_marks (marks-region (λ r. record r { money = money }) d n))
     (marks-trans e f g (marks_by e f _ f_is f_marks (marks-amount things e Births People (pos born) e_grid (omega arith)))
@@ -191,7 +191,7 @@ season_at_leaves_well w world c (n, word) steady = by_terrain (terrain_of w n) r
         let earned = income w.rules.income t.money_limit (r.peasants + born) r.money in
         let grown = with_growth c n r.peasants r.money born earned in
         let growth = region_grows_well w world c n word t r here is steady in
-        both_leave_well (grows_by most_amount) (stocks_by most_amount) w c grown (restocked n grown (entries (markets_of w n))) growth
+        both_leave_well (grows_by most_amount) (stocks_by most_amount) w c grown (after_restock n grown (entries (markets_of w n))) growth
         (restocked_leaves_well w world n grown growth.leaves_it)
 
     by_terrain : (o : Option Terrain) → terrain_of w n ≡ o → LeavesWell IsSteady (season_moves most_amount) w c (option_map_or (λ t. at_region c n (season_of w c n word t)) o c)
@@ -204,7 +204,7 @@ length-zip (x ∷ xs) [] = omega arith
 length-zip (x ∷ xs) (y ∷ ys) = omega (arith, length-zip xs ys)
 
 pub season_little : (k : ℕ) → k ≤ most_regions → (e : Entry) (t : Thing) → moved_times k (season_moves most_amount) e t ≤ season_moves most_moved e t
-season_little k few e t = scaled (amount_number e t == amount_number Income Money) (amount_number e t == amount_number Births People) ((entry_place e == entry_place Stocked) && is_item t)
+season_little k few e t = scaled (amount_number e t == amount_number Income Money) (amount_number e t == amount_number Births People) ((entry_index e == entry_index Stocked) && is_item t)
   where
     one : Bool → ℕ
     one a = if a then most_amount else 0

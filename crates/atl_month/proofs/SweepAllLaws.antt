@@ -11,7 +11,7 @@ use Rattle.atl_tables.specs.Worlds.{WorldValue}
 use Rattle.atl_tables.specs.Limits.{most_amount}
 use Rattle.atl_tables.proofs.SumLaws.{chosen-cons}
 use Rattle.atl_tables.proofs.GeneralLaws.{is_equal, is_unequal}
-use Rattle.atl_records.specs.Books.{amount_in, entry_place, thing_place}
+use Rattle.atl_records.specs.Books.{amount_in, entry_index, thing_index}
 use Rattle.atl_records.specs.declared.books.Entry.{Entry}
 use Rattle.atl_records.specs.declared.books.Entry.TheVariants.{Lost}
 use Rattle.atl_records.specs.declared.books.Thing.{Thing}
@@ -23,10 +23,10 @@ use Rattle.atl_state.specs.Good.{HaveMen, IsSteady, NoneAreGone}
 use Rattle.atl_state.specs.Owners.{without_unit}
 use Rattle.atl_state.specs.Campaign.{CampaignValue, active, numbers_of, with_gone}
 use Rattle.atl_records.proofs.EveryLaws.{none_some}
-use Rattle.atl_instant.specs.Meaning.{LeavesWell, Moving, both_move, moved_times, most_moved}
+use Rattle.atl_instant.specs.Meaning.{LeavesWell, BookBound, both_move, moved_times, most_moved}
 use Rattle.atl_instant.proofs.MeaningLaws.{both_leave_well, fold_leaves_well, near_same, same_month_among, well_unchanged, well_within}
-use Rattle.atl_month.specs.Sweep.{IsKept, faction_swept, is_empty, loses_by, menless, passed_on, receiver, sweep, swept_at}
-use Rattle.atl_month.specs.Swept.{IsSwept}
+use Rattle.atl_month.specs.Sweep.{IsKept, after_passing_all, after_sweeping_faction, after_sweeping_unit, is_empty, loses_by, menless_units, receiver, sweep}
+use Rattle.atl_month.specs.AfterSweep.{IsSwept}
 use Rattle.atl_state.proofs.NumberListLaws.{IsListed, passing_listed}
 use Rattle.atl_state.proofs.GoneLaws.{as_gone, count-gone, get-gone, get-gone_other, known-gone, none-gone, steady-gone, total-gone}
 use Rattle.atl_month.proofs.PassingLaws.{kept-refl, kept-trans}
@@ -37,17 +37,17 @@ use Rattle.atl_records.specs.Limits.{most_units}
 
 abbrev swept_in : CampaignValue → ℕ → Option Unit → CampaignValue
 swept_in c n o =
-    option_map_or (λ u. if u.holding.men == 0 then without_unit (passed_on c (receiver c u.region u.faction) u) n else c) o c
+    option_map_or (λ u. if u.holding.men == 0 then without_unit (after_passing_all c (receiver c u.region u.faction) u) n else c) o c
 
 module _ (w : WorldValue) (c : CampaignValue) (n : ℕ) (steady : IsSteady w c) where
-  pub swept_at_leaves_well : LeavesWell IsSteady (loses_by most_amount) w c (swept_at c n)
-  unfolding swept_at
+  pub swept_at_leaves_well : LeavesWell IsSteady (loses_by most_amount) w c (after_sweeping_unit c n)
+  unfolding after_sweeping_unit
   swept_at_leaves_well = by_unit (get c.units n) refl
     where
       by_men : (u : Unit) → get c.units n ≡ Some u → (b : Bool) → (u.holding.men == 0) ≡ b → LeavesWell IsSteady (loses_by most_amount) w c (swept_in c n (Some u))
       by_men u is true t =
-          subst (λ b. LeavesWell IsSteady (loses_by most_amount) w c (if b then without_unit (passed_on c (receiver c u.region u.faction) u) n else c)) (sym t) (swept_leaves_well w c n u is (is_equal u.holding.men 0 t) steady)
-      by_men u is false t = subst (λ b. LeavesWell IsSteady (loses_by most_amount) w c (if b then without_unit (passed_on c (receiver c u.region u.faction) u) n else c)) (sym t) (well_unchanged (loses_by most_amount) w c steady)
+          subst (λ b. LeavesWell IsSteady (loses_by most_amount) w c (if b then without_unit (after_passing_all c (receiver c u.region u.faction) u) n else c)) (sym t) (swept_leaves_well w c n u is (is_equal u.holding.men 0 t) steady)
+      by_men u is false t = subst (λ b. LeavesWell IsSteady (loses_by most_amount) w c (if b then without_unit (after_passing_all c (receiver c u.region u.faction) u) n else c)) (sym t) (well_unchanged (loses_by most_amount) w c steady)
 
       by_unit : (o : Option Unit) → get c.units n ≡ o → LeavesWell IsSteady (loses_by most_amount) w c (swept_in c n o)
       by_unit None is = well_unchanged (loses_by most_amount) w c steady
@@ -57,14 +57,14 @@ module _ (w : WorldValue) (c : CampaignValue) (n : ℕ) (steady : IsSteady w c) 
   Kept d = Every (λ m x. 1 ≤ x.holding.men → (v : Unit) × (get d.units m ≡ Some v) × IsKept x v) c.units
 
   -- a unit with men keeps all
-  pub swept_at_keeps : Kept (swept_at c n)
-  unfolding swept_at
+  pub swept_at_keeps : Kept (after_sweeping_unit c n)
+  unfolding after_sweeping_unit
   swept_at_keeps = by_unit (get c.units n) refl
     where
       same : Kept c
       same m x there some = (x, there, kept-refl x)
 
-      all_but_it : (u : Unit) (is : get c.units n ≡ Some u) (none : u.holding.men ≡ 0) → Kept (without_unit (passed_on c (receiver c u.region u.faction) u) n)
+      all_but_it : (u : Unit) (is : get c.units n ≡ Some u) (none : u.holding.men ≡ 0) → Kept (without_unit (after_passing_all c (receiver c u.region u.faction) u) n)
       all_but_it u is none m x there some =
           others_keep w c n u is none steady m x there (λ own.
           let one : Some x ≡ Some u = sym there ∙ ap (get c.units) own ∙ is in
@@ -72,8 +72,8 @@ module _ (w : WorldValue) (c : CampaignValue) (n : ℕ) (steady : IsSteady w c) 
           absurd (omega (arith, men, none, some)))
 
       by_men : (u : Unit) → get c.units n ≡ Some u → (b : Bool) → (u.holding.men == 0) ≡ b → Kept (swept_in c n (Some u))
-      by_men u is true t = subst (λ b. Kept (if b then without_unit (passed_on c (receiver c u.region u.faction) u) n else c)) (sym t) (all_but_it u is (is_equal u.holding.men 0 t))
-      by_men u is false t = subst (λ b. Kept (if b then without_unit (passed_on c (receiver c u.region u.faction) u) n else c)) (sym t) same
+      by_men u is true t = subst (λ b. Kept (if b then without_unit (after_passing_all c (receiver c u.region u.faction) u) n else c)) (sym t) (all_but_it u is (is_equal u.holding.men 0 t))
+      by_men u is false t = subst (λ b. Kept (if b then without_unit (after_passing_all c (receiver c u.region u.faction) u) n else c)) (sym t) same
 
       by_unit : (o : Option Unit) → get c.units n ≡ o → Kept (swept_in c n o)
       by_unit None is = same
@@ -83,16 +83,16 @@ module _ (w : WorldValue) (c : CampaignValue) (n : ℕ) (steady : IsSteady w c) 
   Were d = Every (λ m v. (v.holding.men ≡ 0 → m ≢ n) × ((x : Unit) × (get c.units m ≡ Some x) × IsKept x v)) d.units
 
   -- each unit that is left was there, and it isn't this one, unless that has men
-  pub swept_at_were : Were (swept_at c n)
-  unfolding swept_at
+  pub swept_at_were : Were (after_sweeping_unit c n)
+  unfolding after_sweeping_unit
   swept_at_were = by_unit (get c.units n) refl
     where
       by_men : (u : Unit) → get c.units n ≡ Some u → (b : Bool) → (u.holding.men == 0) ≡ b → Were (swept_in c n (Some u))
       by_men u is true t =
-          subst (λ b. Were (if b then without_unit (passed_on c (receiver c u.region u.faction) u) n else c)) (sym t)
+          subst (λ b. Were (if b then without_unit (after_passing_all c (receiver c u.region u.faction) u) n else c)) (sym t)
           (λ m v there. let (apart, was) = others_were w c n u is (is_equal u.holding.men 0 t) steady m v there in (λ none. apart, was))
       by_men u is false t =
-          subst (λ b. Were (if b then without_unit (passed_on c (receiver c u.region u.faction) u) n else c)) (sym t)
+          subst (λ b. Were (if b then without_unit (after_passing_all c (receiver c u.region u.faction) u) n else c)) (sym t)
           (λ m v there. (
             λ none own.
                 let one : Some v ≡ Some u = sym there ∙ ap (get c.units) own ∙ is in
@@ -122,18 +122,18 @@ at_least_one n some = by_test (n == 0) refl
     by_test false t = let one = is_unequal n 0 t in grind (arith, nat_tests)
 
 module _ (w : WorldValue) where
-  pub all_have_men : (ns : List ℕ) (c : CampaignValue) → IsSteady w c → AreListed ns c → HaveMen (fold swept_at c ns)
+  pub all_have_men : (ns : List ℕ) (c : CampaignValue) → IsSteady w c → AreListed ns c → HaveMen (fold after_sweeping_unit c ns)
   all_have_men [] c steady listed = λ m v there. at_least_one v.holding.men (listed m v there)
   all_have_men (n ∷ ns) c steady listed =
-      all_have_men ns (swept_at c n) (swept_at_leaves_well w c n steady).leaves_it (λ m v there none.
+      all_have_men ns (after_sweeping_unit c n) (swept_at_leaves_well w c n steady).leaves_it (λ m v there none.
       let (apart, (x, was, kept)) = swept_at_were w c n steady m v there in
       behind_it m n ns (apart none) (listed m x was (sym kept.men ∙ none)))
 
-  pub all_keep : (ns : List ℕ) (c : CampaignValue) → IsSteady w c → Every (λ m x. 1 ≤ x.holding.men → (v : Unit) × (get (fold swept_at c ns).units m ≡ Some v) × IsKept x v) c.units
+  pub all_keep : (ns : List ℕ) (c : CampaignValue) → IsSteady w c → Every (λ m x. 1 ≤ x.holding.men → (v : Unit) × (get (fold after_sweeping_unit c ns).units m ≡ Some v) × IsKept x v) c.units
   all_keep [] c steady m x there some = (x, there, kept-refl x)
   all_keep (n ∷ ns) c steady m x there some =
       let (v, here, kept) = swept_at_keeps w c n steady m x there some in
-      let (y, behind, more) = all_keep ns (swept_at c n) (swept_at_leaves_well w c n steady).leaves_it m v here (omega (arith, kept.men, some)) in
+      let (y, behind, more) = all_keep ns (after_sweeping_unit c n) (swept_at_leaves_well w c n steady).leaves_it m v here (omega (arith, kept.men, some)) in
       (y, behind, kept-trans x v y kept more)
 
 -- ---- factions
@@ -147,18 +147,18 @@ some_at [] e h = cc
 some_at (n ∷ ns) e h = cc
 
 -- nothing of the books moves
-abbrev pub nothing_moves : Moving
+abbrev pub nothing_moves : BookBound
 nothing_moves e t = 0
 
 module _ (c : CampaignValue) (n : ℕ) where
-  pub gone_at_units : (faction_swept c n).units ≡ c.units
+  pub gone_at_units : (after_sweeping_faction c n).units ≡ c.units
   gone_at_units = by_test (is_empty (numbers_of n c.units))
     where
       by_test : (b : Bool) → (if b then with_gone c n else c).units ≡ c.units
       by_test true = refl
       by_test false = refl
 
-  pub gone_at_leaves_well : (w : WorldValue) → IsSteady w c → LeavesWell IsSteady nothing_moves w c (faction_swept c n)
+  pub gone_at_leaves_well : (w : WorldValue) → IsSteady w c → LeavesWell IsSteady nothing_moves w c (after_sweeping_faction c n)
   gone_at_leaves_well w steady = by_test (is_empty (numbers_of n c.units)) refl
     where
       by_faction : numbers_of n c.units ≡ [] → (o : Option Faction) → get c.factions n ≡ o → LeavesWell IsSteady nothing_moves w c (with_gone c n)
@@ -177,7 +177,7 @@ module _ (c : CampaignValue) (n : ℕ) where
   abbrev Remains : CampaignValue → Type 0
   Remains d = Every (λ m f. numbers_of m c.units ≡ [] → f.gone ≡ false → (m ≢ n) × (get c.factions m ≡ Some f)) d.factions
 
-  pub gone_at_remains : Remains (faction_swept c n)
+  pub gone_at_remains : Remains (after_sweeping_faction c n)
   gone_at_remains = by_test (is_empty (numbers_of n c.units)) refl
     where
       by_faction : (o : Option Faction) → get c.factions n ≡ o → Remains (with_gone c n)
@@ -210,17 +210,17 @@ not_false : (b : Bool) → (b ≡ false → ⊥) → b ≡ true
 not_false true h = refl
 not_false false h = absurd (h refl)
 
-all_are_gone : (ns : List ℕ) (c : CampaignValue) → AreToGo ns c → NoneAreGone (fold faction_swept c ns)
+all_are_gone : (ns : List ℕ) (c : CampaignValue) → AreToGo ns c → NoneAreGone (fold after_sweeping_faction c ns)
 all_are_gone [] c listed = λ m f there none. not_false f.gone (listed m f there none)
 all_are_gone (n ∷ ns) c listed =
-    all_are_gone ns (faction_swept c n) (λ m f there none stays.
+    all_are_gone ns (after_sweeping_faction c n) (λ m f there none stays.
     let here : numbers_of m c.units ≡ [] = ap (numbers_of m) (sym (gone_at_units c n)) ∙ none in
     let (apart, was) = gone_at_remains c n m f there here stays in
     behind_it m n ns apart (listed m f was here stays))
 
-units_stay : (ns : List ℕ) (c : CampaignValue) → (fold faction_swept c ns).units ≡ c.units
+units_stay : (ns : List ℕ) (c : CampaignValue) → (fold after_sweeping_faction c ns).units ≡ c.units
 units_stay [] c = refl
-units_stay (n ∷ ns) c = units_stay ns (faction_swept c n) ∙ gone_at_units c n
+units_stay (n ∷ ns) c = units_stay ns (after_sweeping_faction c n) ∙ gone_at_units c n
 
 -- ---- the phase
 
@@ -233,13 +233,13 @@ length-numbers p (e ∷ es) = subst (λ ns. length ns ≤ length (e ∷ es)) (sy
     one_more false n ns l = omega arith
 
 pub loses_little : (k : ℕ) → k ≤ most_units → (e : Entry) (t : Thing) → moved_times k (loses_by most_amount) e t ≤ loses_by most_moved e t
-loses_little k few e t = scaled ((entry_place e == entry_place Lost) && not (thing_place t == thing_place People))
+loses_little k few e t = scaled ((entry_index e == entry_index Lost) && not (thing_index t == thing_index People))
   where
     scaled : (b : Bool) → k * (if b then most_amount else 0) ≤ (if b then most_moved else 0)
     scaled true = omega (arith, few)
     scaled false = omega (arith, few)
 
-pub few_menless : (w : WorldValue) (c : CampaignValue) → IsSteady w c → length (menless c) ≤ most_units
+pub few_menless : (w : WorldValue) (c : CampaignValue) → IsSteady w c → length (menless_units c) ≤ most_units
 few_menless w c steady = omega (arith, length-numbers (λ (u : Unit). u.holding.men == 0) (entries c.units), len-entries c.units, steady.numbers.few_units)
 
 moves_none : (k : ℕ) (e : Entry) (t : Thing) → moved_times k nothing_moves e t ≤ nothing_moves e t
@@ -247,17 +247,17 @@ moves_none k e t = omega arith
 
 module _ (w : WorldValue) (c : CampaignValue) (steady : IsSteady w c) where
   abbrev units_swept : CampaignValue
-  units_swept = fold swept_at c (menless c)
+  units_swept = fold after_sweeping_unit c (menless_units c)
 
   units_well : LeavesWell IsSteady (loses_by most_moved) w c units_swept
   units_well =
-      well_within (moved_times (length (menless c)) (loses_by most_amount)) (loses_by most_moved) w c units_swept (loses_little (length (menless c)) (few_menless w c steady))
-      (fold_leaves_well (loses_by most_amount) w swept_at (λ d n. swept_at_leaves_well w d n) c (menless c) steady)
+      well_within (moved_times (length (menless_units c)) (loses_by most_amount)) (loses_by most_moved) w c units_swept (loses_little (length (menless_units c)) (few_menless w c steady))
+      (fold_leaves_well (loses_by most_amount) w after_sweeping_unit (λ d n. swept_at_leaves_well w d n) c (menless_units c) steady)
 
   factions_well : LeavesWell IsSteady nothing_moves w units_swept (sweep c)
   factions_well =
       well_within (moved_times (length (active units_swept)) nothing_moves) nothing_moves w units_swept (sweep c) (moves_none (length (active units_swept)))
-      (fold_leaves_well nothing_moves w faction_swept (λ d n. gone_at_leaves_well d n w) units_swept (active units_swept) units_well.leaves_it)
+      (fold_leaves_well nothing_moves w after_sweeping_faction (λ d n. gone_at_leaves_well d n w) units_swept (active units_swept) units_well.leaves_it)
 
   both_well : LeavesWell IsSteady (loses_by most_moved) w c (sweep c)
   both_well =
@@ -267,7 +267,7 @@ module _ (w : WorldValue) (c : CampaignValue) (steady : IsSteady w c) where
   have_men : HaveMen (sweep c)
   have_men =
       subst (λ (units : FinMap nat_cmp Unit). Every (λ n u. 1 ≤ u.holding.men) units) (sym (units_stay (active units_swept) units_swept))
-      (all_have_men w (menless c) c steady (λ m v there none. passing_listed (λ (u : Unit). u.holding.men == 0) c.units m v there (let t : (v.holding.men == 0) ≡ true = grind (arith, nat_tests) in t)))
+      (all_have_men w (menless_units c) c steady (λ m v there none. passing_listed (λ (u : Unit). u.holding.men == 0) c.units m v there (let t : (v.holding.men == 0) ≡ true = grind (arith, nat_tests) in t)))
 
   are_gone : NoneAreGone (sweep c)
   are_gone = all_are_gone (active units_swept) units_swept (λ m f there none stays. passing_listed (λ (x : Faction). not x.gone) units_swept.factions m f there (ap not stays))
@@ -282,5 +282,5 @@ module _ (w : WorldValue) (c : CampaignValue) (steady : IsSteady w c) where
 
   pub sweep_keeps_all : Every (λ n u. 1 ≤ u.holding.men → (v : Unit) × (get (sweep c).units n ≡ Some v) × IsKept u v) c.units
   sweep_keeps_all n u is some =
-      let (v, there, kept) = all_keep w (menless c) c steady n u is some in
+      let (v, there, kept) = all_keep w (menless_units c) c steady n u is some in
       (v, ap (λ (units : FinMap nat_cmp Unit). get units n) (units_stay (active units_swept) units_swept) ∙ there, kept)

@@ -10,7 +10,7 @@ use Rattle.std.specs.FinMap.{FinMap, entries, get, get-entries, len}
 use Rattle.atl_tables.specs.Worlds.{WorldValue}
 use Rattle.atl_tables.specs.Limits.{most_amount}
 use Rattle.atl_tables.specs.Sums.{numbers_where}
-use Rattle.atl_records.specs.Books.{amount_in, booked, entry_place, thing_place, amount_number}
+use Rattle.atl_records.specs.Books.{amount_in, booked, entry_index, thing_index, amount_number}
 use Rattle.atl_records.specs.declared.books.Entry.{Entry}
 use Rattle.atl_records.specs.declared.books.Entry.TheVariants.{Lost}
 use Rattle.atl_records.specs.declared.books.Thing.{Thing}
@@ -19,20 +19,20 @@ use Rattle.atl_records.specs.declared.records.Faction.{Faction}
 use Rattle.atl_records.specs.declared.records.Unit.{Unit}
 use Rattle.atl_records.specs.Every.{EachOf, Every, IsThere}
 use Rattle.atl_state.specs.Good.{IsSteady}
-use Rattle.atl_records.specs.Held.{Held, amount_of}
+use Rattle.atl_records.specs.Holdings.{HoldingValue, amount_of}
 use Rattle.atl_records.specs.Limits.{entry_count, holding_limit}
 use Rattle.atl_state.specs.Owners.{first_or_zero, without_unit}
 use Rattle.atl_state.specs.Campaign.{CampaignValue}
-use Rattle.atl_records.specs.Amounts.{held}
+use Rattle.atl_records.specs.Amounts.{unit_amount}
 use Rattle.atl_state.specs.Totals.{Balances, total}
 use Rattle.atl_records.proofs.EveryEntryLaws.{entry_small}
 use Rattle.atl_records.proofs.EveryLaws.{each-from_every, sorted}
-use Rattle.atl_instant.specs.Meaning.{IsNear, LeavesWell, Moving, both_move, moves_only}
-use Rattle.atl_records.proofs.HeldLaws.{amount_within}
+use Rattle.atl_instant.specs.Meaning.{BookBound, IsNear, LeavesWell, both_move, moves_only}
+use Rattle.atl_records.proofs.HoldingLaws.{amount_within}
 use Rattle.atl_instant.proofs.MeaningLaws.{near_more}
 use Rattle.atl_instant.proofs.QuitLaws.{no_money, no_people, of_item, owing_items, part_of}
 use Rattle.atl_instant.specs.LostItems.{moving_items}
-use Rattle.atl_month.specs.Sweep.{IsKept, loses_by, passed_money, passed_on, receiver, receives}
+use Rattle.atl_month.specs.Sweep.{IsKept, after_passing_all, after_passing_money, loses_by, receiver, receives}
 use Rattle.atl_records.proofs.RemovedLaws.{get-remove_other, still}
 use Rattle.atl_state.proofs.NumberListLaws.{IsListed, listed_passing}
 use Rattle.atl_state.proofs.LeavingLaws.{only_reduced, steady-without, total-without}
@@ -40,13 +40,13 @@ use Rattle.atl_month.proofs.PassingLaws.{Owes, PassesOn, pass_items, pass_money,
 
 -- ---- how much of each thing a unit passes on
 
-abbrev owing_all : Held → Thing → ℕ
+abbrev owing_all : HoldingValue → Thing → ℕ
 owing_all h s = part_of s Money h.money + owing_items (entries h.items) s
 
-abbrev pub moving_all : Held → Moving
+abbrev pub moving_all : HoldingValue → BookBound
 moving_all h = both_move (moves_only h.money Lost Money) (moving_items (entries h.items))
 
-all_owed : (h : Held) → h.men ≡ 0 → (s : Thing) → owing_all h s ≡ held s h
+all_owed : (h : HoldingValue) → h.men ≡ 0 → (s : Thing) → owing_all h s ≡ unit_amount s h
 all_owed h none Money = ap (λ n. h.money + n) (no_money (entries h.items)) ∙ plain h.money
   where
     plain : (x : ℕ) → x + 0 ≡ x
@@ -64,7 +64,7 @@ all_owed h none (Item j) =
 
 -- an amount of what is lost
 abbrev of_lost : Entry → ℕ → ℕ
-of_lost e n = cond (entry_place e == 7) n 0
+of_lost e n = cond (entry_index e == 7) n 0
 
 one_moved : (a : ℕ) (t : Thing) (e : Entry) (s : Thing) → moves_only a Lost t e s ≤ of_lost e (part_of s t a)
 one_moved a t e s = by_number (amount_number e s == amount_number Lost t) refl
@@ -76,17 +76,17 @@ one_moved a t e s = by_number (amount_number e s == amount_number Lost t) refl
 
     by_number : (b : Bool) → (amount_number e s == amount_number Lost t) ≡ b → (if b then a else 0) ≤ of_lost e (part_of s t a)
     by_number true is =
-        let same : entry_count * thing_place s + entry_place e ≡ entry_count * thing_place t + 7 = grind (arith, nat_tests) in
+        let same : entry_count * thing_index s + entry_index e ≡ entry_count * thing_index t + 7 = grind (arith, nat_tests) in
         let small = entry_small e in
-        let thing : thing_place s ≡ thing_place t = omega arith in
-        let entry : entry_place e ≡ 7 = omega arith in
-        let is_lost : (entry_place e == 7) ≡ true = grind (arith, nat_tests) in
-        let is_thing : (thing_place s == thing_place t) ≡ true = grind (arith, nat_tests) in
-        at_place (entry_place e == 7) (thing_place s == thing_place t) is_lost is_thing
+        let thing : thing_index s ≡ thing_index t = omega arith in
+        let entry : entry_index e ≡ 7 = omega arith in
+        let is_lost : (entry_index e == 7) ≡ true = grind (arith, nat_tests) in
+        let is_thing : (thing_index s == thing_index t) ≡ true = grind (arith, nat_tests) in
+        at_place (entry_index e == 7) (thing_index s == thing_index t) is_lost is_thing
     by_number false is = omega arith
 
 lost_sum : (e : Entry) (x y m n : ℕ) → x ≤ of_lost e m → y ≤ of_lost e n → x + y ≤ of_lost e (m + n)
-lost_sum e x y m n = by_test (entry_place e == 7)
+lost_sum e x y m n = by_test (entry_index e == 7)
   where
     by_test : (b : Bool) → x ≤ cond b m 0 → y ≤ cond b n 0 → x + y ≤ cond b (m + n) 0
     by_test true k l = omega arith
@@ -98,28 +98,28 @@ items_moved (x ∷ xs) e s =
     lost_sum e (moves_only x.1 Lost (Item x.0) e s) (moving_items xs e s) (part_of s (Item x.0) x.1) (owing_items xs s)
     (one_moved x.1 (Item x.0) e s) (items_moved xs e s)
 
-all_moved : (h : Held) → h.men ≡ 0 → (e : Entry) (s : Thing) → moving_all h e s ≤ of_lost e (held s h)
+all_moved : (h : HoldingValue) → h.men ≡ 0 → (e : Entry) (s : Thing) → moving_all h e s ≤ of_lost e (unit_amount s h)
 all_moved h none e s =
     subst (λ n. moving_all h e s ≤ of_lost e n) (all_owed h none s)
     (lost_sum e (moves_only h.money Lost Money e s) (moving_items (entries h.items) e s) (part_of s Money h.money)
     (owing_items (entries h.items) s) (one_moved h.money Money e s) (items_moved (entries h.items) e s))
 
 -- within what a unit may hold
-little_lost : (h : Held) → h.men ≡ 0 → h.money ≤ holding_limit → ((i : ℕ) → amount_of h.items i ≤ holding_limit) → (e : Entry) (s : Thing)
-    → of_lost e (held s h) ≤ loses_by most_amount e s
-little_lost h none money items e Money = by_test (entry_place e == 7)
+little_lost : (h : HoldingValue) → h.men ≡ 0 → h.money ≤ holding_limit → ((i : ℕ) → amount_of h.items i ≤ holding_limit) → (e : Entry) (s : Thing)
+    → of_lost e (unit_amount s h) ≤ loses_by most_amount e s
+little_lost h none money items e Money = by_test (entry_index e == 7)
   where
     by_test : (b : Bool) → cond b h.money 0 ≤ (if b && not false then most_amount else 0)
     by_test true = money
     by_test false = omega arith
-little_lost h none money items e People = by_test (entry_place e == 7)
+little_lost h none money items e People = by_test (entry_index e == 7)
   where
     by_test : (b : Bool) → cond b h.men 0 ≤ (if b && not true then most_amount else 0)
     by_test true = omega (arith, none)
     by_test false = omega arith
 little_lost h none money items e (Item j) =
     let apart : (2 + j == 1) ≡ false = grind (arith, nat_tests) in
-    by_test (entry_place e == 7) (2 + j == 1) apart
+    by_test (entry_index e == 7) (2 + j == 1) apart
   where
     by_test : (b d : Bool) → d ≡ false → cond b (amount_of h.items j) 0 ≤ (if b && not d then most_amount else 0)
     by_test true false f = items j
@@ -158,14 +158,14 @@ module _ (w : WorldValue) (c : CampaignValue) (n : ℕ) (u : Unit) (is : get c.u
   known = each-from_every (λ i a. i < length w.items) u.holding.items (steady.known.units n u is).items
 
   abbrev passed : CampaignValue
-  passed = passed_on c to u
+  passed = after_passing_all c to u
 
   passing : PassesOn w n (owing_all u.holding) (moving_all u.holding) c passed
   passing =
       let apart = receiver_apart u.region u.faction in
       let money = pass_money w c n to apart steady u.holding.money in
-      passes-trans w n c (passed_money c to u.holding.money) passed money
-      (pass_items w (passed_money c to u.holding.money) n to apart (entries u.holding.items) known money.steady)
+      passes-trans w n c (after_passing_money c to u.holding.money) passed money
+      (pass_items w (after_passing_money c to u.holding.money) n to apart (entries u.holding.items) known money.steady)
 
   there_still : get passed.units n ≡ Some u
   there_still = passing.unit ∙ is
@@ -178,7 +178,7 @@ module _ (w : WorldValue) (c : CampaignValue) (n : ℕ) (u : Unit) (is : get c.u
       let before : Owes passed s (0 + owing_all u.holding s) = passing.owes s 0 (old s ∙ plain _) in
       let total_is = total-without w passed n u there_still s in
       let only = only_reduced w passed n u there_still in
-      rest (total swept s) (held s u.holding) (total passed s) (owing_all u.holding s) (booked passed.books s) total_is
+      rest (total swept s) (unit_amount s u.holding) (total passed s) (owing_all u.holding s) (booked passed.books s) total_is
       (all_owed u.holding none s) before
       ∙ ap (λ (books : List (List ℤ)). booked books s) (sym only.books)
     where
@@ -193,7 +193,7 @@ module _ (w : WorldValue) (c : CampaignValue) (n : ℕ) (u : Unit) (is : get c.u
 
   pub moves_little : (e : Entry) (s : Thing) → moving_all u.holding e s ≤ loses_by most_amount e s
   moves_little e s =
-      less_less (moving_all u.holding e s) (of_lost e (held s u.holding)) (loses_by most_amount e s) (all_moved u.holding none e s)
+      less_less (moving_all u.holding e s) (of_lost e (unit_amount s u.holding)) (loses_by most_amount e s) (all_moved u.holding none e s)
       (little_lost u.holding none (steady.numbers.units n u is).1.money (λ i. amount_within u.holding i (steady.numbers.units n u is).1) e s)
 
   pub swept_leaves_well : LeavesWell IsSteady (loses_by most_amount) w c swept

@@ -5,32 +5,32 @@ use Rattle.std.specs.FinMap.{entries, get}
 use Rattle.std.specs.Option.{option_map_or}
 use Rattle.atl_tables.specs.Worlds.{WorldValue}
 use Rattle.atl_tables.specs.Limits.{most_amount}
-use Rattle.atl_records.specs.Books.{IsGrid, amount_in, thing_place}
+use Rattle.atl_records.specs.Books.{IsGrid, amount_in, thing_index}
 use Rattle.atl_state.specs.Covers.{MarksChanges}
 use Rattle.atl_records.specs.declared.books.Entry.{Entry}
 use Rattle.atl_records.specs.declared.books.Entry.TheVariants.{Lost}
 use Rattle.atl_records.specs.declared.books.Thing.{Thing}
 use Rattle.atl_records.specs.declared.books.Thing.TheVariants.{Item, Money}
 use Rattle.atl_records.specs.declared.records.Unit.{Unit}
-use Rattle.atl_records.specs.Held.{amount_of}
+use Rattle.atl_records.specs.Holdings.{amount_of}
 use Rattle.atl_state.specs.Good.{IsSteady}
 use Rattle.atl_state.specs.Marking.{mark_amount, mark_faction, mark_unit_row}
 use Rattle.atl_state.specs.Campaign.{MarkedCampaign, CampaignValue, with_gone, with_item, with_money}
 use Rattle.atl_state.proofs.CoverLaws.{marks-amount, marks-trans}
 use Rattle.atl_state.proofs.HoldingLaws.{marks-unit_row}
-use Rattle.atl_instant.specs.Meaning.{HaveRoom, IsNear, Moving, both_move, moves_only}
+use Rattle.atl_instant.specs.Meaning.{BookBound, HaveRoom, IsNear, both_move, moves_only}
 use Rattle.atl_instant.proofs.MarkLaws.{marks_by}
 use Rattle.atl_instant.proofs.MeaningLaws.{near_room, room_less}
 use Rattle.atl_instant.proofs.QuitLaws.{part_of}
 use Rattle.atl_instant.specs.LostItems.{moving_items}
-use Rattle.atl_month.specs.Sweep.{loses_by, passed_item, passed_money, taken_of, with_lost}
+use Rattle.atl_month.specs.Sweep.{accepted_of, after_passing_item, after_passing_money, loses_by, with_lost}
 use Rattle.atl_state.proofs.GoneLaws.{marks-gone_faction}
 use Rattle.atl_month.proofs.PassingLaws.{PassesOn, pass_item, pass_money}
 use Rattle.atl_month.proofs.SweepLaws.{moves_little, moving_all}
 
 -- ---- marks
 
-pub lost_marks : (things amount : ℕ) (c d : MarkedCampaign) (t : Thing) → IsGrid things c.value.books → thing_place t < things
+pub lost_marks : (things amount : ℕ) (c d : MarkedCampaign) (t : Thing) → IsGrid things c.value.books → thing_index t < things
     → d.value ≡ with_lost c.value t amount → d.marks ≡ mark_amount c Lost t → MarksChanges c d
 lost_marks things amount c d t grid inside what marks =
     marks_by c d (record { value = with_lost c.value t amount; marks = mark_amount c Lost t }) what marks
@@ -52,19 +52,19 @@ gone_marks c d n what marks = marks_by c d (record { value = with_gone c.value n
 -- ---- an item that is passed on
 
 pub passed_item_is : (c : CampaignValue) (to item amount : ℕ) (v : Unit) → get c.units to ≡ Some v
-    → with_lost (with_item c to item (amount_of v.holding.items item + taken_of amount (amount_of v.holding.items item))) (Item item) (amount - taken_of amount (amount_of v.holding.items item))
-    ≡ passed_item to c (item, amount)
-unfolding passed_item
+    → with_lost (with_item c to item (amount_of v.holding.items item + accepted_of amount (amount_of v.holding.items item))) (Item item) (amount - accepted_of amount (amount_of v.holding.items item))
+    ≡ after_passing_item to c (item, amount)
+unfolding after_passing_item
 passed_item_is c to item amount v is = sym (ap given is)
   where
     given : Option Unit → CampaignValue
     given o =
-        let taken = option_map_or (λ u. taken_of amount (amount_of u.holding.items item)) o 0 in
+        let taken = option_map_or (λ u. accepted_of amount (amount_of u.holding.items item)) o 0 in
         with_lost (option_map_or (λ u. with_item c to item (amount_of u.holding.items item + taken)) o c) (Item item) (amount - taken)
 
 -- ---- room
 
-pub near_leaves_room : (j k : Moving) (c d : CampaignValue) → ((e : Entry) (t : Thing) → IsNear (j e t) (amount_in c.books e t) (amount_in d.books e t))
+pub near_leaves_room : (j k : BookBound) (c d : CampaignValue) → ((e : Entry) (t : Thing) → IsNear (j e t) (amount_in c.books e t) (amount_in d.books e t))
     → HaveRoom (both_move j k) c → HaveRoom k d
 near_leaves_room j k c d near room e t = near_room (j e t) (k e t) (amount_in c.books e t) (amount_in d.books e t) (near e t) (room e t)
 
@@ -73,20 +73,20 @@ another n same = omega (arith, same)
 
 module _ (w : WorldValue) (c : CampaignValue) (steady : IsSteady w c) where
   pub item_passes : (to i amount : ℕ) → i < length w.items
-      → PassesOn w (suc to) (λ s. part_of s (Item i) amount) (moves_only amount Lost (Item i)) c (passed_item to c (i, amount))
+      → PassesOn w (suc to) (λ s. part_of s (Item i) amount) (moves_only amount Lost (Item i)) c (after_passing_item to c (i, amount))
   item_passes to i amount known = pass_item w c (suc to) to (another to) steady i amount known
 
   pub rest_room : (to : ℕ) (x : ℕ × ℕ) (xs : List (ℕ × ℕ)) → x.0 < length w.items → HaveRoom (moving_items (x ∷ xs)) c
-      → HaveRoom (moving_items xs) (passed_item to c x)
+      → HaveRoom (moving_items xs) (after_passing_item to c x)
   rest_room to x xs known room =
-      near_leaves_room (moves_only x.1 Lost (Item x.0)) (moving_items xs) c (passed_item to c x) (item_passes to x.0 x.1 known).near room
+      near_leaves_room (moves_only x.1 Lost (Item x.0)) (moving_items xs) c (after_passing_item to c x) (item_passes to x.0 x.1 known).near room
 
-  pub money_steady : (to amount : ℕ) → IsSteady w (passed_money c to amount)
+  pub money_steady : (to amount : ℕ) → IsSteady w (after_passing_money c to amount)
   money_steady to amount = (pass_money w c (suc to) to (another to) steady amount).steady
 
   pub items_room : (n to : ℕ) (u : Unit) → get c.units n ≡ Some u → u.holding.men ≡ 0 → HaveRoom (loses_by most_amount) c
-      → HaveRoom (moving_items (entries u.holding.items)) (passed_money c to u.holding.money)
+      → HaveRoom (moving_items (entries u.holding.items)) (after_passing_money c to u.holding.money)
   items_room n to u is none room =
-      near_leaves_room (moves_only u.holding.money Lost Money) (moving_items (entries u.holding.items)) c (passed_money c to u.holding.money)
+      near_leaves_room (moves_only u.holding.money Lost Money) (moving_items (entries u.holding.items)) c (after_passing_money c to u.holding.money)
       (pass_money w c (suc to) to (another to) steady u.holding.money).near
       (room_less (moving_all u.holding) (loses_by most_amount) c (moves_little w c n u is none steady) room)

@@ -9,19 +9,19 @@ use Rattle.atl_tables.specs.Worlds.{WorldValue}
 use Rattle.atl_tables.proofs.GeneralLaws.{is_equal}
 use Rattle.atl_records.specs.declared.event.Event.{Event}
 use Rattle.atl_records.specs.declared.records.Unit.{Unit}
-use Rattle.atl_records.specs.Held.{Held}
+use Rattle.atl_records.specs.Holdings.{HoldingValue}
 use Rattle.atl_state.specs.Campaign.{CampaignValue}
 use Rattle.atl_records.proofs.EveryLaws.{get-insert_other, other_number}
 use Rattle.atl_state.proofs.RegionLaws.{get-insert_same}
 use Rattle.atl_instant.specs.Month.{MonthValue}
-use Rattle.atl_instant.specs.Steps.{IsSpared}
-use Rattle.atl_instant.specs.Unmailed.{IsLessBy, starved_in, starved_told}
+use Rattle.atl_instant.specs.OrderEffects.{IsUnaffected}
+use Rattle.atl_instant.specs.Unmailed.{IsLessBy, men_starved_by, starved_in}
 use Rattle.atl_instant.proofs.StructureLaws.{equal}
 use Rattle.atl_instant.proofs.UnmailedLaws.{ClosesUnmailed, LeavesUnmailed, men_same, whole_leaves}
-use Rattle.atl_month.specs.declared.settling.Settled.{Settled}
+use Rattle.atl_month.specs.declared.upkeep_sharing.UpkeepResult.{UpkeepResult}
 use Rattle.atl_month.specs.Season.{season_keeps, season_meaning}
 use Rattle.atl_month.specs.Sweep.{sweep_keeps, sweep_meaning}
-use Rattle.atl_month.specs.Upkeep.{settlements, starved_event, starves, supplied, upkeep_at, upkeep_keeps, upkeep_meaning}
+use Rattle.atl_month.specs.Upkeep.{after_upkeep, starved_event, starves, upkeep_at, upkeep_keeps, upkeep_meaning, upkeep_results}
 use Rattle.atl_month.proofs.UpkeepLaws.{days_left, upkeep_in}
 
 -- ---- upkeep
@@ -41,16 +41,16 @@ nobody_less : (u : Unit) → IsLessBy 0 u u
 nobody_less u = record { faction = refl; name = refl; men = omega arith; items = λ i. omega arith }
 
 -- a unit behind its upkeep
-abbrev supplied_unit : Settled → Unit → Unit
-supplied_unit s u = record u { holding = supplied s u.holding }
+abbrev supplied_unit : UpkeepResult → Unit → Unit
+supplied_unit s u = record u { holding = after_upkeep s u.holding }
 
-abbrev men_left : Settled → Unit → ℕ
+abbrev men_left : UpkeepResult → Unit → ℕ
 men_left s u = u.holding.men - s.starved
 
-abbrev held_by : Settled → Unit → Bool → Held
+abbrev held_by : UpkeepResult → Unit → Bool → HoldingValue
 held_by s u b = record (if b then u.holding else record u.holding { men = men_left s u; days = days_left (men_left s u) u.holding }) { money = u.holding.money - s.paid }
 
-fewer_by : (s : Settled) (u : Unit) → IsLessBy s.starved u (supplied_unit s u)
+fewer_by : (s : UpkeepResult) (u : Unit) → IsLessBy s.starved u (supplied_unit s u)
 fewer_by s u = by_test (men_left s u == u.holding.men) refl
   where
     by_test : (b : Bool) → (men_left s u == u.holding.men) ≡ b → IsLessBy s.starved u (record u { holding = held_by s u b })
@@ -58,10 +58,10 @@ fewer_by s u = by_test (men_left s u == u.holding.men) refl
     by_test false is = record { faction = refl; name = refl; men = refl; items = λ i. omega arith }
 
 -- how many men of a unit starve by some settlements
-abbrev among : ℕ → Settled → ℕ
+abbrev among : ℕ → UpkeepResult → ℕ
 among n s = if s.unit == n then s.starved else 0
 
-supplied_at : (c : CampaignValue) (s : Settled) (n : ℕ) (u : Unit) → get c.units n ≡ Some u → IsSpared (IsLessBy (among n s)) (upkeep_at c s) n u
+supplied_at : (c : CampaignValue) (s : UpkeepResult) (n : ℕ) (u : Unit) → get c.units n ≡ Some u → IsUnaffected (IsLessBy (among n s)) (upkeep_at c s) n u
 unfolding upkeep_at
 supplied_at c s n u there = elim (cases_eq n s.unit) [
   | inl own ↦
@@ -76,7 +76,7 @@ supplied_at c s n u there = elim (cases_eq n s.unit) [
     by_unit apart None = refl
     by_unit apart (Some v) = get-insert_other c.units s.unit n (supplied_unit s v) apart
 
-all_supplied : (c : CampaignValue) (ss : List Settled) (n : ℕ) (u : Unit) → get c.units n ≡ Some u → IsSpared (IsLessBy (sum_by (among n) ss)) (fold upkeep_at c ss) n u
+all_supplied : (c : CampaignValue) (ss : List UpkeepResult) (n : ℕ) (u : Unit) → get c.units n ≡ Some u → IsUnaffected (IsLessBy (sum_by (among n) ss)) (fold upkeep_at c ss) n u
 all_supplied c [] n u there = record { unit = u; there = there; spared = nobody_less u }
 all_supplied c (s ∷ ss) n u there =
     let one = supplied_at c s n u there in
@@ -84,13 +84,13 @@ all_supplied c (s ∷ ss) n u there =
     record { unit = two.unit; there = two.there; spared = subst (λ k. IsLessBy k u two.unit) (sym (sum_by-cons (among n) s ss)) (less_plus (among n s) (sum_by (among n) ss) u one.unit two.unit one.spared two.spared) }
 
 abbrev by_event : ℕ → Event → ℕ
-by_event n e = if e.unit == n then starved_told e.verb e.outcome else 0
+by_event n e = if e.unit == n then men_starved_by e.verb e.outcome else 0
 
-abbrev told : ℕ → List Settled → ℕ
+abbrev told : ℕ → List UpkeepResult → ℕ
 told n ss = starved_in (map starved_event ss) n
 
 -- the events tell of them
-starved_told_of : (ss : List Settled) (n : ℕ) → told n (filter starves ss) ≡ sum_by (among n) ss
+starved_told_of : (ss : List UpkeepResult) (n : ℕ) → told n (filter starves ss) ≡ sum_by (among n) ss
 starved_told_of [] n = refl
 starved_told_of (s ∷ ss) n = by_test (starved_told_of ss n) (s.starved == 0) refl ∙ sym (sum_by-cons (among n) s ss)
   where
@@ -107,15 +107,15 @@ upkeep_leaves = record {
   readings = λ w c m. refl;
   told = λ w c m n. more (starved_in m.events n) (all w c n) _ (sums w c m n);
   left = λ w c m keeps n u there none.
-      let one = all_supplied c (settlements w c) n u there in
+      let one = all_supplied c (upkeep_results w c) n u there in
       record { unit = one.unit; there = one.there; spared = subst (λ k. IsLessBy k u one.unit) (less (starved_in m.events n) (all w c n) _ (sums w c m n)) one.spared };
 }
   where
     all : (w : WorldValue) (c : CampaignValue) (n : ℕ) → ℕ
-    all w c n = sum_by (among n) (settlements w c)
+    all w c n = sum_by (among n) (upkeep_results w c)
 
     sums : (w : WorldValue) (c : CampaignValue) (m : MonthValue) (n : ℕ) → starved_in (upkeep_meaning w c m).1.events n ≡ starved_in m.events n + all w c n
-    sums w c m n = sum_by-append (by_event n) m.events (map starved_event (filter starves (settlements w c))) ∙ ap (λ x. starved_in m.events n + x) (starved_told_of (settlements w c) n)
+    sums w c m n = sum_by-append (by_event n) m.events (map starved_event (filter starves (upkeep_results w c))) ∙ ap (λ x. starved_in m.events n + x) (starved_told_of (upkeep_results w c) n)
 
     more : (x y z : ℕ) → z ≡ x + y → x ≤ z
     more x y z is = omega (arith, is)

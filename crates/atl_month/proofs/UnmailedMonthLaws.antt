@@ -13,12 +13,12 @@ use Rattle.atl_records.specs.declared.event.Event.{Event}
 use Rattle.atl_records.specs.Every.{Every}
 use Rattle.atl_state.specs.Campaign.{CampaignValue}
 use Rattle.atl_instant.specs.Month.{MonthValue, by_faction}
-use Rattle.atl_instant.specs.Meaning.{Keeping, Meaning}
-use Rattle.atl_instant.specs.Steps.{IsSpared}
+use Rattle.atl_instant.specs.Meaning.{Frame, Meaning}
+use Rattle.atl_instant.specs.OrderEffects.{IsUnaffected}
 use Rattle.atl_instant.specs.Unmailed.{IsLeft, IsLessBy, starved_in}
 use Rattle.atl_instant.proofs.UnmailedLaws.{ClosesUnmailed, both_leave, then_closes}
-use Rattle.atl_instant.proofs.TermsLaws.{closed_together, each_also, leave_together}
-use Rattle.atl_month.specs.Month.{begun, closing_phases, early_phases, later_phases, month_keeps, month_meaning, month_of}
+use Rattle.atl_instant.proofs.PhaseSpecLaws.{closed_together, each_also, leave_together}
+use Rattle.atl_month.specs.Month.{closing_phases, early_phases, later_phases, month_keeps, month_meaning, month_of, new_month}
 use Rattle.atl_month.proofs.PhaseLaws.{IsPhase, closing_leave, early_are, later_are}
 use Rattle.atl_month.specs.Unmailed.{SentNone, UnmailedAreLeft}
 
@@ -43,18 +43,18 @@ none_read f ms none = get-from_entries nat_cmp_total (map (λ r. (r.faction, r))
         ] refl
 
 -- what closes over a month that has begun
-left_behind : (phases : Meaning) (keeps : Keeping) → ClosesUnmailed phases keeps → (w : WorldValue) (c d : CampaignValue) (m : MonthValue) (events : List Event) → m.events ≡ [] → ◌≡◌ {A = CampaignValue × List Event} (d, events) ((phases w c m).0, (phases w c m).1.events) → keeps w m c d
+left_behind : (phases : Meaning) (keeps : Frame) → ClosesUnmailed phases keeps → (w : WorldValue) (c d : CampaignValue) (m : MonthValue) (events : List Event) → m.events ≡ [] → ◌≡◌ {A = CampaignValue × List Event} (d, events) ((phases w c m).0, (phases w c m).1.events) → keeps w m c d
     → Every (λ n u. get m.readings u.faction ≡ None → IsLeft (starved_in events n) d n u) c.units
 left_behind phases keeps closes w c d m events begins is kept n u there none some =
     let state : d ≡ (phases w c m).0 = ap (λ (p : CampaignValue × List Event). p.0) is in
     let told : events ≡ (phases w c m).1.events = ap (λ (p : CampaignValue × List Event). p.1) is in
     let from_none : starved_in m.events n ≡ 0 = ap (λ es. starved_in es n) begins in
     let so_many : starved_in (phases w c m).1.events n - starved_in m.events n ≡ starved_in events n = omega (arith, from_none, ap (λ es. starved_in es n) told) in
-    subst (λ k. IsSpared (IsLessBy k) d n u) so_many (subst (λ s. IsSpared (IsLessBy (starved_in (phases w c m).1.events n - starved_in m.events n)) s n u) (sym state)
+    subst (λ k. IsUnaffected (IsLessBy k) d n u) so_many (subst (λ s. IsUnaffected (IsLessBy (starved_in (phases w c m).1.events n - starved_in m.events n)) s n u) (sym state)
     (closes.left w c m (subst (keeps w m c) state kept) n u there none (subst (λ k. k < u.holding.men) (sym so_many) some)))
 
 pub unmailed_left : (w : WorldValue) (c d : CampaignValue) (ms : List Mailing) (words : List ℕ) (events : List Event) → (d, events) ≡ month_of w c (by_faction (map reading_of ms)) words
-    → month_keeps w (begun (by_faction (map reading_of ms)) words) c d → UnmailedAreLeft ms events c d
+    → month_keeps w (new_month (by_faction (map reading_of ms)) words) c d → UnmailedAreLeft ms events c d
 unfolding month_of
 unmailed_left w c d ms words events is kept n u there none =
-    left_behind month_meaning month_keeps month_closes w c d (begun (by_faction (map reading_of ms)) words) events refl is kept n u there (none_read u.faction ms none)
+    left_behind month_meaning month_keeps month_closes w c d (new_month (by_faction (map reading_of ms)) words) events refl is kept n u there (none_read u.faction ms none)

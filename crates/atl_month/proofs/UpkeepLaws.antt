@@ -21,25 +21,25 @@ use Rattle.atl_records.specs.declared.books.Entry.TheVariants.{Starved, Upkeep}
 use Rattle.atl_records.specs.declared.books.Thing.{Thing}
 use Rattle.atl_records.specs.declared.books.Thing.TheVariants.{Money, People, Item}
 use Rattle.atl_records.specs.declared.records.Unit.{Unit}
-use Rattle.atl_records.specs.Books.{IsGrid, amount_in, with_booked, amount_number}
+use Rattle.atl_records.specs.Books.{IsGrid, amount_in, after_booking, amount_number}
 use Rattle.atl_state.specs.Covers.{MarksChanges}
 use Rattle.atl_state.specs.Founding.{things_of}
 use Rattle.atl_records.specs.Every.{EachOf, Every}
 use Rattle.atl_state.specs.Good.{IsSteady, guards}
-use Rattle.atl_records.specs.Held.{AreAmounts, Held, amount_of, with_amount_of}
+use Rattle.atl_records.specs.Holdings.{AreAmounts, HoldingValue, amount_of, with_amount_of}
 use Rattle.atl_state.specs.Lending.{with_held}
 use Rattle.atl_records.specs.Limits.{most_days, most_units}
 use Rattle.atl_state.specs.Marking.{mark_amount}
 use Rattle.atl_state.specs.Campaign.{MarkedCampaign, CampaignValue, with_amount, with_money}
-use Rattle.atl_records.specs.Amounts.{held}
+use Rattle.atl_records.specs.Amounts.{unit_amount}
 use Rattle.atl_state.specs.Totals.{Balances, total}
 use Rattle.atl_state.proofs.BackLaws.{Rise, entries_rise}
-use Rattle.atl_records.proofs.BookLaws.{IsGrid-with_booked, booked-with_booked, share_of}
+use Rattle.atl_records.proofs.BookLaws.{IsGrid-after_booking, booked-after_booking, share_of}
 use Rattle.atl_state.proofs.CoverLaws.{marks-amount, marks-trans}
 use Rattle.atl_records.proofs.EveryLaws.{each-from_every, every-empty, get-insert_other}
-use Rattle.atl_state.proofs.HoldingLaws.{MayHold, steady-held, total-held}
+use Rattle.atl_state.proofs.HoldingLaws.{MayHold, steady-unit_amount, total-unit_amount}
 use Rattle.atl_state.proofs.RegionLaws.{steady-amount, total-amount}
-use Rattle.atl_instant.specs.Meaning.{HaveRoom, IsNear, LeavesWell, Moving, moved_times, moves_only, most_moved}
+use Rattle.atl_instant.specs.Meaning.{HaveRoom, IsNear, LeavesWell, BookBound, moved_times, moves_only, most_moved}
 use Rattle.atl_instant.specs.Amounts.{amounts_for}
 use Rattle.atl_instant.specs.Holdings.{with_days}
 use Rattle.atl_instant.specs.Transfer.{going_of}
@@ -47,16 +47,16 @@ use Rattle.atl_instant.proofs.AmountsForLaws.{as_said, each_said, same_amounts}
 use Rattle.atl_instant.proofs.DaysLaws.{none_go, set_again, set_each}
 use Rattle.atl_instant.proofs.MarkLaws.{marks_by}
 use Rattle.atl_instant.proofs.MeaningLaws.{MovesLess, near_twice, room_less, same_month_by, well_within}
-use Rattle.atl_records.proofs.HeldLaws.{every_amount}
+use Rattle.atl_records.proofs.HoldingLaws.{every_amount}
 use Rattle.atl_instant.proofs.BookingLaws.{booked-near, within-neg}
 use Rattle.atl_market.specs.PotPhase.{CanInTurn}
 use Rattle.atl_market.proofs.TurnLaws.{first_room, later_room, turns_leave_well}
-use Rattle.atl_month.specs.declared.settling.Purse.{Purse}
-use Rattle.atl_month.specs.declared.settling.Settled.{Settled}
-use Rattle.atl_month.specs.Settling.{AreInOrder, CanSpare, peers_of, settled_among}
-use Rattle.atl_month.specs.Sparing.{CanSettle, staying_list}
-use Rattle.atl_month.specs.Upkeep.{purse_of, purses_of, settlements, supplied, takes_up_to, upkeep, upkeep_at, with_men_left}
-use Rattle.atl_month.proofs.SettlingLaws.{can_spare}
+use Rattle.atl_month.specs.declared.upkeep_sharing.UpkeepInput.{UpkeepInput}
+use Rattle.atl_month.specs.declared.upkeep_sharing.UpkeepResult.{UpkeepResult}
+use Rattle.atl_month.specs.UpkeepSharing.{AreInOrder, CanSpare, peers_of, upkeep_result_among}
+use Rattle.atl_month.specs.UpkeepTaken.{CanPayUpkeep, staying_list}
+use Rattle.atl_month.specs.Upkeep.{after_upkeep, takes_up_to, upkeep, upkeep_at, upkeep_input_of, upkeep_inputs_of, upkeep_results, with_men_left}
+use Rattle.atl_month.proofs.UpkeepSharingLaws.{can_spare}
 
 -- ---- what a unit may hold behind it
 
@@ -78,11 +78,11 @@ module _ (w : WorldValue) (left men : ℕ) (fewer : left ≤ men) where
           times a b l h = mul-le-mul_right l h
 
 -- the days of each skill that go with those who are left
-abbrev pub days_left : ℕ → Held → FinMap nat_cmp ℕ
+abbrev pub days_left : ℕ → HoldingValue → FinMap nat_cmp ℕ
 days_left left h = amounts_for (going_of left h) (keys h.days)
 
 -- with fewer men it has their part of the days, and all else as it was
-module _ (w : WorldValue) (h : Held) (left : ℕ) (fewer : left ≤ h.men) (days : Every (IsStudied w h.men) h.days) where
+module _ (w : WorldValue) (h : HoldingValue) (left : ℕ) (fewer : left ≤ h.men) (days : Every (IsStudied w h.men) h.days) where
   studied_left : Every (IsStudied w left) (days_left left h)
   studied_left k d is =
       let (some, said) = each_said (going_of left h) (keys h.days) k d is in
@@ -97,7 +97,7 @@ module _ (w : WorldValue) (h : Held) (left : ℕ) (fewer : left ≤ h.men) (days
           let (known, _, most) = days k had there in
           (known, some, subst (λ n. n ≤ most_days * left) (sym said) (part w left h.men fewer had most))
 
-  abbrev IsWithMen : Held → Type 0
+  abbrev IsWithMen : HoldingValue → Type 0
   IsWithMen k = (k.men ≡ left) × Every (IsStudied w left) k.days × (k.name ≡ h.name) × (k.guard ≡ h.guard) × (k.items ≡ h.items)
 
   less_men : IsWithMen (with_men_left left h)
@@ -111,23 +111,23 @@ module _ (w : WorldValue) (h : Held) (left : ℕ) (fewer : left ≤ h.men) (days
 
 -- ---- the upkeep of a unit that is there
 
-abbrev upkeep_of : CampaignValue → Settled → Unit → CampaignValue
+abbrev upkeep_of : CampaignValue → UpkeepResult → Unit → CampaignValue
 upkeep_of c s u =
-    let held = with_held c s.unit (supplied s u.holding) (Some u) in
-    let paid = with_amount held Upkeep Money (neg_ℤ (pos s.paid)) in
+    let unit_amount = with_held c s.unit (after_upkeep s u.holding) (Some u) in
+    let paid = with_amount unit_amount Upkeep Money (neg_ℤ (pos s.paid)) in
     with_amount paid Starved People (neg_ℤ (pos s.starved))
 
 -- where it is there
-abbrev pub upkeep_in : CampaignValue → Settled → Option Unit → CampaignValue
+abbrev pub upkeep_in : CampaignValue → UpkeepResult → Option Unit → CampaignValue
 upkeep_in c s o = option_map_or (upkeep_of c s) o c
 
-module _ (w : WorldValue) (c : CampaignValue) (s : Settled) (u : Unit) (is : get c.units s.unit ≡ Some u) (spare : CanSpare s u.holding.men u.holding.money)
+module _ (w : WorldValue) (c : CampaignValue) (s : UpkeepResult) (u : Unit) (is : get c.units s.unit ≡ Some u) (spare : CanSpare s u.holding.men u.holding.money)
     (steady : IsSteady w c) where
-  abbrev old : Held
+  abbrev old : HoldingValue
   old = u.holding
 
-  abbrev now : Held
-  now = supplied s old
+  abbrev now : HoldingValue
+  now = after_upkeep s old
 
   abbrev left : ℕ
   left = old.men - s.starved
@@ -177,13 +177,13 @@ module _ (w : WorldValue) (c : CampaignValue) (s : Settled) (u : Unit) (is : get
   after_steady : IsSteady w after
   after_steady =
       steady-amount w paid_off Starved People (neg_ℤ (pos s.starved))
-      (steady-amount w held_back Upkeep Money (neg_ℤ (pos s.paid)) (steady-held w c s.unit u now is may_hold steady))
+      (steady-amount w held_back Upkeep Money (neg_ℤ (pos s.paid)) (steady-unit_amount w c s.unit u now is may_hold steady))
 
   total_after : (t : Thing)
       → pos (total after t) ≡ (pos (total c t) +ℤ share_of t Money (neg_ℤ (pos s.paid))) +ℤ share_of t People (neg_ℤ (pos s.starved))
   total_after t =
       total_of t (total-amount paid_off Starved People t (neg_ℤ (pos s.starved))) (total-amount held_back Upkeep Money t (neg_ℤ (pos s.paid)))
-      (total-held w c s.unit u now is t)
+      (total-unit_amount w c s.unit u now is t)
     where
       taken : (x y z a l p : ℕ) → x ≡ y → y ≡ z → z + a ≡ total c Money + l → l ≡ a - p → p ≤ a
           → pos x ≡ (pos (total c Money) +ℤ neg_ℤ (pos p)) +ℤ pos 0
@@ -194,7 +194,7 @@ module _ (w : WorldValue) (c : CampaignValue) (s : Settled) (u : Unit) (is : get
       starved_away x y z a l p e f g h k = omega (arith, ints, e, f, g, h, k)
 
       total_of : (t : Thing) → total after t ≡ total paid_off t → total paid_off t ≡ total held_back t
-          → total held_back t + held t old ≡ total c t + held t now
+          → total held_back t + unit_amount t old ≡ total c t + unit_amount t now
           → pos (total after t) ≡ (pos (total c t) +ℤ share_of t Money (neg_ℤ (pos s.paid))) +ℤ share_of t People (neg_ℤ (pos s.starved))
       total_of Money a b g = taken _ _ _ old.money now.money s.paid a b g refl spare.paid
       total_of People a b g = starved_away _ _ _ old.men now.men s.starved a b g with_less.0 spare.starved
@@ -212,21 +212,21 @@ module _ (w : WorldValue) (c : CampaignValue) (s : Settled) (u : Unit) (is : get
           zeros x = omega (arith, ints)
 
   abbrev one_booked : List (List ℤ)
-  one_booked = with_booked c.books Upkeep Money (neg_ℤ (pos s.paid))
+  one_booked = after_booking c.books Upkeep Money (neg_ℤ (pos s.paid))
 
   grid : IsGrid (things_of w) c.books
   grid = steady.numbers.books
 
   grid_one : IsGrid (things_of w) one_booked
-  grid_one = IsGrid-with_booked (things_of w) c.books Upkeep Money (neg_ℤ (pos s.paid)) grid
+  grid_one = IsGrid-after_booking (things_of w) c.books Upkeep Money (neg_ℤ (pos s.paid)) grid
 
   upkeep_balances : Balances c → Balances after
   upkeep_balances before t =
       total_after t
       ∙ ap (λ z. (z +ℤ share_of t Money (neg_ℤ (pos s.paid))) +ℤ share_of t People (neg_ℤ (pos s.starved))) (before t)
       ∙ ap (λ z. z +ℤ share_of t People (neg_ℤ (pos s.starved)))
-      (sym (booked-with_booked (things_of w) c.books Upkeep Money (neg_ℤ (pos s.paid)) grid (omega arith) t))
-      ∙ sym (booked-with_booked (things_of w) one_booked Starved People (neg_ℤ (pos s.starved)) grid_one (omega arith) t)
+      (sym (booked-after_booking (things_of w) c.books Upkeep Money (neg_ℤ (pos s.paid)) grid (omega arith) t))
+      ∙ sym (booked-after_booking (things_of w) one_booked Starved People (neg_ℤ (pos s.starved)) grid_one (omega arith) t)
 
   pub few_paid : s.paid ≤ most_amount
   few_paid = omega (arith, spare.paid, (steady.numbers.units s.unit u is).1.money)
@@ -252,51 +252,51 @@ module _ (w : WorldValue) (c : CampaignValue) (s : Settled) (u : Unit) (is : get
 
 -- ---- the upkeep of all
 
-pub upkeep_at_is : (c : CampaignValue) (s : Settled) (u : Unit) → get c.units s.unit ≡ Some u → upkeep_at c s ≡ upkeep_in c s (Some u)
+pub upkeep_at_is : (c : CampaignValue) (s : UpkeepResult) (u : Unit) → get c.units s.unit ≡ Some u → upkeep_at c s ≡ upkeep_in c s (Some u)
 unfolding upkeep_at
 upkeep_at_is c s u is = ap (upkeep_in c s) is
 
-pub upkeep_at_leaves_well : (w : WorldValue) (c : CampaignValue) (s : Settled) → CanSettle w c s
+pub upkeep_at_leaves_well : (w : WorldValue) (c : CampaignValue) (s : UpkeepResult) → CanPayUpkeep w c s
     → LeavesWell IsSteady (takes_up_to most_amount) w c (upkeep_at c s)
 upkeep_at_leaves_well w c s can = rw (upkeep_at_is c s can.unit can.there) (unit_leaves_well w c s can.unit can.there can.spare can.steady)
 
-pub other_unit : (c : CampaignValue) (s : Settled) (n : ℕ) → n ≢ s.unit → get (upkeep_at c s).units n ≡ get c.units n
+pub other_unit : (c : CampaignValue) (s : UpkeepResult) (n : ℕ) → n ≢ s.unit → get (upkeep_at c s).units n ≡ get c.units n
 unfolding upkeep_at
 other_unit c s n apart = by_unit (get c.units s.unit)
   where
     by_unit : (o : Option Unit) → get (upkeep_in c s o).units n ≡ get c.units n
     by_unit None = refl
-    by_unit (Some u) = get-insert_other c.units s.unit n (record u { holding = supplied s u.holding }) apart
+    by_unit (Some u) = get-insert_other c.units s.unit n (record u { holding = after_upkeep s u.holding }) apart
 
 -- a unit whose turn is still to come is as it was
-pub each_still : (c : CampaignValue) (s : Settled) (es : List (ℕ × Unit)) → AllByRecursion (λ e. s.unit < e.0) es
+pub each_still : (c : CampaignValue) (s : UpkeepResult) (es : List (ℕ × Unit)) → AllByRecursion (λ e. s.unit < e.0) es
     → EachOf (λ n u. get c.units n ≡ Some u) es → EachOf (λ n u. get (upkeep_at c s).units n ≡ Some u) es
 each_still c s [] above there = tt
 each_still c s (e ∷ es) above there = (other_unit c s e.0 (λ same. omega (arith, above.0, same)) ∙ there.0, each_still c s es above.1 there.1)
 
 -- what upkeep takes from one of all units
-abbrev pub settled_one : ℕ → (all : List Purse) → Purse → Settled
-settled_one m all p = settled_among m (peers_of p.region p.faction all) p
+abbrev pub settled_one : ℕ → (all : List UpkeepInput) → UpkeepInput → UpkeepResult
+settled_one m all p = upkeep_result_among m (peers_of p.region p.faction all) p
 
 -- and from some of them
-abbrev pub settled_each : ℕ → (all : List Purse) → List (ℕ × Unit) → List Settled
-settled_each m all es = map (settled_one m all) (map purse_of es)
+abbrev pub settled_each : ℕ → (all : List UpkeepInput) → List (ℕ × Unit) → List UpkeepResult
+settled_each m all es = map (settled_one m all) (map upkeep_input_of es)
 
-module _ (w : WorldValue) (some : 1 ≤ w.rules.maintenance) (all : List Purse) where
-  abbrev step_moves : Moving
+module _ (w : WorldValue) (some : 1 ≤ w.rules.maintenance) (all : List UpkeepInput) where
+  abbrev step_moves : BookBound
   step_moves = takes_up_to most_amount
 
-  abbrev each_of : List (ℕ × Unit) → List Settled
+  abbrev each_of : List (ℕ × Unit) → List UpkeepResult
   each_of es = settled_each w.rules.maintenance all es
 
   settled_in_turn : (es : List (ℕ × Unit)) (c : CampaignValue) → Rise es → EachOf (λ n u. get c.units n ≡ Some u) es
-      → IsSteady w c → HaveRoom (moved_times (length (each_of es)) step_moves) c → CanInTurn (CanSettle w) upkeep_at c (each_of es)
+      → IsSteady w c → HaveRoom (moved_times (length (each_of es)) step_moves) c → CanInTurn (CanPayUpkeep w) upkeep_at c (each_of es)
   settled_in_turn [] c rise there steady room = tt
   settled_in_turn ((n, u) ∷ es) c rise there steady room =
-      let p = purse_of (n, u) in
+      let p = upkeep_input_of (n, u) in
       let s = settled_one w.rules.maintenance all p in
       let rest = each_of es in
-      let can : CanSettle w c s = record {
+      let can : CanPayUpkeep w c s = record {
         unit = u;
         there = there.0;
         spare = can_spare w.rules.maintenance some (peers_of p.region p.faction all) p;
@@ -311,21 +311,21 @@ module _ (w : WorldValue) (some : 1 ≤ w.rules.maintenance) (all : List Purse) 
 
 -- what the units have comes in the order of their numbers
 module _ (c : CampaignValue) where
-  in_order : (es : List (ℕ × Unit)) → Rise es → AreInOrder (map purse_of es)
+  in_order : (es : List (ℕ × Unit)) → Rise es → AreInOrder (map upkeep_input_of es)
   in_order [] rise = λ i j d h l. absurd (omega (arith, l))
   in_order (e ∷ es) rise =
-      AllPairs-cons (λ (p q : Purse). p.unit < q.unit) (purse_of e) (map purse_of es)
-      (All-map (λ (q : Purse). e.0 < q.unit) purse_of es (All-from_recursion (λ (f : ℕ × Unit). e.0 < f.0) es rise.0)) (in_order es rise.1)
+      AllPairs-cons (λ (p q : UpkeepInput). p.unit < q.unit) (upkeep_input_of e) (map upkeep_input_of es)
+      (All-map (λ (q : UpkeepInput). e.0 < q.unit) upkeep_input_of es (All-from_recursion (λ (f : ℕ × Unit). e.0 < f.0) es rise.0)) (in_order es rise.1)
 
-  pub purses_in_order : AreInOrder (purses_of c)
+  pub purses_in_order : AreInOrder (upkeep_inputs_of c)
   purses_in_order = in_order (entries c.units) (entries_rise c.units)
 
 module _ (w : WorldValue) (c : CampaignValue) (some : 1 ≤ w.rules.maintenance) (steady : IsSteady w c) (room : HaveRoom (takes_up_to most_moved) c) where
-  abbrev list : List Settled
-  list = settlements w c
+  abbrev list : List UpkeepResult
+  list = upkeep_results w c
 
   few : length list ≤ most_units
-  few = omega (arith, length-map (purses_of c) (settled_one w.rules.maintenance (purses_of c)), length-map (entries c.units) purse_of, len-entries c.units, steady.numbers.few_units)
+  few = omega (arith, length-map (upkeep_inputs_of c) (settled_one w.rules.maintenance (upkeep_inputs_of c)), length-map (entries c.units) upkeep_input_of, len-entries c.units, steady.numbers.few_units)
 
   little : MovesLess (moved_times (length list) (takes_up_to most_amount)) (takes_up_to most_moved)
   little e t = scaled (length list) few (amount_number e t == amount_number Upkeep Money) (amount_number e t == amount_number Starved People)
@@ -338,41 +338,41 @@ module _ (w : WorldValue) (c : CampaignValue) (some : 1 ≤ w.rules.maintenance)
       scaled k few false false = omega (arith, few)
 
   -- each unit can spare what is taken from it when its turn comes
-  pub all_settle : CanInTurn (CanSettle w) upkeep_at c list
+  pub all_settle : CanInTurn (CanPayUpkeep w) upkeep_at c list
   all_settle =
-      settled_in_turn w some (purses_of c) (entries c.units) c (entries_rise c.units)
+      settled_in_turn w some (upkeep_inputs_of c) (entries c.units) c (entries_rise c.units)
       (each-from_every (λ n u. get c.units n ≡ Some u) c.units (λ n u is. is)) steady
       (room_less (moved_times (length list) (takes_up_to most_amount)) (takes_up_to most_moved) c little room)
 
   pub upkeep_leaves_well : LeavesWell IsSteady (takes_up_to most_moved) w c (upkeep c list)
   upkeep_leaves_well =
       well_within (moved_times (length list) (takes_up_to most_amount)) (takes_up_to most_moved) w c (upkeep c list) little
-      (turns_leave_well (takes_up_to most_amount) w (CanSettle w) upkeep_at (upkeep_at_leaves_well w) c list steady all_settle)
+      (turns_leave_well (takes_up_to most_amount) w (CanPayUpkeep w) upkeep_at (upkeep_at_leaves_well w) c list steady all_settle)
 
 -- ---- where nobody starves
 
 -- all men stay, with their days
-men_stay : (h : Held) (left : ℕ) → left ≡ h.men → with_men_left left h ≡ h
+men_stay : (h : HoldingValue) (left : ℕ) → left ≡ h.men → with_men_left left h ≡ h
 men_stay h left is = by_men (left == h.men) refl
   where
     by_men : (b : Bool) → (left == h.men) ≡ b → (if b then h else record h { men = left; days = days_left left h }) ≡ h
     by_men true test = refl
     by_men false test = grind (arith, nat_tests)
 
-pub paid_alone : (s : Settled) (h : Held) → s.starved ≡ 0 → supplied s h ≡ record h { money = h.money - s.paid }
-paid_alone s h fed = ap (λ (k : Held). record k { money = h.money - s.paid }) (men_stay h (h.men - s.starved) (omega (arith, fed)))
+pub paid_alone : (s : UpkeepResult) (h : HoldingValue) → s.starved ≡ 0 → after_upkeep s h ≡ record h { money = h.money - s.paid }
+paid_alone s h fed = ap (λ (k : HoldingValue). record k { money = h.money - s.paid }) (men_stay h (h.men - s.starved) (omega (arith, fed)))
 
-pub pays : (c : CampaignValue) (s : Settled) (u : Unit) → get c.units s.unit ≡ Some u → s.starved ≡ 0
-    → with_money c s.unit (u.holding.money - s.paid) ≡ with_held c s.unit (supplied s u.holding) (Some u)
+pub pays : (c : CampaignValue) (s : UpkeepResult) (u : Unit) → get c.units s.unit ≡ Some u → s.starved ≡ 0
+    → with_money c s.unit (u.holding.money - s.paid) ≡ with_held c s.unit (after_upkeep s u.holding) (Some u)
 pays c s u is fed =
     ap (λ o. record c { units = changed_at (λ (v : Unit). record v { holding = record v.holding { money = u.holding.money - s.paid } }) c.units s.unit o }) is
     ∙ ap (λ h. with_held c s.unit h (Some u)) (sym (paid_alone s u.holding fed))
 
-pub pays_nothing : (c : CampaignValue) (s : Settled) (u : Unit) → get c.units s.unit ≡ Some u → s.starved ≡ 0 → s.paid ≡ 0
-    → c ≡ with_held c s.unit (supplied s u.holding) (Some u)
+pub pays_nothing : (c : CampaignValue) (s : UpkeepResult) (u : Unit) → get c.units s.unit ≡ Some u → s.starved ≡ 0 → s.paid ≡ 0
+    → c ≡ with_held c s.unit (after_upkeep s u.holding) (Some u)
 pays_nothing c s u is fed none =
-    let same : supplied s u.holding ≡ u.holding = paid_alone s u.holding fed ∙ ap (λ m. record u.holding { money = m }) (omega (arith, none)) in
-    sym (ap (λ units. record c { units = units }) (put_same c.units s.unit u (record u { holding = supplied s u.holding }) is (ap (λ h. record u { holding = h }) same)))
+    let same : after_upkeep s u.holding ≡ u.holding = paid_alone s u.holding fed ∙ ap (λ m. record u.holding { money = m }) (omega (arith, none)) in
+    sym (ap (λ units. record c { units = units }) (put_same c.units s.unit u (record u { holding = after_upkeep s u.holding }) is (ap (λ h. record u { holding = h }) same)))
 
 -- ---- where somebody starves
 
@@ -383,7 +383,7 @@ every_set f (e ∷ es) had old =
     every_set f es (with_amount_of had e.0 (f e.0 e.1)) (every_amount (λ k d. 1 ≤ d) had e.0 (f e.0 e.1) (λ some. some) old)
 
 -- the days of those who are left, each set where it is, are those that go with them
-days_set : (left : ℕ) (h : Held) → Every (λ k d. 1 ≤ d) h.days → with_days h.days (staying_list left h.men h.days) ≡ days_left left h
+days_set : (left : ℕ) (h : HoldingValue) → Every (λ k d. 1 ≤ d) h.days → with_days h.days (staying_list left h.men h.days) ≡ days_left left h
 days_set left h listed =
     set_again h.days stays none listed
     ∙ same_amounts anew (days_left left h)
@@ -409,8 +409,8 @@ days_set left h listed =
         by_option (Some d) is = cc
 
 -- fewer men stay, with their part of the days, each set where it is
-pub starved_supplied : (s : Settled) (h : Held) → 1 ≤ s.starved → s.starved ≤ h.men → Every (λ k d. 1 ≤ d) h.days
-    → record h { men = h.men - s.starved; money = h.money - s.paid; days = with_days h.days (staying_list (h.men - s.starved) h.men h.days) } ≡ supplied s h
+pub starved_supplied : (s : UpkeepResult) (h : HoldingValue) → 1 ≤ s.starved → s.starved ≤ h.men → Every (λ k d. 1 ≤ d) h.days
+    → record h { men = h.men - s.starved; money = h.money - s.paid; days = with_days h.days (staying_list (h.men - s.starved) h.men h.days) } ≡ after_upkeep s h
 starved_supplied s h some fewer listed = by_men ((h.men - s.starved) == h.men) refl
   where
     by_men : (b : Bool) → ((h.men - s.starved) == h.men) ≡ b
@@ -423,13 +423,13 @@ starved_supplied s h some fewer listed = by_men ((h.men - s.starved) == h.men) r
 
 -- ---- what is marked
 
-pub upkeep_marks : (things : ℕ) (c d e f : MarkedCampaign) (s : Settled) (x y : ℤ)
+pub upkeep_marks : (things : ℕ) (c d e f : MarkedCampaign) (s : UpkeepResult) (x y : ℤ)
     → MarksChanges c d → e.value ≡ with_amount d.value Upkeep Money x → e.marks ≡ mark_amount d Upkeep Money
     → f.value ≡ with_amount e.value Starved People y → f.marks ≡ mark_amount e Starved People
     → IsGrid things d.value.books → 2 ≤ things → MarksChanges c f
 upkeep_marks things c d e f s x y d_marks e_is e_marks f_is f_marks grid two =
-    let e_books : e.value.books ≡ with_booked d.value.books Upkeep Money x = ap (λ (s : CampaignValue). s.books) e_is in
-    let e_grid : IsGrid things e.value.books = rw e_books (IsGrid-with_booked things d.value.books Upkeep Money x grid) in
+    let e_books : e.value.books ≡ after_booking d.value.books Upkeep Money x = ap (λ (s : CampaignValue). s.books) e_is in
+    let e_grid : IsGrid things e.value.books = rw e_books (IsGrid-after_booking things d.value.books Upkeep Money x grid) in
     marks-trans c d f d_marks
     (marks-trans d e f (marks_by d e _ e_is e_marks (marks-amount things d Upkeep Money x grid (omega arith)))
     (marks_by e f _ f_is f_marks (marks-amount things e Starved People y e_grid (omega arith))))

@@ -1,12 +1,12 @@
--- For proofs alone: what the code keeps while it settles upkeep.
+-- For proofs alone: the accounts in which the code adds up the upkeep of a faction's units in a region.
 use Rattle.std.specs.Prelude.{List, min, unwrap_or, ℕ, ◌+◌, ◌-◌, ◌≤◌}
 use Rattle.std.specs.Ordering.{nat_cmp}
 use Rattle.std.specs.FinMap.{FinMap, get, insert}
 use Rattle.std.specs.List.{sum_by}
 use Rattle.atl_month.specs.declared.accounts.Account.{Account}
-use Rattle.atl_month.specs.declared.settling.Purse.{Purse}
-use Rattle.atl_month.specs.declared.settling.Settled.{Settled}
-use Rattle.atl_month.specs.Settling.{given_among, left_of, paid_by, peers_of, short_of, starved_of}
+use Rattle.atl_month.specs.declared.upkeep_sharing.UpkeepInput.{UpkeepInput}
+use Rattle.atl_month.specs.declared.upkeep_sharing.UpkeepResult.{UpkeepResult}
+use Rattle.atl_month.specs.UpkeepSharing.{given_among, left_of, paid_by, peers_of, short_of, starved_of}
 use Rattle.atl_tables.specs.Groups.{group_of}
 
 abbrev pub AccountMap : Type 0
@@ -23,34 +23,34 @@ abbrev pub with_account : AccountMap → (region faction : ℕ) → Account → 
 with_account m region faction a = insert m region (insert (group_of m region) faction a)
 
 -- what those of some units that are of a faction and in a region have left, and what they are short of
-abbrev pub left_among : ℕ → (region faction : ℕ) → List Purse → ℕ
-left_among maintenance region faction purses = sum_by (left_of maintenance) (peers_of region faction purses)
+abbrev pub left_among : ℕ → (region faction : ℕ) → List UpkeepInput → ℕ
+left_among maintenance region faction inputs = sum_by (left_of maintenance) (peers_of region faction inputs)
 
-abbrev pub short_among : ℕ → (region faction : ℕ) → List Purse → ℕ
-short_among maintenance region faction purses = sum_by (short_of maintenance) (peers_of region faction purses)
+abbrev pub short_among : ℕ → (region faction : ℕ) → List UpkeepInput → ℕ
+short_among maintenance region faction inputs = sum_by (short_of maintenance) (peers_of region faction inputs)
 
 -- what is to be given of an account
 abbrev pub to_give : Account → ℕ
 to_give a = min a.left a.short
 
 -- an account with one unit more
-abbrev pub counted : ℕ → Purse → Account → Account
-counted maintenance purse a = record a { left = a.left + left_of maintenance purse; short = a.short + short_of maintenance purse }
+abbrev pub with_counted : ℕ → UpkeepInput → Account → Account
+with_counted maintenance input a = record a { left = a.left + left_of maintenance input; short = a.short + short_of maintenance input }
 
--- a unit that is settled out of its account
-abbrev pub settled_by : ℕ → Account → Purse → Settled
-settled_by maintenance a purse = record {
-  unit = purse.unit;
-  faction = purse.faction;
-  paid = paid_by maintenance purse + min (to_give a - a.given) (left_of maintenance purse);
-  starved = starved_of maintenance (short_of maintenance purse - min (to_give a - a.covered) (short_of maintenance purse));
+-- what upkeep takes from a unit by its account
+abbrev pub upkeep_result_by : ℕ → Account → UpkeepInput → UpkeepResult
+upkeep_result_by maintenance a input = record {
+  unit = input.unit;
+  faction = input.faction;
+  paid = paid_by maintenance input + min (to_give a - a.given) (left_of maintenance input);
+  starved = starved_of maintenance (short_of maintenance input - min (to_give a - a.covered) (short_of maintenance input));
 }
 
 -- the account behind it
-abbrev pub account_behind : ℕ → Account → Purse → Account
-account_behind maintenance a purse = record a {
-  given = a.given + min (to_give a - a.given) (left_of maintenance purse);
-  covered = a.covered + min (to_give a - a.covered) (short_of maintenance purse);
+abbrev pub account_after : ℕ → Account → UpkeepInput → Account
+account_after maintenance a input = record a {
+  given = a.given + min (to_give a - a.given) (left_of maintenance input);
+  covered = a.covered + min (to_give a - a.covered) (short_of maintenance input);
 }
 
 -- not more was given and covered than was to be given
@@ -58,8 +58,8 @@ pub record IsOpen (a : Account) : Type 0 where
   pub given : a.given ≤ to_give a
   pub covered : a.covered ≤ to_give a
 
--- the accounts of all these units, of which so many were settled
-abbrev pub account_of : ℕ → (all before : List Purse) → (region faction : ℕ) → Account
+-- the accounts of all these units, once those before have paid
+abbrev pub account_of : ℕ → (all before : List UpkeepInput) → (region faction : ℕ) → Account
 account_of maintenance all before region faction =
     let given = given_among maintenance (peers_of region faction all) in
     record {

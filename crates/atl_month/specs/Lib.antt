@@ -1,11 +1,11 @@
 pub mod Limits
 pub mod Restock
 pub mod Season
-pub mod Swept
-pub mod Settling
+pub mod AfterSweep
+pub mod UpkeepSharing
 pub mod Accounts
 pub mod Upkeep
-pub mod Sparing
+pub mod UpkeepTaken
 pub mod Month
 pub mod Sweep
 pub mod Receivers

@@ -1,4 +1,4 @@
--- The numbers of the end of a month.
+-- The numbers of the season. See docs/RULES.md, "Season".
 use Rattle.std.specs.Prelude.{ℕ}
 
 -- births are told for so many peasants

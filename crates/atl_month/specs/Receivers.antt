@@ -1,4 +1,4 @@
--- For proofs alone: what the code keeps of the units that receive what others leave.
+-- For proofs alone: the map of the units that receive what units without men leave.
 use Rattle.std.specs.Prelude.{◌≡◌, ◌==◌, ◌&&◌, ℕ, nat_lt, unwrap_or, if◌then◌else◌}
 use Rattle.std.specs.Ordering.{nat_cmp}
 use Rattle.std.specs.FinMap.{FinMap, get, insert}
@@ -19,8 +19,8 @@ abbrev pub with_receiver : ReceiverMap → (region faction number : ℕ) → Rec
 with_receiver m region faction number = insert m region (insert (group_of m region) faction number)
 
 -- a unit with men is noted, where none was before
-abbrev pub receiver_noted : ReceiverMap → ℕ → Unit → ReceiverMap
-receiver_noted m n u = if nat_lt 0 u.holding.men && (receiver_in m u.region u.faction == 0) then with_receiver m u.region u.faction n else m
+abbrev pub with_receiver_of : ReceiverMap → ℕ → Unit → ReceiverMap
+with_receiver_of m n u = if nat_lt 0 u.holding.men && (receiver_in m u.region u.faction == 0) then with_receiver m u.region u.faction n else m
 
 -- the receivers of a campaign
 abbrev pub AreReceivers : CampaignValue → ReceiverMap → Type 0

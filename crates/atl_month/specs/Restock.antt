@@ -8,10 +8,10 @@ use Rattle.atl_tables.specs.declared.world.Market.{Market}
 use Rattle.atl_records.specs.declared.books.Entry.TheVariants.{Stocked}
 use Rattle.atl_records.specs.declared.books.Thing.{Thing}
 use Rattle.atl_records.specs.declared.books.Thing.TheVariants.{Item, Money, People}
-use Rattle.atl_records.specs.Books.{entry_place}
+use Rattle.atl_records.specs.Books.{entry_index}
 use Rattle.atl_state.specs.Campaign.{CampaignValue, with_amount, with_stock}
 use Rattle.atl_state.specs.Stocks.{stock_of}
-use Rattle.atl_instant.specs.Meaning.{Moving}
+use Rattle.atl_instant.specs.Meaning.{BookBound}
 
 -- the markets of a region, by their items
 abbrev pub markets_of : WorldValue → (region : ℕ) → FinMap nat_cmp Market
@@ -22,15 +22,15 @@ abbrev pub restock : Market → (stock : ℕ) → ℕ
 restock m stock = min m.restock (m.limit - stock)
 
 -- a market of a region, by its item, gets new goods, which are booked
-unfoldable pub market_restocked : (region : ℕ) → CampaignValue → ℕ × Market → CampaignValue
-market_restocked region c (item, m) =
+unfoldable pub after_market_restock : (region : ℕ) → CampaignValue → ℕ × Market → CampaignValue
+after_market_restock region c (item, m) =
     let stock = stock_of c region item in
     let more = restock m stock in
     with_amount (with_stock c region item (stock + more)) Stocked (Item item) (pos more)
 
 -- each of some markets, in the order of their items
-abbrev pub restocked : (region : ℕ) → CampaignValue → List (ℕ × Market) → CampaignValue
-restocked region c markets = fold (market_restocked region) c markets
+abbrev pub after_restock : (region : ℕ) → CampaignValue → List (ℕ × Market) → CampaignValue
+after_restock region c markets = fold (after_market_restock region) c markets
 
 abbrev pub is_item : Thing → Bool
 is_item Money = false
@@ -38,5 +38,5 @@ is_item People = false
 is_item (Item i) = true
 
 -- of each item so much at most comes into stock
-abbrev pub stocks_by : ℕ → Moving
-stocks_by most e t = if (entry_place e == entry_place Stocked) && is_item t then most else 0
+abbrev pub stocks_by : ℕ → BookBound
+stocks_by most e t = if (entry_index e == entry_index Stocked) && is_item t then most else 0

@@ -1,4 +1,4 @@
--- The season of a month: what each region has of births and of income, and what its markets get. See docs/RULES.md, "Season".
+-- The season of a month: births and income of each region, and new goods of its markets. See docs/RULES.md, "Season".
 use Rattle.std.specs.Prelude.{◌≡◌, ℕ, pos, ◌+◌, ◌-◌, ◌*◌, ◌/◌, ◌%◌, min, List, [], ◌∷◌, map, fold, zip}
 use Rattle.std.specs.FinMap.{entries}
 use Rattle.std.specs.Option.{option_map_or}
@@ -10,11 +10,11 @@ use Rattle.atl_records.specs.declared.books.Thing.TheVariants.{Money, People}
 use Rattle.atl_records.specs.declared.records.Region.{Region}
 use Rattle.atl_state.specs.Campaign.{CampaignValue, with_amount, with_peasants, with_region_money}
 use Rattle.atl_instant.specs.Month.{MonthValue}
-use Rattle.atl_instant.specs.Meaning.{Keeping, Moving, both_move, most_moved, moves_only}
+use Rattle.atl_instant.specs.Meaning.{BookBound, Frame, both_move, most_moved, moves_only}
 use Rattle.atl_month.specs.Limits.{per_hundred}
-use Rattle.atl_instant.specs.Terms.{PhaseTerms}
+use Rattle.atl_instant.specs.PhaseSpecs.{PhaseSpec}
 use Rattle.atl_instant.specs.There.{at_region}
-use Rattle.atl_month.specs.Restock.{markets_of, restocked, stocks_by}
+use Rattle.atl_month.specs.Restock.{after_restock, markets_of, stocks_by}
 
 -- So many of a hundred peasants are born as the word says, from 0 to the growth; at most up to the terrain's limit.
 abbrev pub births : (growth limit word peasants : ℕ) → ℕ
@@ -35,7 +35,7 @@ abbrev pub season_of : WorldValue → CampaignValue → (n word : ℕ) → Terra
 season_of w c n word t r =
     let born = births w.rules.growth t.peasant_limit word r.peasants in
     let earned = income w.rules.income t.money_limit (r.peasants + born) r.money in
-    restocked n (with_growth c n r.peasants r.money born earned) (entries (markets_of w n))
+    after_restock n (with_growth c n r.peasants r.money born earned) (entries (markets_of w n))
 
 -- the season of a region, by its number, with its word
 unfoldable pub season_at : WorldValue → CampaignValue → ℕ × ℕ → CampaignValue
@@ -51,19 +51,19 @@ abbrev pub season_meaning : WorldValue → CampaignValue → MonthValue → Camp
 season_meaning w c m = (season w c m.words, m)
 
 -- income is of money, births are of people, each by so much at most
-abbrev pub grows_by : ℕ → Moving
+abbrev pub grows_by : ℕ → BookBound
 grows_by most = both_move (moves_only most Income Money) (moves_only most Births People)
 
 -- and of each item so much at most comes into the stocks of a region
-abbrev pub season_moves : ℕ → Moving
+abbrev pub season_moves : ℕ → BookBound
 season_moves most = both_move (grows_by most) (stocks_by most)
 
 -- the season changes no unit
-abbrev pub season_keeps : Keeping
+abbrev pub season_keeps : Frame
 season_keeps w m before after = after.units ≡ before.units
 
-abbrev pub season_terms : PhaseTerms
-season_terms = record {
+abbrev pub season_spec : PhaseSpec
+season_spec = record {
   meaning = season_meaning;
   moving = season_moves most_moved;
   moved = record { money = Income ∷ []; people = Births ∷ []; items = Stocked ∷ [] };

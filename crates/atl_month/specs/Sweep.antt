@@ -4,20 +4,20 @@ use Rattle.std.specs.FinMap.{entries, get}
 use Rattle.std.specs.Option.{option_map_or}
 use Rattle.atl_tables.specs.Worlds.{WorldValue}
 use Rattle.atl_tables.specs.Sums.{numbers_where}
-use Rattle.atl_records.specs.Books.{entry_place, thing_place}
+use Rattle.atl_records.specs.Books.{entry_index, thing_index}
 use Rattle.atl_records.specs.declared.books.Entry.TheVariants.{Lost}
 use Rattle.atl_records.specs.declared.books.Thing.{Thing}
 use Rattle.atl_records.specs.declared.books.Thing.TheVariants.{Item, Money, People}
 use Rattle.atl_records.specs.declared.records.Unit.{Unit}
 use Rattle.atl_records.specs.Every.{Every}
-use Rattle.atl_records.specs.Held.{amount_of}
+use Rattle.atl_records.specs.Holdings.{amount_of}
 use Rattle.atl_records.specs.Limits.{holding_limit}
 use Rattle.atl_state.specs.Owners.{first_or_zero, without_unit}
 use Rattle.atl_state.specs.Campaign.{CampaignValue, active, numbers_of, with_amount, with_gone, with_item, with_money}
 use Rattle.atl_instant.specs.Month.{MonthValue}
-use Rattle.atl_instant.specs.Meaning.{Keeping, Moving, most_moved}
-use Rattle.atl_instant.specs.Staying.{IsNoWorse}
-use Rattle.atl_instant.specs.Terms.{PhaseTerms}
+use Rattle.atl_instant.specs.Meaning.{BookBound, Frame, most_moved}
+use Rattle.atl_instant.specs.NoWorse.{IsNoWorse}
+use Rattle.atl_instant.specs.PhaseSpecs.{PhaseSpec}
 use Rattle.atl_instant.specs.There.{at_unit}
 
 -- ---- who gets what a unit leaves
@@ -36,38 +36,38 @@ abbrev pub with_lost : CampaignValue → Thing → ℕ → CampaignValue
 with_lost c t amount = with_amount c Lost t (neg_ℤ (pos amount))
 
 -- how much of an amount goes to a unit that has so much already
-abbrev pub taken_of : (amount have : ℕ) → ℕ
-taken_of amount have = min amount (holding_limit - have)
+abbrev pub accepted_of : (amount have : ℕ) → ℕ
+accepted_of amount have = min amount (holding_limit - have)
 
 -- Money goes to a unit, up to its room, and the rest is lost: all of it if the unit isn't there.
-unfoldable pub passed_money : CampaignValue → (to amount : ℕ) → CampaignValue
-passed_money c to amount =
-    let taken = option_map_or (λ v. taken_of amount v.holding.money) (get c.units to) 0 in
+unfoldable pub after_passing_money : CampaignValue → (to amount : ℕ) → CampaignValue
+after_passing_money c to amount =
+    let taken = option_map_or (λ v. accepted_of amount v.holding.money) (get c.units to) 0 in
     let given = at_unit c to (λ v. with_money c to (v.holding.money + taken)) in
     with_lost given Money (amount - taken)
 
 -- the same of an item
-unfoldable pub passed_item : ℕ → CampaignValue → ℕ × ℕ → CampaignValue
-passed_item to c (item, amount) =
+unfoldable pub after_passing_item : ℕ → CampaignValue → ℕ × ℕ → CampaignValue
+after_passing_item to c (item, amount) =
     let taken =
-    option_map_or (λ v. taken_of amount (amount_of v.holding.items item)) (get c.units to) 0 in
+    option_map_or (λ v. accepted_of amount (amount_of v.holding.items item)) (get c.units to) 0 in
     let given = at_unit c to (λ v. with_item c to item (amount_of v.holding.items item + taken)) in
     with_lost given (Item item) (amount - taken)
 
 -- ---- units without men
 
-abbrev pub passed_on : CampaignValue → ℕ → Unit → CampaignValue
-passed_on c to u = fold (passed_item to) (passed_money c to u.holding.money) (entries u.holding.items)
+abbrev pub after_passing_all : CampaignValue → ℕ → Unit → CampaignValue
+after_passing_all c to u = fold (after_passing_item to) (after_passing_money c to u.holding.money) (entries u.holding.items)
 
 -- A unit without men gives its money and each item to the lowest-numbered unit with men of its faction in its region, and is removed.
-unfoldable pub swept_at : CampaignValue → ℕ → CampaignValue
-swept_at c n = at_unit c n (λ u.
-    if u.holding.men == 0 then without_unit (passed_on c (receiver c u.region u.faction) u) n
+unfoldable pub after_sweeping_unit : CampaignValue → ℕ → CampaignValue
+after_sweeping_unit c n = at_unit c n (λ u.
+    if u.holding.men == 0 then without_unit (after_passing_all c (receiver c u.region u.faction) u) n
     else c)
 
 -- the units without men, in the order of their numbers
-abbrev pub menless : CampaignValue → List ℕ
-menless c = numbers_where (λ u. u.holding.men == 0) c.units
+abbrev pub menless_units : CampaignValue → List ℕ
+menless_units c = numbers_where (λ u. u.holding.men == 0) c.units
 
 -- ---- factions without units
 
@@ -76,24 +76,24 @@ is_empty [] = true
 is_empty (n ∷ ns) = false
 
 -- a faction that has no unit is gone
-abbrev pub faction_swept : CampaignValue → ℕ → CampaignValue
-faction_swept c n = if is_empty (numbers_of n c.units) then with_gone c n else c
+abbrev pub after_sweeping_faction : CampaignValue → ℕ → CampaignValue
+after_sweeping_faction c n = if is_empty (numbers_of n c.units) then with_gone c n else c
 
 -- ---- the phase
 
 -- the units first, and then the factions
 abbrev pub sweep : CampaignValue → CampaignValue
 sweep c =
-    let swept = fold swept_at c (menless c) in
-    fold faction_swept swept (active swept)
+    let swept = fold after_sweeping_unit c (menless_units c) in
+    fold after_sweeping_faction swept (active swept)
 
 -- it brings no event
 abbrev pub sweep_meaning : WorldValue → CampaignValue → MonthValue → CampaignValue × MonthValue
 sweep_meaning w c m = (sweep c, m)
 
 -- money and items may be lost, so much of each at most
-abbrev pub loses_by : ℕ → Moving
-loses_by most e t = if (entry_place e == entry_place Lost) && not (thing_place t == thing_place People) then most else 0
+abbrev pub loses_by : ℕ → BookBound
+loses_by most e t = if (entry_index e == entry_index Lost) && not (thing_index t == thing_index People) then most else 0
 
 -- a unit that is no worse off, with its men and their days as they were
 pub record IsKept (before after : Unit) : Type 0 where
@@ -102,11 +102,11 @@ pub record IsKept (before after : Unit) : Type 0 where
   pub days : after.holding.days ≡ before.holding.days
 
 -- the sweep takes nothing from a unit with men
-abbrev pub sweep_keeps : Keeping
+abbrev pub sweep_keeps : Frame
 sweep_keeps w m before after = Every (λ n u. 1 ≤ u.holding.men → (v : Unit) × (get after.units n ≡ Some v) × IsKept u v) before.units
 
-abbrev pub sweep_terms : PhaseTerms
-sweep_terms = record {
+abbrev pub sweep_spec : PhaseSpec
+sweep_spec = record {
   meaning = sweep_meaning;
   moving = loses_by most_moved;
   moved = record { money = Lost ∷ []; people = []; items = Lost ∷ [] };

@@ -1,4 +1,4 @@
--- The upkeep of a month. See docs/RULES.md, "Upkeep".
+-- The phase of upkeep: what each unit pays, and who starves. See docs/RULES.md, "Upkeep".
 use Rattle.std.specs.Prelude.{◌≡◌, ℕ, pos, neg_ℤ, ◌-◌, ◌==◌, not, ◌++◌, Bool, List, map, filter, fold, Some, if◌then◌else◌}
 use Rattle.std.specs.FinMap.{entries, get, keys}
 use Rattle.atl_tables.specs.Worlds.{WorldValue}
@@ -9,77 +9,77 @@ use Rattle.atl_records.specs.declared.event.EventVerb.TheVariants as verb
 use Rattle.atl_records.specs.declared.event.Outcome.TheVariants as outcome
 use Rattle.atl_records.specs.declared.records.Unit.{Unit}
 use Rattle.atl_records.specs.Every.{Every}
-use Rattle.atl_records.specs.Held.{Held}
+use Rattle.atl_records.specs.Holdings.{HoldingValue}
 use Rattle.atl_state.specs.Lending.{with_held}
 use Rattle.atl_state.specs.Campaign.{CampaignValue, with_amount}
 use Rattle.atl_instant.specs.Month.{MonthValue}
-use Rattle.atl_instant.specs.Meaning.{Keeping, Moving, both_move, moves_only}
-use Rattle.atl_month.specs.declared.settling.Purse.{Purse}
-use Rattle.atl_month.specs.declared.settling.Settled.{Settled}
-use Rattle.atl_month.specs.Settling.{peers_of, settled_among, settled_of}
+use Rattle.atl_instant.specs.Meaning.{BookBound, Frame, both_move, moves_only}
+use Rattle.atl_month.specs.declared.upkeep_sharing.UpkeepInput.{UpkeepInput}
+use Rattle.atl_month.specs.declared.upkeep_sharing.UpkeepResult.{UpkeepResult}
+use Rattle.atl_month.specs.UpkeepSharing.{peers_of, upkeep_result_among, upkeep_results_of}
 use Rattle.atl_instant.specs.Amounts.{amounts_for}
-use Rattle.atl_instant.specs.Terms.{PhaseTerms, books_money_and_people}
+use Rattle.atl_instant.specs.PhaseSpecs.{PhaseSpec, books_money_and_people}
 use Rattle.atl_instant.specs.There.{at_unit}
 use Rattle.atl_instant.specs.Transfer.{going_of}
 
 -- ---- what a unit has to give for it
 
 -- a unit with so many of its men left: of each skill it keeps the days that go with them
-abbrev pub with_men_left : ℕ → Held → Held
+abbrev pub with_men_left : ℕ → HoldingValue → HoldingValue
 with_men_left left h =
     if left == h.men then h
     else record h { men = left; days = amounts_for (going_of left h) (keys h.days) }
 
 -- what a unit holds after its upkeep
-abbrev pub supplied : Settled → Held → Held
-supplied s h = record (with_men_left (h.men - s.starved) h) { money = h.money - s.paid }
+abbrev pub after_upkeep : UpkeepResult → HoldingValue → HoldingValue
+after_upkeep s h = record (with_men_left (h.men - s.starved) h) { money = h.money - s.paid }
 
 -- the campaign after the upkeep of a unit, which is booked
-unfoldable pub upkeep_at : CampaignValue → Settled → CampaignValue
+unfoldable pub upkeep_at : CampaignValue → UpkeepResult → CampaignValue
 upkeep_at c s = at_unit c s.unit (λ u.
-    let held = with_held c s.unit (supplied s u.holding) (Some u) in
+    let held = with_held c s.unit (after_upkeep s u.holding) (Some u) in
     let paid = with_amount held Upkeep Money (neg_ℤ (pos s.paid)) in
     with_amount paid Starved People (neg_ℤ (pos s.starved)))
 
 -- ---- all units
 
-abbrev pub purse_of : ℕ × Unit → Purse
-purse_of (n, u) = record { unit = n; region = u.region; faction = u.faction; men = u.holding.men; money = u.holding.money }
+abbrev pub upkeep_input_of : ℕ × Unit → UpkeepInput
+upkeep_input_of (n, u) = record { unit = n; region = u.region; faction = u.faction; men = u.holding.men; money = u.holding.money }
 
 -- what each unit has before its upkeep, in the order of their numbers
-abbrev pub purses_of : CampaignValue → List Purse
-purses_of c = map purse_of (entries c.units)
+abbrev pub upkeep_inputs_of : CampaignValue → List UpkeepInput
+upkeep_inputs_of c = map upkeep_input_of (entries c.units)
 
-abbrev pub settlements : WorldValue → CampaignValue → List Settled
-settlements w c = settled_of w.rules.maintenance (purses_of c)
+abbrev pub upkeep_results : WorldValue → CampaignValue → List UpkeepResult
+upkeep_results w c = upkeep_results_of w.rules.maintenance (upkeep_inputs_of c)
 
-abbrev pub upkeep : CampaignValue → List Settled → CampaignValue
+abbrev pub upkeep : CampaignValue → List UpkeepResult → CampaignValue
 upkeep c list = fold upkeep_at c list
 
 -- a unit's report of those who starved
-abbrev pub starves : Settled → Bool
+abbrev pub starves : UpkeepResult → Bool
 starves s = not (s.starved == 0)
 
-abbrev pub starved_event : Settled → Event
+abbrev pub starved_event : UpkeepResult → Event
 starved_event s = record { faction = s.faction; unit = s.unit; line = 0; verb = verb.Upkeep; outcome = outcome.Starved s.starved }
 
 abbrev pub upkeep_meaning : WorldValue → CampaignValue → MonthValue → CampaignValue × MonthValue
-upkeep_meaning w c m = (upkeep c (settlements w c), record m { events = m.events ++ map starved_event (filter starves (settlements w c)) })
+upkeep_meaning w c m = (upkeep c (upkeep_results w c), record m { events = m.events ++ map starved_event (filter starves (upkeep_results w c)) })
 
 -- ---- what it moves, and what it keeps
 
 -- what is paid is money, and those who starve are people, each up to so much
-abbrev pub takes_up_to : ℕ → Moving
+abbrev pub takes_up_to : ℕ → BookBound
 takes_up_to most = both_move (moves_only most Upkeep Money) (moves_only most Starved People)
 
 -- It takes from each unit what follows from the units of its faction in its region alone.
-abbrev pub upkeep_keeps : Keeping
+abbrev pub upkeep_keeps : Frame
 upkeep_keeps w m before after =
     Every (λ n u.
-    let peers = peers_of u.region u.faction (purses_of before) in
-    let settled = settled_among w.rules.maintenance peers (purse_of (n, u)) in
-    get after.units n ≡ Some (record u { holding = supplied settled u.holding }))
+    let peers = peers_of u.region u.faction (upkeep_inputs_of before) in
+    let settled = upkeep_result_among w.rules.maintenance peers (upkeep_input_of (n, u)) in
+    get after.units n ≡ Some (record u { holding = after_upkeep settled u.holding }))
     before.units
 
-abbrev pub upkeep_terms : PhaseTerms
-upkeep_terms = books_money_and_people Upkeep Starved upkeep_meaning upkeep_keeps
+abbrev pub upkeep_spec : PhaseSpec
+upkeep_spec = books_money_and_people Upkeep Starved upkeep_meaning upkeep_keeps

@@ -1,8 +1,9 @@
-//! What the units of each faction in each region have for their upkeep together.
+//! Accounts of the upkeep: for each faction and region, what is left, short, given and covered. See
+//! docs/RULES.md, "Upkeep".
 ghost use Rattle.std.specs.Prelude.{◌≡◌, OnOk};
 ghost use Rattle.atl_month.specs.Accounts.{account_at, with_account};
 
-use crate::settling::Purse;
+use crate::upkeep_sharing::UpkeepInput;
 use atl_tables::Numbered;
 use std::alloc::{AllocError, Global};
 
@@ -19,11 +20,11 @@ pub(crate) struct Account {
 /// By region, and then by faction.
 pub(crate) type Accounts = Numbered<Numbered<Account>>;
 
-/// The account of the units of a purse's faction in its region.
-pub(crate) fn account_of(accounts: &Accounts, purse: &Purse) -> Account
-    ensures { result ≡ account_at accounts.now purse.now.region purse.now.faction }
+/// The account of the units of an input's faction in its region.
+pub(crate) fn account_of(accounts: &Accounts, input: &UpkeepInput) -> Account
+    ensures { result ≡ account_at accounts.now input.now.region input.now.faction }
 {
-    let found = accounts.get_under(purse.region, purse.faction).copied();
+    let found = accounts.get_under(input.region, input.faction).copied();
     found.unwrap_or(Account {
         left: 0,
         short: 0,
@@ -32,14 +33,15 @@ pub(crate) fn account_of(accounts: &Accounts, purse: &Purse) -> Account
     })
 }
 
-/// Puts the account of a purse's faction in its region. Without memory the accounts are to be given up.
+/// Puts the account of an input's faction in its region. Without memory the accounts are to be given up.
 pub(crate) fn put_account(
     alloc: Global,
     accounts: &mut Accounts,
-    purse: &Purse,
+    input: &UpkeepInput,
     account: Account,
 ) -> Result<(), AllocError>
-    ensures { OnOk result (accounts.new ≡ with_account accounts.old purse.now.region purse.now.faction account) }
+    ensures { OnOk result (accounts.new
+        ≡ with_account accounts.old input.now.region input.now.faction account) }
 {
-    accounts.insert_under(alloc, purse.region, purse.faction, account)
+    accounts.insert_under(alloc, input.region, input.faction, account)
 }

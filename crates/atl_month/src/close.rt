@@ -1,4 +1,4 @@
-//! A month is closed.
+//! Runs all phases of a month. See docs/RULES.md, "Closing a month".
 ghost use Rattle.std.specs.Prelude.{◌≡◌, ◌<◌, ℕ, All, IfOk, length, map};
 ghost use Rattle.std.specs.FinMap.{len};
 ghost use Rattle.atl_orders.specs.Mailing.{IsReadWith, reading_of};
@@ -9,15 +9,15 @@ ghost use Rattle.atl_records.specs.Limits.{last_month};
 ghost use Rattle.atl_instant.specs.Month.{HaveOwnFactions, by_faction};
 ghost use Rattle.atl_instant.specs.Fit.{AreFit};
 ghost use Rattle.atl_instant.specs.Meaning.{IsSameMonth, LeavesWell};
-ghost use Rattle.atl_month.specs.Month.{BooksAreNear, MonthHasNoOrder, PhasesMoveLittle, TwoMoveAtMost, begun, finished, month_keeps, month_meaning, month_moves, month_of, phases_moving};
-ghost use Rattle.atl_month.specs.Swept.{IsSwept};
+ghost use Rattle.atl_month.specs.Month.{BooksAreNear, MonthHasNoOrder, PhasesMoveLittle, TwoMoveAtMost, after_month, month_keeps, month_meaning, month_moves, month_of, new_month, phases_moving};
+ghost use Rattle.atl_month.specs.AfterSweep.{IsSwept};
 ghost use Rattle.atl_month.specs.Unmailed.{UnmailedAreLeft};
 
 use crate::orders::OrderPhases;
 use crate::season::SeasonPhase;
 use crate::sweep::SweepPhase;
 use crate::upkeep::UpkeepPhase;
-use atl_instant::{Month, Phase, Ran};
+use atl_instant::{Month, Phase, PhaseResult};
 use atl_market::WorkPhase;
 use atl_orders::Mailing;
 use atl_state::{Campaign, Event};
@@ -25,11 +25,13 @@ use atl_tables::World;
 use std::alloc::{AllocError, Global};
 
 /// Runs the phases of a month, one after the other.
-fn run_phases(alloc: Global, world: &World, campaign: Campaign, month: Month) -> Ran
+fn run_phases(alloc: Global, world: &World, campaign: Campaign, month: Month) -> PhaseResult
     requires sound { IsSound world.now campaign.value }
     requires read { AreFit world.now month.readings }
-    ensures meaning { IfOk result (λ r. (r.0.value, r.1) ≡ month_meaning world.now campaign.value month) }
-    ensures leaves { IfOk result (λ r. LeavesWell IsSwept phases_moving world.now campaign.value r.0.value) }
+    ensures meaning { IfOk result
+        (λ r. (r.0.value, r.1) ≡ month_meaning world.now campaign.value month) }
+    ensures leaves { IfOk result
+        (λ r. LeavesWell IsSwept phases_moving world.now campaign.value r.0.value) }
     ensures keeps { IfOk result (λ r. month_keeps world.now month campaign.value r.0.value) }
     ensures marks { IfOk result (λ r. MarksChanges campaign r.0) }
 {
@@ -57,13 +59,21 @@ pub fn close_month(
     requires read { All (IsReadWith world.now) mailings.items }
     requires own { HaveOwnFactions mailings.items }
     requires words { length words.now ≡ len world.now.regions }
-    ensures definition { IfOk result (λ r. (r.0.value, r.1.items) ≡ month_of world.now campaign.value (by_faction (map reading_of mailings.items)) words.now) }
-    ensures good { IfOk result (λ r. IsGood world.now (finished r.0.value)) }
+    ensures definition { IfOk result
+        (λ r. (r.0.value, r.1.items)
+        ≡ month_of world.now campaign.value (by_faction (map reading_of mailings.items))
+        words.now) }
+    ensures good { IfOk result (λ r. IsGood world.now (after_month r.0.value)) }
     ensures same { IfOk result (λ r. IsSameMonth campaign.value r.0.value) }
-    ensures factions { IfOk result (λ r. (n : ℕ) → IsThere campaign.value.factions n → IsThere r.0.value.factions n) }
+    ensures factions { IfOk result
+        (λ r. (n : ℕ) → IsThere campaign.value.factions n → IsThere r.0.value.factions n) }
     ensures books { IfOk result (λ r. BooksAreNear month_moves campaign.value r.0.value) }
-    ensures keeps { IfOk result (λ r. month_keeps world.now (begun (by_faction (map reading_of mailings.items)) words.now) campaign.value r.0.value) }
-    ensures unmailed { IfOk result (λ r. UnmailedAreLeft mailings.items r.1.items campaign.value r.0.value) }
+    ensures keeps { IfOk result
+        (λ r. month_keeps world.now
+        (new_month (by_faction (map reading_of mailings.items)) words.now) campaign.value
+        r.0.value) }
+    ensures unmailed { IfOk result
+        (λ r. UnmailedAreLeft mailings.items r.1.items campaign.value r.0.value) }
     ensures marks { IfOk result (λ r. MarksChanges campaign r.0) }
 {
     let month = Month::new(alloc, mailings, words.to_vec(alloc)?);

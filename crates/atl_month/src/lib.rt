@@ -1,4 +1,4 @@
-//! The end of a month: what each unit needs, what each region grows, and who leaves the campaign.
+//! Closing a month: its phases in turn, with upkeep, season and sweep.
 #![tactic(auto)]
 
 mod accounts;
@@ -9,14 +9,14 @@ mod receivers;
 mod restock;
 mod room;
 mod season;
-mod settling;
 mod sweep;
 mod upkeep;
+mod upkeep_sharing;
 
 pub use close::{close_month, months_have_no_order, phases_move_little};
 pub use orders::OrderPhases;
 pub use room::one_phase_has_room;
 pub use season::SeasonPhase;
-pub use settling::{Purse, Settled, each_unit_can_spare, settle};
 pub use sweep::SweepPhase;
 pub use upkeep::UpkeepPhase;
+pub use upkeep_sharing::{UpkeepInput, UpkeepResult, each_unit_can_spare, upkeep_payments};

@@ -1,10 +1,10 @@
-//! The phases that carry out orders, one after the other.
+//! The phases that carry out orders, in turn. See docs/RULES.md, "Closing a month".
 ghost use Rattle.atl_state.specs.Good.{IsEarly};
 ghost use Rattle.atl_month.specs.Month.{orders_keep, orders_meaning, orders_moving};
 
 use atl_action::{LearnPhase, MovePhase, SailPhase};
 use atl_instant::{
-    FormPhase, GivePhase, GuardPhase, Month, NamePhase, Phase, PlacePhase, QuitPhase, Ran,
+    FormPhase, GivePhase, GuardPhase, Month, NamePhase, Phase, PhaseResult, PlacePhase, QuitPhase,
     TransferPhase,
 };
 use atl_market::{BuildPhase, BuyPhase, ProducePhase, RecruitPhase, SellPhase, TaxPhase};
@@ -26,7 +26,7 @@ impl Phase for OrderPhases {
 
     ghost keeps = { orders_keep };
 
-    fn run(&self, alloc: Global, world: &World, campaign: Campaign, month: Month) -> Ran {
+    fn run(&self, alloc: Global, world: &World, campaign: Campaign, month: Month) -> PhaseResult {
         let pots = (SellPhase {}, (BuyPhase {}, (TaxPhase, RecruitPhase)));
         let goods = (GivePhase, (TransferPhase, pots));
         let early = (FormPhase, (NamePhase, (PlacePhase, goods)));

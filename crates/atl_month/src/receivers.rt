@@ -1,7 +1,7 @@
-//! Who receives what units without men leave.
+//! Finds the unit that receives what units without men leave. See docs/RULES.md, "Sweep".
 ghost use Rattle.std.specs.Prelude.{◌≡◌, ◌≤◌, IfOk, OnOk};
 ghost use Rattle.atl_records.specs.Every.{Every};
-ghost use Rattle.atl_month.specs.Receivers.{AreReceivers, receiver_in, receiver_noted};
+ghost use Rattle.atl_month.specs.Receivers.{AreReceivers, receiver_in, with_receiver_of};
 
 use atl_state::{Campaign, Unit};
 use atl_tables::Numbered;
@@ -24,7 +24,7 @@ fn note(
     number: u32,
     unit: &Unit,
 ) -> Result<(), AllocError>
-    ensures { OnOk result (receivers.new ≡ receiver_noted receivers.old number unit.now) }
+    ensures { OnOk result (receivers.new ≡ with_receiver_of receivers.old number unit.now) }
 {
     if 0 < unit.holding.men() && receiver_in(receivers, unit.region, unit.faction) == 0 {
         receivers.insert_under(alloc, unit.region, unit.faction, number)?;

@@ -1,4 +1,4 @@
-//! New goods of the markets.
+//! Restocks the markets of a region. See docs/RULES.md, "Season".
 ghost use Rattle.std.specs.Prelude.{◌≡◌, ◌<◌, Some, OnOk, length};
 ghost use Rattle.std.specs.FinMap.{entries};
 ghost use Rattle.atl_tables.specs.ByNumber.{market_of};
@@ -10,7 +10,7 @@ ghost use Rattle.atl_state.specs.Good.{IsSteady};
 ghost use Rattle.atl_records.specs.declared.books.Entry.TheVariants.{Stocked};
 ghost use Rattle.atl_records.specs.declared.books.Thing.TheVariants.{Item};
 ghost use Rattle.atl_instant.specs.Meaning.{HaveRoom, moves_only};
-ghost use Rattle.atl_month.specs.Restock.{market_restocked, markets_of, restock, restocked, stocks_by};
+ghost use Rattle.atl_month.specs.Restock.{after_market_restock, after_restock, markets_of, restock, stocks_by};
 
 use atl_state::{Campaign, Entry, Thing};
 use atl_tables::{Market, World};
@@ -24,7 +24,7 @@ fn restock(market: &Market, stock: u32) -> u32
 }
 
 /// A market gets new goods, which are booked.
-#[tactic(auto, unfolding(crate::specs::Restock::market_restocked))]
+#[tactic(auto, unfolding(crate::specs::Restock::after_market_restock))]
 fn restock_market(
     world: &World,
     campaign: &mut Campaign,
@@ -36,7 +36,8 @@ fn restock_market(
     requires there { market_of world.now region item ≡ Some market.now }
     requires known { IsMarket (length world.now.items) item market.now }
     requires room { HaveRoom (moves_only most_amount Stocked (Item item)) campaign.old.value }
-    ensures what { OnOk result (campaign.new.value ≡ market_restocked region campaign.old.value (item, market.now)) }
+    ensures what { OnOk result
+        (campaign.new.value ≡ after_market_restock region campaign.old.value (item, market.now)) }
     ensures marks { OnOk result (MarksChanges campaign.old campaign.new) }
 {
     let stock = campaign.stock(region, item);
@@ -54,7 +55,9 @@ pub(crate) fn restock_region(
 ) -> Result<(), AllocError>
     requires steady { IsSteady world.now campaign.old.value }
     requires room { HaveRoom (stocks_by most_amount) campaign.old.value }
-    ensures what { OnOk result (campaign.new.value ≡ restocked region campaign.old.value (entries (markets_of world.now region))) }
+    ensures what { OnOk result
+        (campaign.new.value ≡ after_restock region campaign.old.value
+        (entries (markets_of world.now region))) }
     ensures marks { OnOk result (MarksChanges campaign.old campaign.new) }
     ensures world { IsWorld world.now }
 {

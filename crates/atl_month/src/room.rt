@@ -1,4 +1,4 @@
-//! The books' room for a phase.
+//! A law: books in which no amount passes 9*10^18 have room for one more phase.
 ghost use Rattle.atl_instant.specs.Room.{OnePhaseHasRoom};
 
 /// Where no amount of the books passes 9*10^18 in size, they have room for one phase that moves each of them by less than

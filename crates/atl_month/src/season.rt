@@ -1,4 +1,4 @@
-//! The season of a month.
+//! The season of a month: births, income and new goods of markets. See docs/RULES.md, "Season".
 ghost use Rattle.std.specs.Prelude.{ℕ, ◌≡◌, ◌≤◌, ◌<◌, ◌+◌, OnOk};
 ghost use Rattle.atl_tables.specs.Worlds.{IsWorld};
 ghost use Rattle.atl_tables.specs.Limits.{most_amount, most_growth};
@@ -10,7 +10,7 @@ ghost use Rattle.atl_month.specs.Season.{births, grows_by, income, season, seaso
 
 use crate::limits::PER_HUNDRED;
 use crate::restock::restock_region;
-use atl_instant::{Month, Phase, Ran};
+use atl_instant::{Month, Phase, PhaseResult};
 use atl_state::{Campaign, Entry, Thing};
 use atl_tables::World;
 use std::alloc::{AllocError, Global};
@@ -44,7 +44,8 @@ fn grow(campaign: &mut Campaign, number: u32, peasants: u32, money: u32, born: u
     requires room { HaveRoom (grows_by most_amount) campaign.old.value }
     requires peasants { peasants + born ≤ most_amount }
     requires money { money + earned ≤ most_amount }
-    ensures what { campaign.new.value ≡ with_growth campaign.old.value number peasants money born earned }
+    ensures what { campaign.new.value
+        ≡ with_growth campaign.old.value number peasants money born earned }
     ensures marks { MarksChanges campaign.old campaign.new }
 {
     campaign.set_peasants(number, peasants + born);
@@ -63,7 +64,8 @@ fn turn_region(
 ) -> Result<(), AllocError>
     requires steady { IsSteady world.now campaign.old.value }
     requires room { HaveRoom (season_moves most_amount) campaign.old.value }
-    ensures what { OnOk result (campaign.new.value ≡ season_at world.now campaign.old.value (number, word)) }
+    ensures what { OnOk result
+        (campaign.new.value ≡ season_at world.now campaign.old.value (number, word)) }
     ensures marks { OnOk result (MarksChanges campaign.old campaign.new) }
 {
     let terrain = match world.terrain_of(number) {
@@ -85,7 +87,8 @@ fn turn_region(
 fn turn_regions(world: &World, campaign: &mut Campaign, words: &[u32]) -> Result<(), AllocError>
     requires steady { IsSteady world.now campaign.old.value }
     requires room { HaveRoom (season_moves most_moved) campaign.old.value }
-    ensures what { OnOk result (campaign.new.value ≡ season world.now campaign.old.value words.now) }
+    ensures what { OnOk result
+        (campaign.new.value ≡ season world.now campaign.old.value words.now) }
     ensures marks { OnOk result (MarksChanges campaign.old campaign.new) }
     ensures world { IsWorld world.now }
 {
@@ -107,7 +110,13 @@ impl Phase for SeasonPhase {
 
     ghost keeps = { season_keeps };
 
-    fn run(&self, _alloc: Global, world: &World, mut campaign: Campaign, month: Month) -> Ran {
+    fn run(
+        &self,
+        _alloc: Global,
+        world: &World,
+        mut campaign: Campaign,
+        month: Month,
+    ) -> PhaseResult {
         turn_regions(world, &mut campaign, month.words())?;
         Ok((campaign, month))
     }

@@ -1,7 +1,8 @@
-//! The sweep of a month.
+//! The sweep of a month: removes units without men, and factions without units. See docs/RULES.md,
+//! "Sweep".
 ghost use Rattle.std.specs.Prelude.{ℕ, ◌≡◌, ◌≤◌, ◌<◌, ◌+◌, IfOk, OnOk, fold, length};
 ghost use Rattle.atl_tables.specs.Limits.{most_amount};
-ghost use Rattle.atl_records.specs.Books.{IsGrid, amount_in, thing_place};
+ghost use Rattle.atl_records.specs.Books.{IsGrid, amount_in, thing_index};
 ghost use Rattle.atl_state.specs.Covers.{MarksChanges};
 ghost use Rattle.atl_records.specs.Every.{EachOf};
 ghost use Rattle.atl_state.specs.Good.{IsSteady};
@@ -10,12 +11,12 @@ ghost use Rattle.atl_records.specs.declared.books.Entry.TheVariants.{Lost};
 ghost use Rattle.atl_records.specs.declared.books.Thing.TheVariants.{Item, Money};
 ghost use Rattle.atl_instant.specs.Meaning.{HasRoom, HaveRoom, most_moved, moved_times};
 ghost use Rattle.atl_instant.specs.LostItems.{moving_items};
-ghost use Rattle.atl_month.specs.Sweep.{faction_swept, loses_by, menless, passed_item, passed_money, sweep_keeps, sweep_meaning, swept_at, taken_of, with_lost};
+ghost use Rattle.atl_month.specs.Sweep.{accepted_of, after_passing_item, after_passing_money, after_sweeping_faction, after_sweeping_unit, loses_by, menless_units, sweep_keeps, sweep_meaning, with_lost};
 ghost use Rattle.atl_month.specs.Receivers.{AreReceivers};
-ghost use Rattle.atl_month.specs.Swept.{IsSwept};
+ghost use Rattle.atl_month.specs.AfterSweep.{IsSwept};
 
 use crate::receivers::{Receivers, receiver_in, receivers_of};
-use atl_instant::{Month, Phase, Ran, book_taken, items_of};
+use atl_instant::{Month, Phase, PhaseResult, book_taken, items_of};
 use atl_state::{Campaign, Entry, HOLDING_LIMIT, Thing};
 use atl_tables::World;
 use std::alloc::{AllocError, Global};
@@ -26,15 +27,15 @@ use std::alloc::{AllocError, Global};
 pub struct SweepPhase;
 
 /// How much of an amount goes to a unit that has so much already.
-fn taken_of(amount: u32, have: u32) -> u32
-    ensures { result ≡ taken_of amount have }
+fn accepted_of(amount: u32, have: u32) -> u32
+    ensures { result ≡ accepted_of amount have }
 {
     amount.min(HOLDING_LIMIT.saturating_sub(have))
 }
 
 /// An amount is lost.
 fn lose(campaign: &mut Campaign, thing: Thing, amount: u32)
-    requires there { thing_place thing < length campaign.old.value.books }
+    requires there { thing_index thing < length campaign.old.value.books }
     requires room { HasRoom amount (amount_in campaign.old.value.books Lost thing) }
     ensures what { campaign.new.value ≡ with_lost campaign.old.value thing amount }
     ensures marks { campaign.new.marks ≡ mark_amount campaign.old Lost thing }
@@ -43,17 +44,17 @@ fn lose(campaign: &mut Campaign, thing: Thing, amount: u32)
 }
 
 /// Money goes to a unit, up to its room, and the rest is lost.
-#[tactic(auto, unfolding(crate::specs::Sweep::passed_money))]
+#[tactic(auto, unfolding(crate::specs::Sweep::after_passing_money))]
 fn pass_money(campaign: &mut Campaign, to: u32, amount: u32)
     requires grid { (things : ℕ) × (2 ≤ things) × IsGrid things campaign.old.value.books }
     requires room { HasRoom amount (amount_in campaign.old.value.books Lost Money) }
-    ensures what { campaign.new.value ≡ passed_money campaign.old.value to amount }
+    ensures what { campaign.new.value ≡ after_passing_money campaign.old.value to amount }
     ensures marks { MarksChanges campaign.old campaign.new }
 {
     match campaign.unit(to) {
         Some(unit) => {
             let money = unit.holding.money();
-            let taken = taken_of(amount, money);
+            let taken = accepted_of(amount, money);
             campaign.set_money(to, money + taken);
             lose(campaign, Thing::Money, amount - taken);
         }
@@ -62,7 +63,7 @@ fn pass_money(campaign: &mut Campaign, to: u32, amount: u32)
 }
 
 /// So much of an item goes to a unit, up to its room, and the rest is lost.
-#[tactic(auto, unfolding(crate::specs::Sweep::passed_item))]
+#[tactic(auto, unfolding(crate::specs::Sweep::after_passing_item))]
 fn pass_item(
     world: &World,
     campaign: &mut Campaign,
@@ -73,14 +74,15 @@ fn pass_item(
     requires steady { IsSteady world.now campaign.old.value }
     requires known { item < length world.now.items }
     requires room { HasRoom amount (amount_in campaign.old.value.books Lost (Item item)) }
-    ensures what { OnOk result (campaign.new.value ≡ passed_item to campaign.old.value (item, amount)) }
+    ensures what { OnOk result
+        (campaign.new.value ≡ after_passing_item to campaign.old.value (item, amount)) }
     ensures marks { OnOk result (MarksChanges campaign.old campaign.new) }
 {
     let number = u32::from(item);
     match campaign.unit(to) {
         Some(unit) => {
             let have = unit.holding.amount(number);
-            let taken = taken_of(amount, have);
+            let taken = accepted_of(amount, have);
             campaign.set_item(to, number, have + taken)?;
             lose(campaign, Thing::Item(item), amount - taken);
         }
@@ -99,7 +101,8 @@ fn pass_items(
     requires steady { IsSteady world.now campaign.old.value }
     requires known { EachOf (λ i amount. i < length world.now.items) items.now }
     requires room { HaveRoom (moving_items items.now) campaign.old.value }
-    ensures what { OnOk result (campaign.new.value ≡ fold (passed_item to) campaign.old.value items.now) }
+    ensures what { OnOk result
+        (campaign.new.value ≡ fold (after_passing_item to) campaign.old.value items.now) }
     ensures marks { OnOk result (MarksChanges campaign.old campaign.new) }
 {
     for (item, amount) in items.iter() {
@@ -109,7 +112,7 @@ fn pass_items(
 }
 
 /// A unit without men passes on what it has, and is removed.
-#[tactic(auto, unfolding(crate::specs::Sweep::swept_at))]
+#[tactic(auto, unfolding(crate::specs::Sweep::after_sweeping_unit))]
 fn sweep_unit(
     alloc: Global,
     world: &World,
@@ -120,7 +123,8 @@ fn sweep_unit(
     requires steady { IsSteady world.now campaign.old.value }
     requires receivers { AreReceivers campaign.old.value receivers.now }
     requires room { HaveRoom (loses_by most_amount) campaign.old.value }
-    ensures what { OnOk result (campaign.new.value ≡ swept_at campaign.old.value number) }
+    ensures what { OnOk result
+        (campaign.new.value ≡ after_sweeping_unit campaign.old.value number) }
     ensures marks { OnOk result (MarksChanges campaign.old campaign.new) }
 {
     let Some(unit) = campaign.unit(number) else {
@@ -139,8 +143,8 @@ fn sweep_unit(
 }
 
 /// The numbers of the units without men.
-fn menless(alloc: Global, campaign: &Campaign) -> Result<Vec<u32>, AllocError>
-    ensures { IfOk result (λ list. list.items ≡ menless campaign.now.value) }
+fn menless_units(alloc: Global, campaign: &Campaign) -> Result<Vec<u32>, AllocError>
+    ensures { IfOk result (λ list. list.items ≡ menless_units campaign.now.value) }
 {
     let mut list = Vec::new(alloc);
     for (number, unit) in campaign.units() {
@@ -161,8 +165,10 @@ fn sweep_units(
 ) -> Result<(), AllocError>
     requires steady { IsSteady world.now campaign.old.value }
     requires receivers { AreReceivers campaign.old.value receivers.now }
-    requires room { HaveRoom (moved_times (length numbers.now) (loses_by most_amount)) campaign.old.value }
-    ensures what { OnOk result (campaign.new.value ≡ fold swept_at campaign.old.value numbers.now) }
+    requires room { HaveRoom (moved_times (length numbers.now) (loses_by most_amount))
+        campaign.old.value }
+    ensures what { OnOk result
+        (campaign.new.value ≡ fold after_sweeping_unit campaign.old.value numbers.now) }
     ensures marks { OnOk result (MarksChanges campaign.old campaign.new) }
 {
     for number in numbers.iter() {
@@ -173,7 +179,7 @@ fn sweep_units(
 
 /// A faction without units is gone.
 fn sweep_faction(campaign: &mut Campaign, number: u32)
-    ensures what { campaign.new.value ≡ faction_swept campaign.old.value number }
+    ensures what { campaign.new.value ≡ after_sweeping_faction campaign.old.value number }
     ensures marks { MarksChanges campaign.old campaign.new }
 {
     if campaign.of_faction(number).is_empty() {
@@ -183,7 +189,7 @@ fn sweep_faction(campaign: &mut Campaign, number: u32)
 
 /// Factions without units are gone.
 fn sweep_factions(campaign: &mut Campaign, numbers: &[u32])
-    ensures what { campaign.new.value ≡ fold faction_swept campaign.old.value numbers.now }
+    ensures what { campaign.new.value ≡ fold after_sweeping_faction campaign.old.value numbers.now }
     ensures marks { MarksChanges campaign.old campaign.new }
 {
     for number in numbers.iter() {
@@ -200,9 +206,15 @@ impl Phase for SweepPhase {
 
     ghost keeps = { sweep_keeps };
 
-    fn run(&self, alloc: Global, world: &World, mut campaign: Campaign, month: Month) -> Ran {
+    fn run(
+        &self,
+        alloc: Global,
+        world: &World,
+        mut campaign: Campaign,
+        month: Month,
+    ) -> PhaseResult {
         let receivers = receivers_of(alloc, &campaign)?;
-        let numbers = menless(alloc, &campaign)?;
+        let numbers = menless_units(alloc, &campaign)?;
         sweep_units(alloc, world, &receivers, &mut campaign, &numbers)?;
         let factions = campaign.active()?;
         sweep_factions(&mut campaign, &factions);

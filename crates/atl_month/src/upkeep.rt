@@ -1,16 +1,16 @@
-//! The upkeep of a month.
+//! The phase of upkeep: units pay, and men who aren't paid for starve. See docs/RULES.md, "Upkeep".
 ghost use Rattle.std.specs.Prelude.{◌≡◌, ◌≤◌, ◌++◌, All, IfOk, OnOk, Some, filter, map};
 ghost use Rattle.atl_tables.specs.Worlds.{WorldValue};
 ghost use Rattle.atl_state.specs.Covers.{MarksChanges};
 ghost use Rattle.atl_instant.specs.Holdings.{MarksNoGoods, MarksNoItems};
 ghost use Rattle.atl_instant.specs.Meaning.{most_moved};
 ghost use Rattle.atl_market.specs.PotPhase.{CanInTurn};
-ghost use Rattle.atl_month.specs.Settling.{IsPurse};
-ghost use Rattle.atl_month.specs.Sparing.{CanSettle, IsSupplied, staying_list};
-ghost use Rattle.atl_month.specs.Upkeep.{purses_of, starved_event, starves, takes_up_to, upkeep, upkeep_at, upkeep_keeps, upkeep_meaning};
+ghost use Rattle.atl_month.specs.UpkeepSharing.{IsUpkeepInput};
+ghost use Rattle.atl_month.specs.UpkeepTaken.{CanPayUpkeep, IsAfterUpkeep, staying_list};
+ghost use Rattle.atl_month.specs.Upkeep.{starved_event, starves, takes_up_to, upkeep, upkeep_at, upkeep_inputs_of, upkeep_keeps, upkeep_meaning};
 
-use crate::settling::{Purse, Settled, settle};
-use atl_instant::{Month, Phase, Ran, book_taken, set_people};
+use crate::upkeep_sharing::{UpkeepInput, UpkeepResult, upkeep_payments};
+use atl_instant::{Month, Phase, PhaseResult, book_taken, set_people};
 use atl_state::{Campaign, Entry, Event, EventVerb, Holding, Outcome, Thing};
 use atl_tables::World;
 use std::alloc::{AllocError, Global};
@@ -21,13 +21,13 @@ use std::alloc::{AllocError, Global};
 pub struct UpkeepPhase;
 
 /// What each unit has before its upkeep.
-fn purses_of(alloc: Global, campaign: &Campaign) -> Result<Vec<Purse>, AllocError>
-    ensures list { IfOk result (λ list. list.items ≡ purses_of campaign.now.value) }
-    ensures each { IfOk result (λ list. All IsPurse list.items) }
+fn upkeep_inputs_of(alloc: Global, campaign: &Campaign) -> Result<Vec<UpkeepInput>, AllocError>
+    ensures list { IfOk result (λ list. list.items ≡ upkeep_inputs_of campaign.now.value) }
+    ensures each { IfOk result (λ list. All IsUpkeepInput list.items) }
 {
-    let mut purses = Vec::new(alloc);
+    let mut inputs = Vec::new(alloc);
     for (number, unit) in campaign.units() {
-        purses.push(Purse {
+        inputs.push(UpkeepInput {
             unit: number,
             region: unit.region,
             faction: unit.faction,
@@ -35,14 +35,15 @@ fn purses_of(alloc: Global, campaign: &Campaign) -> Result<Vec<Purse>, AllocErro
             money: unit.holding.money(),
         })?;
     }
-    Ok(purses)
+    Ok(inputs)
 }
 
 /// The days of each skill that stay with so many of a unit's men.
 fn days_with(alloc: Global, left: u32, holding: &Holding) -> Result<Vec<(u32, u32)>, AllocError>
     requires some { 1 ≤ holding.now.men }
     requires fewer { left ≤ holding.now.men }
-    ensures { IfOk result (λ list. list.items ≡ staying_list left holding.now.men holding.now.days) }
+    ensures { IfOk result (λ list. list.items
+        ≡ staying_list left holding.now.men holding.now.days) }
 {
     let men = u64::from(holding.men());
     let mut list = Vec::new(alloc);
@@ -53,10 +54,10 @@ fn days_with(alloc: Global, left: u32, holding: &Holding) -> Result<Vec<(u32, u3
 }
 
 /// Takes from a unit what it pays, where nobody of it starves. None of its goods is marked, nor its row where it pays nothing.
-fn pay(campaign: &mut Campaign, settled: &Settled)
-    requires can { (w : WorldValue) × CanSettle w campaign.old.value settled.now }
+fn pay(campaign: &mut Campaign, settled: &UpkeepResult)
+    requires can { (w : WorldValue) × CanPayUpkeep w campaign.old.value settled.now }
     requires fed { settled.now.starved ≡ 0 }
-    ensures what { IsSupplied campaign.old.value settled.now campaign.new.value }
+    ensures what { IsAfterUpkeep campaign.old.value settled.now campaign.new.value }
     ensures marks { MarksChanges campaign.old campaign.new }
     ensures goods { MarksNoGoods campaign.old.marks campaign.new.marks }
 {
@@ -70,10 +71,10 @@ fn pay(campaign: &mut Campaign, settled: &Settled)
 }
 
 /// Takes from a unit what it pays and those whom it can't keep, with their days. None of its items is marked.
-fn starve(alloc: Global, campaign: &mut Campaign, settled: &Settled) -> Result<(), AllocError>
-    requires can { (w : WorldValue) × CanSettle w campaign.old.value settled.now }
+fn starve(alloc: Global, campaign: &mut Campaign, settled: &UpkeepResult) -> Result<(), AllocError>
+    requires can { (w : WorldValue) × CanPayUpkeep w campaign.old.value settled.now }
     requires some { 1 ≤ settled.now.starved }
-    ensures what { OnOk result (IsSupplied campaign.old.value settled.now campaign.new.value) }
+    ensures what { OnOk result (IsAfterUpkeep campaign.old.value settled.now campaign.new.value) }
     ensures marks { OnOk result (MarksChanges campaign.old campaign.new) }
     ensures items { OnOk result (MarksNoItems campaign.old.marks campaign.new.marks) }
 {
@@ -88,12 +89,17 @@ fn starve(alloc: Global, campaign: &mut Campaign, settled: &Settled) -> Result<(
 }
 
 /// Takes from a unit what upkeep takes from it. None of its items is marked, and none of its goods where nobody starves.
-fn supply_unit(alloc: Global, campaign: &mut Campaign, settled: &Settled) -> Result<(), AllocError>
-    requires { (w : WorldValue) × CanSettle w campaign.old.value settled.now }
-    ensures what { OnOk result (IsSupplied campaign.old.value settled.now campaign.new.value) }
+fn take_upkeep(
+    alloc: Global,
+    campaign: &mut Campaign,
+    settled: &UpkeepResult,
+) -> Result<(), AllocError>
+    requires { (w : WorldValue) × CanPayUpkeep w campaign.old.value settled.now }
+    ensures what { OnOk result (IsAfterUpkeep campaign.old.value settled.now campaign.new.value) }
     ensures marks { OnOk result (MarksChanges campaign.old campaign.new) }
     ensures items { OnOk result (MarksNoItems campaign.old.marks campaign.new.marks) }
-    ensures goods { OnOk result (settled.now.starved ≡ 0 → MarksNoGoods campaign.old.marks campaign.new.marks) }
+    ensures goods { OnOk result
+        (settled.now.starved ≡ 0 → MarksNoGoods campaign.old.marks campaign.new.marks) }
 {
     if settled.starved == 0 {
         pay(campaign, settled);
@@ -103,22 +109,31 @@ fn supply_unit(alloc: Global, campaign: &mut Campaign, settled: &Settled) -> Res
 }
 
 /// The upkeep of a unit, which is booked. None of its items is marked, and none of its goods where nobody starves.
-fn upkeep_of(alloc: Global, campaign: &mut Campaign, settled: &Settled) -> Result<(), AllocError>
-    requires { (w : WorldValue) × CanSettle w campaign.old.value settled.now }
+fn upkeep_of(
+    alloc: Global,
+    campaign: &mut Campaign,
+    settled: &UpkeepResult,
+) -> Result<(), AllocError>
+    requires { (w : WorldValue) × CanPayUpkeep w campaign.old.value settled.now }
     ensures what { OnOk result (campaign.new.value ≡ upkeep_at campaign.old.value settled.now) }
     ensures marks { OnOk result (MarksChanges campaign.old campaign.new) }
     ensures items { OnOk result (MarksNoItems campaign.old.marks campaign.new.marks) }
-    ensures goods { OnOk result (settled.now.starved ≡ 0 → MarksNoGoods campaign.old.marks campaign.new.marks) }
+    ensures goods { OnOk result
+        (settled.now.starved ≡ 0 → MarksNoGoods campaign.old.marks campaign.new.marks) }
 {
-    supply_unit(alloc, campaign, settled)?;
+    take_upkeep(alloc, campaign, settled)?;
     book_taken(campaign, Entry::Upkeep, Thing::Money, settled.paid);
     book_taken(campaign, Entry::Starved, Thing::People, settled.starved);
     Ok(())
 }
 
 /// The upkeep of units.
-fn upkeep_of_all(alloc: Global, campaign: &mut Campaign, list: &[Settled]) -> Result<(), AllocError>
-    requires { (w : WorldValue) × CanInTurn (CanSettle w) upkeep_at campaign.old.value list.now }
+fn upkeep_of_all(
+    alloc: Global,
+    campaign: &mut Campaign,
+    list: &[UpkeepResult],
+) -> Result<(), AllocError>
+    requires { (w : WorldValue) × CanInTurn (CanPayUpkeep w) upkeep_at campaign.old.value list.now }
     ensures what { OnOk result (campaign.new.value ≡ upkeep campaign.old.value list.now) }
     ensures marks { OnOk result (MarksChanges campaign.old campaign.new) }
 {
@@ -129,12 +144,16 @@ fn upkeep_of_all(alloc: Global, campaign: &mut Campaign, list: &[Settled]) -> Re
 }
 
 /// Tells of those who starve.
-fn tell_starved(month: &mut Month, list: &[Settled]) -> Result<(), AllocError>
-    ensures { OnOk result (month.new ≡ record month.old { events = month.old.events ++ map starved_event (filter starves list.now) }) }
+fn report_starved(month: &mut Month, list: &[UpkeepResult]) -> Result<(), AllocError>
+    ensures { OnOk result (month.new
+        ≡ record month.old {
+          events = month.old.events
+              ++ map starved_event (filter starves list.now);
+        }) }
 {
     for settled in list {
         if settled.starved != 0 {
-            month.tell(Event {
+            month.add_event(Event {
                 faction: settled.faction,
                 unit: settled.unit,
                 line: 0,
@@ -153,11 +172,17 @@ impl Phase for UpkeepPhase {
 
     ghost keeps = { upkeep_keeps };
 
-    fn run(&self, alloc: Global, world: &World, mut campaign: Campaign, mut month: Month) -> Ran {
-        let purses = purses_of(alloc, &campaign)?;
-        let list = settle(alloc, world.rules().maintenance, &purses)?;
+    fn run(
+        &self,
+        alloc: Global,
+        world: &World,
+        mut campaign: Campaign,
+        mut month: Month,
+    ) -> PhaseResult {
+        let inputs = upkeep_inputs_of(alloc, &campaign)?;
+        let list = upkeep_payments(alloc, world.rules().maintenance, &inputs)?;
         upkeep_of_all(alloc, &mut campaign, &list)?;
-        tell_starved(&mut month, &list)?;
+        report_starved(&mut month, &list)?;
         Ok((campaign, month))
     }
 }

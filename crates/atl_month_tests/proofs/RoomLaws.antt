@@ -5,40 +5,40 @@ use Rattle.atl_tables.specs.Worlds.{WorldValue}
 use Rattle.atl_state.specs.Good.{IsGood}
 use Rattle.atl_state.specs.Campaign.{CampaignValue}
 use Rattle.atl_instant.specs.Meaning.{HaveRoom, most_moved}
-use Rattle.atl_instant.specs.Terms.{MovesItsOwn, PhaseTerms, may_move}
+use Rattle.atl_instant.specs.PhaseSpecs.{MovesItsOwn, PhaseSpec, may_move}
 use Rattle.atl_instant.proofs.MeaningLaws.{room_when_sound}
-use Rattle.atl_market.specs.Produce.{produce_terms}
-use Rattle.atl_market.specs.Recruit.{recruit_terms}
-use Rattle.atl_market.specs.Tax.{tax_terms}
-use Rattle.atl_market.specs.Trade.{buy_terms, sell_terms}
-use Rattle.atl_market.specs.Work.{work_terms}
-use Rattle.atl_month.specs.Upkeep.{upkeep_terms}
+use Rattle.atl_market.specs.Produce.{produce_spec}
+use Rattle.atl_market.specs.Recruit.{recruit_spec}
+use Rattle.atl_market.specs.Tax.{tax_spec}
+use Rattle.atl_market.specs.Trade.{buy_spec, sell_spec}
+use Rattle.atl_market.specs.Work.{work_spec}
+use Rattle.atl_month.specs.Upkeep.{upkeep_spec}
 use Rattle.atl_month.proofs.PhaseLaws.{early_are, later_are, upkeep_alone, work_alone}
 
 little : (b : Bool) (moved : ℕ) → moved ≤ (if b then most_moved else 0) → moved ≤ 5000000000000000000
 little true moved l = omega (arith, l)
 little false moved l = omega (arith, l)
 
-room_of : (phase : PhaseTerms) → MovesItsOwn phase → (w : WorldValue) (c : CampaignValue) → IsGood w c → HaveRoom phase.moving c
+room_of : (phase : PhaseSpec) → MovesItsOwn phase → (w : WorldValue) (c : CampaignValue) → IsGood w c → HaveRoom phase.moving c
 room_of phase own w c good = room_when_sound w c phase.moving (λ e t. little (may_move phase.moved e t) (phase.moving e t) (own e t)) good.sound
 
-pub room_for_selling : (w : WorldValue) (c : CampaignValue) → IsGood w c → HaveRoom sell_terms.moving c
-room_for_selling = room_of sell_terms early_are.1.1.1.1.1.0.moves
+pub room_for_selling : (w : WorldValue) (c : CampaignValue) → IsGood w c → HaveRoom sell_spec.moving c
+room_for_selling = room_of sell_spec early_are.1.1.1.1.1.0.moves
 
-pub room_for_buying : (w : WorldValue) (c : CampaignValue) → IsGood w c → HaveRoom buy_terms.moving c
-room_for_buying = room_of buy_terms early_are.1.1.1.1.1.1.0.moves
+pub room_for_buying : (w : WorldValue) (c : CampaignValue) → IsGood w c → HaveRoom buy_spec.moving c
+room_for_buying = room_of buy_spec early_are.1.1.1.1.1.1.0.moves
 
-pub room_for_tax : (w : WorldValue) (c : CampaignValue) → IsGood w c → HaveRoom tax_terms.moving c
-room_for_tax = room_of tax_terms early_are.1.1.1.1.1.1.1.0.moves
+pub room_for_tax : (w : WorldValue) (c : CampaignValue) → IsGood w c → HaveRoom tax_spec.moving c
+room_for_tax = room_of tax_spec early_are.1.1.1.1.1.1.1.0.moves
 
-pub room_for_recruiting : (w : WorldValue) (c : CampaignValue) → IsGood w c → HaveRoom recruit_terms.moving c
-room_for_recruiting = room_of recruit_terms early_are.1.1.1.1.1.1.1.1.0.moves
+pub room_for_recruiting : (w : WorldValue) (c : CampaignValue) → IsGood w c → HaveRoom recruit_spec.moving c
+room_for_recruiting = room_of recruit_spec early_are.1.1.1.1.1.1.1.1.0.moves
 
-pub room_for_producing : (w : WorldValue) (c : CampaignValue) → IsGood w c → HaveRoom produce_terms.moving c
-room_for_producing = room_of produce_terms later_are.1.1.1.1.1.1.0.moves
+pub room_for_producing : (w : WorldValue) (c : CampaignValue) → IsGood w c → HaveRoom produce_spec.moving c
+room_for_producing = room_of produce_spec later_are.1.1.1.1.1.1.0.moves
 
-pub room_for_work : (w : WorldValue) (c : CampaignValue) → IsGood w c → HaveRoom work_terms.moving c
-room_for_work = room_of work_terms work_alone
+pub room_for_work : (w : WorldValue) (c : CampaignValue) → IsGood w c → HaveRoom work_spec.moving c
+room_for_work = room_of work_spec work_alone
 
-pub room_for_upkeep : (w : WorldValue) (c : CampaignValue) → IsGood w c → HaveRoom upkeep_terms.moving c
-room_for_upkeep = room_of upkeep_terms upkeep_alone
+pub room_for_upkeep : (w : WorldValue) (c : CampaignValue) → IsGood w c → HaveRoom upkeep_spec.moving c
+room_for_upkeep = room_of upkeep_spec upkeep_alone

@@ -1,4 +1,4 @@
--- The verbs of phases that the tests have of their own.
+-- The verbs of the phases that only these tests have.
 use Rattle.std.specs.Prelude.{Bool, true, false}
 use Rattle.atl_orders.specs.declared.verb.Verb.{Verb}
 use Rattle.atl_orders.specs.declared.verb.Verb.TheVariants.{Study, Work}

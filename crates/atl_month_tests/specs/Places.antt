@@ -1,4 +1,4 @@
--- The pots of the tests.
+-- The pots of the tests: an amount for each of regions 1 and 2.
 use Rattle.std.specs.Prelude.{ℕ, ◌==◌, if◌then◌else◌}
 
 -- of regions 1 and 2; elsewhere there is nothing

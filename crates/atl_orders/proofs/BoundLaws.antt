@@ -12,35 +12,34 @@ use Rattle.atl_orders.specs.declared.fault.MailFault.{MailFault}
 use Rattle.atl_orders.specs.declared.fault.MailFault.TheVariants.{TooLong}
 use Rattle.atl_orders.specs.declared.reading.Keyword.{Keyword}
 use Rattle.atl_orders.specs.declared.reading.Keyword.TheVariants as keywords
-use Rattle.atl_orders.specs.declared.reading.Place.{Place}
-use Rattle.atl_orders.specs.declared.reading.Place.TheVariants.{Nowhere, At, Forming, Skipping}
+use Rattle.atl_orders.specs.declared.reading.ReaderState.{ReaderState}
+use Rattle.atl_orders.specs.declared.reading.ReaderState.TheVariants.{Nowhere, At, Forming, Skipping}
 use Rattle.atl_orders.specs.Words.{WordText, words, begins, number_of}
 use Rattle.atl_orders.specs.Operands.{number_at, alias_at}
-use Rattle.atl_orders.specs.declared.order.Order.TheVariants as orders
-use Rattle.atl_orders.specs.Orders.{Said, said_by}
+use Rattle.atl_orders.specs.Orders.{OrderValue, said_by}
 use Rattle.atl_orders.specs.Aliasing.{no_alias, with_alias}
 use Rattle.atl_orders.specs.Lines.{lines}
-use Rattle.atl_orders.specs.Reading.{is_plain, keyword_of, Effect, nothing, faulty, says, Step, target, said_for, order_effect, unit_step, end_step, block_step, form_step, keyword_step, words_step, line_step}
-use Rattle.atl_orders.specs.Mailing.{EntrySaid, entry_of, effects, faction_of, Headed, header_line, header_from, Reading, behind_header, reading}
+use Rattle.atl_orders.specs.Reading.{is_plain, keyword_of, Effect, nothing, faulty, says, form_value, LineStep, target, effect_for, order_effect, unit_step, end_step, block_step, form_step, keyword_step, words_step, line_step}
+use Rattle.atl_orders.specs.Mailing.{EntryValue, entry_of, effects, faction_of, HeaderValue, header_line, header_from, Reading, after_header, reading}
 use Rattle.atl_orders.proofs.OrderLaws.{Holds, Counted, Sound, count_holds, from_one, number_within, said_sound}
 use Rattle.atl_orders.specs.Bounds.{IsWithin, IsNumber, IsAlias, IsUnitRef, IsOrderOf, IsEntry, LinesRise, IsReading, ReadingsKeepBounds}
 
 -- ---- lines
 
-abbrev IsPlace : Place → Type 0
-IsPlace Nowhere = Unit {0}
-IsPlace (At n) = IsNumber n
-IsPlace (Forming parent alias) = IsNumber parent × IsAlias alias
-IsPlace (Skipping None) = Unit {0}
-IsPlace (Skipping (Some n)) = IsNumber n
+abbrev AreRegionBasics : ReaderState → Type 0
+AreRegionBasics Nowhere = Unit {0}
+AreRegionBasics (At n) = IsNumber n
+AreRegionBasics (Forming parent alias) = IsNumber parent × IsAlias alias
+AreRegionBasics (Skipping None) = Unit {0}
+AreRegionBasics (Skipping (Some n)) = IsNumber n
 
 abbrev IsEffect : WorldValue → Effect → Type 0
 IsEffect world nothing = Unit {0}
 IsEffect world (faulty fault) = Unit {0}
-IsEffect world (says unit said) = IsUnitRef unit × IsOrderOf world said
+IsEffect world (says unit order_value) = IsUnitRef unit × IsOrderOf world order_value
 
-abbrev IsStep : WorldValue → Step → Type 0
-IsStep world s = IsEffect world s.effect × IsPlace s.place
+abbrev IsStep : WorldValue → LineStep → Type 0
+IsStep world s = IsEffect world s.effect × AreRegionBasics s.place
 
 module _ (world : WorldValue) (given : ℕ → Bool) where
   unit_sound : (r : Result Counted LineFault) → Holds (λ (x : Counted). IsNumber x.0) r → IsStep world (unit_step given r)
@@ -48,7 +47,7 @@ module _ (world : WorldValue) (given : ℕ → Bool) where
   unit_sound (Ok n) h = (tt, h)
   unit_sound (Err fault) h = (tt, tt)
 
-  end_sound : (place : Place) → IsPlace place → IsStep world (end_step place given)
+  end_sound : (place : ReaderState) → AreRegionBasics place → IsStep world (end_step place given)
   unfolding end_step
   end_sound Nowhere h = (tt, tt)
   end_sound (At n) h = (tt, h)
@@ -56,7 +55,7 @@ module _ (world : WorldValue) (given : ℕ → Bool) where
   end_sound (Skipping None) h = (tt, tt)
   end_sound (Skipping (Some n)) h = (tt, h)
 
-  given_sound : (t : Bool) (n alias : ℕ) → IsNumber n → IsAlias alias → IsStep world (cond t (record { effect = faulty BadAlias; place = Skipping (Some n); given = given }) (record { effect = says (Number n) (orders.Form alias); place = Forming n alias; given = with_alias given alias }))
+  given_sound : (t : Bool) (n alias : ℕ) → IsNumber n → IsAlias alias → IsStep world (cond t (record { effect = faulty BadAlias; place = Skipping (Some n); given = given }) (record { effect = says (Number n) (form_value alias); place = Forming n alias; given = with_alias given alias }))
   given_sound true n alias h k = (tt, h)
   given_sound false n alias h k = ((h, k), (h, k))
 
@@ -65,24 +64,24 @@ module _ (world : WorldValue) (given : ℕ → Bool) where
   block_sound n (Ok a) h k = given_sound (given a.0) n a.0 h k
   block_sound n (Err fault) h k = (tt, h)
 
-  forming_sound : (place : Place) (ws : List WordText) → IsPlace place → IsStep world (form_step place given ws)
+  forming_sound : (place : ReaderState) (ws : List WordText) → AreRegionBasics place → IsStep world (form_step place given ws)
   unfolding form_step
   forming_sound Nowhere ws h = (tt, tt)
   forming_sound (At n) ws h = block_sound n (alias_at ws) h (count_holds last_alias BadAlias ws)
   forming_sound (Forming parent alias) ws h = (tt, h)
   forming_sound (Skipping parent) ws h = (tt, h)
 
-  for_unit : (unit : UnitRef) (r : Result Said LineFault) → IsUnitRef unit → Sound world r → IsEffect world (said_for unit r)
-  for_unit unit (Ok said) h k = (h, k)
+  for_unit : (unit : UnitRef) (r : Result OrderValue LineFault) → IsUnitRef unit → Sound world r → IsEffect world (effect_for unit r)
+  for_unit unit (Ok order_value) h k = (h, k)
   for_unit unit (Err fault) h k = tt
 
-  order_sound : (place : Place) (r : Result Said LineFault) → IsPlace place → Sound world r → IsEffect world (order_effect (target place) r)
+  order_sound : (place : ReaderState) (r : Result OrderValue LineFault) → AreRegionBasics place → Sound world r → IsEffect world (order_effect (target place) r)
   order_sound Nowhere r h k = tt
   order_sound (At n) r h k = for_unit (Number n) r h k
   order_sound (Forming parent alias) r h k = for_unit (Alias alias) r h.1 k
   order_sound (Skipping parent) r h k = tt
 
-  keyword_sound : (place : Place) (k : Option Keyword) (ws : List WordText) → IsPlace place → IsStep world (keyword_step world place given k ws)
+  keyword_sound : (place : ReaderState) (k : Option Keyword) (ws : List WordText) → AreRegionBasics place → IsStep world (keyword_step world place given k ws)
   unfolding keyword_step
   keyword_sound place None ws h = (tt, h)
   keyword_sound place (Some keywords.Unit) ws h = unit_sound (number_at ws) (count_holds most_number BadNumber ws)
@@ -90,16 +89,16 @@ module _ (world : WorldValue) (given : ℕ → Bool) where
   keyword_sound place (Some keywords.Form) ws h = forming_sound place ws h
   keyword_sound place (Some (keywords.Order verb)) ws h = (order_sound place (said_by world verb ws) h (said_sound world verb ws), h)
 
-  words_sound : (place : Place) (ws : List WordText) → IsPlace place → IsStep world (words_step world place given ws)
+  words_sound : (place : ReaderState) (ws : List WordText) → AreRegionBasics place → IsStep world (words_step world place given ws)
   unfolding words_step
   words_sound place [] h = (tt, h)
   words_sound place (w ∷ ws) h = keyword_sound place (keyword_of w) ws h
 
-  tested_sound : (t : Bool) (place : Place) (ws : List WordText) → IsPlace place → IsStep world (cond t (words_step world place given ws) (record { effect = faulty BadByte; place = place; given = given }))
+  tested_sound : (t : Bool) (place : ReaderState) (ws : List WordText) → AreRegionBasics place → IsStep world (cond t (words_step world place given ws) (record { effect = faulty BadByte; place = place; given = given }))
   tested_sound true place ws h = words_sound place ws h
   tested_sound false place ws h = (tt, h)
 
-  line_sound : (place : Place) (line : List ℕ) → IsPlace place → IsStep world (line_step world place given line)
+  line_sound : (place : ReaderState) (line : List ℕ) → AreRegionBasics place → IsStep world (line_step world place given line)
   unfolding line_step
   line_sound place line h = tested_sound (list_all is_plain line) place (words line) h
 
@@ -109,13 +108,13 @@ module _ (world : WorldValue) where
   entry_sound : (n : ℕ) (effect : Effect) → IsEffect world effect → All (IsEntry world) (entry_of (n, effect))
   entry_sound n nothing h = All-nil (IsEntry world)
   entry_sound n (faulty fault) h = All-nil (IsEntry world)
-  entry_sound n (says unit said) h = All-cons (IsEntry world) _ [] (record { target = h.0; order = h.1 }) (All-nil (IsEntry world))
+  entry_sound n (says unit order_value) h = All-cons (IsEntry world) _ [] (record { target = h.0; order = h.1 }) (All-nil (IsEntry world))
 
   one_more : (t : Bool) (n : ℕ) (effect : Effect) (more : List (ℕ × Effect)) → IsEffect world effect → All (IsEntry world) (flat_map entry_of more) → All (IsEntry world) (flat_map entry_of (cond t [] ((n, effect) ∷ more)))
   one_more true n effect more h k = All-nil (IsEntry world)
   one_more false n effect more h k = All-append (IsEntry world) (entry_of (n, effect)) (flat_map entry_of more) (entry_sound n effect h) k
 
-  body_sound : (lines : List (List ℕ)) (n : ℕ) (place : Place) (given : ℕ → Bool) → IsPlace place → All (IsEntry world) (flat_map entry_of (effects world n place given lines))
+  body_sound : (lines : List (List ℕ)) (n : ℕ) (place : ReaderState) (given : ℕ → Bool) → AreRegionBasics place → All (IsEntry world) (flat_map entry_of (effects world n place given lines))
   unfolding effects
   body_sound [] n place given h = All-nil (IsEntry world)
   body_sound (line ∷ rest) n place given h =
@@ -123,16 +122,16 @@ module _ (world : WorldValue) where
       let sound = line_sound world given place line h in
       one_more (begins (codes "#END") (words line)) n s.effect (effects world (n + 1) s.place s.given rest) sound.0 (body_sound rest (n + 1) s.place s.given sound.1)
 
-rise_step : (world : WorldValue) (n m : ℕ) (effect : Effect) (rest : List EntrySaid) → m < n → ((k : ℕ) → k < n + 1 → LinesRise k rest) → LinesRise m (entry_of (n, effect) ++ rest)
+rise_step : (world : WorldValue) (n m : ℕ) (effect : Effect) (rest : List EntryValue) → m < n → ((k : ℕ) → k < n + 1 → LinesRise k rest) → LinesRise m (entry_of (n, effect) ++ rest)
 rise_step world n m nothing rest h k = k m (omega arith)
 rise_step world n m (faulty fault) rest h k = k m (omega arith)
-rise_step world n m (says unit said) rest h k = (h, k n (omega arith))
+rise_step world n m (says unit order_value) rest h k = (h, k n (omega arith))
 
 rise_test : (world : WorldValue) (t : Bool) (n m : ℕ) (effect : Effect) (more : List (ℕ × Effect)) → m < n → ((k : ℕ) → k < n + 1 → LinesRise k (flat_map entry_of more)) → LinesRise m (flat_map entry_of (cond t [] ((n, effect) ∷ more)))
 rise_test world true n m effect more h k = tt
 rise_test world false n m effect more h k = rise_step world n m effect (flat_map entry_of more) h k
 
-body_rises : (world : WorldValue) (lines : List (List ℕ)) (n m : ℕ) (place : Place) (given : ℕ → Bool) → m < n → LinesRise m (flat_map entry_of (effects world n place given lines))
+body_rises : (world : WorldValue) (lines : List (List ℕ)) (n m : ℕ) (place : ReaderState) (given : ℕ → Bool) → m < n → LinesRise m (flat_map entry_of (effects world n place given lines))
 unfolding effects
 body_rises world [] n m place given h = tt
 body_rises world (line ∷ rest) n m place given h =
@@ -143,7 +142,7 @@ abbrev HoldsOf : {X : Type 0} → (X → Type 0) → Result X MailFault → Type
 HoldsOf P (Ok x) = P x
 HoldsOf P (Err e) = Unit {0}
 
-abbrev IsHeaded : Headed → Type 0
+abbrev IsHeaded : HeaderValue → Type 0
 IsHeaded h = IsWithin last_faction h.faction × (0 < h.next)
 
 faction_within : (ws : List WordText) (n : ℕ) → faction_of ws ≡ Some n → IsWithin last_faction n
@@ -155,7 +154,7 @@ line_headed : (n : ℕ) (rest : List (List ℕ)) (f : Option ℕ) → ((k : ℕ)
 line_headed n rest None h = tt
 line_headed n rest (Some k) h = (h k refl, omega arith)
 
-test_headed : (t : Bool) (a b : Result Headed MailFault) → HoldsOf IsHeaded a → HoldsOf IsHeaded b → HoldsOf IsHeaded (cond t a b)
+test_headed : (t : Bool) (a b : Result HeaderValue MailFault) → HoldsOf IsHeaded a → HoldsOf IsHeaded b → HoldsOf IsHeaded (cond t a b)
 test_headed true a b h k = h
 test_headed false a b h k = k
 
@@ -164,7 +163,7 @@ unfolding header_from
 header_sound [] n = tt
 header_sound (line ∷ rest) n = test_headed (begins (codes "#ATLANTIS") (words line)) _ _ (line_headed n rest (faction_of (words line)) (faction_within (words line))) (header_sound rest (n + 1))
 
-behind_sound : (world : WorldValue) (r : Result Headed MailFault) → HoldsOf IsHeaded r → HoldsOf (IsReading world) (behind_header world r)
+behind_sound : (world : WorldValue) (r : Result HeaderValue MailFault) → HoldsOf IsHeaded r → HoldsOf (IsReading world) (after_header world r)
 behind_sound world (Err fault) h = tt
 behind_sound world (Ok head) h = record { faction = h.0; entries = body_sound world head.rest head.next Nowhere no_alias tt; lines = body_rises world head.rest head.next 0 Nowhere no_alias h.1 }
 

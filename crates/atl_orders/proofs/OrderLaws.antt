@@ -10,19 +10,21 @@ use Rattle.std.proofs.lemmas.List.Quantifiers.{position-Some}
 use Rattle.atl_orders.specs.Limits.{last_alias, most_number}
 use Rattle.atl_tables.specs.Names.{name_ok}
 use Rattle.atl_tables.specs.Worlds.{WorldValue}
-use Rattle.atl_tables.specs.Lookup.{name_of, place_named}
+use Rattle.atl_tables.specs.Lookup.{index_named, name_of}
 use Rattle.atl_orders.specs.declared.order.UnitRef.{UnitRef}
 use Rattle.atl_orders.specs.declared.order.NameKind.{NameKind}
 use Rattle.atl_orders.specs.declared.fault.LineFault.{LineFault}
 use Rattle.atl_orders.specs.declared.fault.LineFault.TheVariants.{BadNumber, UnknownThing, BadAlias, BadName}
 use Rattle.atl_orders.specs.declared.verb.Verb.{Verb}
-use Rattle.atl_orders.specs.declared.verb.Verb.TheVariants as verbs
 use Rattle.atl_orders.specs.Words.{WordText, is_word, number_of}
 use Rattle.atl_tables.specs.Steps.{◌>>=◌}
-use Rattle.atl_orders.specs.Operands.{or_fault, not_zero, word_at, count_at, number_at, alias_at, unit_at, item_at, amount_of_item_at, skill_at, kind_at, direction_at, numbered, named_new, and_then_units, units_of, some_units_at}
-use Rattle.atl_orders.specs.declared.order.Order.TheVariants as orders
-use Rattle.atl_orders.specs.Orders.{Said, kind_of_name, form_at, name_at, guard_at, enter_at, promote_at, give_at, pay_at, transfer_at, sell_at, buy_at, recruit_at, quit_at, move_at, sail_at, build_at, teach_at, study_at, produce_at, said_by}
-use Rattle.atl_orders.specs.Bounds.{IsWithin, IsNumber, IsAlias, IsUnitRef, IsOrderOf}
+use Rattle.atl_orders.specs.Operands.{or_fault, not_zero, word_at, count_at, number_at, alias_at, unit_at, item_at, amount_of_item_at, skill_at, kind_at, direction_at, numbered, new_unit_ref, and_then_units, units_of, some_units_at}
+use Rattle.atl_orders.specs.declared.order.Operands.TheVariants as operands
+use Rattle.atl_orders.specs.declared.verb.Shape.{Shape}
+use Rattle.atl_orders.specs.declared.verb.Shape.TheVariants as shapes
+use Rattle.atl_orders.specs.Verbs.{row_of}
+use Rattle.atl_orders.specs.Orders.{OperandsValue, OrderValue, kind_of_name, read_alias, read_flag, read_number, read_unit, read_units, read_unit_and_number, read_unit_and_goods, read_goods, read_name, read_direction, read_kind, read_skill, read_item, read_operands, said_by}
+use Rattle.atl_orders.specs.Bounds.{IsWithin, IsNumber, IsAlias, IsUnitRef, AreOperandsOf, IsOrderOf}
 
 -- what holds of a value that was read
 abbrev pub Holds : {X : Type 0} → (X → Type 0) → Result X LineFault → Type 0
@@ -78,10 +80,10 @@ count_holds most fault (w ∷ ws) = after (IsWithin most) _ (or_fault fault (not
 
 -- ---- units
 
-abbrev Named : Type 0
-Named = UnitRef × List WordText
+abbrev UnitRead : Type 0
+UnitRead = UnitRef × List WordText
 
-unit_holds : (ws : List WordText) → Holds (λ (x : Named). IsUnitRef x.0) (unit_at ws)
+unit_holds : (ws : List WordText) → Holds (λ (x : UnitRead). IsUnitRef x.0) (unit_at ws)
 unfolding unit_at
 unit_holds [] = tt
 unit_holds (w ∷ ws) =
@@ -95,7 +97,7 @@ and_then unit units h k = after IsUnitRef _ unit _ h (λ u p. after (All IsUnitR
 numbered_holds : (w : WordText) → Holds IsUnitRef (numbered w)
 numbered_holds w = after IsNumber _ (or_fault BadNumber (not_zero (number_of most_number w.bytes))) _ (word_number most_number BadNumber w) (λ n h. h)
 
-named_holds : (w : WordText) → Holds IsUnitRef (named_new w)
+named_holds : (w : WordText) → Holds IsUnitRef (new_unit_ref w)
 named_holds w = after IsAlias _ (or_fault BadAlias (not_zero (number_of last_alias w.bytes))) _ (word_number last_alias BadAlias w) (λ n h. h)
 
 units_hold : (ws : List WordText) → Holds (All IsUnitRef) (units_of ws)
@@ -104,12 +106,12 @@ units_hold [] = All-nil IsUnitRef
 units_hold (w ∷ []) = either _ (is_word (codes "NEW") w) _ _ tt (and_then (numbered w) (Ok []) (numbered_holds w) (All-nil IsUnitRef))
 units_hold (w ∷ v ∷ ws) =
     either _ (is_word (codes "NEW") w) _ _
-    (and_then (named_new v) (units_of ws) (named_holds v) (units_hold ws))
+    (and_then (new_unit_ref v) (units_of ws) (named_holds v) (units_hold ws))
     (and_then (numbered w) (units_of (v ∷ ws)) (numbered_holds w) (units_hold (v ∷ ws)))
 
 -- ---- things of the world
 
-place_within : {A : Type 0} (title : A → List ℕ) (things : List A) (word : List ℕ) (quoted : Bool) (i : ℕ) → place_named title things word quoted ≡ Some i → i < length things
+place_within : {A : Type 0} (title : A → List ℕ) (things : List A) (word : List ℕ) (quoted : Bool) (i : ℕ) → index_named title things word quoted ≡ Some i → i < length things
 place_within title [] word quoted i h = cc
 place_within title (x ∷ xs) word quoted i h = (position-Some (λ thing. str_eq_ignore_ascii_case (title thing) (name_of word quoted)) (x ∷ xs) i x h).0
 
@@ -137,88 +139,32 @@ unfolding kind_at
 kind_holds world [] = tt
 kind_holds world (w ∷ ws) = found _ UnknownThing _ (λ i h. place_within _ world.kinds w.bytes w.quoted i h)
 
--- ---- orders
+-- ---- what the words after a verb name
 
-abbrev pub Sound : WorldValue → Result Said LineFault → Type 0
+abbrev AreSound : WorldValue → Result OperandsValue LineFault → Type 0
+AreSound world r = Holds (AreOperandsOf world) r
+
+abbrev pub Sound : WorldValue → Result OrderValue LineFault → Type 0
 Sound world r = Holds (IsOrderOf world) r
 
 module _ (world : WorldValue) where
-  form_sound : (ws : List WordText) → Sound world (form_at ws)
-  unfolding form_at
-  form_sound ws = after _ (IsOrderOf world) (alias_at ws) _ (count_holds last_alias BadAlias ws) (λ n h. h)
+  alias_sound : (ws : List WordText) → AreSound world (read_alias ws)
+  unfolding read_alias
+  alias_sound ws = after _ (AreOperandsOf world) (alias_at ws) _ (count_holds last_alias BadAlias ws) (λ n h. h)
 
-  named_sound : (t : Bool) (what : NameKind) (bytes : List ℕ) → name_ok bytes ≡ t → Sound world (cond t (Ok (orders.Name what bytes)) (Err BadName))
-  named_sound true what bytes h = h
-  named_sound false what bytes h = tt
+  flag_sound : (ws : List WordText) → AreSound world (read_flag ws)
+  unfolding read_flag
+  flag_sound ws =
+      after _ (AreOperandsOf world) (word_at ws) _ (anything (word_at ws)) (λ w _.
+      after _ (AreOperandsOf world) (or_fault BadNumber (number_of 1 w.0.bytes)) _ (anything (or_fault BadNumber (number_of 1 w.0.bytes))) (λ n _. tt))
 
-  name_sound : (ws : List WordText) → Sound world (name_at ws)
-  unfolding name_at
-  name_sound ws =
-      after _ (IsOrderOf world) (word_at ws) _ (anything (word_at ws)) (λ w _.
-      after _ (IsOrderOf world) (or_fault UnknownThing (kind_of_name w.0)) _ (anything (or_fault UnknownThing (kind_of_name w.0))) (λ what _.
-      after _ (IsOrderOf world) (word_at w.1) _ (anything (word_at w.1)) (λ v _.
-      named_sound (name_ok (name_of v.0.bytes v.0.quoted)) what (name_of v.0.bytes v.0.quoted) refl)))
+  number_sound : (ws : List WordText) → AreSound world (read_number ws)
+  unfolding read_number
+  number_sound ws = after _ (AreOperandsOf world) (number_at ws) _ (count_holds most_number BadNumber ws) (λ n h. h)
 
-  guard_sound : (ws : List WordText) → Sound world (guard_at ws)
-  unfolding guard_at
-  guard_sound ws =
-      after _ (IsOrderOf world) (word_at ws) _ (anything (word_at ws)) (λ w _.
-      after _ (IsOrderOf world) (or_fault BadNumber (number_of 1 w.0.bytes)) _ (anything (or_fault BadNumber (number_of 1 w.0.bytes))) (λ n _. tt))
-
-  enter_sound : (ws : List WordText) → Sound world (enter_at ws)
-  unfolding enter_at
-  enter_sound ws = after _ (IsOrderOf world) (number_at ws) _ (count_holds most_number BadNumber ws) (λ n h. h)
-
-  promote_sound : (ws : List WordText) → Sound world (promote_at ws)
-  unfolding promote_at
-  promote_sound ws = after _ (IsOrderOf world) (unit_at ws) _ (unit_holds ws) (λ u h. h)
-
-  give_sound : (ws : List WordText) → Sound world (give_at world ws)
-  unfolding give_at
-  give_sound ws =
-      after _ (IsOrderOf world) (unit_at ws) _ (unit_holds ws) (λ to h.
-      after _ (IsOrderOf world) (amount_of_item_at world to.1) _ (goods_hold world to.1) (λ goods k. (h, k.0, k.1)))
-
-  pay_sound : (ws : List WordText) → Sound world (pay_at ws)
-  unfolding pay_at
-  pay_sound ws =
-      after _ (IsOrderOf world) (unit_at ws) _ (unit_holds ws) (λ to h.
-      after _ (IsOrderOf world) (number_at to.1) _ (count_holds most_number BadNumber to.1) (λ amount k. (h, k)))
-
-  transfer_sound : (ws : List WordText) → Sound world (transfer_at ws)
-  unfolding transfer_at
-  transfer_sound ws =
-      after _ (IsOrderOf world) (unit_at ws) _ (unit_holds ws) (λ to h.
-      after _ (IsOrderOf world) (number_at to.1) _ (count_holds most_number BadNumber to.1) (λ men k. (h, k)))
-
-  sell_sound : (ws : List WordText) → Sound world (sell_at world ws)
-  unfolding sell_at
-  sell_sound ws = after _ (IsOrderOf world) (amount_of_item_at world ws) _ (goods_hold world ws) (λ goods h. h)
-
-  buy_sound : (ws : List WordText) → Sound world (buy_at world ws)
-  unfolding buy_at
-  buy_sound ws = after _ (IsOrderOf world) (amount_of_item_at world ws) _ (goods_hold world ws) (λ goods h. h)
-
-  recruit_sound : (ws : List WordText) → Sound world (recruit_at ws)
-  unfolding recruit_at
-  recruit_sound ws = after _ (IsOrderOf world) (number_at ws) _ (count_holds most_number BadNumber ws) (λ n h. h)
-
-  quit_sound : (ws : List WordText) → Sound world (quit_at ws)
-  unfolding quit_at
-  quit_sound ws = after _ (IsOrderOf world) (number_at ws) _ (count_holds most_number BadNumber ws) (λ n h. h)
-
-  move_sound : (ws : List WordText) → Sound world (move_at ws)
-  unfolding move_at
-  move_sound ws = after _ (IsOrderOf world) (direction_at ws) _ (anything (direction_at ws)) (λ d _. tt)
-
-  sail_sound : (ws : List WordText) → Sound world (sail_at ws)
-  unfolding sail_at
-  sail_sound ws = after _ (IsOrderOf world) (direction_at ws) _ (anything (direction_at ws)) (λ d _. tt)
-
-  build_sound : (ws : List WordText) → Sound world (build_at world ws)
-  unfolding build_at
-  build_sound [] = tt
-  build_sound (w ∷ ws) = after _ (IsOrderOf world) (kind_at world (w ∷ ws)) _ (kind_holds world (w ∷ ws)) (λ kind h. h)
+  unit_sound : (ws : List WordText) → AreSound world (read_unit ws)
+  unfolding read_unit
+  unit_sound ws = after _ (AreOperandsOf world) (unit_at ws) _ (unit_holds ws) (λ u h. h)
 
   abbrev Units : List UnitRef → Type 0
   Units units = (0 < length units) × All IsUnitRef units
@@ -232,40 +178,74 @@ module _ (world : WorldValue) where
   some_hold (w ∷ []) = either Units (is_word (codes "NEW") w) _ _ tt (more_units (numbered w) (Ok []) (numbered_holds w) (All-nil IsUnitRef))
   some_hold (w ∷ v ∷ ws) =
       either Units (is_word (codes "NEW") w) _ _
-      (more_units (named_new v) (units_of ws) (named_holds v) (units_hold ws))
+      (more_units (new_unit_ref v) (units_of ws) (named_holds v) (units_hold ws))
       (more_units (numbered w) (units_of (v ∷ ws)) (numbered_holds w) (units_hold (v ∷ ws)))
 
-  teach_sound : (ws : List WordText) → Sound world (teach_at ws)
-  unfolding teach_at
-  teach_sound ws = after Units (IsOrderOf world) (some_units_at ws) _ (some_hold ws) (λ us h. h)
+  units_sound : (ws : List WordText) → AreSound world (read_units ws)
+  unfolding read_units
+  units_sound ws = after Units (AreOperandsOf world) (some_units_at ws) _ (some_hold ws) (λ us h. h)
 
-  study_sound : (ws : List WordText) → Sound world (study_at world ws)
-  unfolding study_at
-  study_sound ws = after _ (IsOrderOf world) (skill_at world ws) _ (skill_holds world ws) (λ skill h. h)
+  unit_and_number_sound : (ws : List WordText) → AreSound world (read_unit_and_number ws)
+  unfolding read_unit_and_number
+  unit_and_number_sound ws =
+      after _ (AreOperandsOf world) (unit_at ws) _ (unit_holds ws) (λ to h.
+      after _ (AreOperandsOf world) (number_at to.1) _ (count_holds most_number BadNumber to.1) (λ n k. (h, k)))
 
-  produce_sound : (ws : List WordText) → Sound world (produce_at world ws)
-  unfolding produce_at
-  produce_sound ws = after _ (IsOrderOf world) (item_at world ws) _ (item_holds world ws) (λ item h. h)
+  unit_and_goods_sound : (ws : List WordText) → AreSound world (read_unit_and_goods world ws)
+  unfolding read_unit_and_goods
+  unit_and_goods_sound ws =
+      after _ (AreOperandsOf world) (unit_at ws) _ (unit_holds ws) (λ to h.
+      after _ (AreOperandsOf world) (amount_of_item_at world to.1) _ (goods_hold world to.1) (λ goods k. (h, k.0, k.1)))
+
+  goods_sound : (ws : List WordText) → AreSound world (read_goods world ws)
+  unfolding read_goods
+  goods_sound ws = after _ (AreOperandsOf world) (amount_of_item_at world ws) _ (goods_hold world ws) (λ goods h. h)
+
+  named_sound : (t : Bool) (what : NameKind) (bytes : List ℕ) → name_ok bytes ≡ t → AreSound world (cond t (Ok (operands.Name what bytes)) (Err BadName))
+  named_sound true what bytes h = h
+  named_sound false what bytes h = tt
+
+  name_sound : (ws : List WordText) → AreSound world (read_name ws)
+  unfolding read_name
+  name_sound ws =
+      after _ (AreOperandsOf world) (word_at ws) _ (anything (word_at ws)) (λ w _.
+      after _ (AreOperandsOf world) (or_fault UnknownThing (kind_of_name w.0)) _ (anything (or_fault UnknownThing (kind_of_name w.0))) (λ what _.
+      after _ (AreOperandsOf world) (word_at w.1) _ (anything (word_at w.1)) (λ v _.
+      named_sound (name_ok (name_of v.0.bytes v.0.quoted)) what (name_of v.0.bytes v.0.quoted) refl)))
+
+  direction_sound : (ws : List WordText) → AreSound world (read_direction ws)
+  unfolding read_direction
+  direction_sound ws = after _ (AreOperandsOf world) (direction_at ws) _ (anything (direction_at ws)) (λ d _. tt)
+
+  kind_sound : (ws : List WordText) → AreSound world (read_kind world ws)
+  unfolding read_kind
+  kind_sound [] = tt
+  kind_sound (w ∷ ws) = after _ (AreOperandsOf world) (kind_at world (w ∷ ws)) _ (kind_holds world (w ∷ ws)) (λ kind h. h)
+
+  skill_sound : (ws : List WordText) → AreSound world (read_skill world ws)
+  unfolding read_skill
+  skill_sound ws = after _ (AreOperandsOf world) (skill_at world ws) _ (skill_holds world ws) (λ skill h. h)
+
+  item_sound : (ws : List WordText) → AreSound world (read_item world ws)
+  unfolding read_item
+  item_sound ws = after _ (AreOperandsOf world) (item_at world ws) _ (item_holds world ws) (λ item h. h)
+
+  operands_sound : (shape : Shape) (ws : List WordText) → AreSound world (read_operands world shape ws)
+  operands_sound shapes.Nothing ws = tt
+  operands_sound shapes.Alias ws = alias_sound ws
+  operands_sound shapes.Flag ws = flag_sound ws
+  operands_sound shapes.Number ws = number_sound ws
+  operands_sound shapes.Unit ws = unit_sound ws
+  operands_sound shapes.Units ws = units_sound ws
+  operands_sound shapes.UnitAndNumber ws = unit_and_number_sound ws
+  operands_sound shapes.UnitAndGoods ws = unit_and_goods_sound ws
+  operands_sound shapes.Goods ws = goods_sound ws
+  operands_sound shapes.Name ws = name_sound ws
+  operands_sound shapes.Direction ws = direction_sound ws
+  operands_sound shapes.Kind ws = kind_sound ws
+  operands_sound shapes.Skill ws = skill_sound ws
+  operands_sound shapes.Item ws = item_sound ws
 
   pub said_sound : (verb : Verb) (ws : List WordText) → Sound world (said_by world verb ws)
-  said_sound verbs.Form ws = form_sound ws
-  said_sound verbs.Name ws = name_sound ws
-  said_sound verbs.Guard ws = guard_sound ws
-  said_sound verbs.Enter ws = enter_sound ws
-  said_sound verbs.Leave ws = tt
-  said_sound verbs.Promote ws = promote_sound ws
-  said_sound verbs.Give ws = give_sound ws
-  said_sound verbs.Pay ws = pay_sound ws
-  said_sound verbs.Transfer ws = transfer_sound ws
-  said_sound verbs.Sell ws = sell_sound ws
-  said_sound verbs.Buy ws = buy_sound ws
-  said_sound verbs.Tax ws = tt
-  said_sound verbs.Recruit ws = recruit_sound ws
-  said_sound verbs.Quit ws = quit_sound ws
-  said_sound verbs.Move ws = move_sound ws
-  said_sound verbs.Sail ws = sail_sound ws
-  said_sound verbs.Build ws = build_sound ws
-  said_sound verbs.Teach ws = teach_sound ws
-  said_sound verbs.Study ws = study_sound ws
-  said_sound verbs.Produce ws = produce_sound ws
-  said_sound verbs.Work ws = tt
+  unfolding said_by
+  said_sound verb ws = after (AreOperandsOf world) (IsOrderOf world) (read_operands world (row_of verb).shape ws) _ (operands_sound (row_of verb).shape ws) (λ os h. h)

@@ -9,13 +9,13 @@ use Rattle.atl_orders.specs.declared.fault.LineFault.TheVariants.{BadByte, EndAl
 use Rattle.atl_orders.specs.declared.verb.Verb.{Verb}
 use Rattle.atl_orders.specs.declared.reading.Keyword.{Keyword}
 use Rattle.atl_orders.specs.declared.reading.Keyword.TheVariants as keywords
-use Rattle.atl_orders.specs.declared.reading.Place.{Place}
-use Rattle.atl_orders.specs.declared.reading.Place.TheVariants.{Nowhere, At, Forming, Skipping}
+use Rattle.atl_orders.specs.declared.reading.ReaderState.{ReaderState}
+use Rattle.atl_orders.specs.declared.reading.ReaderState.TheVariants.{Nowhere, At, Forming, Skipping}
 use Rattle.atl_orders.specs.Words.{WordText, words, begins}
 use Rattle.atl_orders.specs.Operands.{number_at, alias_at}
-use Rattle.atl_orders.specs.Orders.{Said, said_by}
-use Rattle.atl_orders.specs.Reading.{is_plain, outside, Effect, nothing, faulty, keyword_of, target, order_effect, Step, unit_step, end_step, block_step, form_step, keyword_step, words_step, line_step}
-use Rattle.atl_orders.specs.Mailing.{EntrySaid, entry_of, fault_of, effects}
+use Rattle.atl_orders.specs.Orders.{OrderValue, said_by}
+use Rattle.atl_orders.specs.Reading.{is_plain, outside, Effect, nothing, faulty, keyword_of, target, order_effect, LineStep, unit_step, end_step, block_step, form_step, keyword_step, words_step, line_step}
+use Rattle.atl_orders.specs.Mailing.{EntryValue, entry_of, fault_of, effects}
 use Rattle.atl_orders.specs.Rules.{step, outer, WordsSay, unit_named, unit_faulty, block_closed, end_alone, form_nested, form_nowhere, form_faulty, form_again, form_new, order_nowhere, order_faulty, order_said, unknown, LineSays, bad_byte, no_word, some_words, BodySays, text_ended, orders_ended, one_line, entries_from, faults_from}
 
 abbrev Counted : Type 0
@@ -24,12 +24,12 @@ Counted = Result (ℕ × List WordText) LineFault
 -- ---- what the function gives fits the rules
 
 module _ (world : WorldValue) (given : ℕ → Bool) (w : WordText) (ws : List WordText) where
-  unit_fits : (place : Place) (r : Counted) → keyword_of w ≡ Some keywords.Unit → number_at ws ≡ r → WordsSay world place given w ws (unit_step given r)
+  unit_fits : (place : ReaderState) (r : Counted) → keyword_of w ≡ Some keywords.Unit → number_at ws ≡ r → WordsSay world place given w ws (unit_step given r)
   unfolding unit_step
   unit_fits place (Ok n) k h = unit_named k n.0 n.1 h refl
   unit_fits place (Err fault) k h = unit_faulty k fault h refl
 
-  end_fits : (place : Place) → keyword_of w ≡ Some keywords.End → WordsSay world place given w ws (end_step place given)
+  end_fits : (place : ReaderState) → keyword_of w ≡ Some keywords.End → WordsSay world place given w ws (end_step place given)
   unfolding end_step
   end_fits Nowhere k = end_alone k refl refl
   end_fits (At n) k = end_alone k refl refl
@@ -46,19 +46,19 @@ module _ (world : WorldValue) (given : ℕ → Bool) (w : WordText) (ws : List W
   block_fits n (Ok a) k h = given_fits n a.0 a.1 (given a.0) k h refl
   block_fits n (Err fault) k h = form_faulty k n refl fault h refl
 
-  form_fits : (place : Place) → keyword_of w ≡ Some keywords.Form → WordsSay world place given w ws (form_step place given ws)
+  form_fits : (place : ReaderState) → keyword_of w ≡ Some keywords.Form → WordsSay world place given w ws (form_step place given ws)
   unfolding form_step
   form_fits Nowhere k = form_nowhere k refl refl
   form_fits (At n) k = block_fits n (alias_at ws) k refl
   form_fits (Forming parent alias) k = form_nested k (At parent) refl refl
   form_fits (Skipping parent) k = form_nested k _ refl refl
 
-  order_fits : (place : Place) (verb : Verb) (t : Option UnitRef) (r : Result Said LineFault) → keyword_of w ≡ Some (keywords.Order verb) → target place ≡ t → said_by world verb ws ≡ r → WordsSay world place given w ws (step (order_effect t r) place given)
+  order_fits : (place : ReaderState) (verb : Verb) (t : Option UnitRef) (r : Result OrderValue LineFault) → keyword_of w ≡ Some (keywords.Order verb) → target place ≡ t → said_by world verb ws ≡ r → WordsSay world place given w ws (step (order_effect t r) place given)
   order_fits place verb None r k h e = order_nowhere verb k h refl
-  order_fits place verb (Some unit) (Ok said) k h e = order_said verb k unit h said e refl
+  order_fits place verb (Some unit) (Ok order_value) k h e = order_said verb k unit h order_value e refl
   order_fits place verb (Some unit) (Err fault) k h e = order_faulty verb k unit h fault e refl
 
-  words_fit : (place : Place) (k : Option Keyword) → keyword_of w ≡ k → WordsSay world place given w ws (keyword_step world place given k ws)
+  words_fit : (place : ReaderState) (k : Option Keyword) → keyword_of w ≡ k → WordsSay world place given w ws (keyword_step world place given k ws)
   unfolding keyword_step
   words_fit place None h = unknown h refl
   words_fit place (Some keywords.Unit) h = unit_fits place (number_at ws) h refl
@@ -66,41 +66,41 @@ module _ (world : WorldValue) (given : ℕ → Bool) (w : WordText) (ws : List W
   words_fit place (Some keywords.Form) h = form_fits place h
   words_fit place (Some (keywords.Order verb)) h = order_fits place verb (target place) (said_by world verb ws) h refl refl
 
-tested_fits : (t : Bool) (l : List WordText) (world : WorldValue) (place : Place) (given : ℕ → Bool) (line : List ℕ) → list_all is_plain line ≡ t → words line ≡ l → LineSays world place given line (cond t (words_step world place given l) (step (faulty BadByte) place given))
+tested_fits : (t : Bool) (l : List WordText) (world : WorldValue) (place : ReaderState) (given : ℕ → Bool) (line : List ℕ) → list_all is_plain line ≡ t → words line ≡ l → LineSays world place given line (cond t (words_step world place given l) (step (faulty BadByte) place given))
 unfolding words_step
 tested_fits false l world place given line a b = bad_byte a refl
 tested_fits true [] world place given line a b = no_word a b refl
 tested_fits true (w ∷ ws) world place given line a b = some_words a w ws b (words_fit world given w ws place (keyword_of w) refl)
 
-pub line_fits : (world : WorldValue) (place : Place) (given : ℕ → Bool) (line : List ℕ) → LineSays world place given line (line_step world place given line)
+pub line_fits : (world : WorldValue) (place : ReaderState) (given : ℕ → Bool) (line : List ℕ) → LineSays world place given line (line_step world place given line)
 unfolding line_step
 line_fits world place given line = tested_fits (list_all is_plain line) (words line) world place given line refl refl
 
 -- ---- and nothing else does
 
 module _ (given : ℕ → Bool) where
-  closed : (place out : Place) → outer place ≡ Some out → step nothing out given ≡ end_step place given
+  closed : (place out : ReaderState) → outer place ≡ Some out → step nothing out given ≡ end_step place given
   unfolding end_step
   closed Nowhere out h = cc
   closed (At n) out h = cc
   closed (Forming parent alias) out h = let e : out ≡ At parent = cc in ap (λ p. step nothing p given) e
   closed (Skipping parent) out h = let e : out ≡ outside parent = cc in ap (λ p. step nothing p given) e
 
-  alone : (place : Place) → outer place ≡ None → step (faulty EndAlone) place given ≡ end_step place given
+  alone : (place : ReaderState) → outer place ≡ None → step (faulty EndAlone) place given ≡ end_step place given
   unfolding end_step
   alone Nowhere h = refl
   alone (At n) h = refl
   alone (Forming parent alias) h = cc
   alone (Skipping parent) h = cc
 
-  nested : (place out : Place) (ws : List WordText) → outer place ≡ Some out → step (faulty NestedForm) place given ≡ form_step place given ws
+  nested : (place out : ReaderState) (ws : List WordText) → outer place ≡ Some out → step (faulty NestedForm) place given ≡ form_step place given ws
   unfolding form_step
   nested Nowhere out ws h = cc
   nested (At n) out ws h = cc
   nested (Forming parent alias) out ws h = refl
   nested (Skipping parent) out ws h = refl
 
-words_only : (world : WorldValue) (place : Place) (given : ℕ → Bool) (w : WordText) (ws : List WordText) (s : Step) → WordsSay world place given w ws s → s ≡ keyword_step world place given (keyword_of w) ws
+words_only : (world : WorldValue) (place : ReaderState) (given : ℕ → Bool) (w : WordText) (ws : List WordText) (s : LineStep) → WordsSay world place given w ws s → s ≡ keyword_step world place given (keyword_of w) ws
 unfolding keyword_step unit_step form_step block_step
 words_only world place given w ws s (unit_named k n rest h e) = rw (k, h) e
 words_only world place given w ws s (unit_faulty k fault h e) = rw (k, h) e
@@ -113,10 +113,10 @@ words_only world place given w ws s (form_again k n p alias rest h g e) = rw (k,
 words_only world place given w ws s (form_new k n p alias rest h g e) = rw (k, p, h, g) e
 words_only world place given w ws s (order_nowhere verb k t e) = rw (k, t) e
 words_only world place given w ws s (order_faulty verb k unit t fault h e) = rw (k, t, h) e
-words_only world place given w ws s (order_said verb k unit t said h e) = rw (k, t, h) e
+words_only world place given w ws s (order_said verb k unit t order_value h e) = rw (k, t, h) e
 words_only world place given w ws s (unknown k e) = rw k e
 
-pub line_only : (world : WorldValue) (place : Place) (given : ℕ → Bool) (line : List ℕ) (s : Step) → LineSays world place given line s → s ≡ line_step world place given line
+pub line_only : (world : WorldValue) (place : ReaderState) (given : ℕ → Bool) (line : List ℕ) (s : LineStep) → LineSays world place given line s → s ≡ line_step world place given line
 unfolding line_step words_step
 line_only world place given line s (bad_byte a e) = rw a e
 line_only world place given line s (no_word a b e) = rw (a, b) e
@@ -124,20 +124,20 @@ line_only world place given line s (some_words a w ws b r) = rw (a, b) (words_on
 
 -- ---- all lines
 
-body_test : (t : Bool) (world : WorldValue) (n : ℕ) (place : Place) (given : ℕ → Bool) (line : List ℕ) (rest : List (List ℕ)) (s : Step) (more : List (ℕ × Effect)) → begins (codes "#END") (words line) ≡ t → LineSays world place given line s
+body_test : (t : Bool) (world : WorldValue) (n : ℕ) (place : ReaderState) (given : ℕ → Bool) (line : List ℕ) (rest : List (List ℕ)) (s : LineStep) (more : List (ℕ × Effect)) → begins (codes "#END") (words line) ≡ t → LineSays world place given line s
     → BodySays world (n + 1) s.place s.given rest (flat_map entry_of more) (flat_map fault_of more)
     → BodySays world n place given (line ∷ rest) (flat_map entry_of (cond t [] ((n, s.effect) ∷ more))) (flat_map fault_of (cond t [] ((n, s.effect) ∷ more)))
 body_test true world n place given line rest s more h r b = orders_ended n place given line rest h
 body_test false world n place given line rest s more h r b = one_line n place given line rest h s r _ _ b
 
-pub body_fits : (world : WorldValue) (n : ℕ) (place : Place) (given : ℕ → Bool) (lines : List (List ℕ)) → BodySays world n place given lines (entries_from world n place given lines) (faults_from world n place given lines)
+pub body_fits : (world : WorldValue) (n : ℕ) (place : ReaderState) (given : ℕ → Bool) (lines : List (List ℕ)) → BodySays world n place given lines (entries_from world n place given lines) (faults_from world n place given lines)
 unfolding effects
 body_fits world n place given [] = text_ended n place given
 body_fits world n place given (line ∷ rest) =
     let s = line_step world place given line in
     body_test (begins (codes "#END") (words line)) world n place given line rest s _ refl (line_fits world place given line) (body_fits world (n + 1) s.place s.given rest)
 
-only_body : (world : WorldValue) {n : ℕ} {place : Place} {given : ℕ → Bool} {lines : List (List ℕ)} {entries : List EntrySaid} {faults : List FaultyLine} → BodySays world n place given lines entries faults → (entries ≡ entries_from world n place given lines) × (faults ≡ faults_from world n place given lines)
+only_body : (world : WorldValue) {n : ℕ} {place : ReaderState} {given : ℕ → Bool} {lines : List (List ℕ)} {entries : List EntryValue} {faults : List FaultyLine} → BodySays world n place given lines entries faults → (entries ≡ entries_from world n place given lines) × (faults ≡ faults_from world n place given lines)
 unfolding effects
 only_body world (text_ended n place given) = (refl, refl)
 only_body world (orders_ended n place given line rest h) = rw h (refl, refl)
@@ -146,5 +146,5 @@ only_body world (one_line n place given line rest h s r entries faults b) =
     let more = only_body world b in
     rw (h, ← e) (ap (λ l. entry_of (n, s.effect) ++ l) more.0, ap (λ l. fault_of (n, s.effect) ++ l) more.1)
 
-pub body_only : (world : WorldValue) (n : ℕ) (place : Place) (given : ℕ → Bool) (lines : List (List ℕ)) (entries : List EntrySaid) (faults : List FaultyLine) → BodySays world n place given lines entries faults → (entries ≡ entries_from world n place given lines) × (faults ≡ faults_from world n place given lines)
+pub body_only : (world : WorldValue) (n : ℕ) (place : ReaderState) (given : ℕ → Bool) (lines : List (List ℕ)) (entries : List EntryValue) (faults : List FaultyLine) → BodySays world n place given lines entries faults → (entries ≡ entries_from world n place given lines) × (faults ≡ faults_from world n place given lines)
 body_only world n place given lines entries faults b = only_body world b

@@ -6,17 +6,17 @@ use Rattle.atl_tables.specs.Worlds.{WorldValue}
 use Rattle.atl_orders.specs.declared.fault.MailFault.{MailFault}
 use Rattle.atl_orders.specs.declared.fault.MailFault.TheVariants.{TooLong}
 use Rattle.atl_orders.specs.Lines.{lines}
-use Rattle.atl_orders.specs.Mailing.{Headed, header_from, Reading, behind_header, reading, IsMailingOf}
+use Rattle.atl_orders.specs.Mailing.{HeaderValue, header_from, Reading, after_header, reading, IsMailingOf}
 
 one_reading : (a b : Reading) → ◌≡◌ {A = Result Reading MailFault} (Ok a) (Ok b) → a ≡ b
 one_reading a b e = cc
 
 module _ (world : WorldValue) (text : List ℕ) (r : Reading) where
-  sent : (headed : Result Headed MailFault) → header_from 1 (lines text) ≡ headed → length text ≤ most_bytes → behind_header world headed ≡ Ok r → IsMailingOf r.faction text
+  sent : (header_value : Result HeaderValue MailFault) → header_from 1 (lines text) ≡ header_value → length text ≤ most_bytes → after_header world header_value ≡ Ok r → IsMailingOf r.faction text
   sent (Ok h) is short e = record { short = short; header = (h.next, h.rest, is ∙ ap (λ n. Ok (record { faction = n; next = h.next; rest = h.rest })) (ap (λ (x : Reading). x.faction) (one_reading _ r e))) }
   sent (Err fault) is short e = cc
 
-  tested : (long : Bool) → nat_lt most_bytes (length text) ≡ long → cond long (Err TooLong) (behind_header world (header_from 1 (lines text))) ≡ Ok r → IsMailingOf r.faction text
+  tested : (long : Bool) → nat_lt most_bytes (length text) ≡ long → cond long (Err TooLong) (after_header world (header_from 1 (lines text))) ≡ Ok r → IsMailingOf r.faction text
   tested true is e = cc
   tested false is e = sent (header_from 1 (lines text)) refl (grind (arith, nat_tests)) e
 

@@ -5,12 +5,12 @@ use Rattle.std.proofs.lemmas.List.Elements.{All-nil, All-cons, All-head, All-tai
 use Rattle.atl_tables.specs.Worlds.{WorldValue}
 use Rattle.atl_orders.specs.declared.fault.MailFault.{MailFault}
 use Rattle.atl_orders.specs.declared.fault.MailFault.TheVariants.{TooLong, NoHeader}
-use Rattle.atl_orders.specs.declared.reading.Place.TheVariants.{Nowhere}
+use Rattle.atl_orders.specs.declared.reading.ReaderState.TheVariants.{Nowhere}
 use Rattle.atl_orders.specs.Limits.{most_bytes}
 use Rattle.atl_orders.specs.Aliasing.{no_alias}
 use Rattle.atl_orders.specs.Lines.{lines}
 use Rattle.atl_orders.specs.Words.{words}
-use Rattle.atl_orders.specs.Mailing.{faction_of, header_line, header_from, Reading, behind_header, reading}
+use Rattle.atl_orders.specs.Mailing.{faction_of, header_line, header_from, Reading, after_header, reading}
 use Rattle.atl_orders.specs.Rules.{is_header, HaveNoHeader, HaveHeader, TextSays, too_long, no_header, bad_header, mailing}
 use Rattle.atl_orders.proofs.RuleLaws.{body_fits, body_only}
 
@@ -63,16 +63,16 @@ numbered : (k : ℕ) → k + 1 + 1 ≡ k + 2
 numbered k = omega arith
 
 module _ (world : WorldValue) (text : List ℕ) where
-  headed_fits : (o : Option ℕ) → length text ≤ most_bytes → (before : List (List ℕ)) (header : List ℕ) (behind : List (List ℕ)) → HaveHeader (lines text) before header behind → faction_of (words header) ≡ o → TextSays world text (behind_header world (header_line (length before + 1) behind o))
+  headed_fits : (o : Option ℕ) → length text ≤ most_bytes → (before : List (List ℕ)) (header : List ℕ) (behind : List (List ℕ)) → HaveHeader (lines text) before header behind → faction_of (words header) ≡ o → TextSays world text (after_header world (header_line (length before + 1) behind o))
   headed_fits None s before header behind is f = bad_header s before header behind is f refl
   headed_fits (Some faction) s before header behind is f =
       rw (numbered (length before)) (mailing s before header behind is faction f _ _ (body_fits world (length before + 2) Nowhere no_alias behind) refl)
 
-  found_fits : length text ≤ most_bytes → Found 1 (lines text) → TextSays world text (behind_header world (header_from 1 (lines text)))
+  found_fits : length text ≤ most_bytes → Found 1 (lines text) → TextSays world text (after_header world (header_from 1 (lines text)))
   found_fits s (none a e) = rw e (no_header s a refl)
   found_fits s (one before header behind is e) = rw e (headed_fits (faction_of (words header)) s before header behind is refl)
 
-  sized_fits : (t : Bool) → nat_lt most_bytes (length text) ≡ t → TextSays world text (cond t (Err TooLong) (behind_header world (header_from 1 (lines text))))
+  sized_fits : (t : Bool) → nat_lt most_bytes (length text) ≡ t → TextSays world text (cond t (Err TooLong) (after_header world (header_from 1 (lines text))))
   sized_fits true h = too_long (grind (arith, nat_tests)) refl
   sized_fits false h = found_fits (grind (arith, nat_tests)) (found 1 (lines text))
 

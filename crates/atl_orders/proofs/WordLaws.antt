@@ -13,7 +13,7 @@ use Rattle.std.proofs.Math.Nat.{min_comm}
 use Rattle.atl_tables.specs.Letters.{quote}
 use Rattle.atl_orders.specs.Letters.{semicolon}
 use Rattle.atl_orders.specs.Words.{is_blank, is_quote, ends_word, words_after, words}
-use Rattle.atl_orders.specs.Standing.{StandsIn, EndsWith, EndsAt}
+use Rattle.atl_orders.specs.Standing.{IsPartOf, EndsWith, EndsAt}
 
 -- ---- the place of the first that passes, or the length
 
@@ -100,7 +100,7 @@ ends_behind line n = record { front = take n line; whole = sym (take-append-drop
 pub ends_further : (line mid rest : List ℕ) → EndsWith line mid → EndsWith mid rest → EndsWith line rest
 ends_further line mid rest a b = record { front = a.front ++ b.front; whole = a.whole ∙ ap (λ l. a.front ++ l) b.whole ∙ sym (append_assoc a.front b.front rest) }
 
-pub stands_further : (line mid bytes : List ℕ) (behind : ℕ) → EndsWith line mid → StandsIn mid bytes behind → StandsIn line bytes behind
+pub stands_further : (line mid bytes : List ℕ) (behind : ℕ) → EndsWith line mid → IsPartOf mid bytes behind → IsPartOf line bytes behind
 stands_further line mid bytes behind a b =
     record { front = a.front ++ b.front; back = b.back; whole = a.whole ∙ ap (λ l. a.front ++ l) b.whole ∙ sym (append_assoc a.front b.front (bytes ++ b.back)); behind_is = b.behind_is }
 
@@ -111,7 +111,7 @@ ends_at line n = rw (take_rest line n) (ends_behind line n)
 pub ends_shorter : (line rest : List ℕ) → EndsWith line rest → length rest ≤ length line
 ends_shorter line rest e = omega (arith, ap length e.whole, length-append e.front rest)
 
-pub stands_shorter : (line bytes : List ℕ) (behind : ℕ) → StandsIn line bytes behind → (length bytes ≤ behind) × (behind ≤ length line)
+pub stands_shorter : (line bytes : List ℕ) (behind : ℕ) → IsPartOf line bytes behind → (length bytes ≤ behind) × (behind ≤ length line)
 stands_shorter line bytes behind s =
     let a : length line ≡ length s.front + length (bytes ++ s.back) = ap length s.whole ∙ length-append s.front (bytes ++ s.back) in
     let b : length (bytes ++ s.back) ≡ length bytes + length s.back = length-append bytes s.back in
@@ -127,7 +127,7 @@ place_behind text place line rest a e = record {
 }
 
 -- the span of a word has its bytes
-pub bytes_in_span : (text : List ℕ) (place : ℕ) (line bytes : List ℕ) (behind : ℕ) → EndsAt text place line → StandsIn line bytes behind → slice_range text (place - behind) (place - behind + length bytes) ≡ bytes
+pub bytes_in_span : (text : List ℕ) (place : ℕ) (line bytes : List ℕ) (behind : ℕ) → EndsAt text place line → IsPartOf line bytes behind → slice_range text (place - behind) (place - behind + length bytes) ≡ bytes
 bytes_in_span text place line bytes behind a s =
     let whole : text ≡ (a.front ++ s.front) ++ (bytes ++ (s.back ++ a.back)) =
     a.whole ∙ ap (λ l. a.front ++ (l ++ a.back)) s.whole

@@ -1,4 +1,4 @@
--- Which aliases have been given.
+-- The set of aliases that a mailing has given so far.
 use Rattle.std.specs.Prelude.{ℕ, Bool, false, ◌||◌, ◌==◌}
 
 abbrev pub no_alias : ℕ → Bool

@@ -1,4 +1,4 @@
--- What every order that is read keeps: its numbers are in their ranges, its names are names, and its things are the world's.
+-- What each order of a mailing satisfies: numbers in range, names that follow the name rule, and things of the world.
 use Rattle.std.specs.Prelude.{◌≡◌, ◌≤◌, ◌<◌, ℕ, true, List, [], ◌∷◌, length, Some, None, Ok}
 use Rattle.std.specs.List.{All}
 use Rattle.atl_orders.specs.Limits.{most_number, last_alias, last_faction}
@@ -6,9 +6,9 @@ use Rattle.atl_tables.specs.Names.{name_ok}
 use Rattle.atl_tables.specs.Worlds.{WorldValue}
 use Rattle.atl_orders.specs.declared.order.UnitRef.{UnitRef}
 use Rattle.atl_orders.specs.declared.order.UnitRef.TheVariants.{Number, Alias}
-use Rattle.atl_orders.specs.declared.order.Order.TheVariants as orders
-use Rattle.atl_orders.specs.Orders.{Said}
-use Rattle.atl_orders.specs.Mailing.{EntrySaid, Reading, reading}
+use Rattle.atl_orders.specs.declared.order.Operands.TheVariants as operands
+use Rattle.atl_orders.specs.Orders.{OperandsValue, OrderValue}
+use Rattle.atl_orders.specs.Mailing.{EntryValue, Reading, reading}
 
 -- from 1 up to the most
 abbrev pub IsWithin : ℕ → ℕ → Type 0
@@ -24,36 +24,33 @@ abbrev pub IsUnitRef : UnitRef → Type 0
 IsUnitRef (Number n) = IsNumber n
 IsUnitRef (Alias alias) = IsAlias alias
 
-abbrev pub IsOrderOf : WorldValue → Said → Type 0
-IsOrderOf world (orders.Form alias) = IsAlias alias
-IsOrderOf world (orders.Name what bytes) = name_ok bytes ≡ true
-IsOrderOf world (orders.Guard flag) = Unit {0}
-IsOrderOf world (orders.Enter structure) = IsNumber structure
-IsOrderOf world orders.Leave = Unit {0}
-IsOrderOf world (orders.Promote unit) = IsUnitRef unit
-IsOrderOf world (orders.Give to amount item) = IsUnitRef to × IsNumber amount × (item < length world.items)
-IsOrderOf world (orders.Pay to amount) = IsUnitRef to × IsNumber amount
-IsOrderOf world (orders.Transfer to men) = IsUnitRef to × IsNumber men
-IsOrderOf world (orders.Sell amount item) = IsNumber amount × (item < length world.items)
-IsOrderOf world (orders.Buy amount item) = IsNumber amount × (item < length world.items)
-IsOrderOf world orders.Tax = Unit {0}
-IsOrderOf world (orders.Recruit men) = IsNumber men
-IsOrderOf world (orders.Quit faction) = IsNumber faction
-IsOrderOf world (orders.Move direction) = Unit {0}
-IsOrderOf world (orders.Sail direction) = Unit {0}
-IsOrderOf world (orders.Build None) = Unit {0}
-IsOrderOf world (orders.Build (Some kind)) = kind < length world.kinds
-IsOrderOf world (orders.Teach units) = (0 < length units) × All IsUnitRef units
-IsOrderOf world (orders.Study skill) = skill < length world.skills
-IsOrderOf world (orders.Produce item) = item < length world.items
-IsOrderOf world orders.Work = Unit {0}
+-- what the words after a verb name
+abbrev pub AreOperandsOf : WorldValue → OperandsValue → Type 0
+AreOperandsOf world operands.Nothing = Unit {0}
+AreOperandsOf world (operands.Alias alias) = IsAlias alias
+AreOperandsOf world (operands.Flag flag) = Unit {0}
+AreOperandsOf world (operands.Number n) = IsNumber n
+AreOperandsOf world (operands.Unit unit) = IsUnitRef unit
+AreOperandsOf world (operands.Units units) = (0 < length units) × All IsUnitRef units
+AreOperandsOf world (operands.UnitAndNumber to n) = IsUnitRef to × IsNumber n
+AreOperandsOf world (operands.UnitAndGoods to amount item) = IsUnitRef to × IsNumber amount × (item < length world.items)
+AreOperandsOf world (operands.Goods amount item) = IsNumber amount × (item < length world.items)
+AreOperandsOf world (operands.Name what bytes) = name_ok bytes ≡ true
+AreOperandsOf world (operands.Direction direction) = Unit {0}
+AreOperandsOf world (operands.Kind None) = Unit {0}
+AreOperandsOf world (operands.Kind (Some kind)) = kind < length world.kinds
+AreOperandsOf world (operands.Skill skill) = skill < length world.skills
+AreOperandsOf world (operands.Item item) = item < length world.items
 
-pub record IsEntry (world : WorldValue) (e : EntrySaid) : Type 0 where
+abbrev pub IsOrderOf : WorldValue → OrderValue → Type 0
+IsOrderOf world order_value = AreOperandsOf world order_value.operands
+
+pub record IsEntry (world : WorldValue) (e : EntryValue) : Type 0 where
   pub target : IsUnitRef e.target
-  pub order : IsOrderOf world e.said
+  pub order : IsOrderOf world e.order_value
 
 -- each line is behind the one before
-abbrev pub LinesRise : ℕ → List EntrySaid → Type 0
+abbrev pub LinesRise : ℕ → List EntryValue → Type 0
 LinesRise n [] = Unit {0}
 LinesRise n (e ∷ es) = (n < e.line) × LinesRise e.line es
 

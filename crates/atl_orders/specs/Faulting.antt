@@ -1,4 +1,4 @@
--- The numbers and names of faults.
+-- The numbers and names of line faults and mail faults. See docs/FORMATS.md, "Line faults".
 use Rattle.std.specs.Prelude.{ℕ, List, codes, Option, Some, None}
 use Rattle.atl_orders.specs.declared.fault.LineFault.{LineFault}
 use Rattle.atl_orders.specs.declared.fault.LineFault.TheVariants.{NoUnit, UnknownOrder, BadNumber, UnknownThing, MissingWord, BadByte, BadAlias, NestedForm, EndAlone, BadDirection, BadName}

@@ -1,11 +1,12 @@
--- What a mailing says, from its lines.
+-- The value of a mailing: its faction, orders and faulty lines, read from its lines. See docs/RULES.md, "Reading a
+-- mailing".
 use Rattle.std.specs.Prelude.{◌≡◌, ◌≤◌, ℕ, ◌+◌, Bool, List, [], ◌∷◌, length, map, codes, Option, Some, None, Result, Ok, Err, nat_lt, if◌then◌else◌}
 use Rattle.std.specs.List.{flat_map}
 use Rattle.atl_orders.specs.Limits.{last_faction, most_bytes}
 use Rattle.atl_tables.specs.Worlds.{WorldValue}
 use Rattle.atl_orders.specs.declared.order.UnitRef.{UnitRef}
-use Rattle.atl_orders.specs.declared.reading.Place.{Place}
-use Rattle.atl_orders.specs.declared.reading.Place.TheVariants.{Nowhere}
+use Rattle.atl_orders.specs.declared.reading.ReaderState.{ReaderState}
+use Rattle.atl_orders.specs.declared.reading.ReaderState.TheVariants.{Nowhere}
 use Rattle.atl_orders.specs.declared.fault.FaultyLine.{FaultyLine}
 use Rattle.atl_orders.specs.declared.fault.MailFault.{MailFault}
 use Rattle.atl_orders.specs.declared.fault.MailFault.TheVariants.{TooLong, NoHeader, BadHeader, Memory}
@@ -15,17 +16,17 @@ use Rattle.atl_orders.specs.Aliasing.{no_alias}
 use Rattle.atl_orders.specs.Words.{WordText, words, begins, number_of}
 use Rattle.atl_orders.specs.Lines.{lines}
 use Rattle.atl_orders.specs.Operands.{not_zero}
-use Rattle.atl_orders.specs.Orders.{Said, said}
+use Rattle.atl_orders.specs.Orders.{OrderValue, order_value}
 use Rattle.atl_orders.specs.Reading.{Effect, nothing, faulty, says, line_step}
 
 -- an order with its line and its unit
-pub record EntrySaid : Type 0 where
+pub record EntryValue : Type 0 where
   pub line : ℕ
   pub target : UnitRef
-  pub said : Said
+  pub order_value : OrderValue
 
 -- what each line up to `#END` does, with its number
-unfoldable pub effects : WorldValue → ℕ → Place → (ℕ → Bool) → List (List ℕ) → List (ℕ × Effect)
+unfoldable pub effects : WorldValue → ℕ → ReaderState → (ℕ → Bool) → List (List ℕ) → List (ℕ × Effect)
 effects world n place given [] = []
 effects world n place given (line ∷ rest) =
     if begins (codes "#END") (words line) then []
@@ -33,15 +34,15 @@ effects world n place given (line ∷ rest) =
     ∷ effects world (n + 1) (line_step world place given line).place (line_step world place given line).given rest
 
 -- the orders and the faults among them
-abbrev pub entry_of : ℕ × Effect → List EntrySaid
+abbrev pub entry_of : ℕ × Effect → List EntryValue
 entry_of (n, nothing) = []
 entry_of (n, faulty fault) = []
-entry_of (n, says unit said) = record { line = n; target = unit; said = said } ∷ []
+entry_of (n, says unit order_value) = record { line = n; target = unit; order_value = order_value } ∷ []
 
 abbrev pub fault_of : ℕ × Effect → List FaultyLine
 fault_of (n, nothing) = []
 fault_of (n, faulty fault) = record { line = n; fault = fault } ∷ []
-fault_of (n, says unit said) = []
+fault_of (n, says unit order_value) = []
 
 -- the faction that a header names
 abbrev pub faction_of : List WordText → Option ℕ
@@ -50,17 +51,17 @@ faction_of (w ∷ []) = None
 faction_of (w ∷ v ∷ ws) = not_zero (number_of last_faction v.bytes)
 
 -- The faction, and the lines behind the header with the number of their first.
-pub record Headed : Type 0 where
+pub record HeaderValue : Type 0 where
   pub faction : ℕ
   pub next : ℕ
   pub rest : List (List ℕ)
 
-abbrev pub header_line : ℕ → List (List ℕ) → Option ℕ → Result Headed MailFault
+abbrev pub header_line : ℕ → List (List ℕ) → Option ℕ → Result HeaderValue MailFault
 header_line n rest None = Err BadHeader
 header_line n rest (Some faction) = Ok (record { faction = faction; next = n + 1; rest = rest })
 
 -- the first header of these lines
-unfoldable pub header_from : ℕ → List (List ℕ) → Result Headed MailFault
+unfoldable pub header_from : ℕ → List (List ℕ) → Result HeaderValue MailFault
 header_from n [] = Err NoHeader
 header_from n (line ∷ rest) =
     if begins (codes "#ATLANTIS") (words line) then header_line n rest (faction_of (words line))
@@ -69,12 +70,12 @@ header_from n (line ∷ rest) =
 -- What a mailing says.
 pub record Reading : Type 0 where
   pub faction : ℕ
-  pub entries : List EntrySaid
+  pub entries : List EntryValue
   pub faults : List FaultyLine
 
-abbrev pub behind_header : WorldValue → Result Headed MailFault → Result Reading MailFault
-behind_header world (Err fault) = Err fault
-behind_header world (Ok h) = Ok (record {
+abbrev pub after_header : WorldValue → Result HeaderValue MailFault → Result Reading MailFault
+after_header world (Err fault) = Err fault
+after_header world (Ok h) = Ok (record {
   faction = h.faction;
   entries = flat_map entry_of (effects world h.next Nowhere no_alias h.rest);
   faults = flat_map fault_of (effects world h.next Nowhere no_alias h.rest);
@@ -84,7 +85,7 @@ behind_header world (Ok h) = Ok (record {
 unfoldable pub reading : WorldValue → List ℕ → Result Reading MailFault
 reading world text =
     if nat_lt most_bytes (length text) then Err TooLong
-    else behind_header world (header_from 1 (lines text))
+    else after_header world (header_from 1 (lines text))
 
 -- a mailing of a faction: it is short enough, and its header names the faction
 pub record IsMailingOf (faction : ℕ) (text : List ℕ) : Type 0 where
@@ -93,11 +94,11 @@ pub record IsMailingOf (faction : ℕ) (text : List ℕ) : Type 0 where
 
 -- ---- what the code answers
 
-abbrev pub entry_said : List ℕ → Entry → EntrySaid
-entry_said text e = record { line = e.line; target = e.target; said = said text e.order }
+abbrev pub entry_value : List ℕ → Entry → EntryValue
+entry_value text e = record { line = e.line; target = e.target; order_value = order_value text e.order }
 
 abbrev pub reading_of : Mailing → Reading
-reading_of m = record { faction = m.faction; entries = map (entry_said m.text) m.entries; faults = m.faults }
+reading_of m = record { faction = m.faction; entries = map (entry_value m.text) m.entries; faults = m.faults }
 
 -- the mailing was read with this world
 abbrev pub IsReadWith : WorldValue → Mailing → Type 0

@@ -1,4 +1,5 @@
--- What the words behind a keyword are read as.
+-- How the words after a keyword are read: numbers, units, items, skills, kinds and names. See docs/RULES.md, "Names in
+-- orders".
 use Rattle.std.specs.Prelude.{ℕ, List, [], ◌∷◌, codes, Option, Some, None, Result, Ok, Err, ◌==◌, if◌then◌else◌}
 use Rattle.atl_orders.specs.Limits.{last_alias, most_number}
 use Rattle.atl_tables.specs.Worlds.{WorldValue}
@@ -90,8 +91,8 @@ direction_at ws = do
 abbrev pub numbered : WordText → Result UnitRef LineFault
 numbered w = or_fault BadNumber (not_zero (number_of most_number w.bytes)) >>= λ n. Ok (Number n)
 
-abbrev pub named_new : WordText → Result UnitRef LineFault
-named_new w = or_fault BadAlias (not_zero (number_of last_alias w.bytes)) >>= λ n. Ok (Alias n)
+abbrev pub new_unit_ref : WordText → Result UnitRef LineFault
+new_unit_ref w = or_fault BadAlias (not_zero (number_of last_alias w.bytes)) >>= λ n. Ok (Alias n)
 
 -- one unit more, in front
 abbrev pub and_then_units : Result UnitRef LineFault → Result (List UnitRef) LineFault → Result (List UnitRef) LineFault
@@ -100,7 +101,7 @@ and_then_units unit units = unit >>= λ u. units >>= λ us. Ok (u ∷ us)
 unfoldable pub units_of : List WordText → Result (List UnitRef) LineFault
 units_of [] = Ok []
 units_of (w ∷ []) = if is_word (codes "NEW") w then Err MissingWord else and_then_units (numbered w) (Ok [])
-units_of (w ∷ v ∷ ws) = if is_word (codes "NEW") w then and_then_units (named_new v) (units_of ws) else and_then_units (numbered w) (units_of (v ∷ ws))
+units_of (w ∷ v ∷ ws) = if is_word (codes "NEW") w then and_then_units (new_unit_ref v) (units_of ws) else and_then_units (numbered w) (units_of (v ∷ ws))
 
 -- one or more
 unfoldable pub some_units_at : List WordText → Result (List UnitRef) LineFault

@@ -1,4 +1,4 @@
--- What a line does.
+-- The effect of one line of a mailing. See docs/RULES.md, "Reading a mailing".
 use Rattle.std.specs.Prelude.{ℕ, Bool, ◌&&◌, ◌||◌, List, [], ◌∷◌, codes, Option, Some, None, Result, Ok, Err, nat_le, ◌==◌, if◌then◌else◌}
 use Rattle.std.specs.List.{list_all}
 use Rattle.std.specs.Option.{option_map}
@@ -11,14 +11,15 @@ use Rattle.atl_orders.specs.declared.fault.LineFault.{LineFault}
 use Rattle.atl_orders.specs.declared.fault.LineFault.TheVariants.{NoUnit, UnknownOrder, BadByte, BadAlias, NestedForm, EndAlone}
 use Rattle.atl_orders.specs.declared.reading.Keyword.{Keyword}
 use Rattle.atl_orders.specs.declared.reading.Keyword.TheVariants as keywords
-use Rattle.atl_orders.specs.declared.reading.Place.{Place}
-use Rattle.atl_orders.specs.declared.reading.Place.TheVariants.{Nowhere, At, Forming, Skipping}
+use Rattle.atl_orders.specs.declared.reading.ReaderState.{ReaderState}
+use Rattle.atl_orders.specs.declared.reading.ReaderState.TheVariants.{Nowhere, At, Forming, Skipping}
 use Rattle.atl_orders.specs.Aliasing.{with_alias}
 use Rattle.atl_orders.specs.Words.{WordText, words, is_word}
 use Rattle.atl_orders.specs.Verbs.{verb_of}
 use Rattle.atl_orders.specs.Operands.{number_at, alias_at}
-use Rattle.atl_orders.specs.declared.order.Order.TheVariants as orders
-use Rattle.atl_orders.specs.Orders.{Said, said, said_by}
+use Rattle.atl_orders.specs.declared.order.Operands.TheVariants as operands
+use Rattle.atl_orders.specs.declared.verb.Verb.TheVariants as verbs
+use Rattle.atl_orders.specs.Orders.{OrderValue, order_of, said_by}
 
 -- Tab, and the bytes from space to `~`.
 abbrev pub is_plain : ℕ → Bool
@@ -35,72 +36,76 @@ keyword_of w =
 pub data Effect : Type 0 where
   nothing : Effect
   faulty : LineFault → Effect
-  says : UnitRef → Said → Effect
+  says : UnitRef → OrderValue → Effect
 
 -- and where the next line stands, with the aliases given so far
-pub record Step : Type 0 where
+pub record LineStep : Type 0 where
   pub effect : Effect
-  pub place : Place
+  pub place : ReaderState
   pub given : ℕ → Bool
 
 -- for whom an order is
-abbrev pub target : Place → Option UnitRef
+abbrev pub target : ReaderState → Option UnitRef
 target Nowhere = None
 target (At n) = Some (Number n)
 target (Forming parent alias) = Some (Alias alias)
 target (Skipping parent) = None
 
 -- the place of the unit outside a block
-abbrev pub outside : Option ℕ → Place
+abbrev pub outside : Option ℕ → ReaderState
 outside None = Nowhere
 outside (Some n) = At n
 
-unfoldable pub unit_step : (ℕ → Bool) → Result (ℕ × List WordText) LineFault → Step
+unfoldable pub unit_step : (ℕ → Bool) → Result (ℕ × List WordText) LineFault → LineStep
 unit_step given (Ok n) = record { effect = nothing; place = At n.0; given = given }
 unit_step given (Err fault) = record { effect = faulty fault; place = Nowhere; given = given }
 
-unfoldable pub end_step : Place → (ℕ → Bool) → Step
+unfoldable pub end_step : ReaderState → (ℕ → Bool) → LineStep
 end_step Nowhere given = record { effect = faulty EndAlone; place = Nowhere; given = given }
 end_step (At n) given = record { effect = faulty EndAlone; place = At n; given = given }
 end_step (Forming parent alias) given = record { effect = nothing; place = At parent; given = given }
 end_step (Skipping parent) given = record { effect = nothing; place = outside parent; given = given }
 
+-- the order that an alias gives
+abbrev pub form_value : ℕ → OrderValue
+form_value alias = order_of verbs.Form (operands.Alias alias)
+
 -- a new unit of a parent, by its alias
-unfoldable pub block_step : ℕ → (ℕ → Bool) → Result (ℕ × List WordText) LineFault → Step
+unfoldable pub block_step : ℕ → (ℕ → Bool) → Result (ℕ × List WordText) LineFault → LineStep
 block_step parent given (Ok n) =
     if given n.0
     then record { effect = faulty BadAlias; place = Skipping (Some parent); given = given }
-    else record { effect = says (Number parent) (orders.Form n.0); place = Forming parent n.0; given = with_alias given n.0 }
+    else record { effect = says (Number parent) (form_value n.0); place = Forming parent n.0; given = with_alias given n.0 }
 block_step parent given (Err fault) = record { effect = faulty fault; place = Skipping (Some parent); given = given }
 
-unfoldable pub form_step : Place → (ℕ → Bool) → List WordText → Step
+unfoldable pub form_step : ReaderState → (ℕ → Bool) → List WordText → LineStep
 form_step Nowhere given ws = record { effect = faulty NoUnit; place = Skipping None; given = given }
 form_step (At n) given ws = block_step n given (alias_at ws)
 form_step (Forming parent alias) given ws = record { effect = faulty NestedForm; place = Forming parent alias; given = given }
 form_step (Skipping parent) given ws = record { effect = faulty NestedForm; place = Skipping parent; given = given }
 
 -- an order's effect for a unit
-abbrev pub said_for : UnitRef → Result Said LineFault → Effect
-said_for unit (Ok said) = says unit said
-said_for unit (Err fault) = faulty fault
+abbrev pub effect_for : UnitRef → Result OrderValue LineFault → Effect
+effect_for unit (Ok order_value) = says unit order_value
+effect_for unit (Err fault) = faulty fault
 
-abbrev pub order_effect : Option UnitRef → Result Said LineFault → Effect
-order_effect None said = faulty NoUnit
-order_effect (Some unit) said = said_for unit said
+abbrev pub order_effect : Option UnitRef → Result OrderValue LineFault → Effect
+order_effect None order_value = faulty NoUnit
+order_effect (Some unit) order_value = effect_for unit order_value
 
-unfoldable pub keyword_step : WorldValue → Place → (ℕ → Bool) → Option Keyword → List WordText → Step
+unfoldable pub keyword_step : WorldValue → ReaderState → (ℕ → Bool) → Option Keyword → List WordText → LineStep
 keyword_step world place given None ws = record { effect = faulty UnknownOrder; place = place; given = given }
 keyword_step world place given (Some keywords.Unit) ws = unit_step given (number_at ws)
 keyword_step world place given (Some keywords.End) ws = end_step place given
 keyword_step world place given (Some keywords.Form) ws = form_step place given ws
 keyword_step world place given (Some (keywords.Order verb)) ws = record { effect = order_effect (target place) (said_by world verb ws); place = place; given = given }
 
-unfoldable pub words_step : WorldValue → Place → (ℕ → Bool) → List WordText → Step
+unfoldable pub words_step : WorldValue → ReaderState → (ℕ → Bool) → List WordText → LineStep
 words_step world place given [] = record { effect = nothing; place = place; given = given }
 words_step world place given (w ∷ ws) = keyword_step world place given (keyword_of w) ws
 
 -- one line
-unfoldable pub line_step : WorldValue → Place → (ℕ → Bool) → List ℕ → Step
+unfoldable pub line_step : WorldValue → ReaderState → (ℕ → Bool) → List ℕ → LineStep
 line_step world place given line =
     if list_all is_plain line then words_step world place given (words line)
     else record { effect = faulty BadByte; place = place; given = given }

@@ -1,4 +1,4 @@
--- The rules of reading a mailing: which line is its header, and of each line behind that the first rule that fits says what it does.
+-- The rules for reading a mailing: which line is the header, and which rule applies to each line after it.
 use Rattle.std.specs.Prelude.{◌≡◌, ℕ, ◌+◌, ◌<◌, ◌≤◌, ◌++◌, Bool, true, false, List, [], ◌∷◌, length, codes, Option, Some, None, Result, Ok, Err}
 use Rattle.std.specs.List.{All, list_all, flat_map}
 use Rattle.atl_tables.specs.Worlds.{WorldValue}
@@ -10,8 +10,8 @@ use Rattle.atl_orders.specs.declared.fault.LineFault.TheVariants.{NoUnit, Unknow
 use Rattle.atl_orders.specs.declared.verb.Verb.{Verb}
 use Rattle.atl_orders.specs.declared.reading.Keyword.{Keyword}
 use Rattle.atl_orders.specs.declared.reading.Keyword.TheVariants as keywords
-use Rattle.atl_orders.specs.declared.reading.Place.{Place}
-use Rattle.atl_orders.specs.declared.reading.Place.TheVariants.{Nowhere, At, Forming, Skipping}
+use Rattle.atl_orders.specs.declared.reading.ReaderState.{ReaderState}
+use Rattle.atl_orders.specs.declared.reading.ReaderState.TheVariants.{Nowhere, At, Forming, Skipping}
 use Rattle.atl_orders.specs.declared.fault.MailFault.{MailFault}
 use Rattle.atl_orders.specs.declared.fault.MailFault.TheVariants.{TooLong, NoHeader, BadHeader}
 use Rattle.atl_orders.specs.Limits.{most_bytes}
@@ -19,17 +19,16 @@ use Rattle.atl_orders.specs.Aliasing.{no_alias, with_alias}
 use Rattle.atl_orders.specs.Lines.{lines}
 use Rattle.atl_orders.specs.Words.{WordText, words, begins}
 use Rattle.atl_orders.specs.Operands.{number_at, alias_at}
-use Rattle.atl_orders.specs.declared.order.Order.TheVariants as orders
-use Rattle.atl_orders.specs.Orders.{Said, said_by}
-use Rattle.atl_orders.specs.Reading.{is_plain, keyword_of, Effect, nothing, faulty, says, target, outside, Step, line_step}
-use Rattle.atl_orders.specs.Mailing.{EntrySaid, entry_of, fault_of, effects, faction_of, Reading, reading}
+use Rattle.atl_orders.specs.Orders.{OrderValue, said_by}
+use Rattle.atl_orders.specs.Reading.{is_plain, keyword_of, Effect, nothing, faulty, says, form_value, target, outside, LineStep, line_step}
+use Rattle.atl_orders.specs.Mailing.{EntryValue, entry_of, fault_of, effects, faction_of, Reading, reading}
 
 -- what a line does, where the next one stands, and the aliases given so far
-abbrev pub step : Effect → Place → (ℕ → Bool) → Step
+abbrev pub step : Effect → ReaderState → (ℕ → Bool) → LineStep
 step effect place given = record { effect = effect; place = place; given = given }
 
 -- the place outside the block that is open, if one is
-abbrev pub outer : Place → Option Place
+abbrev pub outer : ReaderState → Option ReaderState
 outer Nowhere = None
 outer (At n) = None
 outer (Forming parent alias) = Some (At parent)
@@ -40,19 +39,19 @@ abbrev pub Leads : WordText → Keyword → Type 0
 Leads w k = keyword_of w ≡ Some k
 
 -- a line with words, by its first word
-pub data WordsSay (world : WorldValue) (place : Place) (given : ℕ → Bool) (w : WordText) (ws : List WordText) (s : Step) : Type 0 where
+pub data WordsSay (world : WorldValue) (place : ReaderState) (given : ℕ → Bool) (w : WordText) (ws : List WordText) (s : LineStep) : Type 0 where
   -- UNIT: the unit is named, and a block ends; on a fault no unit is
   unit_named : Leads w keywords.Unit → (n : ℕ) (rest : List WordText) → number_at ws ≡ Ok (n, rest)
       → s ≡ step nothing (At n) given → WordsSay world place given w ws s
   unit_faulty : Leads w keywords.Unit → (fault : LineFault) → number_at ws ≡ Err fault
       → s ≡ step (faulty fault) Nowhere given → WordsSay world place given w ws s
   -- END: the open block is closed
-  block_closed : Leads w keywords.End → (out : Place) → outer place ≡ Some out
+  block_closed : Leads w keywords.End → (out : ReaderState) → outer place ≡ Some out
       → s ≡ step nothing out given → WordsSay world place given w ws s
   end_alone : Leads w keywords.End → outer place ≡ None
       → s ≡ step (faulty EndAlone) place given → WordsSay world place given w ws s
   -- FORM: inside a block it is faulty, and the block goes on; another fault opens a skipped block
-  form_nested : Leads w keywords.Form → (out : Place) → outer place ≡ Some out
+  form_nested : Leads w keywords.Form → (out : ReaderState) → outer place ≡ Some out
       → s ≡ step (faulty NestedForm) place given → WordsSay world place given w ws s
   form_nowhere : Leads w keywords.Form → place ≡ Nowhere
       → s ≡ step (faulty NoUnit) (Skipping None) given → WordsSay world place given w ws s
@@ -63,7 +62,7 @@ pub data WordsSay (world : WorldValue) (place : Place) (given : ℕ → Bool) (w
       → s ≡ step (faulty BadAlias) (Skipping (Some n)) given → WordsSay world place given w ws s
   form_new : Leads w keywords.Form → (n : ℕ) → place ≡ At n
       → (alias : ℕ) (rest : List WordText) → alias_at ws ≡ Ok (alias, rest) → given alias ≡ false
-      → s ≡ step (says (Number n) (orders.Form alias)) (Forming n alias) (with_alias given alias) → WordsSay world place given w ws s
+      → s ≡ step (says (Number n) (form_value alias)) (Forming n alias) (with_alias given alias) → WordsSay world place given w ws s
   -- an order of the table: for the unit that is named, if its words have no fault
   order_nowhere : (verb : Verb) → Leads w (keywords.Order verb) → target place ≡ None
       → s ≡ step (faulty NoUnit) place given → WordsSay world place given w ws s
@@ -71,14 +70,14 @@ pub data WordsSay (world : WorldValue) (place : Place) (given : ℕ → Bool) (w
       → (fault : LineFault) → said_by world verb ws ≡ Err fault
       → s ≡ step (faulty fault) place given → WordsSay world place given w ws s
   order_said : (verb : Verb) → Leads w (keywords.Order verb) → (unit : UnitRef) → target place ≡ Some unit
-      → (said : Said) → said_by world verb ws ≡ Ok said
-      → s ≡ step (says unit said) place given → WordsSay world place given w ws s
+      → (order_value : OrderValue) → said_by world verb ws ≡ Ok order_value
+      → s ≡ step (says unit order_value) place given → WordsSay world place given w ws s
   -- anything else
   unknown : keyword_of w ≡ None
       → s ≡ step (faulty UnknownOrder) place given → WordsSay world place given w ws s
 
 -- a line
-pub data LineSays (world : WorldValue) (place : Place) (given : ℕ → Bool) (line : List ℕ) (s : Step) : Type 0 where
+pub data LineSays (world : WorldValue) (place : ReaderState) (given : ℕ → Bool) (line : List ℕ) (s : LineStep) : Type 0 where
   bad_byte : list_all is_plain line ≡ false
       → s ≡ step (faulty BadByte) place given → LineSays world place given line s
   no_word : list_all is_plain line ≡ true → words line ≡ []
@@ -87,14 +86,14 @@ pub data LineSays (world : WorldValue) (place : Place) (given : ℕ → Bool) (l
       → WordsSay world place given w ws s → LineSays world place given line s
 
 -- the lines behind the header, from the one of this number on: their orders and their faults
-pub data BodySays (world : WorldValue) : ℕ → Place → (ℕ → Bool) → List (List ℕ) → List EntrySaid → List FaultyLine → Type 0 where
-  text_ended : (n : ℕ) (place : Place) (given : ℕ → Bool) → BodySays world n place given [] [] []
-  orders_ended : (n : ℕ) (place : Place) (given : ℕ → Bool) (line : List ℕ) (rest : List (List ℕ))
+pub data BodySays (world : WorldValue) : ℕ → ReaderState → (ℕ → Bool) → List (List ℕ) → List EntryValue → List FaultyLine → Type 0 where
+  text_ended : (n : ℕ) (place : ReaderState) (given : ℕ → Bool) → BodySays world n place given [] [] []
+  orders_ended : (n : ℕ) (place : ReaderState) (given : ℕ → Bool) (line : List ℕ) (rest : List (List ℕ))
       → begins (codes "#END") (words line) ≡ true → BodySays world n place given (line ∷ rest) [] []
-  one_line : (n : ℕ) (place : Place) (given : ℕ → Bool) (line : List ℕ) (rest : List (List ℕ))
+  one_line : (n : ℕ) (place : ReaderState) (given : ℕ → Bool) (line : List ℕ) (rest : List (List ℕ))
       → begins (codes "#END") (words line) ≡ false
-      → (s : Step) → LineSays world place given line s
-      → (entries : List EntrySaid) (faults : List FaultyLine) → BodySays world (n + 1) s.place s.given rest entries faults
+      → (s : LineStep) → LineSays world place given line s
+      → (entries : List EntryValue) (faults : List FaultyLine) → BodySays world (n + 1) s.place s.given rest entries faults
       → BodySays world n place given (line ∷ rest) (entry_of (n, s.effect) ++ entries) (fault_of (n, s.effect) ++ faults)
 
 -- whether a line's first word is `#ATLANTIS`
@@ -123,29 +122,29 @@ pub data TextSays (world : WorldValue) (text : List ℕ) (read : Result Reading 
   mailing : length text ≤ most_bytes
       → (before : List (List ℕ)) (header : List ℕ) (behind : List (List ℕ)) → HaveHeader (lines text) before header behind
       → (faction : ℕ) → faction_of (words header) ≡ Some faction
-      → (entries : List EntrySaid) (faults : List FaultyLine) → BodySays world (length before + 2) Nowhere no_alias behind entries faults
+      → (entries : List EntryValue) (faults : List FaultyLine) → BodySays world (length before + 2) Nowhere no_alias behind entries faults
       → read ≡ Ok (record { faction = faction; entries = entries; faults = faults }) → TextSays world text read
 
 -- what the function gives for a line fits the rules, and nothing else does
 abbrev pub LineRules : Type 0
 LineRules =
-    ((world : WorldValue) (place : Place) (given : ℕ → Bool) (line : List ℕ)
+    ((world : WorldValue) (place : ReaderState) (given : ℕ → Bool) (line : List ℕ)
     → LineSays world place given line (line_step world place given line))
-    × ((world : WorldValue) (place : Place) (given : ℕ → Bool) (line : List ℕ) (s : Step)
+    × ((world : WorldValue) (place : ReaderState) (given : ℕ → Bool) (line : List ℕ) (s : LineStep)
     → LineSays world place given line s → s ≡ line_step world place given line)
 
-abbrev pub entries_from : WorldValue → ℕ → Place → (ℕ → Bool) → List (List ℕ) → List EntrySaid
+abbrev pub entries_from : WorldValue → ℕ → ReaderState → (ℕ → Bool) → List (List ℕ) → List EntryValue
 entries_from world n place given lines = flat_map entry_of (effects world n place given lines)
 
-abbrev pub faults_from : WorldValue → ℕ → Place → (ℕ → Bool) → List (List ℕ) → List FaultyLine
+abbrev pub faults_from : WorldValue → ℕ → ReaderState → (ℕ → Bool) → List (List ℕ) → List FaultyLine
 faults_from world n place given lines = flat_map fault_of (effects world n place given lines)
 
 -- and so for all lines
 abbrev pub BodyRules : Type 0
 BodyRules =
-    ((world : WorldValue) (n : ℕ) (place : Place) (given : ℕ → Bool) (lines : List (List ℕ))
+    ((world : WorldValue) (n : ℕ) (place : ReaderState) (given : ℕ → Bool) (lines : List (List ℕ))
     → BodySays world n place given lines (entries_from world n place given lines) (faults_from world n place given lines))
-    × ((world : WorldValue) (n : ℕ) (place : Place) (given : ℕ → Bool) (lines : List (List ℕ)) (entries : List EntrySaid) (faults : List FaultyLine)
+    × ((world : WorldValue) (n : ℕ) (place : ReaderState) (given : ℕ → Bool) (lines : List (List ℕ)) (entries : List EntryValue) (faults : List FaultyLine)
     → BodySays world n place given lines entries faults
     → (entries ≡ entries_from world n place given lines) × (faults ≡ faults_from world n place given lines))
 

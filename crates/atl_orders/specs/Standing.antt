@@ -1,4 +1,4 @@
--- For the proofs alone: where words and lines stand in a text.
+-- For the proofs alone: where words and lines are in a text.
 use Rattle.std.specs.Prelude.{◌≡◌, ℕ, ◌++◌, List, length}
 use Rattle.atl_orders.specs.declared.words.Cursor.{Cursor}
 
@@ -8,7 +8,7 @@ pub record StartsWith (text front : List ℕ) : Type 0 where
   pub whole : text ≡ front ++ back
 
 -- the bytes stand in the line, so many bytes before its end
-pub record StandsIn (line bytes : List ℕ) (behind : ℕ) : Type 0 where
+pub record IsPartOf (line bytes : List ℕ) (behind : ℕ) : Type 0 where
   pub front : List ℕ
   pub back : List ℕ
   pub whole : line ≡ front ++ (bytes ++ back)

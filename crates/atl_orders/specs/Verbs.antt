@@ -1,37 +1,59 @@
--- The keywords of orders.
-use Rattle.std.specs.Prelude.{ℕ, List, [], ◌∷◌, codes, Option, Some, find, if◌then◌else◌}
+-- The order table. See docs/RULES.md, "Orders" and "Orders of a month".
+use Rattle.std.specs.Prelude.{ℕ, List, [], ◌∷◌, codes, Option, Some, None, find, if◌then◌else◌}
+use Rattle.atl_orders.specs.declared.verb.Row.{Row as CodeRow}
+use Rattle.atl_orders.specs.declared.verb.Shape.{Shape}
+use Rattle.atl_orders.specs.declared.verb.Shape.TheVariants as shapes
+use Rattle.atl_orders.specs.declared.verb.Slot.{Slot}
+use Rattle.atl_orders.specs.declared.verb.Slot.TheVariants.{MonthLong, Selling, Buying, Taxing, Recruiting}
 use Rattle.atl_orders.specs.declared.verb.Verb.{Verb}
 use Rattle.atl_orders.specs.declared.verb.Verb.TheVariants.{Form, Name, Guard, Enter, Leave, Promote, Give, Pay, Transfer, Sell, Buy, Tax, Recruit, Quit, Move, Sail, Build, Teach, Study, Produce, Work}
 use Rattle.atl_orders.specs.Words.{WordText, is_word}
 
-abbrev pub keyword : Verb → List ℕ
-keyword Form = codes "FORM"
-keyword Name = codes "NAME"
-keyword Guard = codes "GUARD"
-keyword Enter = codes "ENTER"
-keyword Leave = codes "LEAVE"
-keyword Promote = codes "PROMOTE"
-keyword Give = codes "GIVE"
-keyword Pay = codes "PAY"
-keyword Transfer = codes "TRANSFER"
-keyword Sell = codes "SELL"
-keyword Buy = codes "BUY"
-keyword Tax = codes "TAX"
-keyword Recruit = codes "RECRUIT"
-keyword Quit = codes "QUIT"
-keyword Move = codes "MOVE"
-keyword Sail = codes "SAIL"
-keyword Build = codes "BUILD"
-keyword Teach = codes "TEACH"
-keyword Study = codes "STUDY"
-keyword Produce = codes "PRODUCE"
-keyword Work = codes "WORK"
+-- a row: the keyword, what the words after it name, and the slot that an order takes, if it takes one
+pub record Row : Type 0 where
+  pub keyword : List ℕ
+  pub shape : Shape
+  pub slot : Option Slot
 
--- the verbs of the order table, which FORM isn't in
-abbrev pub table : List Verb
-table =
+abbrev pub row : List ℕ → Shape → Option Slot → Row
+row keyword shape slot = record { keyword = keyword; shape = shape; slot = slot }
+
+-- The month-long orders of a unit share a slot; its SELL orders have one, its BUY orders, its TAX orders, and its RECRUIT orders.
+abbrev pub row_of : Verb → Row
+row_of Form = row (codes "FORM") shapes.Alias None
+row_of Name = row (codes "NAME") shapes.Name None
+row_of Guard = row (codes "GUARD") shapes.Flag None
+row_of Enter = row (codes "ENTER") shapes.Number None
+row_of Leave = row (codes "LEAVE") shapes.Nothing None
+row_of Promote = row (codes "PROMOTE") shapes.Unit None
+row_of Give = row (codes "GIVE") shapes.UnitAndGoods None
+row_of Pay = row (codes "PAY") shapes.UnitAndNumber None
+row_of Transfer = row (codes "TRANSFER") shapes.UnitAndNumber None
+row_of Sell = row (codes "SELL") shapes.Goods (Some Selling)
+row_of Buy = row (codes "BUY") shapes.Goods (Some Buying)
+row_of Tax = row (codes "TAX") shapes.Nothing (Some Taxing)
+row_of Recruit = row (codes "RECRUIT") shapes.Number (Some Recruiting)
+row_of Quit = row (codes "QUIT") shapes.Number None
+row_of Move = row (codes "MOVE") shapes.Direction (Some MonthLong)
+row_of Sail = row (codes "SAIL") shapes.Direction (Some MonthLong)
+row_of Build = row (codes "BUILD") shapes.Kind (Some MonthLong)
+row_of Teach = row (codes "TEACH") shapes.Units (Some MonthLong)
+row_of Study = row (codes "STUDY") shapes.Skill (Some MonthLong)
+row_of Produce = row (codes "PRODUCE") shapes.Item (Some MonthLong)
+row_of Work = row (codes "WORK") shapes.Nothing (Some MonthLong)
+
+abbrev pub keyword : Verb → List ℕ
+keyword verb = (row_of verb).keyword
+
+-- a row of the code
+abbrev pub row_value : CodeRow → Row
+row_value r = row r.keyword.now r.shape r.slot
+
+-- the verbs that a line can begin with; FORM has lines of its own
+abbrev pub listed : List Verb
+listed =
     Name ∷ Guard ∷ Enter ∷ Leave ∷ Promote ∷ Give ∷ Pay ∷ Transfer ∷ Sell ∷ Buy ∷ Tax ∷ Recruit ∷ Quit ∷ Move ∷ Sail ∷ Build ∷ Teach ∷ Study ∷ Produce ∷ Work ∷ []
 
 -- the verb that a word is; BOARD is read as ENTER
 abbrev pub verb_of : WordText → Option Verb
-verb_of w = if is_word (codes "BOARD") w then Some Enter else find (λ verb. is_word (keyword verb) w) table
+verb_of w = if is_word (codes "BOARD") w then Some Enter else find (λ verb. is_word (keyword verb) w) listed

@@ -1,4 +1,4 @@
--- For the proofs alone: what the values that the code works with stand for.
+-- For the proofs alone: the meaning of the values that the code works with.
 use Rattle.std.specs.Prelude.{◌≡◌, ℕ, ◌+◌, ◌++◌, Bool, false, List, [], map, length, Option, Some, None, Result, Ok, Err, slice_index_or}
 use Rattle.std.specs.Option.{option_copied}
 use Rattle.atl_orders.specs.declared.aliases.Aliases.{Aliases}
@@ -6,13 +6,13 @@ use Rattle.atl_orders.specs.declared.fault.LineFault.{LineFault}
 use Rattle.atl_orders.specs.declared.mailing.Body.{Body}
 use Rattle.atl_orders.specs.declared.mailing.Header.{Header}
 use Rattle.atl_orders.specs.declared.order.UnitRef.{UnitRef}
-use Rattle.atl_orders.specs.declared.reading.Outcome.{Outcome}
-use Rattle.atl_orders.specs.declared.reading.Outcome.TheVariants as outcomes
+use Rattle.atl_orders.specs.declared.reading.LineResult.{LineResult}
+use Rattle.atl_orders.specs.declared.reading.LineResult.TheVariants as outcomes
 use Rattle.atl_orders.specs.declared.words.Word.{Word}
 use Rattle.atl_orders.specs.Lines.{lines}
-use Rattle.atl_orders.specs.Mailing.{EntrySaid, entry_said, Headed}
+use Rattle.atl_orders.specs.Mailing.{EntryValue, entry_value, HeaderValue}
 use Rattle.atl_tables.specs.Steps.{◌>>=◌}
-use Rattle.atl_orders.specs.Orders.{said}
+use Rattle.atl_orders.specs.Orders.{order_value}
 use Rattle.atl_orders.specs.Reading.{Effect, nothing, faulty, says}
 use Rattle.atl_orders.specs.Words.{WordText}
 
@@ -26,35 +26,35 @@ lines_of_rest None = []
 lines_of_rest (Some text) = lines text
 
 -- at most how many lines are left
-abbrev pub left_size : Option (List ℕ) → ℕ
-left_size None = 0
-left_size (Some text) = length text + 1
+abbrev pub rest_size : Option (List ℕ) → ℕ
+rest_size None = 0
+rest_size (Some text) = length text + 1
 
 -- What a function returned, seen by view, is what reading gives.
-abbrev pub viewed : {X Y : Type 0} → (X → Y) → Result X LineFault → Result Y LineFault
-viewed view (Ok x) = Ok (view x)
-viewed view (Err e) = Err e
+abbrev pub view_of_result : {X Y : Type 0} → (X → Y) → Result X LineFault → Result Y LineFault
+view_of_result view (Ok x) = Ok (view x)
+view_of_result view (Err e) = Err e
 
 abbrev pub Gives : {X Y : Type 0} → (X → Y) → Result X LineFault → Result Y LineFault → Type 0
-Gives view result read = read ≡ viewed view result
+Gives view result read = read ≡ view_of_result view result
 
 -- units read so far, with what the others give
 abbrev pub with_units : List UnitRef → Result (List UnitRef) LineFault → Result (List UnitRef) LineFault
 with_units front units = units >>= λ us. Ok (front ++ us)
 
 -- what the code keeps, as a test of aliases
-abbrev pub given_by : Aliases → ℕ → Bool
-given_by aliases k = slice_index_or aliases.given.items k false
+abbrev pub alias_set : Aliases → ℕ → Bool
+alias_set aliases k = slice_index_or aliases.given.items k false
 
 -- what the code answers, seen as an effect
-abbrev pub effect_of : List ℕ → Outcome → Effect
+abbrev pub effect_of : List ℕ → LineResult → Effect
 effect_of text outcomes.Nothing = nothing
 effect_of text (outcomes.Faulty fault) = faulty fault
-effect_of text (outcomes.Says unit order) = says unit (said text order)
+effect_of text (outcomes.Says unit order) = says unit (order_value text order)
 
 -- a header, seen as the lines behind it
-abbrev pub headed : Header → Headed
-headed h = record { faction = h.faction; next = h.next; rest = lines_of_rest (option_copied h.rest) }
+abbrev pub header_value : Header → HeaderValue
+header_value h = record { faction = h.faction; next = h.next; rest = lines_of_rest (option_copied h.rest) }
 
-abbrev pub body_entries : List ℕ → Body → List EntrySaid
-body_entries text b = map (entry_said text) b.entries
+abbrev pub body_entries : List ℕ → Body → List EntryValue
+body_entries text b = map (entry_value text) b.entries

@@ -6,7 +6,7 @@ use crate::limits::LAST_ALIAS;
 use std::alloc::{AllocError, Global};
 
 /// So many times false.
-fn cleared(alloc: Global, count: usize) -> Result<Vec<bool>, AllocError>
+fn no_aliases(alloc: Global, count: usize) -> Result<Vec<bool>, AllocError>
     ensures len { IfOk result (λ flags. vec_len flags ≡ count) }
     ensures clear { IfOk result (λ flags. (k : ℕ) → slice_index_or flags.items k false ≡ false) }
 {
@@ -23,21 +23,21 @@ pub struct Aliases {
 
 impl Aliases {
     ghost use Rattle.atl_orders.specs.Aliasing.{no_alias, with_alias};
-    ghost use Rattle.atl_orders.specs.Views.{given_by};
+    ghost use Rattle.atl_orders.specs.Views.{alias_set};
 
     /// No alias.
     pub fn new(alloc: Global) -> Result<Aliases, AllocError>
-        ensures { IfOk result (λ made. given_by made ≡ no_alias) }
+        ensures { IfOk result (λ made. alias_set made ≡ no_alias) }
     {
         Ok(Aliases {
-            given: cleared(alloc, LAST_ALIAS as usize + 1)?,
+            given: no_aliases(alloc, LAST_ALIAS as usize + 1)?,
         })
     }
 
     /// Whether an alias, from 1 to 9,999, was given by a FORM so far.
     pub fn contains(&self, alias: u32) -> bool
         requires { alias ≤ last_alias }
-        ensures { result ≡ given_by self.now alias }
+        ensures { result ≡ alias_set self.now alias }
     {
         self.given[alias as usize]
     }
@@ -45,7 +45,7 @@ impl Aliases {
     /// Notes that an alias, from 1 to 9,999, is given. It takes no memory.
     pub fn add(&mut self, alias: u32)
         requires { alias ≤ last_alias }
-        ensures { given_by self.new ≡ with_alias (given_by self.old) alias }
+        ensures { alias_set self.new ≡ with_alias (alias_set self.old) alias }
     {
         self.given[alias as usize] = true;
     }

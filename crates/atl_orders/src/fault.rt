@@ -1,4 +1,5 @@
-//! What is wrong with a line, and why a text is no mailing.
+//! The faults of a line, and those of a mailing that can't be read. See docs/FORMATS.md, "Line
+//! faults".
 ghost use Rattle.std.specs.Prelude.{◌≡◌};
 ghost use Rattle.atl_orders.specs.declared.fault.MailFault.TheVariants.{Memory};
 

@@ -1,10 +1,10 @@
-//! The lines of a text.
+//! Splits a text into its lines. See docs/RULES.md, "Reading a mailing".
 
 ghost use Rattle.std.specs.Prelude.{◌≡◌, ◌≤◌, ◌∷◌, length, IfSome};
 ghost use Rattle.std.specs.List.{position, position_or_len};
 ghost use Rattle.std.specs.Option.{option_copied};
 ghost use Rattle.atl_orders.specs.Lines.{is_feed, without_return, lines};
-ghost use Rattle.atl_orders.specs.Views.{lines_of_rest, left_size};
+ghost use Rattle.atl_orders.specs.Views.{lines_of_rest, rest_size};
 ghost use Rattle.atl_orders.specs.Standing.{StartsWith, EndsWith};
 
 use crate::letters::{CARRIAGE_RETURN, LINE_FEED};
@@ -44,7 +44,7 @@ pub fn next_line(text: &[u8]) -> (&[u8], Option<&[u8]>)
     ensures lines { lines text.now ≡ result.0.now ∷ lines_of_rest (option_copied result.1) }
     ensures front { StartsWith text.now result.0.now }
     ensures rest { IfSome (option_copied result.1) (EndsWith text.now) }
-    ensures shorter { left_size (option_copied result.1) ≤ length text.now }
+    ensures shorter { rest_size (option_copied result.1) ≤ length text.now }
 {
     let end = feed_at(text);
     let line = without_return(&text[..end]);

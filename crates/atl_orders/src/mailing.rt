@@ -1,17 +1,16 @@
-//! A mailing: its header, its lines, and what they say.
-ghost use Rattle.std.specs.Prelude.{List, ℕ, IfSome, ◌≡◌, ◌≢◌, ◌+◌, ◌<◌, ◌≤◌, ◌++◌, ◌^◌, length, IfOk, IfErr, OnOk};
-ghost use Rattle.std.specs.Bool.{Decides};
+//! Reads a mailing: finds its header and reads its lines. See docs/RULES.md, "Reading a mailing".
+ghost use Rattle.std.specs.Prelude.{List, ℕ, IfSome, ◌≡◌, ◌≢◌, ◌+◌, ◌<◌, ◌≤◌, ◌++◌, ◌^◌, length, IfOk, IfErr, OnOk, ◌↔◌, IsTrue};
 ghost use Rattle.std.specs.List.{flat_map, slice_range};
 ghost use Rattle.atl_tables.specs.Lookup.{name_of};
 ghost use Rattle.std.specs.Option.{option_copied};
 ghost use Rattle.atl_orders.specs.declared.fault.MailFault.TheVariants.{Memory};
-ghost use Rattle.atl_orders.specs.declared.reading.Place.TheVariants.{Nowhere};
+ghost use Rattle.atl_orders.specs.declared.reading.ReaderState.TheVariants.{Nowhere};
 ghost use Rattle.atl_orders.specs.Limits.{most_bytes};
 ghost use Rattle.atl_orders.specs.Aliasing.{no_alias};
 ghost use Rattle.atl_orders.specs.Words.{words};
 ghost use Rattle.atl_orders.specs.Standing.{EndsWith};
 ghost use Rattle.atl_orders.specs.Lines.{lines};
-ghost use Rattle.atl_orders.specs.Views.{left_size, effect_of, headed, body_entries};
+ghost use Rattle.atl_orders.specs.Views.{rest_size, effect_of, header_value, body_entries};
 ghost use Rattle.atl_orders.specs.Mailing.{faction_of, header_from, effects, entry_of, fault_of, reading, reading_of, IsMailingOf, IsReadWith, Reads};
 
 use crate::aliases::Aliases;
@@ -19,7 +18,7 @@ use crate::fault::{FaultyLine, MailFault};
 use crate::limits::{LAST_FACTION, MOST_BYTES};
 use crate::lines::next_line;
 use crate::order::{Order, Span, UnitRef};
-use crate::reading::{Outcome, Place, read_line};
+use crate::reading::{LineResult, ReaderState, read_line};
 use crate::words::{Cursor, begins, next_word, number};
 use atl_tables::lookup::letter_of;
 use atl_tables::{Sequence, World, let_go};
@@ -130,9 +129,9 @@ struct Header<'a> {
 #[tactic(auto, using(crate::proofs::WordLaws::ends_further, crate::proofs::WordLaws::ends_with_all), unfolding(crate::specs::Mailing::header_from))]
 fn find_header(text: &[u8]) -> Result<Header<'_>, MailFault>
     requires { length text.now ≤ most_bytes }
-    ensures exact { Reads headed result (header_from 1 (lines text.now)) }
+    ensures exact { Reads header_value result (header_from 1 (lines text.now)) }
     ensures rest { IfOk result (λ h. IfSome (option_copied h.rest) (EndsWith text.now)) }
-    ensures small { IfOk result (λ h. h.next + left_size (option_copied h.rest) ≤ most_bytes + 2) }
+    ensures small { IfOk result (λ h. h.next + rest_size (option_copied h.rest) ≤ most_bytes + 2) }
     ensures sure { IfErr result (λ fault. fault ≢ Memory) }
 {
     let mut rest = Some(text);
@@ -158,7 +157,7 @@ fn find_header(text: &[u8]) -> Result<Header<'_>, MailFault>
 /// Whether a text is a mailing of a faction: it has at most `MOST_BYTES` bytes, and its header names the faction. It takes
 /// no memory. See docs/RULES.md, "Reading a mailing".
 pub fn is_mailing_of(faction: u32, text: &[u8]) -> bool
-    ensures { Decides result (IsMailingOf faction text.now) }
+    ensures { IsTrue result ↔ (IsMailingOf faction text.now) }
 {
     if MOST_BYTES < text.len() {
         return false;
@@ -186,7 +185,8 @@ impl Body {
 
     /// The mailing of a faction whose lines say this.
     fn into_mailing(self, faction: u32, text: Sequence<u8>) -> Mailing
-        ensures { result ≡ record { faction = faction; text = text; entries = self.entries; faults = self.faults } }
+        ensures { result ≡ record
+            { faction = faction; text = text; entries = self.entries; faults = self.faults } }
     {
         let Body { entries, faults } = self;
         Mailing {
@@ -198,16 +198,16 @@ impl Body {
     }
 
     /// Notes what a line does, behind what was noted. Without memory what is noted is to be given up.
-    fn note(&mut self, line: u32, outcome: Outcome) -> Result<(), AllocError>
+    fn note(&mut self, line: u32, outcome: LineResult) -> Result<(), AllocError>
         ensures entries { OnOk result ((text : List ℕ) → body_entries text self.new
             ≡ body_entries text self.old ++ entry_of (line, effect_of text outcome)) }
         ensures faults { OnOk result ((text : List ℕ) → self.new.faults
             ≡ self.old.faults ++ fault_of (line, effect_of text outcome)) }
     {
         match outcome {
-            Outcome::Nothing => {}
-            Outcome::Faulty(fault) => self.faults.push(FaultyLine { line, fault })?,
-            Outcome::Says(target, order) => self.entries.push(Entry {
+            LineResult::Nothing => {}
+            LineResult::Faulty(fault) => self.faults.push(FaultyLine { line, fault })?,
+            LineResult::Says(target, order) => self.entries.push(Entry {
                 line,
                 target,
                 order,
@@ -220,19 +220,22 @@ impl Body {
 /// What the lines behind a header say, up to the end.
 #[tactic(auto, using(crate::proofs::LineLaws::line_place, crate::proofs::WordLaws::ends_further, crate::proofs::LineLaws::starts_shorter, crate::proofs::WordLaws::ends_shorter), unfolding(crate::specs::Mailing::effects))]
 fn read_body(alloc: Global, world: &World, text: &[u8], header: Header) -> Result<Body, AllocError>
-    requires small { header.next + left_size (option_copied header.rest) < 2 ^ 32 }
+    requires small { header.next + rest_size (option_copied header.rest) < 2 ^ 32 }
     requires rest { IfSome (option_copied header.rest) (EndsWith text.now) }
-    ensures entries { IfOk result (λ b. body_entries text.now b
-        ≡ flat_map entry_of (effects world.now header.entry.next Nowhere no_alias (headed header.entry).rest)) }
-    ensures faults { IfOk result (λ b. b.faults
-        ≡ flat_map fault_of (effects world.now header.entry.next Nowhere no_alias (headed header.entry).rest)) }
+    ensures entries { IfOk result
+        (λ b. body_entries text.now b
+        ≡ flat_map entry_of (effects world.now header.entry.next Nowhere no_alias
+        (header_value header.entry).rest)) }
+    ensures faults { IfOk result
+        (λ b. b.faults ≡ flat_map fault_of
+        (effects world.now header.entry.next Nowhere no_alias (header_value header.entry).rest)) }
 {
     let mut body = Body {
         entries: Sequence::new(alloc),
         faults: Sequence::new(alloc),
     };
     let mut aliases = Aliases::new(alloc)?;
-    let mut place = Place::Nowhere;
+    let mut place = ReaderState::Nowhere;
     let mut number = header.next;
     let mut rest = header.rest;
     while let Some(left) = rest {

@@ -4,7 +4,7 @@ ghost use Rattle.std.specs.Prelude.{◌≡◌, ◌≤◌, IfOk};
 ghost use Rattle.atl_orders.specs.Limits.{most_number, last_alias};
 ghost use Rattle.atl_orders.specs.Words.{words};
 ghost use Rattle.atl_orders.specs.Views.{word_text, Gives};
-ghost use Rattle.atl_orders.specs.Standing.{StandsIn, EndsWith};
+ghost use Rattle.atl_orders.specs.Standing.{IsPartOf, EndsWith};
 ghost use Rattle.atl_orders.specs.Operands.{word_at, count_at, number_at, alias_at, unit_at, item_at, amount_of_item_at, skill_at, kind_at, direction_of, direction_at, units_of};
 
 use crate::fault::LineFault;
@@ -17,7 +17,7 @@ use std::alloc::{AllocError, Global};
 /// The next word, and what follows it.
 pub fn word_at(line: &[u8]) -> Result<(Word<'_>, &[u8]), LineFault>
     ensures word { Gives (λ x. (word_text x.0, words x.1.now)) result (word_at (words line.now)) }
-    ensures stands { IfOk result (λ x. StandsIn line.now x.0.bytes.now x.0.behind) }
+    ensures stands { IfOk result (λ x. IsPartOf line.now x.0.bytes.now x.0.behind) }
     ensures rest { IfOk result (λ x. EndsWith line.now x.1.now) }
 {
     next_word(line).ok_or(LineFault::MissingWord)
@@ -27,7 +27,8 @@ pub fn word_at(line: &[u8]) -> Result<(Word<'_>, &[u8]), LineFault>
 #[tactic(auto, unfolding(crate::specs::Operands::count_at))]
 fn count_at(line: &[u8], most: u32, fault: LineFault) -> Result<(u32, &[u8]), LineFault>
     requires { most ≤ most_number }
-    ensures count { Gives (λ x. (x.0, words x.1.now)) result (count_at most fault (words line.now)) }
+    ensures count { Gives (λ x. (x.0, words x.1.now)) result
+        (count_at most fault (words line.now)) }
     ensures within { IfOk result (λ x. x.0 ≤ most) }
 {
     let (word, rest) = word_at(line)?;

@@ -1,6 +1,4 @@
-//! What an order says.
-ghost use Rattle.std.specs.Prelude.{◌≡◌};
-
+//! An order: its verb, and the operands that its words name. See docs/RULES.md, "Orders".
 use crate::verb::Verb;
 use atl_tables::{Direction, Sequence};
 
@@ -37,115 +35,70 @@ pub struct Span {
     pub quoted: bool,
 }
 
-/// An order, with a name as a part of the mailing's text, or as `N` has it. Its numbers are from 1 to `MOST_NUMBER`; items,
-/// skills and kinds are by their numbers in the world. See docs/RULES.md, "Orders".
+/// What the words after a verb name, with a name as a part of the mailing's text, or as `N` has it. Numbers are from 1 to
+/// `MOST_NUMBER`; items, skills and kinds are by their numbers in the world. See docs/RULES.md, "Orders".
 #[derive(Debug)]
-pub enum Order<N = Span> {
-    /// A new unit, by the alias that the mailing gives it, from 1 to `LAST_ALIAS`.
-    Form(u32),
-    /// Gives a new name, which keeps the rule of names.
+pub enum Operands<N = Span> {
+    /// The verb stands alone.
+    Nothing,
+    /// The alias of a new unit, from 1 to `LAST_ALIAS`.
+    Alias(u32),
+    /// Whether a flag is to be set.
+    Flag(bool),
+    /// A number: of a structure, a faction or men.
+    Number(u32),
+    /// A unit.
+    Unit(UnitRef),
+    /// Units, in order; one or more.
+    Units(Sequence<UnitRef>),
+    /// A unit, and a number: of money or men.
+    UnitAndNumber { to: UnitRef, number: u32 },
+    /// A unit, and so much of an item.
+    UnitAndGoods { to: UnitRef, amount: u32, item: u16 },
+    /// So much of an item.
+    Goods { amount: u32, item: u16 },
+    /// What gets a new name, and the name, which keeps the rule of names.
     Name { what: NameKind, name: N },
-    /// Whether the guard flag is to be set.
-    Guard(bool),
-    /// The number of the structure to enter.
-    Enter(u32),
-    /// Leaves the structure that the unit is inside.
-    Leave,
-    /// The new owner of the structure that the unit is inside.
-    Promote(UnitRef),
-    /// So much of an item to a unit.
-    Give { to: UnitRef, amount: u32, item: u16 },
-    /// So much money to a unit.
-    Pay { to: UnitRef, amount: u32 },
-    /// So many men to a unit, with their days of study.
-    Transfer { to: UnitRef, men: u32 },
-    /// Sells so much of an item to the market of the region.
-    Sell { amount: u32, item: u16 },
-    /// Buys so much of an item from the market of the region.
-    Buy { amount: u32, item: u16 },
-    /// Takes tax from the region.
-    Tax,
-    /// How many men.
-    Recruit(u32),
-    /// The number of the faction that ends its game.
-    Quit(u32),
-    /// Where the unit walks to.
-    Move(Direction),
-    /// Where the ship that the unit owns sails to.
-    Sail(Direction),
-    /// The kind of a new structure, or to go on with the one that the unit is in.
-    Build(Option<u16>),
-    /// The learners, in order; one or more.
-    Teach(Sequence<UnitRef>),
-    /// The skill to learn for a month.
-    Study(u16),
-    /// The item to make for a month.
-    Produce(u16),
-    /// Works for the wage of the region's terrain.
-    Work,
+    /// One of the four directions.
+    Direction(Direction),
+    /// A kind of structure, if one is named.
+    Kind(Option<u16>),
+    /// A skill.
+    Skill(u16),
+    /// An item.
+    Item(u16),
 }
 
-impl<N: Drop> Drop for Order<N> {
+impl<N: Drop> Drop for Operands<N> {
     fn drop(self) {
         match self {
-            Order::Form(_) => {}
-            Order::Name { what: _, name: _ } => {}
-            Order::Guard(_) => {}
-            Order::Enter(_) => {}
-            Order::Leave => {}
-            Order::Promote(_) => {}
-            Order::Give {
+            Operands::Nothing => {}
+            Operands::Alias(_) => {}
+            Operands::Flag(_) => {}
+            Operands::Number(_) => {}
+            Operands::Unit(_) => {}
+            Operands::Units(_) => {}
+            Operands::UnitAndNumber { to: _, number: _ } => {}
+            Operands::UnitAndGoods {
                 to: _,
                 amount: _,
                 item: _,
             } => {}
-            Order::Pay { to: _, amount: _ } => {}
-            Order::Transfer { to: _, men: _ } => {}
-            Order::Sell { amount: _, item: _ } => {}
-            Order::Buy { amount: _, item: _ } => {}
-            Order::Tax => {}
-            Order::Recruit(_) => {}
-            Order::Quit(_) => {}
-            Order::Move(_) => {}
-            Order::Sail(_) => {}
-            Order::Build(_) => {}
-            Order::Teach(_) => {}
-            Order::Study(_) => {}
-            Order::Produce(_) => {}
-            Order::Work => {}
+            Operands::Goods { amount: _, item: _ } => {}
+            Operands::Name { what: _, name: _ } => {}
+            Operands::Direction(_) => {}
+            Operands::Kind(_) => {}
+            Operands::Skill(_) => {}
+            Operands::Item(_) => {}
         }
     }
 }
 
-impl<N> Order<N> {
-    ghost use Rattle.atl_orders.specs.Orders.{verb_of_order};
-
+/// An order: its verb, and what the words after it name. They have the form that the order table gives the verb. See
+/// docs/RULES.md, "Orders".
+#[derive(Drop, Debug)]
+pub struct Order<N: Drop = Span> {
     /// The word that the order begins with.
-    pub fn verb(&self) -> Verb
-        ensures { result ≡ verb_of_order self.now }
-    {
-        match self {
-            Order::Form(_) => Verb::Form,
-            Order::Name { .. } => Verb::Name,
-            Order::Guard(_) => Verb::Guard,
-            Order::Enter(_) => Verb::Enter,
-            Order::Leave => Verb::Leave,
-            Order::Promote(_) => Verb::Promote,
-            Order::Give { .. } => Verb::Give,
-            Order::Pay { .. } => Verb::Pay,
-            Order::Transfer { .. } => Verb::Transfer,
-            Order::Sell { .. } => Verb::Sell,
-            Order::Buy { .. } => Verb::Buy,
-            Order::Tax => Verb::Tax,
-            Order::Recruit(_) => Verb::Recruit,
-            Order::Quit(_) => Verb::Quit,
-            Order::Move(_) => Verb::Move,
-            Order::Sail(_) => Verb::Sail,
-            Order::Build(_) => Verb::Build,
-            Order::Teach(_) => Verb::Teach,
-            Order::Study(_) => Verb::Study,
-            Order::Produce(_) => Verb::Produce,
-            Order::Work => Verb::Work,
-        }
-    }
+    pub verb: Verb,
+    pub operands: Operands<N>,
 }

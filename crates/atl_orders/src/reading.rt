@@ -1,7 +1,7 @@
-//! What a line does.
+//! Reads one line of a mailing. See docs/RULES.md, "Reading a mailing".
 ghost use Rattle.std.specs.Prelude.{◌≡◌, ℕ, List, IfOk};
 ghost use Rattle.std.specs.List.{list_all};
-ghost use Rattle.atl_orders.specs.Views.{given_by, word_text, effect_of};
+ghost use Rattle.atl_orders.specs.Views.{alias_set, word_text, effect_of};
 ghost use Rattle.atl_orders.specs.Words.{words};
 ghost use Rattle.atl_orders.specs.Standing.{IsCursor};
 ghost use Rattle.atl_orders.specs.Operands.{number_at};
@@ -12,8 +12,8 @@ use crate::aliases::Aliases;
 use crate::fault::LineFault;
 use crate::letters::TAB;
 use crate::operands::{alias_at, number_at};
-use crate::order::{Order, UnitRef};
-use crate::orders::said_by;
+use crate::order::{Operands, Order, UnitRef};
+use crate::orders::order_at;
 use crate::verb::Verb;
 use crate::words::{Cursor, Word, is_same, next_word};
 use atl_tables::World;
@@ -31,7 +31,7 @@ pub enum Keyword {
 
 /// For whom the orders of a line are.
 #[derive(Drop, Clone, Copy, Debug, PartialEq, Eq)]
-pub enum Place {
+pub enum ReaderState {
     /// No unit is named.
     Nowhere,
     /// The unit's of this number.
@@ -44,7 +44,7 @@ pub enum Place {
 
 /// What a line does beside moving the place.
 #[derive(Drop, Debug)]
-pub enum Outcome {
+pub enum LineResult {
     Nothing,
     Faulty(LineFault),
     Says(UnitRef, Order),
@@ -76,68 +76,83 @@ fn keyword_of(word: Word) -> Option<Keyword>
 
 /// A UNIT line, with the words behind its keyword.
 #[tactic(auto, unfolding(crate::specs::Reading::unit_step))]
-fn unit_line(line: &[u8]) -> (Outcome, Place)
+fn unit_line(line: &[u8]) -> (LineResult, ReaderState)
     ensures { (given : _) (text : List ℕ) → unit_step given (number_at (words line.now))
         ≡ record { effect = effect_of text result.0; place = result.1; given = given } }
 {
     match number_at(line) {
-        Ok((number, _)) => (Outcome::Nothing, Place::At(number)),
-        Err(fault) => (Outcome::Faulty(fault), Place::Nowhere),
+        Ok((number, _)) => (LineResult::Nothing, ReaderState::At(number)),
+        Err(fault) => (LineResult::Faulty(fault), ReaderState::Nowhere),
     }
 }
 
 /// An END line.
 #[tactic(auto, unfolding(crate::specs::Reading::end_step))]
-fn end_line(place: Place) -> (Outcome, Place)
+fn end_line(place: ReaderState) -> (LineResult, ReaderState)
     ensures { (given : _) (text : List ℕ) → end_step place given
         ≡ record { effect = effect_of text result.0; place = result.1; given = given } }
 {
     match place {
-        Place::Nowhere | Place::At(_) => (Outcome::Faulty(LineFault::EndAlone), place),
-        Place::Forming { parent, alias: _ } => (Outcome::Nothing, Place::At(parent)),
-        Place::Skipping(Some(parent)) => (Outcome::Nothing, Place::At(parent)),
-        Place::Skipping(None) => (Outcome::Nothing, Place::Nowhere),
+        ReaderState::Nowhere | ReaderState::At(_) => (
+            LineResult::Faulty(LineFault::EndAlone),
+            place,
+        ),
+        ReaderState::Forming { parent, alias: _ } => (LineResult::Nothing, ReaderState::At(parent)),
+        ReaderState::Skipping(Some(parent)) => (LineResult::Nothing, ReaderState::At(parent)),
+        ReaderState::Skipping(None) => (LineResult::Nothing, ReaderState::Nowhere),
     }
 }
 
 /// A FORM line, with the words behind its keyword.
 #[tactic(auto, unfolding(crate::specs::Reading::form_step, crate::specs::Reading::block_step))]
-fn form_line(place: Place, aliases: &mut Aliases, line: &[u8]) -> (Outcome, Place)
-    ensures { (text : List ℕ) → form_step place (given_by aliases.old) (words line.now)
-        ≡ record { effect = effect_of text result.0; place = result.1; given = given_by aliases.new } }
+fn form_line(place: ReaderState, aliases: &mut Aliases, line: &[u8]) -> (LineResult, ReaderState)
+    ensures { (text : List ℕ)
+        → form_step place (alias_set aliases.old) (words line.now)
+        ≡ record {
+          effect = effect_of text result.0;
+          place = result.1;
+          given = alias_set
+              aliases.new;
+        } }
 {
     let parent = match place {
-        Place::Nowhere => return (Outcome::Faulty(LineFault::NoUnit), Place::Skipping(None)),
-        Place::Forming { .. } | Place::Skipping(_) => {
-            return (Outcome::Faulty(LineFault::NestedForm), place);
+        ReaderState::Nowhere => return (
+            LineResult::Faulty(LineFault::NoUnit),
+            ReaderState::Skipping(None),
+        ),
+        ReaderState::Forming { .. } | ReaderState::Skipping(_) => {
+            return (LineResult::Faulty(LineFault::NestedForm), place);
         }
-        Place::At(parent) => parent,
+        ReaderState::At(parent) => parent,
     };
-    let skipping = Place::Skipping(Some(parent));
+    let skipping = ReaderState::Skipping(Some(parent));
     match alias_at(line) {
-        Err(fault) => (Outcome::Faulty(fault), skipping),
+        Err(fault) => (LineResult::Faulty(fault), skipping),
         Ok((alias, _)) => {
             if aliases.contains(alias) {
-                return (Outcome::Faulty(LineFault::BadAlias), skipping);
+                return (LineResult::Faulty(LineFault::BadAlias), skipping);
             }
             aliases.add(alias);
-            let order = Order::Form(alias);
+            let order = Order {
+                verb: Verb::Form,
+                operands: Operands::Alias(alias),
+            };
             (
-                Outcome::Says(UnitRef::Number(parent), order),
-                Place::Forming { parent, alias },
+                LineResult::Says(UnitRef::Number(parent), order),
+                ReaderState::Forming { parent, alias },
             )
         }
     }
 }
 
 /// For whom an order is.
-fn target(place: Place) -> Option<UnitRef>
+fn target(place: ReaderState) -> Option<UnitRef>
     ensures { result ≡ target place }
 {
     match place {
-        Place::Nowhere | Place::Skipping(_) => None,
-        Place::At(number) => Some(UnitRef::Number(number)),
-        Place::Forming { parent: _, alias } => Some(UnitRef::Alias(alias)),
+        ReaderState::Nowhere | ReaderState::Skipping(_) => None,
+        ReaderState::At(number) => Some(UnitRef::Number(number)),
+        ReaderState::Forming { parent: _, alias } => Some(UnitRef::Alias(alias)),
     }
 }
 
@@ -145,20 +160,20 @@ fn target(place: Place) -> Option<UnitRef>
 fn order_line(
     alloc: Global,
     world: &World,
-    place: Place,
+    place: ReaderState,
     verb: Verb,
     cursor: Cursor,
-) -> Result<Outcome, AllocError>
+) -> Result<LineResult, AllocError>
     requires { IsCursor cursor }
     ensures { IfOk result (λ outcome. effect_of cursor.entry.text.now outcome
         ≡ order_effect (target place) (said_by world.now verb (words cursor.entry.rest.now))) }
 {
     let Some(unit) = target(place) else {
-        return Ok(Outcome::Faulty(LineFault::NoUnit));
+        return Ok(LineResult::Faulty(LineFault::NoUnit));
     };
-    match said_by(alloc, world, verb, cursor)? {
-        Ok(order) => Ok(Outcome::Says(unit, order)),
-        Err(fault) => Ok(Outcome::Faulty(fault)),
+    match order_at(alloc, world, verb, cursor)? {
+        Ok(order) => Ok(LineResult::Says(unit, order)),
+        Err(fault) => Ok(LineResult::Faulty(fault)),
     }
 }
 
@@ -167,22 +182,28 @@ fn order_line(
 pub fn read_line(
     alloc: Global,
     world: &World,
-    place: Place,
+    place: ReaderState,
     aliases: &mut Aliases,
     line: Cursor,
-) -> Result<(Outcome, Place), AllocError>
+) -> Result<(LineResult, ReaderState), AllocError>
     requires { IsCursor line }
-    ensures { IfOk result (λ r. line_step world.now place (given_by aliases.old) line.entry.rest.now
-        ≡ record { effect = effect_of line.entry.text.now r.0; place = r.1; given = given_by aliases.new }) }
+    ensures { IfOk result (λ r.
+        line_step world.now place (alias_set aliases.old) line.entry.rest.now
+        ≡ record {
+          effect = effect_of line.entry.text.now r.0;
+          place = r.1;
+          given = alias_set
+              aliases.new;
+        }) }
 {
     if !is_plain(line.rest) {
-        return Ok((Outcome::Faulty(LineFault::BadByte), place));
+        return Ok((LineResult::Faulty(LineFault::BadByte), place));
     }
     let Some((word, rest)) = next_word(line.rest) else {
-        return Ok((Outcome::Nothing, place));
+        return Ok((LineResult::Nothing, place));
     };
     match keyword_of(word) {
-        None => Ok((Outcome::Faulty(LineFault::UnknownOrder), place)),
+        None => Ok((LineResult::Faulty(LineFault::UnknownOrder), place)),
         Some(Keyword::Unit) => Ok(unit_line(rest)),
         Some(Keyword::End) => Ok(end_line(place)),
         Some(Keyword::Form) => Ok(form_line(place, aliases, rest)),

@@ -1,4 +1,4 @@
-//! The rules of reading.
+//! Laws: mailings are read by the rules, and what is read is in its bounds.
 ghost use Rattle.atl_orders.specs.Rules.{LineRules, BodyRules, TextRules};
 ghost use Rattle.atl_orders.specs.Bounds.{ReadingsKeepBounds};
 

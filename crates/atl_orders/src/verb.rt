@@ -1,10 +1,11 @@
-//! The verbs of orders.
+//! The verbs of orders, with their keywords. See docs/RULES.md, "Orders".
 ghost use Rattle.std.specs.Prelude.{◌≡◌, find};
 ghost use Rattle.atl_orders.specs.Words.{is_word};
 ghost use Rattle.atl_orders.specs.Views.{word_text};
+ghost use Rattle.atl_orders.specs.Verbs.{row, row_value};
 
 use crate::words::{Word, is_same};
-use atl_tables::{text_of, variants};
+use atl_tables::variants;
 
 /// What an order does.
 #[derive(Drop, Clone, Copy, Debug, PartialEq, Eq)]
@@ -32,32 +33,122 @@ pub enum Verb {
     Work,
 }
 
-/// The verbs of the order table, which FORM isn't in.
-const TABLE: [Verb; 20] = variants!(
+/// What the words after a verb name: a column of the order table.
+#[derive(Drop, Clone, Copy, Debug, PartialEq, Eq)]
+pub enum Shape {
+    /// No word.
+    Nothing,
+    /// An alias.
+    Alias,
+    /// 0 or 1.
+    Flag,
+    /// A number.
+    Number,
+    /// A unit.
+    Unit,
+    /// One unit or more, up to the line's end.
+    Units,
+    /// A unit and a number.
+    UnitAndNumber,
+    /// A unit, an amount and an item.
+    UnitAndGoods,
+    /// An amount and an item.
+    Goods,
+    /// What gets a new name, and the name.
+    Name,
+    /// A direction.
+    Direction,
+    /// A kind of structure, or no word.
+    Kind,
+    /// A skill.
+    Skill,
+    /// An item.
+    Item,
+}
+
+/// Orders of which a unit carries out only one a month.
+#[derive(Drop, Clone, Copy, Debug, PartialEq, Eq)]
+pub enum Slot {
+    /// Of the verbs that take the whole month.
+    MonthLong,
+    Selling,
+    Buying,
+    Taxing,
+    Recruiting,
+}
+
+/// A row of the order table. See docs/RULES.md, "Orders" and "Orders of a month".
+#[derive(Drop, Clone, Copy, Debug)]
+pub struct Row {
+    /// The keyword in capitals, as reports print it.
+    pub keyword: &'static str,
+    /// What the words after it name.
+    pub shape: Shape,
+    /// The slot that an order takes, if it takes one.
+    pub slot: Option<Slot>,
+}
+
+/// A row of the order table.
+fn table_row(keyword: &'static str, shape: Shape, slot: Option<Slot>) -> Row
+    ensures { row_value result ≡ row keyword.now shape slot }
+{
+    Row {
+        keyword,
+        shape,
+        slot,
+    }
+}
+
+/// The verbs of the order table that a line can begin with. FORM has lines of its own.
+const LISTED: [Verb; 20] = variants!(
     Verb: Name Guard Enter Leave Promote Give Pay Transfer Sell Buy Tax Recruit Quit Move Sail Build Teach
     Study Produce Work
 );
 
 impl Verb {
-    ghost use Rattle.atl_orders.specs.Verbs.{keyword, table, verb_of};
+    ghost use Rattle.atl_orders.specs.Verbs.{keyword, listed, row_of, row_value, verb_of};
+
+    /// The verb's row of the order table.
+    pub fn row(self) -> Row
+        ensures { row_value result ≡ row_of self }
+    {
+        match self {
+            Verb::Form => table_row("FORM", Shape::Alias, None),
+            Verb::Name => table_row("NAME", Shape::Name, None),
+            Verb::Guard => table_row("GUARD", Shape::Flag, None),
+            Verb::Enter => table_row("ENTER", Shape::Number, None),
+            Verb::Leave => table_row("LEAVE", Shape::Nothing, None),
+            Verb::Promote => table_row("PROMOTE", Shape::Unit, None),
+            Verb::Give => table_row("GIVE", Shape::UnitAndGoods, None),
+            Verb::Pay => table_row("PAY", Shape::UnitAndNumber, None),
+            Verb::Transfer => table_row("TRANSFER", Shape::UnitAndNumber, None),
+            Verb::Sell => table_row("SELL", Shape::Goods, Some(Slot::Selling)),
+            Verb::Buy => table_row("BUY", Shape::Goods, Some(Slot::Buying)),
+            Verb::Tax => table_row("TAX", Shape::Nothing, Some(Slot::Taxing)),
+            Verb::Recruit => table_row("RECRUIT", Shape::Number, Some(Slot::Recruiting)),
+            Verb::Quit => table_row("QUIT", Shape::Number, None),
+            Verb::Move => table_row("MOVE", Shape::Direction, Some(Slot::MonthLong)),
+            Verb::Sail => table_row("SAIL", Shape::Direction, Some(Slot::MonthLong)),
+            Verb::Build => table_row("BUILD", Shape::Kind, Some(Slot::MonthLong)),
+            Verb::Teach => table_row("TEACH", Shape::Units, Some(Slot::MonthLong)),
+            Verb::Study => table_row("STUDY", Shape::Skill, Some(Slot::MonthLong)),
+            Verb::Produce => table_row("PRODUCE", Shape::Item, Some(Slot::MonthLong)),
+            Verb::Work => table_row("WORK", Shape::Nothing, Some(Slot::MonthLong)),
+        }
+    }
 
     /// The keyword in capitals, as reports print it.
     pub fn keyword(self) -> &'static str
         ensures { result.now ≡ keyword self }
     {
-        text_of!(
-            self, Verb: Form "FORM" Name "NAME" Guard "GUARD" Enter "ENTER" Leave "LEAVE"
-            Promote "PROMOTE" Give "GIVE" Pay "PAY" Transfer "TRANSFER" Sell "SELL" Buy "BUY"
-            Tax "TAX" Recruit "RECRUIT" Quit "QUIT" Move "MOVE" Sail "SAIL" Build "BUILD"
-            Teach "TEACH" Study "STUDY" Produce "PRODUCE" Work "WORK"
-        )
+        self.row().keyword
     }
 
-    /// The verb of the order table whose keyword a word is.
+    /// The verb whose keyword a word is, if a line can begin with it.
     fn listed(word: Word) -> Option<Verb>
-        ensures { result ≡ find (λ verb. is_word (keyword verb) (word_text word.entry)) table }
+        ensures { result ≡ find (λ verb. is_word (keyword verb) (word_text word.entry)) listed }
     {
-        TABLE
+        LISTED
             .iter()
             .copied()
             .find(|verb| is_same(word.bytes, verb.keyword().as_bytes()))

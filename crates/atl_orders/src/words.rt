@@ -1,4 +1,4 @@
-//! The words of a line.
+//! Splits a line into its words. See docs/RULES.md, "Reading a mailing".
 
 ghost use Rattle.std.specs.Prelude.{◌≡◌, ◌≤◌, ◌<◌, ◌∷◌, [], MatchOption, IfSome, length, slice_index, false};
 ghost use Rattle.std.specs.List.{position, position_or_len};
@@ -7,7 +7,7 @@ ghost use Rattle.atl_tables.specs.Letters.{quote};
 ghost use Rattle.atl_orders.specs.Limits.{most_number};
 ghost use Rattle.atl_orders.specs.Words.{is_quote, is_blank, ends_word, words, begins, number_of};
 ghost use Rattle.atl_orders.specs.Views.{word_text};
-ghost use Rattle.atl_orders.specs.Standing.{StandsIn, EndsWith};
+ghost use Rattle.atl_orders.specs.Standing.{IsPartOf, EndsWith};
 
 use crate::letters::{SEMICOLON, TAB};
 use atl_tables::letters::{QUOTE, SPACE};
@@ -96,7 +96,7 @@ fn end_at(bytes: &[u8]) -> usize
 /// A word after its opening quote, and what follows its closing one.
 fn quoted_word(after: &[u8]) -> (Word<'_>, &[u8])
     ensures words { words (quote ∷ after.now) ≡ word_text result.0 ∷ words result.1.now }
-    ensures stands { StandsIn after.now result.0.bytes.now result.0.behind }
+    ensures stands { IsPartOf after.now result.0.bytes.now result.0.behind }
     ensures rest { EndsWith after.now result.1.now }
 {
     let (bytes, behind) = after.split_at(quote_at(after));
@@ -114,7 +114,7 @@ fn bare_word(line: &[u8]) -> (Word<'_>, &[u8])
     requires some { 0 < length line.now }
     requires bare { ends_word (slice_index line.now 0) ≡ false }
     ensures words { words line.now ≡ word_text result.0 ∷ words result.1.now }
-    ensures stands { StandsIn line.now result.0.bytes.now result.0.behind }
+    ensures stands { IsPartOf line.now result.0.bytes.now result.0.behind }
     ensures rest { EndsWith line.now result.1.now }
 {
     let (bytes, behind) = line.split_at(end_at(line));
@@ -131,7 +131,7 @@ fn bare_word(line: &[u8]) -> (Word<'_>, &[u8])
 pub fn next_word(line: &[u8]) -> Option<(Word<'_>, &[u8])>
     ensures words { MatchOption result (words line.now ≡ [])
         (λ found. words line.now ≡ word_text found.0 ∷ words found.1.now) }
-    ensures stands { IfSome result (λ found. StandsIn line.now found.0.bytes.now found.0.behind) }
+    ensures stands { IfSome result (λ found. IsPartOf line.now found.0.bytes.now found.0.behind) }
     ensures rest { IfSome result (λ found. EndsWith line.now found.1.now) }
 {
     for (i, byte) in line.iter().enumerate() {

@@ -7,14 +7,14 @@ use Rattle.atl_records.specs.declared.books.Thing.{Thing}
 use Rattle.atl_records.specs.Books.{amount_in}
 use Rattle.atl_state.specs.Good.{IsGood}
 use Rattle.atl_state.specs.Campaign.{CampaignValue}
-use Rattle.atl_instant.specs.Meaning.{HasRoom, HaveRoom, Moving, both_move, most_moved}
-use Rattle.atl_instant.specs.Terms.{MovesItsOwn, PhaseTerms, may_move}
+use Rattle.atl_instant.specs.Meaning.{BookBound, HasRoom, HaveRoom, both_move, most_moved}
+use Rattle.atl_instant.specs.PhaseSpecs.{MovesItsOwn, PhaseSpec, may_move}
 use Rattle.atl_instant.proofs.MeaningLaws.{room_less, room_when_sound}
-use Rattle.atl_market.specs.Work.{work_terms}
+use Rattle.atl_market.specs.Work.{work_spec}
 use Rattle.atl_month.specs.Month.{orders_moving}
-use Rattle.atl_month.specs.Season.{season_terms}
-use Rattle.atl_month.specs.Sweep.{sweep_terms}
-use Rattle.atl_month.specs.Upkeep.{upkeep_terms}
+use Rattle.atl_month.specs.Season.{season_spec}
+use Rattle.atl_month.specs.Sweep.{sweep_spec}
+use Rattle.atl_month.specs.Upkeep.{upkeep_spec}
 use Rattle.atl_month.proofs.MoveLaws.{phases_little}
 use Rattle.atl_month.proofs.PhaseLaws.{season_alone, sweep_alone, upkeep_alone, work_alone}
 use Rattle.atl_phase_tests.specs.Roomy.{IsRoomy, much}
@@ -24,7 +24,7 @@ pub roomy_when_good : (w : WorldValue) (c d : CampaignValue) → IsGood w c → 
 roomy_when_good w c d good books e t = subst (λ b. HasRoom much (amount_in b e t)) (sym books) (room_when_sound w c (λ f u. much) (λ f u. omega arith) good.sound e t)
 
 -- there is room for what moves less
-pub room_for : (c : CampaignValue) (moving : Moving) → ((e : Entry) (t : Thing) → moving e t ≤ much) → IsRoomy c → HaveRoom moving c
+pub room_for : (c : CampaignValue) (moving : BookBound) → ((e : Entry) (t : Thing) → moving e t ≤ much) → IsRoomy c → HaveRoom moving c
 room_for c moving little room = room_less moving (λ e t. much) c little room
 
 pub room_for_orders : (c : CampaignValue) → IsRoomy c → HaveRoom orders_moving c
@@ -35,23 +35,23 @@ cut : (b : Bool) (moved : ℕ) → moved ≤ (if b then most_moved else 0) → m
 cut true moved l = l
 cut false moved l = omega (arith, l)
 
-moves_little : (phase : PhaseTerms) → MovesItsOwn phase → (e : Entry) (t : Thing) → phase.moving e t ≤ most_moved
+moves_little : (phase : PhaseSpec) → MovesItsOwn phase → (e : Entry) (t : Thing) → phase.moving e t ≤ most_moved
 moves_little phase own e t = cut (may_move phase.moved e t) (phase.moving e t) (own e t)
 
-room_of : (phase : PhaseTerms) → MovesItsOwn phase → (c : CampaignValue) → IsRoomy c → HaveRoom phase.moving c
+room_of : (phase : PhaseSpec) → MovesItsOwn phase → (c : CampaignValue) → IsRoomy c → HaveRoom phase.moving c
 room_of phase own c = room_for c phase.moving (λ e t. omega (arith, moves_little phase own e t))
 
-pub room_for_work : (c : CampaignValue) → IsRoomy c → HaveRoom work_terms.moving c
-room_for_work = room_of work_terms work_alone
+pub room_for_work : (c : CampaignValue) → IsRoomy c → HaveRoom work_spec.moving c
+room_for_work = room_of work_spec work_alone
 
-pub room_for_upkeep : (c : CampaignValue) → IsRoomy c → HaveRoom upkeep_terms.moving c
-room_for_upkeep = room_of upkeep_terms upkeep_alone
+pub room_for_upkeep : (c : CampaignValue) → IsRoomy c → HaveRoom upkeep_spec.moving c
+room_for_upkeep = room_of upkeep_spec upkeep_alone
 
-pub room_for_season : (c : CampaignValue) → IsRoomy c → HaveRoom season_terms.moving c
-room_for_season = room_of season_terms season_alone
+pub room_for_season : (c : CampaignValue) → IsRoomy c → HaveRoom season_spec.moving c
+room_for_season = room_of season_spec season_alone
 
-pub room_for_seasons : (c : CampaignValue) → IsRoomy c → HaveRoom (both_move season_terms.moving season_terms.moving) c
-room_for_seasons c = room_for c (both_move season_terms.moving season_terms.moving) (λ e t. omega (arith, moves_little season_terms season_alone e t))
+pub room_for_seasons : (c : CampaignValue) → IsRoomy c → HaveRoom (both_move season_spec.moving season_spec.moving) c
+room_for_seasons c = room_for c (both_move season_spec.moving season_spec.moving) (λ e t. omega (arith, moves_little season_spec season_alone e t))
 
-pub room_for_sweep : (c : CampaignValue) → IsRoomy c → HaveRoom sweep_terms.moving c
-room_for_sweep = room_of sweep_terms sweep_alone
+pub room_for_sweep : (c : CampaignValue) → IsRoomy c → HaveRoom sweep_spec.moving c
+room_for_sweep = room_of sweep_spec sweep_alone

@@ -1,4 +1,4 @@
--- Room in the books for any phases.
+-- Campaigns whose books have room for any phases.
 use Rattle.std.specs.Prelude.{ℕ}
 use Rattle.atl_state.specs.Campaign.{CampaignValue}
 use Rattle.atl_instant.specs.Meaning.{HaveRoom}

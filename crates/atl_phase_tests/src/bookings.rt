@@ -1,6 +1,6 @@
 //! What was booked between two campaigns, a line each.
 ghost use Rattle.std.specs.Prelude.{◌≡◌};
-ghost use Rattle.atl_records.specs.Books.{thing_place};
+ghost use Rattle.atl_records.specs.Books.{thing_index};
 
 use crate::lines::number;
 use atl_state::{Campaign, ENTRY_COUNT, Entry, Thing};
@@ -36,7 +36,7 @@ static ENTRIES: [(&str, Entry); ENTRY_COUNT] = [
 
 /// What is booked of a thing under an entry; 0 where there is no such thing.
 fn booked(campaign: &Campaign, entry: Entry, place: usize, thing: Thing) -> i64
-    requires { thing_place thing ≡ place }
+    requires { thing_index thing ≡ place }
 {
     if place < campaign.things() {
         campaign.booked(entry, thing)
@@ -55,7 +55,7 @@ fn thing(
     after: &Campaign,
     told: &mut String,
 ) -> Result<(), AllocError>
-    requires { thing_place thing ≡ place }
+    requires { thing_index thing ≡ place }
 {
     for (what, entry) in ENTRIES.iter() {
         let old = booked(before, *entry, place, thing);

@@ -1,4 +1,4 @@
-//! What has changed from one campaign to another, a line each.
+//! Prints the differences between two campaigns, a line each.
 use crate::bookings::books;
 use crate::lines::{number, text};
 use atl_state::{Campaign, Faction, Region, Structure, Unit};

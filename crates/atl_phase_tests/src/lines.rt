@@ -1,4 +1,4 @@
-//! Lines of what has changed.
+//! Prints a changed number or text as a line.
 use std::alloc::{AllocError, Global};
 
 /// Tells a number where it isn't what it was.

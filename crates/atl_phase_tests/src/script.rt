@@ -1,4 +1,4 @@
-//! What a line of a file of cases says.
+//! Reads the lines of a file of cases.
 use crate::settings::{Built, Had, Setting, Stocked, Stood};
 use atl_tables::{World, let_go};
 use std::alloc::{AllocError, Global};

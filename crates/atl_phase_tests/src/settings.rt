@@ -1,11 +1,11 @@
-//! The campaign that a case begins with, by its rows.
+//! Builds the campaign that a case begins with.
 ghost use Rattle.std.specs.Prelude.{◌≡◌, IfOk};
 ghost use Rattle.atl_state.specs.Good.{IsEarly, IsGood};
 ghost use Rattle.atl_phase_tests.specs.Roomy.{IsRoomy};
 
 use crate::failed::Failed;
 use atl_state::parts::{
-    Parts, StoredBooks, StoredFaction, StoredHas, StoredHead, StoredMarket, StoredReport,
+    Parts, StoredBooks, StoredCampaignRow, StoredFaction, StoredHas, StoredMarket, StoredReport,
     StoredStructure, StoredUnit,
 };
 use atl_state::{Campaign, check_as, founded};
@@ -105,9 +105,9 @@ const PEOPLE: i64 = 1;
 
 const FIRST_ITEM: i64 = 2;
 
-fn head(alloc: Global, setting: &Setting) -> Result<Sequence<StoredHead>, AllocError> {
+fn head(alloc: Global, setting: &Setting) -> Result<Sequence<StoredCampaignRow>, AllocError> {
     let mut all = Sequence::new(alloc);
-    all.push(StoredHead {
+    all.push(StoredCampaignRow {
         id: CAMPAIGN_ID,
         format: CAMPAIGN_FORMAT,
         month: 0,

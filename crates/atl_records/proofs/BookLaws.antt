@@ -10,15 +10,15 @@ use Rattle.atl_records.specs.Limits.{entry_count}
 use Rattle.atl_records.specs.declared.books.Entry.{Entry}
 use Rattle.atl_records.specs.declared.books.Thing.{Thing}
 use Rattle.atl_records.specs.declared.books.Thing.TheVariants.{Money, People, Item}
-use Rattle.atl_records.specs.Books.{entry_place, thing_place, thing_at, row_of, amount_in, with_booked, added_up, booked, no_amounts, IsGrid, IsWithin, IsSmall}
+use Rattle.atl_records.specs.Books.{entry_index, thing_index, thing_at, row_of, amount_in, after_booking, row_sum, booked, no_amounts, IsGrid, IsWithin, IsSmall}
 use Rattle.atl_records.proofs.EveryEntryLaws.{entry_small}
 
-pub place_at : (i : ℕ) → thing_place (thing_at i) ≡ i
+pub place_at : (i : ℕ) → thing_index (thing_at i) ≡ i
 place_at zero = refl
 place_at (suc zero) = refl
 place_at (suc (suc i)) = omega arith
 
-pub at_place : (t : Thing) → thing_at (thing_place t) ≡ t
+pub at_place : (t : Thing) → thing_at (thing_index t) ≡ t
 at_place Money = refl
 at_place People = refl
 at_place (Item i) = item_at (2 + i) i (omega arith)
@@ -33,50 +33,50 @@ in_front : (x y n : ℤ) → (x +ℤ n) +ℤ y ≡ (x +ℤ y) +ℤ n
 in_front x y n = omega (arith, ints)
 
 -- one amount more adds to the sum
-added_up-set : (row : List ℤ) (i : ℕ) (n : ℤ) → i < length row → added_up (set row i (get_or row i (pos 0) +ℤ n)) ≡ added_up row +ℤ n
-added_up-set [] i n h = absurd (omega arith)
-added_up-set (x ∷ xs) zero n h = in_front x (added_up xs) n
-added_up-set (x ∷ xs) (suc i) n h = ap (λ z. x +ℤ z) (added_up-set xs i n (omega arith)) ∙ regroup x (added_up xs) n
+row_sum-set : (row : List ℤ) (i : ℕ) (n : ℤ) → i < length row → row_sum (set row i (get_or row i (pos 0) +ℤ n)) ≡ row_sum row +ℤ n
+row_sum-set [] i n h = absurd (omega arith)
+row_sum-set (x ∷ xs) zero n h = in_front x (row_sum xs) n
+row_sum-set (x ∷ xs) (suc i) n h = ap (λ z. x +ℤ z) (row_sum-set xs i n (omega arith)) ∙ regroup x (row_sum xs) n
 
 -- what a booking adds to what is booked of a thing
 abbrev pub share_of : Thing → Thing → ℤ → ℤ
-share_of t u n = cond (thing_place t == thing_place u) n (pos 0)
+share_of t u n = cond (thing_index t == thing_index u) n (pos 0)
 
 nothing : (z : ℤ) → z ≡ z +ℤ pos 0
 nothing z = omega (arith, ints)
 
-pub booked-with_booked : (things : ℕ) (books : List (List ℤ)) (e : Entry) (u : Thing) (n : ℤ) → IsGrid things books → thing_place u < things → (t : Thing) → booked (with_booked books e u n) t ≡ booked books t +ℤ share_of t u n
-booked-with_booked things books e u n g h t =
-    let i = thing_place t in
-    let j = thing_place u in
+pub booked-after_booking : (things : ℕ) (books : List (List ℤ)) (e : Entry) (u : Thing) (n : ℤ) → IsGrid things books → thing_index u < things → (t : Thing) → booked (after_booking books e u n) t ≡ booked books t +ℤ share_of t u n
+booked-after_booking things books e u n g h t =
+    let i = thing_index t in
+    let j = thing_index u in
     let l = length books in
     let inside : j < length books = omega (arith, g.rows) in
     let wide : length (row_of books u) ≡ entry_count = g.wide j [] inside in
-    let new = set (row_of books u) (entry_place e) (amount_in books e u +ℤ n) in
+    let new = set (row_of books u) (entry_index e) (amount_in books e u +ℤ n) in
     elim (cases_eq i j) [
       | inl same ↦
           let there : get_or (set books j new) i [] ≡ new = ap (λ k. get_or (set books j new) k []) same ∙ get_or-set_same books j new [] inside in
           let tested : (i == j) ≡ true = grind (arith, nat_tests) in
-          ap added_up there ∙ added_up-set (row_of books u) (entry_place e) n (omega (arith, wide, entry_small e))
-          ∙ ap (λ k. added_up (get_or books k []) +ℤ n) (sym same) ∙ ap (λ b. booked books t +ℤ cond b n (pos 0)) (sym tested)
+          ap row_sum there ∙ row_sum-set (row_of books u) (entry_index e) n (omega (arith, wide, entry_small e))
+          ∙ ap (λ k. row_sum (get_or books k []) +ℤ n) (sym same) ∙ ap (λ b. booked books t +ℤ cond b n (pos 0)) (sym tested)
       | inr apart ↦
           let there : get_or (set books j new) i [] ≡ get_or books i [] = get_or-set_other books j i new [] apart in
           let tested : (i == j) ≡ false = grind (arith, nat_tests) in
-          ap added_up there ∙ nothing (booked books t) ∙ ap (λ b. booked books t +ℤ cond b n (pos 0)) (sym tested)
+          ap row_sum there ∙ nothing (booked books t) ∙ ap (λ b. booked books t +ℤ cond b n (pos 0)) (sym tested)
     ]
 
-pub IsGrid-with_booked : (things : ℕ) (books : List (List ℤ)) (e : Entry) (u : Thing) (n : ℤ) → IsGrid things books → IsGrid things (with_booked books e u n)
-IsGrid-with_booked things books e u n g =
+pub IsGrid-after_booking : (things : ℕ) (books : List (List ℤ)) (e : Entry) (u : Thing) (n : ℤ) → IsGrid things books → IsGrid things (after_booking books e u n)
+IsGrid-after_booking things books e u n g =
     record {
-      rows = length-set books (thing_place u) (set (row_of books u) (entry_place e) (amount_in books e u +ℤ n)) ∙ g.rows;
+      rows = length-set books (thing_index u) (set (row_of books u) (entry_index e) (amount_in books e u +ℤ n)) ∙ g.rows;
       wide = λ k d h.
-          let j = thing_place u in
-          let new = set (row_of books u) (entry_place e) (amount_in books e u +ℤ n) in
+          let j = thing_index u in
+          let new = set (row_of books u) (entry_index e) (amount_in books e u +ℤ n) in
           let lt : k < length books = omega (arith, h, length-set books j new) in
           elim (cases_eq k j) [
             | inl same ↦
                 let inside : j < length books = omega arith in
-                ap (λ i. length (get_or (set books j new) i d)) same ∙ ap length (get_or-set_same books j new d inside) ∙ length-set (row_of books u) (entry_place e) (amount_in books e u +ℤ n) ∙ g.wide j [] inside
+                ap (λ i. length (get_or (set books j new) i d)) same ∙ ap length (get_or-set_same books j new d inside) ∙ length-set (row_of books u) (entry_index e) (amount_in books e u +ℤ n) ∙ g.wide j [] inside
             | inr apart ↦ ap length (get_or-set_other books j k new d apart) ∙ g.wide k d lt
           ];
     }
@@ -97,10 +97,10 @@ nothing_in P things i full empty =
     ]
 
 pub amount-no_amounts : (things : ℕ) (e : Entry) (t : Thing) → amount_in (no_amounts things) e t ≡ pos 0
-amount-no_amounts things e t = nothing_in (λ row. get_or row (entry_place e) (pos 0) ≡ pos 0) things (thing_place t) (no_row (entry_place e)) refl
+amount-no_amounts things e t = nothing_in (λ row. get_or row (entry_index e) (pos 0) ≡ pos 0) things (thing_index t) (no_row (entry_index e)) refl
 
 pub booked-no_amounts : (things : ℕ) (t : Thing) → booked (no_amounts things) t ≡ pos 0
-booked-no_amounts things t = nothing_in (λ row. added_up row ≡ pos 0) things (thing_place t) refl refl
+booked-no_amounts things t = nothing_in (λ row. row_sum row ≡ pos 0) things (thing_index t) refl refl
 
 pub IsGrid-no_amounts : (things : ℕ) → IsGrid things (no_amounts things)
 IsGrid-no_amounts things = record { rows = length-replicate things (replicate entry_count (pos 0)); wide = All-replicate (λ (row : List ℤ). length row ≡ entry_count) things (replicate entry_count (pos 0)) refl }
@@ -115,21 +115,21 @@ either_at xs j i v d h =
     ]
 
 -- a booking changes an amount by what is booked, or not at all
-pub amount-with_booked : (things : ℕ) (books : List (List ℤ)) (e : Entry) (u : Thing) (n : ℤ) → IsGrid things books → thing_place u < things → (f : Entry) (t : Thing)
-    → (amount_in (with_booked books e u n) f t ≡ amount_in books f t +ℤ n) ⊎ (amount_in (with_booked books e u n) f t ≡ amount_in books f t)
-amount-with_booked things books e u n g h f t =
-    let inside : thing_place u < length books = omega (arith, g.rows) in
-    let wide : length (row_of books u) ≡ entry_count = g.wide (thing_place u) [] inside in
+pub amount-after_booking : (things : ℕ) (books : List (List ℤ)) (e : Entry) (u : Thing) (n : ℤ) → IsGrid things books → thing_index u < things → (f : Entry) (t : Thing)
+    → (amount_in (after_booking books e u n) f t ≡ amount_in books f t +ℤ n) ⊎ (amount_in (after_booking books e u n) f t ≡ amount_in books f t)
+amount-after_booking things books e u n g h f t =
+    let inside : thing_index u < length books = omega (arith, g.rows) in
+    let wide : length (row_of books u) ≡ entry_count = g.wide (thing_index u) [] inside in
     let new = amount_in books e u +ℤ n in
-    elim (either_at books (thing_place u) (thing_place t) (set (row_of books u) (entry_place e) new) [] inside) [
+    elim (either_at books (thing_index u) (thing_index t) (set (row_of books u) (entry_index e) new) [] inside) [
       | inl row ↦
-          let here : amount_in (with_booked books e u n) f t ≡ get_or (set (row_of books u) (entry_place e) new) (entry_place f) (pos 0) = ap (λ r. get_or r (entry_place f) (pos 0)) row.0 in
+          let here : amount_in (after_booking books e u n) f t ≡ get_or (set (row_of books u) (entry_index e) new) (entry_index f) (pos 0) = ap (λ r. get_or r (entry_index f) (pos 0)) row.0 in
           let old : row_of books t ≡ row_of books u = ap (λ k. get_or books k []) row.1 in
-          elim (either_at (row_of books u) (entry_place e) (entry_place f) new (pos 0) (omega (arith, wide, entry_small e))) [
-            | inl there ↦ inl (here ∙ there.0 ∙ ap (λ z. z +ℤ n) (sym (ap (λ k. get_or (row_of books t) k (pos 0)) there.1 ∙ ap (λ r. get_or r (entry_place e) (pos 0)) old)))
-            | inr there ↦ inr (here ∙ there ∙ sym (ap (λ r. get_or r (entry_place f) (pos 0)) old))
+          elim (either_at (row_of books u) (entry_index e) (entry_index f) new (pos 0) (omega (arith, wide, entry_small e))) [
+            | inl there ↦ inl (here ∙ there.0 ∙ ap (λ z. z +ℤ n) (sym (ap (λ k. get_or (row_of books t) k (pos 0)) there.1 ∙ ap (λ r. get_or r (entry_index e) (pos 0)) old)))
+            | inr there ↦ inr (here ∙ there ∙ sym (ap (λ r. get_or r (entry_index f) (pos 0)) old))
           ]
-      | inr row ↦ inr (ap (λ r. get_or r (entry_place f) (pos 0)) row)
+      | inr row ↦ inr (ap (λ r. get_or r (entry_index f) (pos 0)) row)
     ]
 
 grows : (z y : ℤ) (bound n more : ℕ) → y ≡ z +ℤ pos n → IsWithin bound z → bound + n ≤ more → IsWithin more y
@@ -138,10 +138,10 @@ grows z y bound n more e h l = record { most = omega (arith, ints, h.most); leas
 stays : (z y : ℤ) (bound n more : ℕ) → y ≡ z → IsWithin bound z → bound + n ≤ more → IsWithin more y
 stays z y bound n more e h l = record { most = omega (arith, ints, h.most); least = omega (arith, ints, h.least) }
 
-pub IsWithin-with_booked : (things : ℕ) (books : List (List ℤ)) (e : Entry) (u : Thing) (n bound more : ℕ) → IsGrid things books → thing_place u < things → ((f : Entry) (t : Thing) → IsWithin bound (amount_in books f t)) → bound + n ≤ more
-    → (f : Entry) (t : Thing) → IsWithin more (amount_in (with_booked books e u (pos n)) f t)
-IsWithin-with_booked things books e u n bound more g h old l f t =
-    elim (amount-with_booked things books e u (pos n) g h f t) [
+pub IsWithin-after_booking : (things : ℕ) (books : List (List ℤ)) (e : Entry) (u : Thing) (n bound more : ℕ) → IsGrid things books → thing_index u < things → ((f : Entry) (t : Thing) → IsWithin bound (amount_in books f t)) → bound + n ≤ more
+    → (f : Entry) (t : Thing) → IsWithin more (amount_in (after_booking books e u (pos n)) f t)
+IsWithin-after_booking things books e u n bound more g h old l f t =
+    elim (amount-after_booking things books e u (pos n) g h f t) [
       | inl is ↦ grows _ _ bound n more is (old f t) l
       | inr is ↦ stays _ _ bound n more is (old f t) l
     ]

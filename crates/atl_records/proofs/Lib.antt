@@ -1,6 +1,6 @@
 pub mod BookLaws
 pub mod EveryEntryLaws
 pub mod EveryLaws
-pub mod HeldLaws
+pub mod HoldingLaws
 pub mod LevelLaws
 pub mod RemovedLaws

@@ -1,4 +1,4 @@
--- What events are of, and the numbers and names of their faults.
+-- Which verbs events name, and the numbers and names of event faults. See docs/RULES.md, "Events".
 use Rattle.std.specs.Prelude.{ℕ, List, [], ◌∷◌, codes}
 use Rattle.atl_orders.specs.Verbs.{keyword}
 use Rattle.atl_records.specs.declared.event.EventVerb.{EventVerb}

@@ -1,4 +1,4 @@
--- Levels of skills, and what units weigh and carry.
+-- Levels of skills, and what units weigh and carry. See docs/RULES.md, "Levels and loads".
 use Rattle.std.specs.Prelude.{◌==◌, ◌+◌, ◌*◌, ℕ, zero, suc, Bool, Option, Some, None, nat_le, sum_by, if◌then◌else◌}
 use Rattle.std.specs.List.{slice_get}
 use Rattle.std.specs.Option.{option_map_or}
@@ -7,7 +7,7 @@ use Rattle.atl_tables.specs.Limits.{last_level}
 use Rattle.atl_tables.specs.Worlds.{WorldValue}
 use Rattle.atl_records.specs.declared.levels.Measure.{Measure}
 use Rattle.atl_records.specs.declared.levels.Measure.TheVariants.{Weight, Carry}
-use Rattle.atl_records.specs.Held.{Held, amount_of}
+use Rattle.atl_records.specs.Holdings.{HoldingValue, amount_of}
 use Rattle.atl_records.specs.Limits.{level_days}
 
 -- ---- levels
@@ -26,11 +26,11 @@ unfoldable pub level_of : ℕ → ℕ → ℕ
 level_of days men = if men == 0 then 0 else greatest (λ level. nat_le (days_for level men) days) last_level
 
 -- the level of people in a skill, by the days that they have studied it
-abbrev pub level_in : Held → (skill : ℕ) → ℕ
+abbrev pub level_in : HoldingValue → (skill : ℕ) → ℕ
 level_in h skill = level_of (amount_of h.days skill) h.men
 
 -- in a skill that may not be named nobody has a level
-abbrev pub level_in_any : Held → Option ℕ → ℕ
+abbrev pub level_in_any : HoldingValue → Option ℕ → ℕ
 level_in_any h None = 0
 level_in_any h (Some skill) = level_in h skill
 
@@ -48,21 +48,21 @@ abbrev pub measure_of : Measure → WorldValue → ℕ → ℕ
 measure_of Weight w item = weight_of w item
 measure_of Carry w item = carry_of w item
 
-abbrev pub measured_goods : Measure → WorldValue → Held → ℕ
-measured_goods m w h = sum_by (λ e. e.1 * measure_of m w e.0) (entries h.items)
+abbrev pub goods_measure : Measure → WorldValue → HoldingValue → ℕ
+goods_measure m w h = sum_by (λ e. e.1 * measure_of m w e.0) (entries h.items)
 
 -- the sum of amount times weight over the items held
-abbrev pub goods_of : WorldValue → Held → ℕ
+abbrev pub goods_of : WorldValue → HoldingValue → ℕ
 goods_of w h = sum_by (λ e. e.1 * weight_of w e.0) (entries h.items)
 
 -- the sum of amount times carry over the items held
-abbrev pub carried_by_goods : WorldValue → Held → ℕ
+abbrev pub carried_by_goods : WorldValue → HoldingValue → ℕ
 carried_by_goods w h = sum_by (λ e. e.1 * carry_of w e.0) (entries h.items)
 
 -- what a unit weighs
-abbrev pub load_of : WorldValue → Held → ℕ
+abbrev pub load_of : WorldValue → HoldingValue → ℕ
 load_of w h = h.men * w.rules.man_weight + goods_of w h
 
 -- what a unit can carry
-abbrev pub carried_by : WorldValue → Held → ℕ
+abbrev pub carried_by : WorldValue → HoldingValue → ℕ
 carried_by w h = h.men * w.rules.man_carry + carried_by_goods w h

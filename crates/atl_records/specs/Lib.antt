@@ -2,6 +2,6 @@ pub mod Amounts
 pub mod Books
 pub mod Events
 pub mod Every
-pub mod Held
+pub mod Holdings
 pub mod Levels
 pub mod Limits

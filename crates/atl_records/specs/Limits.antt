@@ -1,4 +1,4 @@
--- The limits of a campaign.
+-- The limits of a campaign. See docs/RULES.md, "Limits".
 use Rattle.std.specs.Prelude.{◌+◌, ℕ}
 use Rattle.atl_tables.specs.Limits.{most_amount, most_items}
 use Rattle.atl_tables.specs.declared.format.Format.{Format}

@@ -1,14 +1,14 @@
 //! How much of a thing a unit and a region hold.
 ghost use Rattle.std.specs.Prelude.{◌≡◌};
-ghost use Rattle.atl_records.specs.Amounts.{held, kept};
+ghost use Rattle.atl_records.specs.Amounts.{region_amount, unit_amount};
 
 use crate::books::Thing;
 use crate::holding::Holding;
 use crate::records::Region;
 
 /// What a unit holds: money, men, or pieces of an item.
-pub fn held(thing: Thing, holding: &Holding) -> u32
-    ensures { result ≡ held thing holding.now }
+pub fn unit_amount(thing: Thing, holding: &Holding) -> u32
+    ensures { result ≡ unit_amount thing holding.now }
 {
     match thing {
         Thing::Money => holding.money(),
@@ -18,8 +18,8 @@ pub fn held(thing: Thing, holding: &Holding) -> u32
 }
 
 /// What a region holds: money, peasants, or pieces of an item in stock.
-pub fn kept(thing: Thing, region: &Region) -> u32
-    ensures { result ≡ kept thing region.now }
+pub fn region_amount(thing: Thing, region: &Region) -> u32
+    ensures { result ≡ region_amount thing region.now }
 {
     match thing {
         Thing::Money => region.money,

@@ -1,9 +1,9 @@
-//! What the books say: signed amounts by entry and thing.
+//! The books: signed amounts by entry and thing. See docs/RULES.md, "Books".
 ghost use Rattle.std.specs.Prelude.{◌≡◌, ◌<◌, ◌≤◌, ◌+◌, ◌+ℤ◌, [], All, IfOk, length};
 ghost use Rattle.std.specs.Int.{w64};
 ghost use Rattle.std.specs.Int.RustNames.{FitsSigned};
 ghost use Rattle.atl_records.specs.Limits.{entry_count, most_things, possible_things};
-ghost use Rattle.atl_records.specs.Books.{entry_place, thing_place, thing_at, added_up, amount_in, booked, with_booked, no_amounts, amount_number, with_amount, amount_at};
+ghost use Rattle.atl_records.specs.Books.{entry_index, thing_index, thing_at, row_sum, amount_in, booked, after_booking, no_amounts, amount_number, with_amount, amount_at};
 
 use crate::limits::{ENTRY_COUNT, FIRST_ITEM};
 use atl_tables::variants;
@@ -67,7 +67,7 @@ impl Entry {
 
     /// The entry's number, from 1.
     pub fn number(self) -> u32
-        ensures place { result ≡ entry_place self + 1 }
+        ensures place { result ≡ entry_index self + 1 }
         ensures small { result ≤ entry_count }
     {
         self as u32
@@ -75,7 +75,7 @@ impl Entry {
 
     /// The place of the entry in a row.
     fn place(self) -> usize
-        ensures place { result ≡ entry_place self }
+        ensures place { result ≡ entry_index self }
         ensures small { result < entry_count }
     {
         self.number() as usize - 1
@@ -85,7 +85,7 @@ impl Entry {
 impl Thing {
     /// The thing's number: 0 of money, 1 of people, and then the items'.
     pub fn number(self) -> u32
-        ensures place { result ≡ thing_place self }
+        ensures place { result ≡ thing_index self }
         ensures small { result < possible_things }
     {
         match self {
@@ -109,7 +109,7 @@ impl Thing {
 
     /// The place of the thing's row.
     fn place(self) -> usize
-        ensures place { result ≡ thing_place self }
+        ensures place { result ≡ thing_index self }
         ensures small { result < possible_things }
     {
         self.number() as usize
@@ -124,8 +124,8 @@ pub fn amount_number(entry: Entry, thing: Thing) -> u32
 }
 
 /// The sum of a row of amounts.
-fn added_up(row: &[i64; ENTRY_COUNT]) -> i128
-    ensures { result ≡ added_up row.now }
+fn row_sum(row: &[i64; ENTRY_COUNT]) -> i128
+    ensures { result ≡ row_sum row.now }
 {
     let mut sum = 0i128;
     for amount in row {
@@ -185,7 +185,7 @@ impl Books {
 
     /// What came in of a thing under an entry so far, less what went: money, men and peasants, or pieces of an item.
     pub fn amount(&self, entry: Entry, thing: Thing) -> i64
-        requires { thing_place thing < length self.now }
+        requires { thing_index thing < length self.now }
         ensures { result ≡ amount_in self.now entry thing }
     {
         self.rows[thing.place()][entry.place()]
@@ -211,17 +211,17 @@ impl Books {
 
     /// All that is booked of a thing.
     pub fn sum(&self, thing: Thing) -> i128
-        requires { thing_place thing < length self.now }
+        requires { thing_index thing < length self.now }
         ensures { result ≡ booked self.now thing }
     {
-        added_up(&self.rows[thing.place()])
+        row_sum(&self.rows[thing.place()])
     }
 
     /// Adds an amount of a thing, of either sign, under an entry. It takes no memory.
     pub fn book(&mut self, entry: Entry, thing: Thing, amount: i64)
-        requires there { thing_place thing < length self.old }
+        requires there { thing_index thing < length self.old }
         requires fits { FitsSigned w64 (amount_in self.old entry thing +ℤ amount) }
-        ensures { self.new ≡ with_booked self.old entry thing amount }
+        ensures { self.new ≡ after_booking self.old entry thing amount }
     {
         let row = thing.place();
         let place = entry.place();

@@ -1,4 +1,4 @@
-//! What becomes of the orders of a month. See docs/RULES.md, "Events".
+//! Events: the outcomes of a month's orders, and their faults. See docs/RULES.md, "Events".
 ghost use Rattle.std.specs.Prelude.{◌≡◌};
 
 use atl_orders::Verb;

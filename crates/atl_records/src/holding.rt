@@ -1,8 +1,8 @@
-//! What a unit holds.
+//! The holding of a unit: name, men, money, guard flag, items and days.
 ghost use Rattle.std.specs.Prelude.{◌≡◌, ◌≤◌, ℕ, OnOk, OnErr, IsOk, false};
 ghost use Rattle.std.specs.FinMap as map;
 ghost use Rattle.atl_records.specs.Limits.{men_limit, holding_limit};
-ghost use Rattle.atl_records.specs.Held.{amount_of, with_amount_of, AreAmounts};
+ghost use Rattle.atl_records.specs.Holdings.{amount_of, with_amount_of, AreAmounts};
 
 use atl_tables::{Entries, Numbered, Text, let_go};
 use std::alloc::AllocError;
@@ -30,11 +30,11 @@ impl Drop for Holding {
 
 impl Model for Holding {
     ghost use Rattle.std.specs.Prelude.{◌≤◌};
-    ghost use Rattle.atl_records.specs.Held.{Held, held_code, IsHolding};
+    ghost use Rattle.atl_records.specs.Holdings.{HoldingValue, holding_code, IsHolding};
 
-    ghost Value = { Held };
+    ghost Value = { HoldingValue };
 
-    ghost coded = { held_code };
+    ghost coded = { holding_code };
 
     ghost view = { λ a. record { name = a.name; men = a.men; money = a.money; guard = a.guard; items = a.items; days = a.days } };
 
@@ -78,7 +78,8 @@ impl Holding {
         requires few { men ≤ men_limit }
         requires fits { money ≤ holding_limit }
         requires items { AreAmounts items }
-        ensures { result ≡ record { name = name; men = men; money = money; guard = false; items = items; days = days } }
+        ensures { result ≡ record
+            { name = name; men = men; money = money; guard = false; items = items; days = days } }
     {
         Holding {
             name,
@@ -167,7 +168,8 @@ impl Holding {
     /// takes no memory. AllocError without memory, and then nothing changes.
     pub fn set_amount(&mut self, item: u32, amount: u32) -> Result<(), AllocError>
         requires { amount ≤ holding_limit }
-        ensures ok { OnOk result (self.new ≡ record self.old { items = with_amount_of self.old.items item amount }) }
+        ensures ok { OnOk result
+            (self.new ≡ record self.old { items = with_amount_of self.old.items item amount }) }
         ensures err { OnErr result (self.new ≡ self.old) }
         ensures none { amount ≡ 0 → IsOk result }
     {
@@ -177,7 +179,8 @@ impl Holding {
     /// Sets the days of study of a skill over all men. Where they are 0 the skill is listed no more, which takes no memory.
     /// AllocError without memory, and then nothing changes.
     pub fn set_days(&mut self, skill: u32, days: u32) -> Result<(), AllocError>
-        ensures ok { OnOk result (self.new ≡ record self.old { days = with_amount_of self.old.days skill days }) }
+        ensures ok { OnOk result
+            (self.new ≡ record self.old { days = with_amount_of self.old.days skill days }) }
         ensures err { OnErr result (self.new ≡ self.old) }
         ensures none { days ≡ 0 → IsOk result }
     {
@@ -187,7 +190,8 @@ impl Holding {
     /// Puts pieces of an item in the place of those held, as rows say them. Without memory nothing changes.
     pub fn put_item(&mut self, item: u32, amount: u32) -> Result<(), AllocError>
         requires { (1 ≤ amount) × (amount ≤ holding_limit) }
-        ensures ok { OnOk result (self.new ≡ record self.old { items = map.insert self.old.items item amount }) }
+        ensures ok { OnOk result
+            (self.new ≡ record self.old { items = map.insert self.old.items item amount }) }
         ensures err { OnErr result (self.new ≡ self.old) }
     {
         self.items.insert(item, amount)
@@ -195,7 +199,8 @@ impl Holding {
 
     /// Puts days of a skill over all men in the place of those studied, as rows say them, 0 too. Without memory nothing changes.
     pub fn put_days(&mut self, skill: u32, days: u32) -> Result<(), AllocError>
-        ensures ok { OnOk result (self.new ≡ record self.old { days = map.insert self.old.days skill days }) }
+        ensures ok { OnOk result
+            (self.new ≡ record self.old { days = map.insert self.old.days skill days }) }
         ensures err { OnErr result (self.new ≡ self.old) }
     {
         self.days.insert(skill, days)

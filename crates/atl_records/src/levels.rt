@@ -1,8 +1,8 @@
-//! Levels of skills, and what units weigh and carry.
+//! Levels of skills, and what units weigh and carry. See docs/RULES.md, "Levels and loads".
 ghost use Rattle.std.specs.Prelude.{◌≡◌, ◌≤◌, ◌*◌, nat_le};
 ghost use Rattle.atl_tables.specs.Limits.{last_level, most_items, most_weight};
 ghost use Rattle.atl_records.specs.Limits.{most_u32};
-ghost use Rattle.atl_records.specs.Levels.{days_for, level_in, level_in_any, level_of, weight_of, carry_of, goods_of, carried_by_goods, load_of, carried_by, measure_of, measured_goods};
+ghost use Rattle.atl_records.specs.Levels.{days_for, level_in, level_in_any, level_of, weight_of, carry_of, goods_of, carried_by_goods, load_of, carried_by, measure_of, goods_measure};
 
 use crate::holding::Holding;
 use crate::limits::LEVEL_DAYS;
@@ -98,7 +98,7 @@ enum Measure {
 }
 
 /// What one of an item weighs or carries.
-fn measured(world: &World, item: u32, of: Measure) -> u32
+fn item_measure(world: &World, item: u32, of: Measure) -> u32
     ensures value { result ≡ measure_of of world.now item }
     ensures small { result ≤ most_weight }
     ensures far { most_items ≤ item → result ≡ 0 }
@@ -110,13 +110,13 @@ fn measured(world: &World, item: u32, of: Measure) -> u32
 }
 
 /// What a unit's goods weigh or carry: the sum of amount times weight, or carry, over the items that it holds.
-fn measured_goods(world: &World, holding: &Holding, of: Measure) -> u64
-    ensures value { result ≡ measured_goods of world.now holding.now }
+fn goods_measure(world: &World, holding: &Holding, of: Measure) -> u64
+    ensures value { result ≡ goods_measure of world.now holding.now }
     ensures small { result ≤ most_u32 * most_weight * most_items }
 {
     let mut sum = 0;
     for (item, amount) in holding.items() {
-        sum += times(*amount, measured(world, item, of));
+        sum += times(*amount, item_measure(world, item, of));
     }
     sum
 }
@@ -127,7 +127,7 @@ pub fn goods(world: &World, holding: &Holding) -> u64
     ensures value { result ≡ goods_of world.now holding.now }
     ensures small { result ≤ most_u32 * most_weight * most_items }
 {
-    measured_goods(world, holding, Measure::Weight)
+    goods_measure(world, holding, Measure::Weight)
 }
 
 /// What a unit's goods carry: the sum of amount times carry over the items that it holds.
@@ -135,7 +135,7 @@ fn carried_by_goods(world: &World, holding: &Holding) -> u64
     ensures value { result ≡ carried_by_goods world.now holding.now }
     ensures small { result ≤ most_u32 * most_weight * most_items }
 {
-    measured_goods(world, holding, Measure::Carry)
+    goods_measure(world, holding, Measure::Carry)
 }
 
 /// The weight of a unit: that of its men and of its goods. It takes no memory. See docs/RULES.md, "Levels and loads".

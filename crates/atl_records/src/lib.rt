@@ -10,7 +10,7 @@ mod levels;
 mod limits;
 mod records;
 
-pub use amounts::{held, kept};
+pub use amounts::{region_amount, unit_amount};
 pub use books::{Books, Entry, Thing, amount_number};
 pub use event::{Event, EventFault, EventVerb, Outcome};
 pub use holding::{Holding, amount_under, put_amount};

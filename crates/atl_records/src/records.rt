@@ -1,4 +1,4 @@
-//! What a campaign consists of.
+//! The records of a campaign: factions, units, regions and structures.
 use crate::holding::{Holding, amount_under};
 use atl_tables::{Numbered, Text, let_go};
 use std::error::Error;
@@ -60,7 +60,7 @@ impl Drop for Region {
 
 impl Region {
     ghost use Rattle.std.specs.Prelude.{◌≡◌};
-    ghost use Rattle.atl_records.specs.Held.{amount_of};
+    ghost use Rattle.atl_records.specs.Holdings.{amount_of};
 
     /// How many pieces of an item there are in stock, 0 where there is no market for it.
     pub fn stock(&self, item: u32) -> u32

@@ -6,25 +6,25 @@ use Rattle.std.proofs.lemmas.Bool.{false≢true}
 use Rattle.std.proofs.lemmas.Bool.Decides.{nat_tests}
 use Rattle.atl_orders.specs.declared.fault.FaultyLine.{FaultyLine}
 use Rattle.atl_records.specs.declared.event.Event.{Event}
-use Rattle.atl_report.specs.Events.{faulty_lines, event_lines, own_events, told, orders_part}
+use Rattle.atl_report.specs.Events.{faulty_lines, event_lines, own_events, results_text, orders_part}
 use Rattle.atl_report.specs.Sight.{view_of}
 use Rattle.atl_report.specs.Report.{header_line, region_parts, report_of, OthersEventsAreNotTold, OnlyWhatIsSeenIsTold}
 
 -- where no event passes a test, the one line is told
-none_passes : (p : Event → Bool) (es : List Event) → list_any p es ≡ false → told [] (filter p es) ≡ codes "None.\n"
+none_passes : (p : Event → Bool) (es : List Event) → list_any p es ≡ false → results_text [] (filter p es) ≡ codes "None.\n"
 none_passes p [] h = refl
 none_passes p (e ∷ es) h = by_test (p e) h (none_passes p es)
   where
-    by_test : (t : Bool) → (t || list_any p es) ≡ false → (list_any p es ≡ false → told [] (filter p es) ≡ codes "None.\n") → told [] (cond t (e ∷ filter p es) (filter p es)) ≡ codes "None.\n"
+    by_test : (t : Bool) → (t || list_any p es) ≡ false → (list_any p es ≡ false → results_text [] (filter p es) ≡ codes "None.\n") → results_text [] (cond t (e ∷ filter p es) (filter p es)) ≡ codes "None.\n"
     by_test true h rest = absurd (false≢true (sym h))
     by_test false h rest = rest h
 
 -- where one passes, it is told
-some_passes : (p : Event → Bool) (es : List Event) → list_any p es ≡ true → told [] (filter p es) ≡ event_lines (filter p es)
+some_passes : (p : Event → Bool) (es : List Event) → list_any p es ≡ true → results_text [] (filter p es) ≡ event_lines (filter p es)
 some_passes p [] h = absurd (false≢true h)
 some_passes p (e ∷ es) h = by_test (p e) h (some_passes p es)
   where
-    by_test : (t : Bool) → (t || list_any p es) ≡ true → (list_any p es ≡ true → told [] (filter p es) ≡ event_lines (filter p es)) → told [] (cond t (e ∷ filter p es) (filter p es)) ≡ event_lines (cond t (e ∷ filter p es) (filter p es))
+    by_test : (t : Bool) → (t || list_any p es) ≡ true → (list_any p es ≡ true → results_text [] (filter p es) ≡ event_lines (filter p es)) → results_text [] (cond t (e ∷ filter p es) (filter p es)) ≡ event_lines (cond t (e ∷ filter p es) (filter p es))
     by_test true h rest = refl
     by_test false h rest = rest h
 
@@ -32,30 +32,30 @@ some_length : (f : FaultyLine) (fs : List FaultyLine) → (length (f ∷ fs) == 
 some_length f fs = grind (arith, nat_tests)
 
 pub told_nothing : (faction : ℕ) (faults : List FaultyLine) (events : List Event) → ((length faults == 0) && not (list_any (λ (e : Event). e.faction == faction) events)) ≡ true
-    → told faults (own_events faction events) ≡ codes "None.\n"
+    → results_text faults (own_events faction events) ≡ codes "None.\n"
 told_nothing faction (f ∷ fs) events h = absurd (false≢true (sym (ap (λ b. b && not (list_any (λ (e : Event). e.faction == faction) events)) (some_length f fs)) ∙ h))
 told_nothing faction [] events h = by_test (list_any (λ (e : Event). e.faction == faction) events) h (none_passes (λ (e : Event). e.faction == faction) events)
   where
-    by_test : (t : Bool) → not t ≡ true → (t ≡ false → told [] (own_events faction events) ≡ codes "None.\n") → told [] (own_events faction events) ≡ codes "None.\n"
+    by_test : (t : Bool) → not t ≡ true → (t ≡ false → results_text [] (own_events faction events) ≡ codes "None.\n") → results_text [] (own_events faction events) ≡ codes "None.\n"
     by_test true h rest = absurd (false≢true h)
     by_test false h rest = rest refl
 
 pub told_something : (faction : ℕ) (faults : List FaultyLine) (events : List Event) → ((length faults == 0) && not (list_any (λ (e : Event). e.faction == faction) events)) ≡ false
-    → told faults (own_events faction events) ≡ faulty_lines faults ++ event_lines (own_events faction events)
+    → results_text faults (own_events faction events) ≡ faulty_lines faults ++ event_lines (own_events faction events)
 told_something faction (f ∷ fs) events h = refl
 told_something faction [] events h = by_test (list_any (λ (e : Event). e.faction == faction) events) h (some_passes (λ (e : Event). e.faction == faction) events)
   where
-    by_test : (t : Bool) → not t ≡ false → (t ≡ true → told [] (own_events faction events) ≡ event_lines (own_events faction events)) → told [] (own_events faction events) ≡ event_lines (own_events faction events)
+    by_test : (t : Bool) → not t ≡ false → (t ≡ true → results_text [] (own_events faction events) ≡ event_lines (own_events faction events)) → results_text [] (own_events faction events) ≡ event_lines (own_events faction events)
     by_test true h rest = rest refl
     by_test false h rest = absurd (false≢true (sym h))
 
 -- a report tells of own events alone
 pub others_events_are_not_told : OthersEventsAreNotTold
 unfolding report_of orders_part
-others_events_are_not_told w v faults events others h = ap (λ own. header_line v ++ ((codes "Orders:\n" ++ told faults own) ++ region_parts w v.regions)) h
+others_events_are_not_told w v faults events others h = ap (λ own. header_line v ++ ((codes "Orders:\n" ++ results_text faults own) ++ region_parts w v.regions)) h
 
 -- a campaign makes a difference to a report by what is seen of it alone
 pub only_what_is_seen_is_told : OnlyWhatIsSeenIsTold
 unfolding view_of
-only_what_is_seen_is_told w c d faction faults events others seen told =
-    others_events_are_not_told w (view_of w c faction) faults events others told ∙ ap (λ v. report_of w v faults others) seen
+only_what_is_seen_is_told w c d faction faults events others seen results_text =
+    others_events_are_not_told w (view_of w c faction) faults events others results_text ∙ ap (λ v. report_of w v faults others) seen

@@ -5,7 +5,7 @@ use Rattle.std.specs.Prelude.{Bool, true, false, codes, if◌then◌else◌, is_
 use Rattle.std.specs.List.{cons_option}
 use Rattle.std.specs.Option.{option_map_or}
 use Rattle.atl_tables.specs.declared.world.RegionPlan.{RegionPlan}
-use Rattle.atl_report.specs.Each.{each_text, joined}
+use Rattle.atl_report.specs.Each.{each_text, separated_texts}
 use Rattle.atl_report.specs.Report.{exit_text, exit_texts, joined_or_none}
 
 -- an exit, after a comma if it isn't the first
@@ -28,7 +28,7 @@ last : (direction : List ℕ) (exit : Option ℕ) → after_commas (with_exit di
 last direction exit = later direction exit [] ∙ append-nil (written false direction exit)
 
 in_turn : (north south east west : Option ℕ) →
-    joined (codes ", ") (with_exit (codes "north") north (with_exit (codes "south") south (with_exit (codes "east") east (with_exit (codes "west") west []))))
+    separated_texts (codes ", ") (with_exit (codes "north") north (with_exit (codes "south") south (with_exit (codes "east") east (with_exit (codes "west") west []))))
     ≡ written true (codes "north") north
     ++ (written (is_none north) (codes "south") south
     ++ (written (is_none north && is_none south) (codes "east") east
@@ -47,7 +47,7 @@ in_turn None None None (Some w) = append-nil (exit_text (codes "west") w)
 in_turn None None None None = refl
 
 pub joined_in_turn : (p : RegionPlan) →
-    joined (codes ", ") (exit_texts p)
+    separated_texts (codes ", ") (exit_texts p)
     ≡ written true (codes "north") p.north
     ++ (written (is_none p.north) (codes "south") p.south
     ++ (written (is_none p.north && is_none p.south) (codes "east") p.east
@@ -57,7 +57,7 @@ joined_in_turn p = in_turn p.north p.south p.east p.west
 
 or_none : (north south east west : Option ℕ) →
     let texts = with_exit (codes "north") north (with_exit (codes "south") south (with_exit (codes "east") east (with_exit (codes "west") west []))) in
-    joined_or_none texts ≡ if ((is_none north && is_none south) && is_none east) && is_none west then codes "none" else joined (codes ", ") texts
+    joined_or_none texts ≡ if ((is_none north && is_none south) && is_none east) && is_none west then codes "none" else separated_texts (codes ", ") texts
 or_none (Some n) s e w = refl
 or_none None (Some s) e w = refl
 or_none None None (Some e) w = refl
@@ -66,6 +66,6 @@ or_none None None None None = refl
 
 pub none_or_joined : (p : RegionPlan) →
     joined_or_none (exit_texts p)
-    ≡ if ((is_none p.north && is_none p.south) && is_none p.east) && is_none p.west then codes "none" else joined (codes ", ") (exit_texts p)
+    ≡ if ((is_none p.north && is_none p.south) && is_none p.east) && is_none p.west then codes "none" else separated_texts (codes ", ") (exit_texts p)
 unfolding exit_texts
 none_or_joined p = or_none p.north p.south p.east p.west

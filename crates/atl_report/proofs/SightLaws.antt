@@ -19,7 +19,7 @@ use Rattle.atl_records.specs.Every.{EachOf}
 use Rattle.atl_state.specs.Campaign.{CampaignValue, numbers_of}
 use Rattle.atl_records.proofs.EveryLaws.{each-from_every}
 use Rattle.atl_report.specs.Watching.{is_watching, sees_region}
-use Rattle.atl_report.specs.Gathering.{with_region, with_watched, gathered}
+use Rattle.atl_report.specs.Gathering.{with_region, with_watched, with_all_watched}
 
 itself : (n : ℕ) → is_eq (nat_cmp n n) ≡ true
 itself n = ap is_eq (tied_itself nat_cmp_total n)
@@ -148,7 +148,7 @@ module _ (c : CampaignValue) (f q : ℕ) where
   or_order false false b = refl
 
   all_watched : (ns : List ℕ) (seen : FinMap nat_cmp (Prim.Unit {0})) (b : Bool) → get seen q ≡ cond b (there q) None
-      → get (gathered c f ns seen) q ≡ cond (list_any (λ n. watches_in f q (get c.units n)) ns || b) (there q) None
+      → get (with_all_watched c f ns seen) q ≡ cond (list_any (λ n. watches_in f q (get c.units n)) ns || b) (there q) None
   all_watched [] seen b was = was
   all_watched (n ∷ ns) seen b was =
       all_watched ns (with_watched c f seen (get c.units n)) (watches_in f q (get c.units n) || b) (one_watched seen b (get c.units n) was)
@@ -158,19 +158,19 @@ module _ (c : CampaignValue) (f q : ℕ) where
   or_none true = refl
   or_none false = refl
 
-  get-gathered : get (gathered c f (numbers_of f c.units) empty) q ≡ cond (sees_region c f q) (there q) None
-  get-gathered =
+  get-with_all_watched : get (with_all_watched c f (numbers_of f c.units) empty) q ≡ cond (sees_region c f q) (there q) None
+  get-with_all_watched =
       all_watched (numbers_of f c.units) empty false (get-empty nat_cmp q)
       ∙ ap (λ t. cond t (there q) None) (or_none (list_any (λ n. watches_in f q (get c.units n)) (numbers_of f c.units)) ∙ seen_by c f q)
 
 -- the numbers gathered from the faction's units are those of the regions that it sees
-pub entries-gathered : (c : CampaignValue) (f : ℕ) → entries (gathered c f (numbers_of f c.units) empty) ≡ map (λ e. (e.0, tt)) (filter (λ e. sees_region c f e.0) (entries c.regions))
-entries-gathered c f =
+pub entries-with_all_watched : (c : CampaignValue) (f : ℕ) → entries (with_all_watched c f (numbers_of f c.units) empty) ≡ map (λ e. (e.0, tt)) (filter (λ e. sees_region c f e.0) (entries c.regions))
+entries-with_all_watched c f =
     let seen = where_key nat_cmp (sees_region c f) (entries c.regions) in
     let numbers : List (ℕ × Prim.Unit {0}) = map number_alone seen in
     let sorted : T (is_sorted nat_cmp numbers) = rw (sorted-alone seen) (is_sorted-where_key nat_cmp (sees_region c f) (entries c.regions) (entries_sorted c.regions)) in
-    ap entries (same_map nat_cmp_total nat_cmp-IsAntisymmetric (gathered c f (numbers_of f c.units) empty) (from_sorted numbers) (λ q.
-    get-gathered c f q ∙ sym (get-from_sorted nat_cmp numbers q sorted ∙ find-alone q seen
+    ap entries (same_map nat_cmp_total nat_cmp-IsAntisymmetric (with_all_watched c f (numbers_of f c.units) empty) (from_sorted numbers) (λ q.
+    get-with_all_watched c f q ∙ sym (get-from_sorted nat_cmp numbers q sorted ∙ find-alone q seen
     ∙ ap (option_map nothing_of) (find-where_key nat_cmp (sees_region c f) q (λ x e. ap (sees_region c f) (sym (nat_cmp-IsAntisymmetric q x e))) (entries c.regions) ∙ ap (λ o. cond (sees_region c f q) o None) (sym (get-entries c.regions q)))
     ∙ alone_chosen (sees_region c f q) (get c.regions q))))
     ∙ entries-from_sorted nat_cmp numbers sorted

@@ -11,7 +11,7 @@ use Rattle.atl_records.specs.declared.books.Entry.{Entry}
 use Rattle.atl_records.specs.declared.books.Entry.TheVariants.{Founding, Joining, Income, Wages, Recruiting, Study, Upkeep, Lost, Births, Starved, Left, Made, Used, Bought, Sold, Stocked}
 use Rattle.atl_records.specs.declared.books.Thing.{Thing}
 use Rattle.atl_records.specs.declared.books.Thing.TheVariants.{Money, People, Item}
-use Rattle.atl_records.specs.Books.{all_entries, amount_in, thing_place}
+use Rattle.atl_records.specs.Books.{all_entries, amount_in, thing_index}
 use Rattle.atl_state.specs.Campaign.{CampaignValue}
 use Rattle.atl_state.specs.Totals.{total}
 use Rattle.atl_report.specs.Each.{each_text}
@@ -73,4 +73,4 @@ books_of w c = thing_part w c Money ▸ thing_part w c People ▸ item_parts w c
 
 -- a thing of which there are books
 abbrev pub IsThing : CampaignValue → Thing → Type 0
-IsThing c t = thing_place t < length c.books
+IsThing c t = thing_index t < length c.books

@@ -1,4 +1,4 @@
--- Texts one behind the other.
+-- Texts joined one after another.
 use Rattle.std.specs.Prelude.{ℕ, List, [], ◌∷◌}
 use Rattle.atl_tables.specs.Texts.{◌▸◌}
 
@@ -8,6 +8,6 @@ each_text text [] = []
 each_text text (x ∷ xs) = text x ▸ each_text text xs
 
 -- these texts, with a separator between each two
-abbrev pub joined : (separator : List ℕ) → List (List ℕ) → List ℕ
-joined separator [] = []
-joined separator (text ∷ texts) = text ▸ each_text (λ t. separator ▸ t) texts
+abbrev pub separated_texts : (separator : List ℕ) → List (List ℕ) → List ℕ
+separated_texts separator [] = []
+separated_texts separator (text ∷ texts) = text ▸ each_text (λ t. separator ▸ t) texts

@@ -1,4 +1,4 @@
--- The lines of a report on faulty lines and on events.
+-- The lines of a report for faulty lines and events. See docs/FORMATS.md, "Reports".
 use Rattle.std.specs.Prelude.{◌==◌, ℕ, List, [], codes, find, filter}
 use Rattle.std.specs.Fmt.{decimal}
 use Rattle.std.specs.Option.{option_map_or}
@@ -41,9 +41,9 @@ event_lines = each_text event_line
 abbrev pub own_events : ℕ → List Event → List Event
 own_events faction events = filter (λ e. e.faction == faction) events
 
-abbrev pub told : List FaultyLine → List Event → List ℕ
-told [] [] = codes "None.\n"
-told faults events = faulty_lines faults ▸ event_lines events
+abbrev pub results_text : List FaultyLine → List Event → List ℕ
+results_text [] [] = codes "None.\n"
+results_text faults events = faulty_lines faults ▸ event_lines events
 
 unfoldable pub orders_part : ℕ → List FaultyLine → List Event → List ℕ
-orders_part faction faults events = codes "Orders:\n" ▸ told faults (own_events faction events)
+orders_part faction faults events = codes "Orders:\n" ▸ results_text faults (own_events faction events)

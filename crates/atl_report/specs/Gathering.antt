@@ -1,4 +1,4 @@
--- For proofs alone: the numbers of the regions that a faction sees, gathered from its units.
+-- For proofs alone: the regions that a faction sees, found from its units.
 use Rattle.std.specs.Prelude.{ℕ, List, [], ◌∷◌, if◌then◌else◌, Option, Some, None}
 use Rattle.std.specs.Ordering.{nat_cmp}
 use Rattle.std.specs.FinMap.{FinMap, get, insert}
@@ -18,6 +18,6 @@ with_watched c f seen None = seen
 with_watched c f seen (Some u) = if is_watching f (Some u) then with_region seen u.region (get c.regions u.region) else seen
 
 -- the numbers with those of the regions of some units
-abbrev pub gathered : CampaignValue → ℕ → List ℕ → FinMap nat_cmp (Prim.Unit {0}) → FinMap nat_cmp (Prim.Unit {0})
-gathered c f [] seen = seen
-gathered c f (n ∷ ns) seen = gathered c f ns (with_watched c f seen (get c.units n))
+abbrev pub with_all_watched : CampaignValue → ℕ → List ℕ → FinMap nat_cmp (Prim.Unit {0}) → FinMap nat_cmp (Prim.Unit {0})
+with_all_watched c f [] seen = seen
+with_all_watched c f (n ∷ ns) seen = with_all_watched c f ns (with_watched c f seen (get c.units n))

@@ -14,7 +14,7 @@ use Rattle.atl_tables.specs.declared.world.Kind.{Kind}
 use Rattle.atl_orders.specs.declared.fault.FaultyLine.{FaultyLine}
 use Rattle.atl_records.specs.declared.event.Event.{Event}
 use Rattle.atl_state.specs.Campaign.{CampaignValue}
-use Rattle.atl_report.specs.Each.{each_text, joined}
+use Rattle.atl_report.specs.Each.{each_text, separated_texts}
 use Rattle.atl_report.specs.Events.{own_events, orders_part}
 use Rattle.atl_report.specs.Sight.{view_of}
 use Rattle.atl_report.specs.declared.views.View.{View}
@@ -110,7 +110,7 @@ exit_texts p =
 
 abbrev pub joined_or_none : List (List ℕ) → List ℕ
 joined_or_none [] = codes "none"
-joined_or_none (text ∷ texts) = joined (codes ", ") (text ∷ texts)
+joined_or_none (text ∷ texts) = separated_texts (codes ", ") (text ∷ texts)
 
 abbrev pub exits_text : RegionPlan → List ℕ
 exits_text p = codes "Exits: " ▸ joined_or_none (exit_texts p) ▸ codes ".\n"

@@ -13,7 +13,7 @@ use Rattle.atl_records.specs.declared.records.Region.{Region}
 use Rattle.atl_records.specs.declared.records.Structure.{Structure}
 use Rattle.atl_records.specs.declared.records.Unit.{Unit}
 use Rattle.atl_state.specs.Good.{guards}
-use Rattle.atl_records.specs.Held.{Held, amount_of}
+use Rattle.atl_records.specs.Holdings.{HoldingValue, amount_of}
 use Rattle.atl_records.specs.Levels.{level_of}
 use Rattle.atl_state.specs.Campaign.{CampaignValue, numbers_in}
 use Rattle.atl_report.specs.declared.views.View.{View}
@@ -38,14 +38,14 @@ shown_name faction = option_map_or (λ f. f.name) faction []
 abbrev pub item_view : ℕ × ℕ → ItemView
 item_view (item, amount) = record { item = item; amount = amount }
 
-abbrev pub item_views : Held → List ItemView
+abbrev pub item_views : HoldingValue → List ItemView
 item_views h = map item_view (entries h.items)
 
 -- each skill with days, in the order of the world, with the level that so many men have
 abbrev pub skill_view : ℕ → ℕ × ℕ → SkillView
 skill_view men (skill, days) = record { skill = skill; level = level_of days men; days = days }
 
-abbrev pub skill_views : Held → List SkillView
+abbrev pub skill_views : HoldingValue → List SkillView
 skill_views h = map (skill_view h.men) (entries h.days)
 
 -- of an own unit its money, items and skills; of another faction's that faction

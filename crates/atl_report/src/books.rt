@@ -1,4 +1,4 @@
-//! The text of the books.
+//! Writes the text of the books. See docs/FORMATS.md, "Books".
 ghost use Rattle.std.specs.Prelude.{◌≡◌, ◌++◌, IfOk, OnOk, length, string_bytes};
 ghost use Rattle.std.specs.List.{slice_get};
 ghost use Rattle.atl_state.specs.Founding.{things_of};
@@ -23,7 +23,8 @@ fn entry_name(entry: Entry) -> &'static str
 
 /// What a line begins with: the thing.
 fn write_thing(out: &mut String, world: &World, thing: Thing) -> Result<(), AllocError>
-    ensures { OnOk result (string_bytes out.new ≡ string_bytes out.old ++ thing_name world.now thing) }
+    ensures { OnOk result (string_bytes out.new
+        ≡ string_bytes out.old ++ thing_name world.now thing) }
 {
     match thing {
         Thing::Money => out.push_str("money"),
@@ -33,7 +34,8 @@ fn write_thing(out: &mut String, world: &World, thing: Thing) -> Result<(), Allo
 }
 
 fn write_item(out: &mut String, world: &World, item: u16) -> Result<(), AllocError>
-    ensures { OnOk result (string_bytes out.new ≡ string_bytes out.old ++ item_name (slice_get world.now.items item)) }
+    ensures { OnOk result (string_bytes out.new
+        ≡ string_bytes out.old ++ item_name (slice_get world.now.items item)) }
 {
     match world.item(item) {
         Some(known) => {
@@ -46,7 +48,8 @@ fn write_item(out: &mut String, world: &World, item: u16) -> Result<(), AllocErr
 
 /// An amount under an entry, with its sign where it is negative.
 fn write_amount(out: &mut String, entry: Entry, amount: i64) -> Result<(), AllocError>
-    ensures { OnOk result (string_bytes out.new ≡ string_bytes out.old ++ amount_text entry amount) }
+    ensures { OnOk result (string_bytes out.new
+        ≡ string_bytes out.old ++ amount_text entry amount) }
 {
     let name = entry_name(entry);
     write!(out, " {name} {amount}\n")
@@ -61,7 +64,8 @@ fn write_entry(
     entry: Entry,
     amount: i64,
 ) -> Result<(), AllocError>
-    ensures { OnOk result (string_bytes out.new ≡ string_bytes out.old ++ amount_line world.now thing entry amount) }
+    ensures { OnOk result (string_bytes out.new
+        ≡ string_bytes out.old ++ amount_line world.now thing entry amount) }
 {
     if amount == 0 {
         return Ok(());
@@ -80,7 +84,9 @@ fn write_entries(
     entries: &[Entry],
 ) -> Result<(), AllocError>
     requires { IsThing campaign.now.value thing }
-    ensures { OnOk result (string_bytes out.new ≡ string_bytes out.old ++ amount_lines world.now campaign.now.value.books thing entries.now) }
+    ensures { OnOk result (string_bytes out.new
+        ≡ string_bytes out.old ++ amount_lines world.now campaign.now.value.books thing
+        entries.now) }
 {
     for entry in entries {
         let amount = campaign.booked(*entry, thing);
@@ -98,7 +104,8 @@ fn write_total(
     thing: Thing,
 ) -> Result<(), AllocError>
     requires { IsCountable campaign.now.value }
-    ensures { OnOk result (string_bytes out.new ≡ string_bytes out.old ++ total_line world.now campaign.now.value thing) }
+    ensures { OnOk result (string_bytes out.new
+        ≡ string_bytes out.old ++ total_line world.now campaign.now.value thing) }
 {
     let amount = campaign.total(thing);
     write_thing(out, world, thing)?;
@@ -116,7 +123,8 @@ fn write_part(
 ) -> Result<(), AllocError>
     requires countable { IsCountable campaign.now.value }
     requires thing { IsThing campaign.now.value thing }
-    ensures { OnOk result (string_bytes out.new ≡ string_bytes out.old ++ thing_part world.now campaign.now.value thing) }
+    ensures { OnOk result (string_bytes out.new
+        ≡ string_bytes out.old ++ thing_part world.now campaign.now.value thing) }
 {
     write_entries(out, world, campaign, thing, &Entry::ALL)?;
     write_total(out, world, campaign, thing)?;
@@ -127,7 +135,9 @@ fn write_part(
 fn write_items(out: &mut String, world: &World, campaign: &Campaign) -> Result<(), AllocError>
     requires things { length campaign.now.value.books ≡ things_of world.now }
     requires countable { IsCountable campaign.now.value }
-    ensures { OnOk result (string_bytes out.new ≡ string_bytes out.old ++ item_parts world.now campaign.now.value (length world.now.items)) }
+    ensures { OnOk result (string_bytes out.new
+        ≡ string_bytes out.old ++ item_parts world.now campaign.now.value
+        (length world.now.items)) }
 {
     for item in 0..world.items().len() {
         write_part(out, world, campaign, Thing::Item(item as u16))?;
@@ -142,7 +152,8 @@ fn write_items(out: &mut String, world: &World, campaign: &Campaign) -> Result<(
 pub fn books_text(alloc: Global, world: &World, campaign: &Campaign) -> Result<String, AllocError>
     requires things { length campaign.now.value.books ≡ things_of world.now }
     requires countable { IsCountable campaign.now.value }
-    ensures definition { IfOk result (λ text. string_bytes text ≡ books_of world.now campaign.now.value) }
+    ensures definition { IfOk result
+        (λ text. string_bytes text ≡ books_of world.now campaign.now.value) }
 {
     let mut out = String::new(alloc);
     write_part(&mut out, world, campaign, Thing::Money)?;

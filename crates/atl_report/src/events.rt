@@ -1,7 +1,8 @@
-//! The part of a report on orders: faulty lines of the mailing, and events.
+//! Writes the part of a report on orders: faulty lines of the mailing, and events. See
+//! docs/FORMATS.md, "Reports".
 ghost use Rattle.std.specs.Prelude.{◌≡◌, ◌==◌, ◌++◌, ◌&&◌, not, length, OnOk, string_bytes};
 ghost use Rattle.std.specs.List.{list_any};
-ghost use Rattle.atl_report.specs.Events.{faulty_line, faulty_lines, name_of_number, event_line, event_lines, own_events, told, orders_part};
+ghost use Rattle.atl_report.specs.Events.{faulty_line, faulty_lines, name_of_number, event_line, event_lines, own_events, results_text, orders_part};
 
 use atl_orders::FaultyLine;
 use atl_state::{Event, EventFault, Outcome};
@@ -59,7 +60,8 @@ fn write_event(out: &mut String, event: &Event) -> Result<(), AllocError>
 
 /// The lines of the faction's own events.
 fn write_events(out: &mut String, faction: u32, events: &[Event]) -> Result<(), AllocError>
-    ensures { OnOk result (string_bytes out.new ≡ string_bytes out.old ++ event_lines (own_events faction events.now)) }
+    ensures { OnOk result (string_bytes out.new
+        ≡ string_bytes out.old ++ event_lines (own_events faction events.now)) }
 {
     for event in events {
         if event.faction == faction {
@@ -77,23 +79,25 @@ fn has_own(faction: u32, events: &[Event]) -> bool
 }
 
 /// Whether there is nothing to tell the faction.
-fn is_nothing_told(faction: u32, faults: &[FaultyLine], events: &[Event]) -> bool
-    ensures { result ≡ (length faults.now == 0 && not (list_any (λ e. e.faction == faction) events.now)) }
+fn has_no_results(faction: u32, faults: &[FaultyLine], events: &[Event]) -> bool
+    ensures { result ≡ (length faults.now == 0 && not
+        (list_any (λ e. e.faction == faction) events.now)) }
 {
     faults.is_empty() && !has_own(faction, events)
 }
 
 /// The faulty lines and the faction's own events, or that there are none.
 #[tactic(auto, using(crate::proofs::EventLaws::told_nothing))]
-fn write_told(
+fn write_results(
     out: &mut String,
     faction: u32,
     faults: &[FaultyLine],
     events: &[Event],
 ) -> Result<(), AllocError>
-    ensures { OnOk result (string_bytes out.new ≡ string_bytes out.old ++ told faults.now (own_events faction events.now)) }
+    ensures { OnOk result (string_bytes out.new
+        ≡ string_bytes out.old ++ results_text faults.now (own_events faction events.now)) }
 {
-    if is_nothing_told(faction, faults, events) {
+    if has_no_results(faction, faults, events) {
         return out.push_str("None.\n");
     }
     write_faulty_lines(out, faults)?;
@@ -109,9 +113,10 @@ pub(crate) fn write_orders(
     faults: &[FaultyLine],
     events: &[Event],
 ) -> Result<(), AllocError>
-    ensures { OnOk result (string_bytes out.new ≡ string_bytes out.old ++ orders_part faction faults.now events.now) }
+    ensures { OnOk result (string_bytes out.new
+        ≡ string_bytes out.old ++ orders_part faction faults.now events.now) }
 {
     out.push_str("Orders:\n")?;
-    write_told(out, faction, faults, events)?;
+    write_results(out, faction, faults, events)?;
     Ok(())
 }

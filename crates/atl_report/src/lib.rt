@@ -1,4 +1,4 @@
-//! What a faction sees, and the report that it reads.
+//! What a faction sees, and the text of its report.
 #![tactic(auto)]
 
 pub mod books;

@@ -1,7 +1,7 @@
-//! The text of a report.
+//! Writes the text of a report. See docs/FORMATS.md, "Reports".
 ghost use Rattle.std.specs.Prelude.{◌≡◌, ◌++◌, ◌&&◌, IfOk, OnOk, [], codes, if◌then◌else◌, is_none, string_bytes};
 ghost use Rattle.std.specs.Option.{option_map_or};
-ghost use Rattle.atl_report.specs.Each.{each_text, joined};
+ghost use Rattle.atl_report.specs.Each.{each_text, separated_texts};
 ghost use Rattle.atl_report.specs.Report.{header_line, unit_head, guard_text, inside_text, item_text, skill_text, goods_text, unit_line, structure_text, structure_line, region_line, exit_text, exit_texts, exits_text, exits_line, market_text, market_line, market_lines, region_part, report_of, OthersEventsAreNotTold, OnlyWhatIsSeenIsTold};
 
 use crate::events::write_orders;
@@ -22,11 +22,13 @@ trait InReport {
     ghost text: { WorldValue → Self → List ℕ };
 
     fn write(&self, out: &mut String, world: &World) -> Result<(), AllocError>
-        ensures { OnOk result (string_bytes out.new ≡ string_bytes out.old ++ text world.now self.now) };
+        ensures { OnOk result (string_bytes out.new
+            ≡ string_bytes out.old ++ text world.now self.now) };
 }
 
 fn write_each<T: InReport>(out: &mut String, world: &World, list: &[T]) -> Result<(), AllocError>
-    ensures { OnOk result (string_bytes out.new ≡ string_bytes out.old ++ each_text (T.text world.now) list.now) }
+    ensures { OnOk result (string_bytes out.new
+        ≡ string_bytes out.old ++ each_text (T.text world.now) list.now) }
 {
     for one in list {
         one.write(out, world)?;
@@ -49,7 +51,8 @@ fn write_header(out: &mut String, view: &View) -> Result<(), AllocError>
 
 /// The number, the name, whose it is, and the men of a unit, and the money of an own one.
 fn write_head(out: &mut String, unit: &UnitView) -> Result<(), AllocError>
-    ensures { OnOk result (string_bytes out.new ≡ string_bytes out.old ++ unit_head unit.now unit.now.side) }
+    ensures { OnOk result (string_bytes out.new
+        ≡ string_bytes out.old ++ unit_head unit.now unit.now.side) }
 {
     let number = unit.number;
     let name = unit.name.as_str();
@@ -123,7 +126,8 @@ impl InReport for SkillView {
 
 /// What an own unit has and knows.
 fn write_goods(out: &mut String, world: &World, side: &Side) -> Result<(), AllocError>
-    ensures { OnOk result (string_bytes out.new ≡ string_bytes out.old ++ goods_text world.now side.now) }
+    ensures { OnOk result (string_bytes out.new
+        ≡ string_bytes out.old ++ goods_text world.now side.now) }
 {
     match side {
         Side::Own {
@@ -157,7 +161,8 @@ impl InReport for UnitView {
 
 /// A structure of a kind.
 fn write_built(out: &mut String, structure: &StructureView, kind: &Kind) -> Result<(), AllocError>
-    ensures { OnOk result (string_bytes out.new ≡ string_bytes out.old ++ structure_text structure.now kind.now) }
+    ensures { OnOk result (string_bytes out.new
+        ≡ string_bytes out.old ++ structure_text structure.now kind.now) }
 {
     let number = structure.number;
     let name = structure.name.as_str();
@@ -185,7 +190,8 @@ impl InReport for StructureView {
 
 #[tactic(auto, unfolding(crate::specs::Report::region_line))]
 fn write_region(out: &mut String, world: &World, region: &RegionView) -> Result<(), AllocError>
-    ensures { OnOk result (string_bytes out.new ≡ string_bytes out.old ++ region_line world.now region.now) }
+    ensures { OnOk result (string_bytes out.new
+        ≡ string_bytes out.old ++ region_line world.now region.now) }
 {
     let Some(plan) = world.region(region.number) else {
         return Ok(());
@@ -211,9 +217,9 @@ fn write_exit(
     direction: &str,
     exit: Option<u32>,
 ) -> Result<(), AllocError>
-    ensures { OnOk result (
-        string_bytes out.new ≡ string_bytes out.old
-        ++ option_map_or (λ to. (if is_first then [] else codes ", ") ++ exit_text direction.now to) exit []) }
+    ensures { OnOk result (string_bytes out.new
+        ≡ string_bytes out.old ++ option_map_or
+        (λ to. (if is_first then [] else codes ", ") ++ exit_text direction.now to) exit []) }
 {
     match exit {
         None => Ok(()),
@@ -229,8 +235,8 @@ fn write_exit(
 
 /// Writes the exits that are there, with commas between them.
 fn write_directions(out: &mut String, plan: &RegionPlan) -> Result<(), AllocError>
-    ensures { OnOk result (
-        string_bytes out.new ≡ string_bytes out.old ++ joined (codes ", ") (exit_texts plan.now)) }
+    ensures { OnOk result (string_bytes out.new
+        ≡ string_bytes out.old ++ separated_texts (codes ", ") (exit_texts plan.now)) }
 {
     let north = plan.north.is_none();
     let south = plan.south.is_none();
@@ -265,7 +271,8 @@ fn write_known_exits(out: &mut String, plan: &RegionPlan) -> Result<(), AllocErr
 
 #[tactic(auto, unfolding(crate::specs::Report::exits_line))]
 fn write_exits(out: &mut String, world: &World, region: &RegionView) -> Result<(), AllocError>
-    ensures { OnOk result (string_bytes out.new ≡ string_bytes out.old ++ exits_line world.now region.now) }
+    ensures { OnOk result (string_bytes out.new
+        ≡ string_bytes out.old ++ exits_line world.now region.now) }
 {
     match world.region(region.number) {
         Some(plan) => write_known_exits(out, plan),
@@ -274,13 +281,14 @@ fn write_exits(out: &mut String, world: &World, region: &RegionView) -> Result<(
 }
 
 /// A market of an item.
-fn write_traded(
+fn write_trade(
     out: &mut String,
     seen: MarketView,
     market: &Market,
     item: &Item,
 ) -> Result<(), AllocError>
-    ensures { OnOk result (string_bytes out.new ≡ string_bytes out.old ++ market_text seen market.now item.now) }
+    ensures { OnOk result (string_bytes out.new
+        ≡ string_bytes out.old ++ market_text seen market.now item.now) }
 {
     let name = item.name.as_str();
     let stock = seen.stock;
@@ -300,13 +308,14 @@ fn write_market(
     region: u32,
     seen: MarketView,
 ) -> Result<(), AllocError>
-    ensures { OnOk result (string_bytes out.new ≡ string_bytes out.old ++ market_line world.now region seen) }
+    ensures { OnOk result (string_bytes out.new
+        ≡ string_bytes out.old ++ market_line world.now region seen) }
 {
     let Some(market) = world.market(region, seen.item) else {
         return Ok(());
     };
     match world.item(seen.item) {
-        Some(item) => write_traded(out, seen, market, item),
+        Some(item) => write_trade(out, seen, market, item),
         None => Ok(()),
     }
 }
@@ -317,7 +326,8 @@ fn write_markets(
     region: u32,
     markets: &[MarketView],
 ) -> Result<(), AllocError>
-    ensures { OnOk result (string_bytes out.new ≡ string_bytes out.old ++ market_lines world.now region markets.now) }
+    ensures { OnOk result (string_bytes out.new
+        ≡ string_bytes out.old ++ market_lines world.now region markets.now) }
 {
     for seen in markets {
         write_market(out, world, region, *seen)?;
@@ -350,7 +360,8 @@ pub fn report_text(
     faults: &[FaultyLine],
     events: &[Event],
 ) -> Result<String, AllocError>
-    ensures definition { IfOk result (λ text. string_bytes text ≡ report_of world.now view.now faults.now events.now) }
+    ensures definition { IfOk result
+        (λ text. string_bytes text ≡ report_of world.now view.now faults.now events.now) }
 {
     let mut out = String::new(alloc);
     write_header(&mut out, view)?;

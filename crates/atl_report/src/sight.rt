@@ -1,4 +1,4 @@
-//! What a faction sees.
+//! Collects what a faction sees into a view. See docs/RULES.md, "Sight".
 ghost use Rattle.std.specs.Prelude.{◌≡◌, IfOk, OnOk, Some, filter, map};
 ghost use Rattle.std.specs.FinMap.{get, entries};
 ghost use Rattle.atl_report.specs.Watching.{sees_region};
@@ -133,7 +133,8 @@ fn structure_view(
     number: u32,
     structure: &Structure,
 ) -> Result<StructureView, AllocError>
-    ensures { IfOk result (λ seen. seen ≡ structure_view world.now campaign.now.value watch number structure.now) }
+    ensures { IfOk result (λ seen. seen
+        ≡ structure_view world.now campaign.now.value watch number structure.now) }
 {
     Ok(StructureView {
         number,
@@ -153,7 +154,8 @@ fn structure_views(
     watch: Watch,
 ) -> Result<Sequence<StructureView>, AllocError>
     requires { AreSites campaign.now.value.structures sites.now }
-    ensures { IfOk result (λ structures. structures ≡ structure_views world.now campaign.now.value watch) }
+    ensures { IfOk result (λ structures. structures
+        ≡ structure_views world.now campaign.now.value watch) }
 {
     let mut structures = Sequence::new(alloc);
     for number in sites_in(sites, watch.region) {
@@ -197,7 +199,8 @@ fn region_market_views(
     number: u32,
     region: &Region,
 ) -> Result<Sequence<MarketView>, AllocError>
-    ensures { IfOk result (λ markets. markets ≡ region_market_views region.now (get world.now.regions number)) }
+    ensures { IfOk result (λ markets. markets
+        ≡ region_market_views region.now (get world.now.regions number)) }
 {
     match world.region(number) {
         Some(plan) => market_views(alloc, plan, region),
@@ -214,7 +217,8 @@ fn region_view(
     region: &Region,
 ) -> Result<RegionView, AllocError>
     requires { AreSites campaign.now.value.structures sites.now }
-    ensures { IfOk result (λ seen. seen ≡ region_view world.now campaign.now.value watch region.now) }
+    ensures { IfOk result (λ seen. seen
+        ≡ region_view world.now campaign.now.value watch region.now) }
 {
     Ok(RegionView {
         number: watch.region,
@@ -228,7 +232,8 @@ fn region_view(
 
 /// Adds a region of the campaign to those that are seen.
 fn see(seen: &mut Numbered<()>, campaign: &Campaign, number: u32) -> Result<(), AllocError>
-    ensures { OnOk result (seen.new ≡ with_region seen.old number (get campaign.now.value.regions number)) }
+    ensures { OnOk result (seen.new
+        ≡ with_region seen.old number (get campaign.now.value.regions number)) }
 {
     if campaign.region(number).is_some() {
         seen.insert(number, ())?;
@@ -242,7 +247,9 @@ fn regions_seen(
     campaign: &Campaign,
     faction: u32,
 ) -> Result<Numbered<()>, AllocError>
-    ensures { IfOk result (λ seen. entries seen ≡ map (λ e. (e.0, tt)) (filter (λ e. sees_region campaign.now.value faction e.0) (entries campaign.now.value.regions))) }
+    ensures { IfOk result (λ seen. entries seen
+        ≡ map (λ e. (e.0, tt)) (filter (λ e. sees_region campaign.now.value faction e.0)
+        (entries campaign.now.value.regions))) }
 {
     let mut seen = Numbered::new(alloc);
     for number in campaign.of_faction(faction) {

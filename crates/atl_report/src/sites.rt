@@ -1,4 +1,4 @@
-//! Which structures stand in which region.
+//! The structures of each region.
 ghost use Rattle.std.specs.Prelude.{◌≡◌, IfOk, OnOk};
 ghost use Rattle.atl_state.specs.Kept.{list_of};
 ghost use Rattle.atl_report.specs.Sites.{AreSites, with_site};

@@ -1,4 +1,4 @@
-//! What a report shows, and nothing else.
+//! The view of a faction: all that its report shows.
 use atl_tables::{Sequence, Text, let_go};
 
 /// What a faction sees of a campaign.

@@ -1,4 +1,4 @@
-//! Who sees, and who is seen.
+//! Who sees, and whom. See docs/RULES.md, "Sight".
 ghost use Rattle.std.specs.Prelude.{◌≡◌, Some, nat_le};
 ghost use Rattle.std.specs.Option.{option_copied};
 ghost use Rattle.atl_state.specs.Good.{guards};
@@ -66,8 +66,9 @@ pub(crate) fn watch_over(world: &World, campaign: &Campaign, faction: u32, regio
 }
 
 /// Whether a unit's stealth isn't too high for a watch.
-fn is_made_out(world: &World, watch: Watch, unit: &Unit) -> bool
-    ensures { result ≡ nat_le (level_in_any unit.now.holding world.now.rules.stealth) watch.observation }
+fn is_identified(world: &World, watch: Watch, unit: &Unit) -> bool
+    ensures { result ≡ nat_le (level_in_any unit.now.holding world.now.rules.stealth)
+        watch.observation }
 {
     level_in_any(&unit.holding, world.rules().stealth) <= watch.observation
 }
@@ -76,7 +77,7 @@ fn is_made_out(world: &World, watch: Watch, unit: &Unit) -> bool
 pub(crate) fn is_seen(world: &World, watch: Watch, unit: &Unit) -> bool
     ensures { result ≡ is_seen world.now watch unit.now }
 {
-    unit.faction == watch.faction || is_guard(unit) || is_made_out(world, watch, unit)
+    unit.faction == watch.faction || is_guard(unit) || is_identified(world, watch, unit)
 }
 
 /// Whether a unit that may be there is seen, and stands in the region.

@@ -18,7 +18,7 @@ use Rattle.atl_orders.specs.declared.fault.MailFault.TheVariants.{TooLong, NoHea
 use Rattle.atl_orders.specs.declared.mailing.Mailing.{Mailing}
 use Rattle.atl_orders.specs.Limits.{most_bytes}
 use Rattle.atl_orders.specs.Lines.{lines}
-use Rattle.atl_orders.specs.Mailing.{IsMailingOf, IsReadWith, Reading, Reads, behind_header, header_from, reading, reading_of}
+use Rattle.atl_orders.specs.Mailing.{IsMailingOf, IsReadWith, Reading, Reads, after_header, header_from, reading, reading_of}
 use Rattle.atl_records.specs.declared.event.Event.{Event}
 use Rattle.atl_records.specs.declared.records.Faction.{Faction}
 use Rattle.atl_state.specs.Covers.{MarksChanges}
@@ -34,7 +34,7 @@ use Rattle.atl_state.proofs.GoodLaws.{IsGood-with_report}
 use Rattle.atl_state.proofs.PostLaws.{marks-month, marks-no_mail, marks-report}
 use Rattle.atl_state.proofs.SlotLaws.{keys_rise}
 use Rattle.atl_instant.specs.Month.{HaveOwnFactions, by_faction}
-use Rattle.atl_month.specs.Month.{finished, month_of}
+use Rattle.atl_month.specs.Month.{after_month, month_of}
 use Rattle.atl_report.specs.Report.{report_of}
 use Rattle.atl_report.specs.Sight.{view_of}
 use Rattle.atl_report.specs.Sites.{AreSites}
@@ -49,10 +49,10 @@ module _ (w : WorldValue) (n : ℕ) (text : List ℕ) where
   abbrev pub Names : Result Reading MailFault → Type 0
   Names read = (r : Reading) × (read ≡ Ok r) × (r.faction ≡ n)
 
-  named : (next : ℕ) (rest : List (List ℕ)) → header_from 1 (lines text) ≡ Ok (record { faction = n; next = next; rest = rest }) → Names (behind_header w (header_from 1 (lines text)))
+  named : (next : ℕ) (rest : List (List ℕ)) → header_from 1 (lines text) ≡ Ok (record { faction = n; next = next; rest = rest }) → Names (after_header w (header_from 1 (lines text)))
   named next rest is = rw is (_, refl, refl)
 
-  not_long : (long : Bool) → nat_lt most_bytes (length text) ≡ long → length text ≤ most_bytes → Names (behind_header w (header_from 1 (lines text))) → Names (cond long (Err TooLong) (behind_header w (header_from 1 (lines text))))
+  not_long : (long : Bool) → nat_lt most_bytes (length text) ≡ long → length text ≤ most_bytes → Names (after_header w (header_from 1 (lines text))) → Names (cond long (Err TooLong) (after_header w (header_from 1 (lines text))))
   not_long true is short names = absurd (grind (arith, nat_tests))
   not_long false is short names = names
 
@@ -139,10 +139,10 @@ active_there before after stay = there_among (IsThere after.factions) (λ f. not
 
 -- the reports behind what a month makes are those of the campaign that is closed
 pub closed_is : (w : WorldValue) (c after : CampaignValue) (events : List Event) (words : List ℕ) (faults : FinMap nat_cmp (List FaultyLine)) → (after, events) ≡ month_of w c (by_faction (readings w c)) words
-    → faults ≡ mapped (λ text. faults_of (reading w text)) c.mail → fold (reported_to w (λ n. unwrap_or (get faults n) []) events) (finished after) (active c) ≡ closed w c words
+    → faults ≡ mapped (λ text. faults_of (reading w text)) c.mail → fold (reported_to w (λ n. unwrap_or (get faults n) []) events) (after_month after) (active c) ≡ closed w c words
 unfolding closed
 closed_is w c after events words faults is wrong =
-    same_reports w events (λ n. unwrap_or (get faults n) []) (λ n. faults_in w (get c.mail n)) (λ n. ap (λ m. unwrap_or (get m n) []) wrong ∙ wrong_under w c.mail n) (finished after) (active c)
+    same_reports w events (λ n. unwrap_or (get faults n) []) (λ n. faults_in w (get c.mail n)) (λ n. ap (λ m. unwrap_or (get m n) []) wrong ∙ wrong_under w c.mail n) (after_month after) (active c)
     ∙ ap (told_after w c) is
 
 -- ---- marks

@@ -8,10 +8,10 @@ use Rattle.atl_state.specs.Campaign.{CampaignValue, with_report}
 use Rattle.atl_state.specs.Good.{IsGood}
 use Rattle.atl_state.specs.Joining.{join_of, joined, name_taken, is_full, new_faction, first_unit}
 use Rattle.atl_state.specs.Founding.{things_of}
-use Rattle.atl_records.specs.Books.{with_booked}
+use Rattle.atl_records.specs.Books.{after_booking}
 use Rattle.atl_records.specs.declared.books.Entry.TheVariants.{Joining}
 use Rattle.atl_records.specs.declared.books.Thing.TheVariants.{Money, People}
-use Rattle.atl_records.proofs.BookLaws.{IsGrid-with_booked}
+use Rattle.atl_records.proofs.BookLaws.{IsGrid-after_booking}
 use Rattle.atl_report.specs.Report.{report_of}
 use Rattle.atl_report.specs.Sight.{view_of}
 use Rattle.atl_store.specs.Keeps.{IsJoining}
@@ -60,7 +60,7 @@ arrival w name pass word c good =
     let band = first_unit w word c in
     let start = pos w.rules.start_money in
     let things = things_of w in
-    let grid = IsGrid-with_booked things (with_booked c.books Joining Money start) Joining People (pos 1) (IsGrid-with_booked things c.books Joining Money start good.sound.steady.numbers.books) in
+    let grid = IsGrid-after_booking things (after_booking c.books Joining Money start) Joining People (pos 1) (IsGrid-after_booking things c.books Joining Money start good.sound.steady.numbers.books) in
     let back : c.next_unit + 1 - 1 ≡ c.next_unit = omega arith in
     let report = report_of w (view_of w (joined w name pass word c) c.next_faction) [] [] in
     record {

@@ -1,4 +1,4 @@
--- Why a command, or a founding, could not be carried out.
+-- The causes of Memory and Store, for a command and for founding.
 use Rattle.std.specs.Prelude.{◌≡◌, ◌⊎◌, ℕ, List, Bool, true, false, Ok}
 use Rattle.sqlite_trees.specs.declared.store.Store.{Ghosts}
 use Rattle.sqlite.specs.declared.error.Error.{Error}

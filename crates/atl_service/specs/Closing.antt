@@ -1,4 +1,4 @@
--- What the closing of a month makes of a campaign. See docs/RULES.md, "Closing a month".
+-- Closing a month: mail is read, the month is played, and reports are stored. See docs/RULES.md, "Closing a month".
 use Rattle.std.specs.Prelude.{ℕ, List, [], ◌∷◌, fold, Option, Some, None, Result, Ok, Err}
 use Rattle.std.specs.List.{flat_map}
 use Rattle.std.specs.FinMap.{entries, get}
@@ -9,7 +9,7 @@ use Rattle.atl_orders.specs.Mailing.{Reading, reading}
 use Rattle.atl_records.specs.declared.event.Event.{Event}
 use Rattle.atl_state.specs.Campaign.{CampaignValue, active, with_report}
 use Rattle.atl_instant.specs.Month.{by_faction}
-use Rattle.atl_month.specs.Month.{finished, month_of}
+use Rattle.atl_month.specs.Month.{after_month, month_of}
 use Rattle.atl_report.specs.Report.{report_of}
 use Rattle.atl_report.specs.Sight.{view_of}
 
@@ -48,7 +48,7 @@ reported_to w faults events c faction = reported_with w c faction (faults factio
 
 -- a campaign and what came of its orders: the month is counted, the mail is taken away, and each faction that wasn't gone before has a new report
 abbrev pub told_after : WorldValue → CampaignValue → CampaignValue × List Event → CampaignValue
-told_after w before (after, events) = fold (reported_to w (λ n. faults_in w (get before.mail n)) events) (finished after) (active before)
+told_after w before (after, events) = fold (reported_to w (λ n. faults_in w (get before.mail n)) events) (after_month after) (active before)
 
 -- the campaign behind a month
 unfoldable pub closed : WorldValue → CampaignValue → List ℕ → CampaignValue

@@ -1,4 +1,4 @@
--- A database file and its log, of which each call is recorded.
+-- When two digests of a database file, or of its log, have collided.
 use Rattle.std.specs.Prelude.{◌⊎◌, ℕ, List}
 use Rattle.sqlite_disk.specs.Events.{Event, HasCollision}
 use Rattle.sqlite_disk.specs.declared.Disk as disk

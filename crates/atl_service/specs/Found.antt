@@ -1,4 +1,4 @@
--- What a founding may answer and leave.
+-- What `found` returns and leaves. See docs/RULES.md, "Founding".
 use Rattle.std.specs.Prelude.{◌≡◌, ◌⊎◌, ℕ, List, Bool, true, false, Some, Ok, Err, ⊤}
 use Rattle.sqlite_trees.specs.declared.store.Store.{Ghosts}
 use Rattle.sqlite.specs.Held.{Held, state}

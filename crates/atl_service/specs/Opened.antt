@@ -1,4 +1,4 @@
--- What an opening may answer and leave.
+-- What `open` returns and leaves.
 use Rattle.std.specs.Prelude.{◌≡◌, ℕ, List, Some, Ok}
 use Rattle.sqlite_trees.specs.declared.store.Store.{Ghosts}
 use Rattle.sqlite.specs.Held.{Held, state}

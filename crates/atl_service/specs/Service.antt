@@ -1,4 +1,4 @@
--- What a contract sees of a service.
+-- The value of a service in contracts: connection, world and campaign.
 use Rattle.std.specs.Prelude.{◌≡◌, ℕ, List, Bool, true, false, Option, Ok, refl}
 use Rattle.std.specs.Coded.{Coded, code_by, coded×, coded_option}
 use Rattle.sqlite_trees.specs.declared.store.Store.{Ghosts}

@@ -1,4 +1,4 @@
--- What an upgrade may answer and leave.
+-- What `upgrade` returns and leaves. See docs/RULES.md, "Upgrading".
 use Rattle.std.specs.Prelude.{◌≡◌, ℕ, List, Some}
 use Rattle.sqlite_trees.specs.declared.store.Store.{Ghosts}
 use Rattle.sqlite.specs.Held.{Held, state}

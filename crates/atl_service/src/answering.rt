@@ -123,7 +123,11 @@ fn mailing_to_keep(
 ) -> Result<Mailing, MailError>
     ensures step { IfOk result
         (λ m. step world.now campaign.now.value (Command.Mail faction pass.now text.now)
-        ≡ (with_mail campaign.now.value faction text.now, Answer.Mailed (length m.entries) m.faults)) }
+        ≡ (
+          with_mail campaign.now.value faction text.now,
+          Answer.Mailed (length m.entries)
+              m.faults,
+        )) }
     ensures text { IfOk result (λ m. m.text ≡ text.now) }
     ensures own { OnOk result (IsMailingOf faction text.now) }
     ensures active { OnOk result (IsActive campaign.now.value faction) }

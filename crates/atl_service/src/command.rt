@@ -1,4 +1,4 @@
-//! Commands and answers.
+//! The commands, their answers, and refusals and faults. See docs/RULES.md, "Refusals and faults".
 ghost use Rattle.std.specs.Prelude.{◌≡◌};
 ghost use Rattle.atl_service.specs.Numbers.{number_of, refusal_name, fault_name};
 ghost use Rattle.atl_service.specs.Found.{of_world, of_creation};

@@ -1,4 +1,4 @@
-//! A campaign in a database file and its log.
+//! A law on campaigns in files: a shielded disk is clean, or two digests have collided.
 ghost use Rattle.std.specs.Prelude.{◌⊎◌};
 ghost use Rattle.sqlite.specs.Files.{file_state};
 ghost use Rattle.sqlite.specs.State.{HasCleanDisk};

@@ -1,4 +1,4 @@
-//! What founding a campaign begins with. See docs/RULES.md, "Founding".
+//! Reads the world and makes the first campaign. See docs/RULES.md, "Founding".
 ghost use Rattle.std.specs.Prelude.{◌≤◌, Bool, IfOk, IfErr, length};
 ghost use Rattle.atl_records.specs.Limits.{most_things};
 ghost use Rattle.atl_state.specs.Good.{IsGood};

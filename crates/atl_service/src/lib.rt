@@ -1,4 +1,4 @@
-//! The commands of a campaign, over its tables: one at a time, and in lists.
+//! The service: carries out the commands of a campaign and stores what they change.
 #![tactic(auto)]
 
 mod answering;

@@ -1,4 +1,4 @@
-//! Which mailings count.
+//! A law: of a faction's mailings for a month only the last one counts. See docs/RULES.md, "Mail".
 ghost use Rattle.atl_service.specs.Posting.{OnlyTheLastMailCounts};
 
 /// Does nothing. Its clause is the law that, where mailings were taken one after the other, a closing sees only the last one of

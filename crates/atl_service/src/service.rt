@@ -1,4 +1,5 @@
-//! The service.
+//! The service: a world and a campaign with the connection that stores them. `found`, `open` and
+//! `upgrade` make one.
 ghost use Rattle.std.specs.Prelude.{◌≡◌, Ok, IfOk, IfErr, OnErr, IfSome, IsSome, is_some, option_map, string_bytes};
 ghost use Rattle.std.specs.Option.{option_copied};
 ghost use Rattle.sqlite.specs.Held.{state};

@@ -12,11 +12,11 @@ use Rattle.atl_records.specs.declared.books.Thing.TheVariants.{Money, People, It
 use Rattle.atl_records.specs.declared.records.Region.{Region}
 use Rattle.atl_records.specs.declared.records.Unit.{Unit}
 use Rattle.atl_state.specs.Campaign.{CampaignValue}
-use Rattle.atl_records.specs.Held.{amount_of}
+use Rattle.atl_records.specs.Holdings.{amount_of}
 use Rattle.atl_state.specs.Founding.{things_of}
-use Rattle.atl_records.specs.Amounts.{held, kept}
+use Rattle.atl_records.specs.Amounts.{region_amount, unit_amount}
 use Rattle.atl_state.specs.Totals.{total, Balances}
-use Rattle.atl_records.specs.Books.{added_up, booked, IsGrid}
+use Rattle.atl_records.specs.Books.{row_sum, booked, IsGrid}
 use Rattle.atl_records.specs.Every.{EachOf, Every}
 use Rattle.atl_state.specs.Good.{AreOfMarkets}
 use Rattle.atl_records.proofs.EveryLaws.{each-from_every}
@@ -34,18 +34,18 @@ unheld items count i known l = ap (λ o. unwrap_or o 0) (free_from items i (λ t
 
 module _ (w : WorldValue) (c : CampaignValue) (world : IsWorld w) (grid : IsGrid (things_of w) c.books) (known : Every (λ n u. Every (λ i amount. i < length w.items) u.holding.items) c.units)
     (stocks : Every (λ n r. AreOfMarkets w n r.stocks) c.regions) where
-  none_kept : (i : ℕ) → length w.items ≤ i → EachOf (λ _ r. kept (Item i) r ≡ 0) (entries c.regions)
-  none_kept i l = each-from_every (λ _ r. kept (Item i) r ≡ 0) c.regions (λ n r is. unheld r.stocks (length w.items) i (λ k amount at. market_known w world n k (stocks n r is k amount at)) l)
+  none_kept : (i : ℕ) → length w.items ≤ i → EachOf (λ _ r. region_amount (Item i) r ≡ 0) (entries c.regions)
+  none_kept i l = each-from_every (λ _ r. region_amount (Item i) r ≡ 0) c.regions (λ n r is. unheld r.stocks (length w.items) i (λ k amount at. market_known w world n k (stocks n r is k amount at)) l)
 
   unknown_total : (i : ℕ) → length w.items ≤ i → total c (Item i) ≡ 0
   unfolding total
   unknown_total i l =
-      let units = none_weighed (λ (u : Unit). held (Item i) u.holding) (entries c.units) (each-from_every (λ _ u. held (Item i) u.holding ≡ 0) c.units (λ n u is. unheld u.holding.items (length w.items) i (known n u is) l)) in
-      let regions = none_weighed (λ (r : Region). kept (Item i) r) (entries c.regions) (none_kept i l) in
-      ap (λ n. n + sum_over (λ (r : Region). kept (Item i) r) c.regions) units ∙ ap (λ n. 0 + n) regions
+      let units = none_weighed (λ (u : Unit). unit_amount (Item i) u.holding) (entries c.units) (each-from_every (λ _ u. unit_amount (Item i) u.holding ≡ 0) c.units (λ n u is. unheld u.holding.items (length w.items) i (known n u is) l)) in
+      let regions = none_weighed (λ (r : Region). region_amount (Item i) r) (entries c.regions) (none_kept i l) in
+      ap (λ n. n + sum_over (λ (r : Region). region_amount (Item i) r) c.regions) units ∙ ap (λ n. 0 + n) regions
 
   unknown_booked : (i : ℕ) → length w.items ≤ i → booked c.books (Item i) ≡ pos 0
-  unknown_booked i l = ap added_up (get_or_past c.books (2 + i) [] (omega (arith, grid.rows)))
+  unknown_booked i l = ap row_sum (get_or_past c.books (2 + i) [] (omega (arith, grid.rows)))
 
   pub all_balance : (pos (total c Money) ≡ booked c.books Money) × (pos (total c People) ≡ booked c.books People) → ((i : ℕ) → i < length w.items → pos (total c (Item i)) ≡ booked c.books (Item i)) → Balances c
   all_balance both items Money = both.0

@@ -6,9 +6,9 @@ use Rattle.std.specs.Ordering.{nat_cmp, eq_by_cmp, is_eq}
 use Rattle.std.specs.Cmp.{nat_cmp_total}
 use Rattle.std.specs.FinMap.{nat_cmp-IsAntisymmetric}
 use Rattle.std.specs.FinSet as set
-use Rattle.atl_tables.specs.Marked.{Marked}
+use Rattle.atl_tables.specs.RoomySets.{RoomySet}
 use Rattle.atl_tables.proofs.SetLaws.{len-below}
-use Rattle.atl_records.specs.Books.{thing_place, amount_number}
+use Rattle.atl_records.specs.Books.{thing_index, amount_number}
 use Rattle.atl_state.specs.Kept.{MarksAmounts}
 use Rattle.atl_records.specs.Limits.{entry_count}
 use Rattle.atl_state.specs.Marks.{AreOfThings, amount_marked}
@@ -23,23 +23,23 @@ or_there n k there P h itself others = elim (nat_cmp k n) as (λ r. nat_cmp k n 
   | Greater ↦ λ _ yes. others yes
 ] refl h
 
-number_small : (things : ℕ) (e : Entry) (t : Thing) → thing_place t < things → amount_number e t < entry_count * things
+number_small : (things : ℕ) (e : Entry) (t : Thing) → thing_index t < things → amount_number e t < entry_count * things
 number_small things e t small = omega (arith, small, entry_small e)
 
 -- no amount is marked
 pub none_marked : (things room : ℕ) → entry_count * things ≤ room → MarksAmounts things (record { numbers = set.empty; room = room })
 none_marked things room enough = record { room = enough; numbers = λ k there. absurd (false≢true (sym (set.contains-empty nat_cmp k) ∙ there)) }
 
-more_of_things : (things : ℕ) (s : set.FinSet nat_cmp) (e : Entry) (t : Thing) → thing_place t < things → AreOfThings things s → AreOfThings things (amount_marked s e t)
+more_of_things : (things : ℕ) (s : set.FinSet nat_cmp) (e : Entry) (t : Thing) → thing_index t < things → AreOfThings things s → AreOfThings things (amount_marked s e t)
 more_of_things things s e t small are k there =
     or_there (amount_number e t) k (set.contains s k) (λ n. n < entry_count * things) (sym (set.contains-insert nat_cmp_total s (amount_number e t) k) ∙ there) (number_small things e t small) (are k)
 
 -- another amount is marked
-pub more_marked : (things : ℕ) (marks : Marked) (e : Entry) (t : Thing) → thing_place t < things → MarksAmounts things marks → MarksAmounts things (record marks { numbers = amount_marked marks.numbers e t })
+pub more_marked : (things : ℕ) (marks : RoomySet) (e : Entry) (t : Thing) → thing_index t < things → MarksAmounts things marks → MarksAmounts things (record marks { numbers = amount_marked marks.numbers e t })
 more_marked things marks e t small are = record { room = are.room; numbers = more_of_things things marks.numbers e t small are.numbers }
 
 -- and there is room for it
-pub fits_amount : (things : ℕ) (marks : Marked) (e : Entry) (t : Thing) → thing_place t < things → MarksAmounts things marks → set.len (amount_marked marks.numbers e t) ≤ marks.room
+pub fits_amount : (things : ℕ) (marks : RoomySet) (e : Entry) (t : Thing) → thing_index t < things → MarksAmounts things marks → set.len (amount_marked marks.numbers e t) ≤ marks.room
 fits_amount things marks e t small are =
     let few = len-below (entry_count * things) (amount_marked marks.numbers e t) (more_of_things things marks.numbers e t small are.numbers) in
     omega (arith, few, are.room)

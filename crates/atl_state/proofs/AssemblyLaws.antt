@@ -10,7 +10,7 @@ use Rattle.std.proofs.lemmas.Bool.{cases_eq, and_parts, false≢true}
 use Rattle.std.proofs.lemmas.Bool.Decides.{nat_tests}
 use Rattle.atl_state.specs.declared.parts.StoredHas.{StoredHas}
 use Rattle.atl_state.specs.FromRows.{as_u32, is_of, put_rows, things_had}
-use Rattle.atl_records.specs.Held.{AreAmounts}
+use Rattle.atl_records.specs.Holdings.{AreAmounts}
 use Rattle.atl_records.specs.Limits.{holding_limit, most_u32}
 use Rattle.atl_state.specs.RowRules.{is_from, has_in_range}
 

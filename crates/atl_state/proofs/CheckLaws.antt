@@ -14,15 +14,15 @@ use Rattle.atl_state.specs.declared.parts.Parts.{Parts}
 use Rattle.atl_records.specs.declared.books.Entry.{Entry}
 use Rattle.atl_records.specs.declared.books.Thing.{Thing}
 use Rattle.atl_state.specs.declared.parts.StoredBooks.{StoredBooks}
-use Rattle.atl_state.specs.declared.parts.StoredHead.{StoredHead}
+use Rattle.atl_state.specs.declared.parts.StoredCampaignRow.{StoredCampaignRow}
 use Rattle.atl_state.specs.Checking.{rule_number, Keeps, KeepsBelow, IsFirstBroken, Fits}
 use Rattle.std.specs.List.{list_all, AllByRecursion}
-use Rattle.atl_records.specs.Books.{amount_in, entry_place, thing_place, no_amounts, IsGrid}
+use Rattle.atl_records.specs.Books.{amount_in, entry_index, thing_index, no_amounts, IsGrid}
 use Rattle.atl_state.specs.Founding.{things_of}
-use Rattle.atl_state.specs.FromRows.{as_u32, stocks_of, region_of, put_amounts, head_of, campaign_of}
+use Rattle.atl_state.specs.FromRows.{as_u32, stocks_of, region_of, put_amounts, campaign_row_of, campaign_of}
 use Rattle.atl_records.specs.Every.{Every, IsThere}
 use Rattle.atl_state.specs.Good.{AreOfMarkets, HasNoStocks, IsGood}
-use Rattle.atl_state.specs.RowRules.{is_one_head, is_entry_in, is_booked, head_in_range, people_in_range, region_in_range, structure_in_range, books_in_range, books_bound, market_in_range}
+use Rattle.atl_state.specs.RowRules.{is_one_campaign_row, is_entry_in, is_booked, campaign_row_in_range, people_in_range, region_in_range, structure_in_range, books_in_range, books_bound, market_in_range}
 use Rattle.atl_state.specs.Totals.{IsCountable}
 use Rattle.atl_records.specs.Limits.{first_entry_count}
 use Rattle.atl_state.specs.Rows.{is_zero, books_rows, AreRowsOf}
@@ -49,7 +49,7 @@ from_one : (r : Rule) → 1 ≤ rule_number r
 from_one OneRow = omega arith
 from_one _ = omega arith
 
-only_one : (f : Format) (rows : List StoredHead) → is_one_head f rows ≡ true → length rows ≡ 1
+only_one : (f : Format) (rows : List StoredCampaignRow) → is_one_campaign_row f rows ≡ true → length rows ≡ 1
 only_one f [] h = absurd (false≢true h)
 only_one f (r ∷ []) h = refl
 only_one f (r ∷ other ∷ rows) h = absurd (false≢true h)
@@ -62,12 +62,12 @@ late_entry n l small h =
     absurd (omega (arith, read, most))
 
 -- books whose rows are of the first format have nothing under a later entry
-no_amount : (books : List (List ℤ)) → AllByRecursion (λ (r : StoredBooks). is_entry_in First (as_u32 r.entry) ≡ true) (books_rows books) → (e : Entry) (t : Thing) → first_entry_count ≤ entry_place e → amount_in books e t ≡ pos 0
-no_amount books listed e t l = elim (cases_lt (thing_place t) (length books)) [
-  | inr past ↦ ap (λ (row : List ℤ). get_or row (entry_place e) (pos 0)) (get_or_past books (thing_place t) [] past) ∙ get_or_past [] (entry_place e) (pos 0) (omega arith)
+no_amount : (books : List (List ℤ)) → AllByRecursion (λ (r : StoredBooks). is_entry_in First (as_u32 r.entry) ≡ true) (books_rows books) → (e : Entry) (t : Thing) → first_entry_count ≤ entry_index e → amount_in books e t ≡ pos 0
+no_amount books numbers_under e t l = elim (cases_lt (thing_index t) (length books)) [
+  | inr past ↦ ap (λ (row : List ℤ). get_or row (entry_index e) (pos 0)) (get_or_past books (thing_index t) [] past) ∙ get_or_past [] (entry_index e) (pos 0) (omega arith)
   | inl inside ↦ elim (cases_Bool (is_zero (amount_in books e t))) [
     | inl none ↦ nothing_at (amount_in books e t) none
-    | inr some ↦ absurd (late_entry (entry_place e) l (entry_small e) (line_at books (λ r. is_entry_in First (as_u32 r.entry) ≡ true) listed (entry_place e) (thing_place t) (entry_small e) inside some))
+    | inr some ↦ absurd (late_entry (entry_index e) l (entry_small e) (line_at books (λ r. is_entry_in First (as_u32 r.entry) ≡ true) numbers_under (entry_index e) (thing_index t) (entry_small e) inside some))
   ]
 ]
 
@@ -112,7 +112,7 @@ module _ (f : Format) (w : WorldValue) (p : Parts) where
   no_stocks is rows =
       by_number-every (λ r. as_u32 r.number) (region_of p.markets) (λ n r. r.stocks ≡ empty) region_in_range (λ r good. ap (stocks_of (as_u32 r.number)) (none_in_first f w p rows is)) p.regions (ranges f w p rows).regions
 
-  first_entries : f ≡ First → RowsKeep f w p → (e : Entry) (t : Thing) → first_entry_count ≤ entry_place e → amount_in (campaign_of w p).books e t ≡ pos 0
+  first_entries : f ≡ First → RowsKeep f w p → (e : Entry) (t : Thing) → first_entry_count ≤ entry_index e → amount_in (campaign_of w p).books e t ≡ pos 0
   unfolding campaign_of
   first_entries is rows =
       no_amount (put_amounts p.books (no_amounts (things_of w))) (each_back (λ r. is_entry_in First (as_u32 r.entry) ≡ true) (books_rows (put_amounts p.books (no_amounts (things_of w)))) p.books (books_said f w p rows)
@@ -173,7 +173,7 @@ module _ (f : Format) (w : WorldValue) (p : Parts) where
 
   pub people-said : KeepsBelow f w p 4 → people_in_range p ≡ true
   people-said k =
-      let head = head_in_range (head_of p) in
+      let head = campaign_row_in_range (campaign_row_of p) in
       let people = people_in_range p in
       let structures = list_all (structure_in_range w) p.structures in
       let books = list_all (books_in_range (books_bound p)) p.books in

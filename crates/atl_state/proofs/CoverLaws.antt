@@ -17,7 +17,7 @@ use Rattle.atl_records.specs.declared.records.Faction.{Faction}
 use Rattle.atl_records.specs.declared.records.Region.{Region}
 use Rattle.atl_records.specs.declared.records.Structure.{Structure}
 use Rattle.atl_records.specs.declared.records.Unit.{Unit}
-use Rattle.atl_records.specs.Books.{IsGrid, amount_in, thing_place, amount_number}
+use Rattle.atl_records.specs.Books.{IsGrid, amount_in, thing_index, amount_number}
 use Rattle.atl_state.specs.Covers.{Covers, ThingsStayMarked, StaysMarked, StayMarked, MarksChanges, bare, days_under, items_under, own_row}
 use Rattle.atl_state.specs.Marking.{mark_amount, mark_faction, mark_region, mark_unit_added}
 use Rattle.atl_state.specs.Marks.{Marks, Things, is_thing_marked, with_thing}
@@ -25,13 +25,13 @@ use Rattle.atl_state.specs.Campaign.{CampaignValue, MarkedCampaign, faction_chan
 use Rattle.atl_records.proofs.EveryLaws.{get-insert_other}
 use Rattle.atl_state.proofs.RegionLaws.{amount-other}
 
-unmarked : (a b : Bool) → (a ≡ true → b ≡ true) → b ≡ false → a ≡ false
-unmarked true b stays free = absurd (true≢false (sym (stays refl) ∙ free))
-unmarked false b stays free = refl
+without_marks : (a b : Bool) → (a ≡ true → b ≡ true) → b ≡ false → a ≡ false
+without_marks true b stays free = absurd (true≢false (sym (stays refl) ∙ free))
+without_marks false b stays free = refl
 
 -- what is not marked now was not marked before
 pub was_unmarked : (before after : FinSet nat_cmp) → StaysMarked before after → (n : ℕ) → contains after n ≡ false → contains before n ≡ false
-was_unmarked before after stays n free = unmarked (contains before n) (contains after n) (stays n) free
+was_unmarked before after stays n free = without_marks (contains before n) (contains after n) (stays n) free
 
 pub stay-trans : {a b c : Marks} → StayMarked a b → StayMarked b c → StayMarked a c
 stay-trans one two = record {
@@ -58,10 +58,10 @@ covers-trans {m} {n} a b c stay one two = record {
   mail = λ k free. two.mail k free ∙ one.mail k (was_unmarked m.mail n.mail stay.mail k free);
   reports = λ k free. two.reports k free ∙ one.reports k (was_unmarked m.reports n.reports stay.reports k free);
   units = λ k free. two.units k free ∙ one.units k (was_unmarked m.rows n.rows stay.rows k free);
-  items = λ k t free. two.items k t free ∙ one.items k t (unmarked (is_thing_marked m.goods m.items k t) (is_thing_marked n.goods n.items k t) (stay.items k t) free);
-  days = λ k t free. two.days k t free ∙ one.days k t (unmarked (is_thing_marked m.goods m.skills k t) (is_thing_marked n.goods n.skills k t) (stay.skills k t) free);
+  items = λ k t free. two.items k t free ∙ one.items k t (without_marks (is_thing_marked m.goods m.items k t) (is_thing_marked n.goods n.items k t) (stay.items k t) free);
+  days = λ k t free. two.days k t free ∙ one.days k t (without_marks (is_thing_marked m.goods m.skills k t) (is_thing_marked n.goods n.skills k t) (stay.skills k t) free);
   books = λ e t free. two.books e t free ∙ one.books e t (was_unmarked m.books n.books stay.books (amount_number e t) free);
-  row = λ free. two.row free ∙ one.row (unmarked m.row n.row stay.row free);
+  row = λ free. two.row free ∙ one.row (without_marks m.row n.row stay.row free);
 }
 
 pub marks-trans : (a b c : MarkedCampaign) → MarksChanges a b → MarksChanges b c → MarksChanges a c
@@ -172,14 +172,14 @@ is_marked Books m k = contains m.books k
 is_marked Row m k = m.row
 
 -- where something of a part stands, and the mark of it
-abbrev pub Place : Part → Type 0
-Place Items = ℕ × ℕ
-Place Skills = ℕ × ℕ
-Place Books = Entry × Thing
-Place Row = Prim.Unit {0}
-Place _ = ℕ
+abbrev pub IndexEntry : Part → Type 0
+IndexEntry Items = ℕ × ℕ
+IndexEntry Skills = ℕ × ℕ
+IndexEntry Books = Entry × Thing
+IndexEntry Row = Prim.Unit {0}
+IndexEntry _ = ℕ
 
-abbrev pub mark_at : (p : Part) → Place p → Mark p
+abbrev pub mark_at : (p : Part) → IndexEntry p → Mark p
 mark_at Books k = amount_number k.0 k.1
 mark_at _ k = k
 
@@ -198,7 +198,7 @@ Shown Skills = Option ℕ
 Shown Books = ℤ
 Shown Row = ℕ × (List ℕ × (ℕ × (ℕ × ℕ)))
 
-abbrev pub shown : (p : Part) → CampaignValue → Place p → Shown p
+abbrev pub shown : (p : Part) → CampaignValue → IndexEntry p → Shown p
 shown Factions c k = get c.factions k
 shown Regions c k = get c.regions k
 shown Structures c k = get c.structures k
@@ -217,7 +217,7 @@ abbrev pub Stays : Marks → Marks → Part → Type 0
 Stays m n p = (k : Mark p) → is_marked p m k ≡ true → is_marked p n k ≡ true
 
 abbrev pub Tells : Marks → CampaignValue → CampaignValue → Part → Type 0
-Tells m before after p = (k : Place p) → is_marked p m (mark_at p k) ≡ false → shown p after k ≡ shown p before k
+Tells m before after p = (k : IndexEntry p) → is_marked p m (mark_at p k) ≡ false → shown p after k ≡ shown p before k
 
 pub part_by_part : (a b : MarkedCampaign) → ((p : Part) → Stays a.marks b.marks p) → ((p : Part) → Tells b.marks a.value b.value p) → MarksChanges a b
 part_by_part a b stays tells = record {
@@ -303,7 +303,7 @@ marks-unit c units n others =
     ])
 
 -- an amount that is booked and marked
-pub marks-amount : (things : ℕ) (c : MarkedCampaign) (f : Entry) (u : Thing) (z : ℤ) → IsGrid things c.value.books → thing_place u < things → MarksChanges c (record { value = with_amount c.value f u z; marks = mark_amount c f u })
+pub marks-amount : (things : ℕ) (c : MarkedCampaign) (f : Entry) (u : Thing) (z : ℤ) → IsGrid things c.value.books → thing_index u < things → MarksChanges c (record { value = with_amount c.value f u z; marks = mark_amount c f u })
 marks-amount things c f u z g h =
     let next : MarkedCampaign = record { value = with_amount c.value f u z; marks = mark_amount c f u } in
     part_by_part c next

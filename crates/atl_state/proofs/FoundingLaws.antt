@@ -20,18 +20,18 @@ use Rattle.atl_records.specs.declared.records.Faction.{Faction}
 use Rattle.atl_records.specs.declared.records.Region.{Region}
 use Rattle.atl_records.specs.declared.records.Structure.{Structure}
 use Rattle.atl_records.specs.declared.records.Unit.{Unit}
-use Rattle.atl_records.specs.Books.{amount_in, booked, no_amounts, with_booked, IsGrid, IsWithin}
+use Rattle.atl_records.specs.Books.{amount_in, booked, no_amounts, after_booking, IsGrid, IsWithin}
 use Rattle.atl_state.specs.Kept.{AreUnitLists, AreKept}
 use Rattle.atl_tables.specs.Names.{name_ok, pass_ok}
 use Rattle.atl_tables.specs.declared.world.RegionPlan.{RegionPlan}
 use Rattle.atl_tables.specs.ByNumber.{is_land_at, market_of, size_of}
 use Rattle.atl_orders.specs.Mailing.{IsMailingOf}
 use Rattle.atl_records.specs.Limits.{entry_count, most_days}
-use Rattle.atl_records.specs.Amounts.{held, kept}
+use Rattle.atl_records.specs.Amounts.{region_amount, unit_amount}
 use Rattle.atl_state.specs.Totals.{total, Balances}
 use Rattle.atl_state.specs.Stocks.{stock_limit}
 use Rattle.atl_state.specs.Founding.{founded_of, founded_region, things_of}
-use Rattle.atl_records.specs.Held.{IsHolding}
+use Rattle.atl_records.specs.Holdings.{IsHolding}
 use Rattle.atl_state.specs.Campaign.{numbers_of}
 use Rattle.atl_records.specs.Every.{Every, IsThere}
 use Rattle.atl_state.proofs.GoodLaws.{posted-nobody}
@@ -39,34 +39,34 @@ use Rattle.atl_state.specs.Good.{IsActive, IsRegion, AreInRange, AreAmountsWithi
 use Rattle.atl_records.proofs.EveryLaws.{each-from_every, every-empty, every-mapped, there-mapped}
 use Rattle.atl_state.proofs.AmountLaws.{none_weighed}
 use Rattle.atl_state.proofs.AmountMarkLaws.{none_marked}
-use Rattle.atl_records.proofs.BookLaws.{booked-with_booked, booked-no_amounts, amount-no_amounts, IsGrid-no_amounts, IsGrid-with_booked, IsWithin-with_booked, share_of}
+use Rattle.atl_records.proofs.BookLaws.{booked-after_booking, booked-no_amounts, amount-no_amounts, IsGrid-no_amounts, IsGrid-after_booking, IsWithin-after_booking, share_of}
 
 -- what is kept beside units, with books for so many things of which nothing is marked
-pub AreKept-unmarked : (things : ℕ) (units : FinMap nat_cmp Unit) (lists : UnitLists) (books : List (List ℤ)) → AreUnitLists units lists → IsGrid things books → AreKept units lists books (record { numbers = set.empty; room = entry_count * things })
-AreKept-unmarked things units lists books listed grid = record {
-  listed = listed;
+pub AreKept-without_marks : (things : ℕ) (units : FinMap nat_cmp Unit) (lists : UnitLists) (books : List (List ℤ)) → AreUnitLists units lists → IsGrid things books → AreKept units lists books (record { numbers = set.empty; room = entry_count * things })
+AreKept-without_marks things units lists books numbers_under grid = record {
+  numbers_under = numbers_under;
   amounts = none_marked (length books) (entry_count * things) (omega (arith, grid.rows));
 }
 
 -- the books are made for so many things
-pub IsGrid-founding : (things money people : ℕ) → IsGrid things (with_booked (with_booked (no_amounts things) Founding Money (pos money)) Founding People (pos people))
-IsGrid-founding things money people = IsGrid-with_booked things (with_booked (no_amounts things) Founding Money (pos money)) Founding People (pos people) (IsGrid-with_booked things (no_amounts things) Founding Money (pos money) (IsGrid-no_amounts things))
+pub IsGrid-founding : (things money people : ℕ) → IsGrid things (after_booking (after_booking (no_amounts things) Founding Money (pos money)) Founding People (pos people))
+IsGrid-founding things money people = IsGrid-after_booking things (after_booking (no_amounts things) Founding Money (pos money)) Founding People (pos people) (IsGrid-after_booking things (no_amounts things) Founding Money (pos money) (IsGrid-no_amounts things))
 
-nobody : (t : Thing) → sum_over (λ (u : Unit). held t u.holding) (empty {X = Unit} {R = nat_cmp}) ≡ 0
+nobody : (t : Thing) → sum_over (λ (u : Unit). unit_amount t u.holding) (empty {X = Unit} {R = nat_cmp}) ≡ 0
 nobody t = rw (entries-empty {X = Unit}) refl
 
-no_items : (w : WorldValue) (i : ℕ) → sum_over (λ (r : Region). kept (Item i) r) (mapped founded_region w.regions) ≡ 0
+no_items : (w : WorldValue) (i : ℕ) → sum_over (λ (r : Region). region_amount (Item i) r) (mapped founded_region w.regions) ≡ 0
 no_items w i =
     let founded = mapped founded_region w.regions in
-    let nothing : Every (λ n r. kept (Item i) r ≡ 0) founded = every-mapped founded_region (λ n r. kept (Item i) r ≡ 0) w.regions (λ n p is. ap (λ o. unwrap_or o 0) (get-empty nat_cmp i)) in
-    none_weighed (λ (r : Region). kept (Item i) r) (entries founded) (each-from_every (λ n r. kept (Item i) r ≡ 0) founded nothing)
+    let nothing : Every (λ n r. region_amount (Item i) r ≡ 0) founded = every-mapped founded_region (λ n r. region_amount (Item i) r ≡ 0) w.regions (λ n p is. ap (λ o. unwrap_or o 0) (get-empty nat_cmp i)) in
+    none_weighed (λ (r : Region). region_amount (Item i) r) (entries founded) (each-from_every (λ n r. region_amount (Item i) r ≡ 0) founded nothing)
 
 -- what is booked of a thing at founding
-founding_booked : (things money people : ℕ) → 2 ≤ things → (t : Thing) → booked (with_booked (with_booked (no_amounts things) Founding Money (pos money)) Founding People (pos people)) t ≡ share_of t Money (pos money) +ℤ share_of t People (pos people)
+founding_booked : (things money people : ℕ) → 2 ≤ things → (t : Thing) → booked (after_booking (after_booking (no_amounts things) Founding Money (pos money)) Founding People (pos people)) t ≡ share_of t Money (pos money) +ℤ share_of t People (pos people)
 founding_booked things money people l t =
     let g = IsGrid-no_amounts things in
-    booked-with_booked things (with_booked (no_amounts things) Founding Money (pos money)) Founding People (pos people) (IsGrid-with_booked things (no_amounts things) Founding Money (pos money) g) (omega arith) t
-    ∙ ap (λ z. z +ℤ share_of t People (pos people)) (booked-with_booked things (no_amounts things) Founding Money (pos money) g (omega arith) t ∙ ap (λ z. z +ℤ share_of t Money (pos money)) (booked-no_amounts things t) ∙ from_nothing (share_of t Money (pos money)))
+    booked-after_booking things (after_booking (no_amounts things) Founding Money (pos money)) Founding People (pos people) (IsGrid-after_booking things (no_amounts things) Founding Money (pos money) g) (omega arith) t
+    ∙ ap (λ z. z +ℤ share_of t People (pos people)) (booked-after_booking things (no_amounts things) Founding Money (pos money) g (omega arith) t ∙ ap (λ z. z +ℤ share_of t Money (pos money)) (booked-no_amounts things t) ∙ from_nothing (share_of t Money (pos money)))
   where
     from_nothing : (z : ℤ) → pos 0 +ℤ z ≡ z
     from_nothing z = omega (arith, ints)
@@ -85,7 +85,7 @@ unfolding founded_of total
 founded-balances w pass Money = held_money _ _ (nobody Money) ∙ sym (founding_booked (things_of w) _ _ (omega arith) Money)
 founded-balances w pass People = held_people _ _ (nobody People) ∙ sym (founding_booked (things_of w) _ _ (omega arith) People)
 founded-balances w pass (Item i) =
-    held_items _ _ i (sum_over (λ (r : Region). kept Money r) (mapped founded_region w.regions)) (sum_over (λ (r : Region). kept People r) (mapped founded_region w.regions))
+    held_items _ _ i (sum_over (λ (r : Region). region_amount Money r) (mapped founded_region w.regions)) (sum_over (λ (r : Region). region_amount People r) (mapped founded_region w.regions))
     (nobody (Item i)) (no_items w i) (grind (arith, nat_tests)) (grind (arith, nat_tests))
     ∙ sym (founding_booked (things_of w) _ _ (omega arith) (Item i))
 
@@ -103,10 +103,10 @@ module _ (w : WorldValue) (pass : List ℕ) (world : IsWorld w) where
   regions = mapped founded_region w.regions
 
   abbrev money : ℕ
-  money = sum_over (λ (r : Region). kept Money r) regions
+  money = sum_over (λ (r : Region). region_amount Money r) regions
 
   abbrev people : ℕ
-  people = sum_over (λ (r : Region). kept People r) regions
+  people = sum_over (λ (r : Region). region_amount People r) regions
 
   founded-numbers : AreInRange w (founded_of w pass)
   unfolding founded_of
@@ -167,9 +167,9 @@ module _ (w : WorldValue) (pass : List ℕ) (world : IsWorld w) where
   founded-amounts few_money few_people =
       let things = things_of w in
       let g = IsGrid-no_amounts things in
-      let one = with_booked (no_amounts things) Founding Money (pos money) in
-      let g2 = IsGrid-with_booked things (no_amounts things) Founding Money (pos money) g in
-      IsWithin-with_booked things one Founding People people money _ g2 (omega arith) (IsWithin-with_booked things (no_amounts things) Founding Money money 0 money g (omega arith) (none_within things) (omega arith)) (omega arith)
+      let one = after_booking (no_amounts things) Founding Money (pos money) in
+      let g2 = IsGrid-after_booking things (no_amounts things) Founding Money (pos money) g in
+      IsWithin-after_booking things one Founding People people money _ g2 (omega arith) (IsWithin-after_booking things (no_amounts things) Founding Money money 0 money g (omega arith) (none_within things) (omega arith)) (omega arith)
 
   pub founded-good : IsTrue (pass_ok pass) → money ≤ 100000000000000 → people ≤ 100000000000000 → IsGood w (founded_of w pass)
   unfolding founded_of

@@ -13,7 +13,7 @@ use Rattle.atl_tables.specs.Worlds.{WorldValue}
 use Rattle.atl_tables.specs.ByNumber.{size_of}
 use Rattle.atl_orders.specs.Limits.{last_faction}
 use Rattle.atl_state.specs.declared.parts.Parts.{Parts}
-use Rattle.atl_state.specs.declared.parts.StoredHead.{StoredHead}
+use Rattle.atl_state.specs.declared.parts.StoredCampaignRow.{StoredCampaignRow}
 use Rattle.atl_state.specs.declared.parts.StoredFaction.{StoredFaction}
 use Rattle.atl_state.specs.declared.parts.StoredRegion.{StoredRegion}
 use Rattle.atl_state.specs.declared.parts.StoredUnit.{StoredUnit}
@@ -23,12 +23,12 @@ use Rattle.atl_state.specs.declared.parts.StoredBooks.{StoredBooks}
 use Rattle.atl_state.specs.declared.parts.StoredMarket.{StoredMarket}
 use Rattle.atl_records.specs.Books.{no_amounts, IsGrid, with_amount}
 use Rattle.atl_state.specs.Founding.{things_of}
-use Rattle.atl_state.specs.FromRows.{clamped, as_u32, as_u16, is_entry, put_rows, by_number, faction_of, stocks_of, region_of, structure_of, unit_of, with_row, put_amounts, head_of, campaign_of}
+use Rattle.atl_state.specs.FromRows.{clamp, as_u32, as_u16, is_entry, put_rows, by_number, faction_of, stocks_of, region_of, structure_of, unit_of, with_row, put_amounts, campaign_row_of, campaign_of}
 use Rattle.atl_records.specs.Every.{Every}
 use Rattle.atl_state.specs.Good.{IsRegion, AreInRange, HaveMen}
-use Rattle.atl_records.specs.Held.{IsHolding}
+use Rattle.atl_records.specs.Holdings.{IsHolding}
 use Rattle.atl_records.specs.Limits.{last_month, most_units, last_unit, men_limit, holding_limit, most_structures, entry_count, most_u32}
-use Rattle.atl_state.specs.RowRules.{is_from, head_in_range, faction_in_range, region_in_range, unit_in_range, has_in_range, structure_in_range, books_in_range, books_bound, market_in_range, are_few, people_in_range, numbers_in_range, AreRowsInRange}
+use Rattle.atl_state.specs.RowRules.{is_from, campaign_row_in_range, faction_in_range, region_in_range, unit_in_range, has_in_range, structure_in_range, books_in_range, books_bound, market_in_range, are_few, people_in_range, numbers_in_range, AreRowsInRange}
 use Rattle.atl_state.specs.Stocks.{stock_limit}
 use Rattle.atl_state.proofs.AssemblyLaws.{is_same, AreAmounts-had}
 use Rattle.atl_state.proofs.BackLaws.{every_by}
@@ -73,7 +73,7 @@ min_high : (n high most : ℕ) → n ≤ high → min n most ≤ high
 min_high n high most h = grind arith
 
 -- a number in its range stays in it as it is read
-pub in_range : (low high most : ℕ) (z : ℤ) → low ≤ most → is_from low high z ≡ true → (low ≤ clamped most z) × (clamped most z ≤ high)
+pub in_range : (low high most : ℕ) (z : ℤ) → low ≤ most → is_from low high z ≡ true → (low ≤ clamp most z) × (clamp most z ≤ high)
 in_range low high most (pos n) h e =
     let parts = and_parts (nat_le low n) (nat_le n high) e in
     let least : low ≤ n = grind (arith, nat_tests, parts.0) in
@@ -171,7 +171,7 @@ unit_good has r all h =
     )
 
 pub record NumberRanges (w : WorldValue) (p : Parts) : Type 0 where
-  pub head : head_in_range (head_of p) ≡ true
+  pub head : campaign_row_in_range (campaign_row_of p) ≡ true
   pub factions : list_all faction_in_range p.factions ≡ true
   pub regions : list_all region_in_range p.regions ≡ true
   pub units : list_all unit_in_range p.units ≡ true
@@ -182,7 +182,7 @@ pub record NumberRanges (w : WorldValue) (p : Parts) : Type 0 where
 
 pub number_ranges : (w : WorldValue) (p : Parts) → numbers_in_range w p ≡ true → NumberRanges w p
 number_ranges w p h =
-    let head = head_in_range (head_of p) in
+    let head = campaign_row_in_range (campaign_row_of p) in
     let people = people_in_range p in
     let structures = list_all (structure_in_range w) p.structures in
     let books = list_all (books_in_range (books_bound p)) p.books in
@@ -200,13 +200,13 @@ number_ranges w p h =
     let start = and_parts factions regions second.0 in
     record { head = first.0; factions = start.0; regions = start.1; units = second.1; has = fourth.1; structures = third.1; books = last.1; markets = whole.1 }
 
-pub record HeadRanges (h : StoredHead) : Type 0 where
+pub record HeadRanges (h : StoredCampaignRow) : Type 0 where
   pub month : is_from 0 last_month h.month ≡ true
   pub next_faction : is_from 1 (last_faction + 1) h.next_faction ≡ true
   pub next_unit : is_from 1 (last_unit + 1) h.next_unit ≡ true
   pub next_structure : is_from 1 (most_structures + 1) h.next_structure ≡ true
 
-pub head_ranges : (h : StoredHead) → head_in_range h ≡ true → HeadRanges h
+pub head_ranges : (h : StoredCampaignRow) → campaign_row_in_range h ≡ true → HeadRanges h
 head_ranges h e =
     let month = is_from 0 last_month h.month in
     let faction = is_from 1 (last_faction + 1) h.next_faction in
@@ -245,11 +245,11 @@ module _ (w : WorldValue) (p : Parts) (h : AreRowsInRange w p) where
   unfolding campaign_of
   AreInRange-said =
       let ranges = number_ranges w p h.numbers in
-      let head = head_ranges (head_of p) ranges.head in
+      let head = head_ranges (campaign_row_of p) ranges.head in
       let few = counts p h.few in
-      let unit = in_range 1 (last_unit + 1) most_u32 (head_of p).next_unit (omega arith) head.next_unit in
+      let unit = in_range 1 (last_unit + 1) most_u32 (campaign_row_of p).next_unit (omega arith) head.next_unit in
       record {
-        month = (in_range 0 last_month most_u32 (head_of p).month (omega arith) head.month).1;
+        month = (in_range 0 last_month most_u32 (campaign_row_of p).month (omega arith) head.month).1;
         few_factions = omega (arith, by_number-len (λ (r : StoredFaction). as_u32 r.number) faction_of p.factions, few.factions);
         few_regions = omega (arith, by_number-len (λ (r : StoredRegion). as_u32 r.number) (region_of p.markets) p.regions, few.regions);
         few_units = omega (arith, by_number-len (λ (r : StoredUnit). as_u32 r.number) (unit_of p.has) p.units, few.units);

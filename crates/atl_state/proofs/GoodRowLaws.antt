@@ -13,7 +13,7 @@ use Rattle.atl_tables.specs.declared.format.Format.{Format}
 use Rattle.atl_tables.specs.declared.format.Format.TheVariants.{First, Second}
 use Rattle.atl_orders.specs.Limits.{last_faction}
 use Rattle.atl_state.specs.declared.parts.Parts.{Parts}
-use Rattle.atl_state.specs.declared.parts.StoredHead.{StoredHead}
+use Rattle.atl_state.specs.declared.parts.StoredCampaignRow.{StoredCampaignRow}
 use Rattle.atl_state.specs.declared.parts.StoredHas.{StoredHas}
 use Rattle.atl_state.specs.declared.parts.StoredMarket.{StoredMarket}
 use Rattle.atl_records.specs.declared.records.Faction.{Faction}
@@ -23,13 +23,13 @@ use Rattle.atl_records.specs.declared.records.Unit.{Unit}
 use Rattle.atl_records.specs.Books.{no_amounts}
 use Rattle.atl_state.specs.Checking.{Fits}
 use Rattle.atl_state.specs.Founding.{things_of}
-use Rattle.atl_state.specs.FromRows.{as_u32, as_u16, is_set, faction_of, stocks_of, region_of, structure_of, unit_of, by_number, put_amounts, things_had, no_head, head_of, campaign_of}
+use Rattle.atl_state.specs.FromRows.{as_u32, as_u16, is_set, faction_of, stocks_of, region_of, structure_of, unit_of, by_number, put_amounts, things_had, no_campaign_row, campaign_row_of, campaign_of}
 use Rattle.atl_records.specs.Every.{Every, IsThere}
 use Rattle.atl_state.specs.Good.{IsNumbered, IsGood}
-use Rattle.atl_records.specs.Held.{AreAmounts}
+use Rattle.atl_records.specs.Holdings.{AreAmounts}
 use Rattle.atl_records.specs.Limits.{last_month, last_unit, men_limit, holding_limit, most_structures, most_days, most_u16, most_u32}
 use Rattle.atl_state.specs.RowRules.{one_key, market_key, HaveKeys}
-use Rattle.atl_state.specs.Rows.{flag, rows_by, head_row, faction_row, region_row, unit_row, structure_row, mail_row, report_row, has_rows, books_rows, market_row, market_rows, rows_of, AreRowsOf}
+use Rattle.atl_state.specs.Rows.{flag, rows_by, campaign_row, faction_row, region_row, unit_row, structure_row, mail_row, report_row, has_rows, books_rows, market_row, market_rows, rows_of, AreRowsOf}
 use Rattle.atl_state.specs.Campaign.{CampaignValue}
 use Rattle.atl_state.proofs.AssemblyLaws.{min_small}
 use Rattle.atl_state.proofs.BackLaws.{each_permuted, read_whole, written_whole, map_back, rows_so, rows_apart, entries_rise, keys_permuted, apart_numbers}
@@ -231,7 +231,7 @@ module _ (w : WorldValue) (world : IsWorld w) (c : CampaignValue) (good : IsGood
   }
 
   module _ (f : Format) (fits : Fits f c) (p : Parts) (rows : AreRowsOf f c p) where
-    head_listed : IsPermutation (head_row f c ∷ []) p.campaign
+    head_listed : IsPermutation (campaign_row f c ∷ []) p.campaign
     unfolding rows_of
     head_listed = rows.campaign
 
@@ -271,11 +271,11 @@ module _ (w : WorldValue) (world : IsWorld w) (c : CampaignValue) (good : IsGood
     unfolding rows_of
     markets_listed = rows.markets
 
-    pub its_head : p.campaign ≡ head_row f c ∷ []
-    its_head = only_row (head_row f c) p.campaign head_listed
+    pub its_head : p.campaign ≡ campaign_row f c ∷ []
+    its_head = only_row (campaign_row f c) p.campaign head_listed
 
-    pub head_said : head_of p ≡ head_row f c
-    head_said = ap (λ hs. slice_index_or hs 0 no_head) its_head
+    pub head_said : campaign_row_of p ≡ campaign_row f c
+    head_said = ap (λ hs. slice_index_or hs 0 no_campaign_row) its_head
 
     pub factions_whole : Every (λ n f. n ≤ most_u32) c.factions
     factions_whole n f is = let most : n ≤ last_faction = (few_factions n f is).1 in omega (arith, most)
@@ -301,8 +301,8 @@ module _ (w : WorldValue) (world : IsWorld w) (c : CampaignValue) (good : IsGood
     -- what is so of all that is in stock is so of each row of a market
     pub each_market : (P : StoredMarket → Type 0) → Every (λ n r. Every (λ i a. P (market_row n i a)) r.stocks) c.regions → AllByRecursion P p.markets
     each_market P h = elim f as (λ g. IsPermutation (market_rows g (entries c.regions)) p.markets → AllByRecursion P p.markets) [
-      | First ↦ λ listed. subst (AllByRecursion P) (sym (none_listed p.markets listed)) tt
-      | Second ↦ λ listed. each_permuted P (market_rows Second (entries c.regions)) p.markets listed (stocks_each c.regions P (λ n r there i a is some. h n r there i a is))
+      | First ↦ λ numbers_under. subst (AllByRecursion P) (sym (none_listed p.markets numbers_under)) tt
+      | Second ↦ λ numbers_under. each_permuted P (market_rows Second (entries c.regions)) p.markets numbers_under (stocks_each c.regions P (λ n r there i a is some. h n r there i a is))
     ] markets_listed
 
     no_keys : HaveKeys market_key []
@@ -311,14 +311,14 @@ module _ (w : WorldValue) (world : IsWorld w) (c : CampaignValue) (good : IsGood
 
     pub markets_keyed : HaveKeys market_key p.markets
     markets_keyed = elim f as (λ g. IsPermutation (market_rows g (entries c.regions)) p.markets → HaveKeys market_key p.markets) [
-      | First ↦ λ listed. subst (HaveKeys market_key) (sym (none_listed p.markets listed)) no_keys
-      | Second ↦ λ listed. market_keys c.regions stocked p.markets listed
+      | First ↦ λ numbers_under. subst (HaveKeys market_key) (sym (none_listed p.markets numbers_under)) no_keys
+      | Second ↦ λ numbers_under. market_keys c.regions stocked p.markets numbers_under
     ] markets_listed
 
     stocks_said : Every (λ n r. stocks_of n p.markets ≡ r.stocks) c.regions
     stocks_said n r is = elim f as (λ g. Fits g c → IsPermutation (market_rows g (entries c.regions)) p.markets → stocks_of n p.markets ≡ r.stocks) [
-      | First ↦ λ bare listed. ap (stocks_of n) (none_listed p.markets listed) ∙ sym (bare.stocks n r is)
-      | Second ↦ λ _ listed. stocks_back c.regions stocked p.markets listed n r is
+      | First ↦ λ bare numbers_under. ap (stocks_of n) (none_listed p.markets numbers_under) ∙ sym (bare.stocks n r is)
+      | Second ↦ λ _ numbers_under. stocks_back c.regions stocked p.markets numbers_under n r is
     ] fits markets_listed
 
     regions_said : by_number (λ r. as_u32 r.number) (region_of p.markets) p.regions ≡ c.regions
@@ -347,8 +347,8 @@ module _ (w : WorldValue) (world : IsWorld w) (c : CampaignValue) (good : IsGood
     books_said : put_amounts p.books (no_amounts (things_of w)) ≡ c.books
     books_said = books_back (things_of w) few_things c.books good.sound.steady.numbers.books p.books books_listed
 
-    pub month_said : as_u32 (head_of p).month ≡ c.month
-    month_said = let most : c.month ≤ last_month = good.sound.steady.numbers.month in ap (λ (h : StoredHead). as_u32 h.month) head_said ∙ read_whole c.month (omega (arith, most))
+    pub month_said : as_u32 (campaign_row_of p).month ≡ c.month
+    month_said = let most : c.month ≤ last_month = good.sound.steady.numbers.month in ap (λ (h : StoredCampaignRow). as_u32 h.month) head_said ∙ read_whole c.month (omega (arith, most))
 
     pub faction_next : c.next_faction ≤ last_faction + 1
     faction_next = let count : c.next_faction ≡ len c.factions + 1 = good.sound.steady.next.factions.count in let few : len c.factions ≤ last_faction = good.sound.steady.numbers.few_factions in omega (arith, count, few)
@@ -356,18 +356,18 @@ module _ (w : WorldValue) (world : IsWorld w) (c : CampaignValue) (good : IsGood
     pub structure_next : c.next_structure ≤ most_structures + 1
     structure_next = let count : c.next_structure ≡ len c.structures + 1 = good.sound.steady.next.structures.count in let few : len c.structures ≤ most_structures = good.sound.steady.numbers.few_structures in omega (arith, count, few)
 
-    next_faction_said : as_u32 (head_of p).next_faction ≡ c.next_faction
-    next_faction_said = ap (λ (h : StoredHead). as_u32 h.next_faction) head_said ∙ read_whole c.next_faction (omega (arith, faction_next))
+    next_faction_said : as_u32 (campaign_row_of p).next_faction ≡ c.next_faction
+    next_faction_said = ap (λ (h : StoredCampaignRow). as_u32 h.next_faction) head_said ∙ read_whole c.next_faction (omega (arith, faction_next))
 
-    next_unit_said : as_u32 (head_of p).next_unit ≡ c.next_unit
-    next_unit_said = let most : c.next_unit ≤ last_unit + 1 = good.sound.steady.numbers.next_unit_most in ap (λ (h : StoredHead). as_u32 h.next_unit) head_said ∙ read_whole c.next_unit (omega (arith, most))
+    next_unit_said : as_u32 (campaign_row_of p).next_unit ≡ c.next_unit
+    next_unit_said = let most : c.next_unit ≤ last_unit + 1 = good.sound.steady.numbers.next_unit_most in ap (λ (h : StoredCampaignRow). as_u32 h.next_unit) head_said ∙ read_whole c.next_unit (omega (arith, most))
 
-    next_structure_said : as_u32 (head_of p).next_structure ≡ c.next_structure
-    next_structure_said = ap (λ (h : StoredHead). as_u32 h.next_structure) head_said ∙ read_whole c.next_structure (omega (arith, structure_next))
+    next_structure_said : as_u32 (campaign_row_of p).next_structure ≡ c.next_structure
+    next_structure_said = ap (λ (h : StoredCampaignRow). as_u32 h.next_structure) head_said ∙ read_whole c.next_structure (omega (arith, structure_next))
 
     -- the rows say the campaign
     pub state_back : campaign_of w p ≡ c
     unfolding campaign_of
     state_back =
-        same_state (campaign_of w p) c month_said (ap (λ (h : StoredHead). h.pass) head_said) next_faction_said next_unit_said next_structure_said
+        same_state (campaign_of w p) c month_said (ap (λ (h : StoredCampaignRow). h.pass) head_said) next_faction_said next_unit_said next_structure_said
         factions_said regions_said units_said structures_said mail_said reports_said books_said

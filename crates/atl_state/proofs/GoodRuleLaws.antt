@@ -25,19 +25,19 @@ use Rattle.atl_state.specs.declared.checking.CheckFault.TheVariants.{Damaged, Me
 use Rattle.atl_state.specs.declared.checking.Rule.{Rule}
 use Rattle.atl_state.specs.declared.checking.Rule.TheVariants.{OneRow, Ranges, Names, Known, Next, Days, Gone, Owners, Water, Guards, Books, Mail}
 use Rattle.atl_state.specs.declared.parts.Parts.{Parts}
-use Rattle.atl_state.specs.declared.parts.StoredHead.{StoredHead}
+use Rattle.atl_state.specs.declared.parts.StoredCampaignRow.{StoredCampaignRow}
 use Rattle.atl_state.specs.declared.parts.StoredFaction.{StoredFaction}
 use Rattle.atl_records.specs.declared.records.Faction.{Faction}
-use Rattle.atl_records.specs.Books.{entry_place, thing_at, IsWithin, amount_at}
+use Rattle.atl_records.specs.Books.{entry_index, thing_at, IsWithin, amount_at}
 use Rattle.atl_state.specs.Checking.{Keeps, IsWithoutMarkets, Fits, Checks, GivesBack}
 use Rattle.atl_records.specs.Every.{EachOf}
 use Rattle.atl_state.specs.Deciding.{Differ}
 use Rattle.atl_state.specs.Founding.{things_of}
-use Rattle.atl_state.specs.FromRows.{as_u32, faction_of, region_of, structure_of, unit_of, head_of, campaign_of}
+use Rattle.atl_state.specs.FromRows.{as_u32, faction_of, region_of, structure_of, unit_of, campaign_row_of, campaign_of}
 use Rattle.atl_state.specs.Good.{AreAmountsWithin, AreKnown, AreNumbered, AreDays, GoneHaveNone, NoneAreGone, AreOwned, AreAfloat, AreOfOneFaction, guards, IsMail, AreReported, amount_bound, IsGood}
 use Rattle.atl_records.specs.Limits.{entry_count, first_entry_count, entries_in, holding_limit, last_month, last_unit, men_limit, most_in_joining, most_in_month, most_structures, most_units}
-use Rattle.atl_state.specs.RowRules.{is_from, is_one_head, are_of_format, is_within, head_in_range, faction_in_range, region_in_range, unit_in_range, has_in_range, structure_in_range, books_in_range, books_bound, market_in_range, are_few, AreKeyed, AreRowsInRange, faction_named, AreRowsNamed, is_of_unit, is_of_market, is_entry_in, is_booked}
-use Rattle.atl_state.specs.Rows.{flag, rows_by, head_row, faction_row, region_row, unit_row, structure_row, mail_row, report_row, has_row, has_rows, books_rows, market_rows, is_zero, AreRowsOf}
+use Rattle.atl_state.specs.RowRules.{is_from, is_one_campaign_row, are_of_format, is_within, campaign_row_in_range, faction_in_range, region_in_range, unit_in_range, has_in_range, structure_in_range, books_in_range, books_bound, market_in_range, are_few, AreKeyed, AreRowsInRange, faction_named, AreRowsNamed, is_of_unit, is_of_market, is_entry_in, is_booked}
+use Rattle.atl_state.specs.Rows.{flag, rows_by, campaign_row, faction_row, region_row, unit_row, structure_row, mail_row, report_row, has_row, has_rows, books_rows, market_rows, is_zero, AreRowsOf}
 use Rattle.atl_state.specs.Stocks.{stock_limit}
 use Rattle.atl_state.specs.Campaign.{CampaignValue, MarkedCampaign}
 use Rattle.atl_state.specs.Totals.{Balances}
@@ -77,7 +77,7 @@ within_true bound (negsuc n) h = let most : suc n ≤ bound = omega (arith, ints
 amounts_within : (c : CampaignValue) → AreAmountsWithin c → (e t : ℕ) → e < entry_count → IsWithin (amount_bound c) (amount_at c.books e t)
 amounts_within c within e t l =
     let entry = entry_at e l in
-    subst (λ k. IsWithin (amount_bound c) (amount_at c.books k t)) entry.1 (subst (λ k. IsWithin (amount_bound c) (amount_at c.books (entry_place entry.0) k)) (place_at t) (within entry.0 (thing_at t)))
+    subst (λ k. IsWithin (amount_bound c) (amount_at c.books k t)) entry.1 (subst (λ k. IsWithin (amount_bound c) (amount_at c.books (entry_index entry.0) k)) (place_at t) (within entry.0 (thing_at t)))
 
 -- ---- names that differ
 
@@ -99,7 +99,7 @@ named_apart (e ∷ es) h = (others_named e.1 es h.0, named_apart es h.1)
 text_symm : (a b : List ℕ) → same_text a b ≡ same_text b a
 text_symm = (eq_by_cmp_equiv nat_list_cmp_total).symm
 
-head_true : (f : Format) (c : CampaignValue) → is_one_head f (head_row f c ∷ []) ≡ true
+head_true : (f : Format) (c : CampaignValue) → is_one_campaign_row f (campaign_row f c ∷ []) ≡ true
 head_true First c = refl
 head_true Second c = refl
 
@@ -107,13 +107,13 @@ module _ (f : Format) (w : WorldValue) (world : IsWorld w) (c : CampaignValue) (
   back : campaign_of w p ≡ c
   back = row.state_back w world c good f fits p rows
 
-  one_row : is_one_head f p.campaign ≡ true
-  one_row = ap (is_one_head f) (row.its_head w world c good f fits p rows) ∙ head_true f c
+  one_row : is_one_campaign_row f p.campaign ≡ true
+  one_row = ap (is_one_campaign_row f) (row.its_head w world c good f fits p rows) ∙ head_true f c
 
   of_format : are_of_format f p.markets ≡ true
   of_format = elim f as (λ g. IsPermutation (market_rows g (entries c.regions)) p.markets → are_of_format g p.markets ≡ true) [
-    | First ↦ λ listed. ap (are_of_format First) (row.none_listed p.markets listed)
-    | Second ↦ λ listed. refl
+    | First ↦ λ numbers_under. ap (are_of_format First) (row.none_listed p.markets numbers_under)
+    | Second ↦ λ numbers_under. refl
   ] (row.markets_listed w world c good f fits p rows)
 
   -- ---- ranges
@@ -151,9 +151,9 @@ module _ (f : Format) (w : WorldValue) (world : IsWorld w) (c : CampaignValue) (
   none_less : (n : ℕ) → 0 ≤ n
   none_less n = omega arith
 
-  head_ranges : head_in_range (head_of p) ≡ true
+  head_ranges : campaign_row_in_range (campaign_row_of p) ≡ true
   head_ranges =
-      ap head_in_range (row.head_said w world c good f fits p rows)
+      ap campaign_row_in_range (row.head_said w world c good f fits p rows)
       ∙ and_true _ _ (and_true _ _ (and_true _ _ (from_true 0 last_month c.month (none_less c.month) good.sound.steady.numbers.month)
       (from_true 1 (last_faction + 1) c.next_faction (at_least_one c.next_faction (len c.factions) good.sound.steady.next.factions.count) (row.faction_next w world c good f fits p rows)))
       (from_true 1 (last_unit + 1) c.next_unit good.sound.steady.numbers.next_unit_least good.sound.steady.numbers.next_unit_most))
@@ -226,7 +226,7 @@ module _ (f : Format) (w : WorldValue) (world : IsWorld w) (c : CampaignValue) (
 
   named : AreRowsNamed p
   named = record {
-    texts = and_true _ _ (and_true _ _ (and_true _ _ (ap (λ (h : StoredHead). pass_ok h.pass) (row.head_said w world c good f fits p rows) ∙ good.sound.steady.names.pass)
+    texts = and_true _ _ (and_true _ _ (and_true _ _ (ap (λ (h : StoredCampaignRow). pass_ok h.pass) (row.head_said w world c good f fits p rows) ∙ good.sound.steady.names.pass)
         (rows_pass faction_row faction_named c.factions p.factions (row.factions_listed w world c good f fits p rows) (λ n f is. let ok = good.sound.steady.names.factions n f is in and_true _ _ (and_true _ _ ok.0 ok.1) ok.2)))
         (rows_pass unit_row (λ r. name_ok r.name) c.units p.units (row.units_listed w world c good f fits p rows) good.sound.steady.names.units))
         (rows_pass structure_row (λ r. name_ok r.name) c.structures p.structures (row.structures_listed w world c good f fits p rows) good.sound.steady.names.structures);
@@ -254,7 +254,7 @@ module _ (f : Format) (w : WorldValue) (world : IsWorld w) (c : CampaignValue) (
       none_under : IsWithoutMarkets c → first_entry_count ≤ e → amount_at c.books e t ≡ pos 0
       none_under bare late =
           let entry = entry_at e l in
-          subst (λ k. amount_at c.books k t ≡ pos 0) entry.1 (subst (λ k. amount_at c.books (entry_place entry.0) k ≡ pos 0) (place_at t) (bare.entries entry.0 (thing_at t) (omega (arith, late, entry.1))))
+          subst (λ k. amount_at c.books k t ≡ pos 0) entry.1 (subst (λ k. amount_at c.books (entry_index entry.0) k ≡ pos 0) (place_at t) (bare.entries entry.0 (thing_at t) (omega (arith, late, entry.1))))
 
       early : IsWithoutMarkets c → e < first_entry_count
       early bare = elim (cases_lt e first_entry_count) [ inl few ↦ few | inr late ↦ absurd (false≢true (sym some ∙ ap is_zero (none_under bare late))) ]

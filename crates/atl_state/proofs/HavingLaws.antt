@@ -10,13 +10,13 @@ use Rattle.atl_records.specs.Limits.{most_days}
 use Rattle.atl_records.specs.declared.records.Unit.{Unit}
 use Rattle.atl_records.specs.Every.{Every}
 use Rattle.atl_state.specs.Good.{AreOfOneFaction, IsEarly, IsSteady, guards}
-use Rattle.atl_records.specs.Held.{Held, IsHolding}
+use Rattle.atl_records.specs.Holdings.{HoldingValue, IsHolding}
 use Rattle.atl_state.specs.Campaign.{CampaignValue}
 use Rattle.atl_records.proofs.EveryLaws.{every-insert}
 use Rattle.atl_state.proofs.HoldingLaws.{known_kept, next_kept, numbers_kept, of_one_faction_kept, owners_kept}
 
 -- What a unit of a campaign may hold: within the limits, and of what the world has.
-pub record MayHave (w : WorldValue) (h : Held) : Type 0 where
+pub record MayHave (w : WorldValue) (h : HoldingValue) : Type 0 where
   pub limits : IsHolding h
   pub name : IsTrue (name_ok h.name)
   pub items : Every (λ i amount. i < length w.items) h.items
@@ -29,7 +29,7 @@ may_have w c n u is steady =
     let place = steady.known.units n u is in
     record { limits = (steady.numbers.units n u is).1; name = steady.names.units n u is; items = place.items; skills = place.skills; days = steady.days n u is }
 
-module _ (w : WorldValue) (c : CampaignValue) (n : ℕ) (u : Unit) (h : Held) (is : get c.units n ≡ Some u) where
+module _ (w : WorldValue) (c : CampaignValue) (n : ℕ) (u : Unit) (h : HoldingValue) (is : get c.units n ≡ Some u) where
   abbrev new_unit : Unit
   new_unit = record u { holding = h }
 

@@ -18,20 +18,20 @@ use Rattle.atl_records.specs.declared.records.Region.{Region}
 use Rattle.atl_records.specs.declared.records.Unit.{Unit}
 use Rattle.atl_records.specs.Every.{Every}
 use Rattle.atl_state.specs.Good.{AreAfloat, AreInRange, AreKnown, AreNumbered, AreOfOneFaction, AreOwned, GoneHaveNone, IsPlaced, IsSteady, guards}
-use Rattle.atl_records.specs.Held.{Held, IsHolding, with_amount_of}
+use Rattle.atl_records.specs.Holdings.{HoldingValue, IsHolding, with_amount_of}
 use Rattle.atl_state.specs.Lending.{lent, with_held}
 use Rattle.atl_state.specs.Marking.{mark_item, mark_skill, mark_unit_row, whole_marked}
 use Rattle.atl_state.specs.Marks.{thing_marked}
 use Rattle.atl_state.specs.Campaign.{MarkedCampaign, CampaignValue, unit_changed, with_item, with_skill}
-use Rattle.atl_records.specs.Amounts.{held, kept}
+use Rattle.atl_records.specs.Amounts.{region_amount, unit_amount}
 use Rattle.atl_state.specs.Totals.{total}
 use Rattle.atl_state.proofs.CoverLaws.{Items, Rows, Skills, Stays, Tells, Units, apart_by, apart_by_thing, changed_there, marks-refl, marks-unit, part_by_part, put_stays, thing_stays}
 use Rattle.atl_records.proofs.EveryLaws.{every-insert, get-insert_other, none_some, there-insert}
-use Rattle.atl_records.proofs.HeldLaws.{get-set_other}
+use Rattle.atl_records.proofs.HoldingLaws.{get-set_other}
 use Rattle.atl_state.proofs.RegionLaws.{get-insert_same, same_len}
 
 -- What a unit of a steady campaign may hold in the place of what it holds: within the limits, of what the world has, and it guards only if it did.
-pub record MayHold (w : WorldValue) (u : Unit) (h : Held) : Type 0 where
+pub record MayHold (w : WorldValue) (u : Unit) (h : HoldingValue) : Type 0 where
   pub limits : IsHolding h
   pub name : IsTrue (name_ok h.name)
   pub items : Every (λ i amount. i < length w.items) h.items
@@ -58,7 +58,7 @@ abbrev pub structure_in : Option Unit → Unit → ℕ
 structure_in (Some y) z = y.structure
 structure_in None z = z.structure
 
-module _ (w : WorldValue) (c : CampaignValue) (n : ℕ) (u : Unit) (h : Held) (is : get c.units n ≡ Some u) where
+module _ (w : WorldValue) (c : CampaignValue) (n : ℕ) (u : Unit) (h : HoldingValue) (is : get c.units n ≡ Some u) where
   abbrev new_unit : Unit
   new_unit = record u { holding = h }
 
@@ -143,8 +143,8 @@ module _ (w : WorldValue) (c : CampaignValue) (n : ℕ) (u : Unit) (h : Held) (i
         (every-insert (λ m y. Agree new_unit y) c.units n new_unit (λ g k same. refl) (λ m y there g k same. old n u is m y there (only g) k same))
         (λ k x here. every-insert (λ m y. Agree x y) c.units n new_unit (λ g k2 same. old k x here n u is g (only k2) same) (old k x here))
 
-  pub steady-held : MayHold w u h → IsSteady w c → IsSteady w supplied
-  steady-held may old = record {
+  pub steady-unit_amount : MayHold w u h → IsSteady w c → IsSteady w supplied
+  steady-unit_amount may old = record {
     numbers = numbers_kept may.limits old.numbers;
     names = record {
       pass = old.names.pass;
@@ -165,11 +165,11 @@ module _ (w : WorldValue) (c : CampaignValue) (n : ℕ) (u : Unit) (h : Held) (i
   regrouped : (r a b p q : ℕ) → a + p ≡ b + q → (a + r) + p ≡ (b + r) + q
   regrouped r a b p q e = omega arith
 
-  pub total-held : (t : Thing) → total supplied t + held t u.holding ≡ total c t + held t h
+  pub total-unit_amount : (t : Thing) → total supplied t + unit_amount t u.holding ≡ total c t + unit_amount t h
   unfolding total
-  total-held t =
-      let there = λ (x : Unit). held t x.holding in
-      regrouped (sum_over (λ (r : Region). kept t r) c.regions) (sum_over there supplied.units) (sum_over there c.units) (held t u.holding) (held t h)
+  total-unit_amount t =
+      let there = λ (x : Unit). unit_amount t x.holding in
+      regrouped (sum_over (λ (r : Region). region_amount t r) c.regions) (sum_over there supplied.units) (sum_over there c.units) (unit_amount t u.holding) (unit_amount t h)
       (sum_over-insert_known there c.units n u new_unit is)
 
 -- ---- what is marked
@@ -233,7 +233,7 @@ marks-skill c n skill days =
     ]))
 
 -- a unit's holding that was lent
-pub marks-lent : (c : MarkedCampaign) (n : ℕ) (h : Held) → MarksChanges c (lent c n h)
+pub marks-lent : (c : MarkedCampaign) (n : ℕ) (h : HoldingValue) → MarksChanges c (lent c n h)
 marks-lent c n h = by_unit (get c.value.units n)
   where
     by_unit : (o : Option Unit) → MarksChanges c (record { value = with_held c.value n h o; marks = whole_marked c.marks n o })

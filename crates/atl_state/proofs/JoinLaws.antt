@@ -22,10 +22,10 @@ use Rattle.atl_records.specs.declared.books.Thing.{Thing}
 use Rattle.atl_records.specs.declared.books.Thing.TheVariants.{Money, People, Item}
 use Rattle.atl_records.specs.declared.records.Faction.{Faction}
 use Rattle.atl_records.specs.declared.records.Unit.{Unit}
-use Rattle.atl_records.specs.Held.{IsHolding}
+use Rattle.atl_records.specs.Holdings.{IsHolding}
 use Rattle.atl_state.specs.Campaign.{CampaignValue, numbers_of}
-use Rattle.atl_records.specs.Books.{booked, with_booked, amount_in, IsGrid, IsSmall}
-use Rattle.atl_records.specs.Amounts.{held}
+use Rattle.atl_records.specs.Books.{booked, after_booking, amount_in, IsGrid, IsSmall}
+use Rattle.atl_records.specs.Amounts.{unit_amount}
 use Rattle.atl_state.specs.Totals.{total, Balances}
 use Rattle.atl_state.specs.Founding.{things_of}
 use Rattle.atl_records.specs.Every.{Every}
@@ -33,7 +33,7 @@ use Rattle.atl_state.proofs.GoodLaws.{posted-there}
 use Rattle.atl_state.specs.Good.{AreInRange, AreAmountsWithin, HaveMen, AreNamed, IsPlaced, AreKnown, IsNumbered, AreNumbered, AreDays, GoneHaveNone, NoneAreGone, AreOwned, IsAboard, AreAfloat, guards, AreOfOneFaction, IsMail, IsSteady, IsSound, amount_bound}
 use Rattle.atl_state.specs.Joining.{joined, new_faction, first_unit, home_of, is_full, name_taken}
 use Rattle.atl_state.specs.Ordered.{put_number, first_above}
-use Rattle.atl_records.proofs.BookLaws.{booked-with_booked, IsGrid-with_booked, IsWithin-with_booked, IsSmall-within, share_of}
+use Rattle.atl_records.proofs.BookLaws.{booked-after_booking, IsGrid-after_booking, IsWithin-after_booking, IsSmall-within, share_of}
 use Rattle.atl_records.proofs.EveryLaws.{every-empty, every-insert, every-from_none, get-insert_other, there-new, there-insert, passes-listed, none_some}
 use Rattle.atl_state.proofs.NumberedNameLaws.{unit_name_ok}
 use Rattle.atl_state.proofs.OrderedLaws.{numbers_where-insert_new}
@@ -44,12 +44,12 @@ use Rattle.atl_state.proofs.TotalLaws.{total-with_unit}
 two : (x n : ℕ) (b p q : ℤ) → pos x ≡ b → pos n ≡ p +ℤ q → pos (x + n) ≡ (b +ℤ p) +ℤ q
 two x n b p q h g = omega (arith, ints)
 
-none : (w : WorldValue) (word : ℕ) (c : CampaignValue) (i : ℕ) → (2 + i == 0) ≡ false → (2 + i == 1) ≡ false → pos (held (Item i) (first_unit w word c).holding) ≡ share_of (Item i) Money (pos w.rules.start_money) +ℤ share_of (Item i) People (pos 1)
+none : (w : WorldValue) (word : ℕ) (c : CampaignValue) (i : ℕ) → (2 + i == 0) ≡ false → (2 + i == 1) ≡ false → pos (unit_amount (Item i) (first_unit w word c).holding) ≡ share_of (Item i) Money (pos w.rules.start_money) +ℤ share_of (Item i) People (pos 1)
 none w word c i a b =
     ap (λ o. pos (unwrap_or o 0)) (get-empty nat_cmp i) ∙ sym (ap (λ q. cond q (pos w.rules.start_money) (pos 0) +ℤ cond (2 + i == 1) (pos 1) (pos 0)) a ∙ ap (λ q. pos 0 +ℤ cond q (pos 1) (pos 0)) b)
 
 -- what the first unit holds is what is booked
-held_booked : (w : WorldValue) (word : ℕ) (c : CampaignValue) (t : Thing) → pos (held t (first_unit w word c).holding) ≡ share_of t Money (pos w.rules.start_money) +ℤ share_of t People (pos 1)
+held_booked : (w : WorldValue) (word : ℕ) (c : CampaignValue) (t : Thing) → pos (unit_amount t (first_unit w word c).holding) ≡ share_of t Money (pos w.rules.start_money) +ℤ share_of t People (pos 1)
 held_booked w word c Money = omega (arith, ints)
 held_booked w word c People = refl
 held_booked w word c (Item i) = none w word c i (grind (arith, nat_tests)) (grind (arith, nat_tests))
@@ -57,11 +57,11 @@ held_booked w word c (Item i) = none w word c i (grind (arith, nat_tests)) (grin
 pub joined-balances : (w : WorldValue) (name pass : List ℕ) (word : ℕ) (c : CampaignValue) → IsGrid (things_of w) c.books → get c.units c.next_unit ≡ None → Balances c → Balances (joined w name pass word c)
 unfolding joined total
 joined-balances w name pass word c grid free h t =
-    let one = with_booked c.books Joining Money (pos w.rules.start_money) in
+    let one = after_booking c.books Joining Money (pos w.rules.start_money) in
     ap pos (total-with_unit c c.next_unit (first_unit w word c) t free)
-    ∙ two (total c t) (held t (first_unit w word c).holding) (booked c.books t) (share_of t Money (pos w.rules.start_money)) (share_of t People (pos 1)) (h t) (held_booked w word c t)
-    ∙ ap (λ z. z +ℤ share_of t People (pos 1)) (sym (booked-with_booked (things_of w) c.books Joining Money (pos w.rules.start_money) grid (omega arith) t))
-    ∙ sym (booked-with_booked (things_of w) one Joining People (pos 1) (IsGrid-with_booked (things_of w) c.books Joining Money (pos w.rules.start_money) grid) (omega arith) t)
+    ∙ two (total c t) (unit_amount t (first_unit w word c).holding) (booked c.books t) (share_of t Money (pos w.rules.start_money)) (share_of t People (pos 1)) (h t) (held_booked w word c t)
+    ∙ ap (λ z. z +ℤ share_of t People (pos 1)) (sym (booked-after_booking (things_of w) c.books Joining Money (pos w.rules.start_money) grid (omega arith) t))
+    ∙ sym (booked-after_booking (things_of w) one Joining People (pos 1) (IsGrid-after_booking (things_of w) c.books Joining Money (pos w.rules.start_money) grid) (omega arith) t)
 
 amounts_small : (w : WorldValue) (c : CampaignValue) → AreInRange w c → amount_bound c ≤ 4000000000000000000
 amounts_small w c numbers = omega (arith, numbers.month, numbers.few_factions)
@@ -130,7 +130,7 @@ module _ (w : WorldValue) (name pass : List ℕ) (word : ℕ) (c : CampaignValue
   unfolding joined
   joined-numbers full world next old =
       let r = room c full in
-      let one = with_booked c.books Joining Money (pos w.rules.start_money) in
+      let one = after_booking c.books Joining Money (pos w.rules.start_money) in
       record {
         month = old.month;
         few_factions = omega (arith, len_new c.factions c.next_faction member (next.factions.free c.next_faction (omega arith)), r.0);
@@ -143,7 +143,7 @@ module _ (w : WorldValue) (name pass : List ℕ) (word : ℕ) (c : CampaignValue
         regions = old.regions;
         units = every-insert (λ n u. (1 ≤ n) × IsHolding u.holding) c.units c.next_unit unit (old.next_unit_least, record { men = omega arith; money = world.rules.start_money; items = every-empty (λ item amount. (1 ≤ amount) × (amount ≤ holding_limit)) }) old.units;
         structures = old.structures;
-        books = IsGrid-with_booked (things_of w) one Joining People (pos 1) (IsGrid-with_booked (things_of w) c.books Joining Money (pos w.rules.start_money) old.books);
+        books = IsGrid-after_booking (things_of w) one Joining People (pos 1) (IsGrid-after_booking (things_of w) c.books Joining Money (pos w.rules.start_money) old.books);
       }
 
   joined-names : is_full c ≡ false → name_taken c name ≡ false → IsTrue (name_ok name) → IsTrue (pass_ok pass) → AreNamed c → AreNamed (joined w name pass word c)
@@ -257,10 +257,10 @@ module _ (w : WorldValue) (name pass : List ℕ) (word : ℕ) (c : CampaignValue
   unfolding joined
   joined-amounts world next grid old =
       let more = len_new c.factions c.next_faction member (next.factions.free c.next_faction (omega arith)) in
-      let one = with_booked c.books Joining Money (pos w.rules.start_money) in
-      let g = IsGrid-with_booked (things_of w) c.books Joining Money (pos w.rules.start_money) grid in
-      IsWithin-with_booked (things_of w) one Joining People 1 (amount_bound c + w.rules.start_money) _ g (omega arith)
-      (IsWithin-with_booked (things_of w) c.books Joining Money w.rules.start_money (amount_bound c) (amount_bound c + w.rules.start_money) grid (omega arith) old (omega arith)) (omega (arith, more, world.rules.start_money))
+      let one = after_booking c.books Joining Money (pos w.rules.start_money) in
+      let g = IsGrid-after_booking (things_of w) c.books Joining Money (pos w.rules.start_money) grid in
+      IsWithin-after_booking (things_of w) one Joining People 1 (amount_bound c + w.rules.start_money) _ g (omega arith)
+      (IsWithin-after_booking (things_of w) c.books Joining Money w.rules.start_money (amount_bound c) (amount_bound c + w.rules.start_money) grid (omega arith) old (omega arith)) (omega (arith, more, world.rules.start_money))
 
   module _ (full : is_full c ≡ false) (free : name_taken c name ≡ false) (named : IsTrue (name_ok name)) (passes : IsTrue (pass_ok pass)) (world : IsWorld w) where
     joined-steady : IsSteady w c → IsSteady w (joined w name pass word c)

@@ -18,9 +18,9 @@ use Rattle.atl_records.specs.declared.records.Unit.{Unit}
 use Rattle.atl_records.specs.Every.{Every}
 use Rattle.atl_state.specs.Good.{AreAfloat, AreInRange, AreKnown, AreNumbered, AreOwned, GoneHaveNone, IsBuilt, IsOwned, IsPlaced, IsSteady, is_ship}
 use Rattle.atl_state.specs.Marking.{gone_marked, gone_marked_at, handed_marked, mark_structure, taken_marked, whole_marked}
-use Rattle.atl_state.specs.Owners.{handed, heir, is_owned_by, without_unit, without_unit_at}
+use Rattle.atl_state.specs.Owners.{after_handover, heir, is_owned_by, without_unit, without_unit_at}
 use Rattle.atl_state.specs.Campaign.{MarkedCampaign, CampaignValue, numbers_inside, structure_changed, with_owner}
-use Rattle.atl_records.specs.Amounts.{held}
+use Rattle.atl_records.specs.Amounts.{unit_amount}
 use Rattle.atl_state.specs.Totals.{total}
 use Rattle.atl_state.proofs.CoverLaws.{Stays, Structures, Tells, apart_by, changed_there, marks-refl, marks-trans, marks-unit, part_by_part, put_stays}
 use Rattle.atl_records.proofs.EveryLaws.{every-insert, get-insert_other, none_some}
@@ -220,8 +220,8 @@ module _ (w : WorldValue) (c : CampaignValue) (n : ℕ) (u : Unit) (is : get c.u
           let first = first_of (λ k. not (k == n)) among listed_low in
           record {
             owned = λ some.
-                let (listed, other) = first.0 some in
-                let (v, at, inside) = listed_is_inside u.structure c.units next listed in
+                let (numbers_under, other) = first.0 some in
+                let (v, at, inside) = listed_is_inside u.structure c.units next numbers_under in
                 (v, get-remove_other c.units n next (is_other next other) ∙ at, inside);
             ownerless = λ none k v there within.
                 let (apart, at) = still c.units n k v there in
@@ -253,11 +253,11 @@ module _ (w : WorldValue) (c : CampaignValue) (n : ℕ) (u : Unit) (is : get c.u
   abbrev gone_from : CampaignValue
   gone_from = record c { units = left }
 
-  without-known : without_unit c n ≡ handed gone_from u.structure n (heir c u.structure n)
+  without-known : without_unit c n ≡ after_handover gone_from u.structure n (heir c u.structure n)
   unfolding without_unit
   without-known = ap (without_unit_at c n) is
 
-  steady_handed : IsSteady w c → IsSteady w (handed gone_from u.structure n (heir c u.structure n))
+  steady_handed : IsSteady w c → IsSteady w (after_handover gone_from u.structure n (heir c u.structure n))
   steady_handed old = by_owner (get c.structures u.structure) refl
     where
       low : Every (λ k v. 1 ≤ k) c.units
@@ -277,17 +277,17 @@ module _ (w : WorldValue) (c : CampaignValue) (n : ℕ) (u : Unit) (is : get c.u
   pub steady-without : IsSteady w c → IsSteady w (without_unit c n)
   steady-without old = subst (IsSteady w) (sym without-known) (steady_handed old)
 
-  pub total-without : (t : Thing) → total (without_unit c n) t + held t u.holding ≡ total c t
+  pub total-without : (t : Thing) → total (without_unit c n) t + unit_amount t u.holding ≡ total c t
   unfolding total
   total-without t =
-      ap (λ (d : CampaignValue). total d t + held t u.holding) without-known ∙ by_test (is_owned_by (get c.structures u.structure) n)
+      ap (λ (d : CampaignValue). total d t + unit_amount t u.holding) without-known ∙ by_test (is_owned_by (get c.structures u.structure) n)
     where
       regrouped : (a b s h : ℕ) → a + h ≡ b → (a + s) + h ≡ b + s
       regrouped a b s h e = omega arith
 
-      by_test : (b : Bool) → total (if b then with_owner gone_from u.structure (heir c u.structure n) else gone_from) t + held t u.holding ≡ total c t
-      by_test true = regrouped _ _ _ _ (sum_over-remove c.units n (λ (x : Unit). held t x.holding) u is)
-      by_test false = regrouped _ _ _ _ (sum_over-remove c.units n (λ (x : Unit). held t x.holding) u is)
+      by_test : (b : Bool) → total (if b then with_owner gone_from u.structure (heir c u.structure n) else gone_from) t + unit_amount t u.holding ≡ total c t
+      by_test true = regrouped _ _ _ _ (sum_over-remove c.units n (λ (x : Unit). unit_amount t x.holding) u is)
+      by_test false = regrouped _ _ _ _ (sum_over-remove c.units n (λ (x : Unit). unit_amount t x.holding) u is)
 
   -- no other part of the campaign changes
   pub record IsOnlyReduced (d : CampaignValue) : Type 0 where
@@ -317,8 +317,8 @@ marks-structure f c n =
     (λ p. elim p as (Stays c.marks next.marks) [ Structures ↦ put_stays c.marks.structures n | _ ↦ λ k h. h ])
     (λ p. elim p as (Tells next.marks c.value next.value) [ Structures ↦ λ k free. get-insert_other c.value.structures n k (f v) (apart_by c.marks.structures n k free) | _ ↦ λ k free. refl ]))
 
-pub marks-handed : (c : MarkedCampaign) (s from to : ℕ) → MarksChanges c (handed_marked c s from to)
-marks-handed c s from to = by_test (is_owned_by (get c.value.structures s) from)
+pub marks-after_handover : (c : MarkedCampaign) (s from to : ℕ) → MarksChanges c (handed_marked c s from to)
+marks-after_handover c s from to = by_test (is_owned_by (get c.value.structures s) from)
   where
     by_test : (b : Bool) → MarksChanges c (if b then record { value = with_owner c.value s to; marks = mark_structure c s } else c)
     by_test true = marks-structure (owned_by to) c s
@@ -336,7 +336,7 @@ marks-taken c n = by_unit (get c.value.units n) refl
 
 marks_gone : (c : MarkedCampaign) (n : ℕ) (o : Option Unit) → MarksChanges c (gone_marked_at c n o)
 marks_gone c n None = marks-refl c
-marks_gone c n (Some u) = marks-trans c (taken_marked c n) (gone_marked_at c n (Some u)) (marks-taken c n) (marks-handed (taken_marked c n) u.structure n (heir c.value u.structure n))
+marks_gone c n (Some u) = marks-trans c (taken_marked c n) (gone_marked_at c n (Some u)) (marks-taken c n) (marks-after_handover (taken_marked c n) u.structure n (heir c.value u.structure n))
 
 -- a unit that went, and what marks that
 pub marks-without : (c d : MarkedCampaign) (n : ℕ) → d.value ≡ without_unit c.value n → d.marks ≡ (gone_marked c n).marks → MarksChanges c d

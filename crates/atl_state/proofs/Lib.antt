@@ -1,7 +1,7 @@
 pub mod CoverLaws
 pub mod RegionLaws
 pub mod OrderedLaws
-pub mod RisingLaws
+pub mod SortedLaws
 pub mod AssemblyLaws
 pub mod BackLaws
 pub mod BackGroupLaws

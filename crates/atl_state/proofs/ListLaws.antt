@@ -10,8 +10,8 @@ use Rattle.atl_tables.proofs.SumLaws.{numbers_where-insert_other, numbers_where-
 use Rattle.atl_tables.specs.Sums.{changed, changed_at, numbers_where}
 use Rattle.atl_tables.proofs.Maps.{entries-empty}
 use Rattle.atl_state.specs.Ordered.{put_number, take_number}
-use Rattle.atl_state.specs.Kept.{AreInsideLists, AreLists, AreUnitLists, SameLists, ListsUnit, UnlistsUnit, list_of, listing_of, listed_apart, relisted_inside, unlisted_apart}
-use Rattle.atl_state.specs.declared.lists.Listing.{Listing}
+use Rattle.atl_state.specs.Kept.{AreInsideLists, AreLists, AreUnitLists, SameLists, ListsUnit, UnlistsUnit, list_of, list_keys_of, listed_apart, relisted_inside, unlisted_apart}
+use Rattle.atl_state.specs.declared.lists.ListKeys.{ListKeys}
 use Rattle.atl_state.specs.declared.lists.UnitLists.{UnitLists}
 use Rattle.atl_records.specs.declared.records.Unit.{Unit}
 use Rattle.atl_state.proofs.OrderedLaws.{numbers_where-insert_new, numbers_where-lost, numbers_where-gained, taken_put}
@@ -181,18 +181,18 @@ AreUnitLists-nobody = record {
 -- ---- units that change, or come and go again
 
 -- a unit that goes on being listed where it was
-pub AreUnitLists-kept : (units : FinMap nat_cmp Unit) (lists : UnitLists) (n : ℕ) (u v : Unit) → get units n ≡ Some u → listing_of u ≡ listing_of v → AreUnitLists units lists → AreUnitLists (insert units n v) lists
+pub AreUnitLists-kept : (units : FinMap nat_cmp Unit) (lists : UnitLists) (n : ℕ) (u v : Unit) → get units n ≡ Some u → list_keys_of u ≡ list_keys_of v → AreUnitLists units lists → AreUnitLists (insert units n v) lists
 AreUnitLists-kept units lists n u v is same old = record {
-  regions = AreLists-kept (λ w. w.region) units lists.by_region n u v is (ap (λ (l : Listing). l.region) same) old.regions;
-  factions = AreLists-kept (λ w. w.faction) units lists.by_faction n u v is (ap (λ (l : Listing). l.faction) same) old.factions;
-  structures = AreInsideLists-kept units lists.by_structure n u v is (ap (λ (l : Listing). l.structure) same) old.structures;
+  regions = AreLists-kept (λ w. w.region) units lists.by_region n u v is (ap (λ (l : ListKeys). l.region) same) old.regions;
+  factions = AreLists-kept (λ w. w.faction) units lists.by_faction n u v is (ap (λ (l : ListKeys). l.faction) same) old.factions;
+  structures = AreInsideLists-kept units lists.by_structure n u v is (ap (λ (l : ListKeys). l.structure) same) old.structures;
 }
 
 put_there : (units : FinMap nat_cmp Unit) (n : ℕ) (u : Unit) → get (insert units n u) n ≡ Some u
 put_there units n u = get-insert nat_cmp_total units n u n ∙ ap (λ b. cond b (Some u) (get units n)) (itself n)
 
 -- a unit that was listed and is so no more
-pub AreUnitLists-back : (units : FinMap nat_cmp Unit) (n : ℕ) (u : Unit) (l : Listing) (old mid new : UnitLists) → get units n ≡ None → listing_of u ≡ l → ListsUnit n l old mid → UnlistsUnit n l mid new → AreUnitLists units old → AreUnitLists units new
+pub AreUnitLists-back : (units : FinMap nat_cmp Unit) (n : ℕ) (u : Unit) (l : ListKeys) (old mid new : UnitLists) → get units n ≡ None → list_keys_of u ≡ l → ListsUnit n l old mid → UnlistsUnit n l mid new → AreUnitLists units old → AreUnitLists units new
 AreUnitLists-back units n u l old mid new fresh own puts takes is =
     subst (λ (m : FinMap nat_cmp Unit). AreUnitLists m new) (taken_back units n u fresh) (takes (insert units n u) u own (put_there units n u) (puts units u own fresh is))
 
@@ -253,7 +253,7 @@ AreInsideLists-relisted units old new n from to u v is own goes same lists =
     ]
 
 -- a unit that may have changed, and goes on being listed where it was
-pub AreUnitLists-changed : (f : Unit → Unit) → ((u : Unit) → listing_of u ≡ listing_of (f u)) → (units : FinMap nat_cmp Unit) (lists : UnitLists) (n : ℕ) → AreUnitLists units lists → AreUnitLists (changed f units n) lists
+pub AreUnitLists-changed : (f : Unit → Unit) → ((u : Unit) → list_keys_of u ≡ list_keys_of (f u)) → (units : FinMap nat_cmp Unit) (lists : UnitLists) (n : ℕ) → AreUnitLists units lists → AreUnitLists (changed f units n) lists
 AreUnitLists-changed f stays units lists n is = by_unit (get units n) refl
   where
     by_unit : (o : Option Unit) → get units n ≡ o → AreUnitLists (changed_at f units n o) lists
@@ -261,7 +261,7 @@ AreUnitLists-changed f stays units lists n is = by_unit (get units n) refl
     by_unit (Some u) e = AreUnitLists-kept units lists n u (f u) e (stays u) is
 
 -- likewise where that may want for memory
-pub AreUnitLists-set : {A E : Type 0} (r : Result A E) (f : Unit → Unit) → ((u : Unit) → listing_of u ≡ listing_of (f u)) → (old new : FinMap nat_cmp Unit) (lists : UnitLists) (n : ℕ) → OnOk r (new ≡ changed f old n) → OnErr r (new ≡ old)
+pub AreUnitLists-set : {A E : Type 0} (r : Result A E) (f : Unit → Unit) → ((u : Unit) → list_keys_of u ≡ list_keys_of (f u)) → (old new : FinMap nat_cmp Unit) (lists : UnitLists) (n : ℕ) → OnOk r (new ≡ changed f old n) → OnErr r (new ≡ old)
     → AreUnitLists old lists → AreUnitLists new lists
 AreUnitLists-set (Ok a) f stays old new lists n put same is = subst (λ (units : FinMap nat_cmp Unit). AreUnitLists units lists) (sym put) (AreUnitLists-changed f stays old lists n is)
 AreUnitLists-set (Err e) f stays old new lists n put same is = subst (λ (units : FinMap nat_cmp Unit). AreUnitLists units lists) (sym same) is

@@ -18,9 +18,9 @@ use Rattle.atl_state.specs.declared.parts.StoredUnit.{StoredUnit}
 use Rattle.atl_state.specs.declared.parts.StoredStructure.{StoredStructure}
 use Rattle.atl_state.specs.declared.parts.StoredBooks.{StoredBooks}
 use Rattle.atl_records.specs.declared.records.Faction.{Faction}
-use Rattle.atl_records.specs.Books.{no_amounts, IsGrid, IsWithin, entry_place, thing_place, with_amount, amount_at}
+use Rattle.atl_records.specs.Books.{no_amounts, IsGrid, IsWithin, entry_index, thing_index, with_amount, amount_at}
 use Rattle.atl_state.specs.Founding.{things_of}
-use Rattle.atl_state.specs.FromRows.{as_u32, faction_of, structure_of, unit_of, by_number, put_amounts, head_of, campaign_of}
+use Rattle.atl_state.specs.FromRows.{as_u32, faction_of, structure_of, unit_of, by_number, put_amounts, campaign_row_of, campaign_of}
 use Rattle.atl_state.specs.Good.{AreNamed, AreAmountsWithin, amount_bound}
 use Rattle.atl_state.specs.RowRules.{faction_named, books_in_range, books_bound, is_within, HaveJoined, AreRowsNamed}
 use Rattle.atl_state.specs.Rows.{is_zero}
@@ -108,7 +108,7 @@ module _ (f : Format) (w : WorldValue) (p : Parts) (k : RowsKeep f w p) where
   pub AreNamed-said : AreRowsNamed p → AreNamed (campaign_of w p)
   unfolding campaign_of
   AreNamed-said h =
-      let pass = pass_ok (head_of p).pass in
+      let pass = pass_ok (campaign_row_of p).pass in
       let people = list_all faction_named p.factions in
       let units = list_all (λ (r : StoredUnit). name_ok r.name) p.units in
       let structures = list_all (λ (r : StoredStructure). name_ok r.name) p.structures in
@@ -128,7 +128,7 @@ module _ (f : Format) (w : WorldValue) (p : Parts) (k : RowsKeep f w p) where
 
   same_bound : amount_bound (campaign_of w p) ≡ books_bound p
   unfolding campaign_of
-  same_bound = ap (λ n. most_in_month * (as_u32 (head_of p).month + 1) + most_in_joining * n) (same_count (λ r. as_u32 r.number) faction_of p.factions (factions_apart f w p k))
+  same_bound = ap (λ n. most_in_month * (as_u32 (campaign_row_of p).month + 1) + most_in_joining * n) (same_count (λ r. as_u32 r.number) faction_of p.factions (factions_apart f w p k))
 
   cells : AreCells (books_bound p) (put_amounts p.books (no_amounts (things_of w)))
   cells =
@@ -139,4 +139,4 @@ module _ (f : Format) (w : WorldValue) (p : Parts) (k : RowsKeep f w p) where
   pub AreAmountsWithin-said : AreAmountsWithin (campaign_of w p)
   unfolding campaign_of
   AreAmountsWithin-said e t =
-      subst (λ bound. IsWithin bound (amount_at (put_amounts p.books (no_amounts (things_of w))) (entry_place e) (thing_place t))) (sym same_bound) (cells (entry_place e) (thing_place t))
+      subst (λ bound. IsWithin bound (amount_at (put_amounts p.books (no_amounts (things_of w))) (entry_index e) (thing_index t))) (sym same_bound) (cells (entry_index e) (thing_index t))

@@ -6,7 +6,7 @@ use Rattle.std.specs.Ordering.{nat_cmp}
 use Rattle.atl_tables.proofs.TrackLaws.{remove_none}
 use Rattle.atl_records.specs.declared.records.Unit.{Unit}
 use Rattle.atl_state.specs.Marking.{mark_structure, handed_marked, put_marked, place_marked, place_marked_at, taken_marked, gone_marked, gone_marked_at, whole_marked}
-use Rattle.atl_state.specs.Owners.{heir, is_owned_by, handed, placed, with_place, with_place_at, without_unit, without_unit_at}
+use Rattle.atl_state.specs.Owners.{heir, is_owned_by, after_handover, placed, with_place, with_place_at, without_unit, without_unit_at}
 use Rattle.atl_state.specs.Campaign.{MarkedCampaign, with_owner}
 
 -- the campaign with these units, and the marks of a unit that went, if it was there
@@ -22,11 +22,11 @@ by_test : (b : Bool) (c d : MarkedCampaign) → (if b then d else c).value ≡ (
 by_test true c d = refl
 by_test false c d = refl
 
-pub handed-what : (c : MarkedCampaign) (s from to : ℕ) → (handed_marked c s from to).value ≡ handed c.value s from to
-handed-what c s from to = by_test (is_owned_by (get c.value.structures s) from) c (record { value = with_owner c.value s to; marks = mark_structure c s })
+pub after_handover-what : (c : MarkedCampaign) (s from to : ℕ) → (handed_marked c s from to).value ≡ after_handover c.value s from to
+after_handover-what c s from to = by_test (is_owned_by (get c.value.structures s) from) c (record { value = with_owner c.value s to; marks = mark_structure c s })
 
-twice : (c : MarkedCampaign) (s n next t : ℕ) → (handed_marked (handed_marked c s n next) t 0 n).value ≡ handed (handed c.value s n next) t 0 n
-twice c s n next t = handed-what (handed_marked c s n next) t 0 n ∙ ap (λ d. handed d t 0 n) (handed-what c s n next)
+twice : (c : MarkedCampaign) (s n next t : ℕ) → (handed_marked (handed_marked c s n next) t 0 n).value ≡ after_handover (after_handover c.value s n next) t 0 n
+twice c s n next t = after_handover-what (handed_marked c s n next) t 0 n ∙ ap (λ d. after_handover d t 0 n) (after_handover-what c s n next)
 
 place_at : (c : MarkedCampaign) (n r s : ℕ) (o : Option Unit) → (place_marked_at c n r s o).value ≡ with_place_at c.value n r s o
 place_at c n r s None = refl
@@ -40,7 +40,7 @@ place-what c n r s = place_at c n r s (get c.value.units n)
 
 gone_at : (c : MarkedCampaign) (n : ℕ) (o : Option Unit) → (gone_marked_at c n o).value ≡ without_unit_at c.value n o
 gone_at c n None = refl
-gone_at c n (Some u) = handed-what (taken_marked c n) u.structure n (heir c.value u.structure n)
+gone_at c n (Some u) = after_handover-what (taken_marked c n) u.structure n (heir c.value u.structure n)
 
 pub gone-what : (c : MarkedCampaign) (n : ℕ) → (gone_marked c n).value ≡ without_unit c.value n
 unfolding gone_marked without_unit

@@ -16,14 +16,14 @@ use Rattle.atl_records.specs.declared.books.Entry.{Entry}
 use Rattle.atl_records.specs.declared.books.Thing.{Thing}
 use Rattle.atl_records.specs.declared.records.Region.{Region}
 use Rattle.atl_records.specs.declared.records.Unit.{Unit}
-use Rattle.atl_records.specs.Books.{IsGrid, amount_in, entry_place, row_of, thing_place, with_booked, amount_number}
+use Rattle.atl_records.specs.Books.{IsGrid, amount_in, entry_index, row_of, thing_index, after_booking, amount_number}
 use Rattle.atl_state.specs.Founding.{things_of}
 use Rattle.atl_records.specs.Every.{Every, IsThere}
 use Rattle.atl_state.specs.Good.{IsRegion, AreInRange, AreKnown, AreOfMarkets, IsSteady}
 use Rattle.atl_state.specs.Campaign.{CampaignValue, region_changed, with_amount}
-use Rattle.atl_records.specs.Amounts.{held, kept}
+use Rattle.atl_records.specs.Amounts.{region_amount, unit_amount}
 use Rattle.atl_state.specs.Totals.{total}
-use Rattle.atl_records.proofs.BookLaws.{IsGrid-with_booked}
+use Rattle.atl_records.proofs.BookLaws.{IsGrid-after_booking}
 use Rattle.atl_records.proofs.EveryLaws.{every-insert, there-insert}
 
 -- ---- other regions, other books
@@ -119,40 +119,40 @@ module _ (f : Region → Region) (c : CampaignValue) (n : ℕ) (r : Region) (is 
   regrouped : (u a b p q : ℕ) → a + p ≡ b + q → (u + a) + p ≡ (u + b) + q
   regrouped u a b p q h = omega arith
 
-  pub total-region : (t : Thing) → total (region_changed f c n) t + kept t r ≡ total c t + kept t (f r)
+  pub total-region : (t : Thing) → total (region_changed f c n) t + region_amount t r ≡ total c t + region_amount t (f r)
   unfolding total
   total-region t =
-      let units = sum_over (λ (u : Unit). held t u.holding) c.units in
-      let stock = λ (q : Region). kept t q in
-      ap (λ m. (units + sum_over stock m) + kept t r) (changed-known f c.regions n r is)
-      ∙ regrouped units (sum_over stock (insert c.regions n (f r))) (sum_over stock c.regions) (kept t r) (kept t (f r)) (sum_over-insert_known stock c.regions n r (f r) is)
+      let units = sum_over (λ (u : Unit). unit_amount t u.holding) c.units in
+      let stock = λ (q : Region). region_amount t q in
+      ap (λ m. (units + sum_over stock m) + region_amount t r) (changed-known f c.regions n r is)
+      ∙ regrouped units (sum_over stock (insert c.regions n (f r))) (sum_over stock c.regions) (region_amount t r) (region_amount t (f r)) (sum_over-insert_known stock c.regions n r (f r) is)
 
 -- ---- the books
 
 pub steady-amount : (w : WorldValue) (c : CampaignValue) (e : Entry) (t : Thing) (n : ℤ) → IsSteady w c → IsSteady w (with_amount c e t n)
 steady-amount w c e t n old =
-    stocked-steady w c c.regions (with_booked c.books e t n) refl (λ k. (λ h. h, λ h. h)) old.numbers.regions old.known.markets (IsGrid-with_booked (things_of w) c.books e t n old.numbers.books) old
+    stocked-steady w c c.regions (after_booking c.books e t n) refl (λ k. (λ h. h, λ h. h)) old.numbers.regions old.known.markets (IsGrid-after_booking (things_of w) c.books e t n old.numbers.books) old
 
 pub total-amount : (c : CampaignValue) (e : Entry) (u t : Thing) (n : ℤ) → total (with_amount c e u n) t ≡ total c t
 unfolding total
 total-amount c e u t n = refl
 
 -- no other amount changes
-pub amount-other : (things : ℕ) (books : List (List ℤ)) (e f : Entry) (t u : Thing) (n : ℤ) → IsGrid things books → thing_place u < things → amount_number e t ≢ amount_number f u → amount_in (with_booked books f u n) e t ≡ amount_in books e t
+pub amount-other : (things : ℕ) (books : List (List ℤ)) (e f : Entry) (t u : Thing) (n : ℤ) → IsGrid things books → thing_index u < things → amount_number e t ≢ amount_number f u → amount_in (after_booking books f u n) e t ≡ amount_in books e t
 amount-other things books e f t u n g h apart =
-    let i = thing_place t in
-    let j = thing_place u in
+    let i = thing_index t in
+    let j = thing_index u in
     let inside : j < length books = omega (arith, g.rows) in
     let wide : length (row_of books u) ≡ entry_count = g.wide j [] inside in
-    let row = set (row_of books u) (entry_place f) (amount_in books f u +ℤ n) in
+    let row = set (row_of books u) (entry_index f) (amount_in books f u +ℤ n) in
     elim (cases_eq i j) [
       | inl same ↦
-          let other : entry_place e ≢ entry_place f = λ one. apart (both i j (entry_place e) (entry_place f) same one) in
-          ap (λ k. get_or (get_or (set books j row) k []) (entry_place e) (pos 0)) same
-          ∙ ap (λ x. get_or x (entry_place e) (pos 0)) (get_or-set_same books j row [] inside)
-          ∙ get_or-set_other (row_of books u) (entry_place f) (entry_place e) (amount_in books f u +ℤ n) (pos 0) other
-          ∙ ap (λ k. get_or (get_or books k []) (entry_place e) (pos 0)) (sym same)
-      | inr other ↦ ap (λ x. get_or x (entry_place e) (pos 0)) (get_or-set_other books j i row [] other)
+          let other : entry_index e ≢ entry_index f = λ one. apart (both i j (entry_index e) (entry_index f) same one) in
+          ap (λ k. get_or (get_or (set books j row) k []) (entry_index e) (pos 0)) same
+          ∙ ap (λ x. get_or x (entry_index e) (pos 0)) (get_or-set_same books j row [] inside)
+          ∙ get_or-set_other (row_of books u) (entry_index f) (entry_index e) (amount_in books f u +ℤ n) (pos 0) other
+          ∙ ap (λ k. get_or (get_or books k []) (entry_index e) (pos 0)) (sym same)
+      | inr other ↦ ap (λ x. get_or x (entry_index e) (pos 0)) (get_or-set_other books j i row [] other)
     ]
   where
     both : (i j p q : ℕ) → i ≡ j → p ≡ q → entry_count * i + p ≡ entry_count * j + q

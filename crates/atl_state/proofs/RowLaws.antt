@@ -8,7 +8,7 @@ use Rattle.std.proofs.lemmas.List.FromFn.{map-range_with_len_more, filter_of_map
 use Rattle.std.proofs.lemmas.Bool.Decides.{nat_tests}
 use Rattle.atl_state.specs.declared.parts.StoredBooks.{StoredBooks}
 use Rattle.atl_records.specs.Books.{amount_at}
-use Rattle.atl_state.specs.Rows.{has_row, books_row, is_zero, amount_rows, sort_rows, entry_rows}
+use Rattle.atl_state.specs.Rows.{has_row, books_row, is_zero, amount_rows, kind_rows, entry_rows}
 
 pub is_zero_not : (z : ℤ) → z ≢ pos 0 → is_zero z ≡ false
 is_zero_not (pos zero) h = absurd (h refl)
@@ -26,11 +26,11 @@ module _ {R : Type 0} (shown : R → ℤ) (row : ℕ → ℕ → R) (shows : (th
       ap (λ b. cond (not b) (row thing amount ∷ amount_rows shown row es) (amount_rows shown row es)) (ap is_zero (shows thing amount) ∙ is_zero_not (pos amount) (λ e. h (same_size e)))
 
 -- of what a unit has
-pub sort_rows_one : (n sort thing amount : ℕ) (es : List (ℕ × ℕ)) → amount ≢ 0 → sort_rows n sort ((thing, amount) ∷ es) ≡ has_row n sort thing amount ∷ sort_rows n sort es
+pub sort_rows_one : (n sort thing amount : ℕ) (es : List (ℕ × ℕ)) → amount ≢ 0 → kind_rows n sort ((thing, amount) ∷ es) ≡ has_row n sort thing amount ∷ kind_rows n sort es
 sort_rows_one n sort = amount_rows_one (λ r. r.amount) (has_row n sort) (λ i a. refl)
 
-pub sort_rows_none : (n sort thing amount : ℕ) (es : List (ℕ × ℕ)) → amount ≡ 0 → sort_rows n sort ((thing, amount) ∷ es) ≡ sort_rows n sort es
-sort_rows_none n sort thing amount es h = ap (λ k. cond (not (is_zero (pos k))) (has_row n sort thing amount ∷ sort_rows n sort es) (sort_rows n sort es)) h
+pub sort_rows_none : (n sort thing amount : ℕ) (es : List (ℕ × ℕ)) → amount ≡ 0 → kind_rows n sort ((thing, amount) ∷ es) ≡ kind_rows n sort es
+sort_rows_none n sort thing amount es h = ap (λ k. cond (not (is_zero (pos k))) (has_row n sort thing amount ∷ kind_rows n sort es) (kind_rows n sort es)) h
 
 entry_rows_more : (books : List (List ℤ)) (entry n : ℕ) → entry_rows books (n + 1) entry ≡ entry_rows books n entry ++ cond (not (is_zero (amount_at books entry n))) (books_row entry n (amount_at books entry n) ∷ []) []
 entry_rows_more books entry n = filter_of_map_range_with_len_more (λ (r : StoredBooks). not (is_zero r.amount)) (λ thing. books_row entry thing (amount_at books entry thing)) 0 n n (omega arith)

@@ -20,7 +20,7 @@ use Rattle.atl_tables.specs.declared.world.RegionPlan.{RegionPlan}
 use Rattle.atl_tables.specs.ByNumber.{market_of, size_of}
 use Rattle.atl_orders.specs.Limits.{last_faction}
 use Rattle.atl_state.specs.declared.parts.Parts.{Parts}
-use Rattle.atl_state.specs.declared.parts.StoredHead.{StoredHead}
+use Rattle.atl_state.specs.declared.parts.StoredCampaignRow.{StoredCampaignRow}
 use Rattle.atl_state.specs.declared.parts.StoredFaction.{StoredFaction}
 use Rattle.atl_state.specs.declared.parts.StoredRegion.{StoredRegion}
 use Rattle.atl_state.specs.declared.parts.StoredUnit.{StoredUnit}
@@ -32,11 +32,11 @@ use Rattle.atl_records.specs.declared.records.Region.{Region}
 use Rattle.atl_records.specs.declared.records.Unit.{Unit}
 use Rattle.atl_records.specs.Books.{no_amounts}
 use Rattle.atl_state.specs.Founding.{things_of}
-use Rattle.atl_state.specs.FromRows.{as_u32, as_u16, is_set, is_of, is_entry, faction_of, region_of, structure_of, unit_of, things_had, by_number, put_amounts, no_head, head_of, campaign_of}
+use Rattle.atl_state.specs.FromRows.{as_u32, as_u16, is_set, is_of, is_entry, faction_of, region_of, structure_of, unit_of, things_had, by_number, put_amounts, no_campaign_row, campaign_row_of, campaign_of}
 use Rattle.atl_records.specs.Every.{Every, IsThere}
 use Rattle.atl_state.specs.Good.{IsPlaced, IsBuilt, AreKnown, AreDays}
 use Rattle.atl_records.specs.Limits.{last_month, last_unit, men_limit, holding_limit, most_structures, entry_count, entries_in, most_u16, most_u32}
-use Rattle.atl_state.specs.RowRules.{one_key, is_from, is_one_head, are_of_format, head_in_range, faction_in_range, region_in_range, unit_in_range, has_in_range, structure_in_range, books_in_range, books_bound, market_in_range, is_within, faction_key, region_key, unit_key, structure_key, mail_key, report_key, AreRowsInRange, is_of_unit, is_of_market, is_entry_in, is_booked}
+use Rattle.atl_state.specs.RowRules.{one_key, is_from, is_one_campaign_row, are_of_format, campaign_row_in_range, faction_in_range, region_in_range, unit_in_range, has_in_range, structure_in_range, books_in_range, books_bound, market_in_range, is_within, faction_key, region_key, unit_key, structure_key, mail_key, report_key, AreRowsInRange, is_of_unit, is_of_market, is_entry_in, is_booked}
 use Rattle.atl_state.specs.Rows.{flag, is_zero, rows_by, faction_row, region_row, unit_row, structure_row, mail_row, report_row, has_rows, books_rows, market_rows, AreRowsOf, rows_of}
 use Rattle.atl_state.specs.Stocks.{stock_limit}
 use Rattle.atl_state.proofs.AssemblyLaws.{from_range}
@@ -84,7 +84,7 @@ none_or_below m (suc n) most every there = there_below m (suc n) most every (the
 -- ---- the rules that are needed
 pub record RowsKeep (f : Format) (w : WorldValue) (p : Parts) : Type 0 where
   pub world : IsWorld w
-  pub one : is_one_head f p.campaign ≡ true
+  pub one : is_one_campaign_row f p.campaign ≡ true
   pub format : are_of_format f p.markets ≡ true
   pub range : AreRowsInRange w p
   pub known : AreKnown w (campaign_of w p)
@@ -102,10 +102,10 @@ small_format : (f : Format) → format_number f ≤ most_u32
 small_format First = omega arith
 small_format Second = omega arith
 
-abbrev head_as_read : Format → StoredHead → StoredHead
+abbrev head_as_read : Format → StoredCampaignRow → StoredCampaignRow
 head_as_read f h = record { id = pos 1; format = pos (format_number f); month = pos (as_u32 h.month); next_faction = pos (as_u32 h.next_faction); next_unit = pos (as_u32 h.next_unit); next_structure = pos (as_u32 h.next_structure); pass = h.pass }
 
-one_head : (f : Format) (rows : List StoredHead) → is_one_head f rows ≡ true → head_in_range (slice_index_or rows 0 no_head) ≡ true → head_as_read f (slice_index_or rows 0 no_head) ∷ [] ≡ rows
+one_head : (f : Format) (rows : List StoredCampaignRow) → is_one_campaign_row f rows ≡ true → campaign_row_in_range (slice_index_or rows 0 no_campaign_row) ≡ true → head_as_read f (slice_index_or rows 0 no_campaign_row) ∷ [] ≡ rows
 one_head f [] e r = absurd (false≢true e)
 one_head f (h ∷ []) e r =
     let both = and_parts (is_from 1 1 h.id) (is_from (format_number f) (format_number f) h.format) e in
@@ -520,7 +520,7 @@ module _ (f : Format) (w : WorldValue) (p : Parts) (k : RowsKeep f w p) where
   pub rows_said : AreRowsOf f (campaign_of w p) p
   unfolding campaign_of rows_of
   rows_said = record {
-    campaign = subst (λ rows. IsPermutation (head_as_read f (head_of p) ∷ []) rows) (one_head f p.campaign k.one ranges.head) (IsPermutation-refl (head_as_read f (head_of p) ∷ []));
+    campaign = subst (λ rows. IsPermutation (head_as_read f (campaign_row_of p) ∷ []) rows) (one_head f p.campaign k.one ranges.head) (IsPermutation-refl (head_as_read f (campaign_row_of p) ∷ []));
     factions = factions_said;
     regions = regions_said;
     units = units_said;

@@ -15,7 +15,7 @@ use Rattle.std.specs.FinMap.Entries.{below_all}
 use Rattle.atl_tables.proofs.MadeLaws.{is_less}
 use Rattle.atl_tables.proofs.Maps.{entries-empty, entries_of}
 use Rattle.slab.specs.Slab as slab
-use Rattle.atl_state.specs.Slots.{lodged, lodged_at, values_of, AreInUse, AreLodged, IsArena}
+use Rattle.atl_state.specs.Slots.{slot_entries, slot_entry_at, values_of, AreInUse, AreLodged, IsArena}
 use Rattle.atl_records.proofs.EveryLaws.{sorted, each-from_every}
 use Rattle.atl_state.proofs.IndexLaws.{some_none}
 
@@ -36,7 +36,7 @@ module _ {V : Type 0} where
   through s None = None
   through s (Some k) = slab.get s k
 
-  lodged_step : (n q : ℕ) (o : Option V) (rest : List (ℕ × V)) → is_some o ≡ true → find nat_cmp q (lodged_at n o rest) ≡ cond (eq_by_cmp nat_cmp q n) o (find nat_cmp q rest)
+  lodged_step : (n q : ℕ) (o : Option V) (rest : List (ℕ × V)) → is_some o ≡ true → find nat_cmp q (slot_entry_at n o rest) ≡ cond (eq_by_cmp nat_cmp q n) o (find nat_cmp q rest)
   lodged_step n q None rest h = absurd (false≢true h)
   lodged_step n q (Some v) rest h = refl
 
@@ -44,10 +44,10 @@ module _ {V : Type 0} where
   through_cond true s k o = refl
   through_cond false s k o = refl
 
-  find_lodged : (s : slab.Slab V) (q : ℕ) (es : List (ℕ × ℕ)) → AreInUse es s → find nat_cmp q (lodged es s) ≡ through s (find nat_cmp q es)
+  find_lodged : (s : slab.Slab V) (q : ℕ) (es : List (ℕ × ℕ)) → AreInUse es s → find nat_cmp q (slot_entries es s) ≡ through s (find nat_cmp q es)
   find_lodged s q [] h = refl
   find_lodged s q (e ∷ es) h =
-      lodged_step e.0 q (slab.get s e.1) (lodged es s) h.0 ∙ ap (cond (eq_by_cmp nat_cmp q e.0) (slab.get s e.1)) (find_lodged s q es h.1)
+      lodged_step e.0 q (slab.get s e.1) (slot_entries es s) h.0 ∙ ap (cond (eq_by_cmp nat_cmp q e.0) (slab.get s e.1)) (find_lodged s q es h.1)
       ∙ through_cond (eq_by_cmp nat_cmp q e.0) s e.1 (find nat_cmp q es)
 
   pub all_in_use : (i : FinMap nat_cmp ℕ) (s : slab.Slab V) → AreLodged i s → AreInUse (entries i) s
@@ -56,7 +56,7 @@ module _ {V : Type 0} where
   -- what stands under a number
   pub get_values : (i : FinMap nat_cmp ℕ) (s : slab.Slab V) → AreLodged i s → (q : ℕ) → get (values_of i s) q ≡ through s (get i q)
   get_values i s held q =
-      get-from_entries nat_cmp_total (lodged (entries i) s) q
+      get-from_entries nat_cmp_total (slot_entries (entries i) s) q
       ∙ find_lodged s q (entries i) (all_in_use i s held)
       ∙ ap (through s) (sym (get-entries i q))
 
@@ -78,9 +78,9 @@ module _ {V : Type 0} where
   vacant_slot : (s : slab.Slab V) (j k : ℕ) → j ≡ k → slab.get s k ≡ None → is_some (slab.get s j) ≡ true → ⊥
   vacant_slot s j k same vacant h = false≢true (sym (ap is_some (ap (slab.get s) same ∙ vacant)) ∙ h)
 
-  lodged_same : (es : List (ℕ × ℕ)) (s t : slab.Slab V) → slab.SameValues s t → lodged es t ≡ lodged es s
+  lodged_same : (es : List (ℕ × ℕ)) (s t : slab.Slab V) → slab.SameValues s t → slot_entries es t ≡ slot_entries es s
   lodged_same [] s t same = refl
-  lodged_same (e ∷ es) s t same = ap (λ o. lodged_at e.0 o (lodged es t)) (same e.1) ∙ ap (lodged_at e.0 (slab.get s e.1)) (lodged_same es s t same)
+  lodged_same (e ∷ es) s t same = ap (λ o. slot_entry_at e.0 o (slot_entries es t)) (same e.1) ∙ ap (slot_entry_at e.0 (slab.get s e.1)) (lodged_same es s t same)
 
   -- a slot that another number leads to stays
   kept : (s t : slab.Slab V) (k : ℕ) (x : Option V) (o : Option ℕ) → slab.Updates s t k x → ((j : ℕ) → o ≡ Some j → j ≢ k) → through t o ≡ through s o
@@ -201,23 +201,23 @@ module _ {V : Type 0} where
   IsArena-added i s t n k x u vacant more fresh held =
       let same = held.none_idle in
       let size : len (insert i n k) ≡ len i + 1 = len-insert nat_cmp_total i n k ∙ ap (λ o. cond (is_some o) (len i) (len i + 1)) fresh in
-      record { lodged = AreLodged-added i s t n k x u vacant held.lodged; none_idle = omega (arith, same, size, more) }
+      record { slot_entries = AreLodged-added i s t n k x u vacant held.slot_entries; none_idle = omega (arith, same, size, more) }
 
   pub IsArena-removed : (i : FinMap nat_cmp ℕ) (s t : slab.Slab V) (n k : ℕ) → slab.Updates s t k None → slab.slab_len t + 1 ≡ slab.slab_len s → get i n ≡ Some k → IsArena i s → IsArena (remove i n) t
   IsArena-removed i s t n k u less is held =
       let same = held.none_idle in
       let size : len (remove i n) ≡ len i - 1 = len-remove nat_cmp_total i n ∙ ap (λ o. cond (is_some o) (len i - 1) (len i)) is in
-      record { lodged = AreLodged-removed i s t n k u is held.lodged; none_idle = omega (arith, same, size, less) }
+      record { slot_entries = AreLodged-removed i s t n k u is held.slot_entries; none_idle = omega (arith, same, size, less) }
 
   pub IsArena-changed : (i : FinMap nat_cmp ℕ) (s : slab.Slab V) (k : ℕ) (w : V) → is_some (slab.get s k) ≡ true → IsArena i s → IsArena i (slab.with_value s k w)
-  IsArena-changed i s k w used held = record { lodged = AreLodged-changed i s (slab.with_value s k w) k w (written s k w used) held.lodged; none_idle = len_written s k w used ∙ held.none_idle }
+  IsArena-changed i s k w used held = record { slot_entries = AreLodged-changed i s (slab.with_value s k w) k w (written s k w used) held.slot_entries; none_idle = len_written s k w used ∙ held.none_idle }
 
   -- what was put in and taken out again
   pub IsArena-same : (i : FinMap nat_cmp ℕ) (s t : slab.Slab V) → slab.SameValues s t → slab.slab_len t ≡ slab.slab_len s → IsArena i s → IsArena i t
-  IsArena-same i s t same as_many held = record { lodged = AreLodged-same i s t same held.lodged; none_idle = as_many ∙ held.none_idle }
+  IsArena-same i s t same as_many held = record { slot_entries = AreLodged-same i s t same held.slot_entries; none_idle = as_many ∙ held.none_idle }
 
   pub IsArena-empty : (s : slab.Slab V) → s.slots ≡ [] → IsArena empty s
-  IsArena-empty s none = record { lodged = AreLodged-empty s; none_idle = ap (count_by is_some) none ∙ sym (len-empty nat_cmp ℕ) }
+  IsArena-empty s none = record { slot_entries = AreLodged-empty s; none_idle = ap (count_by is_some) none ∙ sym (len-empty nat_cmp ℕ) }
 
 pub on_err : {A E P : Type 0} (r : Result A E) → P → OnErr r P
 on_err (Ok a) p = tt
@@ -238,19 +238,19 @@ keys_rise [] h = tt
 keys_rise (e ∷ es) h = (rise e.0 es (and_parts _ _ h).0, keys_rise es (and_parts _ _ h).1)
 
 module _ {V : Type 0} (s : slab.Slab V) where
-  key_step : (n : ℕ) (o : Option V) (rest : List (ℕ × V)) → is_some o ≡ true → keys_of (lodged_at n o rest) ≡ n ∷ keys_of rest
+  key_step : (n : ℕ) (o : Option V) (rest : List (ℕ × V)) → is_some o ≡ true → keys_of (slot_entry_at n o rest) ≡ n ∷ keys_of rest
   key_step n None rest h = absurd (false≢true h)
   key_step n (Some v) rest h = refl
 
-  keys_lodged : (es : List (ℕ × ℕ)) → AreInUse es s → keys_of (lodged es s) ≡ keys_of es
+  keys_lodged : (es : List (ℕ × ℕ)) → AreInUse es s → keys_of (slot_entries es s) ≡ keys_of es
   keys_lodged [] h = refl
-  keys_lodged (e ∷ es) h = key_step e.0 (slab.get s e.1) (lodged es s) h.0 ∙ ap (λ ns. e.0 ∷ ns) (keys_lodged es h.1)
+  keys_lodged (e ∷ es) h = key_step e.0 (slab.get s e.1) (slot_entries es s) h.0 ∙ ap (λ ns. e.0 ∷ ns) (keys_lodged es h.1)
 
-  pub entries_values : (i : FinMap nat_cmp ℕ) → AreLodged i s → entries (values_of i s) ≡ lodged (entries i) s
-  entries_values i held = entries_of (lodged (entries i) s) (rw (keys_lodged (entries i) (all_in_use i s held)) (keys_rise (entries i) (sorted i)))
+  pub entries_values : (i : FinMap nat_cmp ℕ) → AreLodged i s → entries (values_of i s) ≡ slot_entries (entries i) s
+  entries_values i held = entries_of (slot_entries (entries i) s) (rw (keys_lodged (entries i) (all_in_use i s held)) (keys_rise (entries i) (sorted i)))
 
   pub len_values : (i : FinMap nat_cmp ℕ) → AreLodged i s → len (values_of i s) ≡ len i
   len_values i held =
       len-entries (values_of i s) ∙ ap length (entries_values i held)
-      ∙ sym (length-map (lodged (entries i) s) (λ (e : ℕ × V). e.0)) ∙ ap length (keys_lodged (entries i) (all_in_use i s held)) ∙ length-map (entries i) (λ (e : ℕ × ℕ). e.0)
+      ∙ sym (length-map (slot_entries (entries i) s) (λ (e : ℕ × V). e.0)) ∙ ap length (keys_lodged (entries i) (all_in_use i s held)) ∙ length-map (entries i) (λ (e : ℕ × ℕ). e.0)
       ∙ sym (len-entries i)

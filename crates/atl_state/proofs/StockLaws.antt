@@ -8,10 +8,10 @@ use Rattle.atl_records.specs.declared.books.Thing.TheVariants.{Money, People, It
 use Rattle.atl_records.specs.declared.records.Region.{Region}
 use Rattle.atl_state.specs.Campaign.{CampaignValue, with_stock}
 use Rattle.atl_state.specs.Good.{AreOfMarkets, IsRegion, IsSteady}
-use Rattle.atl_records.specs.Held.{amount_of, with_amount_of}
+use Rattle.atl_records.specs.Holdings.{amount_of, with_amount_of}
 use Rattle.atl_state.specs.Stocks.{stock_limit}
 use Rattle.atl_state.specs.Totals.{total}
-use Rattle.atl_records.proofs.HeldLaws.{every_amount, set_other, set_same}
+use Rattle.atl_records.proofs.HoldingLaws.{every_amount, set_other, set_same}
 use Rattle.atl_state.proofs.RegionLaws.{steady-region, total-region}
 
 -- a region with another stock of an item

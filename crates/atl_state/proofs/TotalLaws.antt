@@ -7,15 +7,15 @@ use Rattle.atl_records.specs.declared.books.Thing.{Thing}
 use Rattle.atl_records.specs.declared.records.Region.{Region}
 use Rattle.atl_records.specs.declared.records.Unit.{Unit}
 use Rattle.atl_state.specs.Campaign.{CampaignValue, with_unit}
-use Rattle.atl_records.specs.Amounts.{held, kept}
+use Rattle.atl_records.specs.Amounts.{region_amount, unit_amount}
 use Rattle.atl_state.specs.Totals.{total}
 
 later : (a b n : ℕ) → (a + n) + b ≡ (a + b) + n
 later a b n = omega arith
 
 -- a new unit adds what it holds
-pub total-with_unit : (c : CampaignValue) (n : ℕ) (u : Unit) (t : Thing) → get c.units n ≡ None → total (with_unit c n u) t ≡ total c t + held t u.holding
+pub total-with_unit : (c : CampaignValue) (n : ℕ) (u : Unit) (t : Thing) → get c.units n ≡ None → total (with_unit c n u) t ≡ total c t + unit_amount t u.holding
 unfolding total
 total-with_unit c n u t fresh =
-    ap (λ k. k + sum_over (λ (r : Region). kept t r) c.regions) (sum_over-insert_new (λ (v : Unit). held t v.holding) c.units n u fresh)
-    ∙ later (sum_over (λ (v : Unit). held t v.holding) c.units) (sum_over (λ (r : Region). kept t r) c.regions) (held t u.holding)
+    ap (λ k. k + sum_over (λ (r : Region). region_amount t r) c.regions) (sum_over-insert_new (λ (v : Unit). unit_amount t v.holding) c.units n u fresh)
+    ∙ later (sum_over (λ (v : Unit). unit_amount t v.holding) c.units) (sum_over (λ (r : Region). region_amount t r) c.regions) (unit_amount t u.holding)

@@ -6,7 +6,7 @@ use Rattle.std.specs.Cmp.{nat_cmp_total}
 use Rattle.std.specs.FinMap.{FinMap, get, get-empty, get-insert, insert, remove, len, empty}
 use Rattle.std.specs.FinSet as set
 use Rattle.std.proofs.lemmas.Bool.{false≢true}
-use Rattle.atl_tables.specs.Marked.{Marked, HasRoom}
+use Rattle.atl_tables.specs.RoomySets.{RoomySet, HasRoom}
 use Rattle.atl_tables.proofs.GeneralLaws.{one_more}
 use Rattle.atl_tables.proofs.TrackLaws.{Room-empty, Room-of, Room-unmarked, Room-lent, Room-over, Room-inserted, Room-without, fits-inserted}
 use Rattle.atl_records.specs.declared.records.Unit.{Unit}
@@ -80,13 +80,13 @@ module _ (marks rows goods : set.FinSet nat_cmp) (items skills : Things) (n : �
 
 -- ---- units
 
-abbrev marking : Marked → ℕ → Marked
+abbrev marking : RoomySet → ℕ → RoomySet
 marking marks n = record marks { numbers = set.insert marks.numbers n }
 
-abbrev cleared : Marked → Marked
+abbrev cleared : RoomySet → RoomySet
 cleared marks = record marks { numbers = set.empty }
 
-abbrev nothing_marked : ℕ → Marked
+abbrev nothing_marked : ℕ → RoomySet
 nothing_marked room = record { numbers = set.empty; room = room }
 
 pub AreUnits-none : AreUnits empty (nothing_marked 0) (nothing_marked 0) (nothing_marked 0) empty empty
@@ -96,12 +96,12 @@ AreUnits-none = record { within = within-none; marks_fit = Room-empty Unit; rows
 pub AreUnits-of : (units : FinMap nat_cmp Unit) → AreUnits units (nothing_marked (len units)) (nothing_marked (len units)) (nothing_marked (len units)) empty empty
 AreUnits-of units = record { within = within-none; marks_fit = Room-of units; rows_fit = Room-of units; goods_fit = Room-of units }
 
-module _ (units : FinMap nat_cmp Unit) (marks rows goods : Marked) (items skills : Things) where
+module _ (units : FinMap nat_cmp Unit) (marks rows goods : RoomySet) (items skills : Things) where
   abbrev Before : Type 0
   Before = AreUnits units marks rows goods items skills
 
-  pub AreUnits-unmarked : Before → AreUnits units (cleared marks) (cleared rows) (cleared goods) empty empty
-  AreUnits-unmarked h = record {
+  pub AreUnits-without_marks : Before → AreUnits units (cleared marks) (cleared rows) (cleared goods) empty empty
+  AreUnits-without_marks h = record {
     within = within-none;
     marks_fit = Room-unmarked units marks.numbers marks.room h.marks_fit;
     rows_fit = Room-unmarked units rows.numbers rows.room h.rows_fit;
@@ -159,20 +159,20 @@ module _ (units : FinMap nat_cmp Unit) (marks rows goods : Marked) (items skills
 -- ---- a unit that is new
 
 -- with the same numbers marked, and room for a unit more
-pub record IsWider (units : FinMap nat_cmp Unit) (marks more : Marked) : Type 0 where
+pub record IsWider (units : FinMap nat_cmp Unit) (marks more : RoomySet) : Type 0 where
   pub same : more.numbers ≡ marks.numbers
   pub room : set.len marks.numbers + (len units + 1) ≤ more.room
 
-room_inserted : (units : FinMap nat_cmp Unit) (marks more : Marked) (n : ℕ) (w : Unit) → IsWider units marks more → set.len more.numbers + len (insert units n w) ≤ more.room
+room_inserted : (units : FinMap nat_cmp Unit) (marks more : RoomySet) (n : ℕ) (w : Unit) → IsWider units marks more → set.len more.numbers + len (insert units n w) ≤ more.room
 room_inserted units marks more n w h = let l = one_more units n w in let as_many = ap set.len h.same in omega (arith, h.room, l, as_many)
 
-pub fits-new : (units : FinMap nat_cmp Unit) (marks more : Marked) (n : ℕ) (w : Unit) → IsWider units marks more → set.len (set.insert more.numbers n) ≤ more.room
+pub fits-new : (units : FinMap nat_cmp Unit) (marks more : RoomySet) (n : ℕ) (w : Unit) → IsWider units marks more → set.len (set.insert more.numbers n) ≤ more.room
 fits-new units marks more n w h = fits-inserted units more.numbers more.room n w (room_inserted units marks more n w h)
 
-HasRoom-added : (units : FinMap nat_cmp Unit) (marks more : Marked) (n : ℕ) (w : Unit) → IsWider units marks more → HasRoom (insert units n w) (marking more n)
+HasRoom-added : (units : FinMap nat_cmp Unit) (marks more : RoomySet) (n : ℕ) (w : Unit) → IsWider units marks more → HasRoom (insert units n w) (marking more n)
 HasRoom-added units marks more n w h = Room-inserted units more.numbers more.room n w (room_inserted units marks more n w h)
 
-pub AreUnits-added : (units : FinMap nat_cmp Unit) (marks rows goods marks2 rows2 goods2 : Marked) (items skills : Things) (n : ℕ) (w : Unit) → IsWider units marks marks2 → IsWider units rows rows2 → IsWider units goods goods2
+pub AreUnits-added : (units : FinMap nat_cmp Unit) (marks rows goods marks2 rows2 goods2 : RoomySet) (items skills : Things) (n : ℕ) (w : Unit) → IsWider units marks marks2 → IsWider units rows rows2 → IsWider units goods goods2
     → AreUnits units marks rows goods items skills → AreUnits (insert units n w) (marking marks2 n) (marking rows2 n) (marking goods2 n) items skills
 AreUnits-added units marks rows goods marks2 rows2 goods2 items skills n w wider wider2 wider3 h = record {
   within = rw (wider.same, wider2.same, wider3.same) (within-whole marks.numbers rows.numbers goods.numbers items skills n h.within);

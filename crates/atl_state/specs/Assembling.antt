@@ -1,11 +1,11 @@
--- For proofs alone: how a campaign is made of rows: its maps, with nothing marked, and what units have and regions have in stock, put there row by row.
+-- For proofs alone: how a campaign is built from rows: maps without marks, then goods and stocks row by row.
 use Rattle.std.specs.Prelude.{ℕ, ◌==◌, List, [], ◌∷◌, if◌then◌else◌}
 use Rattle.std.specs.Ordering.{nat_cmp}
 use Rattle.std.specs.FinMap.{FinMap, empty, insert}
 use Rattle.std.specs.FinSet as set
-use Rattle.atl_tables.specs.Changing.{Changing}
+use Rattle.atl_tables.specs.MarkedMaps.{MarkedMapValue}
 use Rattle.atl_tables.specs.Sums.{changed}
-use Rattle.atl_state.specs.declared.assembly.maps.Tables.{Tables}
+use Rattle.atl_state.specs.declared.assembly.maps.CampaignMaps.{CampaignMaps}
 use Rattle.atl_state.specs.declared.parts.Parts.{Parts}
 use Rattle.atl_state.specs.declared.parts.StoredHas.{StoredHas}
 use Rattle.atl_state.specs.declared.parts.StoredMarket.{StoredMarket}
@@ -15,16 +15,16 @@ use Rattle.atl_records.specs.declared.records.Region.{Region}
 use Rattle.atl_records.specs.declared.records.Unit.{Unit}
 use Rattle.atl_state.specs.FromRows.{as_u32, by_number, faction_of, region_of, region_with, structure_of, unit_with}
 
-abbrev pub unmarked : {V : Type 0} → FinMap nat_cmp V → Changing V
-unmarked m = record { values = m; marks = set.empty }
+abbrev pub without_marks : {V : Type 0} → FinMap nat_cmp V → MarkedMapValue V
+without_marks m = record { values = m; marks = set.empty }
 
-abbrev pub tables_of : Parts → Tables
-tables_of p = record {
-  factions = unmarked (by_number (λ r. as_u32 r.number) faction_of p.factions);
-  regions = unmarked (by_number (λ r. as_u32 r.number) (region_of p.markets) p.regions);
-  structures = unmarked (by_number (λ r. as_u32 r.number) structure_of p.structures);
-  mail = unmarked (by_number (λ r. as_u32 r.faction) (λ r. r.text) p.mail);
-  reports = unmarked (by_number (λ r. as_u32 r.faction) (λ r. r.text) p.reports);
+abbrev pub campaign_maps_of : Parts → CampaignMaps
+campaign_maps_of p = record {
+  factions = without_marks (by_number (λ r. as_u32 r.number) faction_of p.factions);
+  regions = without_marks (by_number (λ r. as_u32 r.number) (region_of p.markets) p.regions);
+  structures = without_marks (by_number (λ r. as_u32 r.number) structure_of p.structures);
+  mail = without_marks (by_number (λ r. as_u32 r.faction) (λ r. r.text) p.mail);
+  reports = without_marks (by_number (λ r. as_u32 r.faction) (λ r. r.text) p.reports);
 }
 
 -- ---- what has nothing as yet

@@ -1,4 +1,4 @@
--- What a contract sees of a campaign.
+-- The value of a campaign in contracts.
 use Rattle.std.specs.Prelude.{◌==◌, ◌+◌, not, if◌then◌else◌, List, [], ℕ, ℤ, Bool, true, refl}
 use Rattle.std.specs.Ordering.{nat_cmp}
 use Rattle.std.specs.Coded.{Coded, code_by, coded×, coded_ℕ, coded_ℤ, coded_list}
@@ -14,8 +14,8 @@ use Rattle.atl_records.specs.contracts.records.Structure as structure
 use Rattle.atl_records.specs.contracts.records.Unit as unit
 use Rattle.atl_records.specs.declared.books.Entry.{Entry}
 use Rattle.atl_records.specs.declared.books.Thing.{Thing}
-use Rattle.atl_records.specs.Books.{with_booked}
-use Rattle.atl_records.specs.Held.{with_amount_of}
+use Rattle.atl_records.specs.Books.{after_booking}
+use Rattle.atl_records.specs.Holdings.{with_amount_of}
 use Rattle.atl_state.specs.Marks.{Marks, marks_code, no_marks}
 
 -- The month last closed, the moderator's pass text, the numbers that come next; factions, regions, units and structures by their numbers; mail and reports by the factions' numbers; and the books.
@@ -170,7 +170,7 @@ with_month c n = record c { month = n }
 
 -- so much more of a thing under an entry of the books
 abbrev pub with_amount : CampaignValue → Entry → Thing → ℤ → CampaignValue
-with_amount c e t n = record c { books = with_booked c.books e t n }
+with_amount c e t n = record c { books = after_booking c.books e t n }
 
 -- the campaign without mail
 abbrev pub without_mail : CampaignValue → CampaignValue

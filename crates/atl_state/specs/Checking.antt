@@ -1,4 +1,5 @@
--- The rules that the rows of a campaign's tables keep, by their numbers.
+-- The rules of the tables, by number, and which rule is the first that rows break. See docs/FORMATS.md, "Rules of the
+-- tables".
 use Rattle.std.specs.Prelude.{◌≡◌, ◌≤◌, ℕ, ◌<◌, pos, IsTrue, Result, Ok, Err, ⊤}
 use Rattle.std.specs.List.{list_all}
 use Rattle.atl_tables.specs.Worlds.{WorldValue}
@@ -11,12 +12,12 @@ use Rattle.atl_state.specs.declared.checking.CheckFault.TheVariants.{Damaged, Me
 use Rattle.atl_state.specs.declared.checking.Rule.{Rule}
 use Rattle.atl_state.specs.declared.checking.Rule.TheVariants.{OneRow, Ranges, Names, Known, Next, Days, Gone, Owners, Water, Guards, Books, Mail}
 use Rattle.atl_state.specs.declared.parts.Parts.{Parts}
-use Rattle.atl_records.specs.Books.{amount_in, entry_place}
+use Rattle.atl_records.specs.Books.{amount_in, entry_index}
 use Rattle.atl_state.specs.FromRows.{campaign_of}
 use Rattle.atl_state.specs.Good.{AreKnown, AreNumbered, AreDays, GoneHaveNone, NoneAreGone, AreOwned, AreAfloat, AreOfOneFaction, guards, IsMail, AreReported, HasNoStocks, IsGood}
 use Rattle.atl_records.specs.Limits.{first_entry_count}
 use Rattle.atl_state.specs.Marks.{no_marks}
-use Rattle.atl_state.specs.RowRules.{is_one_head, are_of_format, AreRowsInRange, AreRowsNamed, is_of_unit, is_of_market, is_booked}
+use Rattle.atl_state.specs.RowRules.{is_one_campaign_row, are_of_format, AreRowsInRange, AreRowsNamed, is_of_unit, is_of_market, is_booked}
 use Rattle.atl_state.specs.Rows.{AreRowsOf}
 use Rattle.atl_state.specs.Campaign.{CampaignValue, MarkedCampaign}
 use Rattle.atl_state.specs.Totals.{Balances}
@@ -37,7 +38,7 @@ rule_number Mail = 12
 
 -- what a rule says of the rows of a format, and of the campaign that they say
 abbrev pub Keeps : Format → WorldValue → Parts → Rule → Type 0
-Keeps f w p OneRow = IsTrue (is_one_head f p.campaign) × IsTrue (are_of_format f p.markets)
+Keeps f w p OneRow = IsTrue (is_one_campaign_row f p.campaign) × IsTrue (are_of_format f p.markets)
 Keeps f w p Ranges = AreRowsInRange w p
 Keeps f w p Names = AreRowsNamed p
 Keeps f w p Known = AreKnown w (campaign_of w p) × IsTrue (list_all (is_of_unit (campaign_of w p)) p.has) × IsTrue (list_all (is_of_market w) p.markets)
@@ -61,7 +62,7 @@ pub record IsFirstBroken (f : Format) (w : WorldValue) (p : Parts) (r : Rule) : 
 -- a campaign that has nothing in stock, and no amounts under the entries of markets
 pub record IsWithoutMarkets (c : CampaignValue) : Type 0 where
   pub stocks : HasNoStocks c
-  pub entries : (e : Entry) (t : Thing) → first_entry_count ≤ entry_place e → amount_in c.books e t ≡ pos 0
+  pub entries : (e : Entry) (t : Thing) → first_entry_count ≤ entry_index e → amount_in c.books e t ≡ pos 0
 
 -- what the tables of a format can hold
 abbrev pub Fits : Format → CampaignValue → Type 0

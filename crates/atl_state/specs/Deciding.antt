@@ -1,4 +1,4 @@
--- For proofs alone: who owns a structure, and who holds a region.
+-- For proofs alone: how the code decides that structures have their owners and regions one guarding faction.
 use Rattle.std.specs.Prelude.{◌≡◌, ◌≢◌, ◌==◌, ◌&&◌, ℕ, Bool, true, List, [], ◌∷◌, ⊤, Option, Some, None, option_and_then, if◌then◌else◌}
 use Rattle.std.specs.Option.{option_or}
 use Rattle.std.specs.FinMap.{get}

@@ -1,4 +1,4 @@
--- Which campaigns the first phases of a month may be given.
+-- A law: good campaigns suit the phases up to RECRUIT.
 use Rattle.atl_tables.specs.Worlds.{WorldValue}
 use Rattle.atl_state.specs.Campaign.{CampaignValue}
 use Rattle.atl_state.specs.Good.{IsEarly, IsGood, IsSound}

@@ -1,4 +1,4 @@
--- The campaign that is founded.
+-- The campaign right after founding. See docs/RULES.md, "Founding".
 use Rattle.std.specs.Prelude.{◌+◌, List, length, ℕ, pos}
 use Rattle.std.specs.FinMap.{empty}
 use Rattle.atl_tables.specs.Worlds.{WorldValue}
@@ -7,7 +7,7 @@ use Rattle.atl_tables.specs.declared.world.RegionPlan.{RegionPlan}
 use Rattle.atl_records.specs.declared.books.Entry.TheVariants.{Founding}
 use Rattle.atl_records.specs.declared.books.Thing.TheVariants.{Money, People}
 use Rattle.atl_records.specs.declared.records.Region.{Region}
-use Rattle.atl_records.specs.Books.{with_booked, no_amounts}
+use Rattle.atl_records.specs.Books.{after_booking, no_amounts}
 use Rattle.atl_state.specs.Campaign.{CampaignValue, nothing}
 
 -- a region as it is founded, with nothing in stock
@@ -23,5 +23,5 @@ unfoldable pub founded_of : WorldValue → List ℕ → CampaignValue
 founded_of w pass = let regions = mapped founded_region w.regions in record nothing {
   pass = pass;
   regions = regions;
-  books = with_booked (with_booked (no_amounts (things_of w)) Founding Money (pos (sum_over (λ r. r.money) regions))) Founding People (pos (sum_over (λ r. r.peasants) regions));
+  books = after_booking (after_booking (no_amounts (things_of w)) Founding Money (pos (sum_over (λ r. r.money) regions))) Founding People (pos (sum_over (λ r. r.peasants) regions));
 }

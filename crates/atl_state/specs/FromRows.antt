@@ -1,11 +1,11 @@
--- The campaign that rows say, whatever they are.
+-- The campaign that rows stand for, whether or not they keep the rules.
 use Rattle.std.specs.Prelude.{◌-◌, ℕ, ℤ, pos, negsuc, Bool, not, ◌==◌, ◌&&◌, nat_le, min, List, [], ◌∷◌, filter, slice_index_or, if◌then◌else◌}
 use Rattle.std.specs.Ordering.{nat_cmp}
 use Rattle.std.specs.FinMap.{FinMap, empty, insert}
 use Rattle.atl_tables.specs.Worlds.{WorldValue}
 use Rattle.atl_records.specs.Limits.{entry_count, most_u16, most_u32}
 use Rattle.atl_state.specs.declared.parts.Parts.{Parts}
-use Rattle.atl_state.specs.declared.parts.StoredHead.{StoredHead}
+use Rattle.atl_state.specs.declared.parts.StoredCampaignRow.{StoredCampaignRow}
 use Rattle.atl_state.specs.declared.parts.StoredFaction.{StoredFaction}
 use Rattle.atl_state.specs.declared.parts.StoredRegion.{StoredRegion}
 use Rattle.atl_state.specs.declared.parts.StoredUnit.{StoredUnit}
@@ -25,16 +25,16 @@ use Rattle.atl_state.specs.Campaign.{CampaignValue}
 -- ---- one value
 
 -- a number from 0 to the most; any other is read as the most
-abbrev pub clamped : ℕ → ℤ → ℕ
-clamped most (pos n) = min n most
-clamped most (negsuc n) = most
+abbrev pub clamp : ℕ → ℤ → ℕ
+clamp most (pos n) = min n most
+clamp most (negsuc n) = most
 
 -- of 32 bits: what doesn't fit is greater than all limits, and so stands for nothing
 abbrev pub as_u32 : ℤ → ℕ
-as_u32 z = clamped most_u32 z
+as_u32 z = clamp most_u32 z
 
 abbrev pub as_u16 : ℤ → ℕ
-as_u16 z = clamped most_u16 z
+as_u16 z = clamp most_u16 z
 
 abbrev pub is_set : ℤ → Bool
 is_set z = not (is_zero z)
@@ -102,19 +102,19 @@ put_amounts (r ∷ rs) books = put_amounts rs (with_row books r)
 -- ---- all of them
 
 -- what counts where there is no row of the campaign's own
-abbrev pub no_head : StoredHead
-no_head = record { id = pos 0; format = pos 0; month = pos 0; next_faction = pos 0; next_unit = pos 0; next_structure = pos 0; pass = [] }
+abbrev pub no_campaign_row : StoredCampaignRow
+no_campaign_row = record { id = pos 0; format = pos 0; month = pos 0; next_faction = pos 0; next_unit = pos 0; next_structure = pos 0; pass = [] }
 
-abbrev pub head_of : Parts → StoredHead
-head_of p = slice_index_or p.campaign 0 no_head
+abbrev pub campaign_row_of : Parts → StoredCampaignRow
+campaign_row_of p = slice_index_or p.campaign 0 no_campaign_row
 
 unfoldable pub campaign_of : WorldValue → Parts → CampaignValue
 campaign_of w p = record {
-  month = as_u32 (head_of p).month;
-  pass = (head_of p).pass;
-  next_faction = as_u32 (head_of p).next_faction;
-  next_unit = as_u32 (head_of p).next_unit;
-  next_structure = as_u32 (head_of p).next_structure;
+  month = as_u32 (campaign_row_of p).month;
+  pass = (campaign_row_of p).pass;
+  next_faction = as_u32 (campaign_row_of p).next_faction;
+  next_unit = as_u32 (campaign_row_of p).next_unit;
+  next_structure = as_u32 (campaign_row_of p).next_structure;
   factions = by_number (λ r. as_u32 r.number) faction_of p.factions;
   regions = by_number (λ r. as_u32 r.number) (region_of p.markets) p.regions;
   units = by_number (λ r. as_u32 r.number) (unit_of p.has) p.units;

@@ -1,4 +1,4 @@
--- What is true of every campaign that commands reach, and of one within a month. Each record is one of the rules.
+-- The invariants of a campaign: after each command, and within a month. Each record is one rule.
 use Rattle.std.specs.Prelude.{◌≡◌, ◌≢◌, ◌≤◌, ◌<◌, ◌+◌, ◌*◌, ◌&&◌, ◌↔◌, ℕ, Bool, List, [], IsTrue, true, false, nat_lt, length, Some, None, IsSome}
 use Rattle.std.specs.Ordering.{nat_cmp}
 use Rattle.std.specs.FinMap.{FinMap, empty, get, len}
@@ -18,7 +18,7 @@ use Rattle.atl_records.specs.declared.records.Structure.{Structure}
 use Rattle.atl_records.specs.declared.records.Unit.{Unit}
 use Rattle.atl_records.specs.Books.{amount_in, IsGrid, IsWithin}
 use Rattle.atl_state.specs.Founding.{things_of}
-use Rattle.atl_records.specs.Held.{IsHolding}
+use Rattle.atl_records.specs.Holdings.{IsHolding}
 use Rattle.atl_state.specs.Campaign.{CampaignValue, numbers_of}
 use Rattle.atl_state.specs.Stocks.{stock_limit}
 use Rattle.atl_state.specs.Totals.{Balances}

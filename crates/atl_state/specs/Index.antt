@@ -1,9 +1,9 @@
--- For proofs alone: places, each with a number and the slot that it leads to.
+-- For proofs alone: the numbers of an index, and the slots that they lead to.
 use Rattle.std.specs.Prelude.{ℕ, List, map}
-use Rattle.atl_state.specs.declared.index.Place.{Place}
+use Rattle.atl_state.specs.declared.index.IndexEntry.{IndexEntry}
 
-abbrev pub numbers_of : List Place → List ℕ
+abbrev pub numbers_of : List IndexEntry → List ℕ
 numbers_of = map (λ p. p.number)
 
-abbrev pub slots_of : List Place → List (ℕ × ℕ)
+abbrev pub slots_of : List IndexEntry → List (ℕ × ℕ)
 slots_of = map (λ p. (p.number, p.slot))

@@ -1,4 +1,4 @@
--- What joining makes of a campaign.
+-- What a join changes in a campaign. See docs/RULES.md, "Joining".
 use Rattle.std.specs.Prelude.{◌≡◌, ◌+◌, ◌%◌, ◌||◌, ◌++◌, List, ℕ, pos, Bool, false, nat_le, nat_lt, nat_eq, codes, length, slice_index, if◌then◌else◌, Result, Ok, Err}
 use Rattle.std.specs.List.{list_any}
 use Rattle.std.specs.Fmt.{decimal}
@@ -13,7 +13,7 @@ use Rattle.atl_records.specs.declared.records.Faction.{Faction}
 use Rattle.atl_records.specs.declared.records.Unit.{Unit}
 use Rattle.atl_records.specs.declared.records.JoinFault.{JoinFault}
 use Rattle.atl_records.specs.declared.records.JoinFault.TheVariants.{NameTaken, Full, Memory}
-use Rattle.atl_records.specs.Books.{with_booked}
+use Rattle.atl_records.specs.Books.{after_booking}
 use Rattle.atl_state.specs.Campaign.{CampaignValue}
 
 -- some faction ever joined under this name
@@ -47,7 +47,7 @@ joined w name pass word c = record c {
   next_unit = c.next_unit + 1;
   factions = insert c.factions c.next_faction (new_faction c.next_faction name pass);
   units = insert c.units c.next_unit (first_unit w word c);
-  books = with_booked (with_booked c.books Joining Money (pos w.rules.start_money)) Joining People (pos 1);
+  books = after_booking (after_booking c.books Joining Money (pos w.rules.start_money)) Joining People (pos 1);
 }
 
 -- what joining makes of a campaign, and the numbers of the faction and its unit

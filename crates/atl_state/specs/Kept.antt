@@ -1,15 +1,16 @@
--- For proofs alone: what a campaign keeps beside its parts, so that a look-up need not go over all units, and marking takes no memory.
+-- For proofs alone: lists of units that a campaign keeps, so that a look-up need not go over all units, and room for
+-- marks.
 use Rattle.std.specs.Prelude.{◌≡◌, ◌==◌, ◌≤◌, ◌*◌, ℕ, ℤ, List, [], length, unwrap_or, Some, None, if◌then◌else◌}
 use Rattle.std.specs.Ordering.{nat_cmp}
 use Rattle.std.specs.FinMap.{FinMap, get, insert, remove}
-use Rattle.atl_tables.specs.Marked.{Marked}
+use Rattle.atl_tables.specs.RoomySets.{RoomySet}
 use Rattle.atl_tables.specs.Sums.{numbers_where}
 use Rattle.atl_records.specs.Limits.{entry_count}
 use Rattle.atl_state.specs.Marks.{AreOfThings}
 use Rattle.atl_records.specs.declared.records.Unit.{Unit}
 use Rattle.atl_state.specs.Ordered.{put_number, take_number}
 use Rattle.atl_state.specs.Campaign.{numbers_inside}
-use Rattle.atl_state.specs.declared.lists.Listing.{Listing}
+use Rattle.atl_state.specs.declared.lists.ListKeys.{ListKeys}
 use Rattle.atl_state.specs.declared.lists.UnitLists.{UnitLists}
 
 -- the list under a number; one that is absent is empty
@@ -47,35 +48,35 @@ pub record AreUnitLists (units : FinMap nat_cmp Unit) (lists : UnitLists) : Type
   pub structures : AreInsideLists units lists.by_structure
 
 -- where a unit is listed
-abbrev pub listing_of : Unit → Listing
-listing_of u = record { faction = u.faction; region = u.region; structure = u.structure }
+abbrev pub list_keys_of : Unit → ListKeys
+list_keys_of u = record { faction = u.faction; region = u.region; structure = u.structure }
 
 -- a unit that comes is listed
-abbrev pub ListsUnit : ℕ → Listing → UnitLists → UnitLists → Type 0
-ListsUnit n l old new = (units : FinMap nat_cmp Unit) (u : Unit) → listing_of u ≡ l → get units n ≡ None → AreUnitLists units old → AreUnitLists (insert units n u) new
+abbrev pub ListsUnit : ℕ → ListKeys → UnitLists → UnitLists → Type 0
+ListsUnit n l old new = (units : FinMap nat_cmp Unit) (u : Unit) → list_keys_of u ≡ l → get units n ≡ None → AreUnitLists units old → AreUnitLists (insert units n u) new
 
 -- as before, where no unit has this number
 abbrev pub KeepsLists : ℕ → UnitLists → UnitLists → Type 0
 KeepsLists n old new = (units : FinMap nat_cmp Unit) → get units n ≡ None → AreUnitLists units old → AreUnitLists units new
 
 -- a unit that goes is listed no more
-abbrev pub UnlistsUnit : ℕ → Listing → UnitLists → UnitLists → Type 0
-UnlistsUnit n l old new = (units : FinMap nat_cmp Unit) (u : Unit) → listing_of u ≡ l → get units n ≡ Some u → AreUnitLists units old → AreUnitLists (remove units n) new
+abbrev pub UnlistsUnit : ℕ → ListKeys → UnitLists → UnitLists → Type 0
+UnlistsUnit n l old new = (units : FinMap nat_cmp Unit) (u : Unit) → list_keys_of u ≡ l → get units n ≡ Some u → AreUnitLists units old → AreUnitLists (remove units n) new
 
 -- as before, whatever units there are
 abbrev pub KeepsAll : UnitLists → UnitLists → Type 0
 KeepsAll old new = (units : FinMap nat_cmp Unit) → AreUnitLists units old → AreUnitLists units new
 
 -- a unit that is listed in one place is then listed in another
-abbrev pub RelistsUnit : ℕ → Listing → Listing → UnitLists → UnitLists → Type 0
-RelistsUnit n from to old new = (units : FinMap nat_cmp Unit) (u v : Unit) → listing_of u ≡ from → listing_of v ≡ to → get units n ≡ Some u → AreUnitLists units old → AreUnitLists (insert units n v) new
+abbrev pub RelistsUnit : ℕ → ListKeys → ListKeys → UnitLists → UnitLists → Type 0
+RelistsUnit n from to old new = (units : FinMap nat_cmp Unit) (u v : Unit) → list_keys_of u ≡ from → list_keys_of v ≡ to → get units n ≡ Some u → AreUnitLists units old → AreUnitLists (insert units n v) new
 
 -- only amounts of so many things are marked, and there is room to mark each
-pub record MarksAmounts (things : ℕ) (marks : Marked) : Type 0 where
+pub record MarksAmounts (things : ℕ) (marks : RoomySet) : Type 0 where
   pub room : entry_count * things ≤ marks.room
   pub numbers : AreOfThings things marks.numbers
 
 -- the lists of the units, and the marks of amounts
-pub record AreKept (units : FinMap nat_cmp Unit) (lists : UnitLists) (books : List (List ℤ)) (marks : Marked) : Type 0 where
-  pub listed : AreUnitLists units lists
+pub record AreKept (units : FinMap nat_cmp Unit) (lists : UnitLists) (books : List (List ℤ)) (marks : RoomySet) : Type 0 where
+  pub numbers_under : AreUnitLists units lists
   pub amounts : MarksAmounts (length books) marks

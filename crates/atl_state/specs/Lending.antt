@@ -2,7 +2,7 @@
 use Rattle.std.specs.Prelude.{ℕ, Option, Some, None}
 use Rattle.std.specs.FinMap.{get, insert}
 use Rattle.std.specs.Borrow.{LendsIf, MutBor, Fml}
-use Rattle.atl_records.specs.Held.{Held}
+use Rattle.atl_records.specs.Holdings.{HoldingValue}
 use Rattle.atl_state.specs.Campaign.{CampaignValue, MarkedCampaign}
 use Rattle.atl_state.specs.Marking.{mark_unit}
 use Rattle.atl_records.specs.declared.records.Unit.{Unit}
@@ -10,17 +10,17 @@ use Rattle.atl_state.specs.contracts.campaign.Campaign.{the_row}
 use Rattle.atl_records.specs.contracts.holding.Holding as holding
 
 -- the campaign with another holding of a unit, where that unit is there
-abbrev pub with_held : CampaignValue → ℕ → Held → Option Unit → CampaignValue
+abbrev pub with_held : CampaignValue → ℕ → HoldingValue → Option Unit → CampaignValue
 with_held c n h None = c
 with_held c n h (Some u) = record c { units = insert c.units n (record u { holding = h }) }
 
-abbrev pub with_holding : CampaignValue → ℕ → Held → CampaignValue
+abbrev pub with_holding : CampaignValue → ℕ → HoldingValue → CampaignValue
 with_holding c n h = with_held c n h (get c.units n)
 
 -- the campaign after a unit's holding was lent and came back as h
-abbrev pub lent : MarkedCampaign → ℕ → Held → MarkedCampaign
+abbrev pub lent : MarkedCampaign → ℕ → HoldingValue → MarkedCampaign
 lent c n h = record { value = with_holding c.value n h; marks = mark_unit c n }
 
 -- c ends with the last holding behind r, or as it was
-abbrev pub LendsHolding : MutBor MarkedCampaign → ℕ → Option (MutBor Held) → Fml
+abbrev pub LendsHolding : MutBor MarkedCampaign → ℕ → Option (MutBor HoldingValue) → Fml
 LendsHolding c n r = LendsIf the_row holding.the_row c r (lent c.now n) c.now

@@ -1,11 +1,11 @@
--- For proofs alone: rising lists of numbers, as numbers come and go.
+-- For proofs alone: sorted lists of numbers, as numbers are put in and taken out.
 use Rattle.std.specs.Prelude.{ℕ, ◌≤◌, nat_le, ⊤, List, [], ◌∷◌, ◌++◌, take, drop}
 use Rattle.std.specs.List.{AllByRecursion, position_or_len, remove}
 
 -- no number is below one before it
-abbrev pub IsRising : List ℕ → Type 0
-IsRising [] = ⊤
-IsRising (x ∷ xs) = AllByRecursion (λ y. x ≤ y) xs × IsRising xs
+abbrev pub IsSorted : List ℕ → Type 0
+IsSorted [] = ⊤
+IsSorted (x ∷ xs) = AllByRecursion (λ y. x ≤ y) xs × IsSorted xs
 
 -- the place of the first number that is not below another
 abbrev pub first_above : ℕ → List ℕ → ℕ

@@ -1,4 +1,4 @@
--- Where units are, and who owns the structures that they leave and enter.
+-- Where units are, and who owns the structures that they leave and enter. See docs/RULES.md, "Owners".
 use Rattle.std.specs.Prelude.{◌==◌, ℕ, List, [], ◌∷◌, filter, not, Bool, false, Option, Some, None, if◌then◌else◌}
 use Rattle.std.specs.FinMap.{get, remove}
 use Rattle.atl_records.specs.declared.records.Structure.{Structure}
@@ -31,8 +31,8 @@ is_owned_by None n = false
 is_owned_by (Some x) n = x.owner == n
 
 -- a structure that goes from one owner to another, where the former owns it
-abbrev pub handed : CampaignValue → ℕ → ℕ → ℕ → CampaignValue
-handed c s from to = if is_owned_by (get c.structures s) from then with_owner c s to else c
+abbrev pub after_handover : CampaignValue → ℕ → ℕ → ℕ → CampaignValue
+after_handover c s from to = if is_owned_by (get c.structures s) from then with_owner c s to else c
 
 -- the unit's place alone
 abbrev pub placed : CampaignValue → ℕ → ℕ → ℕ → CampaignValue
@@ -40,7 +40,7 @@ placed c n r s = unit_changed (λ u. record u { region = r; structure = s }) c n
 
 abbrev pub with_place_at : CampaignValue → ℕ → ℕ → ℕ → Option Unit → CampaignValue
 with_place_at c n r s None = c
-with_place_at c n r s (Some u) = if u.structure == s then placed c n r s else handed (handed (placed c n r s) u.structure n (heir c u.structure n)) s 0 n
+with_place_at c n r s (Some u) = if u.structure == s then placed c n r s else after_handover (after_handover (placed c n r s) u.structure n (heir c u.structure n)) s 0 n
 
 -- a unit in another place. Where it leaves a structure that it owns, another owns it; where it enters one without an owner, the unit owns it
 unfoldable pub with_place : CampaignValue → ℕ → ℕ → ℕ → CampaignValue
@@ -48,7 +48,7 @@ with_place c n r s = with_place_at c n r s (get c.units n)
 
 abbrev pub without_unit_at : CampaignValue → ℕ → Option Unit → CampaignValue
 without_unit_at c n None = c
-without_unit_at c n (Some u) = handed (record c { units = remove c.units n }) u.structure n (heir c u.structure n)
+without_unit_at c n (Some u) = after_handover (record c { units = remove c.units n }) u.structure n (heir c u.structure n)
 
 -- the campaign without a unit, which leaves its structure
 unfoldable pub without_unit : CampaignValue → ℕ → CampaignValue

@@ -1,4 +1,5 @@
--- What a campaign sees of its units: by their numbers, and with change marks: on units, on their rows, on all their goods (their items and days), and on single items and skills.
+-- The units of a campaign with change marks: on units, on their rows, on all their goods, and on single items and
+-- skills.
 use Rattle.std.specs.Prelude.{ℕ, refl, Option, Some, None}
 use Rattle.std.specs.Ordering.{nat_cmp}
 use Rattle.std.specs.Coded.{Coded, code_by, coded×, coded_ℕ}

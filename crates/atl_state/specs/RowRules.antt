@@ -1,4 +1,4 @@
--- The rules that are said of rows, before a campaign is made of them: one row of the campaign's own, numbers in their ranges, names.
+-- Rules that are checked on rows, before a campaign is made: one campaign row, numbers in range, names.
 use Rattle.std.specs.Prelude.{◌+◌, ◌*◌, ◌==◌, ℕ, ℤ, pos, negsuc, Bool, false, true, not, ◌&&◌, ◌||◌, nat_le, nat_lt, nat_abs, is_some, IsTrue, List, [], ◌∷◌, length, map}
 use Rattle.std.specs.List.{list_all, IsDistinct}
 use Rattle.std.specs.declared.cmp.Ordering.{Ordering}
@@ -14,7 +14,7 @@ use Rattle.atl_tables.specs.declared.format.Format.TheVariants.{First, Second}
 use Rattle.atl_orders.specs.Limits.{last_faction}
 use Rattle.atl_records.specs.Limits.{entries_in, holding_limit, last_month, last_unit, men_limit, most_in_joining, most_in_month, most_structures, most_units}
 use Rattle.atl_state.specs.declared.parts.Parts.{Parts}
-use Rattle.atl_state.specs.declared.parts.StoredHead.{StoredHead}
+use Rattle.atl_state.specs.declared.parts.StoredCampaignRow.{StoredCampaignRow}
 use Rattle.atl_state.specs.declared.parts.StoredFaction.{StoredFaction}
 use Rattle.atl_state.specs.declared.parts.StoredRegion.{StoredRegion}
 use Rattle.atl_state.specs.declared.parts.StoredUnit.{StoredUnit}
@@ -24,7 +24,7 @@ use Rattle.atl_state.specs.declared.parts.StoredMail.{StoredMail}
 use Rattle.atl_state.specs.declared.parts.StoredReport.{StoredReport}
 use Rattle.atl_state.specs.declared.parts.StoredBooks.{StoredBooks}
 use Rattle.atl_state.specs.declared.parts.StoredMarket.{StoredMarket}
-use Rattle.atl_state.specs.FromRows.{as_u32, as_u16, head_of}
+use Rattle.atl_state.specs.FromRows.{as_u32, as_u16, campaign_row_of}
 use Rattle.atl_state.specs.Founding.{things_of}
 use Rattle.atl_state.specs.Campaign.{CampaignValue}
 use Rattle.std.specs.FinMap.{get}
@@ -39,10 +39,10 @@ is_from low high (negsuc n) = false
 -- ---- the campaign's own row
 
 -- there is one, its id is 1, and its format is this one
-abbrev pub is_one_head : Format → List StoredHead → Bool
-is_one_head f [] = false
-is_one_head f (h ∷ []) = is_from 1 1 h.id && is_from (format_number f) (format_number f) h.format
-is_one_head f (h ∷ other ∷ rows) = false
+abbrev pub is_one_campaign_row : Format → List StoredCampaignRow → Bool
+is_one_campaign_row f [] = false
+is_one_campaign_row f (h ∷ []) = is_from 1 1 h.id && is_from (format_number f) (format_number f) h.format
+is_one_campaign_row f (h ∷ other ∷ rows) = false
 
 -- the first format has no rows of markets
 abbrev pub are_of_format : Format → List StoredMarket → Bool
@@ -55,8 +55,8 @@ are_of_format Second rows = true
 abbrev pub is_within : ℕ → ℤ → Bool
 is_within bound z = nat_le (nat_abs z) bound
 
-abbrev pub head_in_range : StoredHead → Bool
-head_in_range h = ((is_from 0 last_month h.month && is_from 1 (last_faction + 1) h.next_faction) && is_from 1 (last_unit + 1) h.next_unit) && is_from 1 (most_structures + 1) h.next_structure
+abbrev pub campaign_row_in_range : StoredCampaignRow → Bool
+campaign_row_in_range h = ((is_from 0 last_month h.month && is_from 1 (last_faction + 1) h.next_faction) && is_from 1 (last_unit + 1) h.next_unit) && is_from 1 (most_structures + 1) h.next_structure
 
 abbrev pub faction_in_range : StoredFaction → Bool
 faction_in_range r = is_from 1 last_faction r.number && is_from 0 1 r.gone
@@ -76,7 +76,7 @@ structure_in_range w r = is_from 1 most_structures r.number && is_from 1 (size_o
 
 -- no amount of the books is greater in size
 abbrev pub books_bound : Parts → ℕ
-books_bound p = most_in_month * (as_u32 (head_of p).month + 1) + most_in_joining * length p.factions
+books_bound p = most_in_month * (as_u32 (campaign_row_of p).month + 1) + most_in_joining * length p.factions
 
 abbrev pub books_in_range : ℕ → StoredBooks → Bool
 books_in_range bound r = not (is_zero r.amount) && is_within bound r.amount
@@ -149,7 +149,7 @@ abbrev pub people_in_range : Parts → Bool
 people_in_range p = ((list_all faction_in_range p.factions && list_all region_in_range p.regions) && list_all unit_in_range p.units) && list_all has_in_range p.has
 
 abbrev pub numbers_in_range : WorldValue → Parts → Bool
-numbers_in_range w p = (((head_in_range (head_of p) && people_in_range p) && list_all (structure_in_range w) p.structures) && list_all (books_in_range (books_bound p)) p.books) && list_all (market_in_range w) p.markets
+numbers_in_range w p = (((campaign_row_in_range (campaign_row_of p) && people_in_range p) && list_all (structure_in_range w) p.structures) && list_all (books_in_range (books_bound p)) p.books) && list_all (market_in_range w) p.markets
 
 pub record AreRowsInRange (w : WorldValue) (p : Parts) : Type 0 where
   pub keys : AreKeyed p
@@ -163,7 +163,7 @@ faction_named r = (name_ok r.joined_as && name_ok r.name) && pass_ok r.pass
 
 -- each is a name or a pass text
 abbrev pub are_named : Parts → Bool
-are_named p = ((pass_ok (head_of p).pass && list_all faction_named p.factions) && list_all (λ r. name_ok r.name) p.units) && list_all (λ r. name_ok r.name) p.structures
+are_named p = ((pass_ok (campaign_row_of p).pass && list_all faction_named p.factions) && list_all (λ r. name_ok r.name) p.units) && list_all (λ r. name_ok r.name) p.structures
 
 -- no two factions joined under one name
 abbrev pub HaveJoined : List StoredFaction → Type 0

@@ -1,4 +1,4 @@
--- The rows of a campaign in a format: of each table those that stand for it, in the order of their keys.
+-- The rows that a campaign has in each table of a format, in the order of their keys.
 use Rattle.std.specs.Prelude.{◌+◌, ◌++◌, ℕ, ℤ, pos, negsuc, Bool, true, false, not, ◌==◌, List, [], ◌∷◌, length, map, filter}
 use Rattle.std.specs.List.{range_with_len, flat_map}
 use Rattle.std.specs.List.Sorted.{IsPermutation}
@@ -8,7 +8,7 @@ use Rattle.atl_tables.specs.declared.format.Format.{Format}
 use Rattle.atl_tables.specs.declared.format.Format.TheVariants.{First, Second}
 use Rattle.atl_records.specs.Limits.{entry_count}
 use Rattle.atl_state.specs.declared.parts.Parts.{Parts}
-use Rattle.atl_state.specs.declared.parts.StoredHead.{StoredHead}
+use Rattle.atl_state.specs.declared.parts.StoredCampaignRow.{StoredCampaignRow}
 use Rattle.atl_state.specs.declared.parts.StoredFaction.{StoredFaction}
 use Rattle.atl_state.specs.declared.parts.StoredRegion.{StoredRegion}
 use Rattle.atl_state.specs.declared.parts.StoredUnit.{StoredUnit}
@@ -22,7 +22,7 @@ use Rattle.atl_records.specs.declared.records.Faction.{Faction}
 use Rattle.atl_records.specs.declared.records.Region.{Region}
 use Rattle.atl_records.specs.declared.records.Structure.{Structure}
 use Rattle.atl_records.specs.declared.records.Unit.{Unit}
-use Rattle.atl_records.specs.Held.{Held}
+use Rattle.atl_records.specs.Holdings.{HoldingValue}
 use Rattle.atl_state.specs.Campaign.{CampaignValue}
 use Rattle.atl_records.specs.Books.{amount_at}
 
@@ -34,8 +34,8 @@ flag false = pos 0
 -- ---- one row
 
 -- the campaign's own row: its id is 1
-abbrev pub head_row : Format → CampaignValue → StoredHead
-head_row f c = record { id = pos 1; format = pos (format_number f); month = pos c.month; next_faction = pos c.next_faction; next_unit = pos c.next_unit; next_structure = pos c.next_structure; pass = c.pass }
+abbrev pub campaign_row : Format → CampaignValue → StoredCampaignRow
+campaign_row f c = record { id = pos 1; format = pos (format_number f); month = pos c.month; next_faction = pos c.next_faction; next_unit = pos c.next_unit; next_structure = pos c.next_structure; pass = c.pass }
 
 abbrev pub faction_row : ℕ → Faction → StoredFaction
 faction_row n f = record { number = pos n; joined_as = f.joined_as; name = f.name; pass = f.pass; gone = flag f.gone }
@@ -82,12 +82,12 @@ abbrev pub amount_rows : {R : Type 0} → (R → ℤ) → (ℕ → ℕ → R) �
 amount_rows amount row es = filter (λ r. not (is_zero (amount r))) (rows_by row es)
 
 -- what a unit has of a sort, where it is not 0
-abbrev pub sort_rows : ℕ → ℕ → List (ℕ × ℕ) → List StoredHas
-sort_rows n sort es = amount_rows (λ r. r.amount) (has_row n sort) es
+abbrev pub kind_rows : ℕ → ℕ → List (ℕ × ℕ) → List StoredHas
+kind_rows n sort es = amount_rows (λ r. r.amount) (has_row n sort) es
 
 -- what a unit has: items, then days of study
-abbrev pub held_rows : ℕ → Held → List StoredHas
-held_rows n h = sort_rows n 0 (entries h.items) ++ sort_rows n 1 (entries h.days)
+abbrev pub held_rows : ℕ → HoldingValue → List StoredHas
+held_rows n h = kind_rows n 0 (entries h.items) ++ kind_rows n 1 (entries h.days)
 
 abbrev pub has_rows : List (ℕ × Unit) → List StoredHas
 has_rows es = flat_map (λ e. held_rows e.0 e.1.holding) es
@@ -113,7 +113,7 @@ market_rows Second es = flat_map (λ e. stock_rows e.0 (entries e.1.stocks)) es
 -- the rows of a campaign, each once
 unfoldable pub rows_of : Format → CampaignValue → Parts
 rows_of f c = record {
-  campaign = head_row f c ∷ [];
+  campaign = campaign_row f c ∷ [];
   factions = rows_by faction_row (entries c.factions);
   regions = rows_by region_row (entries c.regions);
   units = rows_by unit_row (entries c.units);

@@ -1,4 +1,4 @@
--- For proofs alone: what becomes of values in slots after a write through what they lend.
+-- For proofs alone: what slots hold after a write through a value that they lent.
 use Rattle.std.specs.Prelude.{ℕ, Option}
 use Rattle.std.specs.Ordering.{nat_cmp}
 use Rattle.std.specs.FinMap as map

@@ -1,4 +1,4 @@
--- For proofs alone: a map whose values stand in slots.
+-- For proofs alone: a map whose values are in slots.
 use Rattle.std.specs.Prelude.{◌≡◌, ℕ, true, is_some, List, [], ◌∷◌, Option, Some, None}
 use Rattle.std.specs.Ordering.{nat_cmp}
 use Rattle.std.specs.FinMap.{FinMap, get, entries, len, from_entries}
@@ -6,17 +6,17 @@ use Rattle.slab.specs.Slab as slab
 use Rattle.atl_records.specs.Every.{EachOf}
 
 module _ {V : Type 0} where
-  abbrev pub lodged_at : ℕ → Option V → List (ℕ × V) → List (ℕ × V)
-  lodged_at n None rest = rest
-  lodged_at n (Some v) rest = (n, v) ∷ rest
+  abbrev pub slot_entry_at : ℕ → Option V → List (ℕ × V) → List (ℕ × V)
+  slot_entry_at n None rest = rest
+  slot_entry_at n (Some v) rest = (n, v) ∷ rest
 
   -- each number with the value in its slot
-  abbrev pub lodged : List (ℕ × ℕ) → slab.Slab V → List (ℕ × V)
-  lodged [] s = []
-  lodged (e ∷ es) s = lodged_at e.0 (slab.get s e.1) (lodged es s)
+  abbrev pub slot_entries : List (ℕ × ℕ) → slab.Slab V → List (ℕ × V)
+  slot_entries [] s = []
+  slot_entries (e ∷ es) s = slot_entry_at e.0 (slab.get s e.1) (slot_entries es s)
 
   abbrev pub values_of : FinMap nat_cmp ℕ → slab.Slab V → FinMap nat_cmp V
-  values_of i s = from_entries (lodged (entries i) s)
+  values_of i s = from_entries (slot_entries (entries i) s)
 
   -- each slot that a number leads to has a value
   abbrev pub AreInUse : List (ℕ × ℕ) → slab.Slab V → Type 0
@@ -29,5 +29,5 @@ module _ {V : Type 0} where
 
   -- and no slot is in use to which no number leads
   pub record IsArena (i : FinMap nat_cmp ℕ) (s : slab.Slab V) : Type 0 where
-    pub lodged : AreLodged i s
+    pub slot_entries : AreLodged i s
     pub none_idle : slab.slab_len s ≡ len i

@@ -1,11 +1,11 @@
--- The stocks of the regions' markets.
+-- The stocks of the regions' markets. See docs/RULES.md, "Markets".
 use Rattle.std.specs.Prelude.{ℕ}
 use Rattle.std.specs.FinMap.{get}
 use Rattle.std.specs.Option.{option_map_or}
 use Rattle.atl_tables.specs.ByNumber.{market_of}
 use Rattle.atl_tables.specs.Limits.{most_amount}
 use Rattle.atl_tables.specs.Worlds.{WorldValue}
-use Rattle.atl_records.specs.Held.{amount_of}
+use Rattle.atl_records.specs.Holdings.{amount_of}
 use Rattle.atl_state.specs.Campaign.{CampaignValue}
 
 -- how much of an item a region has in stock

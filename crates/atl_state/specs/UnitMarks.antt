@@ -1,4 +1,4 @@
--- For proofs alone: how the marks on units and on their goods are kept.
+-- For proofs alone: how marks on units and on their goods are stored.
 use Rattle.std.specs.Prelude.{ℕ, Option}
 use Rattle.std.specs.FinMap as map
 use Rattle.std.specs.FinSet as set

@@ -1,11 +1,12 @@
--- For proofs alone: there is room for a mark on each unit, on its row and on its goods, and what of a unit is marked stands only with the unit's mark.
+-- For proofs alone: there is room for a mark on each unit, its row and its goods, and a marked part has its unit
+-- marked.
 use Rattle.std.specs.Ordering.{nat_cmp}
 use Rattle.std.specs.FinMap.{FinMap}
-use Rattle.atl_tables.specs.Marked.{Marked, HasRoom}
+use Rattle.atl_tables.specs.RoomySets.{RoomySet, HasRoom}
 use Rattle.atl_records.specs.declared.records.Unit.{Unit}
 use Rattle.atl_state.specs.Marks.{Things, AreWithin}
 
-pub record AreUnits (units : FinMap nat_cmp Unit) (marks rows goods : Marked) (items skills : Things) : Type 0 where
+pub record AreUnits (units : FinMap nat_cmp Unit) (marks rows goods : RoomySet) (items skills : Things) : Type 0 where
   pub within : AreWithin marks.numbers rows.numbers goods.numbers items skills
   pub marks_fit : HasRoom units marks
   pub rows_fit : HasRoom units rows

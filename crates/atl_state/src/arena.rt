@@ -2,7 +2,7 @@
 ghost use Rattle.std.specs.Prelude.{◌≡◌, ◌<◌, ◌^◌, IfOk, OnOk, OnErr, None, option_copied};
 ghost use Rattle.std.specs.FinMap as map;
 
-use crate::index::{Index, Place};
+use crate::index::{Index, IndexEntry};
 use slab::Slab;
 use std::alloc::{AllocError, Global};
 use std::marker::Model;
@@ -151,7 +151,7 @@ impl<V: Drop> Arena<V> {
 /// The numbers with their values that are left to come, in rising order.
 #[derive(Drop)]
 pub struct SlotEntries<'a, V> {
-    places: Iter<'a, Place>,
+    places: Iter<'a, IndexEntry>,
     slots: &'a Slab<V>,
 }
 
@@ -159,11 +159,11 @@ impl<'a, V> Model for SlotEntries<'a, V> {
     ghost use Rattle.std.specs.Prelude.{List, ℕ};
     ghost use Rattle.std.specs.Slice.Iter.{iter_rest};
     ghost use Rattle.atl_state.specs.Index.{slots_of};
-    ghost use Rattle.atl_state.specs.Slots.{lodged, AreInUse};
+    ghost use Rattle.atl_state.specs.Slots.{slot_entries, AreInUse};
 
     ghost Value = { List (ℕ × V) };
 
-    ghost view = { λ a. lodged (slots_of (iter_rest a.places)) a.slots.now };
+    ghost view = { λ a. slot_entries (slots_of (iter_rest a.places)) a.slots.now };
 
     ghost invariant = { λ a. AreInUse (slots_of (iter_rest a.places)) a.slots.now };
 }

@@ -1,4 +1,4 @@
-//! A campaign made of rows.
+//! Builds the parts of a campaign from rows.
 mod books;
 mod goods;
 mod maps;
@@ -6,6 +6,6 @@ mod records;
 mod units;
 
 pub(crate) use books::books_of;
-pub(crate) use maps::{Tables, tables_of};
+pub(crate) use maps::{CampaignMaps, campaign_maps_of};
 pub(crate) use records::pass_of;
 pub(crate) use units::{lists_of, roster_of};

@@ -1,9 +1,9 @@
-//! The campaign.
+//! The campaign, and the calls that read it.
 ghost use Rattle.std.specs.Prelude.{◌≡◌, ◌<◌, IfOk, OnOk, OnErr, length};
 ghost use Rattle.std.specs.Option.{option_copied};
 ghost use Rattle.std.specs.FinMap as map;
 ghost use Rattle.atl_state.specs.Campaign.{active, numbers_in, numbers_of, numbers_inside, with_mail, with_report};
-ghost use Rattle.atl_records.specs.Books.{amount_in, thing_place};
+ghost use Rattle.atl_records.specs.Books.{amount_in, thing_index};
 ghost use Rattle.atl_state.specs.Stocks.{stock_of};
 ghost use Rattle.atl_state.specs.Totals.{total, IsCountable};
 ghost use Rattle.atl_state.specs.Marking.{mark_mail, mark_report};
@@ -19,12 +19,12 @@ mod placing;
 mod setting;
 
 use crate::arena::SlotEntries;
-use crate::lists::{UnitLists, listed};
+use crate::lists::{UnitLists, numbers_under};
 use crate::totals::{regions_total, units_total};
 use crate::units::Units;
-pub(crate) use assembling::assembled;
+pub(crate) use assembling::assemble;
 use atl_records::{Books, Entry, Faction, Holding, Region, Structure, Thing, Unit};
-use atl_tables::{Entries, Marks, Sequence, Text, Tracked, let_go};
+use atl_tables::{Entries, MarkedMap, Marks, Sequence, Text, let_go};
 pub use founding::founded;
 use std::alloc::{AllocError, Global};
 use std::marker::Model;
@@ -38,12 +38,12 @@ pub struct Campaign {
     next_faction: u32,
     next_unit: u32,
     next_structure: u32,
-    factions: Tracked<Faction>,
-    regions: Tracked<Region>,
+    factions: MarkedMap<Faction>,
+    regions: MarkedMap<Region>,
     units: Units,
-    structures: Tracked<Structure>,
-    mail: Tracked<Sequence<u8>>,
-    reports: Tracked<Text>,
+    structures: MarkedMap<Structure>,
+    mail: MarkedMap<Sequence<u8>>,
+    reports: MarkedMap<Text>,
     books: Books,
     // The numbers of the amounts of the books that changed, with room for each.
     amounts_marked: Marks,
@@ -297,7 +297,7 @@ impl Campaign {
 
     /// What came in of a thing under an entry so far, less what went: money, men and peasants, or pieces of an item.
     pub fn booked(&self, entry: Entry, thing: Thing) -> i64
-        requires { thing_place thing < length self.now.value.books }
+        requires { thing_index thing < length self.now.value.books }
         ensures { result ≡ amount_in self.now.value.books entry thing }
     {
         self.books.amount(entry, thing)
@@ -311,28 +311,29 @@ impl Campaign {
     pub fn in_region(&self, region: u32) -> &[u32]
         ensures { result.now ≡ numbers_in region self.now.value.units }
     {
-        listed(&self.lists.by_region, region)
+        numbers_under(&self.lists.by_region, region)
     }
 
     /// The numbers of the units of a faction, in rising order; none where there is no such faction, or it is gone.
     pub fn of_faction(&self, faction: u32) -> &[u32]
         ensures { result.now ≡ numbers_of faction self.now.value.units }
     {
-        listed(&self.lists.by_faction, faction)
+        numbers_under(&self.lists.by_faction, faction)
     }
 
     /// The numbers of the units inside a structure, in rising order; none where it is 0, which is no structure.
     pub fn inside(&self, structure: u32) -> &[u32]
         ensures { result.now ≡ numbers_inside structure self.now.value.units }
     {
-        listed(&self.lists.by_structure, structure)
+        numbers_under(&self.lists.by_structure, structure)
     }
 
     /// Lends a unit's holding, and marks the unit's row and all its goods; None, and no mark, where no unit has the number. Nothing else
     /// changes. It takes no memory.
     pub fn unit_mut(&mut self, number: u32) -> Option<&mut Holding>
         ensures* writes_back { sem 𝓛 (LendsHolding self.entry number result) }
-        ensures value { option_copied_mut result ≡ option_map (λ u. u.holding) (map.get self.old.value.units number) }
+        ensures value { option_copied_mut result
+            ≡ option_map (λ u. u.holding) (map.get self.old.value.units number) }
     {
         match self.units.get_mut(number) {
             Some(unit) => Some(&mut unit.holding),

@@ -1,6 +1,6 @@
-//! The rules of the tables, by which the rows of a campaign are judged.
-ghost use Rattle.std.specs.Prelude.{◌≡◌, IsTrue};
-ghost use Rattle.std.specs.Bool.{Decides};
+//! Checks the rows of a campaign by the rules of the tables. See docs/FORMATS.md, "Rules of the
+//! tables".
+ghost use Rattle.std.specs.Prelude.{◌≡◌, IsTrue, ◌↔◌};
 ghost use Rattle.std.specs.List.{list_all};
 ghost use Rattle.atl_tables.specs.Worlds.{IsWorld};
 ghost use Rattle.atl_tables.specs.declared.format.Format.TheVariants.{Second};
@@ -9,12 +9,12 @@ ghost use Rattle.atl_state.specs.Checking.{rule_number, Keeps, KeepsBelow, Passe
 ghost use Rattle.atl_state.specs.FromRows.{campaign_of};
 ghost use Rattle.atl_state.specs.Good.{AreKnown, IsMail, AreReported};
 ghost use Rattle.atl_records.specs.Limits.{entries_in};
-ghost use Rattle.atl_state.specs.RowRules.{is_one_head, are_of_format, is_of_unit, is_of_market, is_booked};
+ghost use Rattle.atl_state.specs.RowRules.{is_one_campaign_row, are_of_format, is_of_unit, is_of_market, is_booked};
 
-use crate::campaign::{Campaign, assembled};
+use crate::campaign::{Campaign, assemble};
 use crate::parts::{Parts, StoredBooks};
 use crate::row_rules::{
-    are_of_format, are_of_markets, as_u32, is_one_head, rows_in_range, rows_named,
+    are_of_format, are_of_markets, as_u32, is_one_campaign_row, rows_in_range, rows_named,
 };
 use crate::rules::{
     are_afloat, are_balanced, are_days, are_gone, are_guarded, are_known, are_mailings,
@@ -88,9 +88,11 @@ impl fmt::Display for CheckFault {
 impl Error for CheckFault {}
 
 fn keeps_one_row(format: Format, parts: &Parts) -> bool
-    ensures { Decides result (IsTrue (is_one_head format parts.now.campaign) × IsTrue (are_of_format format parts.now.markets)) }
+    ensures { IsTrue result ↔
+        (IsTrue (is_one_campaign_row format parts.now.campaign)
+        × IsTrue (are_of_format format parts.now.markets)) }
 {
-    is_one_head(format, parts.campaign.as_slice())
+    is_one_campaign_row(format, parts.campaign.as_slice())
         && are_of_format(format, parts.markets.as_slice())
 }
 
@@ -154,14 +156,19 @@ fn are_booked(format: Format, world: &World, parts: &Parts) -> bool
 
 /// Whether the rows that say how much there is of a thing name units and markets that are there.
 fn are_goods_known(world: &World, parts: &Parts, campaign: &Campaign) -> bool
-    ensures { Decides result (IsTrue (list_all (is_of_unit campaign.now.value) parts.now.has) × IsTrue (list_all (is_of_market world.now) parts.now.markets)) }
+    ensures { IsTrue result ↔
+        (IsTrue (list_all (is_of_unit campaign.now.value) parts.now.has)
+        × IsTrue (list_all (is_of_market world.now) parts.now.markets)) }
 {
     are_of_units(parts, campaign) && are_of_markets(world, parts.markets.as_slice())
 }
 
 fn keeps_known(world: &World, parts: &Parts, campaign: &Campaign) -> bool
     requires { campaign.now.value ≡ campaign_of world.now parts.now }
-    ensures { Decides result (AreKnown world.now (campaign_of world.now parts.now) × IsTrue (list_all (is_of_unit (campaign_of world.now parts.now)) parts.now.has) × IsTrue (list_all (is_of_market world.now) parts.now.markets)) }
+    ensures { IsTrue result ↔
+        (AreKnown world.now (campaign_of world.now parts.now)
+        × IsTrue (list_all (is_of_unit (campaign_of world.now parts.now)) parts.now.has)
+        × IsTrue (list_all (is_of_market world.now) parts.now.markets)) }
 {
     are_known(world, campaign) && are_goods_known(world, parts, campaign)
 }
@@ -169,14 +176,15 @@ fn keeps_known(world: &World, parts: &Parts, campaign: &Campaign) -> bool
 fn keeps_books(format: Format, world: &World, parts: &Parts, campaign: &Campaign) -> bool
     requires what { campaign.now.value ≡ campaign_of world.now parts.now }
     requires before { KeepsBelow format world.now parts.now 11 }
-    ensures { Decides result (Keeps format world.now parts.now rule.Books) }
+    ensures { IsTrue result ↔ (Keeps format world.now parts.now rule.Books) }
 {
     are_booked(format, world, parts) && are_balanced(world, campaign)
 }
 
 fn keeps_mail(world: &World, parts: &Parts, campaign: &Campaign) -> bool
     requires { campaign.now.value ≡ campaign_of world.now parts.now }
-    ensures { Decides result (IsMail (campaign_of world.now parts.now) × AreReported (campaign_of world.now parts.now)) }
+    ensures { IsTrue result ↔
+        (IsMail (campaign_of world.now parts.now) × AreReported (campaign_of world.now parts.now)) }
 {
     are_mailings(campaign) && are_reported(campaign)
 }
@@ -237,7 +245,7 @@ fn check_holders(
 }
 
 /// The rules one after another.
-fn judged(
+fn check_parts(
     alloc: Global,
     world: &World,
     parts: Parts,
@@ -246,7 +254,7 @@ fn judged(
     ensures { Checks format world.now parts result }
 {
     check_rows(alloc, world, &parts, format)?;
-    let campaign = match assembled(alloc, world, &parts) {
+    let campaign = match assemble(alloc, world, &parts) {
         Ok(campaign) => campaign,
         Err(_) => return Err(CheckFault::Memory),
     };
@@ -267,7 +275,7 @@ pub fn check_as(
     ensures rules { Checks format world.now parts result }
     ensures whole { IsWorld world.now → GivesBack format world.now parts result }
 {
-    let answer = judged(alloc, world, parts, format);
+    let answer = check_parts(alloc, world, parts, format);
     answer
 }
 

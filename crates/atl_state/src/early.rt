@@ -1,4 +1,4 @@
-//! A good campaign suits the phases in which no flag is set anew.
+//! A law: good campaigns suit the phases up to RECRUIT.
 ghost use Rattle.atl_state.specs.Early.{GoodAreEarly, SoundAreEarly};
 
 /// Does nothing. Its clauses are the laws that a campaign is early, and so steady, where it is good, and already where it is

@@ -1,20 +1,20 @@
-//! Which slot each number leads to.
+//! An index: the slot of each number.
 ghost use Rattle.std.specs.Prelude.{◌≡◌, ◌<◌, ◌^◌, true, length, IfOk, IfErr, IfSome, OnOk, OnErr, None};
 ghost use Rattle.std.specs.Ordering.{nat_cmp};
 ghost use Rattle.std.specs.List.Sorted.{IsStrictlySortedBy};
 ghost use Rattle.std.specs.Slice.Iter.{iter_rest};
 ghost use Rattle.std.specs.FinMap as map;
-ghost use Rattle.atl_tables.specs.Rising.{Stands, Belongs};
+ghost use Rattle.atl_tables.specs.SortedNumbers.{IsAt, BelongsAt};
 ghost use Rattle.atl_state.specs.Index.{numbers_of, slots_of};
 
-use crate::shelf::Shelf;
+use crate::gap_vec::GapVec;
 use std::alloc::{AllocError, Global};
 use std::marker::Model;
 use std::slice::Iter;
 
 /// A number, and the slot that it leads to.
 #[derive(Drop, Clone, Copy)]
-pub(crate) struct Place {
+pub(crate) struct IndexEntry {
     pub(crate) number: u32,
     pub(crate) slot: usize,
 }
@@ -23,7 +23,7 @@ pub(crate) struct Place {
 #[derive(Drop)]
 pub(crate) struct Index {
     // The numbers rise.
-    places: Shelf<Place>,
+    places: GapVec<IndexEntry>,
 }
 
 impl Model for Index {
@@ -49,7 +49,7 @@ impl Index {
         ensures { result ≡ map.empty }
     {
         Index {
-            places: Shelf::new(alloc),
+            places: GapVec::new(alloc),
         }
     }
 
@@ -58,7 +58,7 @@ impl Index {
         ensures { IfOk result (λ index. index ≡ map.empty) }
     {
         Ok(Index {
-            places: Shelf::with_room(alloc, room)?,
+            places: GapVec::with_room(alloc, room)?,
         })
     }
 
@@ -67,7 +67,7 @@ impl Index {
         ensures { result ≡ map.get self.now number }
     {
         let places = self.places.as_slice();
-        match place_of(places, number) {
+        match position_of(places, number) {
             Ok(place) => Some(places[place].slot),
             Err(_) => None,
         }
@@ -79,9 +79,9 @@ impl Index {
         ensures ok { OnOk result (self.new ≡ map.insert self.old number slot) }
         ensures err { OnErr result (self.new ≡ self.old) }
     {
-        match place_of(self.places.as_slice(), number) {
+        match position_of(self.places.as_slice(), number) {
             Ok(_) => unreachable!(),
-            Err(place) => self.places.insert(place, Place { number, slot })?,
+            Err(place) => self.places.insert(place, IndexEntry { number, slot })?,
         }
         Ok(())
     }
@@ -92,7 +92,7 @@ impl Index {
         ensures taken { self.new ≡ map.remove self.old number }
     {
         let places = self.places.as_slice();
-        match place_of(places, number) {
+        match position_of(places, number) {
             Ok(place) => {
                 let slot = places[place].slot;
                 self.places.remove(place);
@@ -111,7 +111,7 @@ impl Index {
     }
 
     /// The numbers with their slots, in rising order.
-    pub(crate) fn iter(&self) -> Iter<'_, Place>
+    pub(crate) fn iter(&self) -> Iter<'_, IndexEntry>
         ensures { slots_of (iter_rest result) ≡ map.entries self.now }
     {
         self.places.as_slice().iter()
@@ -119,8 +119,8 @@ impl Index {
 }
 
 /// The place of a number that comes so far behind the first as its place says, which it does where none between is missing.
-fn guessed(places: &[Place], number: u32) -> Option<usize>
-    ensures { IfSome result (λ place. Stands (numbers_of places.now) number place) }
+fn guess_position(places: &[IndexEntry], number: u32) -> Option<usize>
+    ensures { IfSome result (λ place. IsAt (numbers_of places.now) number place) }
 {
     let first = places.first()?;
     let place = number.checked_sub(first.number)? as usize;
@@ -131,9 +131,9 @@ fn guessed(places: &[Place], number: u32) -> Option<usize>
 }
 
 /// Whether a number is above all of places whose numbers rise.
-fn is_above(places: &[Place], number: u32) -> bool
+fn is_above(places: &[IndexEntry], number: u32) -> bool
     requires { IsStrictlySortedBy nat_cmp (numbers_of places.now) }
-    ensures { result ≡ true → Belongs (numbers_of places.now) number (length places.now) }
+    ensures { result ≡ true → BelongsAt (numbers_of places.now) number (length places.now) }
 {
     match places.last() {
         Some(last) => last.number < number,
@@ -143,12 +143,12 @@ fn is_above(places: &[Place], number: u32) -> bool
 
 /// Where a number stands in places whose numbers rise, or else where it belongs. It is searched for only where it is among
 /// them and some before it are missing.
-fn place_of(places: &[Place], number: u32) -> Result<usize, usize>
+fn position_of(places: &[IndexEntry], number: u32) -> Result<usize, usize>
     requires { IsStrictlySortedBy nat_cmp (numbers_of places.now) }
-    ensures found { IfOk result (λ place. Stands (numbers_of places.now) number place) }
-    ensures missing { IfErr result (λ place. Belongs (numbers_of places.now) number place) }
+    ensures found { IfOk result (λ place. IsAt (numbers_of places.now) number place) }
+    ensures missing { IfErr result (λ place. BelongsAt (numbers_of places.now) number place) }
 {
-    if let Some(place) = guessed(places, number) {
+    if let Some(place) = guess_position(places, number) {
         return Ok(place);
     }
     if is_above(places, number) {

@@ -6,6 +6,7 @@ mod assembly;
 pub mod campaign;
 mod checking;
 mod early;
+mod gap_vec;
 mod index;
 mod lists;
 mod numbers;
@@ -13,7 +14,6 @@ pub mod parts;
 mod row_rules;
 mod rows;
 mod rules;
-mod shelf;
 mod totals;
 mod units;
 

@@ -1,7 +1,7 @@
-//! Rising lists of numbers, each under a number that they belong to.
+//! Sorted lists of units, one for each region, faction and structure.
 ghost use Rattle.std.specs.Prelude.{◌≡◌, OnOk, OnErr};
 ghost use Rattle.std.specs.FinMap as map;
-ghost use Rattle.atl_state.specs.Kept.{list_of, listing_of, listed_apart, unlisted_apart, relisted_inside, AreUnitLists, SameLists, ListsUnit, KeepsLists, KeepsAll, UnlistsUnit, RelistsUnit};
+ghost use Rattle.atl_state.specs.Kept.{list_of, list_keys_of, listed_apart, unlisted_apart, relisted_inside, AreUnitLists, SameLists, ListsUnit, KeepsLists, KeepsAll, UnlistsUnit, RelistsUnit};
 ghost use Rattle.atl_state.specs.Ordered.{put_number, take_number};
 
 use crate::numbers::Numbers;
@@ -25,16 +25,16 @@ impl Drop for UnitLists {
 
 /// Where a unit is listed.
 #[derive(Drop, Clone, Copy)]
-pub(crate) struct Listing {
+pub(crate) struct ListKeys {
     pub(crate) faction: u32,
     pub(crate) region: u32,
     pub(crate) structure: u32,
 }
 
-pub(crate) fn listing_of(unit: &Unit) -> Listing
-    ensures { result ≡ listing_of unit.now }
+pub(crate) fn list_keys_of(unit: &Unit) -> ListKeys
+    ensures { result ≡ list_keys_of unit.now }
 {
-    Listing {
+    ListKeys {
         faction: unit.faction,
         region: unit.region,
         structure: unit.structure,
@@ -58,7 +58,7 @@ impl UnitLists {
         &mut self,
         alloc: Global,
         number: u32,
-        listing: Listing,
+        listing: ListKeys,
     ) -> Result<(), AllocError>
         ensures ok { OnOk result (ListsUnit number listing self.old self.new) }
         ensures err { OnErr result (KeepsLists number self.old self.new) }
@@ -82,7 +82,7 @@ impl UnitLists {
     }
 
     /// Takes a unit off its lists. It takes no memory.
-    pub(crate) fn remove(&mut self, number: u32, listing: Listing)
+    pub(crate) fn remove(&mut self, number: u32, listing: ListKeys)
         ensures { UnlistsUnit number listing self.old self.new }
     {
         unlist_number(&mut self.by_region, listing.region, number);
@@ -95,8 +95,8 @@ impl UnitLists {
         &mut self,
         alloc: Global,
         number: u32,
-        from: Listing,
-        to: Listing,
+        from: ListKeys,
+        to: ListKeys,
     ) -> Result<(), AllocError>
         requires { to.faction ≡ from.faction }
         ensures ok { OnOk result (RelistsUnit number from to self.old self.new) }
@@ -175,7 +175,8 @@ pub(crate) fn list_number(
     key: u32,
     number: u32,
 ) -> Result<(), AllocError>
-    ensures ok { OnOk result (lists.new ≡ map.insert lists.old key (put_number number (list_of lists.old key))) }
+    ensures ok { OnOk result
+        (lists.new ≡ map.insert lists.old key (put_number number (list_of lists.old key))) }
     ensures err { OnErr result (lists.new ≡ lists.old) }
 {
     match lists.get_mut(key) {
@@ -190,7 +191,8 @@ pub(crate) fn list_number(
 
 /// Takes a number out of the list under a key. It takes no memory.
 pub(crate) fn unlist_number(lists: &mut Numbered<Numbers>, key: u32, number: u32)
-    ensures { SameLists lists.new (map.insert lists.old key (take_number number (list_of lists.old key))) }
+    ensures { SameLists lists.new
+        (map.insert lists.old key (take_number number (list_of lists.old key))) }
 {
     if let Some(list) = lists.get_mut(key) {
         list.take(number);
@@ -198,7 +200,7 @@ pub(crate) fn unlist_number(lists: &mut Numbered<Numbers>, key: u32, number: u32
 }
 
 /// The numbers in the list under a key.
-pub(crate) fn listed(lists: &Numbered<Numbers>, key: u32) -> &[u32]
+pub(crate) fn numbers_under(lists: &Numbered<Numbers>, key: u32) -> &[u32]
     ensures { result.now ≡ list_of lists.now key }
 {
     match lists.get(key) {

@@ -1,30 +1,30 @@
-//! A rising list of numbers.
+//! A sorted list of numbers.
 ghost use Rattle.std.specs.Prelude.{◌≡◌, ◌≤◌, OnOk, OnErr, [], length};
-ghost use Rattle.atl_state.specs.Ordered.{IsRising, put_number, take_number, first_above};
+ghost use Rattle.atl_state.specs.Ordered.{IsSorted, put_number, take_number, first_above};
 
-use crate::shelf::Shelf;
+use crate::gap_vec::GapVec;
 use std::alloc::{AllocError, Global};
 use std::marker::Model;
 
 #[derive(Drop, Debug)]
 pub(crate) struct Numbers {
-    items: Shelf<u32>,
+    items: GapVec<u32>,
 }
 
 impl Model for Numbers {
     ghost use Rattle.std.specs.Prelude.{List, ℕ};
-    ghost use Rattle.atl_state.specs.Ordered.{IsRising};
+    ghost use Rattle.atl_state.specs.Ordered.{IsSorted};
 
     ghost Value = { List ℕ };
 
     ghost view = { λ a. a.items };
 
-    ghost invariant = { λ a. IsRising a.items };
+    ghost invariant = { λ a. IsSorted a.items };
 }
 
-/// The place of the first number of a rising list that is not below another.
+/// The place of the first number of a sorted list that is not below another.
 fn first_above(items: &[u32], number: u32) -> usize
-    requires { IsRising items.now }
+    requires { IsSorted items.now }
     ensures place { result ≡ first_above number items.now }
     ensures small { result ≤ length items.now }
 {
@@ -36,11 +36,11 @@ impl Numbers {
         ensures { result ≡ [] }
     {
         Numbers {
-            items: Shelf::new(alloc),
+            items: GapVec::new(alloc),
         }
     }
 
-    /// Puts a number at its place in a rising list.
+    /// Puts a number at its place in a sorted list.
     #[tactic(auto, unfolding(crate::specs::Ordered::put_number))]
     pub(crate) fn put(&mut self, number: u32) -> Result<(), AllocError>
         ensures ok { OnOk result (self.new ≡ put_number number self.old) }

@@ -8,7 +8,7 @@ use atl_tables::{Sequence, Text, let_go};
 #[derive(Debug)]
 pub struct Parts {
     /// The campaign's own row, of which there is one.
-    pub campaign: Sequence<StoredHead>,
+    pub campaign: Sequence<StoredCampaignRow>,
     /// A row for each faction that ever joined.
     pub factions: Sequence<StoredFaction>,
     /// A row for each region of the world.
@@ -37,7 +37,7 @@ impl Drop for Parts {
 
 /// The campaign's own row as it stands in its table, but for the world text.
 #[derive(Debug)]
-pub struct StoredHead {
+pub struct StoredCampaignRow {
     /// Always 1.
     pub id: i64,
     /// The number of the tables' format.
@@ -54,9 +54,9 @@ pub struct StoredHead {
     pub pass: Sequence<u8>,
 }
 
-impl Drop for StoredHead {
+impl Drop for StoredCampaignRow {
     fn drop(self) {
-        let_go!(self: StoredHead { id, format, month, next_faction, next_unit, next_structure, pass });
+        let_go!(self: StoredCampaignRow { id, format, month, next_faction, next_unit, next_structure, pass });
     }
 }
 

@@ -1,4 +1,4 @@
-//! The rules that rows keep before a campaign is made of them.
+//! Rules that are checked on rows, before a campaign is made of them.
 mod head;
 mod keys;
 mod markets;
@@ -6,7 +6,7 @@ mod names;
 mod numbers;
 mod ranges;
 
-pub(crate) use head::{are_of_format, head_of, is_one_head};
+pub(crate) use head::{are_of_format, campaign_row_of, is_one_campaign_row};
 pub use keys::are_distinct;
 pub(crate) use markets::are_of_markets;
 pub(crate) use names::rows_named;

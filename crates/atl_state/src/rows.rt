@@ -4,11 +4,11 @@ ghost use Rattle.std.specs.FinMap as map;
 ghost use Rattle.atl_tables.specs.declared.format.Format.TheVariants.{First, Second};
 ghost use Rattle.atl_records.specs.Limits.{entry_count, possible_things};
 ghost use Rattle.atl_records.specs.Books.{amount_at};
-ghost use Rattle.atl_state.specs.Rows.{flag, rows_by, head_row, faction_row, region_row, unit_row, structure_row, mail_row, report_row, has_row, books_row, market_row, sort_rows, held_rows, has_rows, stock_rows, market_rows, entry_rows, books_rows, rows_of};
+ghost use Rattle.atl_state.specs.Rows.{flag, rows_by, campaign_row, faction_row, region_row, unit_row, structure_row, mail_row, report_row, has_row, books_row, market_row, kind_rows, held_rows, has_rows, stock_rows, market_rows, entry_rows, books_rows, rows_of};
 
 use crate::campaign::Campaign;
 use crate::parts::{
-    Parts, StoredBooks, StoredFaction, StoredHas, StoredHead, StoredMail, StoredMarket,
+    Parts, StoredBooks, StoredCampaignRow, StoredFaction, StoredHas, StoredMail, StoredMarket,
     StoredRegion, StoredReport, StoredStructure, StoredUnit,
 };
 use atl_records::{Books, ENTRY_COUNT, Faction, Holding, Structure, Unit};
@@ -36,11 +36,15 @@ fn flag(set: bool) -> i64
     if set { 1 } else { 0 }
 }
 
-fn head_row(alloc: Global, format: Format, campaign: &Campaign) -> Result<StoredHead, AllocError>
-    ensures { IfOk result (λ row. row ≡ head_row format campaign.now.value) }
+fn campaign_row(
+    alloc: Global,
+    format: Format,
+    campaign: &Campaign,
+) -> Result<StoredCampaignRow, AllocError>
+    ensures { IfOk result (λ row. row ≡ campaign_row format campaign.now.value) }
 {
     let pass = bytes_of(alloc, campaign.pass())?;
-    Ok(StoredHead {
+    Ok(StoredCampaignRow {
         id: CAMPAIGN_ID,
         format: i64::from(format.number()),
         month: i64::from(campaign.month()),
@@ -100,20 +104,21 @@ fn structure_row(
     })
 }
 
-fn head_rows(
+fn campaign_rows(
     alloc: Global,
     format: Format,
     campaign: &Campaign,
-) -> Result<Sequence<StoredHead>, AllocError>
-    ensures { IfOk result (λ rows. rows ≡ head_row format campaign.now.value ∷ []) }
+) -> Result<Sequence<StoredCampaignRow>, AllocError>
+    ensures { IfOk result (λ rows. rows ≡ campaign_row format campaign.now.value ∷ []) }
 {
     let mut rows = Sequence::new(alloc);
-    rows.push(head_row(alloc, format, campaign)?)?;
+    rows.push(campaign_row(alloc, format, campaign)?)?;
     Ok(rows)
 }
 
 fn faction_rows(alloc: Global, campaign: &Campaign) -> Result<Sequence<StoredFaction>, AllocError>
-    ensures { IfOk result (λ rows. rows ≡ rows_by faction_row (map.entries campaign.now.value.factions)) }
+    ensures { IfOk result (λ rows. rows
+        ≡ rows_by faction_row (map.entries campaign.now.value.factions)) }
 {
     let mut rows = Sequence::new(alloc);
     for (number, faction) in campaign.factions() {
@@ -123,7 +128,8 @@ fn faction_rows(alloc: Global, campaign: &Campaign) -> Result<Sequence<StoredFac
 }
 
 fn region_rows(alloc: Global, campaign: &Campaign) -> Result<Sequence<StoredRegion>, AllocError>
-    ensures { IfOk result (λ rows. rows ≡ rows_by region_row (map.entries campaign.now.value.regions)) }
+    ensures { IfOk result (λ rows. rows
+        ≡ rows_by region_row (map.entries campaign.now.value.regions)) }
 {
     let mut rows = Sequence::new(alloc);
     for (number, region) in campaign.regions() {
@@ -150,7 +156,8 @@ fn structure_rows(
     alloc: Global,
     campaign: &Campaign,
 ) -> Result<Sequence<StoredStructure>, AllocError>
-    ensures { IfOk result (λ rows. rows ≡ rows_by structure_row (map.entries campaign.now.value.structures)) }
+    ensures { IfOk result (λ rows. rows
+        ≡ rows_by structure_row (map.entries campaign.now.value.structures)) }
 {
     let mut rows = Sequence::new(alloc);
     for (number, structure) in campaign.structures() {
@@ -172,7 +179,8 @@ fn mail_rows(alloc: Global, campaign: &Campaign) -> Result<Sequence<StoredMail>,
 }
 
 fn report_rows(alloc: Global, campaign: &Campaign) -> Result<Sequence<StoredReport>, AllocError>
-    ensures { IfOk result (λ rows. rows ≡ rows_by report_row (map.entries campaign.now.value.reports)) }
+    ensures { IfOk result (λ rows. rows
+        ≡ rows_by report_row (map.entries campaign.now.value.reports)) }
 {
     let mut rows = Sequence::new(alloc);
     for (number, report) in campaign.reports() {
@@ -195,13 +203,13 @@ fn has_row(number: u32, sort: u32, thing: u32, amount: u32) -> StoredHas
 }
 
 /// Adds what a unit has of a sort.
-fn add_sort(
+fn add_kind(
     rows: &mut Sequence<StoredHas>,
     number: u32,
     sort: u32,
     things: Entries<'_, u32>,
 ) -> Result<(), AllocError>
-    ensures { OnOk result (rows.new ≡ rows.old ++ sort_rows number sort things.entry) }
+    ensures { OnOk result (rows.new ≡ rows.old ++ kind_rows number sort things.entry) }
 {
     for (thing, amount) in things {
         if *amount != 0 {
@@ -219,8 +227,8 @@ fn add_held(
 ) -> Result<(), AllocError>
     ensures { OnOk result (rows.new ≡ rows.old ++ held_rows number holding.now) }
 {
-    add_sort(rows, number, ITEM_SORT, holding.items())?;
-    add_sort(rows, number, SKILL_SORT, holding.days())
+    add_kind(rows, number, ITEM_SORT, holding.items())?;
+    add_kind(rows, number, SKILL_SORT, holding.days())
 }
 
 fn has_rows(alloc: Global, campaign: &Campaign) -> Result<Sequence<StoredHas>, AllocError>
@@ -261,7 +269,8 @@ fn add_stocks(
 
 /// The stocks of all regions.
 fn stocks_rows(alloc: Global, campaign: &Campaign) -> Result<Sequence<StoredMarket>, AllocError>
-    ensures { IfOk result (λ rows. rows ≡ market_rows Second (map.entries campaign.now.value.regions)) }
+    ensures { IfOk result (λ rows. rows
+        ≡ market_rows Second (map.entries campaign.now.value.regions)) }
 {
     let mut rows = Sequence::new(alloc);
     for (number, region) in campaign.regions() {
@@ -275,7 +284,8 @@ fn market_rows(
     format: Format,
     campaign: &Campaign,
 ) -> Result<Sequence<StoredMarket>, AllocError>
-    ensures { IfOk result (λ rows. rows ≡ market_rows format (map.entries campaign.now.value.regions)) }
+    ensures { IfOk result (λ rows. rows
+        ≡ market_rows format (map.entries campaign.now.value.regions)) }
 {
     match format {
         Format::First => Ok(Sequence::new(alloc)),
@@ -337,7 +347,7 @@ impl Campaign {
         ensures { IfOk result (λ parts. parts ≡ rows_of format self.now.value) }
     {
         let alloc = self.alloc();
-        let campaign = head_rows(alloc, format, self)?;
+        let campaign = campaign_rows(alloc, format, self)?;
         let factions = faction_rows(alloc, self)?;
         let regions = region_rows(alloc, self)?;
         let units = unit_rows(alloc, self)?;

@@ -3,35 +3,35 @@ ghost use Rattle.std.specs.Prelude.{◌≡◌, ◌≤◌, ◌*◌, length};
 ghost use Rattle.std.specs.FinMap as map;
 ghost use Rattle.atl_tables.specs.Sums.{sum_over};
 ghost use Rattle.atl_records.specs.Limits.{most_u32};
-ghost use Rattle.atl_records.specs.Amounts.{held, kept};
+ghost use Rattle.atl_records.specs.Amounts.{region_amount, unit_amount};
 
 use crate::units::Units;
-use atl_records::{Region, Thing, held, kept};
-use atl_tables::Tracked;
+use atl_records::{Region, Thing, region_amount, unit_amount};
+use atl_tables::MarkedMap;
 
 /// What the units hold of a thing.
 pub(crate) fn units_total(units: &Units, thing: Thing) -> u64
     requires { length (map.entries units.now.values) ≤ 1000000 }
-    ensures value { result ≡ sum_over (λ u. held thing u.holding) units.now.values }
+    ensures value { result ≡ sum_over (λ u. unit_amount thing u.holding) units.now.values }
     ensures fits { result ≤ length (map.entries units.now.values) * most_u32 }
 {
     let mut sum = 0u64;
     for (_, unit) in units.iter() {
-        let amount = held(thing, &unit.holding);
+        let amount = unit_amount(thing, &unit.holding);
         sum += u64::from(amount);
     }
     sum
 }
 
 /// What the regions hold of a thing.
-pub(crate) fn regions_total(regions: &Tracked<Region>, thing: Thing) -> u64
+pub(crate) fn regions_total(regions: &MarkedMap<Region>, thing: Thing) -> u64
     requires { length (map.entries regions.now.values) ≤ 1000000 }
-    ensures value { result ≡ sum_over (λ r. kept thing r) regions.now.values }
+    ensures value { result ≡ sum_over (λ r. region_amount thing r) regions.now.values }
     ensures fits { result ≤ length (map.entries regions.now.values) * most_u32 }
 {
     let mut sum = 0u64;
     for (_, region) in regions.iter() {
-        let amount = kept(thing, region);
+        let amount = region_amount(thing, region);
         sum += u64::from(amount);
     }
     sum

@@ -1,10 +1,10 @@
-//! The units of a campaign.
+//! The units of a campaign, with their change marks.
 ghost use Rattle.std.specs.Prelude.{◌≡◌, ◌≤◌, ◌⊎◌, IfOk, OnOk, OnErr, option_copied, None};
 ghost use Rattle.std.specs.FinMap as map;
 ghost use Rattle.std.specs.FinSet as set;
 ghost use Rattle.atl_tables.specs.Tracking.{Lists};
 ghost use Rattle.atl_records.specs.Limits.{holding_limit, men_limit, most_numbered};
-ghost use Rattle.atl_records.specs.Held.{with_amount_of};
+ghost use Rattle.atl_records.specs.Holdings.{with_amount_of};
 ghost use Rattle.atl_state.specs.Marks.{AreWithin};
 ghost use Rattle.atl_state.specs.Roster.{no_units, unmarked_units, with_unit_at, with_row, with_item_at, with_skill_at, without_unit_at, item_marked_at, skill_marked_at};
 
@@ -105,7 +105,8 @@ impl Units {
     pub(crate) fn marked(&self) -> usize
         ensures value { result ≡ set.len self.now.marks }
         ensures small { result ≤ most_numbered }
-        ensures within { AreWithin self.now.marks self.now.rows self.now.goods self.now.items self.now.skills }
+        ensures within { AreWithin self.now.marks self.now.rows self.now.goods self.now.items
+            self.now.skills }
     {
         self.marks.len()
     }
@@ -182,7 +183,8 @@ impl Units {
 
     /// Sets a unit's name, and marks its row. It takes no memory.
     pub(crate) fn set_name(&mut self, number: u32, name: Text)
-        ensures { self.new ≡ with_row (λ u. record u { holding = record u.holding { name = name } }) self.old number }
+        ensures { self.new ≡ with_row (λ u. record u { holding = record u.holding { name = name } })
+            self.old number }
     {
         if let Some(unit) = self.row_mut(number) {
             unit.holding.set_name(name);
@@ -192,7 +194,8 @@ impl Units {
     /// Sets how many men a unit has, at most 999,999, and marks its row. It takes no memory.
     pub(crate) fn set_men(&mut self, number: u32, men: u32)
         requires { men ≤ men_limit }
-        ensures { self.new ≡ with_row (λ u. record u { holding = record u.holding { men = men } }) self.old number }
+        ensures { self.new ≡ with_row (λ u. record u { holding = record u.holding { men = men } })
+            self.old number }
     {
         if let Some(unit) = self.row_mut(number) {
             unit.holding.set_men(men);
@@ -202,7 +205,8 @@ impl Units {
     /// Sets a unit's money, at most 999,999,999, and marks its row. It takes no memory.
     pub(crate) fn set_money(&mut self, number: u32, money: u32)
         requires { money ≤ holding_limit }
-        ensures { self.new ≡ with_row (λ u. record u { holding = record u.holding { money = money } }) self.old number }
+        ensures { self.new ≡ with_row
+            (λ u. record u { holding = record u.holding { money = money } }) self.old number }
     {
         if let Some(unit) = self.row_mut(number) {
             unit.holding.set_money(money);
@@ -211,7 +215,8 @@ impl Units {
 
     /// Sets or clears a unit's guard flag, and marks its row. It takes no memory.
     pub(crate) fn set_guard(&mut self, number: u32, guard: bool)
-        ensures { self.new ≡ with_row (λ u. record u { holding = record u.holding { guard = guard } }) self.old number }
+        ensures { self.new ≡ with_row
+            (λ u. record u { holding = record u.holding { guard = guard } }) self.old number }
     {
         if let Some(unit) = self.row_mut(number) {
             unit.holding.set_guard(guard);
@@ -220,7 +225,8 @@ impl Units {
 
     /// Puts a unit in a region and a structure, and marks its row. It takes no memory.
     pub(crate) fn set_place(&mut self, number: u32, region: u32, structure: u32)
-        ensures { self.new ≡ with_row (λ u. record u { region = region; structure = structure }) self.old number }
+        ensures { self.new ≡ with_row (λ u. record u { region = region; structure = structure })
+            self.old number }
     {
         if let Some(unit) = self.row_mut(number) {
             unit.region = region;
@@ -238,8 +244,14 @@ impl Units {
         amount: u32,
     ) -> Result<(), AllocError>
         requires { amount ≤ holding_limit }
-        ensures ok { OnOk result (self.new ≡ with_item_at (λ u. record u { holding = record u.holding { items = with_amount_of u.holding.items item amount } }) self.old number item) }
-        ensures err { OnErr result ((self.new ≡ self.old) ⊎ (self.new ≡ item_marked_at self.old number item)) }
+        ensures ok { OnOk result
+            (self.new ≡ with_item_at
+            (λ u. record u {
+              holding = record u.holding
+                  { items = with_amount_of u.holding.items item amount };
+            }) self.old number item) }
+        ensures err { OnErr result
+            ((self.new ≡ self.old) ⊎ (self.new ≡ item_marked_at self.old number item)) }
     {
         let Some(unit) = self.units.get_mut(number) else {
             return Ok(());
@@ -258,8 +270,14 @@ impl Units {
         skill: u32,
         days: u32,
     ) -> Result<(), AllocError>
-        ensures ok { OnOk result (self.new ≡ with_skill_at (λ u. record u { holding = record u.holding { days = with_amount_of u.holding.days skill days } }) self.old number skill) }
-        ensures err { OnErr result ((self.new ≡ self.old) ⊎ (self.new ≡ skill_marked_at self.old number skill)) }
+        ensures ok { OnOk result
+            (self.new ≡ with_skill_at
+            (λ u. record u {
+              holding = record u.holding
+                  { days = with_amount_of u.holding.days skill days };
+            }) self.old number skill) }
+        ensures err { OnErr result
+            ((self.new ≡ self.old) ⊎ (self.new ≡ skill_marked_at self.old number skill)) }
     {
         let Some(unit) = self.units.get_mut(number) else {
             return Ok(());

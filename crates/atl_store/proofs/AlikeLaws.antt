@@ -8,7 +8,7 @@ use Rattle.std.proofs.lemmas.Option.{same_Some}
 use Rattle.sqlite.specs.Order.{Row}
 use Rattle.sqlite_trees.specs.Tree.{Trees}
 use Rattle.atl_tables.specs.Worlds.{WorldValue}
-use Rattle.atl_records.specs.Books.{amount_in, entry_place, thing_at, thing_place, IsGrid}
+use Rattle.atl_records.specs.Books.{amount_in, entry_index, thing_at, thing_index, IsGrid}
 use Rattle.atl_state.specs.Founding as founding
 use Rattle.atl_records.specs.Every.{Every}
 use Rattle.atl_state.specs.Good.{IsGood}
@@ -22,14 +22,14 @@ use Rattle.atl_records.specs.declared.records.Unit.{Unit}
 use Rattle.atl_state.proofs.BackLaws.{agree}
 use Rattle.atl_records.proofs.BookLaws.{place_at}
 use Rattle.atl_records.proofs.EveryEntryLaws.{entry_at}
-use Rattle.atl_store.specs.Alike.{HoldsOne}
+use Rattle.atl_store.specs.OneCampaign.{HoldsOne}
 use Rattle.atl_store.specs.Rows.{RowsOf, HasRowsOf, BooksRowsOf, MarketRowsOf, Holds, campaign_line, faction_line, region_line, unit_line, structure_line, things_of}
 use Rattle.atl_store.specs.Sets.{Is}
 use Rattle.atl_store.specs.Tables.{Own, Factions, Regions, Units, Goods, Structures, Mail, Reports, Books, Markets}
 use Rattle.atl_store.specs.Shown.{flag, mail_row, report_row, has_row, books_row, market_row}
 use Rattle.atl_store.specs.Written.{sort_number}
-use Rattle.atl_store.specs.declared.rows.has.Sort.{Sort}
-use Rattle.atl_store.specs.declared.rows.has.Sort.TheVariants.{Item, Skill}
+use Rattle.atl_store.specs.declared.rows.has.ThingKind.{ThingKind}
+use Rattle.atl_store.specs.declared.rows.has.ThingKind.TheVariants.{Item, Skill}
 use Rattle.atl_state.proofs.StateLaws.{same_state}
 use Rattle.atl_store.proofs.ThingLaws.{same_sort}
 
@@ -88,7 +88,7 @@ reports_tell m k n p s t is there same = (cc, cc)
 
 -- of nothing there are none
 abbrev HaveSome : FinMap nat_cmp Unit → Type 0
-HaveSome units = Every (λ n u. (sort : Sort) → Every (λ thing amount. amount ≢ 0) (things_of sort u.holding)) units
+HaveSome units = Every (λ n u. (sort : ThingKind) → Every (λ thing amount. amount ≢ 0) (things_of sort u.holding)) units
 
 have_some : (w : WorldValue) (c : CampaignValue) → IsGood w c → HaveSome c.units
 have_some w c good n u is Item thing amount there = let range = (good.sound.steady.numbers.units n u is).1.items thing amount there in λ none. omega (arith, range.0, none)
@@ -96,7 +96,7 @@ have_some w c good n u is Skill thing amount there = let range = good.sound.stea
 
 module _ (rows : List Row) (m k : FinMap nat_cmp Unit) (a : Is rows (HasRowsOf m)) (b : Is rows (HasRowsOf k)) where
   -- what a unit has of the one it has of the other
-  things_there : HaveSome m → (n : ℕ) (u v : Unit) → get m n ≡ Some u → get k n ≡ Some v → (sort : Sort) → Every (λ thing amount. get (things_of sort v.holding) thing ≡ Some amount) (things_of sort u.holding)
+  things_there : HaveSome m → (n : ℕ) (u v : Unit) → get m n ≡ Some u → get k n ≡ Some v → (sort : ThingKind) → Every (λ thing amount. get (things_of sort v.holding) thing ≡ Some amount) (things_of sort u.holding)
   things_there some n u v is there sort thing amount has =
       let row = has_row n (sort_number sort) thing amount in
       let (p, x, at, other, object, size, got, apart, same) = (b row).0 ((a row).1 (n, u, is, sort, thing, amount, has, some n u is sort thing amount has, refl)) in
@@ -121,7 +121,7 @@ module _ (rows goods : List Row) (m k : FinMap nat_cmp Unit) (a : Is rows (RowsO
       let men : u.holding.men ≡ v.holding.men = cc in
       let money : u.holding.money ≡ v.holding.money = cc in
       let guard : u.holding.guard ≡ v.holding.guard = same_flag u.holding.guard v.holding.guard (cc) in
-      let things : (sort : Sort) → things_of sort u.holding ≡ things_of sort v.holding = λ sort. agree _ _ (things_there goods m k h j some n u v is here sort) (things_there goods k m j h more n v u here is sort) in
+      let things : (sort : ThingKind) → things_of sort u.holding ≡ things_of sort v.holding = λ sort. agree _ _ (things_there goods m k h j some n u v is here sort) (things_there goods k m j h more n v u here is sort) in
       let items : u.holding.items ≡ v.holding.items = things Item in
       let days : u.holding.days ≡ v.holding.days = things Skill in
       let unit : u ≡ v = λ i. record {
@@ -176,10 +176,10 @@ none_or_some (negsuc n) = inr (λ is. cc)
 module _ (rows : List Row) (m k : List (List ℤ)) (a : Is rows (BooksRowsOf m)) (b : Is rows (BooksRowsOf k)) where
   amount_there : (e : Entry) (t : Thing) → amount_in m e t ≢ pos 0 → amount_in m e t ≡ amount_in k e t
   amount_there e t some =
-      let (f, u, apart, same) = (b (books_row (entry_place e + 1) (thing_place t) (amount_in m e t))).0 ((a _).1 (e, t, some, refl)) in
-      let next : entry_place e + 1 ≡ entry_place f + 1 = cc in
-      let entry : entry_place e ≡ entry_place f = omega (arith, next) in
-      let thing : thing_place t ≡ thing_place u = cc in
+      let (f, u, apart, same) = (b (books_row (entry_index e + 1) (thing_index t) (amount_in m e t))).0 ((a _).1 (e, t, some, refl)) in
+      let next : entry_index e + 1 ≡ entry_index f + 1 = cc in
+      let entry : entry_index e ≡ entry_index f = omega (arith, next) in
+      let thing : thing_index t ≡ thing_index u = cc in
       let amount : amount_in m e t ≡ amount_in k f u = cc in
       let there : amount_in k e t ≡ amount_in k f u = λ i. slice_index_or (slice_index_or k (thing i) []) (entry i) (pos 0) in
       amount ∙ sym there
@@ -195,7 +195,7 @@ module _ (things : ℕ) (rows : List Row) (m k : List (List ℤ)) (g : IsGrid th
         ]
       ]
 
-  amount_at_place : (books : List (List ℤ)) (e : Entry) (n t : ℕ) → entry_place e ≡ n → get_or (get_or books t []) n (pos 0) ≡ amount_in books e (thing_at t)
+  amount_at_place : (books : List (List ℤ)) (e : Entry) (n t : ℕ) → entry_index e ≡ n → get_or (get_or books t []) n (pos 0) ≡ amount_in books e (thing_at t)
   amount_at_place books e n t is =
       let place = sym (place_at t) in
       let entry = sym is in

@@ -10,11 +10,11 @@ use Rattle.sqlite.specs.Order.{Row}
 use Rattle.sqlite.specs.Effect.{Database}
 use Rattle.sqlite_rules.specs.Lists.{Has}
 use Rattle.atl_state.specs.Campaign.{CampaignValue}
-use Rattle.atl_records.specs.Books.{amount_at, amount_in, entry_place, thing_place}
+use Rattle.atl_records.specs.Books.{amount_at, amount_in, entry_index, thing_index}
 use Rattle.atl_records.specs.declared.books.Entry.{Entry}
 use Rattle.atl_records.specs.declared.books.Thing.{Thing}
 use Rattle.atl_records.specs.declared.records.Unit.{Unit}
-use Rattle.atl_store.specs.declared.rows.has.Sort.{Sort}
+use Rattle.atl_store.specs.declared.rows.has.ThingKind.{ThingKind}
 use Rattle.atl_store.specs.Sets.{Set, Is, put}
 use Rattle.atl_store.specs.Tables.{Books, books_table}
 use Rattle.atl_store.specs.Shown.{int, books_key, books_row}
@@ -71,7 +71,7 @@ put_rows line numbered rows news m n v was made r = (
 )
 
 -- a new unit that has nothing adds no row of has
-pub no_goods : (rows : List Row) (units : FinMap nat_cmp Unit) (n : ℕ) (u : Unit) → get units n ≡ None → ((sort : Sort) → things_of sort u.holding ≡ empty) → Is rows (HasRowsOf units) → Is rows (HasRowsOf (insert units n u))
+pub no_goods : (rows : List Row) (units : FinMap nat_cmp Unit) (n : ℕ) (u : Unit) → get units n ≡ None → ((sort : ThingKind) → things_of sort u.holding ≡ empty) → Is rows (HasRowsOf units) → Is rows (HasRowsOf (insert units n u))
 no_goods rows units n u fresh bare was r = (
   λ there.
       let old = (was r).0 there in
@@ -90,27 +90,27 @@ no_goods rows units n u fresh bare was r = (
 
 module _ (c : CampaignValue) (e : Entry) (t : Thing) where
   abbrev row : Row
-  row = books_row (entry_place e + 1) (thing_place t) (amount_in c.books e t)
+  row = books_row (entry_index e + 1) (thing_index t) (amount_in c.books e t)
 
   -- the rows of the books A, with this amount settled, are those of the books B, which differ in it alone
   pub settled_rows : (A B : List (List ℤ)) (S : Set) → amount_in B e t ≡ amount_in c.books e t
-      → ((f : Entry) (u : Thing) → (entry_place f ≢ entry_place e) ⊎ (thing_place u ≢ thing_place t) → amount_in B f u ≡ amount_in A f u)
+      → ((f : Entry) (u : Thing) → (entry_index f ≢ entry_index e) ⊎ (thing_index u ≢ thing_index t) → amount_in B f u ≡ amount_in A f u)
       → ((r : Row) → S r ↔ BooksRowsOf A r) → (r : Row) → settled c e t S r ↔ BooksRowsOf B r
   settled_rows A B S here beside was r = (
     λ there. elim there [
       | inl new ↦
           let is = optional_has (int_eq (amount_in c.books e t) (pos 0)) row r new in
-          (e, t, λ none. differs_zero (amount_in c.books e t) is.0 (sym here ∙ none), is.1 ∙ ap (books_row (entry_place e + 1) (thing_place t)) (sym here))
+          (e, t, λ none. differs_zero (amount_in c.books e t) is.0 (sym here ∙ none), is.1 ∙ ap (books_row (entry_index e + 1) (thing_index t)) (sym here))
       | inr kept ↦
           let old = (was r).0 kept.0 in
           let same = beside old.0 old.1 (apart old.0 old.1 (λ q. kept.1 (ap (take 2) old.3 ∙ q))) in
-          (old.0, old.1, λ none. old.2 (sym same ∙ none), old.3 ∙ ap (books_row (entry_place old.0 + 1) (thing_place old.1)) (sym same))
+          (old.0, old.1, λ none. old.2 (sym same ∙ none), old.3 ∙ ap (books_row (entry_index old.0 + 1) (thing_index old.1)) (sym same))
     ],
-    λ of. elim (cases_eq (entry_place of.0) (entry_place e)) [
-      | inl entries ↦ elim (cases_eq (thing_place of.1) (thing_place t)) [
+    λ of. elim (cases_eq (entry_index of.0) (entry_index e)) [
+      | inl entries ↦ elim (cases_eq (thing_index of.1) (thing_index t)) [
         | inl things ↦
-            let same : amount_in B of.0 of.1 ≡ amount_in c.books e t = ap (λ k. get_or (get_or B k []) (entry_place of.0) (pos 0)) things ∙ ap (λ k. get_or (get_or B (thing_place t) []) k (pos 0)) entries ∙ here in
-            let row_is : r ≡ row = of.3 ∙ ap (λ k. books_row (k + 1) (thing_place of.1) (amount_in B of.0 of.1)) entries ∙ ap (λ k. books_row (entry_place e + 1) k (amount_in B of.0 of.1)) things ∙ ap (books_row (entry_place e + 1) (thing_place t)) same in
+            let same : amount_in B of.0 of.1 ≡ amount_in c.books e t = ap (λ k. get_or (get_or B k []) (entry_index of.0) (pos 0)) things ∙ ap (λ k. get_or (get_or B (thing_index t) []) k (pos 0)) entries ∙ here in
+            let row_is : r ≡ row = of.3 ∙ ap (λ k. books_row (k + 1) (thing_index of.1) (amount_in B of.0 of.1)) entries ∙ ap (λ k. books_row (entry_index e + 1) k (amount_in B of.0 of.1)) things ∙ ap (books_row (entry_index e + 1) (thing_index t)) same in
             inl (subst (Has (amount_lines c e t)) (sym row_is) (has_optional (int_eq (amount_in c.books e t) (pos 0)) row (is_differing (amount_in c.books e t) (λ none. of.2 (same ∙ none)))))
         | inr things ↦ inr (kept_row of.0 of.1 of.2 of.3 (inr things))
       ]
@@ -118,23 +118,23 @@ module _ (c : CampaignValue) (e : Entry) (t : Thing) where
     ],
   )
     where
-      apart : (f : Entry) (u : Thing) → ◌≢◌ {A = Row} (books_key (entry_place f + 1) (thing_place u)) (books_key (entry_place e + 1) (thing_place t)) → (entry_place f ≢ entry_place e) ⊎ (thing_place u ≢ thing_place t)
-      apart f u differs = elim (cases_eq (entry_place f) (entry_place e)) [
-        | inl entries ↦ inr (λ things. differs (ap (λ k. books_key (k + 1) (thing_place u)) entries ∙ ap (books_key (entry_place e + 1)) things))
+      apart : (f : Entry) (u : Thing) → ◌≢◌ {A = Row} (books_key (entry_index f + 1) (thing_index u)) (books_key (entry_index e + 1) (thing_index t)) → (entry_index f ≢ entry_index e) ⊎ (thing_index u ≢ thing_index t)
+      apart f u differs = elim (cases_eq (entry_index f) (entry_index e)) [
+        | inl entries ↦ inr (λ things. differs (ap (λ k. books_key (k + 1) (thing_index u)) entries ∙ ap (books_key (entry_index e + 1)) things))
         | inr entries ↦ inl entries
       ]
 
-      kept_row : (f : Entry) (u : Thing) → amount_in B f u ≢ pos 0 → r ≡ books_row (entry_place f + 1) (thing_place u) (amount_in B f u) → (entry_place f ≢ entry_place e) ⊎ (thing_place u ≢ thing_place t)
-          → S r × (take 2 r ≢ books_key (entry_place e + 1) (thing_place t))
+      kept_row : (f : Entry) (u : Thing) → amount_in B f u ≢ pos 0 → r ≡ books_row (entry_index f + 1) (thing_index u) (amount_in B f u) → (entry_index f ≢ entry_index e) ⊎ (thing_index u ≢ thing_index t)
+          → S r × (take 2 r ≢ books_key (entry_index e + 1) (thing_index t))
       kept_row f u some is far = (
-        (was r).1 (f, u, λ none. some (beside f u far ∙ none), is ∙ ap (books_row (entry_place f + 1) (thing_place u)) (beside f u far)),
+        (was r).1 (f, u, λ none. some (beside f u far ∙ none), is ∙ ap (books_row (entry_index f + 1) (thing_index u)) (beside f u far)),
         λ q.
-            let keys = two_same (entry_place f + 1) (thing_place u) (entry_place e + 1) (thing_place t) (ap (take 2) (sym is) ∙ q) in
+            let keys = two_same (entry_index f + 1) (thing_index u) (entry_index e + 1) (thing_index t) (ap (take 2) (sym is) ∙ q) in
             elim far [ inl entries ↦ entries (omega (arith, keys.0)) | inr things ↦ things keys.1 ],
       )
 
 -- its statements are the ones of the amount
-module _ (c : CampaignValue) (e : Entry) (t : Thing) (n k : ℕ) (entry : n ≡ entry_place e + 1) (thing : k ≡ thing_place t) where
+module _ (c : CampaignValue) (e : Entry) (t : Thing) (n k : ℕ) (entry : n ≡ entry_index e + 1) (thing : k ≡ thing_index t) where
   pub amount_put : (z : ℤ) → z ≡ amount_in c.books e t → z ≢ pos 0 → OfAmount c e t (upsert books_table 2) (books_row n k z)
   amount_put z amount some = rw (entry, thing, amount) (puts_amount (λ zero. some (amount ∙ zero)))
 
@@ -146,17 +146,17 @@ amount_changes c e t sql params (puts_amount some) = changes_row (puts_row Books
 amount_changes c e t sql params (drops_amount zero) = drops_row Books (
   refl,
   λ own row of key.
-      let keys = two_same (entry_place of.0 + 1) (thing_place of.1) (entry_place e + 1) (thing_place t) (ap (take 2) (sym of.3) ∙ key) in
-      let entry : entry_place of.0 ≡ entry_place e = omega (arith, keys.0) in
-      of.2 (ap (λ n. amount_at c.books n (thing_place of.1)) entry ∙ ap (amount_at c.books (entry_place e)) keys.1 ∙ zero),
+      let keys = two_same (entry_index of.0 + 1) (thing_index of.1) (entry_index e + 1) (thing_index t) (ap (take 2) (sym of.3) ∙ key) in
+      let entry : entry_index of.0 ≡ entry_index e = omega (arith, keys.0) in
+      of.2 (ap (λ n. amount_at c.books n (thing_index of.1)) entry ∙ ap (amount_at c.books (entry_index e)) keys.1 ∙ zero),
 )
 
 -- the row of an amount is put, or taken out where the amount is 0
-module _ (c : CampaignValue) (e : Entry) (t : Thing) (n k : ℕ) (entry : n ≡ entry_place e + 1) (thing : k ≡ thing_place t) (old new : Database) where
+module _ (c : CampaignValue) (e : Entry) (t : Thing) (n k : ℕ) (entry : n ≡ entry_index e + 1) (thing : k ≡ thing_index t) (old new : Database) where
   pub settles_by_put : (z : ℤ) → z ≡ amount_in c.books e t → z ≢ pos 0 → Puts books_table 2 (books_row n k z) old new → Settles c e t old new
   settles_by_put z amount some did =
       let lines : amount_lines c e t ≡ books_row n k z ∷ [] = amount_is c e t n k z entry thing amount some in
-      let keys : take 2 (books_row n k z) ≡ books_key (entry_place e + 1) (thing_place t) = rw (entry, thing) refl in
+      let keys : take 2 (books_row n k z) ≡ books_key (entry_index e + 1) (thing_index t) = rw (entry, thing) refl in
       record {
         rows = λ r. (
           λ there. elim ((did.rows r).0 there) [ inl same ↦ inl (subst (λ l. Has l r) (sym lines) (inl same)) | inr kept ↦ inr (kept.0, λ q. kept.1 (q ∙ sym keys)) ],
@@ -167,7 +167,7 @@ module _ (c : CampaignValue) (e : Entry) (t : Thing) (n k : ℕ) (entry : n ≡ 
 
   pub settles_by_drop : amount_in c.books e t ≡ pos 0 → Drops books_table 2 (books_key n k) old new → Settles c e t old new
   settles_by_drop none did =
-      let keys : books_key n k ≡ books_key (entry_place e + 1) (thing_place t) = rw (entry, thing) refl in
+      let keys : books_key n k ≡ books_key (entry_index e + 1) (thing_index t) = rw (entry, thing) refl in
       let lines : amount_lines c e t ≡ [] = rw none refl in
       record {
         rows = λ r. (

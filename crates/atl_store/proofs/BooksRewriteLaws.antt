@@ -12,7 +12,7 @@ use Rattle.sqlite.specs.State.{State}
 use Rattle.sqlite_rules.specs.Lists.{Has}
 use Rattle.sqlite_value.specs.declared.value.Value.TheVariants.{Int}
 use Rattle.atl_records.specs.Limits.{entry_count}
-use Rattle.atl_records.specs.Books.{all_entries, amount_in, entry_place, thing_place, amount_number}
+use Rattle.atl_records.specs.Books.{all_entries, amount_in, entry_index, thing_index, amount_number}
 use Rattle.atl_state.specs.Marks.{AreOfThings}
 use Rattle.atl_state.specs.Campaign.{MarkedCampaign}
 use Rattle.atl_records.specs.declared.books.Entry.{Entry}
@@ -103,18 +103,18 @@ module _ (marks : FinSet nat_cmp) where
       uncounted : count ≤ e → nat_le (suc e) count ≡ false
       uncounted past = grind (arith, nat_tests, past)
 
-  each_entry : (e : ℕ) → is_among (map entry_place all_entries) e ≡ nat_le (suc e) entry_count
+  each_entry : (e : ℕ) → is_among (map entry_index all_entries) e ≡ nat_le (suc e) entry_count
   each_entry e = among_first entry_count e
 
   pub all_amounts : (things : ℕ) → AreOfThings things marks → (r : Row)
-      → of_amounts marks (is_among (map entry_place all_entries)) (is_among (range_with_len 0 things)) r ≡ amount_marked marks r
-  all_amounts things few r = accounts_same (λ e t. is_among (map entry_place all_entries) e && (is_among (range_with_len 0 things) t && marked e t)) (is_marked_amount marks) same r
+      → of_amounts marks (is_among (map entry_index all_entries)) (is_among (range_with_len 0 things)) r ≡ amount_marked marks r
+  all_amounts things few r = accounts_same (λ e t. is_among (map entry_index all_entries) e && (is_among (range_with_len 0 things) t && marked e t)) (is_marked_amount marks) same r
     where
       inside : (e t n : ℕ) → entry_count * t + e < entry_count * n → t < n
       inside e t n h = omega (arith, h)
 
       same : (e t : ℕ)
-          → (is_among (map entry_place all_entries) e && (is_among (range_with_len 0 things) t && marked e t)) ≡ is_marked_amount marks e t
+          → (is_among (map entry_index all_entries) e && (is_among (range_with_len 0 things) t && marked e t)) ≡ is_marked_amount marks e t
       same e t = elim (cases_Bool (marked e t)) [
         | inl is ↦
             let there : is_among (range_with_len 0 things) t ≡ true = in_range 0 things t (omega arith) (omega (arith, inside e t things (few (entry_count * t + e) is))) in
@@ -126,18 +126,18 @@ module _ (marks : FinSet nat_cmp) where
 
 module _ (c : MarkedCampaign) (e : Entry) (t : Thing) where
   abbrev is_here : Row → Bool
-  is_here r = of_amounts c.marks.books (is_number (entry_place e)) (is_number (thing_place t)) r
+  is_here r = of_amounts c.marks.books (is_number (entry_index e)) (is_number (thing_index t)) r
 
   abbrev row : Row
-  row = books_row (entry_place e + 1) (thing_place t) (amount_in c.value.books e t)
+  row = books_row (entry_index e + 1) (thing_index t) (amount_in c.value.books e t)
 
   -- a wanted row at the same places is the row
-  same_place : (f : Entry) (u : Thing) → amount_in c.value.books f u ≢ pos 0 → entry_place f ≡ entry_place e → thing_place u ≡ thing_place t
-      → (r : Row) → r ≡ books_row (entry_place f + 1) (thing_place u) (amount_in c.value.books f u) → Has (amount_lines c.value e t) r
+  same_place : (f : Entry) (u : Thing) → amount_in c.value.books f u ≢ pos 0 → entry_index f ≡ entry_index e → thing_index u ≡ thing_index t
+      → (r : Row) → r ≡ books_row (entry_index f + 1) (thing_index u) (amount_in c.value.books f u) → Has (amount_lines c.value e t) r
   same_place f u some entries things r is =
       let books = c.value.books in
-      let same : amount_in books f u ≡ amount_in books e t = ap (λ k. get_or (get_or books k []) (entry_place f) (pos 0)) things ∙ ap (λ k. get_or (get_or books (thing_place t) []) k (pos 0)) entries in
-      let row_is : r ≡ row = is ∙ ap (λ k. books_row (k + 1) (thing_place u) (amount_in books f u)) entries ∙ ap (λ k. books_row (entry_place e + 1) k (amount_in books f u)) things ∙ ap (books_row (entry_place e + 1) (thing_place t)) same in
+      let same : amount_in books f u ≡ amount_in books e t = ap (λ k. get_or (get_or books k []) (entry_index f) (pos 0)) things ∙ ap (λ k. get_or (get_or books (thing_index t) []) k (pos 0)) entries in
+      let row_is : r ≡ row = is ∙ ap (λ k. books_row (k + 1) (thing_index u) (amount_in books f u)) entries ∙ ap (λ k. books_row (entry_index e + 1) k (amount_in books f u)) things ∙ ap (books_row (entry_index e + 1) (thing_index t)) same in
       subst (Has (amount_lines c.value e t)) (sym row_is) (has_optional (int_eq (amount_in books e t) (pos 0)) row (is_differing (amount_in books e t) (λ none. some (same ∙ none))))
 
   -- an amount that isn't marked chooses no row
@@ -145,41 +145,41 @@ module _ (c : MarkedCampaign) (e : Entry) (t : Thing) where
   unmarked_none unmarked r = accounts_none _ (λ k j. false_from_ne_true _ (λ is.
       let one = and_parts _ _ is in
       let two = and_parts _ _ one.1 in
-      true≢false (sym two.1 ∙ ap (λ x. contains c.marks.books (entry_count * x + k)) (tied j (thing_place t) two.0) ∙ ap (λ x. contains c.marks.books (entry_count * thing_place t + x)) (tied k (entry_place e) one.0) ∙ unmarked))) r
+      true≢false (sym two.1 ∙ ap (λ x. contains c.marks.books (entry_count * x + k)) (tied j (thing_index t) two.0) ∙ ap (λ x. contains c.marks.books (entry_count * thing_index t + x)) (tied k (entry_index e) one.0) ∙ unmarked))) r
 
-  key_of : (r : Row) → is_here r ≡ true → take 2 r ≡ books_key (entry_place e + 1) (thing_place t)
+  key_of : (r : Row) → is_here r ≡ true → take 2 r ≡ books_key (entry_index e + 1) (thing_index t)
   key_of (Int (pos (suc place)) ∷ Int (pos thing) ∷ row) is =
       let one = and_parts _ _ is in
       let two = and_parts _ _ one.1 in
-      ap (λ k. books_key k thing) (next place (entry_place e) (tied place (entry_place e) one.0)) ∙ ap (books_key (entry_place e + 1)) (tied thing (thing_place t) two.0)
+      ap (λ k. books_key k thing) (next place (entry_index e) (tied place (entry_index e) one.0)) ∙ ap (books_key (entry_index e + 1)) (tied thing (thing_index t) two.0)
     where
       next : (a b : ℕ) → a ≡ b → suc a ≡ b + 1
       next a b same = omega (arith, same)
   key_of row is = absurd (true≢false (sym is))
 
   module _ (marked : contains c.marks.books (amount_number e t) ≡ true) where
-    of_key : (r : Row) → take 2 r ≡ books_key (entry_place e + 1) (thing_place t) → is_here r ≡ true
+    of_key : (r : Row) → take 2 r ≡ books_key (entry_index e + 1) (thing_index t) → is_here r ≡ true
     of_key [] key = absurd cc
     of_key (v ∷ []) key = absurd cc
     of_key (v ∷ w ∷ row) key =
-        let first : v ≡ int (entry_place e + 1) = cc in
-        let second : w ≡ int (thing_place t) = cc in
-        let place : entry_place e + 1 ≡ suc (entry_place e) = omega arith in
-        ap (λ x. is_here (x ∷ w ∷ row)) (first ∙ ap int place) ∙ ap (λ x. is_here (int (suc (entry_place e)) ∷ x ∷ row)) second
-        ∙ ap (λ b. b && (is_number (thing_place t) (thing_place t) && contains c.marks.books (amount_number e t))) (is_itself (entry_place e)) ∙ ap (λ b. b && contains c.marks.books (amount_number e t)) (is_itself (thing_place t)) ∙ marked
+        let first : v ≡ int (entry_index e + 1) = cc in
+        let second : w ≡ int (thing_index t) = cc in
+        let place : entry_index e + 1 ≡ suc (entry_index e) = omega arith in
+        ap (λ x. is_here (x ∷ w ∷ row)) (first ∙ ap int place) ∙ ap (λ x. is_here (int (suc (entry_index e)) ∷ x ∷ row)) second
+        ∙ ap (λ b. b && (is_number (thing_index t) (thing_index t) && contains c.marks.books (amount_number e t))) (is_itself (entry_index e)) ∙ ap (λ b. b && contains c.marks.books (amount_number e t)) (is_itself (thing_index t)) ∙ marked
 
     settle_rewrite : (old new : Database) → Settles c.value e t old new
-        → RewritesAmounts c (is_number (entry_place e)) (is_number (thing_place t)) old new
-    settle_rewrite old new did = rewrites_key is_here (λ r. take 2 r ≡ books_key (entry_place e + 1) (thing_place t)) (Has (amount_lines c.value e t)) (BooksRowsOf c.value.books) key_of of_key
+        → RewritesAmounts c (is_number (entry_index e)) (is_number (thing_index t)) old new
+    settle_rewrite old new did = rewrites_key is_here (λ r. take 2 r ≡ books_key (entry_index e + 1) (thing_index t)) (Has (amount_lines c.value e t)) (BooksRowsOf c.value.books) key_of of_key
         (λ r here. let is = optional_has (int_eq (amount_in c.value.books e t) (pos 0)) row r here in (ap (take 2) is.1, (e, t, differs_zero (amount_in c.value.books e t) is.0, is.1)))
         (λ r is of.
-        let keys = two_same (entry_place of.0 + 1) (thing_place of.1) (entry_place e + 1) (thing_place t) (ap (take 2) (sym of.3) ∙ key_of r is) in
+        let keys = two_same (entry_index of.0 + 1) (thing_index of.1) (entry_index e + 1) (thing_index t) (ap (take 2) (sym of.3) ∙ key_of r is) in
         same_place of.0 of.1 of.2 (omega (arith, keys.0)) keys.1 r of.3)
         books_table old new did.rows did.others
 
     pub settle_done : (old new : State) → Inside HasTables (Settles c.value e t) old new
-        → Inside HasTables (RewritesAmounts c (is_number (entry_place e)) (is_number (thing_place t))) old new
-    settle_done old new did = inside_weaker HasTables (Settles c.value e t) (RewritesAmounts c (is_number (entry_place e)) (is_number (thing_place t))) old new (λ has settles. settle_rewrite old.now new.now settles) did
+        → Inside HasTables (RewritesAmounts c (is_number (entry_index e)) (is_number (thing_index t))) old new
+    settle_done old new did = inside_weaker HasTables (Settles c.value e t) (RewritesAmounts c (is_number (entry_index e)) (is_number (thing_index t))) old new (λ has settles. settle_rewrite old.now new.now settles) did
 
 -- ---- one entry after another, and one thing after another
 
@@ -189,32 +189,32 @@ module _ (c : MarkedCampaign) where
 
   -- with the rest of these entries rewritten too, all are
   abbrev pub NearingEntries : (ℕ → Bool) → List Entry → List Entry → Database → Database → Type 0
-  NearingEntries things rest all old new = Nearing books_table wanted (λ r. of_amounts c.marks.books (is_among (map entry_place rest)) things r) (λ r. of_amounts c.marks.books (is_among (map entry_place all)) things r) old new
+  NearingEntries things rest all old new = Nearing books_table wanted (λ r. of_amounts c.marks.books (is_among (map entry_index rest)) things r) (λ r. of_amounts c.marks.books (is_among (map entry_index all)) things r) old new
 
   pub entry_nearer : (things : ℕ → Bool) (x : Entry) (now rest all : List Entry) → now ≡ x ∷ rest → (old mid new : State)
-      → Inside HasTables (NearingEntries things now all) old mid → Inside HasTables (RewritesAmounts c (is_number (entry_place x)) things) mid new
+      → Inside HasTables (NearingEntries things now all) old mid → Inside HasTables (RewritesAmounts c (is_number (entry_index x)) things) mid new
       → Inside HasTables (NearingEntries things rest all) old new
-  entry_nearer things x now rest all is = one_nearer books_table wanted (λ r. of_amounts c.marks.books (is_number (entry_place x)) things r) (λ r. of_amounts c.marks.books (is_among (map entry_place now)) things r) (λ r. of_amounts c.marks.books (is_among (map entry_place rest)) things r) (λ r. of_amounts c.marks.books (is_among (map entry_place all)) things r)
-      (λ r. ap (λ es. of_amounts c.marks.books (is_among (map entry_place es)) things r) is ∙ next_entry c.marks.books (entry_place x) (map entry_place rest) things r)
+  entry_nearer things x now rest all is = one_nearer books_table wanted (λ r. of_amounts c.marks.books (is_number (entry_index x)) things r) (λ r. of_amounts c.marks.books (is_among (map entry_index now)) things r) (λ r. of_amounts c.marks.books (is_among (map entry_index rest)) things r) (λ r. of_amounts c.marks.books (is_among (map entry_index all)) things r)
+      (λ r. ap (λ es. of_amounts c.marks.books (is_among (map entry_index es)) things r) is ∙ next_entry c.marks.books (entry_index x) (map entry_index rest) things r)
 
   pub entries_rewritten : (things : ℕ → Bool) (rest all : List Entry) → rest ≡ [] → (old new : State)
       → Inside HasTables (NearingEntries things rest all) old new
-      → Inside HasTables (RewritesAmounts c (is_among (map entry_place all)) things) old new
-  entries_rewritten things rest all none = all_rewritten books_table wanted (λ r. of_amounts c.marks.books (is_among (map entry_place rest)) things r) (λ r. of_amounts c.marks.books (is_among (map entry_place all)) things r) (λ r. of_amounts c.marks.books (is_among (map entry_place all)) things r)
-      (no_entry c.marks.books (map entry_place rest) things (ap (map entry_place) none)) (λ r. refl)
+      → Inside HasTables (RewritesAmounts c (is_among (map entry_index all)) things) old new
+  entries_rewritten things rest all none = all_rewritten books_table wanted (λ r. of_amounts c.marks.books (is_among (map entry_index rest)) things r) (λ r. of_amounts c.marks.books (is_among (map entry_index all)) things r) (λ r. of_amounts c.marks.books (is_among (map entry_index all)) things r)
+      (no_entry c.marks.books (map entry_index rest) things (ap (map entry_index) none)) (λ r. refl)
 
   -- with the rest of these things rewritten too, all are
   abbrev pub NearingThings : List ℕ → List ℕ → Database → Database → Type 0
-  NearingThings rest all old new = Nearing books_table wanted (λ r. of_amounts c.marks.books (is_among (map entry_place all_entries)) (is_among rest) r) (λ r. of_amounts c.marks.books (is_among (map entry_place all_entries)) (is_among all) r) old new
+  NearingThings rest all old new = Nearing books_table wanted (λ r. of_amounts c.marks.books (is_among (map entry_index all_entries)) (is_among rest) r) (λ r. of_amounts c.marks.books (is_among (map entry_index all_entries)) (is_among all) r) old new
 
   pub thing_nearer : (t : ℕ) (now rest all : List ℕ) → now ≡ t ∷ rest → (old mid new : State) → Inside HasTables (NearingThings now all) old mid
-      → Inside HasTables (RewritesAmounts c (is_among (map entry_place all_entries)) (is_number t)) mid new
+      → Inside HasTables (RewritesAmounts c (is_among (map entry_index all_entries)) (is_number t)) mid new
       → Inside HasTables (NearingThings rest all) old new
-  thing_nearer t now rest all is = one_nearer books_table wanted (λ r. of_amounts c.marks.books (is_among (map entry_place all_entries)) (is_number t) r) (λ r. of_amounts c.marks.books (is_among (map entry_place all_entries)) (is_among now) r)
-      (λ r. of_amounts c.marks.books (is_among (map entry_place all_entries)) (is_among rest) r) (λ r. of_amounts c.marks.books (is_among (map entry_place all_entries)) (is_among all) r)
-      (λ r. ap (λ ts. of_amounts c.marks.books (is_among (map entry_place all_entries)) (is_among ts) r) is ∙ next_thing c.marks.books (is_among (map entry_place all_entries)) t rest r)
+  thing_nearer t now rest all is = one_nearer books_table wanted (λ r. of_amounts c.marks.books (is_among (map entry_index all_entries)) (is_number t) r) (λ r. of_amounts c.marks.books (is_among (map entry_index all_entries)) (is_among now) r)
+      (λ r. of_amounts c.marks.books (is_among (map entry_index all_entries)) (is_among rest) r) (λ r. of_amounts c.marks.books (is_among (map entry_index all_entries)) (is_among all) r)
+      (λ r. ap (λ ts. of_amounts c.marks.books (is_among (map entry_index all_entries)) (is_among ts) r) is ∙ next_thing c.marks.books (is_among (map entry_index all_entries)) t rest r)
 
   pub things_rewritten : (rest : List ℕ) (count : ℕ) → AreOfThings count c.marks.books → rest ≡ [] → (old new : State)
       → Inside HasTables (NearingThings rest (range_with_len 0 count)) old new → Inside HasTables (RewritesBooks c) old new
-  things_rewritten rest count few none = all_rewritten books_table wanted (λ r. of_amounts c.marks.books (is_among (map entry_place all_entries)) (is_among rest) r) (λ r. of_amounts c.marks.books (is_among (map entry_place all_entries)) (is_among (range_with_len 0 count)) r) (λ r. amount_marked c.marks.books r)
-      (no_thing c.marks.books (is_among (map entry_place all_entries)) rest none) (all_amounts c.marks.books count few)
+  things_rewritten rest count few none = all_rewritten books_table wanted (λ r. of_amounts c.marks.books (is_among (map entry_index all_entries)) (is_among rest) r) (λ r. of_amounts c.marks.books (is_among (map entry_index all_entries)) (is_among (range_with_len 0 count)) r) (λ r. amount_marked c.marks.books r)
+      (no_thing c.marks.books (is_among (map entry_index all_entries)) rest none) (all_amounts c.marks.books count few)

@@ -11,7 +11,7 @@ use Rattle.sqlite.specs.Order.{Row}
 use Rattle.sqlite_trees.specs.Tree.{Trees}
 use Rattle.sqlite_rules.specs.Lists.{Has}
 use Rattle.atl_state.specs.Covers.{SameBut, SameThings, Covers, bare, own_row}
-use Rattle.atl_records.specs.Books.{amount_in, entry_place, thing_place, amount_number}
+use Rattle.atl_records.specs.Books.{amount_in, entry_index, thing_index, amount_number}
 use Rattle.atl_state.specs.Marks.{Marks, is_thing_marked}
 use Rattle.atl_state.specs.Campaign.{CampaignValue, MarkedCampaign}
 use Rattle.atl_records.specs.declared.books.Entry.{Entry}
@@ -20,21 +20,21 @@ use Rattle.atl_records.proofs.EveryEntryLaws.{entry_small}
 use Rattle.atl_records.specs.declared.books.Thing.{Thing}
 use Rattle.atl_records.specs.declared.records.Region.{Region}
 use Rattle.atl_records.specs.declared.records.Unit.{Unit}
-use Rattle.atl_store.specs.declared.rows.has.Sort.{Sort}
-use Rattle.atl_store.specs.declared.rows.has.Sort.TheVariants.{Item, Skill}
+use Rattle.atl_store.specs.declared.rows.has.ThingKind.{ThingKind}
+use Rattle.atl_store.specs.declared.rows.has.ThingKind.TheVariants.{Item, Skill}
 use Rattle.atl_store.specs.Sets.{Is, rows_in}
 use Rattle.atl_store.specs.Tables.{Part, Own, Factions, Regions, Units, Goods, Structures, Mail, Reports, Books, Markets, table_of}
-use Rattle.atl_store.specs.Shown.{Head, head_row, has_row, mail_row, report_row, books_row}
+use Rattle.atl_store.specs.Shown.{CampaignRowValue, campaign_row, has_row, mail_row, report_row, books_row}
 use Rattle.atl_store.specs.Written.{sort_number}
-use Rattle.atl_store.specs.Rows.{RowsOf, HasRowsOf, BooksRowsOf, MarketRowsOf, rows_for, head_of, campaign_line, faction_line, region_line, unit_line, structure_line, things_under, amount_under, Holds}
-use Rattle.atl_store.specs.Changing.{begins_marked, has_thing, goods_marked, amount_marked, is_marked, Chosen, rewritten, head_after, HasUnmarked, WritesChanges, HoldsUnmarked}
+use Rattle.atl_store.specs.Rows.{RowsOf, HasRowsOf, BooksRowsOf, MarketRowsOf, rows_for, campaign_row_of, campaign_line, faction_line, region_line, unit_line, structure_line, things_under, amount_under, Holds}
+use Rattle.atl_store.specs.Changing.{begins_marked, has_thing, goods_marked, amount_marked, is_marked, Chosen, rows_after_rewrite, campaign_row_after, HasUnmarked, WritesChanges, HoldsUnmarked}
 use Rattle.atl_store.specs.Rewriting.{marked_things}
 use Rattle.atl_store.proofs.GoodsLaws.{had_of, of_had}
 
 -- ---- a table whose unmarked rows are the campaign's
 
 -- once the marked ones are written it has all
-all_held : (is_marked : Row → Bool) (After : Row → Type 0) (old new : List Row) → ((r : Row) → is_marked r ≡ false → Has old r ↔ After r) → Is new (rewritten is_marked After (Has old)) → Is new After
+all_held : (is_marked : Row → Bool) (After : Row → Type 0) (old new : List Row) → ((r : Row) → is_marked r ≡ false → Has old r ↔ After r) → Is new (rows_after_rewrite is_marked After (Has old)) → Is new After
 all_held is_marked After old new rest now r = (λ there. from (is_marked r) refl ((now r).0 there), λ of. (now r).1 (to (is_marked r) refl of))
   where
     from : (b : Bool) → is_marked r ≡ b → Chosen b (After r) (Has old r) → After r
@@ -83,15 +83,15 @@ bare_same n o (Some w) v same there = (w, refl, let e : bare w ≡ bare v = (let
 
 -- ---- goods
 
-goods_heads : (marks : Marks) (n : ℕ) (sort : Sort) (thing amount : ℕ) → goods_marked marks (has_row n (sort_number sort) thing amount) ≡ is_thing_marked marks.goods (marked_things marks sort) n thing
+goods_heads : (marks : Marks) (n : ℕ) (sort : ThingKind) (thing amount : ℕ) → goods_marked marks (has_row n (sort_number sort) thing amount) ≡ is_thing_marked marks.goods (marked_things marks sort) n thing
 goods_heads marks n Item thing amount = or-false (is_thing_marked marks.goods marks.items n thing)
 goods_heads marks n Skill thing amount = ap (λ b. b || has_thing marks.skills n thing) (or-false (contains marks.goods n))
 
-goods_same : (m : Marks) (before after : CampaignValue) → Covers m before after → (sort : Sort) → SameThings m.goods (marked_things m sort) (things_under sort) before.units after.units
+goods_same : (m : Marks) (before after : CampaignValue) → Covers m before after → (sort : ThingKind) → SameThings m.goods (marked_things m sort) (things_under sort) before.units after.units
 goods_same m before after covers Item = covers.items
 goods_same m before after covers Skill = covers.days
 
-goods_follow : (one other : FinMap nat_cmp Unit) (marks : Marks) (r : Row) → ((sort : Sort) → SameThings marks.goods (marked_things marks sort) (things_under sort) one other) → goods_marked marks r ≡ false → HasRowsOf one r → HasRowsOf other r
+goods_follow : (one other : FinMap nat_cmp Unit) (marks : Marks) (r : Row) → ((sort : ThingKind) → SameThings marks.goods (marked_things marks sort) (things_under sort) one other) → goods_marked marks r ≡ false → HasRowsOf one r → HasRowsOf other r
 goods_follow one other marks r same not_marked of =
     let had = had_of one r of in
     let amount = amount_under one had.0 had.1 had.2 in
@@ -105,9 +105,9 @@ stocks_follow one other marks r same not_marked of = (of.0, of.1, same of.0 (ap 
 
 -- ---- amounts
 
-amount_heads : (marks : FinSet nat_cmp) (e : Entry) (t : Thing) (amount : ℤ) → amount_marked marks (books_row (entry_place e + 1) (thing_place t) amount) ≡ contains marks (amount_number e t)
+amount_heads : (marks : FinSet nat_cmp) (e : Entry) (t : Thing) (amount : ℤ) → amount_marked marks (books_row (entry_index e + 1) (thing_index t) amount) ≡ contains marks (amount_number e t)
 amount_heads marks e t amount =
-    ap (λ number. amount_marked marks (books_row number (thing_place t) amount)) (next (entry_place e)) ∙ ap (λ (b : Bool). b && contains marks (amount_number e t)) (there (entry_place e) (entry_small e))
+    ap (λ number. amount_marked marks (books_row number (thing_index t) amount)) (next (entry_index e)) ∙ ap (λ (b : Bool). b && contains marks (amount_number e t)) (there (entry_index e) (entry_small e))
   where
     next : (n : ℕ) → n + 1 ≡ suc n
     next n = omega arith
@@ -118,14 +118,14 @@ amount_heads marks e t amount =
 amounts_follow : (one other : List (List ℤ)) (marks : FinSet nat_cmp) (r : Row) → ((e : Entry) (t : Thing) → contains marks (amount_number e t) ≡ false → amount_in other e t ≡ amount_in one e t) → amount_marked marks r ≡ false → BooksRowsOf one r → BooksRowsOf other r
 amounts_follow one other marks r same not_marked of =
     let is = same of.0 of.1 (sym (amount_heads marks of.0 of.1 (amount_in one of.0 of.1)) ∙ ap (amount_marked marks) (sym of.3) ∙ not_marked) in
-    (of.0, of.1, λ none. of.2 (sym is ∙ none), of.3 ∙ ap (books_row (entry_place of.0 + 1) (thing_place of.1)) (sym is))
+    (of.0, of.1, λ none. of.2 (sym is ∙ none), of.3 ∙ ap (books_row (entry_index of.0 + 1) (thing_index of.1)) (sym is))
 
 -- ---- the campaign's own row
 
-abbrev head_in : ℕ × (List ℕ × (ℕ × (ℕ × ℕ))) → Head
+abbrev head_in : ℕ × (List ℕ × (ℕ × (ℕ × ℕ))) → CampaignRowValue
 head_in row = record { month = row.0; pass = row.1.0; next_faction = row.1.1.0; next_unit = row.1.1.1.0; next_structure = row.1.1.1.1 }
 
-head_held : (b : Bool) (before after : CampaignValue) → (b ≡ false → own_row after ≡ own_row before) → head_after b after (head_of before) ≡ head_of after
+head_held : (b : Bool) (before after : CampaignValue) → (b ≡ false → own_row after ≡ own_row before) → campaign_row_after b after (campaign_row_of before) ≡ campaign_row_of after
 head_held true before after same = refl
 head_held false before after same = ap head_in (sym (same refl))
 
@@ -137,12 +137,12 @@ unmarked_held c old new changes text rest =
     let did = changes rest.before text rest.campaign in
     record {
       rows = λ part. all_held (is_marked c.marks part) (rows_for (campaign_line text c.value) c.value part) _ _ (rest.rest part)
-          (subst (λ (h : Head). Is (rows_in (table_of part) new.trees) (rewritten (is_marked c.marks part) (rows_for (head_row h text) c.value part) (Has (rows_in (table_of part) old.trees)))) rest.head (did.rows part));
+          (subst (λ (h : CampaignRowValue). Is (rows_in (table_of part) new.trees) (rows_after_rewrite (is_marked c.marks part) (rows_for (campaign_row h text) c.value part) (Has (rows_in (table_of part) old.trees)))) rest.head (did.rows part));
     }
 
 -- tables that hold a campaign from which only this differs
 pub covers_unmarked : (c : MarkedCampaign) (db : Trees) (text : List ℕ) (before : CampaignValue) → Covers c.marks before c.value → Holds db text before → HoldsUnmarked db text c
-covers_unmarked c db text before covers held = record { before = head_of before; campaign = held.rows Own; head = head_held c.marks.row before c.value covers.row; rest = rest }
+covers_unmarked c db text before covers held = record { before = campaign_row_of before; campaign = held.rows Own; head = head_held c.marks.row before c.value covers.row; rest = rest }
   where
     rest : (part : Part) → HasUnmarked (table_of part) (is_marked c.marks part) (rows_for (campaign_line text c.value) c.value part) db
     rest Own = λ r is. absurd (true≢false is)

@@ -72,10 +72,10 @@ module _ (schema : Schema) (table : Table) (unlinked : (olds news : List Row) �
       → ((rows : List Row) → Answers (record { schema = schema; trees = db }) q params rows → AreFound p (db table.tree) rows)
       → Deletes (record { limit = limit; keys = Enforced; schema = schema; table = table; params = params }) q db (Ok w) → Loses schema table p db w.trees
   deletes limit params q p db w keyed found h =
-      let asked = went h in
-      let wrote = went asked.2 in
+      let select_of = went h in
+      let wrote = went select_of.2 in
       let is : w.trees ≡ wrote.0 = ap (λ (x : Written). x.trees) (same_value wrote.2) in
-      subst (Loses schema table p db) (sym is) (loses p db wrote.0 asked.0 keyed (found asked.0 asked.1) wrote.1)
+      subst (Loses schema table p db) (sym is) (loses p db wrote.0 select_of.0 keyed (found select_of.0 select_of.1) wrote.1)
 
   -- ---- INSERT OR REPLACE of one row
 
@@ -131,7 +131,7 @@ module _ (schema : Schema) (table : Table) (unlinked : (olds news : List Row) �
     pub tries : (new : Row) (db : Trees) (w : Written) → IsKeyed (db table.tree) → Tries task Replace [] new db (Ok w)
         → Swaps schema table (p new) (cast_row table new) db w.trees
     tries new db w keyed (inl refused) = absurd (let e = refused.1 in cc)
-    tries new db w keyed (inr judged) = go judged.0 judged.2
+    tries new db w keyed (inr check_own_rows) = go check_own_rows.0 check_own_rows.2
       where
         go : (verdict : Option Refusal) → Judged task Replace [] new db verdict (Ok w) → Swaps schema table (p new) (cast_row table new) db w.trees
         go None h = clears new db w h.0 keyed h.1 h.2

@@ -12,9 +12,9 @@ use Rattle.atl_state.specs.Campaign.{CampaignValue}
 use Rattle.atl_store.specs.Sets.{Is, put, puts, rows_in}
 use Rattle.atl_store.specs.Tables.{Part, Own, Books, table_of, all_parts, campaign_table, books_table}
 use Rattle.atl_store.specs.Shown.{int}
-use Rattle.atl_store.specs.Rows.{head_of, campaign_line, RowsOf, rows_for, lines_of}
+use Rattle.atl_store.specs.Rows.{campaign_row_of, campaign_line, RowsOf, rows_for, lines_of}
 use Rattle.atl_store.specs.Lines.{AreGroups, groups_of, things_lines}
-use Rattle.atl_store.specs.PutsHead.{PutsHead}
+use Rattle.atl_store.specs.PutsCampaignRow.{PutsCampaignRow}
 use Rattle.atl_store.specs.Making.{AreEmpty}
 use Rattle.atl_store.specs.Inside.{Inside, HasTables, IsBlank, Both, PutsRows}
 use Rattle.atl_store.specs.Filling.{Fills, FillsParts, FillsWithOwn, WritesFounding}
@@ -34,7 +34,7 @@ one_row rows old row none made r = (
 module _ (c : CampaignValue) where
   -- ---- one table
 
-  pub own_filled : (text : List ℕ) (old new : Database) → PutsHead (head_of c) text old new → FillsWithOwn text c (Own ∷ []) old new
+  pub own_filled : (text : List ℕ) (old new : Database) → PutsCampaignRow (campaign_row_of c) text old new → FillsWithOwn text c (Own ∷ []) old new
   own_filled text old new did none = one_changed (Fills c (campaign_line text c)) Own _ old new (did.first none) (λ rows empty. one_row _ _ (campaign_line text c) empty rows)
 
   -- of rows under a number

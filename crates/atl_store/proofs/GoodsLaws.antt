@@ -7,14 +7,14 @@ use Rattle.std.proofs.lemmas.Bool.Decides.{nat_tests}
 use Rattle.sqlite.specs.Order.{Row}
 use Rattle.sqlite_rules.specs.Lists.{Has}
 use Rattle.sqlite_rules.proofs.ListLemmas.{has_either, has_left, has_right}
-use Rattle.atl_records.specs.Held.{Held, amount_of}
+use Rattle.atl_records.specs.Holdings.{HoldingValue, amount_of}
 use Rattle.atl_records.specs.declared.records.Unit.{Unit}
-use Rattle.atl_store.specs.declared.rows.has.Sort.{Sort}
-use Rattle.atl_store.specs.declared.rows.has.Sort.TheVariants.{Item, Skill}
+use Rattle.atl_store.specs.declared.rows.has.ThingKind.{ThingKind}
+use Rattle.atl_store.specs.declared.rows.has.ThingKind.TheVariants.{Item, Skill}
 use Rattle.atl_store.specs.Shown.{int, has_key, has_row}
 use Rattle.atl_store.specs.Written.{sort_number}
 use Rattle.atl_store.specs.Rows.{things_of, things_under, amount_under, HasRowsOf}
-use Rattle.atl_store.specs.Lines.{DifferInKey, AreGroups, amount_rows, sort_lines, goods_lines, unit_lines}
+use Rattle.atl_store.specs.Lines.{DifferInKey, AreGroups, amount_rows, kind_lines, goods_lines, unit_lines}
 use Rattle.atl_store.proofs.EntryLaws.{apart_append, below_has, less_apart, got_entry, entry_got, in_order, flat_has, has_flat}
 
 -- ---- one amount
@@ -66,38 +66,38 @@ module _ (row : ℕ → ℕ → Row) where
 pub three_same : (a b c d e f : ℕ) → ◌≡◌ {A = Row} (has_key a b c) (has_key d e f) → (a ≡ d) × (b ≡ e) × (c ≡ f)
 three_same a b c d e f same = (cc, cc, cc)
 
-module _ (unit : ℕ) (sort : Sort) where
-  sort_has : (es : List (ℕ × ℕ)) (r : Row) → Has (sort_lines unit sort es) r → (e : ℕ × ℕ) × Has es e × (e.1 ≢ 0) × (r ≡ has_row unit (sort_number sort) e.0 e.1)
+module _ (unit : ℕ) (sort : ThingKind) where
+  sort_has : (es : List (ℕ × ℕ)) (r : Row) → Has (kind_lines unit sort es) r → (e : ℕ × ℕ) × Has es e × (e.1 ≢ 0) × (r ≡ has_row unit (sort_number sort) e.0 e.1)
   sort_has = amounts_have (has_row unit (sort_number sort))
 
-  has_sort : (es : List (ℕ × ℕ)) (thing amount : ℕ) → Has es (thing, amount) → amount ≢ 0 → Has (sort_lines unit sort es) (has_row unit (sort_number sort) thing amount)
+  has_sort : (es : List (ℕ × ℕ)) (thing amount : ℕ) → Has es (thing, amount) → amount ≢ 0 → Has (kind_lines unit sort es) (has_row unit (sort_number sort) thing amount)
   has_sort = have_amount (has_row unit (sort_number sort))
 
-  sort_apart : (es : List (ℕ × ℕ)) → is_sorted nat_cmp es ≡ true → DifferInKey 3 (sort_lines unit sort es)
+  sort_apart : (es : List (ℕ × ℕ)) → is_sorted nat_cmp es ≡ true → DifferInKey 3 (kind_lines unit sort es)
   sort_apart = amounts_apart (has_row unit (sort_number sort)) 3 (λ m a n b same. (three_same unit (sort_number sort) m unit (sort_number sort) n same).2)
 
 -- ---- all that one unit has
 
-pub goods_has : (unit : ℕ) (held : Held) (r : Row) → Has (goods_lines unit held) r → (sort : Sort) × (e : ℕ × ℕ) × Has (entries (things_of sort held)) e × (e.1 ≢ 0) × (r ≡ has_row unit (sort_number sort) e.0 e.1)
-goods_has unit held r there = elim (has_either (sort_lines unit Item (entries held.items)) (sort_lines unit Skill (entries held.days)) r there) [
+pub goods_has : (unit : ℕ) (held : HoldingValue) (r : Row) → Has (goods_lines unit held) r → (sort : ThingKind) × (e : ℕ × ℕ) × Has (entries (things_of sort held)) e × (e.1 ≢ 0) × (r ≡ has_row unit (sort_number sort) e.0 e.1)
+goods_has unit held r there = elim (has_either (kind_lines unit Item (entries held.items)) (kind_lines unit Skill (entries held.days)) r there) [
   | inl item ↦ let e = sort_has unit Item (entries held.items) r item in (Item, e.0, e.1, e.2, e.3)
   | inr skill ↦ let e = sort_has unit Skill (entries held.days) r skill in (Skill, e.0, e.1, e.2, e.3)
 ]
 
-pub has_goods : (unit : ℕ) (held : Held) (sort : Sort) (thing amount : ℕ) → Has (entries (things_of sort held)) (thing, amount) → amount ≢ 0 → Has (goods_lines unit held) (has_row unit (sort_number sort) thing amount)
-has_goods unit held Item thing amount there some = has_left (sort_lines unit Item (entries held.items)) (sort_lines unit Skill (entries held.days)) _ (has_sort unit Item (entries held.items) thing amount there some)
-has_goods unit held Skill thing amount there some = has_right (sort_lines unit Item (entries held.items)) (sort_lines unit Skill (entries held.days)) _ (has_sort unit Skill (entries held.days) thing amount there some)
+pub has_goods : (unit : ℕ) (held : HoldingValue) (sort : ThingKind) (thing amount : ℕ) → Has (entries (things_of sort held)) (thing, amount) → amount ≢ 0 → Has (goods_lines unit held) (has_row unit (sort_number sort) thing amount)
+has_goods unit held Item thing amount there some = has_left (kind_lines unit Item (entries held.items)) (kind_lines unit Skill (entries held.days)) _ (has_sort unit Item (entries held.items) thing amount there some)
+has_goods unit held Skill thing amount there some = has_right (kind_lines unit Item (entries held.items)) (kind_lines unit Skill (entries held.days)) _ (has_sort unit Skill (entries held.days) thing amount there some)
 
-pub goods_apart : (unit : ℕ) (held : Held) → DifferInKey 3 (goods_lines unit held)
+pub goods_apart : (unit : ℕ) (held : HoldingValue) → DifferInKey 3 (goods_lines unit held)
 goods_apart unit held =
-    apart_append 3 (sort_lines unit Item (entries held.items)) (sort_lines unit Skill (entries held.days)) (sort_apart unit Item (entries held.items) (in_order held.items)) (sort_apart unit Skill (entries held.days) (in_order held.days))
+    apart_append 3 (kind_lines unit Item (entries held.items)) (kind_lines unit Skill (entries held.days)) (sort_apart unit Item (entries held.items) (in_order held.items)) (sort_apart unit Skill (entries held.days) (in_order held.days))
     (λ x y early late same.
     let one = sort_has unit Item (entries held.items) x early in
     let two = sort_has unit Skill (entries held.days) y late in
     let keys = three_same unit 0 one.0.0 unit 1 two.0.0 (ap (take 3) (sym one.3) ∙ same ∙ ap (take 3) two.3) in
     absurd (omega (arith, keys.1)))
 
-goods_begin : (n : ℕ) (held : Held) (r : Row) → Has (goods_lines n held) r → take 1 r ≡ int n ∷ []
+goods_begin : (n : ℕ) (held : HoldingValue) (r : Row) → Has (goods_lines n held) r → take 1 r ≡ int n ∷ []
 goods_begin n held r there = ap (take 1) (goods_has n held r there).4
 
 -- ---- all that all units have
@@ -123,29 +123,29 @@ goods_grouped units = record {
 
 -- ---- how much a unit has of a thing
 
-under_unit : (sort : Sort) (u : Unit) → things_under sort (Some u) ≡ things_of sort u.holding
+under_unit : (sort : ThingKind) (u : Unit) → things_under sort (Some u) ≡ things_of sort u.holding
 under_unit Item u = refl
 under_unit Skill u = refl
 
-under_none : (sort : Sort) (thing : ℕ) → amount_of (things_under sort None) thing ≡ 0
+under_none : (sort : ThingKind) (thing : ℕ) → amount_of (things_under sort None) thing ≡ 0
 under_none Item thing = ap (λ (o : Option ℕ). unwrap_or o 0) (get-empty {X = ℕ} nat_cmp thing)
 under_none Skill thing = ap (λ (o : Option ℕ). unwrap_or o 0) (get-empty {X = ℕ} nat_cmp thing)
 
 module _ (units : FinMap nat_cmp Unit) where
-  pub amount_none : (n : ℕ) (sort : Sort) (thing : ℕ) → get units n ≡ None → amount_under units n sort thing ≡ 0
+  pub amount_none : (n : ℕ) (sort : ThingKind) (thing : ℕ) → get units n ≡ None → amount_under units n sort thing ≡ 0
   amount_none n sort thing none = ap (λ o. amount_of (things_under sort o) thing) none ∙ under_none sort thing
 
-  pub amount_some : (n : ℕ) (sort : Sort) (thing : ℕ) (u : Unit) → get units n ≡ Some u → amount_under units n sort thing ≡ amount_of (things_of sort u.holding) thing
+  pub amount_some : (n : ℕ) (sort : ThingKind) (thing : ℕ) (u : Unit) → get units n ≡ Some u → amount_under units n sort thing ≡ amount_of (things_of sort u.holding) thing
   amount_some n sort thing u there = ap (λ o. amount_of (things_under sort o) thing) there ∙ ap (λ things. amount_of things thing) (under_unit sort u)
 
   -- each row tells how much there is of a thing
-  pub had_of : (r : Row) → HasRowsOf units r → (n : ℕ) × (sort : Sort) × (thing : ℕ) × (amount_under units n sort thing ≢ 0) × (r ≡ has_row n (sort_number sort) thing (amount_under units n sort thing))
+  pub had_of : (r : Row) → HasRowsOf units r → (n : ℕ) × (sort : ThingKind) × (thing : ℕ) × (amount_under units n sort thing ≢ 0) × (r ≡ has_row n (sort_number sort) thing (amount_under units n sort thing))
   had_of r of =
       let amount : amount_under units of.0 of.3 of.4 ≡ of.5 = amount_some of.0 of.3 of.4 of.1 of.2 ∙ ap (λ (o : Option ℕ). unwrap_or o 0) of.6 in
       (of.0, of.3, of.4, λ none. of.7 (sym amount ∙ none), of.8 ∙ ap (has_row of.0 (sort_number of.3) of.4) (sym amount))
 
   -- and what there is has its row
-  pub of_had : (n : ℕ) (sort : Sort) (thing amount : ℕ) → amount ≡ amount_under units n sort thing → amount ≢ 0 → HasRowsOf units (has_row n (sort_number sort) thing amount)
+  pub of_had : (n : ℕ) (sort : ThingKind) (thing amount : ℕ) → amount ≡ amount_under units n sort thing → amount ≢ 0 → HasRowsOf units (has_row n (sort_number sort) thing amount)
   of_had n sort thing amount is some = there (get units n) refl
     where
       got : (o : Option ℕ) → amount ≡ unwrap_or o 0 → o ≡ Some amount

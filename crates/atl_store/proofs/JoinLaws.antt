@@ -12,7 +12,7 @@ use Rattle.sqlite.specs.Effect.{Database}
 use Rattle.sqlite.specs.State.{State}
 use Rattle.sqlite_rules.specs.Lists.{Has}
 use Rattle.atl_state.specs.Campaign.{CampaignValue, with_mail}
-use Rattle.atl_records.specs.Books.{amount_in, row_of, with_booked, entry_place, thing_place, IsGrid}
+use Rattle.atl_records.specs.Books.{amount_in, row_of, after_booking, entry_index, thing_index, IsGrid}
 use Rattle.atl_state.specs.Founding.{things_of as count_of}
 use Rattle.atl_state.specs.Joining.{joined, new_faction, first_unit}
 use Rattle.atl_records.specs.declared.books.Entry.{Entry}
@@ -21,14 +21,14 @@ use Rattle.atl_records.specs.declared.books.Thing.{Thing}
 use Rattle.atl_records.specs.declared.books.Thing.TheVariants.{Money, People}
 use Rattle.atl_records.specs.declared.records.Faction.{Faction}
 use Rattle.atl_records.specs.declared.records.Unit.{Unit}
-use Rattle.atl_records.proofs.BookLaws.{IsGrid-with_booked}
-use Rattle.atl_store.specs.declared.rows.has.Sort.{Sort}
-use Rattle.atl_store.specs.declared.rows.has.Sort.TheVariants.{Item, Skill}
+use Rattle.atl_records.proofs.BookLaws.{IsGrid-after_booking}
+use Rattle.atl_store.specs.declared.rows.has.ThingKind.{ThingKind}
+use Rattle.atl_store.specs.declared.rows.has.ThingKind.TheVariants.{Item, Skill}
 use Rattle.atl_store.specs.Sets.{Is, Set, put, visible, rows_in}
 use Rattle.atl_store.specs.Tables.{Part, Own, Factions, Units, Goods, Mail, Reports, Books, table_of, campaign_table, faction_table, unit_table, has_table, mail_table, report_table, books_table, all_tables}
-use Rattle.atl_store.specs.Shown.{Head, head_row, mail_row, report_row}
-use Rattle.atl_store.specs.Rows.{head_of, campaign_line, faction_line, unit_line, RowsOf, HasRowsOf, rows_for, things_of, Holds}
-use Rattle.atl_store.specs.PutsHead.{PutsHead}
+use Rattle.atl_store.specs.Shown.{CampaignRowValue, campaign_row, mail_row, report_row}
+use Rattle.atl_store.specs.Rows.{campaign_row_of, campaign_line, faction_line, unit_line, RowsOf, HasRowsOf, rows_for, things_of, Holds}
+use Rattle.atl_store.specs.PutsCampaignRow.{PutsCampaignRow}
 use Rattle.atl_store.specs.Inside.{Inside, HasTables, Both, Puts}
 use Rattle.atl_store.specs.Keeps.{IsJoining}
 use Rattle.atl_store.specs.Arriving.{IsFound, Enters, settled, Settles, HasPut, WritesJoin, WritesMail}
@@ -38,20 +38,20 @@ use Rattle.atl_store.proofs.WholeLaws.{inside_then, inside_weaker}
 
 -- ---- one booking changes one amount
 
-beside_booked : (things : ℕ) (books : List (List ℤ)) (e : Entry) (t : Thing) (n : ℤ) → IsGrid things books → thing_place t < things → (f : Entry) (u : Thing) → (entry_place f ≢ entry_place e) ⊎ (thing_place u ≢ thing_place t)
-    → amount_in (with_booked books e t n) f u ≡ amount_in books f u
+beside_booked : (things : ℕ) (books : List (List ℤ)) (e : Entry) (t : Thing) (n : ℤ) → IsGrid things books → thing_index t < things → (f : Entry) (u : Thing) → (entry_index f ≢ entry_index e) ⊎ (thing_index u ≢ thing_index t)
+    → amount_in (after_booking books e t n) f u ≡ amount_in books f u
 beside_booked things books e t n grid small f u far =
-    let j = thing_place t in
-    let new = set (row_of books t) (entry_place e) (amount_in books e t +ℤ n) in
-    elim (cases_eq (thing_place u) j) [
+    let j = thing_index t in
+    let new = set (row_of books t) (entry_index e) (amount_in books e t +ℤ n) in
+    elim (cases_eq (thing_index u) j) [
       | inl same ↦ elim far [
         | inl entries ↦
             let inside : j < length books = omega (arith, small, grid.rows) in
-            let row : get_or (set books j new) (thing_place u) [] ≡ new = ap (λ k. get_or (set books j new) k []) same ∙ get_or-set_same books j new [] inside in
-            ap (λ (r : List ℤ). get_or r (entry_place f) (pos 0)) row ∙ get_or-set_other (row_of books t) (entry_place e) (entry_place f) (amount_in books e t +ℤ n) (pos 0) entries ∙ ap (λ k. get_or (get_or books k []) (entry_place f) (pos 0)) (sym same)
+            let row : get_or (set books j new) (thing_index u) [] ≡ new = ap (λ k. get_or (set books j new) k []) same ∙ get_or-set_same books j new [] inside in
+            ap (λ (r : List ℤ). get_or r (entry_index f) (pos 0)) row ∙ get_or-set_other (row_of books t) (entry_index e) (entry_index f) (amount_in books e t +ℤ n) (pos 0) entries ∙ ap (λ k. get_or (get_or books k []) (entry_index f) (pos 0)) (sym same)
         | inr things_differ ↦ absurd (things_differ same)
       ]
-      | inr apart ↦ ap (λ (r : List ℤ). get_or r (entry_place f) (pos 0)) (get_or-set_other books j (thing_place u) new [] apart)
+      | inr apart ↦ ap (λ (r : List ℤ). get_or r (entry_index f) (pos 0)) (get_or-set_other books j (thing_index u) new [] apart)
     ]
 
 -- ---- how the campaign after a joining differs
@@ -61,12 +61,12 @@ record IsArrival (n : ℕ) (f : Faction) (m : ℕ) (u : Unit) (report : List ℕ
   units : after.units ≡ insert before.units m u
   reports : after.reports ≡ insert before.reports n report
   fresh : get before.units m ≡ None
-  bare : (sort : Sort) → things_of sort u.holding ≡ empty
+  bare : (sort : ThingKind) → things_of sort u.holding ≡ empty
   -- the books once the money is booked
   half : List (List ℤ)
   money : amount_in half Joining Money ≡ amount_in after.books Joining Money
-  first : (e : Entry) (t : Thing) → (entry_place e ≢ 1) ⊎ (thing_place t ≢ 0) → amount_in half e t ≡ amount_in before.books e t
-  second : (e : Entry) (t : Thing) → (entry_place e ≢ 1) ⊎ (thing_place t ≢ 1) → amount_in after.books e t ≡ amount_in half e t
+  first : (e : Entry) (t : Thing) → (entry_index e ≢ 1) ⊎ (thing_index t ≢ 0) → amount_in half e t ≡ amount_in before.books e t
+  second : (e : Entry) (t : Thing) → (entry_index e ≢ 1) ⊎ (thing_index t ≢ 1) → amount_in after.books e t ≡ amount_in half e t
 
 -- what is found under the number that was inserted is what was inserted
 found_is : {V : Type 0} (m after : FinMap nat_cmp V) (n k : ℕ) (v w : V) → after ≡ insert m n v → k ≡ n → get after k ≡ Some w → v ≡ w
@@ -81,7 +81,7 @@ arrives n f m u report before after found joining =
     let member = new_faction before.next_faction joining.1 joining.2 in
     let band = first_unit w joining.3 before in
     let start = pos w.rules.start_money in
-    let half = with_booked before.books Joining Money start in
+    let half = after_booking before.books Joining Money start in
     let things = count_of w in
     let number : n ≡ before.next_faction = joining.6 in
     let next : after.next_unit ≡ before.next_unit + 1 = ap (λ (c : CampaignValue). c.next_unit) is in
@@ -89,11 +89,11 @@ arrives n f m u report before after found joining =
     let factions : after.factions ≡ insert before.factions before.next_faction member = ap (λ (c : CampaignValue). c.factions) is in
     let units : after.units ≡ insert before.units before.next_unit band = ap (λ (c : CampaignValue). c.units) is in
     let reports : after.reports ≡ insert before.reports n joining.4 = ap (λ (c : CampaignValue). c.reports) is in
-    let books : after.books ≡ with_booked half Joining People (pos 1) = ap (λ (c : CampaignValue). c.books) is in
+    let books : after.books ≡ after_booking half Joining People (pos 1) = ap (λ (c : CampaignValue). c.books) is in
     let member_is : member ≡ f = found_is before.factions after.factions before.next_faction n member f factions number found.faction_is in
     let band_is : band ≡ u = found_is before.units after.units before.next_unit m band u units place found.unit_is in
     let report_is : joining.4 ≡ report = found_is before.reports after.reports n n joining.4 report reports refl found.report_is in
-    let half_grid = IsGrid-with_booked things before.books Joining Money start good.sound.steady.numbers.books in
+    let half_grid = IsGrid-after_booking things before.books Joining Money start good.sound.steady.numbers.books in
     record {
       factions = factions ∙ ap (λ k. insert before.factions k member) (sym number) ∙ ap (insert before.factions n) member_is;
       units = units ∙ ap (λ k. insert before.units k band) (sym place) ∙ ap (insert before.units m) band_is;
@@ -106,20 +106,20 @@ arrives n f m u report before after found joining =
       second = λ e t far. ap (λ (b : List (List ℤ)). amount_in b e t) books ∙ beside_booked things half Joining People (pos 1) half_grid (omega arith) e t far;
     }
   where
-    nothing : (sort : Sort) → things_of sort (first_unit joining.0 joining.3 before).holding ≡ empty
+    nothing : (sort : ThingKind) → things_of sort (first_unit joining.0 joining.3 before).holding ≡ empty
     nothing Item = refl
     nothing Skill = refl
 
 -- ---- the statements of a joining
 
-put_head : (rows news : List Row) (text : List ℕ) (before after : Head) → Is rows (λ r. r ≡ head_row before text) → Is news (put 1 (head_row after text) (Has rows)) → Is news (λ r. r ≡ head_row after text)
-put_head rows news text before after was made r = (
+put_campaign_row : (rows news : List Row) (text : List ℕ) (before after : CampaignRowValue) → Is rows (λ r. r ≡ campaign_row before text) → Is news (put 1 (campaign_row after text) (Has rows)) → Is news (λ r. r ≡ campaign_row after text)
+put_campaign_row rows news text before after was made r = (
   λ there. elim ((made r).0 there) [ inl same ↦ same | inr kept ↦ absurd (kept.1 (ap (take 1) ((was r).0 kept.0))) ],
   λ same. (made r).1 (inl same),
 )
 
 abbrev Enrolls : ℕ → Faction → ℕ → Unit → CampaignValue → List ℕ → Database → Database → Type 0
-Enrolls n f m u after world = Both (PutsHead (head_of after) world) (Both (Puts faction_table 1 (faction_line n f)) (Puts unit_table 1 (unit_line m u)))
+Enrolls n f m u after world = Both (PutsCampaignRow (campaign_row_of after) world) (Both (Puts faction_table 1 (faction_line n f)) (Puts unit_table 1 (unit_line m u)))
 
 abbrev Welcomes : ℕ → List ℕ → CampaignValue → Database → Database → Type 0
 Welcomes n report after = Both (Puts report_table 1 (report_row n report)) (Both (Settles after Joining Money) (Settles after Joining People))
@@ -153,7 +153,7 @@ module _ (n : ℕ) (f : Faction) (m : ℕ) (u : Unit) (report : List ℕ) (after
       record {
         campaign = stays_is campaign_table (λ r. r ≡ campaign_line text after) x d
             (from_books campaign_table (listed Own) (λ e. absurd (omega (arith, e))) (λ e. absurd (omega (arith, e))) ∙ unit.others campaign_table (listed Own) (λ e. absurd (omega (arith, e))) ∙ member.others campaign_table (listed Own) (λ e. absurd (omega (arith, e))))
-            (put_head (rows_in campaign_table a.trees) (rows_in campaign_table x.trees) text before (head_of after) was head.rows);
+            (put_campaign_row (rows_in campaign_table a.trees) (rows_in campaign_table x.trees) text before (campaign_row_of after) was head.rows);
         member = λ g is. subst (λ (row : Faction). HasPut faction_table (faction_line n row) a d) (same_Some f g (sym found.faction_is ∙ is))
             (rows_moved faction_table (λ rows. put 1 (faction_line n f) (Has rows)) a x y d (head.others faction_table (listed Factions) (λ e. absurd (omega (arith, e))))
             (from_books faction_table (listed Factions) (λ e. absurd (omega (arith, e))) (λ e. absurd (omega (arith, e))) ∙ unit.others faction_table (listed Factions) (λ e. absurd (omega (arith, e)))) member.rows);
@@ -185,7 +185,7 @@ module _ (n : ℕ) (f : Faction) (m : ℕ) (u : Unit) (report : List ℕ) (after
       arrival = arrives n f m u report before after found joining
 
       enters : Enters n after text a d
-      enters = did (head_of before) text (holds.rows Own)
+      enters = did (campaign_row_of before) text (holds.rows Own)
 
       stays : (part : Part) → is_among (Own ∷ Factions ∷ Units ∷ Reports ∷ Books ∷ []) part ≡ false → Is (rows_in (table_of part) d.trees) (rows_for (campaign_line text before) before part)
       stays part free = stays_is (table_of part) (rows_for (campaign_line text before) before part) a d (enters.others part (not_among (Own ∷ Factions ∷ Units ∷ Reports ∷ Books ∷ []) part free)) (holds.rows part)
@@ -202,12 +202,12 @@ module _ (n : ℕ) (f : Faction) (m : ℕ) (u : Unit) (report : List ℕ) (after
           (λ there. people.0 ((enters.books r).0 there), λ of. (enters.books r).1 (people.1 of))
       rows part = subst (λ (c : CampaignValue). Is (rows_in (table_of part) d.trees) (rows_for (campaign_line text c) c part)) (sym joining.7) (stays part refl)
 
-pub enrolling_done : (n : ℕ) (f : Faction) (m : ℕ) (u : Unit) (after : CampaignValue) (world : List ℕ) (start one two three : State) → Inside HasTables (PutsHead (head_of after) world) start one → Inside HasTables (Puts faction_table 1 (faction_line n f)) one two
-    → Inside HasTables (Puts unit_table 1 (unit_line m u)) two three → Inside HasTables (Both (PutsHead (head_of after) world) (Both (Puts faction_table 1 (faction_line n f)) (Puts unit_table 1 (unit_line m u)))) start three
+pub enrolling_done : (n : ℕ) (f : Faction) (m : ℕ) (u : Unit) (after : CampaignValue) (world : List ℕ) (start one two three : State) → Inside HasTables (PutsCampaignRow (campaign_row_of after) world) start one → Inside HasTables (Puts faction_table 1 (faction_line n f)) one two
+    → Inside HasTables (Puts unit_table 1 (unit_line m u)) two three → Inside HasTables (Both (PutsCampaignRow (campaign_row_of after) world) (Both (Puts faction_table 1 (faction_line n f)) (Puts unit_table 1 (unit_line m u)))) start three
 enrolling_done n f m u after world start one two three first second third =
     let factions = Puts faction_table 1 (faction_line n f) in
     let units = Puts unit_table 1 (unit_line m u) in
-    inside_then HasTables (PutsHead (head_of after) world) (Both factions units) start one three first (inside_then HasTables factions units one two three second third)
+    inside_then HasTables (PutsCampaignRow (campaign_row_of after) world) (Both factions units) start one three first (inside_then HasTables factions units one two three second third)
 
 pub reporting_done : (n : ℕ) (report : List ℕ) (after : CampaignValue) (start one two three : State) → Inside HasTables (Puts report_table 1 (report_row n report)) start one → Inside HasTables (Settles after Joining Money) one two
     → Inside HasTables (Settles after Joining People) two three → Inside HasTables (Both (Puts report_table 1 (report_row n report)) (Both (Settles after Joining Money) (Settles after Joining People))) start three
@@ -217,7 +217,7 @@ reporting_done n report after start one two three first second third =
     inside_then HasTables (Puts report_table 1 (report_row n report)) (Both money people) start one three first (inside_then HasTables money people one two three second third)
 
 pub joining_done : (n : ℕ) (f : Faction) (m : ℕ) (u : Unit) (report : List ℕ) (after : CampaignValue) (world : List ℕ) (start one two : State) → IsFound after n f m u report
-    → Inside HasTables (Both (PutsHead (head_of after) world) (Both (Puts faction_table 1 (faction_line n f)) (Puts unit_table 1 (unit_line m u)))) start one
+    → Inside HasTables (Both (PutsCampaignRow (campaign_row_of after) world) (Both (Puts faction_table 1 (faction_line n f)) (Puts unit_table 1 (unit_line m u)))) start one
     → Inside HasTables (Both (Puts report_table 1 (report_row n report)) (Both (Settles after Joining Money) (Settles after Joining People))) one two → Inside HasTables (WritesJoin n after) start two
 joining_done n f m u report after world start one two found first second =
     inside_weaker HasTables (Both (Enrolls n f m u after world) (Welcomes n report after)) (WritesJoin n after) start two (λ has did. joins n f m u report after found world start.now did.0 two.now did.1 did.2)

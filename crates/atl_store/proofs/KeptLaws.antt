@@ -17,7 +17,7 @@ use Rattle.atl_store.specs.Statements.{deletion, upsert}
 use Rattle.atl_store.specs.OwnStatements.{OfRow, OfChange, puts_row, drops_row}
 use Rattle.atl_store.specs.Inside.{PutsRows}
 use Rattle.atl_store.specs.Filling.{FillsPart}
-use Rattle.atl_store.specs.Changing.{Chosen, begins_marked, is_marked, rewritten}
+use Rattle.atl_store.specs.Changing.{Chosen, begins_marked, is_marked, rows_after_rewrite}
 use Rattle.atl_store.specs.Rewriting.{Becomes, RewritesMarked, RewritesPart}
 use Rattle.atl_store.proofs.EntryLaws.{same_number}
 use Rattle.atl_store.proofs.FillLaws.{numbered_filled}
@@ -36,7 +36,7 @@ chosen_as : (b : Bool) (P Q W : Type 0) → (P ↔ Q) → Chosen b P W ↔ Chose
 chosen_as true P Q W same = same
 chosen_as false P Q W same = (λ h. h, λ h. h)
 
-rewritten_as : (one other : Row → Bool) (P Q : Set) → ((r : Row) → one r ≡ other r) → ((r : Row) → P r ↔ Q r) → (after before : List Row) → Is after (rewritten one P (Has before)) → Is after (rewritten other Q (Has before))
+rewritten_as : (one other : Row → Bool) (P Q : Set) → ((r : Row) → one r ≡ other r) → ((r : Row) → P r ↔ Q r) → (after before : List Row) → Is after (rows_after_rewrite one P (Has before)) → Is after (rows_after_rewrite other Q (Has before))
 rewritten_as one other P Q same are after before is r =
     let turned = subst (λ b. Chosen (one r) (P r) (Has before r) ↔ Chosen b (Q r) (Has before r)) (same r) (chosen_as (one r) (P r) (Q r) (Has before r) (are r)) in
     (λ there. turned.0 ((is r).0 there), λ h. (is r).1 (turned.1 h))

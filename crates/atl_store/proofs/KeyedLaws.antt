@@ -17,8 +17,8 @@ use Rattle.sqlite_rules.specs.Lists.{Has}
 use Rattle.sqlite_rules.proofs.ListLemmas.{all_from, all_has}
 use Rattle.atl_tables.specs.declared.format.Format.TheVariants.{Second}
 use Rattle.atl_state.specs.declared.parts.Parts.{Parts}
-use Rattle.atl_state.specs.declared.parts.StoredHead.{StoredHead}
-use Rattle.atl_store.specs.Gathering.{AreApart, AreAllApart, HaveKeys, IsMadeOf, Lacks, ReadRows, unplaced, width}
+use Rattle.atl_state.specs.declared.parts.StoredCampaignRow.{StoredCampaignRow}
+use Rattle.atl_store.specs.Gathering.{AreApart, AreAllApart, HaveKeys, IsMadeOf, Lacks, ReadRows, without_ids, width}
 use Rattle.atl_store.specs.Loading.{has_places, has_values, books_values, market_values, other_parts, rows_read}
 use Rattle.atl_store.specs.Reading.{listing_of}
 use Rattle.atl_store.specs.Rows.{lines_of}
@@ -27,7 +27,7 @@ use Rattle.atl_store.specs.Shown.{has_stored, books_stored, market_stored}
 use Rattle.atl_store.specs.Tables.{Part, Own, Goods, Books, Markets, table_of}
 use Rattle.atl_store.specs.declared.fault.LoadFault.{LoadFault}
 use Rattle.atl_store.specs.declared.fault.LoadFault.TheVariants.{Store, Damaged, NotACampaign, OtherFormat, Memory}
-use Rattle.atl_store.specs.declared.rows.stored.Placed.{Placed}
+use Rattle.atl_store.specs.declared.rows.stored.RowWithId.{RowWithId}
 use Rattle.atl_store.proofs.EntryLaws.{below_has, less_apart, in_order}
 use Rattle.atl_store.proofs.ListLaws.{map_has}
 use Rattle.atl_store.proofs.LoadLaws.{keyed_by, keyed_shown}
@@ -117,10 +117,10 @@ in_places part is = elim (shown_by part) [ inl places ↦ places.1 | inr whole �
 row_number : (part : Part) → has_places part ≡ false → (r : Row) → column (visible (table_of part) r) 0 ≡ rowid r
 row_number part is = elim (shown_by part) [ inl places ↦ absurd (true≢false (sym places.0 ∙ is)) | inr whole ↦ whole.2 ]
 
-pub cut_places : (part : Part) (rows : List Row) → has_places part ≡ true → unplaced part rows ≡ map (take (width part)) rows
+pub cut_places : (part : Part) (rows : List Row) → has_places part ≡ true → without_ids part rows ≡ map (take (width part)) rows
 cut_places part rows is = ap (λ b. if b then map (take (width part)) rows else rows) is
 
-pub cut_nothing : (part : Part) (rows : List Row) → has_places part ≡ false → unplaced part rows ≡ rows
+pub cut_nothing : (part : Part) (rows : List Row) → has_places part ≡ false → without_ids part rows ≡ rows
 cut_nothing part rows is = ap (λ b. if b then map (take (width part)) rows else rows) is
 
 module _ (part : Part) (db : Trees) (rows : List Row) where
@@ -144,7 +144,7 @@ module _ (part : Part) (db : Trees) (rows : List Row) where
   pub numbers_keyed : has_places part ≡ false → IsPermutation (rows_in (table_of part) db) rows → HaveKeys 0 rows → IsKeyed (db (table_of part).tree)
   numbers_keyed is same keys = keyed_by (visible (table_of part)) 0 (db (table_of part).tree) rows (row_number part is) same keys
 
-  pub unplaced_all : IsPermutation ((listing_of part).in_table db) rows → IsPermutation (rows_in (table_of part) db) (unplaced part rows)
+  pub unplaced_all : IsPermutation ((listing_of part).in_table db) rows → IsPermutation (rows_in (table_of part) db) (without_ids part rows)
   unplaced_all same = elim (shown_by part) [
     | inl places ↦ subst (IsPermutation (rows_in (table_of part) db)) (sym (cut_places part rows places.0)) (without_places (same_placed places.0 same))
     | inr whole ↦ subst (IsPermutation (rows_in (table_of part) db)) (sym (cut_nothing part rows whole.0)) (subst (λ l. IsPermutation l rows) (whole.1 db) same)
@@ -153,14 +153,14 @@ module _ (part : Part) (db : Trees) (rows : List Row) where
 -- ---- rows that were read with their places
 
 -- A row that was read is shown as its values and behind them its place.
-pub record IsPlacedAs {A : Type 0} (part : Part) (stored : Placed A → Row) (values : A → Row) : Type 0 where
-  pub values_are : (s : Placed A) → take (width part) (stored s) ≡ values s.row
-  pub place_is : (s : Placed A) → column (stored s) (width part) ≡ Int s.rowid
+pub record IsPlacedAs {A : Type 0} (part : Part) (stored : RowWithId A → Row) (values : A → Row) : Type 0 where
+  pub values_are : (s : RowWithId A) → take (width part) (stored s) ≡ values s.row
+  pub place_is : (s : RowWithId A) → column (stored s) (width part) ≡ Int s.rowid
 
-module _ {A : Type 0} {part : Part} {stored : Placed A → Row} {values : A → Row} (is : IsPlacedAs part stored values) (placed : List (Placed A)) where
+module _ {A : Type 0} {part : Part} {stored : RowWithId A → Row} {values : A → Row} (is : IsPlacedAs part stored values) (placed : List (RowWithId A)) where
   pub placed_values : map values (map (λ s. s.row) placed) ≡ map (take (width part)) (map stored placed)
   placed_values =
-      mapped_twice (λ (s : Placed A). s.row) values (λ (s : Placed A). values s.row) (λ s. refl) placed ∙ sym (mapped_twice stored (take (width part)) (λ (s : Placed A). values s.row) is.values_are placed)
+      mapped_twice (λ (s : RowWithId A). s.row) values (λ (s : RowWithId A). values s.row) (λ s. refl) placed ∙ sym (mapped_twice stored (take (width part)) (λ (s : RowWithId A). values s.row) is.values_are placed)
 
   pub placed_keys : AreApart placed → HaveKeys (width part) (map stored placed)
   placed_keys apart = numbers_keys stored (λ s. s.rowid) (width part) is.place_is placed apart
@@ -181,7 +181,7 @@ market_placed = record { values_are = λ s. refl; place_is = λ s. refl }
 
 -- those of a part are what was read of it without the places, which differ
 pub record IsMadeAs (p : Parts) (read : Part × List Row) : Type 0 where
-  pub rows : (text : List ℕ) → rows_read text p read.0 ≡ unplaced read.0 read.1
+  pub rows : (text : List ℕ) → rows_read text p read.0 ≡ without_ids read.0 read.1
   pub apart : has_places read.0 ≡ true → HaveKeys (width read.0) read.1
 
 pub made_whole : {p : Parts} {rows : List Row} (part : Part) → has_places part ≡ false → ((text : List ℕ) → rows_read text p part ≡ rows) → IsMadeAs p (part, rows)
@@ -190,14 +190,14 @@ made_whole {p} {rows} part free are = record {
   apart = λ placed. absurd (true≢false (sym placed ∙ free));
 }
 
-pub made_placed : {p : Parts} {A : Type 0} {part : Part} {stored : Placed A → Row} {values : A → Row} → IsPlacedAs part stored values → has_places part ≡ true → (placed : List (Placed A))
+pub made_placed : {p : Parts} {A : Type 0} {part : Part} {stored : RowWithId A → Row} {values : A → Row} → IsPlacedAs part stored values → has_places part ≡ true → (placed : List (RowWithId A))
     → ((text : List ℕ) → rows_read text p part ≡ map values (map (λ s. s.row) placed)) → AreApart placed → IsMadeAs p (part, map stored placed)
 made_placed {p} {A} {part} {stored} {values} is has placed are apart = record {
   rows = λ text. are text ∙ placed_values is placed ∙ sym (cut_places part (map stored placed) has);
   apart = λ _. placed_keys is placed apart;
 }
 
-pub made_of : {head : StoredHead} {reads : ReadRows} {p : Parts} → map (λ read. read.0) reads ≡ other_parts Second → p.campaign ≡ head ∷ [] → AllByRecursion (IsMadeAs p) reads → IsMadeOf head reads p
+pub made_of : {head : StoredCampaignRow} {reads : ReadRows} {p : Parts} → map (λ read. read.0) reads ≡ other_parts Second → p.campaign ≡ head ∷ [] → AllByRecursion (IsMadeAs p) reads → IsMadeOf head reads p
 made_of {head} {reads} {p} parts campaign all = record {
   parts = parts;
   campaign = campaign;
@@ -206,7 +206,7 @@ made_of {head} {reads} {p} parts campaign all = record {
 }
 
 -- where two rows of a part are kept at one place, not all are apart
-pub lacks_all : {A B : Type 0} {part : Part} {stored : Placed A → Row} {values : A → Row} → IsPlacedAs part stored values → has_places part ≡ true → (placed : List (Placed A)) (reads : ReadRows) → Has reads (part, map stored placed)
+pub lacks_all : {A B : Type 0} {part : Part} {stored : RowWithId A → Row} {values : A → Row} → IsPlacedAs part stored values → has_places part ≡ true → (placed : List (RowWithId A)) (reads : ReadRows) → Has reads (part, map stored placed)
     → (fault : LoadFault) → Lacks (AreApart placed) fault → (r : Result B LoadFault) → IsErrAnd r (λ told. told ≡ fault) → IfErr r (Lacks (AreAllApart reads))
 lacks_all is has placed reads there fault lacks (Ok b) told = tt
 lacks_all {A} {B} {part} {stored} is has placed reads there fault lacks (Err f) told = subst (Lacks (AreAllApart reads)) (sym told) (all fault lacks)

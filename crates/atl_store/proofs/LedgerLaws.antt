@@ -11,7 +11,7 @@ use Rattle.sqlite.specs.Order.{Row}
 use Rattle.sqlite_rules.specs.Lists.{Has}
 use Rattle.sqlite_rules.proofs.ListLemmas.{test_has}
 use Rattle.atl_state.specs.Campaign.{CampaignValue}
-use Rattle.atl_records.specs.Books.{all_entries, amount_in, entry_place, thing_at, thing_place}
+use Rattle.atl_records.specs.Books.{all_entries, amount_in, entry_index, thing_at, thing_index}
 use Rattle.atl_records.specs.declared.books.Entry.{Entry}
 use Rattle.atl_records.specs.declared.books.Thing.{Thing}
 use Rattle.atl_records.proofs.BookLaws.{place_at, at_place}
@@ -31,12 +31,12 @@ has_at (y ∷ ys) zero x is = inl (sym (same_Some y x is))
 has_at (y ∷ ys) (suc k) x is = inr (has_at ys k x is)
 
 pub every_entry : (e : Entry) → Has all_entries e
-every_entry e = has_at all_entries (entry_place e) e (entry_there e)
+every_entry e = has_at all_entries (entry_index e) e (entry_there e)
 
 -- the places of the entries rise
-abbrev are_rising : List Entry → Bool
-are_rising [] = true
-are_rising (e ∷ es) = list_all (λ f. nat_lt (entry_place e) (entry_place f)) es && are_rising es
+abbrev are_sorted : List Entry → Bool
+are_sorted [] = true
+are_sorted (e ∷ es) = list_all (λ f. nat_lt (entry_index e) (entry_index f)) es && are_sorted es
 
 -- ---- the amounts of one thing
 
@@ -47,12 +47,12 @@ pub is_differing : (z : ℤ) → z ≢ pos 0 → int_eq z (pos 0) ≡ false
 is_differing z apart = elim (cases_Bool (int_eq z (pos 0))) [ inl same ↦ absurd (apart (grind (ints, arith))) | inr differs ↦ differs ]
 
 -- the one row of an amount that is not 0
-pub amount_is : (c : CampaignValue) (entry : Entry) (thing : Thing) (e t : ℕ) (z : ℤ) → e ≡ entry_place entry + 1 → t ≡ thing_place thing → z ≡ amount_in c.books entry thing → z ≢ pos 0 → amount_lines c entry thing ≡ books_row e t z ∷ []
+pub amount_is : (c : CampaignValue) (entry : Entry) (thing : Thing) (e t : ℕ) (z : ℤ) → e ≡ entry_index entry + 1 → t ≡ thing_index thing → z ≡ amount_in c.books entry thing → z ≢ pos 0 → amount_lines c entry thing ≡ books_row e t z ∷ []
 amount_is c entry thing e t z entry_is thing_is amount some =
-    let place = entry_place entry + 1 in
+    let place = entry_index entry + 1 in
     let value = amount_in c.books entry thing in
-    ap (λ (zero : Bool). if zero then [] else books_row place (thing_place thing) value ∷ []) (is_differing value (λ zero. some (amount ∙ zero)))
-    ∙ ap (λ n. books_row n (thing_place thing) value ∷ []) (sym entry_is) ∙ ap (λ n. books_row e n value ∷ []) (sym thing_is) ∙ ap (λ n. books_row e t n ∷ []) (sym amount)
+    ap (λ (zero : Bool). if zero then [] else books_row place (thing_index thing) value ∷ []) (is_differing value (λ zero. some (amount ∙ zero)))
+    ∙ ap (λ n. books_row n (thing_index thing) value ∷ []) (sym entry_is) ∙ ap (λ n. books_row e n value ∷ []) (sym thing_is) ∙ ap (λ n. books_row e t n ∷ []) (sym amount)
 
 pub two_same : (a b c d : ℕ) → ◌≡◌ {A = Row} (books_key a b) (books_key c d) → (a ≡ c) × (b ≡ d)
 two_same a b c d same = (cc, cc)
@@ -72,17 +72,17 @@ has_range from (suc count) i least most = elim (cases_lt from i) [
 ]
 
 -- an amount that is not 0 has a place
-pub within : (books : List (List ℤ)) (e : Entry) (t : Thing) → amount_in books e t ≢ pos 0 → thing_place t < length books
-within books e t some = elim (cases_lt (thing_place t) (length books)) [
+pub within : (books : List (List ℤ)) (e : Entry) (t : Thing) → amount_in books e t ≢ pos 0 → thing_index t < length books
+within books e t some = elim (cases_lt (thing_index t) (length books)) [
   | inl inside ↦ inside
-  | inr past ↦ absurd (some (ap (λ (row : List ℤ). get_or row (entry_place e) (pos 0)) (get_or_past books (thing_place t) [] (omega (arith, past))) ∙ get_or_past [] (entry_place e) (pos 0) (omega arith)))
+  | inr past ↦ absurd (some (ap (λ (row : List ℤ). get_or row (entry_index e) (pos 0)) (get_or_past books (thing_index t) [] (omega (arith, past))) ∙ get_or_past [] (entry_index e) (pos 0) (omega arith)))
 ]
 
 -- ---- the rows of all amounts
 
 module _ (c : CampaignValue) where
   abbrev row_at : Entry → Thing → Row
-  row_at e t = books_row (entry_place e + 1) (thing_place t) (amount_in c.books e t)
+  row_at e t = books_row (entry_index e + 1) (thing_index t) (amount_in c.books e t)
 
   entries_has : (t : Thing) (es : List Entry) (r : Row) → Has (entries_lines c t es) r → (e : Entry) × Has es e × (amount_in c.books e t ≢ pos 0) × (r ≡ row_at e t)
   entries_has t es r there =
@@ -93,15 +93,15 @@ module _ (c : CampaignValue) where
   has_entries : (t : Thing) (es : List Entry) (e : Entry) → Has es e → amount_in c.books e t ≢ pos 0 → Has (entries_lines c t es) (row_at e t)
   has_entries t es e there some = has_flat (λ e. amount_lines c e t) es e (row_at e t) there (has_optional (int_eq (amount_in c.books e t) (pos 0)) (row_at e t) (is_differing (amount_in c.books e t) some))
 
-  entries_apart : (t : Thing) (es : List Entry) → are_rising es ≡ true → DifferInKey 2 (entries_lines c t es)
+  entries_apart : (t : Thing) (es : List Entry) → are_sorted es ≡ true → DifferInKey 2 (entries_lines c t es)
   entries_apart t [] rising = tt
   entries_apart t (e ∷ es) rising =
       apart_append 2 (amount_lines c e t) (entries_lines c t es) (optional_apart 2 (int_eq (amount_in c.books e t) (pos 0)) (row_at e t)) (entries_apart t es (and_parts _ _ rising).1)
       (λ x y early late same.
       let one = optional_has (int_eq (amount_in c.books e t) (pos 0)) (row_at e t) x early in
       let two = entries_has t es y late in
-      let keys = two_same (entry_place e + 1) (thing_place t) (entry_place two.0 + 1) (thing_place t) (ap (take 2) (sym one.1) ∙ same ∙ ap (take 2) two.3) in
-      let less = test_has (λ f. nat_lt (entry_place e) (entry_place f)) es two.0 (and_parts _ _ rising).0 two.1 in
+      let keys = two_same (entry_index e + 1) (thing_index t) (entry_index two.0 + 1) (thing_index t) (ap (take 2) (sym one.1) ∙ same ∙ ap (take 2) two.3) in
+      let less = test_has (λ f. nat_lt (entry_index e) (entry_index f)) es two.0 (and_parts _ _ rising).0 two.1 in
       grind (arith, nat_tests, keys.0, less))
 
   -- ---- all things
@@ -114,7 +114,7 @@ module _ (c : CampaignValue) where
       let one = entries_has (thing_at from) all_entries x early in
       let found = flat_has (λ place. entries_lines c (thing_at place) all_entries) (range_with_len (from + 1) count) y late in
       let two = entries_has (thing_at found.0) all_entries y found.2 in
-      let keys = two_same (entry_place one.0 + 1) (thing_place (thing_at from)) (entry_place two.0 + 1) (thing_place (thing_at found.0)) (ap (take 2) (sym one.3) ∙ same ∙ ap (take 2) two.3) in
+      let keys = two_same (entry_index one.0 + 1) (thing_index (thing_at from)) (entry_index two.0 + 1) (thing_index (thing_at found.0)) (ap (take 2) (sym one.3) ∙ same ∙ ap (take 2) two.3) in
       let places : from ≡ found.0 = sym (place_at from) ∙ keys.1 ∙ place_at found.0 in
       absurd (omega (arith, places, (range_has (from + 1) count found.0 found.1).0)))
 
@@ -130,7 +130,7 @@ module _ (c : CampaignValue) where
       let is = filled 2 rows (things_lines c places) old none (things_apart 0 (length c.books)) made r in (
         λ there. things_rows places r (is.0 there),
         λ of.
-            let inside = has_range 0 (length c.books) (thing_place of.1) (omega arith) (omega (arith, within c.books of.0 of.1 of.2)) in
-            let here : Has (entries_lines c (thing_at (thing_place of.1)) all_entries) (row_at of.0 of.1) = subst (λ t. Has (entries_lines c t all_entries) (row_at of.0 of.1)) (sym (at_place of.1)) (has_entries of.1 all_entries of.0 (every_entry of.0) of.2) in
-            is.1 (subst (Has (things_lines c places)) (sym of.3) (has_flat (λ place. entries_lines c (thing_at place) all_entries) places (thing_place of.1) (row_at of.0 of.1) inside here)),
+            let inside = has_range 0 (length c.books) (thing_index of.1) (omega arith) (omega (arith, within c.books of.0 of.1 of.2)) in
+            let here : Has (entries_lines c (thing_at (thing_index of.1)) all_entries) (row_at of.0 of.1) = subst (λ t. Has (entries_lines c t all_entries) (row_at of.0 of.1)) (sym (at_place of.1)) (has_entries of.1 all_entries of.0 (every_entry of.0) of.2) in
+            is.1 (subst (Has (things_lines c places)) (sym of.3) (has_flat (λ place. entries_lines c (thing_at place) all_entries) places (thing_index of.1) (row_at of.0 of.1) inside here)),
       )

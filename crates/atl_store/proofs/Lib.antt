@@ -30,10 +30,10 @@ pub mod KeyedRowLaws
 pub mod PairRowLaws
 pub mod KeyedTableLaws
 pub mod OwnRowLaws
-pub mod UpgradeHeadLaws
+pub mod UpgradeRowLaws
 pub mod UpgradeLaws
 pub mod BareWorldLaws
-pub mod HeadRowLaws
+pub mod CampaignRowLaws
 pub mod ShownLaws
 pub mod CheckTerms
 pub mod SchemaLaws

@@ -24,9 +24,9 @@ use Rattle.atl_state.specs.declared.checking.CheckFault.TheVariants as check
 use Rattle.atl_state.specs.declared.checking.Rule.{Rule}
 use Rattle.atl_state.specs.declared.checking.Rule.TheVariants.{OneRow, Ranges, Names, Known, Next, Days, Gone, Owners, Water, Guards, Books, Mail}
 use Rattle.atl_state.specs.declared.parts.Parts.{Parts}
-use Rattle.atl_state.specs.declared.parts.StoredHead.{StoredHead}
-use Rattle.atl_store.specs.Faults.{judged_fault}
-use Rattle.atl_store.specs.Gathering.{IsSettled, Lacks, Found, FailsToRead, FailsToConfirm, ReadRows, AreOfFormat, AreAllApart, HaveKeys, unplaced, width, OwnRead, IsMadeOf, ReadsSome, Gathered, IsConfirmed, IsLoaded}
+use Rattle.atl_state.specs.declared.parts.StoredCampaignRow.{StoredCampaignRow}
+use Rattle.atl_store.specs.Faults.{fault_of_check}
+use Rattle.atl_store.specs.Gathering.{IsSettled, Lacks, Found, FailsToRead, FailsToConfirm, ReadRows, AreOfFormat, AreAllApart, HaveKeys, without_ids, width, OwnRead, IsMadeOf, ReadsSome, Gathered, IsConfirmed, IsLoaded}
 use Rattle.atl_store.specs.Keeps.{Keeps, Stores}
 use Rattle.atl_store.specs.Loading.{HaveRows, rows_read, own_stored, KeepsOneRow, BreaksRule, IsDamaged, RefusesToLoadIn, StandsIn, LoadsIn, Loads, LeavesAlone, Leaves, AreMade, AreToldTyped, WantsMemory, FailedMeanwhile, RefusesAgain, has_places, placed_tables, other_parts, other_selects}
 use Rattle.atl_store.specs.Rows.{HoldsIn}
@@ -69,7 +69,7 @@ has_own Second = inl refl
 read_of : (reads : ReadRows) → map (λ read. read.0) reads ≡ other_parts Second → (part : Part) → Has (other_parts Second) part → (read : Part × List Row) × Has reads read × (part ≡ read.0)
 read_of reads parts part there = map_has (λ (read : Part × List Row). read.0) reads part (subst (λ l. Has l part) (sym parts) there)
 
-nothing_unplaced : (part : Part) → unplaced part [] ≡ []
+nothing_unplaced : (part : Part) → without_ids part [] ≡ []
 nothing_unplaced part = elim (cases_Bool (has_places part)) [
   | inl is ↦ cut_places part [] is
   | inr is ↦ cut_nothing part [] is
@@ -117,7 +117,7 @@ module _ (f : Format) {S : Type 0} (g : Ghosts S) (old : Held S) (reads : ReadRo
   }
 
   -- the rows that are to be judged are all rows
-  module _ (head : StoredHead) (p : Parts) (made : IsMadeOf head reads p) where
+  module _ (head : StoredCampaignRow) (p : Parts) (made : IsMadeOf head reads p) where
     none_read : (text : List ℕ) (part : Part) → ¬ Has (parts_in f) part → rows_read text p part ≡ []
     none_read text part lacks = elim (every_part part) [
       | inl own ↦ absurd (lacks (subst (Has (parts_in f)) (sym own) (has_own f)))
@@ -125,7 +125,7 @@ module _ (f : Format) {S : Type 0} (g : Ghosts S) (old : Held S) (reads : ReadRo
           let read = read_of reads made.parts part other in
           elim (are.each read.0 read.1) [
             | inl all ↦ absurd (lacks (subst (Has (parts_in f)) (sym read.2) all.0))
-            | inr none ↦ ap (rows_read text p) read.2 ∙ made.rows text read.0 read.1 ∙ ap (unplaced read.0.0) none.1 ∙ nothing_unplaced read.0.0
+            | inr none ↦ ap (rows_read text p) read.2 ∙ made.rows text read.0 read.1 ∙ ap (without_ids read.0.0) none.1 ∙ nothing_unplaced read.0.0
           ]
     ]
 
@@ -142,10 +142,10 @@ module _ (f : Format) {S : Type 0} (g : Ghosts S) (old : Held S) (reads : ReadRo
     have_rows text begins own = record { rows = rows_of_part text begins own; none = none_read text }
 
 module _ (f : Format) {S : Type 0} (g : Ghosts S) where
-  gathered_of : (old : Held S) (own : StoredCampaign) (w : WorldValue) (reads : ReadRows) (p : Parts) → OwnRead g old f own w → AreToldTyped g old (other_selects f) → AreOfFormat f (state g old).now reads → (head : StoredHead) → head ≡ own.head → IsMadeOf head reads p → Gathered f g old w p
+  gathered_of : (old : Held S) (own : StoredCampaign) (w : WorldValue) (reads : ReadRows) (p : Parts) → OwnRead g old f own w → AreToldTyped g old (other_selects f) → AreOfFormat f (state g old).now reads → (head : StoredCampaignRow) → head ≡ own.head → IsMadeOf head reads p → Gathered f g old w p
   gathered_of old own w reads p row typed are head same made = record {
     one = own_kept f g old own w row;
-    first = keeps_one_row f w p head (ap (λ (h : StoredHead). h.id) same ∙ row.row.id) (ap (λ (h : StoredHead). h.format) same ∙ row.row.format) made.campaign (none_read f g old reads are head p made);
+    first = keeps_one_row f w p head (ap (λ (h : StoredCampaignRow). h.id) same ∙ row.row.id) (ap (λ (h : StoredCampaignRow). h.format) same ∙ row.row.format) made.campaign (none_read f g old reads are head p made);
     text = string_bytes own.world;
     world = row.row.world;
     typed = typed;
@@ -176,7 +176,7 @@ module _ (f : Format) {S : Type 0} (g : Ghosts S) where
   wants_memory : (old : Held S) → old.in_transaction ≡ false → KeepsOneRow f g old → WantsMemory g old
   wants_memory old idle kept = (idle, inr (kept.rows, kept.selects))
 
-  pub judged_damaged : (old : Held S) → old.in_transaction ≡ false → (w : WorldValue) (p : Parts) → Gathered f g old w p → HasTablesOf f old.schema → (fault : CheckFault) → Checks f w p (Err fault) → RefusesToLoadIn f g old (judged_fault fault)
+  pub judged_damaged : (old : Held S) → old.in_transaction ≡ false → (w : WorldValue) (p : Parts) → Gathered f g old w p → HasTablesOf f old.schema → (fault : CheckFault) → Checks f w p (Err fault) → RefusesToLoadIn f g old (fault_of_check fault)
   judged_damaged old idle w p all begins (check.Damaged rule) first = damaged old w p all begins rule first
   judged_damaged old idle w p all begins check.Memory none = wants_memory old idle all.one
 
@@ -227,7 +227,7 @@ module _ (f : Format) {S : Type 0} (g : Ghosts S) {A : Type 0} (rows : A → Rea
   found : (told : Option A) → o ≡ told → Found g old (other_selects f) (λ a. AreOfFormat f (state g old).now (rows a)) told
   found told is = subst (Found g old (other_selects f) (λ a. AreOfFormat f (state g old).now (rows a))) is (format_behind g f rows old mid new before (other_selects f) r reads o was clean)
 
-  pub gathered_with : (a : A) → o ≡ Some a → (p : Parts) (head : StoredHead) → head ≡ own.head → IsMadeOf head (rows a) p → Gathered f g old w p
+  pub gathered_with : (a : A) → o ≡ Some a → (p : Parts) (head : StoredCampaignRow) → head ≡ own.head → IsMadeOf head (rows a) p → Gathered f g old w p
   gathered_with a is p head same made = let all = found (Some a) is in gathered_of f g old own w (rows a) p row all.0 all.1 head same made
 
   -- a value is of another type

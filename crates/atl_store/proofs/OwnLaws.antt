@@ -9,7 +9,7 @@ use Rattle.atl_tables.specs.Worlds.{WorldValue}
 use Rattle.atl_tables.specs.World.{world_by}
 use Rattle.atl_tables.specs.declared.format.Format.{Format}
 use Rattle.atl_state.specs.declared.checking.Rule.TheVariants.{OneRow, Ranges, Names, Known, Next, Days, Gone, Owners, Water, Guards, Books, Mail}
-use Rattle.atl_state.specs.declared.parts.StoredHead.{StoredHead}
+use Rattle.atl_state.specs.declared.parts.StoredCampaignRow.{StoredCampaignRow}
 use Rattle.atl_store.specs.Gathering.{own_fault, IsOwn, Judges, JudgesOwn, JudgesRows, JudgesFormat, OwnRead}
 use Rattle.atl_store.specs.Loading.{own_stored, AreOwnRow, RefusesToLoadIn}
 use Rattle.atl_store.specs.Reading.{Selects, RefusesToSelect}
@@ -35,7 +35,7 @@ one_mapped f (x ∷ []) y is = (x, refl, let k = is in cc)
 one_mapped f (x ∷ z ∷ xs) y is = absurd (let k = is in cc)
 
 -- the row that is shown says what was read
-module _ (own : StoredCampaign) (h : StoredHead) (text : List ℕ) (is : campaign_stored own ≡ own_stored text h) where
+module _ (own : StoredCampaign) (h : StoredCampaignRow) (text : List ℕ) (is : campaign_stored own ≡ own_stored text h) where
   at : (n : ℕ) → column (campaign_stored own) n ≡ column (own_stored text h) n
   at n = ap (λ r. column r n) is
 
@@ -49,7 +49,7 @@ module _ (own : StoredCampaign) (h : StoredHead) (text : List ℕ) (is : campaig
   same_text = let e = at 7 in cc
 
 -- a row that is as it should be is one that was read so
-pub own_read : (f : Format) (items : List StoredCampaign) (rows : List Row) (h : StoredHead) (text : List ℕ) (w : WorldValue)
+pub own_read : (f : Format) (items : List StoredCampaign) (rows : List Row) (h : StoredCampaignRow) (text : List ℕ) (w : WorldValue)
     → map campaign_stored items ≡ map (first_columns (length campaign_forms)) rows → AreOwnRow f rows h text w
     → (own : StoredCampaign) × IsOwn f items own w
 own_read f items rows h text w shown own =
@@ -64,7 +64,7 @@ own_read f items rows h text w shown own =
     )
 
 -- every value of it is of its column's type
-pub own_typed : (f : Format) (rows : List Row) (h : StoredHead) (text : List ℕ) (w : WorldValue) → AreOwnRow f rows h text w → AreTyped campaign_forms rows
+pub own_typed : (f : Format) (rows : List Row) (h : StoredCampaignRow) (text : List ℕ) (w : WorldValue) → AreOwnRow f rows h text w → AreTyped campaign_forms rows
 own_typed f rows h text w own row there =
     let one = one_mapped (first_columns (length campaign_forms)) rows (own_stored text h) own.is in
     typed row (found row there one.0 one.1 ∙ one.2)
@@ -126,7 +126,7 @@ module _ (f : Format) {S : Type 0} (g : Ghosts S) (old : Held S) where
       → IfErr r (RefusesToLoadIn f g old)
   refuses_own idle rows r (inl other) told = subst (λ answer. IfErr answer (RefusesToLoadIn f g old)) (sym other.1) (rows, told, other.0)
   refuses_own idle rows r (inr judged) told =
-      judged_as (λ both. AreOwnRow f rows both.0.head (string_bytes both.0.world) both.1) ((h : StoredHead) (text : List ℕ) (w : WorldValue) → ¬ AreOwnRow f rows h text w) (λ answer. IfErr answer (RefusesToLoadIn f g old)) (λ both own. tt) (idle, inr (rows, told)) (λ none. record { rows = rows; selects = told; broken = none; of_format = judged.0 }) r judged.1
+      judged_as (λ both. AreOwnRow f rows both.0.head (string_bytes both.0.world) both.1) ((h : StoredCampaignRow) (text : List ℕ) (w : WorldValue) → ¬ AreOwnRow f rows h text w) (λ answer. IfErr answer (RefusesToLoadIn f g old)) (λ both own. tt) (idle, inr (rows, told)) (λ none. record { rows = rows; selects = told; broken = none; of_format = judged.0 }) r judged.1
 
   rows_own : (rows : List Row) (r : Result (StoredCampaign × WorldValue) LoadFault) → JudgesRows f rows r → Selects g (selection campaign_table 1) old rows → IfOk r (λ both. OwnRead g old f both.0 both.1)
   rows_own rows (Err fault) judged told = tt

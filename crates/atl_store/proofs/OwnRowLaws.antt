@@ -24,7 +24,7 @@ use Rattle.sqlite_rules.specs.declared.error.Rowids.TheVariants.{Chosen}
 use Rattle.sqlite_rules.proofs.ListLemmas.{all_has}
 use Rattle.atl_store.specs.Sets.{visible, rows_in, Is}
 use Rattle.atl_store.specs.Tables.{Own, campaign_table, all_and, all_tables}
-use Rattle.atl_store.specs.Shown.{Head, int, head_row, head_values}
+use Rattle.atl_store.specs.Shown.{CampaignRowValue, int, campaign_row, campaign_row_values}
 use Rattle.atl_store.specs.Inside.{HasTables, Carries, Puts}
 use Rattle.atl_store.proofs.ListLaws.{has_map, map_has}
 use Rattle.atl_store.proofs.UpsertLaws.{Upserted, hits, update_query, clause_on}
@@ -41,16 +41,16 @@ ours = listed Own
 abbrev pub own_terms : List Term
 own_terms = lit (Int (pos 1)) ∷ lit Null ∷ lit (Int (pos 2)) ∷ col 0 0 ∷ col 0 1 ∷ col 0 2 ∷ col 0 3 ∷ col 0 4 ∷ col 0 5 ∷ []
 
-abbrev src : Head → List ℕ → Row
-src head world = int 1 ∷ Null ∷ int 2 ∷ head_values head world
+abbrev src : CampaignRowValue → List ℕ → Row
+src head world = int 1 ∷ Null ∷ int 2 ∷ campaign_row_values head world
 
 -- what the row that is there is changed to, where its columns are to be these
-abbrev pub changed_to : List Term → Head → List ℕ → Row → Row
-changed_to project head world r = visible campaign_table (cast_row campaign_table (eval_all project ((head_values head world ++ rowid r ∷ shown campaign_table (src head world)) ∷ r ∷ [])))
+abbrev pub changed_to : List Term → CampaignRowValue → List ℕ → Row → Row
+changed_to project head world r = visible campaign_table (cast_row campaign_table (eval_all project ((campaign_row_values head world ++ rowid r ∷ shown campaign_table (src head world)) ∷ r ∷ [])))
 
 -- of a statement whose update sets these columns
-pub record PutsOwn (project : List Term) (head : Head) (world : List ℕ) (old new : Database) : Type 0 where
-  pub first : rows_in campaign_table old.trees ≡ [] → Puts campaign_table 1 (head_row head world) old new
+pub record PutsOwn (project : List Term) (head : CampaignRowValue) (world : List ℕ) (old new : Database) : Type 0 where
+  pub first : rows_in campaign_table old.trees ≡ [] → Puts campaign_table 1 (campaign_row head world) old new
   pub again : (before after : Row) → take 1 before ≡ int 1 ∷ [] → take 1 after ≡ int 1 ∷ [] → Is (rows_in campaign_table old.trees) (λ r. r ≡ before) → ((r : Row) → visible campaign_table r ≡ before → changed_to project head world r ≡ after) → Puts campaign_table 1 after old new
   pub tables : HasTables new
   pub carries : Carries old new
@@ -60,13 +60,13 @@ pub record MeansOwn (sql : List ℕ) (project : List Term) : Type 1 where
   pub is : (more : List Table) (indexes : List Index) → command_of (understood (all_and more indexes) sql) ≡ InsertOr 0 Abort (Values own_terms 9) (clause_on (0 ∷ []) (record { lets = []; body = update_query campaign_table.tree 6 project }) ∷ [])
   pub plain : (more : List Table) (indexes : List Index) → IsPlain (understood (all_and more indexes) sql)
 
-pub puts_own : (sql : List ℕ) (project : List Term) → MeansOwn sql project → (old new : State) (head : Head) (world : List ℕ) (count : ℕ) → HasTables old.now → ExecutesInside 0 sql (head_values head world) old new (Ok count) → PutsOwn project head world old.now new.now
+pub puts_own : (sql : List ℕ) (project : List Term) → MeansOwn sql project → (old new : State) (head : CampaignRowValue) (world : List ℕ) (count : ℕ) → HasTables old.now → ExecutesInside 0 sql (campaign_row_values head world) old new (Ok count) → PutsOwn project head world old.now new.now
 unfolding first_key
 puts_own sql project means old new head world count has ran =
     let schema = all_and has.begins.tables has.begins.indexes in
     let sound = sound_under old.now has in
     let none = unlinked has.begins.tables has.begins.indexes campaign_table.tree has.begins.free in
-    let v = head_values head world in
+    let v = campaign_row_values head world in
     let src = src head world in
     let w = runs_as sql v old new schema has.begins.is _ (means.is has.begins.tables has.begins.indexes) (means.plain has.begins.tables has.begins.indexes) count ran.0 in
     let keyed = sound.keyed campaign_table ours in
@@ -77,8 +77,8 @@ puts_own sql project means old new head world count has ran =
     let are_ints : (x : Row) → Has (old.now.trees campaign_table.tree) x → is_int (rowid x) ≡ true = λ x there. all_has _ (old.now.trees campaign_table.tree) x keyed.ints there in
     let upserted = subst (λ k. Upserted schema campaign_table none old.step_limit v (0 ∷ []) 6 project (λ db. refl) k old.now.trees new.now.trees) made up.0 in
     let tests : Tests schema (among_all has.begins.tables) campaign_table 1 (hits schema campaign_table none old.step_limit v (0 ∷ []) 6 project (λ db. refl) src) (int 1 ∷ []) (old.now.trees campaign_table.tree) = λ x there. by_number (rowid x) 1 _ (none_share campaign_table (Some (0 ∷ [])) src x has.begins.indexes (λ i there. has.begins.plain i there campaign_table ours)) (are_ints x there) in
-    let first : rows_in campaign_table old.now.trees ≡ [] → Puts campaign_table 1 (head_row head world) old.now new.now = λ bare.
-    altered campaign_table old.now new.now has ours _ (upserts_make schema (among_all has.begins.tables) campaign_table 1 none old.step_limit v (0 ∷ []) 6 project (λ db. refl) src (head_row head world) old.now new.now upserted
+    let first : rows_in campaign_table old.now.trees ≡ [] → Puts campaign_table 1 (campaign_row head world) old.now new.now = λ bare.
+    altered campaign_table old.now new.now has ours _ (upserts_make schema (among_all has.begins.tables) campaign_table 1 none old.step_limit v (0 ∷ []) 6 project (λ db. refl) src (campaign_row head world) old.now new.now upserted
     (ap (visible campaign_table) casted)
     (λ r there same. absurd (subst (λ l. Has l (visible campaign_table r)) bare (has_map (visible campaign_table) (old.now.trees campaign_table.tree) r there)))
     tests

@@ -14,13 +14,13 @@ use Rattle.sqlite_rules.specs.Lists.{Has}
 use Rattle.sqlite_rules.proofs.ListLemmas.{has_either, has_left, has_right, has_filtered, has_kept}
 use Rattle.atl_tables.specs.declared.format.Format.{Format}
 use Rattle.atl_tables.specs.declared.format.Format.TheVariants.{First, Second}
-use Rattle.atl_records.specs.Books.{all_entries, entry_place, thing_at, thing_place, amount_at}
-use Rattle.atl_records.specs.Held.{Held}
+use Rattle.atl_records.specs.Books.{all_entries, entry_index, thing_at, thing_index, amount_at}
+use Rattle.atl_records.specs.Holdings.{HoldingValue}
 use Rattle.atl_records.specs.Limits.{entry_count}
 use Rattle.atl_tables.specs.Formats.{format_number}
 use Rattle.atl_tables.specs.Worlds.{WorldValue}
 use Rattle.atl_state.specs.Checking.{Keeps}
-use Rattle.atl_state.specs.RowRules.{is_one_head, are_of_format}
+use Rattle.atl_state.specs.RowRules.{is_one_campaign_row, are_of_format}
 use Rattle.atl_state.specs.declared.checking.Rule.TheVariants.{OneRow}
 use Rattle.atl_state.specs.Rows.{rows_by, rows_of, amount_rows, is_zero, AreRowsOf}
 use Rattle.atl_state.specs.Rows as made
@@ -30,19 +30,19 @@ use Rattle.atl_records.specs.declared.books.Thing.{Thing}
 use Rattle.atl_state.specs.declared.parts.Parts.{Parts}
 use Rattle.atl_state.specs.declared.parts.StoredBooks.{StoredBooks}
 use Rattle.atl_state.specs.declared.parts.StoredHas.{StoredHas}
-use Rattle.atl_state.specs.declared.parts.StoredHead.{StoredHead}
+use Rattle.atl_state.specs.declared.parts.StoredCampaignRow.{StoredCampaignRow}
 use Rattle.atl_state.specs.declared.parts.StoredMarket.{StoredMarket}
 use Rattle.atl_records.specs.declared.records.Faction.{Faction}
 use Rattle.atl_records.specs.declared.records.Region.{Region}
 use Rattle.atl_records.specs.declared.records.Unit.{Unit}
 use Rattle.atl_records.proofs.BookLaws.{place_at}
-use Rattle.atl_store.specs.declared.rows.has.Sort.{Sort}
-use Rattle.atl_store.specs.declared.rows.has.Sort.TheVariants.{Item, Skill}
+use Rattle.atl_store.specs.declared.rows.has.ThingKind.{ThingKind}
+use Rattle.atl_store.specs.declared.rows.has.ThingKind.TheVariants.{Item, Skill}
 use Rattle.atl_store.specs.Gathering.{HaveKeys}
 use Rattle.atl_store.specs.Loading.{HaveRows, rows_read, own_stored, has_values, books_values, market_values, has_places, placed_tables}
-use Rattle.atl_store.specs.Rows.{RowsOf, lines_of, HasRowsOf, BooksRowsOf, MarketRowsOf, rows_for, Holds, HoldsIn, head_of, faction_line, region_line, unit_line, structure_line, things_of}
+use Rattle.atl_store.specs.Rows.{RowsOf, lines_of, HasRowsOf, BooksRowsOf, MarketRowsOf, rows_for, Holds, HoldsIn, campaign_row_of, faction_line, region_line, unit_line, structure_line, things_of}
 use Rattle.atl_store.specs.Sets.{Is, IsKeyed, rows_in}
-use Rattle.atl_store.specs.Shown.{flag, head_row_in, mail_row, report_row, faction_stored, region_stored, unit_stored, structure_stored, mail_stored, report_stored}
+use Rattle.atl_store.specs.Shown.{flag, campaign_row_in, mail_row, report_row, faction_stored, region_stored, unit_stored, structure_stored, mail_stored, report_stored}
 use Rattle.atl_store.specs.Tables.{Part, Own, Factions, Regions, Units, Goods, Structures, Mail, Reports, Books, Markets, table_of, all_parts, parts_in}
 use Rattle.atl_store.specs.Written.{sort_number}
 use Rattle.atl_store.proofs.EditLaws.{has_permuted}
@@ -102,14 +102,14 @@ unit_same n u =
 
 -- ---- the campaign's own row
 
-own_held : {Q : Type 0} (f : Format) (text : List ℕ) (c : CampaignValue) (rows : List Row) (read : List StoredHead) → IsPermutation rows (map (own_stored text) read) → IsPermutation (made.head_row f c ∷ []) read → Is rows (λ r. r ≡ head_row_in f (head_of c) text) × (Q → HasKeys rows)
+own_held : {Q : Type 0} (f : Format) (text : List ℕ) (c : CampaignValue) (rows : List Row) (read : List StoredCampaignRow) → IsPermutation rows (map (own_stored text) read) → IsPermutation (made.campaign_row f c ∷ []) read → Is rows (λ r. r ≡ campaign_row_in f (campaign_row_of c) text) × (Q → HasKeys rows)
 own_held f text c rows read in_table of_them = (
   λ r.
-      let is = are_made (own_stored text) rows read (made.head_row f c ∷ []) in_table of_them r in (
+      let is = are_made (own_stored text) rows read (made.campaign_row f c ∷ []) in_table of_them r in (
         λ there. let a = is.0 there in elim a.1 [ inl same ↦ a.2 ∙ ap (own_stored text) same | inr none ↦ absurd none ],
-        λ same. is.1 (made.head_row f c, inl refl, same),
+        λ same. is.1 (made.campaign_row f c, inl refl, same),
       ),
-  λ _. (head_row_in f (head_of c) text ∷ [], rows_made (own_stored text) rows read (made.head_row f c ∷ []) in_table of_them, one_keys (head_row_in f (head_of c) text) (pos 1) refl),
+  λ _. (campaign_row_in f (campaign_row_of c) text ∷ [], rows_made (own_stored text) rows read (made.campaign_row f c ∷ []) in_table of_them, one_keys (campaign_row_in f (campaign_row_of c) text) (pos 1) refl),
 )
 
 -- ---- amounts that are not 0
@@ -127,23 +127,23 @@ module _ {R : Type 0} (amount : R → ℤ) (row : ℕ → ℕ → R) (is : (thin
 
 -- ---- what units have
 
-sort_made : (n sort : ℕ) (es : List (ℕ × ℕ)) (s : StoredHas) → Has (made.sort_rows n sort es) s → (e : ℕ × ℕ) × Has es e × (e.1 ≢ 0) × (s ≡ made.has_row n sort e.0 e.1)
+sort_made : (n sort : ℕ) (es : List (ℕ × ℕ)) (s : StoredHas) → Has (made.kind_rows n sort es) s → (e : ℕ × ℕ) × Has es e × (e.1 ≢ 0) × (s ≡ made.has_row n sort e.0 e.1)
 sort_made n sort = amount_made (λ (r : StoredHas). r.amount) (made.has_row n sort) (λ thing count. refl)
 
-made_sort : (n sort : ℕ) (es : List (ℕ × ℕ)) (thing amount : ℕ) → Has es (thing, amount) → amount ≢ 0 → Has (made.sort_rows n sort es) (made.has_row n sort thing amount)
+made_sort : (n sort : ℕ) (es : List (ℕ × ℕ)) (thing amount : ℕ) → Has es (thing, amount) → amount ≢ 0 → Has (made.kind_rows n sort es) (made.has_row n sort thing amount)
 made_sort n sort = made_amount (λ (r : StoredHas). r.amount) (made.has_row n sort) (λ thing count. refl)
 
-goods_made : (n : ℕ) (held : Held) (s : StoredHas) → Has (made.held_rows n held) s → (sort : Sort) × (e : ℕ × ℕ) × Has (entries (things_of sort held)) e × (e.1 ≢ 0) × (s ≡ made.has_row n (sort_number sort) e.0 e.1)
-goods_made n held s there = elim (has_either (made.sort_rows n 0 (entries held.items)) (made.sort_rows n 1 (entries held.days)) s there) [
+goods_made : (n : ℕ) (held : HoldingValue) (s : StoredHas) → Has (made.held_rows n held) s → (sort : ThingKind) × (e : ℕ × ℕ) × Has (entries (things_of sort held)) e × (e.1 ≢ 0) × (s ≡ made.has_row n (sort_number sort) e.0 e.1)
+goods_made n held s there = elim (has_either (made.kind_rows n 0 (entries held.items)) (made.kind_rows n 1 (entries held.days)) s there) [
   | inl item ↦ let e = sort_made n 0 (entries held.items) s item in (Item, e.0, e.1, e.2, e.3)
   | inr skill ↦ let e = sort_made n 1 (entries held.days) s skill in (Skill, e.0, e.1, e.2, e.3)
 ]
 
-made_goods : (n : ℕ) (held : Held) (sort : Sort) (thing amount : ℕ) → Has (entries (things_of sort held)) (thing, amount) → amount ≢ 0 → Has (made.held_rows n held) (made.has_row n (sort_number sort) thing amount)
-made_goods n held Item thing amount there some = has_left (made.sort_rows n 0 (entries held.items)) (made.sort_rows n 1 (entries held.days)) _ (made_sort n 0 (entries held.items) thing amount there some)
-made_goods n held Skill thing amount there some = has_right (made.sort_rows n 0 (entries held.items)) (made.sort_rows n 1 (entries held.days)) _ (made_sort n 1 (entries held.days) thing amount there some)
+made_goods : (n : ℕ) (held : HoldingValue) (sort : ThingKind) (thing amount : ℕ) → Has (entries (things_of sort held)) (thing, amount) → amount ≢ 0 → Has (made.held_rows n held) (made.has_row n (sort_number sort) thing amount)
+made_goods n held Item thing amount there some = has_left (made.kind_rows n 0 (entries held.items)) (made.kind_rows n 1 (entries held.days)) _ (made_sort n 0 (entries held.items) thing amount there some)
+made_goods n held Skill thing amount there some = has_right (made.kind_rows n 0 (entries held.items)) (made.kind_rows n 1 (entries held.days)) _ (made_sort n 1 (entries held.days) thing amount there some)
 
-row_of_goods : (units : FinMap nat_cmp Unit) (r : Row) (n : ℕ) (unit : Unit) → Has (entries units) (n, unit) → (a : StoredHas) → r ≡ has_values a → (sort : Sort) (e : ℕ × ℕ) → Has (entries (things_of sort unit.holding)) e → e.1 ≢ 0 → a ≡ made.has_row n (sort_number sort) e.0 e.1 → HasRowsOf units r
+row_of_goods : (units : FinMap nat_cmp Unit) (r : Row) (n : ℕ) (unit : Unit) → Has (entries units) (n, unit) → (a : StoredHas) → r ≡ has_values a → (sort : ThingKind) (e : ℕ × ℕ) → Has (entries (things_of sort unit.holding)) e → e.1 ≢ 0 → a ≡ made.has_row n (sort_number sort) e.0 e.1 → HasRowsOf units r
 row_of_goods units r n unit there a is sort e has some made_is = (n, unit, entry_got units n unit there, sort, e.0, e.1, entry_got (things_of sort unit.holding) e.0 e.1 has, some, is ∙ ap has_values made_is)
 
 goods_held : (rows : List Row) (read : List StoredHas) (units : FinMap nat_cmp Unit) → IsPermutation rows (map has_values read) → IsPermutation (made.has_rows (entries units)) read → Is rows (HasRowsOf units)
@@ -208,12 +208,12 @@ module _ (books : List (List ℤ)) where
       has_kept (λ (r : StoredBooks). not (is_zero r.amount)) (map (cell entry) (range_with_len 0 things)) (cell entry thing) (has_map (cell entry) (range_with_len 0 things) thing there) (some_amount (amount_at books entry thing) some)
 
   -- a row by its places
-  booked : (e : Entry) (t : Thing) (entry thing : ℕ) → entry ≡ entry_place e → thing ≡ thing_place t → (r : Row) → amount_at books entry thing ≢ pos 0 → r ≡ books_values (cell entry thing) → BooksRowsOf books r
+  booked : (e : Entry) (t : Thing) (entry thing : ℕ) → entry ≡ entry_index e → thing ≡ thing_index t → (r : Row) → amount_at books entry thing ≢ pos 0 → r ≡ books_values (cell entry thing) → BooksRowsOf books r
   booked e t entry thing entry_is thing_is r some is = (
     e,
     t,
-    λ zero. some (ap (λ n. amount_at books n thing) entry_is ∙ ap (λ n. amount_at books (entry_place e) n) thing_is ∙ zero),
-    is ∙ ap (λ n. books_values (cell n thing)) entry_is ∙ ap (λ n. books_values (cell (entry_place e) n)) thing_is,
+    λ zero. some (ap (λ n. amount_at books n thing) entry_is ∙ ap (λ n. amount_at books (entry_index e) n) thing_is ∙ zero),
+    is ∙ ap (λ n. books_values (cell n thing)) entry_is ∙ ap (λ n. books_values (cell (entry_index e) n)) thing_is,
   )
 
   books_held : (rows : List Row) (read : List StoredBooks) → IsPermutation rows (map books_values read) → IsPermutation (made.books_rows books) read → Is rows (BooksRowsOf books)
@@ -222,14 +222,14 @@ module _ (books : List (List ℤ)) where
         λ there.
             let a = is.0 there in
             let found = flat_has (made.entry_rows books (length books)) (range_with_len 0 entry_count) a.0 a.1 in
-            let e = map_has entry_place all_entries found.0 found.1 in
+            let e = map_has entry_index all_entries found.0 found.1 in
             let t = cell_made (length books) found.0 a.0 found.2 in
             booked e.0 (thing_at t.0) found.0 t.0 e.2 (sym (place_at t.0)) r t.1 (a.2 ∙ ap books_values t.2),
         λ of.
-            let inside = has_range 0 (length books) (thing_place of.1) (omega arith) (omega (arith, within books of.0 of.1 of.2)) in
+            let inside = has_range 0 (length books) (thing_index of.1) (omega arith) (omega (arith, within books of.0 of.1 of.2)) in
             is.1 (
-              cell (entry_place of.0) (thing_place of.1),
-              has_flat (made.entry_rows books (length books)) (range_with_len 0 entry_count) (entry_place of.0) _ (has_map entry_place all_entries of.0 (every_entry of.0)) (made_cell (length books) (entry_place of.0) (thing_place of.1) inside of.2),
+              cell (entry_index of.0) (thing_index of.1),
+              has_flat (made.entry_rows books (length books)) (range_with_len 0 entry_count) (entry_index of.0) _ (has_map entry_index all_entries of.0 (every_entry of.0)) (made_cell (length books) (entry_index of.0) (thing_index of.1) inside of.2),
               of.3,
             ),
       )
@@ -247,7 +247,7 @@ only_second Second part late there = refl
 -- tables that have the rows of a campaign
 module _ (f : Format) (db : Trees) (text : List ℕ) (p : Parts) (c : CampaignValue) (have : HaveRows f db text p) (are : AreRowsOf f c p) where
   -- Each part's table has exactly the rows that stand for the part, and they differ in the first column where that is the row's number.
-  by_part : (part : Part) → Has (parts_in f) part → Is (rows_in (table_of part) db) (rows_for (head_row_in f (head_of c) text) c part) × (has_places part ≡ false → HasKeys (rows_in (table_of part) db))
+  by_part : (part : Part) → Has (parts_in f) part → Is (rows_in (table_of part) db) (rows_for (campaign_row_in f (campaign_row_of c) text) c part) × (has_places part ≡ false → HasKeys (rows_in (table_of part) db))
   unfolding rows_of
   by_part Own there = own_held f text c _ p.campaign (have.rows Own there) are.campaign
   by_part Factions there = by_number faction_stored made.faction_row faction_line faction_same (λ n v. refl) _ p.factions c.factions (have.rows Factions there) are.factions
@@ -279,7 +279,7 @@ holds_all db text c holds = record { rows = λ part. holds.rows part (every_part
 
 -- ---- the first rule
 
-one_head : (f : Format) (h : StoredHead) (rows : List StoredHead) → h.id ≡ pos 1 → h.format ≡ pos (format_number f) → rows ≡ h ∷ [] → IsTrue (is_one_head f rows)
+one_head : (f : Format) (h : StoredCampaignRow) (rows : List StoredCampaignRow) → h.id ≡ pos 1 → h.format ≡ pos (format_number f) → rows ≡ h ∷ [] → IsTrue (is_one_campaign_row f rows)
 one_head First h rows id format is = rw (is, id, format) refl
 one_head Second h rows id format is = rw (is, id, format) refl
 
@@ -292,5 +292,5 @@ no_markets First p none = nothing p.markets (none [] Markets (not_among (parts_i
 no_markets Second p none = refl
 
 -- a row whose id is 1 and whose format is this one keeps it, where no row was read of a part that the format doesn't have
-pub keeps_one_row : (f : Format) (w : WorldValue) (p : Parts) (h : StoredHead) → h.id ≡ pos 1 → h.format ≡ pos (format_number f) → p.campaign ≡ h ∷ [] → ((text : List ℕ) (part : Part) → ¬ Has (parts_in f) part → rows_read text p part ≡ []) → Keeps f w p OneRow
+pub keeps_one_row : (f : Format) (w : WorldValue) (p : Parts) (h : StoredCampaignRow) → h.id ≡ pos 1 → h.format ≡ pos (format_number f) → p.campaign ≡ h ∷ [] → ((text : List ℕ) (part : Part) → ¬ Has (parts_in f) part → rows_read text p part ≡ []) → Keeps f w p OneRow
 keeps_one_row f w p h id format is none = (one_head f h p.campaign id format is, no_markets f p none)

@@ -8,12 +8,12 @@ use Rattle.sqlite_rules.specs.Lists.{Has}
 use Rattle.atl_state.specs.Campaign.{MarkedCampaign}
 use Rattle.atl_store.specs.Sets.{rows_in}
 use Rattle.atl_store.specs.Tables.{Part, Own, table_of, all_parts, campaign_table}
-use Rattle.atl_store.specs.Shown.{head_row}
-use Rattle.atl_store.specs.Rows.{head_of, rows_for}
-use Rattle.atl_store.specs.PutsHead.{PutsHead}
+use Rattle.atl_store.specs.Shown.{campaign_row}
+use Rattle.atl_store.specs.Rows.{campaign_row_of, rows_for}
+use Rattle.atl_store.specs.PutsCampaignRow.{PutsCampaignRow}
 use Rattle.atl_store.specs.Inside.{Inside, HasTables, Alters}
-use Rattle.atl_store.specs.Changing.{is_marked, head_after, own_after, WritesChanges}
-use Rattle.atl_store.specs.Rewriting.{Becomes, Rewrites, RewritesHead, RewritesParts, RewritesWithOwn}
+use Rattle.atl_store.specs.Changing.{is_marked, campaign_row_after, own_after, WritesChanges}
+use Rattle.atl_store.specs.Rewriting.{Becomes, Rewrites, RewritesCampaignRow, RewritesParts, RewritesWithOwn}
 use Rattle.atl_store.proofs.CarryLaws.{carries_none}
 use Rattle.atl_store.proofs.PartLaws.{is_among, are_apart, all_among, one_changed, both_changed}
 use Rattle.atl_store.proofs.WholeLaws.{inside_weaker}
@@ -21,27 +21,27 @@ use Rattle.atl_store.proofs.WholeLaws.{inside_weaker}
 -- ---- the campaign's own row
 
 module _ (c : MarkedCampaign) where
-  head_put : (b : Bool) → c.marks.row ≡ b → b ≡ true → (old new : Database) → PutsHead (head_of c.value) [] old new → RewritesHead c old new
+  head_put : (b : Bool) → c.marks.row ≡ b → b ≡ true → (old new : Database) → PutsCampaignRow (campaign_row_of c.value) [] old new → RewritesCampaignRow c old new
   head_put b is set old new did before text was =
       let puts = did.again before text was in
-      let row = head_row (head_of c.value) text in
-      subst (λ (k : Bool). Alters campaign_table (λ r. r ≡ head_row (head_after k c.value before) text) old new) (sym (is ∙ set)) (record {
+      let row = campaign_row (campaign_row_of c.value) text in
+      subst (λ (k : Bool). Alters campaign_table (λ r. r ≡ campaign_row (campaign_row_after k c.value before) text) old new) (sym (is ∙ set)) (record {
         rows = λ r. (λ there. only r ((puts.rows r).0 there), λ same. (puts.rows r).1 (inl same));
         others = puts.others;
       })
     where
-      only : (r : Row) → (r ≡ head_row (head_of c.value) text) ⊎ (Has (rows_in campaign_table old.trees) r × (take 1 r ≢ take 1 (head_row (head_of c.value) text))) → r ≡ head_row (head_of c.value) text
+      only : (r : Row) → (r ≡ campaign_row (campaign_row_of c.value) text) ⊎ (Has (rows_in campaign_table old.trees) r × (take 1 r ≢ take 1 (campaign_row (campaign_row_of c.value) text))) → r ≡ campaign_row (campaign_row_of c.value) text
       only r (inl same) = same
       only r (inr kept) = absurd (kept.1 (ap (take 1) ((was r).0 kept.0)))
 
-  pub head_done : c.marks.row ≡ true → (old new : State) → Inside HasTables (PutsHead (head_of c.value) []) old new → Inside HasTables (RewritesHead c) old new
-  head_done is old new did = inside_weaker HasTables (PutsHead (head_of c.value) []) (RewritesHead c) old new (λ has puts. head_put true is refl old.now new.now puts) did
+  pub head_done : c.marks.row ≡ true → (old new : State) → Inside HasTables (PutsCampaignRow (campaign_row_of c.value) []) old new → Inside HasTables (RewritesCampaignRow c) old new
+  head_done is old new did = inside_weaker HasTables (PutsCampaignRow (campaign_row_of c.value) []) (RewritesCampaignRow c) old new (λ has puts. head_put true is refl old.now new.now puts) did
 
-  pub head_left : c.marks.row ≡ false → (s : State) → Inside HasTables (RewritesHead c) s s
+  pub head_left : c.marks.row ≡ false → (s : State) → Inside HasTables (RewritesCampaignRow c) s s
   head_left is s = (
     refl,
     λ has. record {
-      does = λ before text was. subst (λ k. Alters campaign_table (λ r. r ≡ head_row (head_after k c.value before) text) s.now s.now) (sym is) (record { rows = was; others = λ t listed other. refl });
+      does = λ before text was. subst (λ k. Alters campaign_table (λ r. r ≡ campaign_row (campaign_row_after k c.value before) text) s.now s.now) (sym is) (record { rows = was; others = λ t listed other. refl });
       tables = has;
       carries = carries_none s.now;
     },
@@ -50,7 +50,7 @@ module _ (c : MarkedCampaign) where
 -- ---- one table after another
 
 module _ (c : MarkedCampaign) where
-  pub own_rewritten : (old new : Database) → RewritesHead c old new → RewritesWithOwn c (Own ∷ []) old new
+  pub own_rewritten : (old new : Database) → RewritesCampaignRow c old new → RewritesWithOwn c (Own ∷ []) old new
   own_rewritten old new did before text was = one_changed (Becomes c (own_after c before text)) Own _ old new (did before text was) (λ rows. rows)
 
   -- of another part, whose rows don't tell the campaign's own

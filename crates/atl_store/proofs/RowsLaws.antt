@@ -20,13 +20,13 @@ Reads f sql in_table count = (old new : State) (rows : List Row) → Shown sql [
 
 -- the tables are those of a format as the SELECT is asked, where they were so before
 pub asked_begins : (f : Format) (old before : State) → IsAsked old before → HasTablesOf f old.now.schema → HasTablesOf f before.now.schema
-asked_begins f old before asked has = subst (λ (d : Database). HasTablesOf f d.schema) (sym asked.same) has
+asked_begins f old before select_of has = subst (λ (d : Database). HasTablesOf f d.schema) (sym select_of.same) has
 
 -- and their rows are those before
 pub asked_rows : (f : Format) (sql : List ℕ) (in_table : Trees → List Row) (count : ℕ) → Reads f sql in_table count → (old before during : State) (rows : List Row) → IsAsked old before → Shown sql [] before during rows → HasTablesOf f old.now.schema
     → IsPermutation (in_table old.now.trees) (map (first_columns count) rows)
-asked_rows f sql in_table count means old before during rows asked shown has =
-    subst (λ (d : Database). IsPermutation (in_table d.trees) (map (first_columns count) rows)) asked.same (means before during rows shown (asked_begins f old before asked has))
+asked_rows f sql in_table count means old before during rows select_of shown has =
+    subst (λ (d : Database). IsPermutation (in_table d.trees) (map (first_columns count) rows)) select_of.same (means before during rows shown (asked_begins f old before select_of has))
 
 module _ {S A Z : Type 0} (g : Ghosts S) (sql : List ℕ) (old new : Held S) (forms : List Form) (shown : A → Row) (r : Result (Vec A Z) ReadFault) where
   pub gives_table : (since : Format) (in_table : Trees → List Row) → Reads since sql in_table (length forms) → ReadsRows g sql old forms shown r new → GivesTable g since in_table shown r old new

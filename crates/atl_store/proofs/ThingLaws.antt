@@ -13,14 +13,14 @@ use Rattle.sqlite.specs.State.{State}
 use Rattle.sqlite_value.specs.declared.value.Value.TheVariants.{Int}
 use Rattle.atl_state.specs.Campaign.{CampaignValue}
 use Rattle.atl_state.specs.Marks.{Things}
-use Rattle.atl_store.specs.declared.rows.has.Sort.{Sort}
-use Rattle.atl_store.specs.declared.rows.has.Sort.TheVariants.{Item, Skill}
+use Rattle.atl_store.specs.declared.rows.has.ThingKind.{ThingKind}
+use Rattle.atl_store.specs.declared.rows.has.ThingKind.TheVariants.{Item, Skill}
 use Rattle.atl_store.specs.Written.{sort_number}
 use Rattle.atl_store.specs.Tables.{has_table}
 use Rattle.atl_store.specs.Shown.{int, has_key, has_row}
 use Rattle.atl_store.specs.Rows.{HasRowsOf, amount_under}
 use Rattle.atl_store.specs.Inside.{Inside, HasTables, Puts, Drops}
-use Rattle.atl_store.specs.Changing.{of_sort, has_thing}
+use Rattle.atl_store.specs.Changing.{of_kind, has_thing}
 use Rattle.atl_store.specs.Rewriting.{RewritesThings, is_number, is_among, is_thing, is_of}
 use Rattle.atl_store.proofs.EntryLaws.{in_order}
 use Rattle.atl_store.proofs.GoodsLaws.{three_same, had_of, of_had}
@@ -29,29 +29,29 @@ use Rattle.atl_store.proofs.WholeLaws.{inside_weaker}
 
 -- ---- a row that begins with a unit, the number of a sort and a thing
 
-module _ (sort : Sort) where
-  of_sort_same : (f g : ℕ → ℕ → Bool) → ((n t : ℕ) → f n t ≡ g n t) → (r : Row) → of_sort sort f r ≡ of_sort sort g r
-  of_sort_same f g same r = ap (λ (h : ℕ → ℕ → Bool). of_sort sort h r) (λ i n t. same n t i)
+module _ (sort : ThingKind) where
+  of_sort_same : (f g : ℕ → ℕ → Bool) → ((n t : ℕ) → f n t ≡ g n t) → (r : Row) → of_kind sort f r ≡ of_kind sort g r
+  of_sort_same f g same r = ap (λ (h : ℕ → ℕ → Bool). of_kind sort h r) (λ i n t. same n t i)
 
-  of_sort_either : (f g : ℕ → ℕ → Bool) (r : Row) → of_sort sort (λ n t. f n t || g n t) r ≡ (of_sort sort f r || of_sort sort g r)
+  of_sort_either : (f g : ℕ → ℕ → Bool) (r : Row) → of_kind sort (λ n t. f n t || g n t) r ≡ (of_kind sort f r || of_kind sort g r)
   of_sort_either f g (Int (pos unit) ∷ Int (pos number) ∷ Int (pos thing) ∷ row) = and-or_distrib_left (number == sort_number sort) (f unit thing) (g unit thing)
   of_sort_either f g row = refl
 
-  of_sort_none : (f : ℕ → ℕ → Bool) → ((n t : ℕ) → f n t ≡ false) → (r : Row) → of_sort sort f r ≡ false
+  of_sort_none : (f : ℕ → ℕ → Bool) → ((n t : ℕ) → f n t ≡ false) → (r : Row) → of_kind sort f r ≡ false
   of_sort_none f never (Int (pos unit) ∷ Int (pos number) ∷ Int (pos thing) ∷ row) = ap (λ b. number == sort_number sort && b) (never unit thing) ∙ and-false (number == sort_number sort)
   of_sort_none f never row = refl
 
 -- ---- one thing
 
-pub same_sort : (a b : Sort) → sort_number a ≡ sort_number b → a ≡ b
+pub same_sort : (a b : ThingKind) → sort_number a ≡ sort_number b → a ≡ b
 same_sort Item Item same = refl
 same_sort Item Skill same = absurd (omega (arith, same))
 same_sort Skill Item same = absurd (omega (arith, same))
 same_sort Skill Skill same = refl
 
-module _ (unit : ℕ) (sort : Sort) (thing : ℕ) where
+module _ (unit : ℕ) (sort : ThingKind) (thing : ℕ) where
   abbrev is_here : Row → Bool
-  is_here r = of_sort sort (is_thing unit thing) r
+  is_here r = of_kind sort (is_thing unit thing) r
 
   key_of : (r : Row) → is_here r ≡ true → take 3 r ≡ has_key unit (sort_number sort) thing
   key_of (Int (pos n) ∷ Int (pos number) ∷ Int (pos t) ∷ row) is =
@@ -86,7 +86,7 @@ module _ (unit : ℕ) (sort : Sort) (thing : ℕ) where
     wanted_here r here of =
         let had = had_of c.units r of in
         let keys = three_same had.0 (sort_number had.1) had.2 unit (sort_number sort) thing (ap (take 3) (sym had.4) ∙ key_of r here) in
-        let Tells : ℕ → Sort → ℕ → Type 0 = λ n s t. (amount_under c.units n s t ≢ 0) × (r ≡ has_row n (sort_number s) t (amount_under c.units n s t)) in
+        let Tells : ℕ → ThingKind → ℕ → Type 0 = λ n s t. (amount_under c.units n s t ≢ 0) × (r ≡ has_row n (sort_number s) t (amount_under c.units n s t)) in
         let told : Tells unit sort thing = subst (λ n. Tells n sort thing) keys.0 (subst (λ s. Tells had.0 s thing) (same_sort had.1 sort keys.1) (subst (Tells had.0 had.1) keys.2 (had.3, had.4))) in
         (λ none. told.0 (sym is ∙ none), told.1 ∙ ap (has_row unit (sort_number sort) thing) (sym is))
 
@@ -148,24 +148,24 @@ module _ {V : Type 0} where
 
 -- ---- one thing after another, and one unit after another
 
-module _ (c : CampaignValue) (sort : Sort) where
+module _ (c : CampaignValue) (sort : ThingKind) where
   abbrev wanted : Row → Type 0
   wanted r = HasRowsOf c.units r
 
   -- with the rest of these things rewritten too, all are
   abbrev pub NearingThings : (ℕ → ℕ → Bool) → (ℕ → ℕ → Bool) → Database → Database → Type 0
-  NearingThings rest all = Nearing has_table wanted (λ r. of_sort sort rest r) (λ r. of_sort sort all r)
+  NearingThings rest all = Nearing has_table wanted (λ r. of_kind sort rest r) (λ r. of_kind sort all r)
 
   -- of which one is rewritten
   nearer : (step rest next all : ℕ → ℕ → Bool) → ((n t : ℕ) → rest n t ≡ (step n t || next n t)) → (old mid new : State)
       → Inside HasTables (NearingThings rest all) old mid → Inside HasTables (RewritesThings c sort step) mid new → Inside HasTables (NearingThings next all) old new
-  nearer step rest next all parts = one_nearer has_table wanted (λ r. of_sort sort step r) (λ r. of_sort sort rest r) (λ r. of_sort sort next r) (λ r. of_sort sort all r)
+  nearer step rest next all parts = one_nearer has_table wanted (λ r. of_kind sort step r) (λ r. of_kind sort rest r) (λ r. of_kind sort next r) (λ r. of_kind sort all r)
       (λ r. of_sort_same sort rest (λ n t. step n t || next n t) parts r ∙ of_sort_either sort step next r)
 
   -- of which none is left
   nearest : (rest all goal : ℕ → ℕ → Bool) → ((n t : ℕ) → rest n t ≡ false) → ((n t : ℕ) → all n t ≡ goal n t) → (old new : State)
       → Inside HasTables (NearingThings rest all) old new → Inside HasTables (RewritesThings c sort goal) old new
-  nearest rest all goal none same = all_rewritten has_table wanted (λ r. of_sort sort rest r) (λ r. of_sort sort all r) (λ r. of_sort sort goal r) (of_sort_none sort rest none) (of_sort_same sort all goal same)
+  nearest rest all goal none same = all_rewritten has_table wanted (λ r. of_kind sort rest r) (λ r. of_kind sort all r) (λ r. of_kind sort goal r) (of_sort_none sort rest none) (of_sort_same sort all goal same)
 
   module _ {V : Type 0} where
     pub thing_nearer : (unit : ℕ) (x : ℕ × V) (now rest all : List (ℕ × V)) → now ≡ x ∷ rest → (old mid new : State)

@@ -13,11 +13,11 @@ use Rattle.atl_tables.specs.declared.format.Format.TheVariants.{First}
 use Rattle.atl_state.specs.Campaign.{CampaignValue}
 use Rattle.atl_state.specs.Good.{HasNoStocks}
 use Rattle.atl_store.specs.Inside.{Inside, HasTables, Carries, Both, Puts}
-use Rattle.atl_store.specs.Rows.{head_of, rows_for, campaign_line, Holds, HoldsIn, MarketRowsOf}
+use Rattle.atl_store.specs.Rows.{campaign_row_of, rows_for, campaign_line, Holds, HoldsIn, MarketRowsOf}
 use Rattle.atl_store.specs.Sets.{Is, IsKeyed, rows_in, put, visible}
-use Rattle.atl_store.specs.Shown.{head_row, head_row_in}
+use Rattle.atl_store.specs.Shown.{campaign_row, campaign_row_in}
 use Rattle.atl_store.specs.Tables.{Part, Own, Markets, campaign_table, market_table, all_tables, all_indexes, creation_of, first_tables, parts_in, table_of}
-use Rattle.atl_store.specs.UpgradeSteps.{AddsMarkets, IsOld, UpgradesHead, WritesUpgrade}
+use Rattle.atl_store.specs.UpgradeSteps.{AddsMarkets, IsOld, UpgradesCampaignRow, WritesUpgrade}
 use Rattle.atl_store.specs.Writes.{Runs}
 use Rattle.atl_store.proofs.CreateTexts.{is_made, makes_table}
 use Rattle.atl_store.proofs.ListLaws.{has_map}
@@ -91,32 +91,32 @@ own_row rows old was row key one made r = (
   λ same. (made r).1 (inl same),
 )
 
-module _ (text : List ℕ) (c : CampaignValue) (old mid new : Database) (first : AddsMarkets old mid) (second : UpgradesHead (head_of c) text mid new) (before : List ℕ) (held : HoldsIn First old.trees before c) (bare : HasNoStocks c) where
+module _ (text : List ℕ) (c : CampaignValue) (old mid new : Database) (first : AddsMarkets old mid) (second : UpgradesCampaignRow (campaign_row_of c) text mid new) (before : List ℕ) (held : HoldsIn First old.trees before c) (bare : HasNoStocks c) where
   -- the rows of a table that was there, behind the first step
-  was : (part : Part) → Has (parts_in First) part → Is (rows_in (table_of part) mid.trees) (rows_for (head_row_in First (head_of c) before) c part)
-  was part there = subst (λ rows. Is rows (rows_for (head_row_in First (head_of c) before) c part)) (sym (ap (map (visible (table_of part))) (first.others (table_of part) (has_map table_of (parts_in First) part there)))) (held.rows part there)
+  was : (part : Part) → Has (parts_in First) part → Is (rows_in (table_of part) mid.trees) (rows_for (campaign_row_in First (campaign_row_of c) before) c part)
+  was part there = subst (λ rows. Is rows (rows_for (campaign_row_in First (campaign_row_of c) before) c part)) (sym (ap (map (visible (table_of part))) (first.others (table_of part) (has_map table_of (parts_in First) part there)))) (held.rows part there)
 
-  did : Puts campaign_table 1 (head_row (head_of c) text) mid new
+  did : Puts campaign_table 1 (campaign_row (campaign_row_of c) text) mid new
   did = second before (was Own (inl refl))
 
   -- each other table is as the first step left it
   rest : (part : Part) → part ≢ Own → rows_in (table_of part) new.trees ≡ rows_in (table_of part) mid.trees
   rest part other = ap (map (visible (table_of part))) (did.others (table_of part) (listed part) (λ same. other (same_part part Own same)))
 
-  kept : (part : Part) → part ≢ Own → Has (parts_in First) part → Is (rows_in (table_of part) new.trees) (rows_for (head_row_in First (head_of c) before) c part)
-  kept part other there = subst (λ rows. Is rows (rows_for (head_row_in First (head_of c) before) c part)) (sym (rest part other)) (was part there)
+  kept : (part : Part) → part ≢ Own → Has (parts_in First) part → Is (rows_in (table_of part) new.trees) (rows_for (campaign_row_in First (campaign_row_of c) before) c part)
+  kept part other there = subst (λ rows. Is rows (rows_for (campaign_row_in First (campaign_row_of c) before) c part)) (sym (rest part other)) (was part there)
 
   pub upgrade_held : Holds new.trees text c
   upgrade_held = record { rows = rows }
     where
       rows : (part : Part) → Is (rows_in (table_of part) new.trees) (rows_for (campaign_line text c) c part)
-      rows Own = own_row _ _ (head_row_in First (head_of c) before) (campaign_line text c) refl (was Own (inl refl)) did.rows
+      rows Own = own_row _ _ (campaign_row_in First (campaign_row_of c) before) (campaign_line text c) refl (was Own (inl refl)) did.rows
       rows Markets = λ r. (λ there. absurd (subst (λ l. Has l r) (rest Markets (λ e. absurd cc) ∙ ap (map (visible market_table)) first.empty) there), λ of. absurd (no_stocks c bare r of))
       rows part = kept part (λ e. absurd cc) (in_first part (λ e. absurd cc))
 
 -- the head is upgraded behind the new table
-pub upgrade_done : (text : List ℕ) (c : CampaignValue) (start mid end : State) → Inside IsOld AddsMarkets start mid → Inside HasTables (UpgradesHead (head_of c) text) mid end → Inside IsOld (WritesUpgrade text c) start end
+pub upgrade_done : (text : List ℕ) (c : CampaignValue) (start mid end : State) → Inside IsOld AddsMarkets start mid → Inside HasTables (UpgradesCampaignRow (campaign_row_of c) text) mid end → Inside IsOld (WritesUpgrade text c) start end
 upgrade_done text c start mid end first second =
-    inside_weaker IsOld (Both AddsMarkets (UpgradesHead (head_of c) text)) (WritesUpgrade text c) start end
+    inside_weaker IsOld (Both AddsMarkets (UpgradesCampaignRow (campaign_row_of c) text)) (WritesUpgrade text c) start end
     (λ is did before held bare. upgrade_held text c start.now did.0 end.now did.1 did.2 before held bare)
-    (inside_then IsOld AddsMarkets (UpgradesHead (head_of c) text) start mid end first second)
+    (inside_then IsOld AddsMarkets (UpgradesCampaignRow (campaign_row_of c) text) start mid end first second)

@@ -92,8 +92,8 @@ module _ {S : Type 0} (g : Ghosts S) (text : List ℕ) (old mid : Held S) (alone
         more = λ just. more (ap (λ (d : Database). d.schema) same.0 ∙ just);
       }
 
-pub later_both : (old mid new : State) (Early Late : Trees → Type 0) → Survives old mid Early → Survives mid new Late → IsLater old new
-later_both old mid new Early Late one two = record { clean = λ clean. omega (arith, one.clean, two.clean, clean); counts = omega (arith, one.counts, two.counts); shield = λ shielded. two.shield (one.shield shielded) }
+pub later_both : (old mid new : State) (FirstFormatRows SecondFormatRows : Trees → Type 0) → Survives old mid FirstFormatRows → Survives mid new SecondFormatRows → IsLater old new
+later_both old mid new FirstFormatRows SecondFormatRows one two = record { clean = λ clean. omega (arith, one.clean, two.clean, clean); counts = omega (arith, one.counts, two.counts); shield = λ shielded. two.shield (one.shield shielded) }
 
 -- ---- before the transaction
 

@@ -200,10 +200,10 @@ module _ (schema : Schema) (t : Table) (unlinked : (olds news : List Row) → wo
   updates : (new : Row) (db : Trees) (r x : Row) (w : Written) → IsKeyed (db t.tree) → Has (db t.tree) r → x ≡ rowid r ∷ [] → column (given new r) place ≡ rowid r
       → Updates upsert_task q (params ++ rowid x ∷ shown t new) db (Ok w) → Swaps schema t (λ x. is_eq (value_cmp (rowid x) (rowid r))) (cast_row t (eval_all project (given new r ∷ r ∷ []))) db w.trees
   updates new db r x w keyed there is aimed h =
-      let asked = went (subst (λ (y : Row). Updates upsert_task q (params ++ rowid y ∷ shown t new) db (Ok w)) is h) in
-      let wrote = went asked.2 in
+      let select_of = went (subst (λ (y : Row). Updates upsert_task q (params ++ rowid y ∷ shown t new) db (Ok w)) is h) in
+      let wrote = went select_of.2 in
       let trees : w.trees ≡ wrote.0 = ap (λ (x : Written). x.trees) (same_value wrote.2) in
-      let rows = row_by t.tree place project db (overlay db []) (given new r) asked.0 r keyed there aimed (plain db) (asked.1.answer Null) in
+      let rows = row_by t.tree place project db (overlay db []) (given new r) select_of.0 r keyed there aimed (plain db) (select_of.1.answer Null) in
       let edit = subst (λ l. Edited schema Enforced db (edit_of db t (ids_of l) Given 1 l) (Ok wrote.0)) rows wrote.1 in
       subst (Swaps schema t (λ x. is_eq (value_cmp (rowid x) (rowid r))) (cast_row t (eval_all project (given new r ∷ r ∷ []))) db) (sym trees) (replaced_at r _ db wrote.0 keyed there edit)
 
@@ -233,7 +233,7 @@ module _ (schema : Schema) (t : Table) (unlinked : (olds news : List Row) → wo
   pub upserts : (new : Row) (db : Trees) (w : Written) → IsKeyed (db t.tree) → ((r : Row) → Has (db t.tree) r → column (given new r) place ≡ rowid r)
       → Tries upsert_task Abort (clause_on target q ∷ []) new db (Ok w) → Upserted new db w.trees
   upserts new db w keyed aimed (inl refused) = absurd (let e = refused.1 in cc)
-  upserts new db w keyed aimed (inr judged) = go judged.0 judged.2
+  upserts new db w keyed aimed (inr check_own_rows) = go check_own_rows.0 check_own_rows.2
     where
       go : (verdict : Option Refusal) → Judged upsert_task Abort (clause_on target q ∷ []) new db verdict (Ok w) → Upserted new db w.trees
       go None h = met new db w h.0 keyed aimed h.1 h.2

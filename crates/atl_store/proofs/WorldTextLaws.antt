@@ -8,8 +8,8 @@ use Rattle.atl_tables.specs.declared.format.Format.{Format}
 use Rattle.atl_tables.specs.declared.format.Format.TheVariants.{First, Second}
 use Rattle.sqlite_rules.specs.Lists.{Has}
 use Rattle.atl_store.specs.Tables.{Own, campaign_table, parts_in}
-use Rattle.atl_store.specs.Shown.{head_row_in}
-use Rattle.atl_store.specs.Rows.{head_of}
+use Rattle.atl_store.specs.Shown.{campaign_row_in}
+use Rattle.atl_store.specs.Rows.{campaign_row_of}
 use Rattle.atl_store.specs.Keeps.{Keeps}
 use Rattle.atl_store.specs.Loading.{StandsIn}
 use Rattle.atl_store.specs.WorldText.{world_in, world_text}
@@ -19,11 +19,11 @@ has_own : (f : Format) → Has (parts_in f) Own
 has_own First = inl refl
 has_own Second = inl refl
 
-text_held : (f : Format) (s : State) (text : List ℕ) (c : CampaignValue) → Is (rows_in campaign_table s.now.trees) (λ r. r ≡ head_row_in f (head_of c) text) → world_text s ≡ text
+text_held : (f : Format) (s : State) (text : List ℕ) (c : CampaignValue) → Is (rows_in campaign_table s.now.trees) (λ r. r ≡ campaign_row_in f (campaign_row_of c) text) → world_text s ≡ text
 text_held f s text c holds = of (rows_in campaign_table s.now.trees) holds
   where
-    of : (rows : List Row) → Is rows (λ r. r ≡ head_row_in f (head_of c) text) → world_in rows ≡ text
-    of [] is = absurd ((is (head_row_in f (head_of c) text)).1 refl)
+    of : (rows : List Row) → Is rows (λ r. r ≡ campaign_row_in f (campaign_row_of c) text) → world_in rows ≡ text
+    of [] is = absurd ((is (campaign_row_in f (campaign_row_of c) text)).1 refl)
     of (r ∷ rows) is = ap (λ (x : Row). world_in (x ∷ [])) ((is r).0 (inl refl))
 
 pub world_text_is : (s : State) (text : List ℕ) (c : CampaignValue) → Keeps s text c → world_text s ≡ text

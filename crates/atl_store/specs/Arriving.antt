@@ -1,4 +1,4 @@
--- What the writing of a joining and of a mail does.
+-- What writing a join, or a mail, changes in the tables.
 use Rattle.std.specs.Prelude.{◌≡◌, ◌≢◌, ◌⊎◌, ◌+◌, ◌-◌, ◌≤◌, ℕ, List, [], ◌∷◌, Some, IsSome, length, take}
 use Rattle.std.specs.FinMap.{get}
 use Rattle.sqlite.specs.Effect.{Database}
@@ -6,7 +6,7 @@ use Rattle.sqlite.specs.Order.{Row}
 use Rattle.sqlite.specs.Table.{Table}
 use Rattle.sqlite_rules.specs.Lists.{Has}
 use Rattle.atl_state.specs.Campaign.{CampaignValue}
-use Rattle.atl_records.specs.Books.{entry_place, thing_place}
+use Rattle.atl_records.specs.Books.{entry_index, thing_index}
 use Rattle.atl_records.specs.declared.books.Entry.{Entry}
 use Rattle.atl_records.specs.declared.books.Entry.TheVariants.{Joining}
 use Rattle.atl_records.specs.declared.books.Thing.{Thing}
@@ -16,7 +16,7 @@ use Rattle.atl_records.specs.declared.records.Unit.{Unit}
 use Rattle.atl_store.specs.Sets.{Set, Is, put, rows_in}
 use Rattle.atl_store.specs.Inside.{Alters, Puts}
 use Rattle.atl_store.specs.Tables.{Part, Own, Factions, Units, Reports, Books, table_of, campaign_table, faction_table, unit_table, mail_table, report_table, books_table}
-use Rattle.atl_store.specs.Shown.{Head, head_row, mail_row, report_row, books_key}
+use Rattle.atl_store.specs.Shown.{CampaignRowValue, campaign_row, mail_row, report_row, books_key}
 use Rattle.atl_store.specs.Lines.{amount_lines}
 use Rattle.atl_store.specs.Rows.{campaign_line, faction_line, unit_line}
 
@@ -38,7 +38,7 @@ pub record IsFound (c : CampaignValue) (number : ℕ) (faction : Faction) (place
 
 -- the amount of a thing under an entry has its row, or none where it is 0, and every other row of the books is as it was
 abbrev pub settled : CampaignValue → Entry → Thing → Set → Set
-settled c entry thing S r = Has (amount_lines c entry thing) r ⊎ (S r × (take 2 r ≢ books_key (entry_place entry + 1) (thing_place thing)))
+settled c entry thing S r = Has (amount_lines c entry thing) r ⊎ (S r × (take 2 r ≢ books_key (entry_index entry + 1) (thing_index thing)))
 
 -- and so is every other table
 abbrev pub Settles : CampaignValue → Entry → Thing → Database → Database → Type 0
@@ -59,7 +59,7 @@ pub record Enters (faction : ℕ) (after : CampaignValue) (text : List ℕ) (old
 
 -- a joining is written, whatever the campaign's own row said
 abbrev pub WritesJoin : ℕ → CampaignValue → Database → Database → Type 0
-WritesJoin faction after old new = (before : Head) (text : List ℕ) → Is (rows_in campaign_table old.trees) (λ r. r ≡ head_row before text) → Enters faction after text old new
+WritesJoin faction after old new = (before : CampaignRowValue) (text : List ℕ) → Is (rows_in campaign_table old.trees) (λ r. r ≡ campaign_row before text) → Enters faction after text old new
 
 -- a mail is put in the place of an older one of its faction, and every other row and table is as it was
 abbrev pub WritesMail : ℕ → List ℕ → Database → Database → Type 0

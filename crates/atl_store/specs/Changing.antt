@@ -1,4 +1,4 @@
--- What the writing of a campaign's changes does: a row whose key is marked is the campaign's afterwards, and every other row is as it was.
+-- What writing a campaign's changes does: rows with a marked key become the campaign's, and every other row stays.
 use Rattle.std.specs.Prelude.{◌≡◌, ◌==◌, ◌+◌, ◌*◌, ◌&&◌, ◌||◌, ◌↔◌, ℕ, Bool, true, false, pos, suc, is_some, nat_le, List, ◌∷◌}
 use Rattle.std.specs.Ordering.{nat_cmp}
 use Rattle.std.specs.FinMap.{get}
@@ -13,13 +13,13 @@ use Rattle.atl_tables.specs.Groups.{group_of}
 use Rattle.atl_records.specs.Limits.{entry_count}
 use Rattle.atl_state.specs.Campaign.{CampaignValue, MarkedCampaign}
 use Rattle.atl_state.specs.Marks.{Marks, Things}
-use Rattle.atl_store.specs.declared.rows.has.Sort.{Sort}
-use Rattle.atl_store.specs.declared.rows.has.Sort.TheVariants.{Item, Skill}
+use Rattle.atl_store.specs.declared.rows.has.ThingKind.{ThingKind}
+use Rattle.atl_store.specs.declared.rows.has.ThingKind.TheVariants.{Item, Skill}
 use Rattle.atl_store.specs.Sets.{Set, Is, rows_in}
 use Rattle.atl_store.specs.Tables.{Part, Own, Factions, Regions, Units, Goods, Structures, Mail, Reports, Books, Markets, campaign_table, table_of}
-use Rattle.atl_store.specs.Shown.{Head, head_row}
+use Rattle.atl_store.specs.Shown.{CampaignRowValue, campaign_row}
 use Rattle.atl_store.specs.Written.{sort_number}
-use Rattle.atl_store.specs.Rows.{head_of, campaign_line, rows_for}
+use Rattle.atl_store.specs.Rows.{campaign_row_of, campaign_line, rows_for}
 
 -- whether a row begins with a number of which this is so
 abbrev pub begins : (ℕ → Bool) → Row → Bool
@@ -32,9 +32,9 @@ accounts is_so (Int (pos (suc entry)) ∷ Int (pos thing) ∷ row) = is_so entry
 accounts is_so row = false
 
 -- whether this is so of the unit and the thing of a row of this sort
-abbrev pub of_sort : Sort → (ℕ → ℕ → Bool) → Row → Bool
-of_sort sort is_so (Int (pos unit) ∷ Int (pos number) ∷ Int (pos thing) ∷ row) = number == sort_number sort && is_so unit thing
-of_sort sort is_so row = false
+abbrev pub of_kind : ThingKind → (ℕ → ℕ → Bool) → Row → Bool
+of_kind sort is_so (Int (pos unit) ∷ Int (pos number) ∷ Int (pos thing) ∷ row) = number == sort_number sort && is_so unit thing
+of_kind sort is_so row = false
 
 abbrev pub begins_marked : FinSet nat_cmp → Row → Bool
 begins_marked marks r = begins (contains marks) r
@@ -45,7 +45,7 @@ has_thing things unit thing = is_some (get (group_of things unit) thing)
 
 -- whether all that a row's unit has is marked, or the row's item or skill alone
 abbrev pub goods_marked : Marks → Row → Bool
-goods_marked marks r = begins_marked marks.goods r || of_sort Item (has_thing marks.items) r || of_sort Skill (has_thing marks.skills) r
+goods_marked marks r = begins_marked marks.goods r || of_kind Item (has_thing marks.items) r || of_kind Skill (has_thing marks.skills) r
 
 -- whether the amount of an entry, of which there are so many, and a thing is marked
 abbrev pub is_marked_amount : FinSet nat_cmp → ℕ → ℕ → Bool
@@ -59,21 +59,21 @@ Chosen true Wanted Were = Wanted
 Chosen false Wanted Were = Were
 
 -- of the rows with a marked key those that are wanted, and of the others those that were there
-abbrev pub rewritten : (Row → Bool) → Set → Set → Set
-rewritten is_marked Wanted Were r = Chosen (is_marked r) (Wanted r) (Were r)
+abbrev pub rows_after_rewrite : (Row → Bool) → Set → Set → Set
+rows_after_rewrite is_marked Wanted Were r = Chosen (is_marked r) (Wanted r) (Were r)
 
 -- the table's rows with a marked key are those that are wanted, and its others are as they were
 abbrev pub AreRewritten : Table → (Row → Bool) → Set → Database → Database → Type 0
-AreRewritten table is_marked Wanted old new = Is (rows_in table new.trees) (rewritten is_marked Wanted (Has (rows_in table old.trees)))
+AreRewritten table is_marked Wanted old new = Is (rows_in table new.trees) (rows_after_rewrite is_marked Wanted (Has (rows_in table old.trees)))
 
 -- what the campaign's own row says where it is marked, and where it isn't
-abbrev pub head_after : Bool → CampaignValue → Head → Head
-head_after true c before = head_of c
-head_after false c before = before
+abbrev pub campaign_row_after : Bool → CampaignValue → CampaignRowValue → CampaignRowValue
+campaign_row_after true c before = campaign_row_of c
+campaign_row_after false c before = before
 
 -- the campaign's own row as it is written over one that said this, with this world text
-abbrev pub own_after : MarkedCampaign → Head → List ℕ → Row
-own_after c before text = head_row (head_after c.marks.row c.value before) text
+abbrev pub own_after : MarkedCampaign → CampaignRowValue → List ℕ → Row
+own_after c before text = campaign_row (campaign_row_after c.marks.row c.value before) text
 
 -- whether a row of a part's table has a marked key; the campaign's own row is looked at as a whole
 abbrev pub is_marked : Marks → Part → Row → Bool
@@ -89,12 +89,12 @@ is_marked marks Books = amount_marked marks.books
 is_marked marks Markets = begins_marked marks.regions
 
 -- Tables whose own row of a campaign said this, with this world text, have what is marked written.
-pub record WritesMarked (c : MarkedCampaign) (before : Head) (text : List ℕ) (old new : Database) : Type 0 where
+pub record WritesMarked (c : MarkedCampaign) (before : CampaignRowValue) (text : List ℕ) (old new : Database) : Type 0 where
   pub rows : (part : Part) → AreRewritten (table_of part) (is_marked c.marks part) (rows_for (own_after c before text) c.value part) old new
 
 -- whatever the campaign's own row said
 abbrev pub WritesChanges : MarkedCampaign → Database → Database → Type 0
-WritesChanges c old new = (before : Head) (text : List ℕ) → Is (rows_in campaign_table old.trees) (λ r. r ≡ head_row before text) → WritesMarked c before text old new
+WritesChanges c old new = (before : CampaignRowValue) (text : List ℕ) → Is (rows_in campaign_table old.trees) (λ r. r ≡ campaign_row before text) → WritesMarked c before text old new
 
 -- ---- tables that hold what is not marked of a campaign
 
@@ -104,7 +104,7 @@ HasUnmarked table is_marked Wanted trees = (r : Row) → is_marked r ≡ false �
 
 -- The campaign's own row has this world text and, unless it is marked, says what the campaign's says; the rows of all that is not marked are exactly the campaign's.
 pub record HoldsUnmarked (trees : Trees) (text : List ℕ) (c : MarkedCampaign) : Type 0 where
-  pub before : Head
-  pub campaign : Is (rows_in campaign_table trees) (λ r. r ≡ head_row before text)
-  pub head : head_after c.marks.row c.value before ≡ head_of c.value
+  pub before : CampaignRowValue
+  pub campaign : Is (rows_in campaign_table trees) (λ r. r ≡ campaign_row before text)
+  pub head : campaign_row_after c.marks.row c.value before ≡ campaign_row_of c.value
   pub rest : (part : Part) → HasUnmarked (table_of part) (is_marked c.marks part) (rows_for (campaign_line text c.value) c.value part) trees

@@ -1,4 +1,4 @@
--- What becomes of an error of the database: want of memory is Memory, all else Store.
+-- Which fault an error of the database becomes: Memory where it ran out of memory, else Store.
 use Rattle.std.specs.Prelude.{ℕ, Option, Some, None, Bool, true, false, if◌then◌else◌}
 use Rattle.sqlite.specs.declared.error.Error.{Error}
 use Rattle.sqlite.specs.declared.error.Error.TheVariants.{SqliteFailure}
@@ -51,9 +51,9 @@ abbrev pub load_fault : Error → LoadFault
 load_fault e = if is_memory e then load.Memory else load.Store
 
 -- of rows that are no campaign's
-abbrev pub judged_fault : CheckFault → LoadFault
-judged_fault (check.Damaged rule) = load.Damaged rule
-judged_fault check.Memory = load.Memory
+abbrev pub fault_of_check : CheckFault → LoadFault
+fault_of_check (check.Damaged rule) = load.Damaged rule
+fault_of_check check.Memory = load.Memory
 
 -- of loading by the second format
 abbrev pub second_fault : LoadFault → StoreFault

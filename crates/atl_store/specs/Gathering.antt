@@ -1,4 +1,4 @@
--- For proofs alone: how far loading has come.
+-- For proofs alone: how far reading the tables has come.
 use Rattle.std.specs.Prelude.{◌≡◌, ◌≢◌, ◌++◌, ℕ, List, [], ◌∷◌, Bool, false, true, if◌then◌else◌, ◌⊎◌, IsTrue, IsPermutation, drop, length, map, take, pos, Option, Some, None, Result, Ok, Err, IfOk, IfErr, ⊤, string_bytes}
 use Rattle.std.specs.List.{AllByRecursion, IsDistinct}
 use Rattle.std.specs.Ordering.{eq_by_cmp, int_cmp, is_eq}
@@ -22,7 +22,7 @@ use Rattle.atl_state.specs.Checking.{IsChecked, Keeps}
 use Rattle.atl_state.specs.Campaign.{MarkedCampaign}
 use Rattle.atl_state.specs.declared.checking.Rule.TheVariants.{OneRow}
 use Rattle.atl_state.specs.declared.parts.Parts.{Parts}
-use Rattle.atl_state.specs.declared.parts.StoredHead.{StoredHead}
+use Rattle.atl_state.specs.declared.parts.StoredCampaignRow.{StoredCampaignRow}
 use Rattle.atl_store.specs.Faults.{is_memory}
 use Rattle.atl_store.specs.Loading.{HaveRows, AreOwnRow, IsOther, HasOtherType, KeepsOneRow, other_parts, other_selects, has_places, placed_tables, rows_read, Leaves, AreToldTyped, RefusesOne}
 use Rattle.atl_store.specs.Reading.{Selects, listing_of}
@@ -36,7 +36,7 @@ use Rattle.atl_store.specs.declared.fault.ReadFault.TheVariants as read
 use Rattle.atl_store.specs.declared.fault.LoadFault.{LoadFault}
 use Rattle.atl_store.specs.declared.fault.LoadFault.TheVariants.{Store, Damaged, NotACampaign, OtherFormat, Memory}
 use Rattle.atl_store.specs.declared.rows.campaign.StoredCampaign.{StoredCampaign}
-use Rattle.atl_store.specs.declared.rows.stored.Placed.{Placed}
+use Rattle.atl_store.specs.declared.rows.stored.RowWithId.{RowWithId}
 
 -- ---- what a step leaves
 
@@ -99,7 +99,7 @@ JudgesOwn f rows r = Judges (λ both. IsOwn f rows both.0 both.1) ((own : Stored
 
 -- The rows that are shown are judged: whether they are the one of a world's text.
 abbrev pub JudgesRows : Format → List Row → Result (StoredCampaign × WorldValue) LoadFault → Type 0
-JudgesRows f rows r = Judges (λ both. AreOwnRow f rows both.0.head (string_bytes both.0.world) both.1) ((h : StoredHead) (text : List ℕ) (w : WorldValue) → ¬ AreOwnRow f rows h text w) r
+JudgesRows f rows r = Judges (λ both. AreOwnRow f rows both.0.head (string_bytes both.0.world) both.1) ((h : StoredCampaignRow) (text : List ℕ) (w : WorldValue) → ¬ AreOwnRow f rows h text w) r
 
 -- Whether they are one of the other format is judged first.
 abbrev pub JudgesFormat : Format → List Row → Result (StoredCampaign × WorldValue) LoadFault → Type 0
@@ -191,7 +191,7 @@ module _ {S : Type 0} (g : Ghosts S) (old : Held S) where
 -- ---- the places of rows
 
 -- no two rows are kept at one place
-abbrev pub AreApart : {A : Type 0} → List (Placed A) → Type 0
+abbrev pub AreApart : {A : Type 0} → List (RowWithId A) → Type 0
 AreApart placed = IsDistinct (eq_by_cmp int_cmp) (map (λ s. s.rowid) placed)
 
 -- how many columns a part's table has: a place is shown behind them
@@ -208,14 +208,14 @@ pub record AreAllApart (reads : ReadRows) : Type 0 where
   pub each : (read : Part × List Row) → Has reads read → has_places read.0 ≡ true → HaveKeys (width read.0) read.1
 
 -- the rows of a part, without the places that they are shown with
-abbrev pub unplaced : Part → List Row → List Row
-unplaced part rows = if has_places part then map (take (width part)) rows else rows
+abbrev pub without_ids : Part → List Row → List Row
+without_ids part rows = if has_places part then map (take (width part)) rows else rows
 
 -- These were read of all parts but the campaign's own, of which this is the row; they are the rows that are to be judged, and no two of a part are shown with one place.
-pub record IsMadeOf (head : StoredHead) (reads : ReadRows) (p : Parts) : Type 0 where
+pub record IsMadeOf (head : StoredCampaignRow) (reads : ReadRows) (p : Parts) : Type 0 where
   pub parts : map (λ read. read.0) reads ≡ other_parts Second
   pub campaign : p.campaign ≡ head ∷ []
-  pub rows : (text : List ℕ) (read : Part × List Row) → Has reads read → rows_read text p read.0 ≡ unplaced read.0 read.1
+  pub rows : (text : List ℕ) (read : Part × List Row) → Has reads read → rows_read text p read.0 ≡ without_ids read.0 read.1
   pub apart : AreAllApart reads
 
 -- ---- all of it

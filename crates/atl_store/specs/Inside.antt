@@ -1,4 +1,4 @@
--- What is done to the tables: inside a transaction, one step after another, and by a transaction as a whole.
+-- The tables inside a transaction, step by step, and after it.
 use Rattle.std.specs.Prelude.{◌≡◌, ◌≢◌, ℕ, List, [], ◌∷◌, false, IsTrue}
 use Rattle.sqlite_value.specs.Order.{Row}
 use Rattle.sqlite_schema.specs.declared.schema.Table.{Table}

@@ -1,4 +1,4 @@
--- What a connection keeps between two calls: the one word that the layers above use.
+-- What a connection satisfies between two calls: the one condition that the crates above use.
 use Rattle.std.specs.Prelude.{◌≡◌, ◌⊎◌, ◌≤◌, false, IsTrue, List, ℕ}
 use Rattle.sqlite_trees.specs.Tree.{Trees}
 use Rattle.sqlite_trees.specs.declared.store.Store.{Ghosts}

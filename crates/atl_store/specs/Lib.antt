@@ -4,7 +4,7 @@ pub mod Inside
 pub mod Writes
 pub mod Making
 pub mod Shown
-pub mod PutsHead
+pub mod PutsCampaignRow
 pub mod Written
 pub mod Faults
 pub mod Statements
@@ -23,7 +23,7 @@ pub mod Changing
 pub mod Reopening
 pub mod Rewriting
 pub mod WorldText
-pub mod Alike
+pub mod OneCampaign
 pub mod OneWorld
 pub mod UpgradeSteps
 pub mod Upgrading

@@ -6,14 +6,14 @@ use Rattle.std.specs.FinMap.{FinMap, entries, get}
 use Rattle.sqlite.specs.Order.{Row}
 use Rattle.sqlite_rules.specs.Lists.{Has}
 use Rattle.atl_state.specs.Campaign.{CampaignValue}
-use Rattle.atl_records.specs.Held.{Held}
-use Rattle.atl_records.specs.Books.{all_entries, amount_in, entry_place, thing_at, thing_place}
+use Rattle.atl_records.specs.Holdings.{HoldingValue}
+use Rattle.atl_records.specs.Books.{all_entries, amount_in, entry_index, thing_at, thing_index}
 use Rattle.atl_records.specs.declared.books.Entry.{Entry}
 use Rattle.atl_records.specs.declared.books.Thing.{Thing}
 use Rattle.atl_records.specs.declared.records.Region.{Region}
 use Rattle.atl_records.specs.declared.records.Unit.{Unit}
-use Rattle.atl_store.specs.declared.rows.has.Sort.{Sort}
-use Rattle.atl_store.specs.declared.rows.has.Sort.TheVariants.{Item, Skill}
+use Rattle.atl_store.specs.declared.rows.has.ThingKind.{ThingKind}
+use Rattle.atl_store.specs.declared.rows.has.ThingKind.TheVariants.{Item, Skill}
 use Rattle.atl_store.specs.Sets.{Set}
 use Rattle.atl_store.specs.Shown.{int, has_row, books_row, market_row}
 use Rattle.atl_store.specs.Written.{sort_number}
@@ -47,11 +47,11 @@ amount_rows row amounts = flat_map (λ e. thing_rows row e.0 e.1) amounts
 
 -- ---- what units have
 
-abbrev pub sort_lines : ℕ → Sort → List (ℕ × ℕ) → List Row
-sort_lines unit sort things = amount_rows (has_row unit (sort_number sort)) things
+abbrev pub kind_lines : ℕ → ThingKind → List (ℕ × ℕ) → List Row
+kind_lines unit sort things = amount_rows (has_row unit (sort_number sort)) things
 
-abbrev pub goods_lines : ℕ → Held → List Row
-goods_lines unit held = sort_lines unit Item (entries held.items) ++ sort_lines unit Skill (entries held.days)
+abbrev pub goods_lines : ℕ → HoldingValue → List Row
+goods_lines unit held = kind_lines unit Item (entries held.items) ++ kind_lines unit Skill (entries held.days)
 
 abbrev pub unit_lines : ℕ → Unit → List Row
 unit_lines n unit = goods_lines n unit.holding
@@ -71,7 +71,7 @@ all_stocks_lines regions = groups_of region_lines regions
 
 -- a row where the amount is not 0
 abbrev pub amount_lines : CampaignValue → Entry → Thing → List Row
-amount_lines c entry thing = if int_eq (amount_in c.books entry thing) (pos 0) then [] else books_row (entry_place entry + 1) (thing_place thing) (amount_in c.books entry thing) ∷ []
+amount_lines c entry thing = if int_eq (amount_in c.books entry thing) (pos 0) then [] else books_row (entry_index entry + 1) (thing_index thing) (amount_in c.books entry thing) ∷ []
 
 abbrev pub entries_lines : CampaignValue → Thing → List Entry → List Row
 entries_lines c thing entries = flat_map (λ entry. amount_lines c entry thing) entries

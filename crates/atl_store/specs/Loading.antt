@@ -1,4 +1,4 @@
--- What loading a campaign from its tables may answer and leave.
+-- What `load` returns and leaves.
 use Rattle.std.specs.Prelude.{◌≡◌, ◌⊎◌, ◌++◌, ℕ, Bool, List, [], ◌∷◌, length, drop, filter, map, is_some, not, pos, true, false, IsTrue, IsPermutation, IsUtf8, Ok}
 use Rattle.sqlite.specs.declared.error.Error.{Error}
 use Rattle.sqlite.specs.declared.types.Value.TheVariants.{Int, Text}
@@ -25,13 +25,13 @@ use Rattle.atl_state.specs.declared.checking.Rule.TheVariants as rules
 use Rattle.atl_state.specs.declared.parts.Parts.{Parts}
 use Rattle.atl_state.specs.declared.parts.StoredBooks.{StoredBooks}
 use Rattle.atl_state.specs.declared.parts.StoredHas.{StoredHas}
-use Rattle.atl_state.specs.declared.parts.StoredHead.{StoredHead}
+use Rattle.atl_state.specs.declared.parts.StoredCampaignRow.{StoredCampaignRow}
 use Rattle.atl_state.specs.declared.parts.StoredMarket.{StoredMarket}
 use Rattle.atl_store.specs.Faults.{is_memory}
 use Rattle.atl_store.specs.Keeps.{HoldsCampaign, Spares}
 use Rattle.atl_store.specs.Reading.{Selects, RefusesToSelect, listing_of}
 use Rattle.atl_store.specs.Rows.{HoldsIn}
-use Rattle.atl_store.specs.Shown.{int, head_stored, faction_stored, region_stored, unit_stored, structure_stored, mail_stored, report_stored, campaign_forms, faction_forms, region_forms, unit_forms, has_forms, structure_forms, mail_forms, report_forms, books_forms, market_forms}
+use Rattle.atl_store.specs.Shown.{int, campaign_row_stored, faction_stored, region_stored, unit_stored, structure_stored, mail_stored, report_stored, campaign_forms, faction_forms, region_forms, unit_forms, has_forms, structure_forms, mail_forms, report_forms, books_forms, market_forms}
 use Rattle.atl_store.specs.Statements.{selection}
 use Rattle.atl_store.specs.Sets.{rows_in, IsKeyed}
 use Rattle.atl_store.specs.Stored.{Form, first_columns, AreTyped}
@@ -46,8 +46,8 @@ use Rattle.atl_store.specs.declared.fault.StoreFault.TheVariants as store
 
 -- ---- the rows of the tables
 
-abbrev pub own_stored : List ℕ → StoredHead → Row
-own_stored text h = head_stored h ++ Text text ∷ []
+abbrev pub own_stored : List ℕ → StoredCampaignRow → Row
+own_stored text h = campaign_row_stored h ++ Text text ∷ []
 
 abbrev pub has_values : StoredHas → Row
 has_values s = Int s.unit ∷ Int s.sort ∷ Int s.thing ∷ Int s.amount ∷ []
@@ -79,7 +79,7 @@ pub record HaveRows (f : Format) (db : Trees) (text : List ℕ) (p : Parts) : Ty
 -- ---- the first rule
 
 -- The rows are one, whose id is 1 and whose format is this one, with a text of UTF-8 that reads as a world.
-pub record AreOwnRow (f : Format) (rows : List Row) (h : StoredHead) (text : List ℕ) (w : WorldValue) : Type 0 where
+pub record AreOwnRow (f : Format) (rows : List Row) (h : StoredCampaignRow) (text : List ℕ) (w : WorldValue) : Type 0 where
   pub is : map (first_columns (length campaign_forms)) rows ≡ own_stored text h ∷ []
   pub id : h.id ≡ pos 1
   pub format : h.format ≡ pos (format_number f)
@@ -212,7 +212,7 @@ module _ (f : Format) {S : Type 0} (g : Ghosts S) (old : Held S) where
   pub record KeepsOneRow : Type 0 where
     pub rows : List Row
     pub selects : Selects g (selection campaign_table 1) old rows
-    pub head : StoredHead
+    pub head : StoredCampaignRow
     pub text : List ℕ
     pub world : WorldValue
     pub own : AreOwnRow f rows head text world
@@ -221,7 +221,7 @@ module _ (f : Format) {S : Type 0} (g : Ghosts S) (old : Held S) where
   pub record BreaksOneRow : Type 0 where
     pub rows : List Row
     pub selects : Selects g (selection campaign_table 1) old rows
-    pub broken : (h : StoredHead) (text : List ℕ) (w : WorldValue) → ¬ AreOwnRow f rows h text w
+    pub broken : (h : StoredCampaignRow) (text : List ℕ) (w : WorldValue) → ¬ AreOwnRow f rows h text w
     pub of_format : ¬ IsOther f rows
 
   -- the first rule that is broken

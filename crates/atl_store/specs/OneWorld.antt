@@ -1,4 +1,4 @@
--- One database holds a text of one world.
+-- A law: a database holds the text of at most one world.
 use Rattle.std.specs.Prelude.{◌≡◌, ℕ, List, Ok}
 use Rattle.sqlite_trees.specs.Tree.{Trees}
 use Rattle.atl_tables.specs.Worlds.{WorldValue}

@@ -1,10 +1,10 @@
--- Which statements a writing may run, each by its text and the values of its parameters.
+-- The statements that a write may run, with the values of their parameters.
 use Rattle.std.specs.Prelude.{◌≡◌, ◌≢◌, ◌+◌, ℕ, pos, List, [], ◌∷◌, Some, length, map, take}
 use Rattle.std.specs.FinMap.{get}
 use Rattle.sqlite.specs.Order.{Row}
 use Rattle.sqlite_rules.specs.Lists.{Has}
 use Rattle.atl_state.specs.Campaign.{CampaignValue}
-use Rattle.atl_records.specs.Books.{amount_in, entry_place, thing_place}
+use Rattle.atl_records.specs.Books.{amount_in, entry_index, thing_index}
 use Rattle.atl_records.specs.declared.books.Entry.{Entry}
 use Rattle.atl_records.specs.declared.books.Entry.TheVariants.{Joining}
 use Rattle.atl_records.specs.declared.books.Thing.{Thing}
@@ -12,8 +12,8 @@ use Rattle.atl_records.specs.declared.books.Thing.TheVariants.{Money, People}
 use Rattle.atl_records.specs.declared.records.Faction.{Faction}
 use Rattle.atl_records.specs.declared.records.Unit.{Unit}
 use Rattle.atl_store.specs.Sets.{Set}
-use Rattle.atl_store.specs.Shown.{int, head_values, mail_row, report_row, books_key, books_row}
-use Rattle.atl_store.specs.Rows.{head_of, faction_line, unit_line, rows_for}
+use Rattle.atl_store.specs.Shown.{int, campaign_row_values, mail_row, report_row, books_key, books_row}
+use Rattle.atl_store.specs.Rows.{campaign_row_of, faction_line, unit_line, rows_for}
 use Rattle.atl_store.specs.Statements.{campaign_upsert, upgrading_upsert, deletion, upsert}
 use Rattle.atl_store.specs.Tables.{Part, Markets, all_parts, books_table, creation_of, faction_table, IsGroupedPart, key_of, mail_table, report_table, table_of, unit_table}
 
@@ -34,8 +34,8 @@ Creations sql params = Has (map creation_of all_parts) sql × (params ≡ [])
 
 -- the row of an amount of the books is put, or deleted where the amount is 0
 pub data OfAmount (c : CampaignValue) (entry : Entry) (thing : Thing) : List ℕ → Row → Type 0 where
-  puts_amount : amount_in c.books entry thing ≢ pos 0 → OfAmount c entry thing (upsert books_table 2) (books_row (entry_place entry + 1) (thing_place thing) (amount_in c.books entry thing))
-  drops_amount : amount_in c.books entry thing ≡ pos 0 → OfAmount c entry thing (deletion books_table 2) (books_key (entry_place entry + 1) (thing_place thing))
+  puts_amount : amount_in c.books entry thing ≢ pos 0 → OfAmount c entry thing (upsert books_table 2) (books_row (entry_index entry + 1) (thing_index thing) (amount_in c.books entry thing))
+  drops_amount : amount_in c.books entry thing ≡ pos 0 → OfAmount c entry thing (deletion books_table 2) (books_key (entry_index entry + 1) (thing_index thing))
 
 -- a row of a part of the campaign, whatever the campaign's own row says
 abbrev pub IsRowOf : CampaignValue → Part → Row → Type 0
@@ -54,12 +54,12 @@ pub data OfRow (c : CampaignValue) : List ℕ → Row → Type 0 where
 -- a founding makes the tables and puts the rows of the campaign
 pub data OfFounding (text : List ℕ) (c : CampaignValue) : List ℕ → Row → Type 0 where
   founds_tables : {sql : List ℕ} {params : Row} → Creations sql params → OfFounding text c sql params
-  founds_head : OfFounding text c campaign_upsert (head_values (head_of c) text)
+  founds_head : OfFounding text c campaign_upsert (campaign_row_values (campaign_row_of c) text)
   founds_row : {sql : List ℕ} {params : Row} → OfRow c sql params → OfFounding text c sql params
 
 -- A change puts rows of the campaign, and deletes those whose key no row of the campaign has. What belongs to a number is deleted whole, before it is put anew.
 pub data OfChange (c : CampaignValue) : List ℕ → Row → Type 0 where
-  changes_head : OfChange c campaign_upsert (head_values (head_of c) [])
+  changes_head : OfChange c campaign_upsert (campaign_row_values (campaign_row_of c) [])
   changes_row : {sql : List ℕ} {params : Row} → OfRow c sql params → OfChange c sql params
   drops_row : (part : Part) {key : Row} → HasNoRow c part key → OfChange c (deletion (table_of part) (key_of part)) key
   drops_group : (part : Part) {n : ℕ} → IsGroupedPart part → OfChange c (deletion (table_of part) 1) (int n ∷ [])
@@ -67,11 +67,11 @@ pub data OfChange (c : CampaignValue) : List ℕ → Row → Type 0 where
 -- an upgrade makes the table of markets, and puts the campaign's own row anew with another world text
 pub data OfUpgrade (text : List ℕ) (c : CampaignValue) : List ℕ → Row → Type 0 where
   upgrades_tables : OfUpgrade text c (creation_of Markets) []
-  upgrades_head : OfUpgrade text c upgrading_upsert (head_values (head_of c) text)
+  upgrades_head : OfUpgrade text c upgrading_upsert (campaign_row_values (campaign_row_of c) text)
 
 -- a joining puts the campaign's own row, the faction, the unit that came last, the faction's report, and what joining booked
 pub data OfJoining (faction : ℕ) (c : CampaignValue) : List ℕ → Row → Type 0 where
-  joins_head : OfJoining faction c campaign_upsert (head_values (head_of c) [])
+  joins_head : OfJoining faction c campaign_upsert (campaign_row_values (campaign_row_of c) [])
   joins_faction : {f : Faction} → get c.factions faction ≡ Some f → OfJoining faction c (upsert faction_table 1) (faction_line faction f)
   joins_unit : {place : ℕ} {u : Unit} → c.next_unit ≡ place + 1 → get c.units place ≡ Some u → OfJoining faction c (upsert unit_table 1) (unit_line place u)
   joins_report : {text : List ℕ} → get c.reports faction ≡ Some text → OfJoining faction c (upsert report_table 1) (report_row faction text)

@@ -9,7 +9,7 @@ use Rattle.sqlite.specs.Order.{Row}
 use Rattle.sqlite.specs.State.{State, HasCleanDisk, Survives, Shown, FailsToQuery}
 use Rattle.sqlite.specs.Table.{Table}
 use Rattle.atl_store.specs.Sets.{rows_in, visible}
-use Rattle.atl_store.specs.Statements.{column_names, placed_selection, selection}
+use Rattle.atl_store.specs.Statements.{column_names, selection, selection_with_ids}
 use Rattle.atl_tables.specs.declared.format.Format.{Format}
 use Rattle.atl_tables.specs.declared.format.Format.TheVariants.{First, Second}
 use Rattle.atl_store.specs.Tables.{Part, Goods, Books, Markets, has_table, books_table, market_table, table_of, HasTablesOf}
@@ -80,28 +80,28 @@ abbrev pub GivesTable : {S A Z : Type 0} → Ghosts S → Format → (Trees → 
 GivesTable g since in_table shown result old new = HasCleanDisk (state g new) → HasTablesOf since old.schema → IfOk result (λ all. IsPermutation (in_table (state g old).now.trees) (map shown all.items))
 
 -- of a table whose key is not the row's number: each row with the place that the database keeps it at
-abbrev pub placed_rows_in : Table → Trees → List Row
-placed_rows_in table db = map (λ r. visible table r ++ rowid r ∷ []) (db table.tree)
+abbrev pub rows_with_ids_in : Table → Trees → List Row
+rows_with_ids_in table db = map (λ r. visible table r ++ rowid r ∷ []) (db table.tree)
 
 -- ---- how all rows of a table are asked for
 
 -- the format since which there is the table, the names of what is shown, the SELECT, and what it shows of the trees
-pub record Listing : Type 0 where
+pub record PartSelect : Type 0 where
   pub since : Format
   pub names : List (List ℕ)
   pub select : List ℕ
   pub in_table : Trees → List Row
 
 -- all columns of a table whose key is so many of them
-abbrev pub whole : Format → Table → ℕ → Listing
+abbrev pub whole : Format → Table → ℕ → PartSelect
 whole since t key = record { since = since; names = column_names t; select = selection t key; in_table = rows_in t }
 
 -- and the place that the database keeps each row at
-abbrev pub placed : Format → Table → ℕ → Listing
-placed since t key = record { since = since; names = column_names t ++ codes "rowid" ∷ []; select = placed_selection t key; in_table = placed_rows_in t }
+abbrev pub placed : Format → Table → ℕ → PartSelect
+placed since t key = record { since = since; names = column_names t ++ codes "rowid" ∷ []; select = selection_with_ids t key; in_table = rows_with_ids_in t }
 
 -- those of has, of books and of market are asked for with their places, and all others whole
-abbrev pub listing_of : Part → Listing
+abbrev pub listing_of : Part → PartSelect
 listing_of Goods = placed First has_table 3
 listing_of Books = placed First books_table 2
 listing_of Markets = placed Second market_table 2

@@ -1,4 +1,4 @@
--- What is found where a database is opened again after a crash.
+-- What a database holds when it is opened again after a crash.
 use Rattle.std.specs.Prelude.{List, ℕ}
 use Rattle.sqlite_trees.specs.declared.store.Store.{Ghosts}
 use Rattle.sqlite.specs.Held.{Held, state}

@@ -11,18 +11,18 @@ use Rattle.sqlite_rules.specs.Lists.{Has}
 use Rattle.atl_records.specs.Limits.{entry_count}
 use Rattle.atl_state.specs.Campaign.{CampaignValue, MarkedCampaign}
 use Rattle.atl_state.specs.Marks.{Marks, Things}
-use Rattle.atl_store.specs.declared.rows.has.Sort.{Sort}
-use Rattle.atl_store.specs.declared.rows.has.Sort.TheVariants.{Item, Skill}
+use Rattle.atl_store.specs.declared.rows.has.ThingKind.{ThingKind}
+use Rattle.atl_store.specs.declared.rows.has.ThingKind.TheVariants.{Item, Skill}
 use Rattle.atl_store.specs.Sets.{Set, Is, rows_in}
 use Rattle.atl_store.specs.Inside.{Alters, Changes}
 use Rattle.atl_store.specs.Tables.{Part, campaign_table, has_table, books_table}
-use Rattle.atl_store.specs.Shown.{Head, head_row}
+use Rattle.atl_store.specs.Shown.{CampaignRowValue, campaign_row}
 use Rattle.atl_store.specs.Rows.{RowsOf, HasRowsOf, BooksRowsOf, rows_for}
-use Rattle.atl_store.specs.Changing.{begins, accounts, of_sort, begins_marked, goods_marked, amount_marked, is_marked, rewritten, own_after}
+use Rattle.atl_store.specs.Changing.{begins, accounts, of_kind, begins_marked, goods_marked, amount_marked, is_marked, rows_after_rewrite, own_after}
 
 -- the table's rows with a chosen key are those that are wanted, its others are as they were, and so is every other table
 abbrev pub Rewrites : Table → (Row → Bool) → Set → Database → Database → Type 0
-Rewrites table is_chosen Wanted old new = Alters table (rewritten is_chosen Wanted (Has (rows_in table old.trees))) old new
+Rewrites table is_chosen Wanted old new = Alters table (rows_after_rewrite is_chosen Wanted (Has (rows_in table old.trees))) old new
 
 -- ---- which rows a step rewrites
 
@@ -60,11 +60,11 @@ abbrev pub RewritesGroups : Table → Set → FinSet nat_cmp → Database → Da
 RewritesGroups table Wanted marks old new = Rewrites table (begins_marked marks) Wanted old new
 
 -- the rows of these things of a sort
-abbrev pub RewritesThings : CampaignValue → Sort → (ℕ → ℕ → Bool) → Database → Database → Type 0
-RewritesThings c sort things old new = Rewrites has_table (of_sort sort things) (HasRowsOf c.units) old new
+abbrev pub RewritesThings : CampaignValue → ThingKind → (ℕ → ℕ → Bool) → Database → Database → Type 0
+RewritesThings c sort things old new = Rewrites has_table (of_kind sort things) (HasRowsOf c.units) old new
 
 -- the single things of a sort that are marked
-abbrev pub marked_things : Marks → Sort → Things
+abbrev pub marked_things : Marks → ThingKind → Things
 marked_things marks Item = marks.items
 marked_things marks Skill = marks.skills
 
@@ -80,14 +80,14 @@ abbrev pub RewritesBooks : MarkedCampaign → Database → Database → Type 0
 RewritesBooks c old new = Rewrites books_table (amount_marked c.marks.books) (BooksRowsOf c.value.books) old new
 
 -- the campaign's own row, which keeps its world text
-abbrev pub RewritesHead : MarkedCampaign → Database → Database → Type 0
-RewritesHead c old new = (before : Head) (text : List ℕ) → Is (rows_in campaign_table old.trees) (λ r. r ≡ head_row before text) → Alters campaign_table (λ r. r ≡ own_after c before text) old new
+abbrev pub RewritesCampaignRow : MarkedCampaign → Database → Database → Type 0
+RewritesCampaignRow c old new = (before : CampaignRowValue) (text : List ℕ) → Is (rows_in campaign_table old.trees) (λ r. r ≡ campaign_row before text) → Alters campaign_table (λ r. r ≡ own_after c before text) old new
 
 -- ---- one table after another
 
 -- the marked rows are the campaign's, whose own row is this one
 abbrev pub Becomes : MarkedCampaign → Row → Part → List Row → List Row → Type 0
-Becomes c own part before after = Is after (rewritten (is_marked c.marks part) (rows_for own c.value part) (Has before))
+Becomes c own part before after = Is after (rows_after_rewrite (is_marked c.marks part) (rows_for own c.value part) (Has before))
 
 -- the tables of these parts are rewritten, whatever the campaign's own row says, which is none of them
 abbrev pub RewritesParts : MarkedCampaign → List Part → Database → Database → Type 0
@@ -99,4 +99,4 @@ RewritesPart c part = RewritesParts c (part ∷ [])
 
 -- and of these, among which it is
 abbrev pub RewritesWithOwn : MarkedCampaign → List Part → Database → Database → Type 0
-RewritesWithOwn c parts old new = (before : Head) (text : List ℕ) → Is (rows_in campaign_table old.trees) (λ r. r ≡ head_row before text) → Changes (Becomes c (own_after c before text)) parts old new
+RewritesWithOwn c parts old new = (before : CampaignRowValue) (text : List ℕ) → Is (rows_in campaign_table old.trees) (λ r. r ≡ campaign_row before text) → Changes (Becomes c (own_after c before text)) parts old new

@@ -6,28 +6,28 @@ use Rattle.sqlite.specs.Order.{Row}
 use Rattle.sqlite_trees.specs.Tree.{Trees}
 use Rattle.atl_state.specs.Campaign.{CampaignValue}
 use Rattle.atl_state.specs.Covers.{items_under, days_under}
-use Rattle.atl_records.specs.Held.{Held, amount_of}
-use Rattle.atl_records.specs.Books.{amount_in, entry_place, thing_place}
+use Rattle.atl_records.specs.Holdings.{HoldingValue, amount_of}
+use Rattle.atl_records.specs.Books.{amount_in, entry_index, thing_index}
 use Rattle.atl_records.specs.declared.books.Entry.{Entry}
 use Rattle.atl_records.specs.declared.books.Thing.{Thing}
 use Rattle.atl_records.specs.declared.records.Faction.{Faction}
 use Rattle.atl_records.specs.declared.records.Region.{Region}
 use Rattle.atl_records.specs.declared.records.Structure.{Structure}
 use Rattle.atl_records.specs.declared.records.Unit.{Unit}
-use Rattle.atl_store.specs.declared.rows.has.Sort.{Sort}
-use Rattle.atl_store.specs.declared.rows.has.Sort.TheVariants.{Item, Skill}
+use Rattle.atl_store.specs.declared.rows.has.ThingKind.{ThingKind}
+use Rattle.atl_store.specs.declared.rows.has.ThingKind.TheVariants.{Item, Skill}
 use Rattle.atl_store.specs.Sets.{Set, Is, rows_in}
 use Rattle.atl_store.specs.Tables.{Part, Own, Factions, Regions, Units, Goods, Structures, Mail, Reports, Books, Markets, table_of, parts_in}
 use Rattle.atl_tables.specs.declared.format.Format.{Format}
 use Rattle.sqlite_rules.specs.Lists.{Has}
-use Rattle.atl_store.specs.Shown.{Head, head_row, head_row_in, faction_row, region_row, unit_row, has_row, structure_row, mail_row, report_row, books_row, market_row}
+use Rattle.atl_store.specs.Shown.{CampaignRowValue, campaign_row, campaign_row_in, faction_row, region_row, unit_row, has_row, structure_row, mail_row, report_row, books_row, market_row}
 use Rattle.atl_store.specs.Written.{sort_number}
 
-abbrev pub head_of : CampaignValue → Head
-head_of c = record { month = c.month; next_faction = c.next_faction; next_unit = c.next_unit; next_structure = c.next_structure; pass = c.pass }
+abbrev pub campaign_row_of : CampaignValue → CampaignRowValue
+campaign_row_of c = record { month = c.month; next_faction = c.next_faction; next_unit = c.next_unit; next_structure = c.next_structure; pass = c.pass }
 
 abbrev pub campaign_line : List ℕ → CampaignValue → Row
-campaign_line text c = head_row (head_of c) text
+campaign_line text c = campaign_row (campaign_row_of c) text
 
 abbrev pub faction_line : ℕ → Faction → Row
 faction_line n f = faction_row n f.joined_as f.name f.pass f.gone
@@ -50,27 +50,27 @@ abbrev pub lines_of : {V : Type 0} → (ℕ → V → Row) → List (ℕ × V) �
 lines_of line entries = map (λ e. line e.0 e.1) entries
 
 -- what a holding has of a sort: amounts of items, days of skills
-abbrev pub things_of : Sort → Held → FinMap nat_cmp ℕ
+abbrev pub things_of : ThingKind → HoldingValue → FinMap nat_cmp ℕ
 things_of Item held = held.items
 things_of Skill held = held.days
 
 -- the same under a number; nothing where there is no unit
-abbrev pub things_under : Sort → Option Unit → FinMap nat_cmp ℕ
+abbrev pub things_under : ThingKind → Option Unit → FinMap nat_cmp ℕ
 things_under Item = items_under
 things_under Skill = days_under
 
 -- how much a unit has of a thing, 0 where there is no unit
-abbrev pub amount_under : FinMap nat_cmp Unit → ℕ → Sort → ℕ → ℕ
+abbrev pub amount_under : FinMap nat_cmp Unit → ℕ → ThingKind → ℕ → ℕ
 amount_under units n sort thing = amount_of (things_under sort (get units n)) thing
 
 -- one row for each thing that a unit has, where the amount is not 0
 abbrev pub HasRowsOf : FinMap nat_cmp Unit → Row → Type 0
 HasRowsOf units r =
-    (n : ℕ) × (u : Unit) × (get units n ≡ Some u) × (sort : Sort) × (thing : ℕ) × (amount : ℕ) × (get (things_of sort u.holding) thing ≡ Some amount) × (amount ≢ 0) × (r ≡ has_row n (sort_number sort) thing amount)
+    (n : ℕ) × (u : Unit) × (get units n ≡ Some u) × (sort : ThingKind) × (thing : ℕ) × (amount : ℕ) × (get (things_of sort u.holding) thing ≡ Some amount) × (amount ≢ 0) × (r ≡ has_row n (sort_number sort) thing amount)
 
 -- one row for each entry and thing where the amount is not 0
 abbrev pub BooksRowsOf : List (List ℤ) → Row → Type 0
-BooksRowsOf books r = (e : Entry) × (t : Thing) × (amount_in books e t ≢ pos 0) × (r ≡ books_row (entry_place e + 1) (thing_place t) (amount_in books e t))
+BooksRowsOf books r = (e : Entry) × (t : Thing) × (amount_in books e t ≢ pos 0) × (r ≡ books_row (entry_index e + 1) (thing_index t) (amount_in books e t))
 
 -- one row for each item of a region whose stock is not 0
 abbrev pub MarketRowsOf : FinMap nat_cmp Region → Row → Type 0
@@ -96,4 +96,4 @@ pub record Holds (trees : Trees) (text : List ℕ) (c : CampaignValue) : Type 0 
 
 -- the tables of a format have exactly these rows
 pub record HoldsIn (f : Format) (trees : Trees) (text : List ℕ) (c : CampaignValue) : Type 0 where
-  pub rows : (part : Part) → Has (parts_in f) part → Is (rows_in (table_of part) trees) (rows_for (head_row_in f (head_of c) text) c part)
+  pub rows : (part : Part) → Has (parts_in f) part → Is (rows_in (table_of part) trees) (rows_for (campaign_row_in f (campaign_row_of c) text) c part)

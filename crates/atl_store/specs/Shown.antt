@@ -6,7 +6,7 @@ use Rattle.sqlite.specs.Order.{Row}
 use Rattle.atl_tables.specs.Formats.{format_number}
 use Rattle.atl_tables.specs.declared.format.Format.{Format}
 use Rattle.atl_tables.specs.declared.format.Format.TheVariants.{Second}
-use Rattle.atl_state.specs.declared.parts.StoredHead.{StoredHead}
+use Rattle.atl_state.specs.declared.parts.StoredCampaignRow.{StoredCampaignRow}
 use Rattle.atl_state.specs.declared.parts.StoredFaction.{StoredFaction}
 use Rattle.atl_state.specs.declared.parts.StoredRegion.{StoredRegion}
 use Rattle.atl_state.specs.declared.parts.StoredUnit.{StoredUnit}
@@ -17,7 +17,7 @@ use Rattle.atl_state.specs.declared.parts.StoredHas.{StoredHas}
 use Rattle.atl_state.specs.declared.parts.StoredBooks.{StoredBooks}
 use Rattle.atl_state.specs.declared.parts.StoredMarket.{StoredMarket}
 use Rattle.atl_store.specs.declared.rows.campaign.StoredCampaign.{StoredCampaign}
-use Rattle.atl_store.specs.declared.rows.stored.Placed.{Placed}
+use Rattle.atl_store.specs.declared.rows.stored.RowWithId.{RowWithId}
 use Rattle.atl_store.specs.Stored.{Form, Number, Words, Letters, Bytes}
 
 abbrev pub int : ℕ → Value
@@ -28,7 +28,7 @@ abbrev pub flag : Bool → Value
 flag b = Int (if b then pos 1 else pos 0)
 
 -- what the campaign's own row says beside the world text
-pub record Head : Type 0 where
+pub record CampaignRowValue : Type 0 where
   pub month : ℕ
   pub next_faction : ℕ
   pub next_unit : ℕ
@@ -36,16 +36,16 @@ pub record Head : Type 0 where
   pub pass : List ℕ
 
 -- its id is 1; the format is given
-abbrev pub head_row_in : Format → Head → List ℕ → Row
-head_row_in f head world = int 1 ∷ int (format_number f) ∷ int head.month ∷ int head.next_faction ∷ int head.next_unit ∷ int head.next_structure ∷ Text head.pass ∷ Text world ∷ []
+abbrev pub campaign_row_in : Format → CampaignRowValue → List ℕ → Row
+campaign_row_in f head world = int 1 ∷ int (format_number f) ∷ int head.month ∷ int head.next_faction ∷ int head.next_unit ∷ int head.next_structure ∷ Text head.pass ∷ Text world ∷ []
 
 -- as it is written
-abbrev pub head_row : Head → List ℕ → Row
-head_row = head_row_in Second
+abbrev pub campaign_row : CampaignRowValue → List ℕ → Row
+campaign_row = campaign_row_in Second
 
 -- what is handed in to put it, in this order
-abbrev pub head_values : Head → List ℕ → Row
-head_values head world = int head.month ∷ int head.next_faction ∷ int head.next_unit ∷ int head.next_structure ∷ Text head.pass ∷ Text world ∷ []
+abbrev pub campaign_row_values : CampaignRowValue → List ℕ → Row
+campaign_row_values head world = int head.month ∷ int head.next_faction ∷ int head.next_unit ∷ int head.next_structure ∷ Text head.pass ∷ Text world ∷ []
 
 -- number, joined_as, name, pass, gone
 abbrev pub faction_row : ℕ → List ℕ → List ℕ → List ℕ → Bool → Row
@@ -90,17 +90,17 @@ market_row region item stock = int region ∷ int item ∷ int stock ∷ []
 -- ---- rows that are read
 
 -- the campaign's own row but for its world text, and with it
-abbrev pub head_stored : StoredHead → Row
-head_stored s = Int s.id ∷ Int s.format ∷ Int s.month ∷ Int s.next_faction ∷ Int s.next_unit ∷ Int s.next_structure ∷ Text s.pass ∷ []
+abbrev pub campaign_row_stored : StoredCampaignRow → Row
+campaign_row_stored s = Int s.id ∷ Int s.format ∷ Int s.month ∷ Int s.next_faction ∷ Int s.next_unit ∷ Int s.next_structure ∷ Text s.pass ∷ []
 
-abbrev pub head_forms : List Form
-head_forms = Number ∷ Number ∷ Number ∷ Number ∷ Number ∷ Number ∷ Letters ∷ []
+abbrev pub campaign_row_forms : List Form
+campaign_row_forms = Number ∷ Number ∷ Number ∷ Number ∷ Number ∷ Number ∷ Letters ∷ []
 
 abbrev pub campaign_stored : StoredCampaign → Row
-campaign_stored s = head_stored s.head ++ Text (string_bytes s.world) ∷ []
+campaign_stored s = campaign_row_stored s.head ++ Text (string_bytes s.world) ∷ []
 
 abbrev pub campaign_forms : List Form
-campaign_forms = head_forms ++ Words ∷ []
+campaign_forms = campaign_row_forms ++ Words ∷ []
 
 abbrev pub faction_stored : StoredFaction → Row
 faction_stored s = Int s.number ∷ Text s.joined_as ∷ Text s.name ∷ Text s.pass ∷ Int s.gone ∷ []
@@ -139,19 +139,19 @@ abbrev pub report_forms : List Form
 report_forms = Number ∷ Words ∷ []
 
 -- with the place that the database keeps the row at
-abbrev pub has_stored : Placed StoredHas → Row
+abbrev pub has_stored : RowWithId StoredHas → Row
 has_stored s = Int s.row.unit ∷ Int s.row.sort ∷ Int s.row.thing ∷ Int s.row.amount ∷ Int s.rowid ∷ []
 
 abbrev pub has_forms : List Form
 has_forms = Number ∷ Number ∷ Number ∷ Number ∷ Number ∷ []
 
-abbrev pub books_stored : Placed StoredBooks → Row
+abbrev pub books_stored : RowWithId StoredBooks → Row
 books_stored s = Int s.row.entry ∷ Int s.row.thing ∷ Int s.row.amount ∷ Int s.rowid ∷ []
 
 abbrev pub books_forms : List Form
 books_forms = Number ∷ Number ∷ Number ∷ Number ∷ []
 
-abbrev pub market_stored : Placed StoredMarket → Row
+abbrev pub market_stored : RowWithId StoredMarket → Row
 market_stored s = Int s.row.region ∷ Int s.row.item ∷ Int s.row.stock ∷ Int s.rowid ∷ []
 
 abbrev pub market_forms : List Form

@@ -7,13 +7,13 @@ abbrev pub column_names : Table → List (List ℕ)
 column_names t = map (λ c. c.name) t.columns
 
 -- with this between each two
-abbrev pub parted : List ℕ → List (List ℕ) → List ℕ
-parted between [] = []
-parted between (x ∷ []) = x
-parted between (x ∷ y ∷ more) = x ++ between ++ parted between (y ∷ more)
+abbrev pub separated : List ℕ → List (List ℕ) → List ℕ
+separated between [] = []
+separated between (x ∷ []) = x
+separated between (x ∷ y ∷ more) = x ++ between ++ separated between (y ∷ more)
 
-abbrev pub listed : List (List ℕ) → List ℕ
-listed = parted (codes ", ")
+abbrev pub comma_list : List (List ℕ) → List ℕ
+comma_list = separated (codes ", ")
 
 -- its number has one digit
 abbrev pub parameter : ℕ → List ℕ
@@ -27,23 +27,23 @@ equations n (name ∷ more) = (name ++ codes " = " ++ parameter n) ∷ equations
 -- a row is put, or changed where the key is there
 abbrev pub upsert : Table → ℕ → List ℕ
 upsert t key =
-    codes "INSERT INTO " ++ t.name ++ codes " (" ++ listed (column_names t) ++ codes ") VALUES (" ++ listed (map parameter (range_with_len 1 (length t.columns)))
-    ++ codes ") ON CONFLICT (" ++ listed (take key (column_names t)) ++ codes ") DO UPDATE SET " ++ listed (equations (key + 1) (drop key (column_names t)))
+    codes "INSERT INTO " ++ t.name ++ codes " (" ++ comma_list (column_names t) ++ codes ") VALUES (" ++ comma_list (map parameter (range_with_len 1 (length t.columns)))
+    ++ codes ") ON CONFLICT (" ++ comma_list (take key (column_names t)) ++ codes ") DO UPDATE SET " ++ comma_list (equations (key + 1) (drop key (column_names t)))
 
 -- the rows that have the key are deleted
 abbrev pub deletion : Table → ℕ → List ℕ
-deletion t key = codes "DELETE FROM " ++ t.name ++ codes " WHERE " ++ parted (codes " AND ") (equations 1 (take key (column_names t)))
+deletion t key = codes "DELETE FROM " ++ t.name ++ codes " WHERE " ++ separated (codes " AND ") (equations 1 (take key (column_names t)))
 
 -- so many names are shown of all rows, in the order of the key
 abbrev pub selection_of : List (List ℕ) → Table → ℕ → List ℕ
-selection_of names t key = codes "SELECT " ++ listed names ++ codes " FROM " ++ t.name ++ codes " ORDER BY " ++ listed (take key (column_names t))
+selection_of names t key = codes "SELECT " ++ comma_list names ++ codes " FROM " ++ t.name ++ codes " ORDER BY " ++ comma_list (take key (column_names t))
 
 abbrev pub selection : Table → ℕ → List ℕ
 selection t key = selection_of (column_names t) t key
 
 -- and the place that the database keeps each row at
-abbrev pub placed_selection : Table → ℕ → List ℕ
-placed_selection t key = selection_of (column_names t ++ codes "rowid" ∷ []) t key
+abbrev pub selection_with_ids : Table → ℕ → List ℕ
+selection_with_ids t key = selection_of (column_names t ++ codes "rowid" ∷ []) t key
 
 -- the campaign's own row is put with its world text, or changed but for that
 abbrev pub campaign_upsert : List ℕ

@@ -1,4 +1,4 @@
--- The values of rows that are read, and of what sort they are.
+-- The values of rows as they are read, and their types.
 use Rattle.std.specs.Prelude.{◌≡◌, ◌+◌, ℕ, ℤ, List, [], ◌∷◌, IsUtf8, ⊤, map}
 use Rattle.std.specs.List.{range_with_len}
 use Rattle.sqlite.specs.declared.types.Value.{Value}

@@ -11,7 +11,7 @@ use Rattle.atl_state.specs.Good.{HasNoStocks}
 use Rattle.atl_store.specs.Inside.{Puts}
 use Rattle.atl_store.specs.Rows.{Holds, HoldsIn}
 use Rattle.atl_store.specs.Sets.{Is, IsKeyed, rows_in}
-use Rattle.atl_store.specs.Shown.{Head, head_row, head_row_in}
+use Rattle.atl_store.specs.Shown.{CampaignRowValue, campaign_row, campaign_row_in}
 use Rattle.atl_store.specs.Tables.{campaign_table, market_table, first_tables, indexes_in, parts_in, table_of, tables_in}
 
 -- just the tables of the first format
@@ -29,8 +29,8 @@ pub record AddsMarkets (old new : Database) : Type 0 where
   pub others : (table : Table) → Has (map table_of (parts_in First)) table → new.trees table.tree ≡ old.trees table.tree
 
 -- the row of the first format, whatever its world text, becomes that of the second with this text
-abbrev pub UpgradesHead : Head → List ℕ → Database → Database → Type 0
-UpgradesHead head text old new = (before : List ℕ) → Is (rows_in campaign_table old.trees) (λ r. r ≡ head_row_in First head before) → Puts campaign_table 1 (head_row head text) old new
+abbrev pub UpgradesCampaignRow : CampaignRowValue → List ℕ → Database → Database → Type 0
+UpgradesCampaignRow head text old new = (before : List ℕ) → Is (rows_in campaign_table old.trees) (λ r. r ≡ campaign_row_in First head before) → Puts campaign_table 1 (campaign_row head text) old new
 
 -- where the tables held the campaign in the first format, with whatever text, and it has nothing in stock, they hold it with this text
 abbrev pub WritesUpgrade : List ℕ → CampaignValue → Database → Database → Type 0

@@ -1,17 +1,17 @@
--- The rows that are handed in to be written, as SQL shows them.
+-- The rows that are given to be written, with their SQL values.
 use Rattle.std.specs.Prelude.{ℕ}
 use Rattle.sqlite.specs.Order.{Row}
 use Rattle.atl_store.specs.declared.rows.campaign.CampaignRow.{CampaignRow}
 use Rattle.atl_store.specs.declared.rows.has.HasRow.{HasRow}
-use Rattle.atl_store.specs.declared.rows.has.Sort.{Sort}
-use Rattle.atl_store.specs.declared.rows.has.Sort.TheVariants.{Item, Skill}
+use Rattle.atl_store.specs.declared.rows.has.ThingKind.{ThingKind}
+use Rattle.atl_store.specs.declared.rows.has.ThingKind.TheVariants.{Item, Skill}
 use Rattle.atl_store.specs.declared.rows.books.BooksRow.{BooksRow}
-use Rattle.atl_store.specs.Shown.{has_row, books_row, Head}
+use Rattle.atl_store.specs.Shown.{has_row, books_row, CampaignRowValue}
 
-abbrev pub head_shown : CampaignRow → Head
+abbrev pub head_shown : CampaignRow → CampaignRowValue
 head_shown row = record { month = row.month; next_faction = row.next_faction; next_unit = row.next_unit; next_structure = row.next_structure; pass = row.pass.now }
 
-abbrev pub sort_number : Sort → ℕ
+abbrev pub sort_number : ThingKind → ℕ
 sort_number Item = 0
 sort_number Skill = 1
 

@@ -1,4 +1,4 @@
-//! Amounts of things that belong together, written row by row.
+//! Writes amounts that belong together, row by row.
 ghost use Rattle.std.specs.Prelude.{ℕ};
 ghost use Rattle.sqlite.specs.Order.{Row as SqlRow};
 ghost use Rattle.sqlite.specs.Table.{Table};
@@ -9,7 +9,7 @@ use atl_tables::Entries;
 use sqlite::{Alter, Error, Transaction};
 
 /// What amounts of things belong to; each has a row of a table where it is not 0.
-pub(crate) trait Stocked: Copy {
+pub(crate) trait AmountWriter: Copy {
     ghost table: { Table };
 
     // How many columns the table's key has, and the row of an amount of a thing.
@@ -24,17 +24,19 @@ pub(crate) trait Stocked: Copy {
         thing: u32,
         amount: u32,
     ) -> Result<(), Error>
-        ensures { WritesRow S.Store table key (line self thing amount) result tx.old.conn tx.new.conn };
+        ensures { WritesRow S.Store table key (line self thing amount) result tx.old.conn
+            tx.new.conn };
 }
 
 /// Puts the row of an amount that is not 0.
-fn put_some<O: Stocked, S: Alter>(
+fn put_some<O: AmountWriter, S: Alter>(
     tx: &mut Transaction<'_, S>,
     owner: O,
     thing: u32,
     amount: u32,
 ) -> Result<(), Error>
-    ensures { WritesRows S.Store O.table O.key (thing_rows (O.line owner) thing amount) result tx.old.conn tx.new.conn }
+    ensures { WritesRows S.Store O.table O.key (thing_rows (O.line owner) thing amount) result
+        tx.old.conn tx.new.conn }
 {
     if amount == 0 {
         return Ok(());
@@ -43,12 +45,13 @@ fn put_some<O: Stocked, S: Alter>(
 }
 
 /// Puts the rows of all amounts.
-pub(crate) fn put_amounts<O: Stocked, S: Alter>(
+pub(crate) fn put_amounts<O: AmountWriter, S: Alter>(
     tx: &mut Transaction<'_, S>,
     owner: O,
     amounts: Entries<'_, u32>,
 ) -> Result<(), Error>
-    ensures { WritesRows S.Store O.table O.key (amount_rows (O.line owner) amounts.entry) result tx.old.conn tx.new.conn }
+    ensures { WritesRows S.Store O.table O.key (amount_rows (O.line owner) amounts.entry) result
+        tx.old.conn tx.new.conn }
 {
     for (thing, amount) in amounts {
         put_some(tx, owner, thing, *amount)?;

@@ -1,4 +1,4 @@
-//! What changed of a campaign is written into its tables.
+//! Writes the changes of a campaign into its tables.
 ghost use Rattle.std.specs.Prelude.{◌≡◌, ◌≤◌, false, List, ℕ, IfErr, OnOk, OnErr, length};
 ghost use Rattle.sqlite.specs.Held.{state};
 ghost use Rattle.sqlite.specs.State.{HasCleanDisk};
@@ -14,18 +14,19 @@ ghost use Rattle.atl_store.specs.Writes.{Writes, Transacts};
 ghost use Rattle.atl_store.specs.Inside.{Inside, HasTables, LeavesOff};
 ghost use Rattle.atl_store.specs.Keeps.{Keeps, Stops, IsLater, MayFound, SparesOthers};
 
+use crate::campaign_row::rewrite_campaign_row;
 use crate::fault::WriteFault;
-use crate::head::rewrite_head;
-use crate::written::{OtherParts, Written};
+use crate::write_parts::{OtherParts, WrittenPart};
 use atl_state::Campaign;
 use sqlite::{Alter, Connection, Error, Transaction};
 
 /// All that is marked.
 fn rewrite_all<S: Alter>(tx: &mut Transaction<'_, S>, campaign: &Campaign) -> Result<(), Error>
     requires { length campaign.now.value.books ≤ most_things }
-    ensures { Writes S.Store (OfChange campaign.now.value) (Inside HasTables (WritesChanges campaign.now)) result tx.old.conn tx.new.conn }
+    ensures { Writes S.Store (OfChange campaign.now.value)
+        (Inside HasTables (WritesChanges campaign.now)) result tx.old.conn tx.new.conn }
 {
-    rewrite_head(tx, campaign)?;
+    rewrite_campaign_row(tx, campaign)?;
     OtherParts::rewrite(tx, campaign)
 }
 
@@ -33,7 +34,8 @@ fn rewrite_all<S: Alter>(tx: &mut Transaction<'_, S>, campaign: &Campaign) -> Re
 fn write_marked<S: Alter>(conn: &mut Connection<S>, campaign: &Campaign) -> Result<(), Error>
     requires idle { conn.old.in_transaction ≡ false }
     requires things { length campaign.now.value.books ≤ most_things }
-    ensures { Transacts S.Store (OfChange campaign.now.value) HasTables (WritesChanges campaign.now) result conn.old conn.new }
+    ensures { Transacts S.Store (OfChange campaign.now.value) HasTables (WritesChanges campaign.now)
+        result conn.old conn.new }
 {
     let mut tx = conn.transaction();
     rewrite_all(&mut tx, campaign)?;
@@ -51,17 +53,38 @@ pub fn write_changes<S: Alter>(
 ) -> Result<(), WriteFault>
     requires idle { conn.old.in_transaction ≡ false }
     requires things { length campaign.old.value.books ≤ most_things }
-    ensures ok { HasCleanDisk (state S.Store conn.new) → OnOk result ((text : List ℕ) (before : CampaignValue) → Keeps (state S.Store conn.old) text before → Covers campaign.old.marks before campaign.old.value → Keeps (state S.Store conn.new) text campaign.old.value) }
-    ensures err { HasCleanDisk (state S.Store conn.new) → OnErr result ((text : List ℕ) (before : CampaignValue) → Keeps (state S.Store conn.old) text before → Covers campaign.old.marks before campaign.old.value → Stops (state S.Store conn.old).faults (state S.Store conn.new) text before campaign.old.value) }
-    ensures marked { HasCleanDisk (state S.Store conn.new) → OnOk result (HasTables (state S.Store conn.old).now → WritesChanges campaign.old (state S.Store conn.old).now (state S.Store conn.new).now) }
-    ensures unmarked { HasCleanDisk (state S.Store conn.new) → OnOk result ((text : List ℕ) → HasTables (state S.Store conn.old).now → HoldsUnmarked (state S.Store conn.old).now.trees text campaign.old → Keeps (state S.Store conn.new) text campaign.old.value) }
-    ensures crash { HasCleanDisk (state S.Store conn.new) → OnErr result ((text : List ℕ) → HasTables (state S.Store conn.old).now → HoldsUnmarked (state S.Store conn.old).now.trees text campaign.old → MayFound (state S.Store conn.old) text campaign.old.value (state S.Store conn.new)) }
-    ensures left { HasCleanDisk (state S.Store conn.new) → OnErr result (LeavesOff (state S.Store conn.old) (state S.Store conn.new)) }
-    ensures told { HasCleanDisk (state S.Store conn.new) → IfErr result (IsTold S.Store (OfChange campaign.old.value) write_fault conn.old conn.new) }
+    ensures ok { HasCleanDisk (state S.Store conn.new)
+        → OnOk result ((text : List ℕ) (before : CampaignValue)
+        → Keeps (state S.Store conn.old) text before
+        → Covers campaign.old.marks before campaign.old.value
+        → Keeps (state S.Store conn.new) text campaign.old.value) }
+    ensures err { HasCleanDisk (state S.Store conn.new)
+        → OnErr result ((text : List ℕ) (before : CampaignValue)
+        → Keeps (state S.Store conn.old) text before
+        → Covers campaign.old.marks before campaign.old.value
+        → Stops (state S.Store conn.old).faults (state S.Store conn.new) text before
+        campaign.old.value) }
+    ensures marked { HasCleanDisk (state S.Store conn.new)
+        → OnOk result (HasTables (state S.Store conn.old).now
+        → WritesChanges campaign.old (state S.Store conn.old).now (state S.Store conn.new).now) }
+    ensures unmarked { HasCleanDisk (state S.Store conn.new)
+        → OnOk result ((text : List ℕ) → HasTables (state S.Store conn.old).now
+        → HoldsUnmarked (state S.Store conn.old).now.trees text campaign.old
+        → Keeps (state S.Store conn.new) text campaign.old.value) }
+    ensures crash { HasCleanDisk (state S.Store conn.new)
+        → OnErr result ((text : List ℕ) → HasTables (state S.Store conn.old).now
+        → HoldsUnmarked (state S.Store conn.old).now.trees text campaign.old
+        → MayFound (state S.Store conn.old) text campaign.old.value (state S.Store conn.new)) }
+    ensures left { HasCleanDisk (state S.Store conn.new)
+        → OnErr result (LeavesOff (state S.Store conn.old) (state S.Store conn.new)) }
+    ensures told { HasCleanDisk (state S.Store conn.new)
+        → IfErr result (IsTold S.Store (OfChange campaign.old.value) write_fault conn.old
+        conn.new) }
     ensures done { OnOk result (campaign.new ≡ record campaign.old { marks = no_marks }) }
     ensures undone { OnErr result (campaign.new ≡ campaign.old) }
     ensures later { IsLater (state S.Store conn.old) (state S.Store conn.new) }
-    ensures others { HasCleanDisk (state S.Store conn.new) → SparesOthers (state S.Store conn.old) (state S.Store conn.new) }
+    ensures others { HasCleanDisk (state S.Store conn.new)
+        → SparesOthers (state S.Store conn.old) (state S.Store conn.new) }
     ensures idle { conn.new.in_transaction ≡ false }
 {
     write_marked(conn, campaign)?;

@@ -1,6 +1,6 @@
-//! Why the store gives up.
+//! The faults of the store. See docs/FORMATS.md, "Tables".
 ghost use Rattle.std.specs.Prelude.{◌≡◌, if◌then◌else◌};
-ghost use Rattle.atl_store.specs.Faults.{is_memory, read_fault, value_fault, write_fault, create_fault, store_fault, reopening_fault, load_fault, judged_fault, second_fault, upgrade_fault, first_fault, new_world_fault, fault_number, upgrade_number};
+ghost use Rattle.atl_store.specs.Faults.{is_memory, read_fault, value_fault, write_fault, create_fault, store_fault, reopening_fault, load_fault, fault_of_check, second_fault, upgrade_fault, first_fault, new_world_fault, fault_number, upgrade_number};
 
 use atl_state::{CheckFault, Rule};
 use atl_tables::WorldFault;
@@ -292,7 +292,7 @@ impl From<LoadFault> for StoreFault {
 }
 
 impl From<CheckFault> for LoadFault {
-    ghost from_gives = { λ fault told. told ≡ judged_fault fault };
+    ghost from_gives = { λ fault told. told ≡ fault_of_check fault };
 
     fn from(fault: CheckFault) -> LoadFault {
         match fault {

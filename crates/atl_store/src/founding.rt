@@ -1,6 +1,5 @@
-//! A whole campaign is written into a new store.
-ghost use Rattle.std.specs.Prelude.{◌≡◌, ◌≤◌, false, IsTrue, OnOk, OnErr, IfErr, length};
-ghost use Rattle.std.specs.Bool.{Decides};
+//! Creates the tables and writes a whole campaign into them.
+ghost use Rattle.std.specs.Prelude.{◌≡◌, ◌≤◌, false, IsTrue, OnOk, OnErr, IfErr, length, ◌↔◌};
 ghost use Rattle.sqlite.specs.Held.{state};
 ghost use Rattle.atl_store.specs.Tables.{no_tables};
 ghost use Rattle.atl_records.specs.Limits.{most_things};
@@ -12,10 +11,10 @@ ghost use Rattle.atl_store.specs.Making.{has_campaign};
 ghost use Rattle.atl_store.specs.Filling.{WritesFounding};
 ghost use Rattle.atl_store.specs.Keeps.{Creates, IsReady, RefusesToCreate, IsLater};
 
+use crate::campaign_row::put_campaign_row;
 use crate::fault::CreateFault;
-use crate::head::put_head;
 use crate::tables::create_tables;
-use crate::written::{OtherParts, Written};
+use crate::write_parts::{OtherParts, WrittenPart};
 use atl_state::Campaign;
 use sqlite::{Alter, Connection, Error, Transaction};
 use sqlite_schema::schema::Schema;
@@ -27,10 +26,12 @@ fn put_founding<S: Alter>(
     campaign: &Campaign,
 ) -> Result<(), Error>
     requires { length campaign.now.value.books ≤ most_things }
-    ensures { Writes S.Store (OfFounding text.now campaign.now.value) (Inside IsBlank (WritesFounding text.now campaign.now.value)) result tx.old.conn tx.new.conn }
+    ensures { Writes S.Store (OfFounding text.now campaign.now.value)
+        (Inside IsBlank (WritesFounding text.now campaign.now.value)) result tx.old.conn
+        tx.new.conn }
 {
     create_tables(tx)?;
-    put_head(tx, campaign, text)?;
+    put_campaign_row(tx, campaign, text)?;
     OtherParts::fill(tx, campaign)
 }
 
@@ -42,7 +43,8 @@ fn write_founding<S: Alter>(
 ) -> Result<(), Error>
     requires idle { conn.old.in_transaction ≡ false }
     requires things { length campaign.now.value.books ≤ most_things }
-    ensures { Transacts S.Store (OfFounding text.now campaign.now.value) IsBlank (WritesFounding text.now campaign.now.value) result conn.old conn.new }
+    ensures { Transacts S.Store (OfFounding text.now campaign.now.value) IsBlank
+        (WritesFounding text.now campaign.now.value) result conn.old conn.new }
 {
     let mut tx = conn.transaction();
     put_founding(&mut tx, text, campaign)?;
@@ -59,7 +61,7 @@ fn is_there(schema: &Schema) -> bool
 
 /// Whether there is no table, index or view at all.
 fn is_blank(schema: &Schema) -> bool
-    ensures { Decides result (schema.now ≡ no_tables) }
+    ensures { IsTrue result ↔ (schema.now ≡ no_tables) }
 {
     schema.tables.as_slice().is_empty()
         && schema.indexes.as_slice().is_empty()
@@ -68,8 +70,9 @@ fn is_blank(schema: &Schema) -> bool
 
 /// Whether the database has no table, index or view and the connection is in no transaction.
 fn is_ready<S: Alter>(conn: &Connection<S>) -> bool
-    ensures ready { Decides result (IsReady (state S.Store conn.now)) }
-    ensures settled { IsTrue result → IsTrue (state S.Store conn.now).is_open → (state S.Store conn.now).now ≡ (state S.Store conn.now).committed }
+    ensures ready { IsTrue result ↔ (IsReady (state S.Store conn.now)) }
+    ensures settled { IsTrue result → IsTrue (state S.Store conn.now).is_open
+        → (state S.Store conn.now).now ≡ (state S.Store conn.now).committed }
 {
     is_blank(conn.schema()) && conn.is_autocommit()
 }
@@ -87,7 +90,8 @@ pub fn create<S: Alter>(
 ) -> Result<(), CreateFault>
     requires { length campaign.old.value.books ≤ most_things }
     ensures ok { OnOk result (Creates S.Store world_text.now campaign.old.value conn.old conn.new) }
-    ensures err { IfErr result (RefusesToCreate S.Store world_text.now campaign.old.value conn.old conn.new) }
+    ensures err { IfErr result
+        (RefusesToCreate S.Store world_text.now campaign.old.value conn.old conn.new) }
     ensures later { IsLater (state S.Store conn.old) (state S.Store conn.new) }
     ensures unmarked { OnOk result (campaign.new ≡ record campaign.old { marks = no_marks }) }
     ensures spared { OnErr result (campaign.new ≡ campaign.old) }

@@ -1,4 +1,4 @@
-//! What units have, written row by row.
+//! Writes the items and days of units, row by row.
 ghost use Rattle.std.specs.Prelude.{refl};
 ghost use Rattle.atl_store.specs.Tables.{Goods, has_table};
 ghost use Rattle.atl_store.specs.Shown.{has_row};
@@ -10,22 +10,22 @@ ghost use Rattle.atl_store.specs.Writes.{Writes, WritesRows};
 ghost use Rattle.atl_store.specs.Inside.{Inside, HasTables};
 ghost use Rattle.atl_store.specs.Rewriting.{RewritesGoods};
 
-use crate::amounts::{Stocked, put_amounts};
+use crate::amounts::{AmountWriter, put_amounts};
 use crate::grouped::{Grouped, rewrite_marked_groups};
-use crate::rows::has::{HasRow, Sort, drop_goods, put_has};
-use crate::things::rewrite_sort;
+use crate::rows::has::{HasRow, ThingKind, drop_goods, put_has};
+use crate::things::rewrite_kind;
 use atl_state::{Campaign, Holding, SlotEntries, Unit};
 use atl_tables::MarkedNumbers;
 use sqlite::{Alter, Error, Transaction};
 
 /// What a unit has of a sort.
 #[derive(Clone, Copy)]
-struct Things {
+struct UnitThings {
     unit: u32,
-    sort: Sort,
+    sort: ThingKind,
 }
 
-impl Stocked for Things {
+impl AmountWriter for UnitThings {
     ghost table = { has_table };
 
     ghost key = { 3 };
@@ -54,15 +54,16 @@ fn put_goods<S: Alter>(
     unit: u32,
     holding: &Holding,
 ) -> Result<(), Error>
-    ensures { WritesRows S.Store has_table 3 (goods_lines unit holding.now) result tx.old.conn tx.new.conn }
+    ensures { WritesRows S.Store has_table 3 (goods_lines unit holding.now) result tx.old.conn
+        tx.new.conn }
 {
-    let items = Things {
+    let items = UnitThings {
         unit,
-        sort: Sort::Item,
+        sort: ThingKind::Item,
     };
-    let skills = Things {
+    let skills = UnitThings {
         unit,
-        sort: Sort::Skill,
+        sort: ThingKind::Skill,
     };
     put_amounts(tx, items, holding.items())?;
     put_amounts(tx, skills, holding.days())
@@ -73,7 +74,8 @@ pub(crate) fn put_all_goods<S: Alter>(
     tx: &mut Transaction<'_, S>,
     units: SlotEntries<'_, Unit>,
 ) -> Result<(), Error>
-    ensures { WritesRows S.Store has_table 3 (all_goods_lines units.entry) result tx.old.conn tx.new.conn }
+    ensures { WritesRows S.Store has_table 3 (all_goods_lines units.entry) result tx.old.conn
+        tx.new.conn }
 {
     for (number, unit) in units {
         put_goods(tx, number, &unit.holding)?;
@@ -116,9 +118,10 @@ pub(crate) fn rewrite_goods<S: Alter>(
     tx: &mut Transaction<'_, S>,
     campaign: &Campaign,
 ) -> Result<(), Error>
-    ensures { Writes S.Store (OfChange campaign.now.value) (Inside HasTables (RewritesGoods campaign.now)) result tx.old.conn tx.new.conn }
+    ensures { Writes S.Store (OfChange campaign.now.value)
+        (Inside HasTables (RewritesGoods campaign.now)) result tx.old.conn tx.new.conn }
 {
     rewrite_marked_groups::<Unit, S>(tx, campaign)?;
-    rewrite_sort(tx, campaign, Sort::Item)?;
-    rewrite_sort(tx, campaign, Sort::Skill)
+    rewrite_kind(tx, campaign, ThingKind::Item)?;
+    rewrite_kind(tx, campaign, ThingKind::Skill)
 }

@@ -1,4 +1,4 @@
-//! What has rows in a table of their own under its number, as many as it needs: all of them are deleted and put anew.
+//! Things with several rows in a table: to rewrite one, its rows are deleted and put again.
 ghost use Rattle.std.specs.Prelude.{◌≡◌, ℕ, suc, List, [], ◌∷◌};
 ghost use Rattle.std.specs.Ordering.{nat_cmp};
 ghost use Rattle.std.specs.FinSet.{FinSet};
@@ -15,13 +15,13 @@ ghost use Rattle.atl_tables.specs.Tracking.{Lists};
 ghost use Rattle.atl_state.specs.Marks.{Marks};
 ghost use Rattle.atl_state.specs.Campaign.{CampaignValue};
 
-use crate::kept::Kept;
+use crate::numbered_rows::NumberedRow;
 use atl_state::Campaign;
 use atl_tables::MarkedNumbers;
 use sqlite::{Alter, Error, Transaction};
 
 /// What has, beside its own row, rows of another table under its number, which is the first column of their key.
-pub(crate) trait Grouped: Kept {
+pub(crate) trait Grouped: NumberedRow {
     ghost part: { Part };
 
     ghost is_grouped: { IsGroupedPart part };
@@ -45,11 +45,13 @@ pub(crate) trait Grouped: Kept {
 
     /// Inserts its rows, or changes those that have their keys.
     fn put_rows<S: Alter>(&self, tx: &mut Transaction<'_, S>, number: u32) -> Result<(), Error>
-        ensures { WritesRows S.Store (table_of part) (suc more) (lines number self.now) result tx.old.conn tx.new.conn };
+        ensures { WritesRows S.Store (table_of part) (suc more) (lines number self.now) result
+            tx.old.conn tx.new.conn };
 
     /// Deletes all rows that have the number.
     fn drop_rows<S: Alter>(tx: &mut Transaction<'_, S>, number: u32) -> Result<(), Error>
-        ensures { TakesOut S.Store (table_of part) 1 (int number ∷ []) result tx.old.conn tx.new.conn };
+        ensures { TakesOut S.Store (table_of part) 1 (int number ∷ []) result tx.old.conn
+            tx.new.conn };
 }
 
 /// Deletes the rows of a number, and puts those of what stands under it.
@@ -58,8 +60,11 @@ fn rewrite_group<V: Grouped + Drop, S: Alter>(
     campaign: &Campaign,
     number: u32,
 ) -> Result<(), Error>
-    requires { AreGroups V.Grouped.lines (suc V.Grouped.more) (V.Kept.values campaign.now.value) (V.Grouped.wanted campaign.now.value) }
-    ensures { Writes S.Store (OfChange campaign.now.value) (Inside HasTables (RewritesGroup (table_of V.Grouped.part) (V.Grouped.wanted campaign.now.value) number)) result tx.old.conn tx.new.conn }
+    requires { AreGroups V.Grouped.lines (suc V.Grouped.more)
+        (V.NumberedRow.values campaign.now.value) (V.Grouped.wanted campaign.now.value) }
+    ensures { Writes S.Store (OfChange campaign.now.value)
+        (Inside HasTables (RewritesGroup (table_of V.Grouped.part)
+        (V.Grouped.wanted campaign.now.value) number)) result tx.old.conn tx.new.conn }
 {
     V::drop_rows(tx, number)?;
     match V::of(campaign, number) {
@@ -73,8 +78,12 @@ pub(crate) fn rewrite_marked_groups<V: Grouped + Drop, S: Alter>(
     tx: &mut Transaction<'_, S>,
     campaign: &Campaign,
 ) -> Result<(), Error>
-    requires { AreGroups V.Grouped.lines (suc V.Grouped.more) (V.Kept.values campaign.now.value) (V.Grouped.wanted campaign.now.value) }
-    ensures { Writes S.Store (OfChange campaign.now.value) (Inside HasTables (RewritesGroups (table_of V.Grouped.part) (V.Grouped.wanted campaign.now.value) (V.Grouped.marks campaign.now.marks))) result tx.old.conn tx.new.conn }
+    requires { AreGroups V.Grouped.lines (suc V.Grouped.more)
+        (V.NumberedRow.values campaign.now.value) (V.Grouped.wanted campaign.now.value) }
+    ensures { Writes S.Store (OfChange campaign.now.value)
+        (Inside HasTables (RewritesGroups (table_of V.Grouped.part)
+        (V.Grouped.wanted campaign.now.value) (V.Grouped.marks campaign.now.marks))) result
+        tx.old.conn tx.new.conn }
 {
     for number in V::marked_groups(campaign) {
         rewrite_group::<V, S>(tx, campaign, number)?;

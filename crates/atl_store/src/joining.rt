@@ -1,4 +1,4 @@
-//! A joining is written into the tables of the campaign.
+//! Writes a join into the tables.
 ghost use Rattle.std.specs.Prelude.{◌≡◌, [], false, List, ℕ, IfErr, OnOk, OnErr};
 ghost use Rattle.sqlite.specs.Held.{state};
 ghost use Rattle.sqlite.specs.State.{HasCleanDisk};
@@ -7,8 +7,8 @@ ghost use Rattle.atl_records.specs.declared.books.Entry.TheVariants.{Joining};
 ghost use Rattle.atl_records.specs.declared.books.Thing.TheVariants.{Money, People};
 ghost use Rattle.atl_store.specs.Tables.{faction_table, unit_table, report_table};
 ghost use Rattle.atl_store.specs.Shown.{report_row};
-ghost use Rattle.atl_store.specs.Rows.{head_of, faction_line, unit_line};
-ghost use Rattle.atl_store.specs.PutsHead.{PutsHead};
+ghost use Rattle.atl_store.specs.Rows.{campaign_row_of, faction_line, unit_line};
+ghost use Rattle.atl_store.specs.PutsCampaignRow.{PutsCampaignRow};
 ghost use Rattle.atl_store.specs.Causes.{IsTold};
 ghost use Rattle.atl_store.specs.Faults.{write_fault};
 ghost use Rattle.atl_store.specs.OwnStatements.{OfJoining};
@@ -17,10 +17,10 @@ ghost use Rattle.atl_store.specs.Inside.{Inside, HasTables, Both, Puts, LeavesOf
 ghost use Rattle.atl_store.specs.Arriving.{HasArrival, IsFound, Settles, WritesJoin};
 ghost use Rattle.atl_store.specs.Keeps.{Keeps, Stops, IsLater, SparesOthers, IsJoining};
 
+use crate::campaign_row::put_campaign_row;
 use crate::fault::WriteFault;
-use crate::head::put_head;
-use crate::kept::Kept;
 use crate::ledger::settle_amount;
+use crate::numbered_rows::NumberedRow;
 use atl_state::{Campaign, Entry, Faction, Thing, Unit};
 use atl_tables::Text;
 use sqlite::{Alter, Connection, Error, Transaction};
@@ -38,7 +38,8 @@ struct Arrival<'a> {
 /// The faction that joined last.
 fn arrival_of(campaign: &Campaign, number: u32) -> Arrival<'_>
     requires { HasArrival campaign.now.value number }
-    ensures found { IsFound campaign.now.value result.number result.faction.now result.place result.unit.now result.report.now }
+    ensures found { IsFound campaign.now.value result.number result.faction.now result.place
+        result.unit.now result.report.now }
     ensures number { result.number ≡ number }
 {
     let place = campaign.next_unit() - 1;
@@ -57,10 +58,15 @@ fn put_newcomer<S: Alter>(
     campaign: &Campaign,
     arrival: &Arrival<'_>,
 ) -> Result<(), Error>
-    requires { IsFound campaign.now.value arrival.now.number arrival.now.faction.now arrival.now.place arrival.now.unit.now arrival.now.report.now }
-    ensures { Writes S.Store (OfJoining arrival.now.number campaign.now.value) (Inside HasTables (Both (PutsHead (head_of campaign.now.value) []) (Both (Puts faction_table 1 (faction_line arrival.now.number arrival.now.faction.now)) (Puts unit_table 1 (unit_line arrival.now.place arrival.now.unit.now))))) result tx.old.conn tx.new.conn }
+    requires { IsFound campaign.now.value arrival.now.number arrival.now.faction.now
+        arrival.now.place arrival.now.unit.now arrival.now.report.now }
+    ensures { Writes S.Store (OfJoining arrival.now.number campaign.now.value)
+        (Inside HasTables (Both (PutsCampaignRow (campaign_row_of campaign.now.value) [])
+        (Both (Puts faction_table 1 (faction_line arrival.now.number arrival.now.faction.now))
+        (Puts unit_table 1 (unit_line arrival.now.place arrival.now.unit.now))))) result tx.old.conn
+        tx.new.conn }
 {
-    put_head(tx, campaign, "")?;
+    put_campaign_row(tx, campaign, "")?;
     arrival.faction.put(tx, arrival.number)?;
     arrival.unit.put(tx, arrival.place)
 }
@@ -71,8 +77,13 @@ fn put_welcome<S: Alter>(
     campaign: &Campaign,
     arrival: &Arrival<'_>,
 ) -> Result<(), Error>
-    requires { IsFound campaign.now.value arrival.now.number arrival.now.faction.now arrival.now.place arrival.now.unit.now arrival.now.report.now }
-    ensures { Writes S.Store (OfJoining arrival.now.number campaign.now.value) (Inside HasTables (Both (Puts report_table 1 (report_row arrival.now.number arrival.now.report.now)) (Both (Settles campaign.now.value Joining Money) (Settles campaign.now.value Joining People)))) result tx.old.conn tx.new.conn }
+    requires { IsFound campaign.now.value arrival.now.number arrival.now.faction.now
+        arrival.now.place arrival.now.unit.now arrival.now.report.now }
+    ensures { Writes S.Store (OfJoining arrival.now.number campaign.now.value)
+        (Inside HasTables (Both
+        (Puts report_table 1 (report_row arrival.now.number arrival.now.report.now))
+        (Both (Settles campaign.now.value Joining Money)
+        (Settles campaign.now.value Joining People)))) result tx.old.conn tx.new.conn }
 {
     arrival.report.put(tx, arrival.number)?;
     settle_amount(tx, campaign, Entry::Joining, Thing::Money)?;
@@ -85,8 +96,11 @@ fn put_joining<S: Alter>(
     campaign: &Campaign,
     arrival: &Arrival<'_>,
 ) -> Result<(), Error>
-    requires { IsFound campaign.now.value arrival.now.number arrival.now.faction.now arrival.now.place arrival.now.unit.now arrival.now.report.now }
-    ensures { Writes S.Store (OfJoining arrival.now.number campaign.now.value) (Inside HasTables (WritesJoin arrival.now.number campaign.now.value)) result tx.old.conn tx.new.conn }
+    requires { IsFound campaign.now.value arrival.now.number arrival.now.faction.now
+        arrival.now.place arrival.now.unit.now arrival.now.report.now }
+    ensures { Writes S.Store (OfJoining arrival.now.number campaign.now.value)
+        (Inside HasTables (WritesJoin arrival.now.number campaign.now.value)) result tx.old.conn
+        tx.new.conn }
 {
     put_newcomer(tx, campaign, arrival)?;
     put_welcome(tx, campaign, arrival)
@@ -99,8 +113,10 @@ fn write_joining<S: Alter>(
     arrival: &Arrival<'_>,
 ) -> Result<(), Error>
     requires idle { conn.old.in_transaction ≡ false }
-    requires found { IsFound campaign.now.value arrival.now.number arrival.now.faction.now arrival.now.place arrival.now.unit.now arrival.now.report.now }
-    ensures { Transacts S.Store (OfJoining arrival.now.number campaign.now.value) HasTables (WritesJoin arrival.now.number campaign.now.value) result conn.old conn.new }
+    requires found { IsFound campaign.now.value arrival.now.number arrival.now.faction.now
+        arrival.now.place arrival.now.unit.now arrival.now.report.now }
+    ensures { Transacts S.Store (OfJoining arrival.now.number campaign.now.value) HasTables
+        (WritesJoin arrival.now.number campaign.now.value) result conn.old conn.new }
 {
     let mut tx = conn.transaction();
     put_joining(&mut tx, campaign, arrival)?;
@@ -119,13 +135,27 @@ pub fn write_join<S: Alter>(
 ) -> Result<(), WriteFault>
     requires idle { conn.old.in_transaction ≡ false }
     requires arrived { HasArrival campaign.now.value faction }
-    ensures ok { HasCleanDisk (state S.Store conn.new) → OnOk result ((text : List ℕ) (before : CampaignValue) → Keeps (state S.Store conn.old) text before → IsJoining before faction campaign.now.value → Keeps (state S.Store conn.new) text campaign.now.value) }
-    ensures err { HasCleanDisk (state S.Store conn.new) → OnErr result ((text : List ℕ) (before : CampaignValue) → Keeps (state S.Store conn.old) text before → IsJoining before faction campaign.now.value → Stops (state S.Store conn.old).faults (state S.Store conn.new) text before campaign.now.value) }
-    ensures own { HasCleanDisk (state S.Store conn.new) → OnOk result (HasTables (state S.Store conn.old).now → WritesJoin faction campaign.now.value (state S.Store conn.old).now (state S.Store conn.new).now) }
-    ensures left { HasCleanDisk (state S.Store conn.new) → OnErr result (LeavesOff (state S.Store conn.old) (state S.Store conn.new)) }
-    ensures told { HasCleanDisk (state S.Store conn.new) → IfErr result (IsTold S.Store (OfJoining faction campaign.now.value) write_fault conn.old conn.new) }
+    ensures ok { HasCleanDisk (state S.Store conn.new)
+        → OnOk result ((text : List ℕ) (before : CampaignValue)
+        → Keeps (state S.Store conn.old) text before → IsJoining before faction campaign.now.value
+        → Keeps (state S.Store conn.new) text campaign.now.value) }
+    ensures err { HasCleanDisk (state S.Store conn.new)
+        → OnErr result ((text : List ℕ) (before : CampaignValue)
+        → Keeps (state S.Store conn.old) text before → IsJoining before faction campaign.now.value
+        → Stops (state S.Store conn.old).faults (state S.Store conn.new) text before
+        campaign.now.value) }
+    ensures own { HasCleanDisk (state S.Store conn.new)
+        → OnOk result (HasTables (state S.Store conn.old).now
+        → WritesJoin faction campaign.now.value (state S.Store conn.old).now
+        (state S.Store conn.new).now) }
+    ensures left { HasCleanDisk (state S.Store conn.new)
+        → OnErr result (LeavesOff (state S.Store conn.old) (state S.Store conn.new)) }
+    ensures told { HasCleanDisk (state S.Store conn.new)
+        → IfErr result (IsTold S.Store (OfJoining faction campaign.now.value) write_fault conn.old
+        conn.new) }
     ensures later { IsLater (state S.Store conn.old) (state S.Store conn.new) }
-    ensures others { HasCleanDisk (state S.Store conn.new) → SparesOthers (state S.Store conn.old) (state S.Store conn.new) }
+    ensures others { HasCleanDisk (state S.Store conn.new)
+        → SparesOthers (state S.Store conn.old) (state S.Store conn.new) }
     ensures idle { conn.new.in_transaction ≡ false }
 {
     let arrival = arrival_of(campaign, faction);

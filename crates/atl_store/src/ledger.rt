@@ -1,8 +1,8 @@
-//! The books, written row by row.
+//! Writes the books, row by row.
 ghost use Rattle.std.specs.Prelude.{◌<◌, ◌≤◌, length, map};
 ghost use Rattle.std.specs.List.{range_with_len};
 ghost use Rattle.atl_records.specs.Limits.{most_things};
-ghost use Rattle.atl_records.specs.Books.{entry_place, thing_place};
+ghost use Rattle.atl_records.specs.Books.{entry_index, thing_index};
 ghost use Rattle.atl_store.specs.Tables.{books_table};
 ghost use Rattle.atl_store.specs.Lines.{amount_lines, entries_lines, things_lines};
 ghost use Rattle.atl_store.specs.OwnStatements.{OfAmount, OfChange};
@@ -22,8 +22,9 @@ fn put_amount<S: Alter>(
     entry: Entry,
     thing: Thing,
 ) -> Result<(), Error>
-    requires { thing_place thing < length campaign.now.value.books }
-    ensures { WritesRows S.Store books_table 2 (amount_lines campaign.now.value entry thing) result tx.old.conn tx.new.conn }
+    requires { thing_index thing < length campaign.now.value.books }
+    ensures { WritesRows S.Store books_table 2 (amount_lines campaign.now.value entry thing) result
+        tx.old.conn tx.new.conn }
 {
     let amount = campaign.booked(entry, thing);
     if amount == 0 {
@@ -44,8 +45,9 @@ pub(crate) fn settle_amount<S: Alter>(
     entry: Entry,
     thing: Thing,
 ) -> Result<(), Error>
-    requires { thing_place thing < length campaign.now.value.books }
-    ensures { Writes S.Store (OfAmount campaign.now.value entry thing) (Inside HasTables (Settles campaign.now.value entry thing)) result tx.old.conn tx.new.conn }
+    requires { thing_index thing < length campaign.now.value.books }
+    ensures { Writes S.Store (OfAmount campaign.now.value entry thing)
+        (Inside HasTables (Settles campaign.now.value entry thing)) result tx.old.conn tx.new.conn }
 {
     let amount = campaign.booked(entry, thing);
     if amount == 0 {
@@ -66,8 +68,9 @@ fn put_entries<S: Alter>(
     thing: Thing,
     entries: &[Entry],
 ) -> Result<(), Error>
-    requires { thing_place thing < length campaign.now.value.books }
-    ensures { WritesRows S.Store books_table 2 (entries_lines campaign.now.value thing entries.now) result tx.old.conn tx.new.conn }
+    requires { thing_index thing < length campaign.now.value.books }
+    ensures { WritesRows S.Store books_table 2 (entries_lines campaign.now.value thing entries.now)
+        result tx.old.conn tx.new.conn }
 {
     for entry in entries {
         put_amount(tx, campaign, *entry, thing)?;
@@ -81,7 +84,9 @@ pub(crate) fn put_all_books<S: Alter>(
     campaign: &Campaign,
 ) -> Result<(), Error>
     requires { length campaign.now.value.books ≤ most_things }
-    ensures { WritesRows S.Store books_table 2 (things_lines campaign.now.value (range_with_len 0 (length campaign.now.value.books))) result tx.old.conn tx.new.conn }
+    ensures { WritesRows S.Store books_table 2
+        (things_lines campaign.now.value (range_with_len 0 (length campaign.now.value.books)))
+        result tx.old.conn tx.new.conn }
 {
     for number in 0..campaign.things() {
         put_entries(tx, campaign, Thing::of_number(number), &Entry::ALL)?;
@@ -96,8 +101,10 @@ fn rewrite_amount<S: Alter>(
     entry: Entry,
     thing: Thing,
 ) -> Result<(), Error>
-    requires { thing_place thing < length campaign.now.value.books }
-    ensures { Writes S.Store (OfChange campaign.now.value) (Inside HasTables (RewritesAmounts campaign.now (is_number (entry_place entry)) (is_number (thing_place thing)))) result tx.old.conn tx.new.conn }
+    requires { thing_index thing < length campaign.now.value.books }
+    ensures { Writes S.Store (OfChange campaign.now.value)
+        (Inside HasTables (RewritesAmounts campaign.now (is_number (entry_index entry))
+        (is_number (thing_index thing)))) result tx.old.conn tx.new.conn }
 {
     if campaign.is_amount_marked(entry, thing) {
         return settle_amount(tx, campaign, entry, thing);
@@ -112,8 +119,10 @@ fn rewrite_entries<S: Alter>(
     thing: Thing,
     entries: &[Entry],
 ) -> Result<(), Error>
-    requires { thing_place thing < length campaign.now.value.books }
-    ensures { Writes S.Store (OfChange campaign.now.value) (Inside HasTables (RewritesAmounts campaign.now (is_among (map entry_place entries.now)) (is_number (thing_place thing)))) result tx.old.conn tx.new.conn }
+    requires { thing_index thing < length campaign.now.value.books }
+    ensures { Writes S.Store (OfChange campaign.now.value)
+        (Inside HasTables (RewritesAmounts campaign.now (is_among (map entry_index entries.now))
+        (is_number (thing_index thing)))) result tx.old.conn tx.new.conn }
 {
     for entry in entries.iter() {
         rewrite_amount(tx, campaign, *entry, thing)?;
@@ -127,7 +136,8 @@ pub(crate) fn rewrite_books<S: Alter>(
     campaign: &Campaign,
 ) -> Result<(), Error>
     requires { length campaign.now.value.books ≤ most_things }
-    ensures { Writes S.Store (OfChange campaign.now.value) (Inside HasTables (RewritesBooks campaign.now)) result tx.old.conn tx.new.conn }
+    ensures { Writes S.Store (OfChange campaign.now.value)
+        (Inside HasTables (RewritesBooks campaign.now)) result tx.old.conn tx.new.conn }
 {
     for number in 0..campaign.things() {
         rewrite_entries(tx, campaign, Thing::of_number(number), &Entry::ALL)?;

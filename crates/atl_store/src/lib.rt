@@ -2,20 +2,20 @@
 //! transaction, and a crash leaves the campaign before it or the one after it. See docs/FORMATS.md, "Tables".
 #![tactic(auto)]
 
-mod alike;
 mod amounts;
+mod campaign_row;
 mod changing;
 pub mod fault;
 mod founding;
 mod goods;
 mod grouped;
-mod head;
 mod joining;
-mod kept;
 mod ledger;
 mod loading;
 mod mailing;
 mod markets;
+mod numbered_rows;
+mod one_campaign;
 mod reopening;
 pub mod rows;
 pub mod schema;
@@ -23,14 +23,14 @@ mod statement;
 pub mod tables;
 mod things;
 mod upgrading;
-mod written;
+mod write_parts;
 
-pub use alike::one_database_holds_one_campaign;
 pub use changing::write_changes;
 pub use fault::{CreateFault, ReadFault, StoreFault, UpgradeFault, WriteFault};
 pub use founding::create;
 pub use joining::write_join;
 pub use loading::load;
 pub use mailing::write_mail;
-pub use reopening::reopened;
+pub use one_campaign::one_database_holds_one_campaign;
+pub use reopening::reopen_connection;
 pub use upgrading::upgrade;

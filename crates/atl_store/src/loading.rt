@@ -1,4 +1,4 @@
-//! A campaign is loaded from its tables.
+//! Loads a campaign from its tables. See docs/FORMATS.md, "Tables".
 ghost use Rattle.std.specs.Prelude.{◌≡◌, false, IfOk, IfErr};
 ghost use Rattle.sqlite.specs.Held.{state};
 ghost use Rattle.sqlite.specs.State.{HasCleanDisk};
@@ -28,15 +28,17 @@ fn gather<S: Alter>(
 ) -> Result<(World, Parts), LoadFault>
     requires idle { conn.old.in_transaction ≡ false }
     requires settled { IsSettled (state S.Store conn.old) }
-    ensures ok { HasCleanDisk (state S.Store conn.new) → IfOk result (λ both. Gathered format S.Store conn.old both.0 both.1) }
-    ensures err { HasCleanDisk (state S.Store conn.new) → IfErr result (RefusesToLoadIn format S.Store conn.old) }
+    ensures ok { HasCleanDisk (state S.Store conn.new)
+        → IfOk result (λ both. Gathered format S.Store conn.old both.0 both.1) }
+    ensures err { HasCleanDisk (state S.Store conn.new)
+        → IfErr result (RefusesToLoadIn format S.Store conn.old) }
     ensures leaves { Leaves S.Store conn.old conn.new }
 {
     let (own, world) = read_own(alloc, conn, format)?;
     let Some(others) = read_others(alloc, conn, format)? else {
         return Err(LoadFault::Damaged(Rule::Ranges));
     };
-    let parts = parts_with(alloc, own.into_head(), others)?;
+    let parts = parts_with(alloc, own.into_campaign_row(), others)?;
     Ok((world, parts))
 }
 
@@ -49,7 +51,8 @@ fn load_idle<S: Alter>(
     requires idle { conn.old.in_transaction ≡ false }
     requires settled { IsSettled (state S.Store conn.old) }
     ensures ok { IfOk result (λ both. IsLoaded format S.Store conn.old conn.new both.0 both.1) }
-    ensures err { HasCleanDisk (state S.Store conn.new) → IfErr result (RefusesToLoadIn format S.Store conn.old) }
+    ensures err { HasCleanDisk (state S.Store conn.new)
+        → IfErr result (RefusesToLoadIn format S.Store conn.old) }
     ensures leaves { Leaves S.Store conn.old conn.new }
 {
     let (world, parts) = gather(alloc, conn, format)?;
@@ -67,7 +70,8 @@ pub(crate) fn load_as<S: Alter>(
     format: Format,
 ) -> Result<(World, Campaign), LoadFault>
     ensures ok { IfOk result (λ both. LoadsIn format S.Store conn.old conn.new both.0 both.1) }
-    ensures err { HasCleanDisk (state S.Store conn.new) → IfErr result (RefusesToLoadIn format S.Store conn.old) }
+    ensures err { HasCleanDisk (state S.Store conn.new)
+        → IfErr result (RefusesToLoadIn format S.Store conn.old) }
     ensures alone { LeavesAlone S.Store conn.old conn.new }
 {
     if !conn.is_autocommit() {
@@ -87,7 +91,8 @@ pub fn load<S: Alter>(
     conn: &mut Connection<S>,
 ) -> Result<(World, Campaign), StoreFault>
     ensures ok { IfOk result (λ both. Loads S.Store conn.old conn.new both.0 both.1) }
-    ensures err { HasCleanDisk (state S.Store conn.new) → IfErr result (RefusesToLoad S.Store conn.old) }
+    ensures err { HasCleanDisk (state S.Store conn.new)
+        → IfErr result (RefusesToLoad S.Store conn.old) }
     ensures alone { LeavesAlone S.Store conn.old conn.new }
 {
     let both = load_as(alloc, conn, Format::Second)?;

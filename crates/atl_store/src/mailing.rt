@@ -1,4 +1,4 @@
-//! A mail is written into the tables of the campaign.
+//! Writes a mail into the tables.
 ghost use Rattle.std.specs.Prelude.{◌≡◌, false, List, ℕ, IfErr, OnOk, OnErr};
 ghost use Rattle.sqlite.specs.Held.{state};
 ghost use Rattle.sqlite.specs.State.{HasCleanDisk};
@@ -18,7 +18,8 @@ use sqlite::{Alter, Connection, Error};
 /// The transaction of a mail.
 fn write_mailing<S: Alter>(conn: &mut Connection<S>, faction: u32, text: &[u8]) -> Result<(), Error>
     requires { conn.old.in_transaction ≡ false }
-    ensures { Transacts S.Store (OfMail faction text.now) HasTables (WritesMail faction text.now) result conn.old conn.new }
+    ensures { Transacts S.Store (OfMail faction text.now) HasTables (WritesMail faction text.now)
+        result conn.old conn.new }
 {
     let mut tx = conn.transaction();
     put_mail(&mut tx, faction, text)?;
@@ -35,13 +36,25 @@ pub fn write_mail<S: Alter>(
     text: &[u8],
 ) -> Result<(), WriteFault>
     requires { conn.old.in_transaction ≡ false }
-    ensures ok { HasCleanDisk (state S.Store conn.new) → OnOk result ((world : List ℕ) (before : CampaignValue) → Keeps (state S.Store conn.old) world before → Keeps (state S.Store conn.new) world (with_mail before faction text.now)) }
-    ensures err { HasCleanDisk (state S.Store conn.new) → OnErr result ((world : List ℕ) (before : CampaignValue) → Keeps (state S.Store conn.old) world before → Stops (state S.Store conn.old).faults (state S.Store conn.new) world before (with_mail before faction text.now)) }
-    ensures own { HasCleanDisk (state S.Store conn.new) → OnOk result (HasTables (state S.Store conn.old).now → WritesMail faction text.now (state S.Store conn.old).now (state S.Store conn.new).now) }
-    ensures left { HasCleanDisk (state S.Store conn.new) → OnErr result (LeavesOff (state S.Store conn.old) (state S.Store conn.new)) }
-    ensures told { HasCleanDisk (state S.Store conn.new) → IfErr result (IsTold S.Store (OfMail faction text.now) write_fault conn.old conn.new) }
+    ensures ok { HasCleanDisk (state S.Store conn.new)
+        → OnOk result ((world : List ℕ) (before : CampaignValue)
+        → Keeps (state S.Store conn.old) world before
+        → Keeps (state S.Store conn.new) world (with_mail before faction text.now)) }
+    ensures err { HasCleanDisk (state S.Store conn.new)
+        → OnErr result ((world : List ℕ) (before : CampaignValue)
+        → Keeps (state S.Store conn.old) world before
+        → Stops (state S.Store conn.old).faults (state S.Store conn.new) world before
+        (with_mail before faction text.now)) }
+    ensures own { HasCleanDisk (state S.Store conn.new)
+        → OnOk result (HasTables (state S.Store conn.old).now
+        → WritesMail faction text.now (state S.Store conn.old).now (state S.Store conn.new).now) }
+    ensures left { HasCleanDisk (state S.Store conn.new)
+        → OnErr result (LeavesOff (state S.Store conn.old) (state S.Store conn.new)) }
+    ensures told { HasCleanDisk (state S.Store conn.new)
+        → IfErr result (IsTold S.Store (OfMail faction text.now) write_fault conn.old conn.new) }
     ensures later { IsLater (state S.Store conn.old) (state S.Store conn.new) }
-    ensures others { HasCleanDisk (state S.Store conn.new) → SparesOthers (state S.Store conn.old) (state S.Store conn.new) }
+    ensures others { HasCleanDisk (state S.Store conn.new)
+        → SparesOthers (state S.Store conn.old) (state S.Store conn.new) }
     ensures idle { conn.new.in_transaction ≡ false }
 {
     write_mailing(conn, faction, text)?;

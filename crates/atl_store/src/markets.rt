@@ -6,7 +6,7 @@ ghost use Rattle.atl_store.specs.Rows.{MarketRowsOf};
 ghost use Rattle.atl_store.specs.Lines.{region_lines, all_stocks_lines};
 ghost use Rattle.atl_store.specs.Writes.{WritesRows};
 
-use crate::amounts::{Stocked, put_amounts};
+use crate::amounts::{AmountWriter, put_amounts};
 use crate::grouped::Grouped;
 use crate::rows::market::{drop_stocks, put_stock};
 use atl_state::{Campaign, Region};
@@ -15,11 +15,11 @@ use sqlite::{Alter, Error, Transaction};
 
 /// The market of a region.
 #[derive(Clone, Copy)]
-struct Market {
+struct RegionMarkets {
     region: u32,
 }
 
-impl Stocked for Market {
+impl AmountWriter for RegionMarkets {
     ghost table = { market_table };
 
     ghost key = { 2 };
@@ -42,9 +42,10 @@ fn put_stocks<S: Alter>(
     number: u32,
     region: &Region,
 ) -> Result<(), Error>
-    ensures { WritesRows S.Store market_table 2 (region_lines number region.now) result tx.old.conn tx.new.conn }
+    ensures { WritesRows S.Store market_table 2 (region_lines number region.now) result tx.old.conn
+        tx.new.conn }
 {
-    put_amounts(tx, Market { region: number }, region.stocks.iter())
+    put_amounts(tx, RegionMarkets { region: number }, region.stocks.iter())
 }
 
 /// Puts the rows of the stocks of all regions.
@@ -52,7 +53,8 @@ pub(crate) fn put_all_stocks<S: Alter>(
     tx: &mut Transaction<'_, S>,
     regions: Entries<'_, Region>,
 ) -> Result<(), Error>
-    ensures { WritesRows S.Store market_table 2 (all_stocks_lines regions.entry) result tx.old.conn tx.new.conn }
+    ensures { WritesRows S.Store market_table 2 (all_stocks_lines regions.entry) result tx.old.conn
+        tx.new.conn }
 {
     for (number, region) in regions {
         put_stocks(tx, number, region)?;

@@ -1,4 +1,4 @@
-//! A database that is opened again after a crash.
+//! Opens a database again after a crash.
 ghost use Rattle.std.specs.Prelude.{List, ℕ, ◌⊎◌, IfOk};
 ghost use Rattle.sqlite.specs.Held.{state};
 ghost use Rattle.sqlite.specs.State.{HasCleanDisk};
@@ -14,13 +14,18 @@ use std::alloc::Global;
 /// Opens what a crash left of the connection's database. What the connection held of a campaign is there again, its tables
 /// and the rows in them; where a writing was stopped by a fault, it is the campaign before or the one after. Memory: there is no
 /// memory to open it. Store: the disk fails. The database is then given up, and its files stay as they are.
-pub fn reopened<S: Alter + Reopen + Drop>(
+pub fn reopen_connection<S: Alter + Reopen + Drop>(
     alloc: Global,
     conn: Connection<S>,
 ) -> Result<Connection<S>, StoreFault>
     ensures found { IfOk result (Reopens S.Store conn) }
-    ensures kept { IfOk result (λ again. (text : List ℕ) (c : CampaignValue) → HoldsCampaign S.Store conn text c → HoldsCampaign S.Store again text c) }
-    ensures stopped { IfOk result (λ again. HasCleanDisk (state S.Store again) → (faults : ℕ) (text : List ℕ) (before after : CampaignValue) → Stops faults (state S.Store conn) text before after
+    ensures kept { IfOk result
+        (λ again. (text : List ℕ) (c : CampaignValue) → HoldsCampaign S.Store conn text c
+        → HoldsCampaign S.Store again text c) }
+    ensures stopped { IfOk result
+        (λ again. HasCleanDisk (state S.Store again)
+        → (faults : ℕ) (text : List ℕ) (before after : CampaignValue)
+        → Stops faults (state S.Store conn) text before after
         → Keeps (state S.Store again) text before ⊎ Keeps (state S.Store again) text after) }
 {
     let mut store = conn.into_store();

@@ -1,4 +1,4 @@
-//! One row of each table: put in, taken out, and all of them read.
+//! The tables, one module each: how a row is put, deleted and read.
 
 pub mod books;
 pub mod campaign;
@@ -13,4 +13,4 @@ pub(crate) mod stored;
 pub mod structure;
 pub mod unit;
 
-pub use stored::{Listed, Placed, Stored};
+pub use stored::{HasSelect, RowWithId, Stored};

@@ -1,6 +1,5 @@
 //! Whether the schema of a file begins with the tables of a campaign. See docs/FORMATS.md, "Tables".
-ghost use Rattle.std.specs.Prelude.{◌≡◌, ◌≤◌, [], length};
-ghost use Rattle.std.specs.Bool.{Decides};
+ghost use Rattle.std.specs.Prelude.{◌≡◌, ◌≤◌, [], length, ◌↔◌, IsTrue};
 ghost use Rattle.std.specs.List.{AllByRecursion};
 ghost use Rattle.atl_store.specs.UpgradeSteps.{IsJustOld};
 ghost use Rattle.atl_store.specs.Tables.{all_tables, all_indexes, AreTables, Begins, HasAll, HasTablesOf};
@@ -18,13 +17,13 @@ use sqlite_schema::schema::{Schema, Table};
 
 /// A table with no foreign key.
 fn is_free(found: &Table) -> bool
-    ensures { Decides result (found.now.references ≡ []) }
+    ensures { IsTrue result ↔ (found.now.references ≡ []) }
 {
     found.references.is_empty()
 }
 
 fn are_free(tables: &[Table]) -> bool
-    ensures { Decides result (AllByRecursion (λ t. t.references ≡ []) tables.now) }
+    ensures { IsTrue result ↔ (AllByRecursion (λ t. t.references ≡ []) tables.now) }
 {
     for table in tables {
         if !is_free(table) {
@@ -37,7 +36,7 @@ fn are_free(tables: &[Table]) -> bool
 /// So many of the tables of a campaign, and tables without a foreign key behind them.
 fn are_tables(tables: &[Table], count: usize) -> bool
     requires { count ≤ length all_tables }
-    ensures { Decides result (AreTables count tables.now) }
+    ensures { IsTrue result ↔ (AreTables count tables.now) }
 {
     tables.len() >= count && are_first_tables(tables, count) && are_free(&tables[count..])
 }
@@ -46,7 +45,7 @@ fn are_tables(tables: &[Table], count: usize) -> bool
 fn begins(schema: &Schema, tables: usize, keys: usize) -> bool
     requires tables { tables ≤ length all_tables }
     requires keys { keys ≤ length all_indexes }
-    ensures { Decides result (Begins tables keys schema.now) }
+    ensures { IsTrue result ↔ (Begins tables keys schema.now) }
 {
     if !are_tables(schema.tables.as_slice(), tables) {
         return false;
@@ -59,7 +58,7 @@ fn begins(schema: &Schema, tables: usize, keys: usize) -> bool
 
 /// Whether the schema begins with the tables of a format, as `has_all_tables` says.
 pub(crate) fn has_tables_of(schema: &Schema, format: Format) -> bool
-    ensures { Decides result (HasTablesOf format schema.now) }
+    ensures { IsTrue result ↔ (HasTablesOf format schema.now) }
 {
     match format {
         Format::First => begins(schema, FIRST_TABLES, FIRST_INDEXES),
@@ -69,7 +68,7 @@ pub(crate) fn has_tables_of(schema: &Schema, format: Format) -> bool
 
 /// Whether there are just the tables of the first format, and their indexes.
 pub(crate) fn is_just_old(schema: &Schema) -> bool
-    ensures { Decides result (IsJustOld schema.now) }
+    ensures { IsTrue result ↔ (IsJustOld schema.now) }
 {
     schema.tables.len() == FIRST_TABLES
         && schema.indexes.len() == FIRST_INDEXES
@@ -80,7 +79,7 @@ pub(crate) fn is_just_old(schema: &Schema) -> bool
 /// tables without a foreign key and indexes that make nothing of these unique may have come behind them; with a view or
 /// a trigger it does not. See docs/FORMATS.md, "Tables".
 pub fn has_all_tables(schema: &Schema) -> bool
-    ensures { Decides result (HasAll schema.now) }
+    ensures { IsTrue result ↔ (HasAll schema.now) }
 {
     begins(schema, TABLES, INDEXES)
 }

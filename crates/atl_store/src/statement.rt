@@ -12,7 +12,8 @@ pub(crate) fn run<S: Alter>(
     sql: &str,
     params: &[ValueRef<'_>],
 ) -> Result<(), Error>
-    ensures { Writes S.Store (Only sql.now (bound params.now)) (Runs sql.now (bound params.now)) result tx.old.conn tx.new.conn }
+    ensures { Writes S.Store (Only sql.now (bound params.now)) (Runs sql.now (bound params.now))
+        result tx.old.conn tx.new.conn }
 {
     tx.execute(sql, params)?;
     Ok(())

@@ -1,6 +1,5 @@
-//! How the tables are made, one after another: the text that makes each, and how it is found in a schema then.
-ghost use Rattle.std.specs.Prelude.{◌≡◌, ◌≤◌, [], length, map, slice_get, take};
-ghost use Rattle.std.specs.Bool.{Decides};
+//! The tables: the text that creates each, and how it is found in a schema.
+ghost use Rattle.std.specs.Prelude.{◌≡◌, ◌≤◌, [], length, map, slice_get, take, ◌↔◌, IsTrue};
 ghost use Rattle.atl_store.specs.Tables.{Markets, all_parts, all_tables, campaign_table, creation_of, faction_table};
 ghost use Rattle.atl_store.specs.OwnStatements.{Only, Creations};
 ghost use Rattle.atl_store.specs.Writes.{Writes, Runs};
@@ -17,7 +16,7 @@ use sqlite_schema::schema::{Kind, Table};
 /// How a table is made, and at which tree. Tables and the indexes of their keys take the trees of a file in the order in
 /// which they are made.
 #[derive(Drop, Clone, Copy)]
-pub(crate) struct Made {
+pub(crate) struct TableDefinition {
     text: &'static str,
     pub(crate) tree: u32,
     pub(crate) name: &'static [u8],
@@ -33,7 +32,7 @@ macro_rules! columns {
 
 // ---- the tables, with the places of what else is unique in their rows and the tree of its index
 
-const CAMPAIGN: Made = Made {
+const CAMPAIGN: TableDefinition = TableDefinition {
     text: "CREATE TABLE campaign (id INTEGER NOT NULL PRIMARY KEY CHECK (id = 1), format INTEGER NOT NULL, month INTEGER NOT NULL, next_faction INTEGER NOT NULL, next_unit INTEGER NOT NULL, next_structure INTEGER NOT NULL, pass TEXT NOT NULL, world TEXT NOT NULL) STRICT",
     tree: 0,
     name: b"campaign",
@@ -43,7 +42,7 @@ const CAMPAIGN: Made = Made {
     ),
 };
 
-pub(crate) const FACTION: Made = Made {
+pub(crate) const FACTION: TableDefinition = TableDefinition {
     text: "CREATE TABLE faction (number INTEGER NOT NULL PRIMARY KEY, joined_as TEXT NOT NULL UNIQUE, name TEXT NOT NULL, pass TEXT NOT NULL, gone INTEGER NOT NULL) STRICT",
     tree: 1,
     name: b"faction",
@@ -55,14 +54,14 @@ pub(crate) const FACTION_UNIQUE: [usize; 1] = [2];
 
 pub(crate) const FACTION_INDEX: u32 = 2;
 
-const REGION: Made = Made {
+const REGION: TableDefinition = TableDefinition {
     text: "CREATE TABLE region (number INTEGER NOT NULL PRIMARY KEY, peasants INTEGER NOT NULL, money INTEGER NOT NULL) STRICT",
     tree: 3,
     name: b"region",
     columns: columns!(Integer: b"number" b"peasants" b"money"),
 };
 
-const UNIT: Made = Made {
+const UNIT: TableDefinition = TableDefinition {
     text: "CREATE TABLE unit (number INTEGER NOT NULL PRIMARY KEY, faction INTEGER NOT NULL, name TEXT NOT NULL, region INTEGER NOT NULL, structure INTEGER NOT NULL, men INTEGER NOT NULL, money INTEGER NOT NULL, guard INTEGER NOT NULL) STRICT",
     tree: 4,
     name: b"unit",
@@ -71,7 +70,7 @@ const UNIT: Made = Made {
     ),
 };
 
-pub(crate) const HAS: Made = Made {
+pub(crate) const HAS: TableDefinition = TableDefinition {
     text: "CREATE TABLE has (unit INTEGER NOT NULL, sort INTEGER NOT NULL, thing INTEGER NOT NULL, amount INTEGER NOT NULL, PRIMARY KEY (unit, sort, thing)) STRICT",
     tree: 5,
     name: b"has",
@@ -83,28 +82,28 @@ pub(crate) const HAS_UNIQUE: [usize; 3] = [1, 2, 3];
 
 pub(crate) const HAS_INDEX: u32 = 6;
 
-const STRUCTURE: Made = Made {
+const STRUCTURE: TableDefinition = TableDefinition {
     text: "CREATE TABLE structure (number INTEGER NOT NULL PRIMARY KEY, kind INTEGER NOT NULL, name TEXT NOT NULL, region INTEGER NOT NULL, done INTEGER NOT NULL, owner INTEGER NOT NULL) STRICT",
     tree: 7,
     name: b"structure",
     columns: columns!(Integer: b"number" b"kind"; Text: b"name"; Integer: b"region" b"done" b"owner"),
 };
 
-const MAIL: Made = Made {
+const MAIL: TableDefinition = TableDefinition {
     text: "CREATE TABLE mail (faction INTEGER NOT NULL PRIMARY KEY, text BLOB NOT NULL) STRICT",
     tree: 8,
     name: b"mail",
     columns: columns!(Integer: b"faction"; Blob: b"text"),
 };
 
-const REPORT: Made = Made {
+const REPORT: TableDefinition = TableDefinition {
     text: "CREATE TABLE report (faction INTEGER NOT NULL PRIMARY KEY, text TEXT NOT NULL) STRICT",
     tree: 9,
     name: b"report",
     columns: columns!(Integer: b"faction"; Text: b"text"),
 };
 
-pub(crate) const BOOKS: Made = Made {
+pub(crate) const BOOKS: TableDefinition = TableDefinition {
     text: "CREATE TABLE books (entry INTEGER NOT NULL, thing INTEGER NOT NULL, amount INTEGER NOT NULL, PRIMARY KEY (entry, thing)) STRICT",
     tree: 10,
     name: b"books",
@@ -117,7 +116,7 @@ pub(crate) const BOOKS_UNIQUE: [usize; 2] = [1, 2];
 pub(crate) const BOOKS_INDEX: u32 = 11;
 
 /// The stocks of markets, which the first format hasn't.
-pub(crate) const MARKET: Made = Made {
+pub(crate) const MARKET: TableDefinition = TableDefinition {
     text: "CREATE TABLE market (region INTEGER NOT NULL, item INTEGER NOT NULL, stock INTEGER NOT NULL, PRIMARY KEY (region, item)) STRICT",
     tree: 12,
     name: b"market",
@@ -130,7 +129,7 @@ pub(crate) const MARKET_UNIQUE: [usize; 2] = [1, 2];
 pub(crate) const MARKET_INDEX: u32 = 13;
 
 /// All of them, in the order in which they are made.
-pub(crate) const ALL: [Made; 10] = [
+pub(crate) const ALL: [TableDefinition; 10] = [
     CAMPAIGN, FACTION, REGION, UNIT, HAS, STRUCTURE, MAIL, REPORT, BOOKS, MARKET,
 ];
 
@@ -148,7 +147,7 @@ pub(crate) const FIRST_INDEXES: usize = 3;
 
 /// The table of the campaign's own row, which has a check.
 fn is_campaign(found: &Table) -> bool
-    ensures { Decides result (found.now ≡ campaign_table) }
+    ensures { IsTrue result ↔ (found.now ≡ campaign_table) }
 {
     is_strict(found, &CAMPAIGN)
         && is_numbered(found)
@@ -158,7 +157,7 @@ fn is_campaign(found: &Table) -> bool
 
 /// The table of factions, of which no two joined under one name.
 fn is_faction(found: &Table) -> bool
-    ensures { Decides result (found.now ≡ faction_table) }
+    ensures { IsTrue result ↔ (found.now ≡ faction_table) }
 {
     is_strict(found, &FACTION)
         && is_numbered(found)
@@ -168,7 +167,7 @@ fn is_faction(found: &Table) -> bool
 
 /// Whether this is the table with this place among those of a campaign, in the order in which they are made.
 fn is_table(found: &Table, place: usize) -> bool
-    ensures { Decides result (slice_get all_tables place ≡ Some found.now) }
+    ensures { IsTrue result ↔ (slice_get all_tables place ≡ Some found.now) }
 {
     match place {
         0 => is_campaign(found),
@@ -188,7 +187,7 @@ fn is_table(found: &Table, place: usize) -> bool
 /// So many tables are the first that are made.
 pub(crate) fn are_first_tables(tables: &[Table], count: usize) -> bool
     requires { count ≤ length tables.now }
-    ensures { Decides result (take count tables.now ≡ take count all_tables) }
+    ensures { IsTrue result ↔ (take count tables.now ≡ take count all_tables) }
 {
     for place in 0..count {
         if !is_table(&tables[place], place) {
@@ -201,7 +200,10 @@ pub(crate) fn are_first_tables(tables: &[Table], count: usize) -> bool
 // ---- the tables are made
 
 /// Makes the tables of these texts, each with no row, where there is none.
-fn create_each<S: Alter>(tx: &mut Transaction<'_, S>, tables: &[Made]) -> Result<(), Error>
+fn create_each<S: Alter>(
+    tx: &mut Transaction<'_, S>,
+    tables: &[TableDefinition],
+) -> Result<(), Error>
     requires { map (λ t. t.text.now) tables.now ≡ map creation_of all_parts }
     ensures { Writes S.Store Creations (Inside IsBlank AreEmpty) result tx.old.conn tx.new.conn }
 {
@@ -220,7 +222,8 @@ pub(crate) fn create_tables<S: Alter>(tx: &mut Transaction<'_, S>) -> Result<(),
 
 /// Makes the table of the stocks of markets.
 pub(crate) fn create_market<S: Alter>(tx: &mut Transaction<'_, S>) -> Result<(), Error>
-    ensures { Writes S.Store (Only (creation_of Markets) []) (Runs (creation_of Markets) []) result tx.old.conn tx.new.conn }
+    ensures { Writes S.Store (Only (creation_of Markets) []) (Runs (creation_of Markets) []) result
+        tx.old.conn tx.new.conn }
 {
     run(tx, MARKET.text, &[])
 }

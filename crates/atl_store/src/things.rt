@@ -1,4 +1,4 @@
-//! The single items and skills of units that are marked, written row by row.
+//! Writes the marked single items and skills of units, row by row.
 ghost use Rattle.std.specs.Prelude.{◌≡◌};
 ghost use Rattle.std.specs.FinMap.{entries};
 ghost use Rattle.atl_store.specs.Rows.{amount_under};
@@ -8,21 +8,21 @@ ghost use Rattle.atl_store.specs.Inside.{Inside, HasTables};
 ghost use Rattle.atl_store.specs.Changing.{has_thing};
 ghost use Rattle.atl_store.specs.Rewriting.{RewritesThings, is_thing, is_of, marked_things};
 
-use crate::rows::has::{HasRow, Sort, drop_has, put_has};
+use crate::rows::has::{HasRow, ThingKind, drop_has, put_has};
 use atl_state::Campaign;
 use atl_tables::{Entries, Numbered};
 use sqlite::{Alter, Error, Transaction};
 
 /// How much a unit has of a thing; 0 where there is no unit.
-fn amount_of(campaign: &Campaign, unit: u32, sort: Sort, thing: u32) -> u32
+fn amount_of(campaign: &Campaign, unit: u32, sort: ThingKind, thing: u32) -> u32
     ensures { result ≡ amount_under campaign.now.value.units unit sort thing }
 {
     let Some(unit) = campaign.unit(unit) else {
         return 0;
     };
     match sort {
-        Sort::Item => unit.holding.amount(thing),
-        Sort::Skill => unit.holding.days_of(thing),
+        ThingKind::Item => unit.holding.amount(thing),
+        ThingKind::Skill => unit.holding.days_of(thing),
     }
 }
 
@@ -31,10 +31,12 @@ fn rewrite_thing<S: Alter>(
     tx: &mut Transaction<'_, S>,
     campaign: &Campaign,
     unit: u32,
-    sort: Sort,
+    sort: ThingKind,
     thing: u32,
 ) -> Result<(), Error>
-    ensures { Writes S.Store (OfChange campaign.now.value) (Inside HasTables (RewritesThings campaign.now.value sort (is_thing unit thing))) result tx.old.conn tx.new.conn }
+    ensures { Writes S.Store (OfChange campaign.now.value)
+        (Inside HasTables (RewritesThings campaign.now.value sort (is_thing unit thing))) result
+        tx.old.conn tx.new.conn }
 {
     let amount = amount_of(campaign, unit, sort, thing);
     if amount == 0 {
@@ -54,10 +56,12 @@ fn rewrite_things<S: Alter>(
     tx: &mut Transaction<'_, S>,
     campaign: &Campaign,
     unit: u32,
-    sort: Sort,
+    sort: ThingKind,
     things: &Numbered<()>,
 ) -> Result<(), Error>
-    ensures { Writes S.Store (OfChange campaign.now.value) (Inside HasTables (RewritesThings campaign.now.value sort (is_of unit things.now))) result tx.old.conn tx.new.conn }
+    ensures { Writes S.Store (OfChange campaign.now.value)
+        (Inside HasTables (RewritesThings campaign.now.value sort (is_of unit things.now))) result
+        tx.old.conn tx.new.conn }
 {
     for (thing, _mark) in things.iter() {
         rewrite_thing(tx, campaign, unit, sort, thing)?;
@@ -66,22 +70,24 @@ fn rewrite_things<S: Alter>(
 }
 
 /// The single things of a sort that are marked.
-fn marked_of(campaign: &Campaign, sort: Sort) -> Entries<'_, Numbered<()>>
+fn marked_of(campaign: &Campaign, sort: ThingKind) -> Entries<'_, Numbered<()>>
     ensures { result ≡ entries (marked_things campaign.now.marks sort) }
 {
     match sort {
-        Sort::Item => campaign.marked_items(),
-        Sort::Skill => campaign.marked_skills(),
+        ThingKind::Item => campaign.marked_items(),
+        ThingKind::Skill => campaign.marked_skills(),
     }
 }
 
 /// Puts or deletes the rows of the single things of a sort that are marked.
-pub(crate) fn rewrite_sort<S: Alter>(
+pub(crate) fn rewrite_kind<S: Alter>(
     tx: &mut Transaction<'_, S>,
     campaign: &Campaign,
-    sort: Sort,
+    sort: ThingKind,
 ) -> Result<(), Error>
-    ensures { Writes S.Store (OfChange campaign.now.value) (Inside HasTables (RewritesThings campaign.now.value sort (has_thing (marked_things campaign.now.marks sort)))) result tx.old.conn tx.new.conn }
+    ensures { Writes S.Store (OfChange campaign.now.value)
+        (Inside HasTables (RewritesThings campaign.now.value sort
+        (has_thing (marked_things campaign.now.marks sort)))) result tx.old.conn tx.new.conn }
 {
     for (unit, things) in marked_of(campaign, sort) {
         rewrite_things(tx, campaign, unit, sort, things)?;

@@ -1,4 +1,4 @@
-//! A file of the first format is upgraded.
+//! Upgrades a file of the first format. See docs/RULES.md, "Upgrading".
 ghost use Rattle.std.specs.Prelude.{◌≡◌, false, IfOk, IfErr, OnOk};
 ghost use Rattle.sqlite.specs.Held.{state};
 ghost use Rattle.sqlite.specs.State.{HasCleanDisk};
@@ -10,8 +10,8 @@ ghost use Rattle.atl_store.specs.UpgradeSteps.{IsOld, WritesUpgrade};
 ghost use Rattle.atl_store.specs.Upgrading.{FailsCheck, IsReady, RefusesToUpgrade, Upgrades};
 ghost use Rattle.atl_store.specs.Writes.{Writes, Transacts};
 
+use crate::campaign_row::upgrade_campaign_row;
 use crate::fault::UpgradeFault;
-use crate::head::upgrade_head;
 use crate::loading::load_as;
 use crate::schema::is_just_old;
 use crate::tables::create_market;
@@ -26,10 +26,11 @@ fn put_upgrade<S: Alter>(
     text: &str,
     campaign: &Campaign,
 ) -> Result<(), Error>
-    ensures { Writes S.Store (OfUpgrade text.now campaign.now.value) (Inside IsOld (WritesUpgrade text.now campaign.now.value)) result tx.old.conn tx.new.conn }
+    ensures { Writes S.Store (OfUpgrade text.now campaign.now.value)
+        (Inside IsOld (WritesUpgrade text.now campaign.now.value)) result tx.old.conn tx.new.conn }
 {
     create_market(tx)?;
-    upgrade_head(tx, campaign, text)
+    upgrade_campaign_row(tx, campaign, text)
 }
 
 /// The transaction of an upgrade.
@@ -39,7 +40,8 @@ fn write_upgrade<S: Alter>(
     campaign: &Campaign,
 ) -> Result<(), Error>
     requires { conn.old.in_transaction ≡ false }
-    ensures { Transacts S.Store (OfUpgrade text.now campaign.now.value) IsOld (WritesUpgrade text.now campaign.now.value) result conn.old conn.new }
+    ensures { Transacts S.Store (OfUpgrade text.now campaign.now.value) IsOld
+        (WritesUpgrade text.now campaign.now.value) result conn.old conn.new }
 {
     let mut tx = conn.transaction();
     put_upgrade(&mut tx, text, campaign)?;
@@ -47,13 +49,15 @@ fn write_upgrade<S: Alter>(
 }
 
 /// The world of the new text with the campaign that the tables hold, where the two worlds differ in markets alone.
-fn prepared<S: Alter>(
+fn world_and_campaign<S: Alter>(
     alloc: Global,
     conn: &mut Connection<S>,
     new_world: &str,
 ) -> Result<(World, Campaign), UpgradeFault>
-    ensures ok { IfOk result (λ both. IsReady S.Store new_world.now conn.old conn.new both.0 both.1) }
-    ensures err { HasCleanDisk (state S.Store conn.new) → IfErr result (FailsCheck S.Store new_world.now conn.old conn.new) }
+    ensures ok { IfOk result
+        (λ both. IsReady S.Store new_world.now conn.old conn.new both.0 both.1) }
+    ensures err { HasCleanDisk (state S.Store conn.new)
+        → IfErr result (FailsCheck S.Store new_world.now conn.old conn.new) }
     ensures alone { LeavesAlone S.Store conn.old conn.new }
     ensures idle { OnOk result (conn.new.in_transaction ≡ false) }
 {
@@ -83,11 +87,12 @@ pub fn upgrade<S: Alter>(
     conn: &mut Connection<S>,
     new_world: &str,
 ) -> Result<(World, Campaign), UpgradeFault>
-    ensures ok { IfOk result (λ both. Upgrades S.Store new_world.now conn.old conn.new both.0 both.1) }
+    ensures ok { IfOk result
+        (λ both. Upgrades S.Store new_world.now conn.old conn.new both.0 both.1) }
     ensures err { IfErr result (RefusesToUpgrade S.Store new_world.now conn.old conn.new) }
     ensures later { IsLater (state S.Store conn.old) (state S.Store conn.new) }
 {
-    let (world, campaign) = prepared(alloc, conn, new_world)?;
+    let (world, campaign) = world_and_campaign(alloc, conn, new_world)?;
     if !is_just_old(conn.schema()) {
         return Err(UpgradeFault::Store);
     }

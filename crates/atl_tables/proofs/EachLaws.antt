@@ -3,9 +3,9 @@ use Rattle.std.proofs.Common.{◌≡◌, ℕ, zero, suc, ◌+◌, ◌<◌, List,
 use Rattle.std.proofs.lemmas.List.{drop_more}
 use Rattle.atl_tables.specs.declared.fault.WorldFault.{WorldFault}
 use Rattle.atl_tables.specs.Each.{each}
-use Rattle.atl_tables.specs.Places.{EachPlace}
+use Rattle.atl_tables.specs.EachIndex.{EachIndex}
 use Rattle.atl_tables.specs.Faults.{Conditions, first_fault}
-use Rattle.atl_tables.specs.Given.{Stops}
+use Rattle.atl_tables.specs.Results.{Stops}
 use Rattle.atl_tables.proofs.FaultLaws.{passes, stops_on}
 
 module _ {A : Type 0} (conditions : ℕ → A → Conditions) where
@@ -30,7 +30,7 @@ module _ {A : Type 0} (conditions : ℕ → A → Conditions) where
 pub mapped_on : {A B : Type 0} (f : A → B) (front : List B) (x : A) (xs : List A) (y : B) (total : List B) → front ++ map f (x ∷ xs) ≡ total → f x ≡ y → (front ++ y ∷ []) ++ map f xs ≡ total
 mapped_on f front x xs y total so_far one = append_assoc front (y ∷ []) (map f xs) ∙ ap (λ z. front ++ z ∷ map f xs) (sym one) ∙ so_far
 
-pub place_push : {A : Type 0} (P : ℕ → A → Type 0) (xs : List A) (y : A) → EachPlace P xs → P (length xs) y → EachPlace P (xs ++ y ∷ [])
+pub place_push : {A : Type 0} (P : ℕ → A → Type 0) (xs : List A) (y : A) → EachIndex P xs → P (length xs) y → EachIndex P (xs ++ y ∷ [])
 place_push P [] y all last zero x h = let same : y ≡ x = cc in subst (P 0) same last
 place_push P [] y all last (suc i) x h = absurd (cc)
 place_push P (z ∷ xs) y all last zero x h = all zero x h

@@ -6,8 +6,8 @@ use Rattle.toml.specs.declared.value.Value.{Value}
 use Rattle.toml.proofs.Views.{items_view-drop}
 use Rattle.atl_tables.specs.declared.fault.WorldFault.{WorldFault}
 use Rattle.atl_tables.specs.Faults.{Conditions, first_fault}
-use Rattle.atl_tables.specs.Given.{Stops}
-use Rattle.atl_tables.specs.Keys.{indexed}
+use Rattle.atl_tables.specs.Results.{Stops}
+use Rattle.atl_tables.specs.Keys.{element_path}
 use Rattle.atl_tables.specs.Arrays.{element_table, element_conditions, elements_conditions, elements_of}
 use Rattle.atl_tables.proofs.FaultLaws.{passes, stops_on}
 
@@ -16,13 +16,13 @@ pub from_here : (vs : List Value) (i : ℕ) (v : Value) → i < length vs → v 
 from_here vs i v h e = items_view-drop vs i v h ∙ ap (λ (x : Value). item (view x) (items_view (drop (i + 1) vs))) (sym e)
 
 module _ (conditions : List ℕ → Members → Conditions) (key : List ℕ) (i : ℕ) (d : Data) (ds : Items) (total : Option WorldFault) where
-  pub goes_on : first_fault (elements_conditions conditions key i (item d ds)) ≡ total → first_fault (element_conditions conditions (indexed key i) d) ≡ None → first_fault (elements_conditions conditions key (i + 1) ds) ≡ total
-  goes_on so_far one = sym (passes (element_conditions conditions (indexed key i) d) (elements_conditions conditions key (i + 1) ds) one) ∙ so_far
+  pub goes_on : first_fault (elements_conditions conditions key i (item d ds)) ≡ total → first_fault (element_conditions conditions (element_path key i) d) ≡ None → first_fault (elements_conditions conditions key (i + 1) ds) ≡ total
+  goes_on so_far one = sym (passes (element_conditions conditions (element_path key i) d) (elements_conditions conditions key (i + 1) ds) one) ∙ so_far
 
-  pub ends : (e : WorldFault) → first_fault (elements_conditions conditions key i (item d ds)) ≡ total → Stops e (first_fault (element_conditions conditions (indexed key i) d)) → Stops e total
-  ends e so_far one = subst (Stops e) so_far (stops_on e (element_conditions conditions (indexed key i) d) (elements_conditions conditions key (i + 1) ds) one)
+  pub ends : (e : WorldFault) → first_fault (elements_conditions conditions key i (item d ds)) ≡ total → Stops e (first_fault (element_conditions conditions (element_path key i) d)) → Stops e total
+  ends e so_far one = subst (Stops e) so_far (stops_on e (element_conditions conditions (element_path key i) d) (elements_conditions conditions key (i + 1) ds) one)
 
 pub one_more : {A : Type 0} (record_of : List ℕ → Members → A) (key : List ℕ) (i : ℕ) (d : Data) (ds : Items) (front : List A) (x : A) (total : List A) → front ++ elements_of record_of key i (item d ds) ≡ total
-    → record_of (indexed key i) (element_table (indexed key i) d) ≡ x → (front ++ x ∷ []) ++ elements_of record_of key (i + 1) ds ≡ total
+    → record_of (element_path key i) (element_table (element_path key i) d) ≡ x → (front ++ x ∷ []) ++ elements_of record_of key (i + 1) ds ≡ total
 one_more record_of key i d ds front x total so_far one =
     append_assoc front (x ∷ []) (elements_of record_of key (i + 1) ds) ∙ ap (λ y. front ++ y ∷ elements_of record_of key (i + 1) ds) (sym one) ∙ so_far

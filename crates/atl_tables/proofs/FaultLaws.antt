@@ -5,7 +5,7 @@ use Rattle.std.proofs.lemmas.Result.{err_from_is_err_and}
 use Rattle.atl_tables.specs.declared.fault.WorldFault.{WorldFault}
 use Rattle.atl_tables.specs.declared.fault.WorldFault.TheVariants.{Memory}
 use Rattle.atl_tables.specs.Faults.{Conditions, fault_of, first_fault, unless, Reads}
-use Rattle.atl_tables.specs.Given.{Stops, Gives}
+use Rattle.atl_tables.specs.Results.{Stops, Gives}
 
 -- a reader that failed stops all that comes after it
 pub stops_first : {X Y : Type 0} (view : X → Y) (e : WorldFault) (r : Result Y WorldFault) (fs : Conditions) → Reads view (Err e) r → Stops e (first_fault (fault_of r ∷ fs))

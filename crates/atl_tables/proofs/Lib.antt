@@ -15,10 +15,10 @@ pub mod FaultLaws
 pub mod ElementLaws
 pub mod EachLaws
 pub mod OutputLaws
-pub mod PlacedLaws
+pub mod HasNumberLaws
 pub mod RegionLaws
 pub mod SeenLaws
-pub mod TwinLaws
+pub mod DuplicateLaws
 pub mod WorldLaws
 pub mod OldWorldLaws
 pub mod SameLaws

@@ -1,4 +1,4 @@
--- Marked numbers as a rising list.
+-- Marked numbers as a sorted list.
 use Rattle.std.proofs.Common.{◌≡◌, ℕ, suc, ◌+◌, ◌-◌, ◌<◌, ◌≤◌, Bool, true, false, cond, ◌||◌, List, [], ◌∷◌, length, get_or, refl, sym, ap, ◌∙◌, inl, inr, arith}
 use Rattle.std.specs.List.{list_any, insert, remove, AllByRecursion}
 use Rattle.std.specs.Prelude.{Result, Ok, Err, IfOk, IfErr}
@@ -12,7 +12,7 @@ use Rattle.std.proofs.lemmas.Map.Keys.{sorted_from_strictly_increasing, below_fr
 use Rattle.std.proofs.lemmas.List.{get_or_default}
 use Rattle.std.proofs.lemmas.List.Edits.{length-insert, length-remove, get_or-insert_below, get_or-insert_at, get_or-insert_above, get_or-remove_below, get_or-remove_above}
 use Rattle.std.proofs.lemmas.List.Sorted.{IsPermutation-insert, IsPermutation-remove, list_any-IsPermutation, searched}
-use Rattle.atl_tables.specs.Rising.{Stands, Belongs}
+use Rattle.atl_tables.specs.SortedNumbers.{IsAt, BelongsAt}
 use Rattle.atl_tables.proofs.SetLaws.{same, insert_twice, insert_undone, contains_inserted}
 
 abbrev IsRising : List ℕ → Type 0
@@ -22,7 +22,7 @@ by_cases : {P : Type 0} (a b : ℕ) → (a ≡ b → P) → (a < b → P) → (b
 by_cases a b alike less more = elim (cases_order a b) [ inl e ↦ alike e | inr r ↦ elim r [ inl l ↦ less l | inr m ↦ more m ] ]
 
 -- ---- a list stays rising
-pub rising-insert : (xs : List ℕ) (n i : ℕ) → IsRising xs → Belongs xs n i → IsRising (insert xs i n)
+pub rising-insert : (xs : List ℕ) (n i : ℕ) → IsRising xs → BelongsAt xs n i → IsRising (insert xs i n)
 rising-insert xs n i s b = sorted_from_strictly_increasing (insert xs i n) (λ k l.
     let size : length (insert xs i n) ≡ length xs + 1 = length-insert xs i n b.within in
     let later : (j : ℕ) → i < j → get_or (insert xs i n) j 0 ≡ get_or xs (j - 1) 0 =
@@ -96,23 +96,23 @@ moved xs ys p = same _ _ (λ q. set.contains-from_list nat_cmp_total xs q ∙ li
 pub from_list-insert : (xs : List ℕ) (n i : ℕ) → set.from_list {R = nat_cmp} (insert xs i n) ≡ set.insert (set.from_list xs) n
 from_list-insert xs n i = sym (moved (n ∷ xs) (insert xs i n) (IsPermutation-insert xs i n))
 
-from_list-put_back : (xs : List ℕ) (n i : ℕ) → Stands xs n i → set.from_list {R = nat_cmp} xs ≡ set.insert (set.from_list (remove xs i)) n
+from_list-put_back : (xs : List ℕ) (n i : ℕ) → IsAt xs n i → set.from_list {R = nat_cmp} xs ≡ set.insert (set.from_list (remove xs i)) n
 from_list-put_back xs n i h = moved xs (n ∷ remove xs i) (IsPermutation-remove xs i n h.within (sym (get_or_default xs i n 0 h.within ∙ h.is)))
 
-pub contains-stands : (xs : List ℕ) (n i : ℕ) → Stands xs n i → set.contains {R = nat_cmp} (set.from_list xs) n ≡ true
+pub contains-stands : (xs : List ℕ) (n i : ℕ) → IsAt xs n i → set.contains {R = nat_cmp} (set.from_list xs) n ≡ true
 contains-stands xs n i h = ap (λ s. set.contains s n) (from_list-put_back xs n i h) ∙ contains_inserted (set.from_list (remove xs i)) n
 
 -- with the number there would be one more
-pub len-belongs : (xs : List ℕ) (n i : ℕ) → IsRising xs → Belongs xs n i → set.len {R = nat_cmp} (set.insert (set.from_list xs) n) ≡ length xs + 1
+pub len-belongs : (xs : List ℕ) (n i : ℕ) → IsRising xs → BelongsAt xs n i → set.len {R = nat_cmp} (set.insert (set.from_list xs) n) ≡ length xs + 1
 len-belongs xs n i s b = ap set.len (sym (from_list-insert xs n i)) ∙ len-rising (insert xs i n) (rising-insert xs n i s b) ∙ length-insert xs i n b.within
 
-pub contains-belongs : (xs : List ℕ) (n i : ℕ) → IsRising xs → Belongs xs n i → set.contains {R = nat_cmp} (set.from_list xs) n ≡ false
+pub contains-belongs : (xs : List ℕ) (n i : ℕ) → IsRising xs → BelongsAt xs n i → set.contains {R = nat_cmp} (set.from_list xs) n ≡ false
 contains-belongs xs n i s b = false_from_ne_true _ (λ e.
     let more = len-belongs xs n i s b in
     let as_many : set.len {R = nat_cmp} (set.insert (set.from_list xs) n) ≡ length xs = ap set.len (insert_twice (set.from_list xs) n e) ∙ len-rising xs s in
     omega (arith, more, as_many))
 
-pub from_list-remove : (xs : List ℕ) (n i : ℕ) → IsRising xs → Stands xs n i → set.from_list {R = nat_cmp} (remove xs i) ≡ set.remove (set.from_list xs) n
+pub from_list-remove : (xs : List ℕ) (n i : ℕ) → IsRising xs → IsAt xs n i → set.from_list {R = nat_cmp} (remove xs i) ≡ set.remove (set.from_list xs) n
 from_list-remove xs n i s h =
     let back = from_list-put_back xs n i h in
     let gone : set.contains {R = nat_cmp} (set.from_list (remove xs i)) n ≡ false = false_from_ne_true _ (λ e.
@@ -131,10 +131,10 @@ rising-empty = tt
 not_falling : (xs : List ℕ) → IsRising xs → (i j : ℕ) → i ≤ j → j < length xs → get_or xs i 0 ≤ get_or xs j 0
 not_falling xs s i j l m = non_decreasing_from_sorted xs s i j 0 l m
 
-pub searched-found : (xs : List ℕ) (n : ℕ) (r : Result ℕ ℕ) → IsRising xs → IsBinarySearchResult (λ y. nat_cmp y n) xs r → IfOk r (λ i. Stands xs n i)
+pub searched-found : (xs : List ℕ) (n : ℕ) (r : Result ℕ ℕ) → IsRising xs → IsBinarySearchResult (λ y. nat_cmp y n) xs r → IfOk r (λ i. IsAt xs n i)
 searched-found xs n (Ok i) s h = let found = searched xs n (Ok i) h (not_falling xs s) in record { within = found.0; is = found.1 }
 searched-found xs n (Err i) s h = tt
 
-pub searched-missing : (xs : List ℕ) (n : ℕ) (r : Result ℕ ℕ) → IsRising xs → IsBinarySearchResult (λ y. nat_cmp y n) xs r → IfErr r (λ i. Belongs xs n i)
+pub searched-missing : (xs : List ℕ) (n : ℕ) (r : Result ℕ ℕ) → IsRising xs → IsBinarySearchResult (λ y. nat_cmp y n) xs r → IfErr r (λ i. BelongsAt xs n i)
 searched-missing xs n (Ok i) s h = tt
 searched-missing xs n (Err i) s h = let missing = searched xs n (Err i) h (not_falling xs s) in record { within = missing.0; before = missing.1; behind = missing.2 }

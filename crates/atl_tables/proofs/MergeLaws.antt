@@ -1,4 +1,4 @@
--- Two rising lists as one.
+-- Two sorted lists as one.
 use Rattle.std.proofs.Common.{◌≡◌, ℕ, suc, ◌+◌, ◌-◌, ◌<◌, ◌≤◌, Bool, true, false, ◌||◌, List, [], ◌∷◌, ◌++◌, length, get_or, take, drop, set, Option, refl, sym, ap, subst, ◌∙◌, inl, inr, arith}
 use Rattle.std.specs.Prelude.{IsTrue}
 use Rattle.std.proofs.lemmas.Bool.{cases_order, false≢true}
@@ -147,7 +147,7 @@ all_under : (xs : List ℕ) (n : ℕ) → ((k : ℕ) → k < length xs → get_o
 all_under [] n h = tt
 all_under (x ∷ xs) n h = (sym (nat_cmp_is x n Less (h 0 (omega arith))), all_under xs n (λ k l. h (suc k) (omega (arith, l))))
 
--- the first of a rising list are under what the last of them is under
+-- the first of a sorted list are under what the last of them is under
 pub under_last : (xs : List ℕ) (count n : ℕ) → IsRising xs → count ≤ length xs → (0 < count → get_or xs (count - 1) 0 < n) → Under (take count xs) n
 under_last xs count n s l h = all_under (take count xs) n (λ k m.
     let within : k < count = omega (arith, m, length-take-le count xs l) in

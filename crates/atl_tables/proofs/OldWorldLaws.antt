@@ -6,7 +6,7 @@ use Rattle.std.specs.Ordering.{nat_cmp}
 use Rattle.toml.specs.Data.{Members}
 use Rattle.toml.specs.Parse.{parse_document}
 use Rattle.atl_tables.specs.Faults.{first_fault, unless}
-use Rattle.atl_tables.specs.Places.{EachPlace}
+use Rattle.atl_tables.specs.EachIndex.{EachIndex}
 use Rattle.atl_tables.specs.OldWorlds.{OldWorldsAreBare}
 use Rattle.atl_tables.specs.Worlds.{WorldValue, without_market, without_markets}
 use Rattle.atl_tables.specs.RegionTable.{as_draft, region_of}
@@ -15,10 +15,10 @@ use Rattle.atl_tables.specs.World.{conditions, world_by, world_of_tables, region
 use Rattle.atl_tables.specs.declared.fault.WorldFault.{WorldFault}
 use Rattle.atl_tables.specs.declared.format.Format.TheVariants.{First}
 use Rattle.atl_tables.specs.declared.region_table.OldRegion.{OldRegion}
-use Rattle.atl_tables.specs.declared.tables.Tables.{Tables}
+use Rattle.atl_tables.specs.declared.world_draft.WorldDraft.{WorldDraft}
 use Rattle.atl_tables.specs.declared.world.RegionPlan.{RegionPlan}
 use Rattle.atl_tables.proofs.MadeLaws.{get-mapped}
-use Rattle.atl_tables.proofs.PlacedLaws.{at_number}
+use Rattle.atl_tables.proofs.HasNumberLaws.{at_number}
 
 unchanged : {V : Type 0} (f : V → V) (o : Option V) → ((v : V) → o ≡ Some v → f v ≡ v) → option_map f o ≡ o
 unchanged f None same = refl
@@ -28,8 +28,8 @@ unchanged f (Some v) same = ap Some (same v refl)
 mapped_same : {V : Type 0} (f : V → V) (m : FinMap nat_cmp V) → ((n : ℕ) (v : V) → get m n ≡ Some v → f v ≡ v) → mapped f m ≡ m
 mapped_same f m same = same_map nat_cmp_total nat_cmp-IsAntisymmetric _ _ (λ n. get-mapped f m n ∙ unchanged f (get m n) (same n))
 
-module _ (all : Tables) where
-  bare_plans : (rs : List OldRegion) → EachPlace (λ i p. without_market p ≡ p) (map (region_of all) (map as_draft rs))
+module _ (all : WorldDraft) where
+  bare_plans : (rs : List OldRegion) → EachIndex (λ i p. without_market p ≡ p) (map (region_of all) (map as_draft rs))
   unfolding region_of
   bare_plans [] i p h = absurd (cc)
   bare_plans (r ∷ rs) zero p h = let same : region_of all (as_draft r) ≡ p = cc in subst (λ (q : RegionPlan). without_market q ≡ q) same refl
@@ -38,7 +38,7 @@ module _ (all : Tables) where
   bare : (rs : List OldRegion) → all.regions ≡ map as_draft rs → without_markets (world_of_tables all) ≡ world_of_tables all
   unfolding world_of_tables regions_of
   bare rs read =
-      let plans = subst (λ ds. EachPlace (λ i p. without_market p ≡ p) (map (region_of all) ds)) (sym read) (bare_plans rs) in
+      let plans = subst (λ ds. EachIndex (λ i p. without_market p ≡ p) (map (region_of all) ds)) (sym read) (bare_plans rs) in
       ap (λ m. record (world_of_tables all) { regions = m }) (mapped_same without_market (regions_of all) (at_number (λ (p : RegionPlan). p.number) (λ n p. without_market p ≡ p) (map (region_of all) all.regions) plans))
 
 given : (fault : Option WorldFault) (x w : WorldValue) → unless fault x ≡ Ok w → x ≡ w

@@ -8,7 +8,7 @@ use Rattle.std.proofs.lemmas.List.Folds.{list_any_more}
 use Rattle.atl_tables.specs.declared.region_table.RegionDraft.{RegionDraft}
 use Rattle.atl_tables.specs.declared.fault.WorldFault.TheVariants.{TwoNames}
 use Rattle.atl_tables.specs.Faults.{first_fault}
-use Rattle.atl_tables.specs.Keys.{path, indexed}
+use Rattle.atl_tables.specs.Keys.{path, element_path}
 use Rattle.atl_tables.specs.Regions.{has_number, twin_number_at}
 
 is_some-put : {V : Type 0} (v : V) (b : Bool) (o : Option V) → is_some (cond b (Some v) o) ≡ (is_some o || b)
@@ -27,7 +27,7 @@ seen_more m v ds i d below here seen n =
     ∙ sym (list_any_more (λ e. n == e.place.number) ds i d below)
 
 -- what the map says of an element
-pub by_map : (all : List RegionDraft) (i : ℕ) (d : RegionDraft) (b : Bool) → has_number d.place.number (take i all) ≡ b → first_fault (twin_number_at all i d) ≡ cond b (Some (TwoNames (path (indexed (codes "region") i) (codes "number")))) None
+pub by_map : (all : List RegionDraft) (i : ℕ) (d : RegionDraft) (b : Bool) → has_number d.place.number (take i all) ≡ b → first_fault (twin_number_at all i d) ≡ cond b (Some (TwoNames (path (element_path (codes "region") i) (codes "number")))) None
 unfolding twin_number_at
 by_map all i d true h = rw h
 by_map all i d false h = rw h

@@ -8,7 +8,7 @@ use Rattle.std.specs.List.{list_any}
 use Rattle.std.specs.String.{string_bytes, string_cmp}
 use Rattle.std.specs.declared.string.String.{String}
 use Rattle.atl_tables.specs.Names.{same_name}
-use Rattle.atl_tables.specs.Seen.{has_name, HasNames}
+use Rattle.atl_tables.specs.SeenNames.{has_name, HasNames}
 
 or_of : (b there : Bool) → cond b true there ≡ (there || b)
 or_of true true = refl

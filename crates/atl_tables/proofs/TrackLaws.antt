@@ -8,8 +8,8 @@ use Rattle.std.specs.declared.cmp.Ordering.TheVariants.{Less, Equal, Greater}
 use Rattle.std.specs.Cmp.{nat_cmp_total}
 use Rattle.std.specs.FinMap.{FinMap, get, entries, insert, remove, empty, get-empty, get-insert, get-remove, same_map, keys, len, len-entries, len-empty, contains_key-keys, nat_cmp-IsAntisymmetric}
 use Rattle.std.specs.FinSet as set
-use Rattle.atl_tables.specs.Changing.{Changing}
-use Rattle.atl_tables.specs.Marked.{held}
+use Rattle.atl_tables.specs.MarkedMaps.{MarkedMapValue}
+use Rattle.atl_tables.specs.RoomySets.{held}
 use Rattle.atl_tables.specs.Tracking.{marked_with, with_value, without_value_at, taken_out}
 pub use Rattle.atl_tables.proofs.GeneralLaws.{is_true}
 use Rattle.atl_tables.proofs.GeneralLaws.{key_itself, same_key}
@@ -141,21 +141,21 @@ module _ {V : Type 0} where
 
   -- ---- values taken out
 
-  same_parts : (v w : FinMap nat_cmp V) (m n : set.FinSet nat_cmp) → v ≡ w → m ≡ n → ◌≡◌ {A = Changing V} (record { values = v; marks = m }) (record { values = w; marks = n })
+  same_parts : (v w : FinMap nat_cmp V) (m n : set.FinSet nat_cmp) → v ≡ w → m ≡ n → ◌≡◌ {A = MarkedMapValue V} (record { values = v; marks = m }) (record { values = w; marks = n })
   same_parts v w m n p q = λ i. record { values = p i; marks = q i }
 
-  pub without_value_is : (c : Changing V) (n : ℕ) (o : Option V) → get c.values n ≡ o → ◌≡◌ {A = Changing V} (record { values = remove c.values n; marks = marked_with c.marks n o }) (without_value_at c n o)
+  pub without_value_is : (c : MarkedMapValue V) (n : ℕ) (o : Option V) → get c.values n ≡ o → ◌≡◌ {A = MarkedMapValue V} (record { values = remove c.values n; marks = marked_with c.marks n o }) (without_value_at c n o)
   without_value_is c n None e = same_parts _ _ _ _ (remove_none c.values n e) refl
   without_value_is c n (Some x) e = refl
 
-  undone : (c : Changing V) (n : ℕ) (x : V) (b : Bool) → get c.values n ≡ None → set.contains c.marks n ≡ b → taken_out (with_value c n x) n b ≡ c
+  undone : (c : MarkedMapValue V) (n : ℕ) (x : V) (b : Bool) → get c.values n ≡ None → set.contains c.marks n ≡ b → taken_out (with_value c n x) n b ≡ c
   undone c n x true fresh h =
       ap (without_value_at (with_value c n x) n) (there_itself c.values n x)
       ∙ same_parts _ _ _ _ (taken_back c.values n x fresh) (insert_twice (set.insert c.marks n) n (contains_inserted c.marks n) ∙ insert_twice c.marks n h)
   undone c n x false fresh h = same_parts _ _ _ _ (taken_back c.values n x fresh) (insert_undone c.marks n h)
 
   -- what was put in and taken out again
-  pub taken_out-undone : (c : Changing V) (n : ℕ) (x : V) → get c.values n ≡ None → taken_out (with_value c n x) n (set.contains c.marks n) ≡ c
+  pub taken_out-undone : (c : MarkedMapValue V) (n : ℕ) (x : V) → get c.values n ≡ None → taken_out (with_value c n x) n (set.contains c.marks n) ≡ c
   taken_out-undone c n x fresh = undone c n x (set.contains c.marks n) fresh refl
 
 -- nothing there, and nothing marked

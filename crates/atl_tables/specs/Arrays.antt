@@ -1,8 +1,8 @@
--- Tables in an array, one after the other.
+-- How an array of tables is read, element by element.
 use Rattle.std.specs.Prelude.{ℕ, ◌+◌, List, [], ◌∷◌, ◌++◌, Result}
 use Rattle.toml.specs.Data.{Data, Items, no_items, item, Members, no_members, as_table}
 use Rattle.atl_tables.specs.Faults.{Conditions, fault_of, value_or}
-use Rattle.atl_tables.specs.Keys.{typed, indexed}
+use Rattle.atl_tables.specs.Keys.{typed, element_path}
 use Rattle.atl_tables.specs.declared.fault.WorldFault.{WorldFault}
 
 -- the table of an element, or an empty one
@@ -15,11 +15,11 @@ element_conditions conditions at d = fault_of (typed at (as_table d)) ∷ condit
 -- the conditions on all elements from the i-th on, and what these elements are
 abbrev pub elements_conditions : (List ℕ → Members → Conditions) → List ℕ → ℕ → Items → Conditions
 elements_conditions conditions key i no_items = []
-elements_conditions conditions key i (item d ds) = element_conditions conditions (indexed key i) d ++ elements_conditions conditions key (i + 1) ds
+elements_conditions conditions key i (item d ds) = element_conditions conditions (element_path key i) d ++ elements_conditions conditions key (i + 1) ds
 
 abbrev pub elements_of : {A : Type 0} → (List ℕ → Members → A) → List ℕ → ℕ → Items → List A
 elements_of record_of key i no_items = []
-elements_of record_of key i (item d ds) = record_of (indexed key i) (element_table (indexed key i) d) ∷ elements_of record_of key (i + 1) ds
+elements_of record_of key i (item d ds) = record_of (element_path key i) (element_table (element_path key i) d) ∷ elements_of record_of key (i + 1) ds
 
 -- an array, by what stands under its key
 unfoldable pub list_conditions : (List ℕ → Members → Conditions) → List ℕ → Result Items WorldFault → Conditions

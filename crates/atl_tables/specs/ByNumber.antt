@@ -1,4 +1,4 @@
--- What stands in a world under a number.
+-- Looks up parts of a world by number: terrains, neighbours, markets, kinds and fees.
 use Rattle.std.specs.Prelude.{ℕ, Bool, false, Option, option_and_then}
 use Rattle.std.specs.FinMap.{get}
 use Rattle.std.specs.List.{slice_get}

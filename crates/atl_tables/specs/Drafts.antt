@@ -5,21 +5,21 @@ use Rattle.atl_tables.specs.Limits.{most_terrains, most_items, most_skills, most
 use Rattle.atl_tables.specs.Names.{name_ok, NamesDiffer}
 use Rattle.atl_tables.specs.Worlds.{IsSkill}
 use Rattle.atl_tables.specs.declared.item_table.ItemDraft.{ItemDraft}
-use Rattle.atl_tables.specs.declared.item_table.Making.{Making}
+use Rattle.atl_tables.specs.declared.item_table.Recipe.{Recipe}
 use Rattle.atl_tables.specs.declared.kind_table.Building.{Building}
 use Rattle.atl_tables.specs.declared.kind_table.KindDraft.{KindDraft}
 use Rattle.atl_tables.specs.declared.kind_table.Purpose.{Purpose}
 use Rattle.atl_tables.specs.declared.market_table.MarketDraft.{MarketDraft}
 use Rattle.atl_tables.specs.declared.output_table.Output.{Output}
-use Rattle.atl_tables.specs.declared.reading.Things.{Things}
+use Rattle.atl_tables.specs.declared.reading.ThingDrafts.{ThingDrafts}
 use Rattle.atl_tables.specs.declared.region_table.OldRegion.{OldRegion}
-use Rattle.atl_tables.specs.declared.region_table.Place.{Place}
+use Rattle.atl_tables.specs.declared.region_table.RegionBasics.{RegionBasics}
 use Rattle.atl_tables.specs.declared.region_table.RegionDraft.{RegionDraft}
 use Rattle.atl_tables.specs.declared.rules_table.MenRules.{MenRules}
 use Rattle.atl_tables.specs.declared.rules_table.PeasantRules.{PeasantRules}
 use Rattle.atl_tables.specs.declared.rules_table.Prices.{Prices}
 use Rattle.atl_tables.specs.declared.rules_table.RulesDraft.{RulesDraft}
-use Rattle.atl_tables.specs.declared.tables.Tables.{Tables}
+use Rattle.atl_tables.specs.declared.world_draft.WorldDraft.{WorldDraft}
 use Rattle.atl_tables.specs.declared.terrain_table.Economy.{Economy}
 use Rattle.atl_tables.specs.declared.terrain_table.TerrainDraft.{TerrainDraft}
 use Rattle.atl_tables.specs.declared.world.Skill.{Skill}
@@ -62,7 +62,7 @@ pub record IsTerrainDraft (d : TerrainDraft) : Type 0 where
   pub economy : IsEconomy d.economy
   pub output : All IsOutput d.output
 
-pub record IsMaking (m : Making) : Type 0 where
+pub record IsRecipe (m : Recipe) : Type 0 where
   pub level_least : 1 ≤ m.level
   pub level : m.level ≤ last_level
   pub raw_count_least : 1 ≤ m.raw_count
@@ -72,7 +72,7 @@ pub record IsItemDraft (d : ItemDraft) : Type 0 where
   pub name : name_ok d.name ≡ true
   pub weight : d.weight ≤ most_weight
   pub carry : d.carry ≤ most_weight
-  pub making : IsMaking d.making
+  pub making : IsRecipe d.making
 
 pub record IsBuilding (b : Building) : Type 0 where
   pub size_least : 1 ≤ b.size
@@ -89,7 +89,7 @@ pub record IsKindDraft (d : KindDraft) : Type 0 where
   pub building : IsBuilding d.building
   pub purpose : IsPurpose d.purpose
 
-pub record IsPlace (p : Place) : Type 0 where
+pub record AreRegionBasics (p : RegionBasics) : Type 0 where
   pub number_least : 1 ≤ p.number
   pub number_most : p.number ≤ last_region
   pub name : name_ok p.name ≡ true
@@ -97,7 +97,7 @@ pub record IsPlace (p : Place) : Type 0 where
   pub money : p.money ≤ most_amount
 
 pub record IsOldRegion (r : OldRegion) : Type 0 where
-  pub place : IsPlace r.place
+  pub place : AreRegionBasics r.place
 
 pub record IsMarketDraft (d : MarketDraft) : Type 0 where
   pub price_least : 1 ≤ d.price
@@ -108,10 +108,10 @@ pub record IsMarketDraft (d : MarketDraft) : Type 0 where
   pub restock : d.restock ≤ most_amount
 
 pub record IsRegionDraft (d : RegionDraft) : Type 0 where
-  pub place : IsPlace d.place
+  pub place : AreRegionBasics d.place
   pub markets : All IsMarketDraft d.markets
 
-pub record AreThings (t : Things) : Type 0 where
+pub record AreThingDrafts (t : ThingDrafts) : Type 0 where
   pub items : All IsItemDraft t.items
   pub skills : All IsSkill t.skills
   pub kinds : All IsKindDraft t.kinds
@@ -119,7 +119,7 @@ pub record AreThings (t : Things) : Type 0 where
   pub few_skills : length t.skills ≤ most_skills
   pub few_kinds : length t.kinds ≤ most_kinds
 
-pub record AreTables (t : Tables) : Type 0 where
+pub record IsWorldDraft (t : WorldDraft) : Type 0 where
   pub rules : AreRulesDraft t.rules
   pub terrains : All IsTerrainDraft t.terrains
   pub items : All IsItemDraft t.items
@@ -133,7 +133,7 @@ pub record AreTables (t : Tables) : Type 0 where
   pub few_regions : length t.regions ≤ most_regions
 
 -- no two names of one sort are equal
-pub record HaveNames (t : Tables) : Type 0 where
+pub record HaveNames (t : WorldDraft) : Type 0 where
   pub terrains : NamesDiffer (map (λ (d : TerrainDraft). d.name) t.terrains)
   pub items : NamesDiffer (map (λ (d : ItemDraft). d.name) t.items)
   pub skills : NamesDiffer (map (λ (s : Skill). s.name) t.skills)

@@ -1,4 +1,4 @@
--- Conditions on each element of a list, by its place.
+-- Conditions on each element of a list, by its index.
 use Rattle.std.specs.Prelude.{ℕ, ◌+◌, List, [], ◌∷◌, ◌++◌}
 use Rattle.atl_tables.specs.Faults.{Conditions}
 

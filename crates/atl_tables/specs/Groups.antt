@@ -1,4 +1,4 @@
--- Numbered maps whose values are numbered maps themselves: groups.
+-- Groups: numbered maps of numbered maps.
 use Rattle.std.specs.Prelude.{ℕ, unwrap_or}
 use Rattle.std.specs.Ordering.{nat_cmp}
 use Rattle.std.specs.FinMap.{FinMap, get, empty}

@@ -3,16 +3,16 @@ use Rattle.std.specs.Prelude.{ℕ, ◌==◌, if◌then◌else◌, List, [], ◌�
 use Rattle.toml.specs.Data.{Members}
 use Rattle.atl_tables.specs.Faults.{Conditions}
 use Rattle.atl_tables.specs.KeyByKey.{Table, conditions_of, value_of, ◌>>=◌, says, part, number_key, number_or_key, name_key, optional_text_key}
-use Rattle.atl_tables.specs.Keys.{path, indexed}
+use Rattle.atl_tables.specs.Keys.{path, element_path}
 use Rattle.atl_tables.specs.Limits.{most_weight, last_level, most_raw_count}
-use Rattle.atl_tables.specs.Titles.{known_or_absent, skill_number, item_number}
+use Rattle.atl_tables.specs.Titles.{known_number_or_none, skill_number, item_number}
 use Rattle.atl_tables.specs.declared.item_table.ItemDraft.{ItemDraft}
-use Rattle.atl_tables.specs.declared.item_table.Making.{Making}
-use Rattle.atl_tables.specs.declared.tables.Tables.{Tables}
+use Rattle.atl_tables.specs.declared.item_table.Recipe.{Recipe}
+use Rattle.atl_tables.specs.declared.world_draft.WorldDraft.{WorldDraft}
 use Rattle.atl_tables.specs.declared.world.Item.{Item}
 
 -- what making it takes
-unfoldable pub making_at : Table Making
+unfoldable pub making_at : Table Recipe
 making_at = do
   skill ← optional_text_key (codes "skill")
   level ← number_or_key 1 1 last_level (codes "level")
@@ -41,13 +41,13 @@ other_than i None = None
 other_than i (Some n) = if n == i then None else Some n
 
 -- its names stand for a skill and for another item
-unfoldable pub item_known : Tables → ℕ → ItemDraft → Conditions
+unfoldable pub item_known : WorldDraft → ℕ → ItemDraft → Conditions
 item_known all i d =
-    known_or_absent (path (indexed (codes "item") i) (codes "skill")) (skill_number all) d.making.skill
-    ∷ known_or_absent (path (indexed (codes "item") i) (codes "raw")) (λ name. other_than i (item_number all name)) d.making.raw
+    known_number_or_none (path (element_path (codes "item") i) (codes "skill")) (skill_number all) d.making.skill
+    ∷ known_number_or_none (path (element_path (codes "item") i) (codes "raw")) (λ name. other_than i (item_number all name)) d.making.raw
     ∷ []
 
-unfoldable pub item_of : Tables → ItemDraft → Item
+unfoldable pub item_of : WorldDraft → ItemDraft → Item
 item_of all d = record {
   name = d.name;
   weight = d.weight;

@@ -1,4 +1,4 @@
--- What stands under a key of a table.
+-- The value under a key of a table: its type, range and default.
 use Rattle.std.specs.Prelude.{ℕ, suc, ℤ, pos, negsuc, Bool, ◌&&◌, nat_le, if◌then◌else◌, List, codes, Option, Some, None, Result, Ok, Err}
 use Rattle.std.specs.Fmt.{decimal}
 use Rattle.toml.specs.Data.{Data, Items, no_items, item, Members, no_members, get_member, as_integer, as_str, as_bool, as_array, as_table}
@@ -15,8 +15,8 @@ Key A = List ℕ → Members → Result A WorldFault
 abbrev pub path : List ℕ → List ℕ → List ℕ
 path at key = at ▸ codes "." ▸ key
 
-abbrev pub indexed : List ℕ → ℕ → List ℕ
-indexed key i = key ▸ codes "[" ▸ decimal i ▸ codes "]"
+abbrev pub element_path : List ℕ → ℕ → List ℕ
+element_path key i = key ▸ codes "[" ▸ decimal i ▸ codes "]"
 
 -- a key that is needed, one that may be missing and then has a value, and one that may be missing
 abbrev pub present : {A : Type 0} → List ℕ → (Data → Result A WorldFault) → Option Data → Result A WorldFault
@@ -48,9 +48,9 @@ abbrev pub in_range : {A : Type 0} → List ℕ → Option A → Result A WorldF
 in_range p None = Err (OutOfRange p)
 in_range p (Some x) = Ok x
 
-abbrev pub ranged : List ℕ → ℕ → ℕ → Option ℤ → Result ℕ WorldFault
-ranged p least most None = Err (WrongType p)
-ranged p least most (Some z) = in_range p (within least most z)
+abbrev pub integer_in_range : List ℕ → ℕ → ℕ → Option ℤ → Result ℕ WorldFault
+integer_in_range p least most None = Err (WrongType p)
+integer_in_range p least most (Some z) = in_range p (within least most z)
 
 abbrev pub named : List ℕ → Option (List ℕ) → Result (List ℕ) WorldFault
 named p None = Err (WrongType p)
@@ -58,7 +58,7 @@ named p (Some s) = if name_ok s then Ok s else Err (OutOfRange p)
 
 -- ---- under a key of the table at a path: a number, a name, a text, a truth value
 unfoldable pub number_at : ℕ → ℕ → List ℕ → List ℕ → Members → Result ℕ WorldFault
-number_at least most key at t = present (path at key) (λ d. ranged (path at key) least most (as_integer d)) (get_member key t)
+number_at least most key at t = present (path at key) (λ d. integer_in_range (path at key) least most (as_integer d)) (get_member key t)
 
 unfoldable pub name_at : List ℕ → List ℕ → Members → Result (List ℕ) WorldFault
 name_at key at t = present (path at key) (λ d. named (path at key) (as_str d)) (get_member key t)
@@ -71,10 +71,10 @@ flag_at key at t = present (path at key) (λ d. typed (path at key) (as_bool d))
 
 -- a number with a default, a number or a text that may be missing, a table that is empty where it is missing
 unfoldable pub number_or_at : ℕ → ℕ → ℕ → List ℕ → List ℕ → Members → Result ℕ WorldFault
-number_or_at default least most key at t = or_else default (λ d. ranged (path at key) least most (as_integer d)) (get_member key t)
+number_or_at default least most key at t = or_else default (λ d. integer_in_range (path at key) least most (as_integer d)) (get_member key t)
 
 unfoldable pub optional_number_at : ℕ → ℕ → List ℕ → List ℕ → Members → Result (Option ℕ) WorldFault
-optional_number_at least most key at t = optional (λ d. ranged (path at key) least most (as_integer d)) (get_member key t)
+optional_number_at least most key at t = optional (λ d. integer_in_range (path at key) least most (as_integer d)) (get_member key t)
 
 unfoldable pub optional_text_at : List ℕ → List ℕ → Members → Result (Option (List ℕ)) WorldFault
 optional_text_at key at t = optional (λ d. typed (path at key) (as_str d)) (get_member key t)
@@ -90,13 +90,13 @@ abbrev pub count_of : Items → ℕ
 count_of no_items = 0
 count_of (item d ds) = suc (count_of ds)
 
-abbrev pub sized : List ℕ → ℕ → ℕ → Option Items → Result Items WorldFault
-sized key least most None = Err (WrongType key)
-sized key least most (Some ds) = if nat_le least (count_of ds) && nat_le (count_of ds) most then Ok ds else Err (OutOfRange key)
+abbrev pub array_of_size : List ℕ → ℕ → ℕ → Option Items → Result Items WorldFault
+array_of_size key least most None = Err (WrongType key)
+array_of_size key least most (Some ds) = if nat_le least (count_of ds) && nat_le (count_of ds) most then Ok ds else Err (OutOfRange key)
 
 unfoldable pub array_at : ℕ → List ℕ → Members → Result Items WorldFault
-array_at most key doc = present key (λ d. sized key 1 most (as_array d)) (get_member key doc)
+array_at most key doc = present key (λ d. array_of_size key 1 most (as_array d)) (get_member key doc)
 
 -- an array of at most so many elements, which is empty where it is missing, by its path and its key
 unfoldable pub optional_array_at : ℕ → List ℕ → List ℕ → Members → Result Items WorldFault
-optional_array_at most array key t = or_else no_items (λ d. sized array 0 most (as_array d)) (get_member key t)
+optional_array_at most array key t = or_else no_items (λ d. array_of_size array 0 most (as_array d)) (get_member key t)

@@ -3,13 +3,13 @@ use Rattle.std.specs.Prelude.{ℕ, List, [], ◌∷◌, codes, unwrap_or, option
 use Rattle.toml.specs.Data.{Members}
 use Rattle.atl_tables.specs.Faults.{Conditions}
 use Rattle.atl_tables.specs.KeyByKey.{Table, conditions_of, value_of, ◌>>=◌, says, part, number_key, number_or_key, name_key, text_key, optional_text_key, flag_key}
-use Rattle.atl_tables.specs.Keys.{path, indexed}
+use Rattle.atl_tables.specs.Keys.{path, element_path}
 use Rattle.atl_tables.specs.Limits.{most_amount, last_level, most_size}
-use Rattle.atl_tables.specs.Titles.{known, known_or_absent, skill_number, item_number}
+use Rattle.atl_tables.specs.Titles.{known, known_number_or_none, skill_number, item_number}
 use Rattle.atl_tables.specs.declared.kind_table.Building.{Building}
 use Rattle.atl_tables.specs.declared.kind_table.KindDraft.{KindDraft}
 use Rattle.atl_tables.specs.declared.kind_table.Purpose.{Purpose}
-use Rattle.atl_tables.specs.declared.tables.Tables.{Tables}
+use Rattle.atl_tables.specs.declared.world_draft.WorldDraft.{WorldDraft}
 use Rattle.atl_tables.specs.declared.world.Kind.{Kind}
 
 -- what building it takes
@@ -45,14 +45,14 @@ abbrev pub kind_from : List ℕ → Members → KindDraft
 kind_from = value_of kind_at
 
 -- its names stand for an item and for skills
-unfoldable pub kind_known : Tables → ℕ → KindDraft → Conditions
+unfoldable pub kind_known : WorldDraft → ℕ → KindDraft → Conditions
 kind_known all i d =
-    known (path (indexed (codes "kind") i) (codes "material")) (item_number all d.building.material)
-    ∷ known (path (indexed (codes "kind") i) (codes "skill")) (skill_number all d.building.skill)
-    ∷ known_or_absent (path (indexed (codes "kind") i) (codes "helps")) (skill_number all) d.purpose.helps
+    known (path (element_path (codes "kind") i) (codes "material")) (item_number all d.building.material)
+    ∷ known (path (element_path (codes "kind") i) (codes "skill")) (skill_number all d.building.skill)
+    ∷ known_number_or_none (path (element_path (codes "kind") i) (codes "helps")) (skill_number all) d.purpose.helps
     ∷ []
 
-unfoldable pub kind_of : Tables → KindDraft → Kind
+unfoldable pub kind_of : WorldDraft → KindDraft → Kind
 kind_of all d = record {
   name = d.name;
   ship = d.ship;

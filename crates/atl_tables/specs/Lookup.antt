@@ -1,4 +1,4 @@
--- The things of a world that a word names.
+-- The item, skill or kind that a word names. See docs/RULES.md, "Names in orders".
 use Rattle.std.specs.Prelude.{ℕ, Bool, List, map, position, Option, ◌==◌, if◌then◌else◌}
 use Rattle.std.specs.Str.{str_eq_ignore_ascii_case}
 use Rattle.atl_tables.specs.Letters.{space, underscore}
@@ -13,14 +13,14 @@ abbrev pub name_of : List ℕ → Bool → List ℕ
 name_of word quoted = map (letter_of quoted) word
 
 -- the position of the first thing whose name is this word, ignoring ASCII case
-abbrev pub place_named : {A : Type 0} → (A → List ℕ) → List A → List ℕ → Bool → Option ℕ
-place_named title things word quoted = position (λ thing. str_eq_ignore_ascii_case (title thing) (name_of word quoted)) things
+abbrev pub index_named : {A : Type 0} → (A → List ℕ) → List A → List ℕ → Bool → Option ℕ
+index_named title things word quoted = position (λ thing. str_eq_ignore_ascii_case (title thing) (name_of word quoted)) things
 
 abbrev pub item_named : WorldValue → List ℕ → Bool → Option ℕ
-item_named w word quoted = place_named (λ item. item.name) w.items word quoted
+item_named w word quoted = index_named (λ item. item.name) w.items word quoted
 
 abbrev pub skill_named : WorldValue → List ℕ → Bool → Option ℕ
-skill_named w word quoted = place_named (λ skill. skill.name) w.skills word quoted
+skill_named w word quoted = index_named (λ skill. skill.name) w.skills word quoted
 
 abbrev pub kind_named : WorldValue → List ℕ → Bool → Option ℕ
-kind_named w word quoted = place_named (λ kind. kind.name) w.kinds word quoted
+kind_named w word quoted = index_named (λ kind. kind.name) w.kinds word quoted

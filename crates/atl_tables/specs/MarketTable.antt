@@ -10,7 +10,7 @@ use Rattle.atl_tables.specs.Limits.{most_amount, most_markets, most_price}
 use Rattle.atl_tables.specs.Sums.{by_number}
 use Rattle.atl_tables.specs.Titles.{known, item_number, twins}
 use Rattle.atl_tables.specs.declared.market_table.MarketDraft.{MarketDraft}
-use Rattle.atl_tables.specs.declared.tables.Tables.{Tables}
+use Rattle.atl_tables.specs.declared.world_draft.WorldDraft.{WorldDraft}
 use Rattle.atl_tables.specs.declared.world.Market.{Market}
 
 abbrev pub price_at : Key ℕ
@@ -55,14 +55,14 @@ unfoldable pub markets_from : List ℕ → Members → List MarketDraft
 markets_from at t = list_of market_from (market_path at) (optional_array_at most_markets (market_path at) (codes "market") t)
 
 -- no two of them are of one item
-abbrev pub item_twins : List ℕ → List MarketDraft → Conditions
-item_twins at ds = twins (λ d. d.item) (market_path at) (codes "item") ds
+abbrev pub duplicate_items : List ℕ → List MarketDraft → Conditions
+duplicate_items at ds = twins (λ d. d.item) (market_path at) (codes "item") ds
 
 -- the item's name stands for an item
-unfoldable pub market_known : Tables → MarketDraft → Conditions
+unfoldable pub market_known : WorldDraft → MarketDraft → Conditions
 market_known all d = known (path d.place (codes "item")) (item_number all d.item) ∷ []
 
-unfoldable pub market_of : Tables → MarketDraft → Market
+unfoldable pub market_of : WorldDraft → MarketDraft → Market
 market_of all d = record {
   item = unwrap_or (item_number all d.item) 0;
   price = d.price;
@@ -72,5 +72,5 @@ market_of all d = record {
 }
 
 -- the markets under the numbers of their items
-abbrev pub markets_of : Tables → List MarketDraft → FinMap nat_cmp Market
+abbrev pub markets_of : WorldDraft → List MarketDraft → FinMap nat_cmp Market
 markets_of all ds = by_number (λ m. m.item) (map (market_of all) ds)

@@ -3,7 +3,7 @@ use Rattle.std.specs.Prelude.{ℕ, Bool, false, ◌==◌, List, [], ◌∷◌, c
 use Rattle.std.specs.Ordering.{nat_cmp}
 use Rattle.std.specs.FinMap.{FinMap, get}
 use Rattle.atl_tables.specs.Faults.{Conditions}
-use Rattle.atl_tables.specs.Keys.{path, indexed}
+use Rattle.atl_tables.specs.Keys.{path, element_path}
 use Rattle.atl_tables.specs.declared.direction.Direction.{Direction}
 use Rattle.atl_tables.specs.declared.direction.Direction.TheVariants.{North, South, East, West}
 use Rattle.atl_tables.specs.declared.fault.WorldFault.{WorldFault}
@@ -23,8 +23,8 @@ neighbour p regions opposite number (Some m) = if is_number number (option_and_t
 
 unfoldable pub neighbours_at : FinMap nat_cmp RegionPlan → ℕ → RegionDraft → Conditions
 neighbours_at regions i d =
-    neighbour (path (indexed (codes "region") i) (codes "north")) regions South d.place.number d.sides.north
-    ∷ neighbour (path (indexed (codes "region") i) (codes "south")) regions North d.place.number d.sides.south
-    ∷ neighbour (path (indexed (codes "region") i) (codes "east")) regions West d.place.number d.sides.east
-    ∷ neighbour (path (indexed (codes "region") i) (codes "west")) regions East d.place.number d.sides.west
+    neighbour (path (element_path (codes "region") i) (codes "north")) regions South d.place.number d.sides.north
+    ∷ neighbour (path (element_path (codes "region") i) (codes "south")) regions North d.place.number d.sides.south
+    ∷ neighbour (path (element_path (codes "region") i) (codes "east")) regions West d.place.number d.sides.east
+    ∷ neighbour (path (element_path (codes "region") i) (codes "west")) regions East d.place.number d.sides.west
     ∷ []

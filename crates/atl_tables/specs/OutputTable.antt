@@ -7,14 +7,14 @@ use Rattle.std.specs.Cmp.Lexicographic.{slice_cmp}
 use Rattle.toml.specs.Data.{Data, Members, no_members, member, as_integer}
 use Rattle.atl_tables.specs.Faults.{Conditions, fault_of, value_or}
 use Rattle.atl_tables.specs.KeyByKey.{Table}
-use Rattle.atl_tables.specs.Keys.{path, ranged, optional_table_at}
+use Rattle.atl_tables.specs.Keys.{path, integer_in_range, optional_table_at}
 use Rattle.atl_tables.specs.Limits.{most_amount}
 use Rattle.atl_tables.specs.Titles.{known, item_number}
 use Rattle.atl_tables.specs.Names.{same_name}
 use Rattle.atl_tables.specs.declared.fault.WorldFault.{WorldFault}
 use Rattle.atl_tables.specs.declared.fault.WorldFault.TheVariants.{TwoNames}
 use Rattle.atl_tables.specs.declared.output_table.Output.{Output}
-use Rattle.atl_tables.specs.declared.tables.Tables.{Tables}
+use Rattle.atl_tables.specs.declared.world_draft.WorldDraft.{WorldDraft}
 
 -- ---- the keys of a table, each with what stands under it, in byte order
 abbrev pub put_key : List ℕ → Data → List (List ℕ × Data) → List (List ℕ × Data)
@@ -27,7 +27,7 @@ in_byte_order (member key d ms) = put_key key d (in_byte_order ms)
 
 -- ---- each key with its amount, in the table of the path at
 abbrev pub amount_at : List ℕ → List ℕ × Data → Result ℕ WorldFault
-amount_at at (key, d) = ranged (path at key) 0 most_amount (as_integer d)
+amount_at at (key, d) = integer_in_range (path at key) 0 most_amount (as_integer d)
 
 abbrev pub amounts_keys : List ℕ → List (List ℕ × Data) → Conditions
 amounts_keys at es = map (λ e. fault_of (amount_at at e)) es
@@ -53,7 +53,7 @@ unfoldable pub twin_key_at : List ℕ → List Output → ℕ → Output → Con
 twin_key_at at all i o = (if list_any (λ p. same_name p.item o.item) (take i all) then Some (TwoNames (path at o.item)) else None) ∷ []
 
 -- the key stands for an item
-unfoldable pub known_key_at : Tables → List ℕ → ℕ → Output → Conditions
+unfoldable pub known_key_at : WorldDraft → List ℕ → ℕ → Output → Conditions
 known_key_at all at i o = known (path at o.item) (item_number all o.item) ∷ []
 
 -- the amount of an item, 0 where it isn't named

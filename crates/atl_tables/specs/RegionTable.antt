@@ -3,15 +3,15 @@ use Rattle.std.specs.Prelude.{ℕ, List, [], ◌∷◌, codes, Option, None, unw
 use Rattle.toml.specs.Data.{Members}
 use Rattle.atl_tables.specs.Each.{each}
 use Rattle.atl_tables.specs.Faults.{Conditions, fault_of, first_fault, value_or}
-use Rattle.atl_tables.specs.Keys.{Key, path, indexed, number_at, name_at, text_at, optional_number_at}
+use Rattle.atl_tables.specs.Keys.{Key, path, element_path, number_at, name_at, text_at, optional_number_at}
 use Rattle.atl_tables.specs.Limits.{last_region, most_amount}
-use Rattle.atl_tables.specs.MarketTable.{markets_keys, markets_from, item_twins, market_known, markets_of}
+use Rattle.atl_tables.specs.MarketTable.{markets_keys, markets_from, duplicate_items, market_known, markets_of}
 use Rattle.atl_tables.specs.Titles.{known, terrain_number}
 use Rattle.atl_tables.specs.declared.region_table.OldRegion.{OldRegion}
-use Rattle.atl_tables.specs.declared.region_table.Place.{Place}
+use Rattle.atl_tables.specs.declared.region_table.RegionBasics.{RegionBasics}
 use Rattle.atl_tables.specs.declared.region_table.RegionDraft.{RegionDraft}
 use Rattle.atl_tables.specs.declared.region_table.Sides.{Sides}
-use Rattle.atl_tables.specs.declared.tables.Tables.{Tables}
+use Rattle.atl_tables.specs.declared.world_draft.WorldDraft.{WorldDraft}
 use Rattle.atl_tables.specs.declared.world.RegionPlan.{RegionPlan}
 
 -- what the region is
@@ -33,7 +33,7 @@ place_keys at t =
     ∷ fault_of (money_at at t)
     ∷ []
 
-unfoldable pub place_from : List ℕ → Members → Place
+unfoldable pub place_from : List ℕ → Members → RegionBasics
 place_from at t = record {
   number = value_or 0 (region_number_at at t);
   name = value_or [] (name_at (codes "name") at t);
@@ -90,14 +90,14 @@ region_from at t = record { place = place_from at t; sides = sides_from at t; ma
 
 -- no two of its markets are of one item, and each name stands for a terrain or an item
 unfoldable pub market_twins : ℕ → RegionDraft → Conditions
-market_twins i d = item_twins (indexed (codes "region") i) d.markets
+market_twins i d = duplicate_items (element_path (codes "region") i) d.markets
 
-unfoldable pub region_known : Tables → ℕ → RegionDraft → Conditions
+unfoldable pub region_known : WorldDraft → ℕ → RegionDraft → Conditions
 region_known all i d =
-    known (path (indexed (codes "region") i) (codes "terrain")) (terrain_number all d.place.terrain)
+    known (path (element_path (codes "region") i) (codes "terrain")) (terrain_number all d.place.terrain)
     ∷ each (λ k m. market_known all m) 0 d.markets
 
-unfoldable pub region_of : Tables → RegionDraft → RegionPlan
+unfoldable pub region_of : WorldDraft → RegionDraft → RegionPlan
 region_of all d = record {
   number = d.place.number;
   name = d.place.name;

@@ -1,18 +1,18 @@
--- The numbers of regions, of which no two are equal.
+-- The condition that no two regions have the same number.
 use Rattle.std.specs.Prelude.{ℕ, Bool, ◌==◌, List, [], ◌∷◌, take, codes, Some, None, if◌then◌else◌}
 use Rattle.std.specs.List.{list_any}
 use Rattle.atl_tables.specs.declared.fault.WorldFault.TheVariants.{TwoNames}
 use Rattle.atl_tables.specs.declared.region_table.RegionDraft.{RegionDraft}
 use Rattle.atl_tables.specs.Each.{each}
 use Rattle.atl_tables.specs.Faults.{Conditions}
-use Rattle.atl_tables.specs.Keys.{path, indexed}
+use Rattle.atl_tables.specs.Keys.{path, element_path}
 
 abbrev pub has_number : ℕ → List RegionDraft → Bool
 has_number n ds = list_any (λ d. n == d.place.number) ds
 
 -- no region before this one has its number
 unfoldable pub twin_number_at : List RegionDraft → ℕ → RegionDraft → Conditions
-twin_number_at all i d = (if has_number d.place.number (take i all) then Some (TwoNames (path (indexed (codes "region") i) (codes "number"))) else None) ∷ []
+twin_number_at all i d = (if has_number d.place.number (take i all) then Some (TwoNames (path (element_path (codes "region") i) (codes "number"))) else None) ∷ []
 
-abbrev pub twin_numbers : List RegionDraft → Conditions
-twin_numbers all = each (twin_number_at all) 0 all
+abbrev pub duplicate_numbers : List RegionDraft → Conditions
+duplicate_numbers all = each (twin_number_at all) 0 all

@@ -5,13 +5,13 @@ use Rattle.atl_tables.specs.Faults.{Conditions, fault_of, value_or}
 use Rattle.atl_tables.specs.KeyByKey.{Table, conditions_of, value_of, ◌>>=◌, says, part, number_key, optional_text_key}
 use Rattle.atl_tables.specs.Keys.{path, table_at}
 use Rattle.atl_tables.specs.Limits.{most_amount, most_per_head, most_price, most_fraction, most_growth, most_weight}
-use Rattle.atl_tables.specs.Titles.{known_or_absent, skill_number}
+use Rattle.atl_tables.specs.Titles.{known_number_or_none, skill_number}
 use Rattle.atl_tables.specs.declared.rules_table.MenRules.{MenRules}
 use Rattle.atl_tables.specs.declared.rules_table.PeasantRules.{PeasantRules}
 use Rattle.atl_tables.specs.declared.rules_table.Prices.{Prices}
 use Rattle.atl_tables.specs.declared.rules_table.RulesDraft.{RulesDraft}
 use Rattle.atl_tables.specs.declared.rules_table.SkillNames.{SkillNames}
-use Rattle.atl_tables.specs.declared.tables.Tables.{Tables}
+use Rattle.atl_tables.specs.declared.world_draft.WorldDraft.{WorldDraft}
 use Rattle.atl_tables.specs.declared.world.Rules.{Rules}
 
 -- what men cost and bring
@@ -66,14 +66,14 @@ unfoldable pub rules_in : Members → RulesDraft
 rules_in doc = value_of rules_at (codes "rules") (rules_table doc)
 
 -- its names stand for skills
-unfoldable pub rules_known : Tables → Conditions
+unfoldable pub rules_known : WorldDraft → Conditions
 rules_known all =
-    known_or_absent (path (codes "rules") (codes "observation")) (skill_number all) all.rules.skills.observation
-    ∷ known_or_absent (path (codes "rules") (codes "stealth")) (skill_number all) all.rules.skills.stealth
-    ∷ known_or_absent (path (codes "rules") (codes "sailing")) (skill_number all) all.rules.skills.sailing
+    known_number_or_none (path (codes "rules") (codes "observation")) (skill_number all) all.rules.skills.observation
+    ∷ known_number_or_none (path (codes "rules") (codes "stealth")) (skill_number all) all.rules.skills.stealth
+    ∷ known_number_or_none (path (codes "rules") (codes "sailing")) (skill_number all) all.rules.skills.sailing
     ∷ []
 
-unfoldable pub rules_of : Tables → Rules
+unfoldable pub rules_of : WorldDraft → Rules
 rules_of all = let r = all.rules in record {
   maintenance = r.prices.maintenance;
   tax_per_man = r.prices.tax_per_man;

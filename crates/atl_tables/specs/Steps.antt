@@ -1,4 +1,4 @@
--- A step that gives a value or an error, and then the next one.
+-- Steps in turn: the first error ends them.
 use Rattle.std.specs.Prelude.{Result, Ok, Err}
 
 infixl 10 ◌>>=◌

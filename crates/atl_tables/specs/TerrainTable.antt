@@ -4,10 +4,10 @@ use Rattle.toml.specs.Data.{Members}
 use Rattle.atl_tables.specs.Each.{each}
 use Rattle.atl_tables.specs.Faults.{Conditions}
 use Rattle.atl_tables.specs.KeyByKey.{Table, conditions_of, value_of, ◌>>=◌, says, part, number_key, name_key, flag_key}
-use Rattle.atl_tables.specs.Keys.{indexed}
+use Rattle.atl_tables.specs.Keys.{element_path}
 use Rattle.atl_tables.specs.Limits.{most_amount, most_price}
 use Rattle.atl_tables.specs.OutputTable.{output_path, output_at, twin_key_at, known_key_at, amount_of}
-use Rattle.atl_tables.specs.declared.tables.Tables.{Tables}
+use Rattle.atl_tables.specs.declared.world_draft.WorldDraft.{WorldDraft}
 use Rattle.atl_tables.specs.declared.terrain_table.Economy.{Economy}
 use Rattle.atl_tables.specs.declared.terrain_table.TerrainDraft.{TerrainDraft}
 use Rattle.atl_tables.specs.declared.world.Terrain.{Terrain}
@@ -38,13 +38,13 @@ terrain_from = value_of terrain_at
 
 -- no two keys of its output are equal, and each stands for an item
 unfoldable pub terrain_twins : ℕ → TerrainDraft → Conditions
-terrain_twins i d = each (twin_key_at (output_path (indexed (codes "terrain") i)) d.output) 0 d.output
+terrain_twins i d = each (twin_key_at (output_path (element_path (codes "terrain") i)) d.output) 0 d.output
 
-unfoldable pub terrain_known : Tables → ℕ → TerrainDraft → Conditions
-terrain_known all i d = each (known_key_at all (output_path (indexed (codes "terrain") i))) 0 d.output
+unfoldable pub terrain_known : WorldDraft → ℕ → TerrainDraft → Conditions
+terrain_known all i d = each (known_key_at all (output_path (element_path (codes "terrain") i))) 0 d.output
 
 -- its output has an amount for each item
-unfoldable pub terrain_of : Tables → TerrainDraft → Terrain
+unfoldable pub terrain_of : WorldDraft → TerrainDraft → Terrain
 terrain_of all d = record {
   name = d.name;
   land = d.land;

@@ -1,18 +1,18 @@
--- Names that may stand once only, and the numbers that names stand for.
+-- Names that must be unique, and the numbers that names stand for.
 use Rattle.std.specs.Prelude.{ℕ, List, [], ◌∷◌, take, Option, Some, None, if◌then◌else◌}
 use Rattle.std.specs.List.{list_any, position_from}
 use Rattle.atl_tables.specs.declared.fault.WorldFault.{WorldFault}
 use Rattle.atl_tables.specs.declared.fault.WorldFault.TheVariants.{TwoNames, UnknownName}
-use Rattle.atl_tables.specs.declared.tables.Tables.{Tables}
+use Rattle.atl_tables.specs.declared.world_draft.WorldDraft.{WorldDraft}
 use Rattle.atl_tables.specs.Each.{each}
 use Rattle.atl_tables.specs.Faults.{Conditions}
-use Rattle.atl_tables.specs.Keys.{path, indexed}
+use Rattle.atl_tables.specs.Keys.{path, element_path}
 use Rattle.atl_tables.specs.Names.{same_name}
 
 module _ {A : Type 0} (title : A → List ℕ) where
   -- no element of the array before this one has the name that it has under a key
   unfoldable pub twin_at : List ℕ → List ℕ → List A → ℕ → A → Conditions
-  twin_at array key all i x = (if list_any (λ y. same_name (title y) (title x)) (take i all) then Some (TwoNames (path (indexed array i) key)) else None) ∷ []
+  twin_at array key all i x = (if list_any (λ y. same_name (title y) (title x)) (take i all) then Some (TwoNames (path (element_path array i) key)) else None) ∷ []
 
   abbrev pub twins : List ℕ → List ℕ → List A → Conditions
   twins array key all = each (twin_at array key all) 0 all
@@ -22,13 +22,13 @@ module _ {A : Type 0} (title : A → List ℕ) where
   number_of all name = position_from (λ x. same_name (title x) name) 0 all
 
 -- the numbers of the names of a document
-abbrev pub terrain_number : Tables → List ℕ → Option ℕ
+abbrev pub terrain_number : WorldDraft → List ℕ → Option ℕ
 terrain_number all name = number_of (λ d. d.name) all.terrains name
 
-abbrev pub item_number : Tables → List ℕ → Option ℕ
+abbrev pub item_number : WorldDraft → List ℕ → Option ℕ
 item_number all name = number_of (λ d. d.name) all.items name
 
-abbrev pub skill_number : Tables → List ℕ → Option ℕ
+abbrev pub skill_number : WorldDraft → List ℕ → Option ℕ
 skill_number all name = number_of (λ s. s.name) all.skills name
 
 -- a text that refers to a name has a number
@@ -36,6 +36,6 @@ abbrev pub known : List ℕ → Option ℕ → Option WorldFault
 known p None = Some (UnknownName p)
 known p (Some n) = None
 
-abbrev pub known_or_absent : List ℕ → (List ℕ → Option ℕ) → Option (List ℕ) → Option WorldFault
-known_or_absent p number None = None
-known_or_absent p number (Some name) = known p (number name)
+abbrev pub known_number_or_none : List ℕ → (List ℕ → Option ℕ) → Option (List ℕ) → Option WorldFault
+known_number_or_none p number None = None
+known_number_or_none p number (Some name) = known p (number name)

@@ -1,4 +1,4 @@
--- Values with change marks, as they change.
+-- Changes of a map with change marks.
 use Rattle.std.specs.Prelude.{◌≡◌, ℕ, List, Bool, true, false, Option, Some, None}
 use Rattle.std.specs.Ordering.{nat_cmp}
 use Rattle.std.specs.List.Sorted.{IsStrictlySortedBy}
@@ -6,8 +6,8 @@ use Rattle.std.specs.FinMap as map
 use Rattle.std.specs.FinSet as set
 use Rattle.std.specs.Borrow.{LendsIf, MutBor, Fml}
 use denote.RattleType.{RattleType}
-use Rattle.atl_tables.specs.Changing.{Changing}
-use Rattle.atl_tables.specs.contracts.tracked.Tracked.{the_row}
+use Rattle.atl_tables.specs.MarkedMaps.{MarkedMapValue}
+use Rattle.atl_tables.specs.contracts.marked_map.MarkedMap.{the_row}
 
 -- the marks with that of a value that is there
 abbrev pub marked_with : {V : Type 0} → set.FinSet nat_cmp → ℕ → Option V → set.FinSet nat_cmp
@@ -21,26 +21,26 @@ pub record Lists (marks : set.FinSet nat_cmp) (numbers : List ℕ) : Type 0 wher
 
 module _ {V : Type 0} where
   -- a value put in or changed, and marked
-  abbrev pub with_value : Changing V → ℕ → V → Changing V
+  abbrev pub with_value : MarkedMapValue V → ℕ → V → MarkedMapValue V
   with_value c n v = record { values = map.insert c.values n v; marks = set.insert c.marks n }
 
-  abbrev pub without_value_at : Changing V → ℕ → Option V → Changing V
+  abbrev pub without_value_at : MarkedMapValue V → ℕ → Option V → MarkedMapValue V
   without_value_at c n None = c
   without_value_at c n (Some v) = record { values = map.remove c.values n; marks = set.insert c.marks n }
 
   -- a value taken out, and its number marked
-  abbrev pub without_value : Changing V → ℕ → Changing V
+  abbrev pub without_value : MarkedMapValue V → ℕ → MarkedMapValue V
   without_value c n = without_value_at c n (map.get c.values n)
 
   -- all values taken out, and their numbers marked
-  abbrev pub without_values : Changing V → Changing V
+  abbrev pub without_values : MarkedMapValue V → MarkedMapValue V
   without_values c = record { values = map.empty; marks = set.union c.marks (set.from_list (map.keys c.values)) }
 
   -- a value taken out again, whose number was marked before it came, or not
-  abbrev pub taken_out : Changing V → ℕ → Bool → Changing V
+  abbrev pub taken_out : MarkedMapValue V → ℕ → Bool → MarkedMapValue V
   taken_out c n true = without_value c n
   taken_out c n false = record { values = map.remove c.values n; marks = set.remove c.marks n }
 
 -- c ends with the last value behind r under the number, which is then marked, or as it was
-abbrev pub LendsMarked : (V : RattleType) → MutBor (Changing V.Denot) → ℕ → Option (MutBor V.Denot) → Fml
+abbrev pub LendsMarked : (V : RattleType) → MutBor (MarkedMapValue V.Denot) → ℕ → Option (MutBor V.Denot) → Fml
 LendsMarked V c n r = LendsIf (the_row V) V c r (with_value c.now n) c.now

@@ -1,4 +1,5 @@
--- What a document has to fulfil, condition by condition in the order in which faults count, and the world that it then gives.
+-- The conditions on a world file, in the order in which faults are reported, and the world that it gives. See
+-- docs/FORMATS.md, "Faults of a world file".
 use Rattle.std.specs.Prelude.{ℕ, List, [], ◌∷◌, ◌++◌, map, codes, Option, Some, None, Result, Err}
 use Rattle.std.specs.FinMap.{FinMap}
 use Rattle.std.specs.Ordering.{nat_cmp}
@@ -14,7 +15,7 @@ use Rattle.atl_tables.specs.Limits.{most_terrains, most_items, most_skills, most
 use Rattle.atl_tables.specs.Neighbours.{neighbours_at}
 use Rattle.atl_tables.specs.Worlds.{WorldValue, land_of}
 use Rattle.atl_tables.specs.RegionTable.{old_region_keys, old_region_from, as_draft, region_keys, region_from, market_twins, region_known, region_of}
-use Rattle.atl_tables.specs.Regions.{twin_numbers}
+use Rattle.atl_tables.specs.Regions.{duplicate_numbers}
 use Rattle.atl_tables.specs.RulesTable.{rules_conditions, rules_in, rules_known, rules_of}
 use Rattle.atl_tables.specs.SkillTable.{skill_keys, skill_from}
 use Rattle.atl_tables.specs.Sums.{by_number}
@@ -24,13 +25,13 @@ use Rattle.atl_tables.specs.declared.fault.WorldFault.{WorldFault}
 use Rattle.atl_tables.specs.declared.fault.WorldFault.TheVariants.{NotToml, NoLand}
 use Rattle.atl_tables.specs.declared.format.Format.{Format}
 use Rattle.atl_tables.specs.declared.format.Format.TheVariants.{First, Second}
-use Rattle.atl_tables.specs.declared.reading.Things.{Things}
+use Rattle.atl_tables.specs.declared.reading.ThingDrafts.{ThingDrafts}
 use Rattle.atl_tables.specs.declared.region_table.RegionDraft.{RegionDraft}
-use Rattle.atl_tables.specs.declared.tables.Tables.{Tables}
+use Rattle.atl_tables.specs.declared.world_draft.WorldDraft.{WorldDraft}
 use Rattle.atl_tables.specs.declared.world.RegionPlan.{RegionPlan}
 
 -- what the tables say, where each key keeps its rule: those that may be missing, and all
-unfoldable pub things_of : Members → Things
+unfoldable pub things_of : Members → ThingDrafts
 things_of doc = record {
   items = list_of item_from (codes "item") (optional_array_at most_items (codes "item") (codes "item") doc);
   skills = list_of skill_from (codes "skill") (optional_array_at most_skills (codes "skill") (codes "skill") doc);
@@ -42,7 +43,7 @@ unfoldable pub regions_in : Format → Members → List RegionDraft
 regions_in First doc = map as_draft (list_of old_region_from (codes "region") (array_at most_regions (codes "region") doc))
 regions_in Second doc = list_of region_from (codes "region") (array_at most_regions (codes "region") doc)
 
-unfoldable pub tables_of : Format → Members → Tables
+unfoldable pub tables_of : Format → Members → WorldDraft
 tables_of format doc = record {
   rules = rules_in doc;
   terrains = list_of terrain_from (codes "terrain") (array_at most_terrains (codes "terrain") doc);
@@ -53,10 +54,10 @@ tables_of format doc = record {
 }
 
 -- the world, where each name stands for something
-unfoldable pub regions_of : Tables → FinMap nat_cmp RegionPlan
+unfoldable pub regions_of : WorldDraft → FinMap nat_cmp RegionPlan
 regions_of all = by_number (λ p. p.number) (map (region_of all) all.regions)
 
-unfoldable pub world_of_tables : Tables → WorldValue
+unfoldable pub world_of_tables : WorldDraft → WorldValue
 world_of_tables all = record {
   rules = rules_of all;
   terrains = map (terrain_of all) all.terrains;
@@ -86,22 +87,22 @@ keys_are_good format doc =
     ++ regions_are_good format doc))
 
 -- no name and no number stands twice
-unfoldable pub titles_differ : Tables → Conditions
+unfoldable pub titles_differ : WorldDraft → Conditions
 titles_differ all =
     twins (λ d. d.name) (codes "terrain") (codes "name") all.terrains
     ++ (twins (λ d. d.name) (codes "item") (codes "name") all.items
     ++ (twins (λ s. s.name) (codes "skill") (codes "name") all.skills
     ++ twins (λ d. d.name) (codes "kind") (codes "name") all.kinds))
 
-unfoldable pub names_differ : Tables → Conditions
+unfoldable pub names_differ : WorldDraft → Conditions
 names_differ all =
     titles_differ all
-    ++ (twin_numbers all.regions
+    ++ (duplicate_numbers all.regions
     ++ (each terrain_twins 0 all.terrains
     ++ each market_twins 0 all.regions))
 
 -- no name stands for nothing
-unfoldable pub names_are_known : Tables → Conditions
+unfoldable pub names_are_known : WorldDraft → Conditions
 names_are_known all =
     rules_known all
     ++ (each (terrain_known all) 0 all.terrains
@@ -110,7 +111,7 @@ names_are_known all =
     ++ each (region_known all) 0 all.regions)))
 
 -- neighbours are mutual
-unfoldable pub neighbours_are_mutual : Tables → Conditions
+unfoldable pub neighbours_are_mutual : WorldDraft → Conditions
 neighbours_are_mutual all = each (neighbours_at (regions_of all)) 0 all.regions
 
 -- some region has land
@@ -118,7 +119,7 @@ abbrev pub is_some_land : List ℕ → Conditions
 is_some_land [] = Some NoLand ∷ []
 is_some_land (n ∷ ns) = None ∷ []
 
-abbrev pub table_conditions : Tables → Conditions
+abbrev pub table_conditions : WorldDraft → Conditions
 table_conditions all =
     names_differ all
     ++ (names_are_known all

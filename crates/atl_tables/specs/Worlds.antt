@@ -1,4 +1,4 @@
--- What a contract sees of a world.
+-- The value of a world in contracts.
 use Rattle.std.specs.Prelude.{◌≡◌, ◌≢◌, ◌≤◌, ◌<◌, ℕ, Bool, true, false, List, length, map, refl, Option, Some, IfSome, option_and_then}
 use Rattle.std.specs.List.{All, slice_get}
 use Rattle.std.specs.Option.{option_map_or}

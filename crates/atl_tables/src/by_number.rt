@@ -1,4 +1,5 @@
-//! What stands in a world under a number. It takes no memory.
+//! Looks up parts of a world by number: terrains, neighbours, markets, kinds and fees. It takes no
+//! memory.
 ghost use Rattle.std.specs.Prelude.{◌≡◌, ◌≤◌, IfSome, length};
 ghost use Rattle.std.specs.List.{slice_get};
 ghost use Rattle.std.specs.Option.{option_copied};
@@ -42,7 +43,8 @@ impl World {
     /// The market of an item in a region, where there is one.
     pub fn market(&self, region: u32, item: u16) -> Option<&Market>
         ensures value { option_copied result ≡ market_of self.now region item }
-        ensures bounds { IfSome result (λ market. IsMarket (length self.now.items) item market.now) }
+        ensures bounds { IfSome result
+            (λ market. IsMarket (length self.now.items) item market.now) }
     {
         self.region(region)?.markets.get(u32::from(item))
     }

@@ -1,15 +1,15 @@
-//! Arrays of tables.
+//! Reads arrays of tables, element by element.
 ghost use Rattle.std.specs.Prelude.{◌≡◌, ◌≤◌, ◌∷◌, ℕ, List, IfOk, Result, length};
 ghost use Rattle.std.specs.List.{All};
 ghost use Rattle.toml.specs.Data.{Members};
 ghost use Rattle.toml.specs.View.{view, table_view, array_view};
 ghost use Rattle.atl_tables.specs.Faults.{Conditions, first_fault};
-ghost use Rattle.atl_tables.specs.Given.{Gives};
-ghost use Rattle.atl_tables.specs.Keys.{indexed, array_at, optional_array_at};
+ghost use Rattle.atl_tables.specs.Results.{Gives};
+ghost use Rattle.atl_tables.specs.Keys.{element_path, array_at, optional_array_at};
 ghost use Rattle.atl_tables.specs.Arrays.{element_table, element_conditions, elements_conditions, elements_of, list_conditions, list_of};
 
 use crate::fault::WorldFault;
-use crate::keys::{indexed, member, sized};
+use crate::keys::{array_of_size, element_path, member};
 use crate::sequence::Sequence;
 use crate::text::Text;
 use std::alloc::Global;
@@ -27,7 +27,9 @@ pub(crate) trait Element: Drop {
 
     /// What the table at a path says, or its first fault, key by key. `Memory` may come at any point.
     fn read(alloc: Global, at: &str, table: &Table) -> Result<Self, WorldFault>
-        ensures value { Gives (λ x. x) result (first_fault (conditions at.now (table_view table.now))) (record_of at.now (table_view table.now)) }
+        ensures value { Gives (λ x. x) result
+            (first_fault (conditions at.now (table_view table.now)))
+            (record_of at.now (table_view table.now)) }
         ensures sound { IfOk result is_sound };
 }
 
@@ -37,10 +39,13 @@ fn one_element<E: Element>(
     i: usize,
     value: &Value,
 ) -> Result<E, WorldFault>
-    ensures value { Gives (λ x. x) result (first_fault (element_conditions E.conditions (indexed key.now i) (view value.now))) (E.record_of (indexed key.now i) (element_table (indexed key.now i) (view value.now))) }
+    ensures value { Gives (λ x. x) result
+        (first_fault (element_conditions E.conditions (element_path key.now i) (view value.now)))
+        (E.record_of (element_path key.now i)
+        (element_table (element_path key.now i) (view value.now))) }
     ensures sound { IfOk result E.is_sound }
 {
-    let place = indexed(alloc, key, i)?;
+    let place = element_path(alloc, key, i)?;
     let at = place.as_str();
     match value.as_table() {
         None => Err(WorldFault::WrongType(place)),
@@ -49,7 +54,9 @@ fn one_element<E: Element>(
 }
 
 fn elements<E: Element>(alloc: Global, key: &str, values: &Array) -> Result<Vec<E>, WorldFault>
-    ensures value { Gives (λ v. v.items) result (first_fault (elements_conditions E.conditions key.now 0 (array_view values.now))) (elements_of E.record_of key.now 0 (array_view values.now)) }
+    ensures value { Gives (λ v. v.items) result
+        (first_fault (elements_conditions E.conditions key.now 0 (array_view values.now)))
+        (elements_of E.record_of key.now 0 (array_view values.now)) }
     ensures sound { IfOk result (λ v. All E.is_sound v.items) }
     ensures count { IfOk result (λ v. length v.items ≡ length values.now.items) }
 {
@@ -70,14 +77,17 @@ pub(crate) fn list<E: Element>(
     key: &str,
     document: &Table,
 ) -> Result<Sequence<E>, WorldFault>
-    ensures value { Gives (λ v. v) result (first_fault (list_conditions E.conditions key.now (array_at most key.now (table_view document.now)))) (list_of E.record_of key.now (array_at most key.now (table_view document.now))) }
+    ensures value { Gives (λ v. v) result
+        (first_fault (list_conditions E.conditions key.now
+        (array_at most key.now (table_view document.now))))
+        (list_of E.record_of key.now (array_at most key.now (table_view document.now))) }
     ensures sound { IfOk result (λ v. All E.is_sound v) }
     ensures most { IfOk result (λ v. length v ≤ most) }
 {
     match member(document, key) {
         None => Err(WorldFault::Missing(Text::from_str(alloc, key)?)),
         Some(value) => {
-            let values = sized(alloc, 1, most, key, value)?;
+            let values = array_of_size(alloc, 1, most, key, value)?;
             Ok(Sequence::from_vec(elements(alloc, key, values)?))
         }
     }
@@ -93,14 +103,18 @@ pub(crate) fn optional_list<E: Element>(
     key: &str,
     table: &Table,
 ) -> Result<Sequence<E>, WorldFault>
-    ensures value { Gives (λ v. v) result (first_fault (list_conditions E.conditions array.now (optional_array_at most array.now key.now (table_view table.now)))) (list_of E.record_of array.now (optional_array_at most array.now key.now (table_view table.now))) }
+    ensures value { Gives (λ v. v) result
+        (first_fault (list_conditions E.conditions array.now
+        (optional_array_at most array.now key.now (table_view table.now))))
+        (list_of E.record_of array.now
+        (optional_array_at most array.now key.now (table_view table.now))) }
     ensures sound { IfOk result (λ v. All E.is_sound v) }
     ensures most { IfOk result (λ v. length v ≤ most) }
 {
     match member(table, key) {
         None => Ok(Sequence::new(alloc)),
         Some(value) => {
-            let values = sized(alloc, 0, most, array, value)?;
+            let values = array_of_size(alloc, 0, most, array, value)?;
             Ok(Sequence::from_vec(elements(alloc, array, values)?))
         }
     }

@@ -1,4 +1,4 @@
-//! Why a world can't be read.
+//! The faults of a world file. See docs/FORMATS.md, "Faults of a world file".
 ghost use Rattle.std.specs.Prelude.{◌≡◌};
 ghost use Rattle.std.specs.Option.{option_copied};
 ghost use Rattle.atl_tables.specs.FaultTexts.{fault_number, fault_name, fault_path};

@@ -1,28 +1,28 @@
 //! The tables `[[item]]`. See docs/FORMATS.md, "The world file".
 ghost use Rattle.std.specs.Prelude.{◌≡◌, ◌≢◌, ◌≤◌, ◌<◌, codes, length, IfOk, IfSome, Some, option_and_then};
-ghost use Rattle.atl_tables.specs.Drafts.{IsMaking, IsItemDraft};
-ghost use Rattle.atl_tables.specs.Given.{Gives};
+ghost use Rattle.atl_tables.specs.Drafts.{IsRecipe, IsItemDraft};
+ghost use Rattle.atl_tables.specs.Results.{Gives};
 ghost use Rattle.atl_tables.specs.ItemTable.{making_at, item_keys, item_from, other_than, item_known, item_of};
 ghost use Rattle.atl_tables.specs.KeyByKey.{conditions_of, value_of};
 ghost use Rattle.atl_tables.specs.Keys.{path};
 ghost use Rattle.atl_tables.specs.Limits.{most_numbered};
 ghost use Rattle.atl_tables.specs.Worlds.{IsItem};
-ghost use Rattle.atl_tables.specs.Titles.{number_of, known_or_absent};
+ghost use Rattle.atl_tables.specs.Titles.{number_of, known_number_or_none};
 
 use crate::elements::Element;
 use crate::fault::WorldFault;
-use crate::keys::{self, indexed, path};
+use crate::keys::{self, element_path, path};
 use crate::let_go;
 use crate::limits::{LAST_LEVEL, MOST_RAW_COUNT, MOST_WEIGHT};
-use crate::tables::{Draft, Tables};
 use crate::text::Text;
-use crate::titled::{Titled, known_or_absent, number_of};
+use crate::titles::{Titled, known_number_or_none, number_of};
 use crate::world::Item;
+use crate::world_draft::{Draft, WorldDraft};
 use std::alloc::Global;
 use toml::Table;
 
 /// What making an item takes, with its skill and its raw item by name.
-pub struct Making {
+pub struct Recipe {
     /// The name of the skill that makes it, where there is one.
     pub skill: Option<Text>,
     /// The level of that skill that it takes, from 1 to `LAST_LEVEL`; 1 where the file has none.
@@ -33,9 +33,9 @@ pub struct Making {
     pub raw_count: u32,
 }
 
-impl Drop for Making {
+impl Drop for Recipe {
     fn drop(self) {
-        let_go!(self: Making { skill, level, raw, raw_count });
+        let_go!(self: Recipe { skill, level, raw, raw_count });
     }
 }
 
@@ -47,7 +47,7 @@ pub struct ItemDraft {
     pub weight: u32,
     /// The weight of goods that one carries, at most `MOST_WEIGHT`.
     pub carry: u32,
-    pub making: Making,
+    pub making: Recipe,
 }
 
 impl Drop for ItemDraft {
@@ -56,20 +56,20 @@ impl Drop for ItemDraft {
     }
 }
 
-impl Element for Making {
+impl Element for Recipe {
     ghost conditions = { conditions_of making_at };
 
     ghost record_of = { value_of making_at };
 
-    ghost is_sound = { IsMaking };
+    ghost is_sound = { IsRecipe };
 
     #[tactic(auto, unfolding(crate::specs::ItemTable::making_at))]
-    fn read(alloc: Global, at: &str, table: &Table) -> Result<Making, WorldFault> {
+    fn read(alloc: Global, at: &str, table: &Table) -> Result<Recipe, WorldFault> {
         let skill = keys::optional_text(alloc, "skill", at, table)?;
         let level = keys::number_or(alloc, 1, 1, LAST_LEVEL, "level", at, table)?;
         let raw = keys::optional_text(alloc, "raw", at, table)?;
         let raw_count = keys::number_or(alloc, 1, 1, MOST_RAW_COUNT, "raw_count", at, table)?;
-        Ok(Making {
+        Ok(Recipe {
             skill,
             level,
             raw,
@@ -90,7 +90,7 @@ impl Element for ItemDraft {
         let name = keys::name(alloc, "name", at, table)?;
         let weight = keys::number(alloc, 0, MOST_WEIGHT, "weight", at, table)?;
         let carry = keys::number(alloc, 0, MOST_WEIGHT, "carry", at, table)?;
-        let making = Making::read(alloc, at, table)?;
+        let making = Recipe::read(alloc, at, table)?;
         Ok(ItemDraft {
             name,
             weight,
@@ -139,7 +139,10 @@ fn raw_item(
     name: &Option<Text>,
 ) -> Result<Option<u16>, WorldFault>
     requires { length items.now ≤ most_numbered }
-    ensures value { Gives (λ n. n) result (known_or_absent (path at.now (codes "raw")) (λ name. other_than i (number_of (λ d. d.name) items.now name)) name.now) (option_and_then (number_of (λ d. d.name) items.now) name.now) }
+    ensures value { Gives (λ n. n) result
+        (known_number_or_none (path at.now (codes "raw"))
+        (λ name. other_than i (number_of (λ d. d.name) items.now name)) name.now)
+        (option_and_then (number_of (λ d. d.name) items.now) name.now) }
     ensures below { IfOk result (λ o. IfSome o (λ n. n < length items.now)) }
     ensures other { IfOk result (λ o. IfSome o (λ n. n ≢ i)) }
 {
@@ -164,11 +167,11 @@ impl Draft for ItemDraft {
     ghost is_sound = { λ all i x. IsItem (length all.items) (length all.skills) i x };
 
     #[tactic(auto, unfolding(crate::specs::ItemTable::item_known, crate::specs::ItemTable::item_of))]
-    fn resolve(&self, alloc: Global, all: &Tables, i: usize) -> Result<Item, WorldFault> {
-        let place = indexed(alloc, "item", i)?;
+    fn resolve(&self, alloc: Global, all: &WorldDraft, i: usize) -> Result<Item, WorldFault> {
+        let place = element_path(alloc, "item", i)?;
         let at = place.as_str();
         let making = &self.making;
-        let skill = known_or_absent(alloc, all.skills.as_slice(), "skill", at, &making.skill)?;
+        let skill = known_number_or_none(alloc, all.skills.as_slice(), "skill", at, &making.skill)?;
         let raw = raw_item(alloc, all.items.as_slice(), i, at, &making.raw)?;
         let name = self.name.copy(alloc)?;
         Ok(Item {

@@ -1,10 +1,11 @@
-//! What stands under a key of a table. Each fault has the path of the key, and `Memory` may come in place of each.
+//! Reads the value under a key of a table. Each fault has the path of the key, and `Memory` is
+//! possible everywhere.
 ghost use Rattle.std.specs.Prelude.{◌≡◌, ◌≤◌, ℤ, List, option_map, IfOk, IfSome, true, length, string_bytes};
 ghost use Rattle.toml.specs.Data.{get_member, as_integer, as_str, as_array};
 ghost use Rattle.toml.specs.View.{view, table_view, array_view};
 ghost use Rattle.atl_tables.specs.Faults.{Reads};
 ghost use Rattle.atl_tables.specs.Names.{name_ok};
-ghost use Rattle.atl_tables.specs.Keys.{path, indexed, within, ranged, typed, number_at, name_at, text_at, flag_at, number_or_at, optional_number_at, optional_text_at, table_at, count_of, sized};
+ghost use Rattle.atl_tables.specs.Keys.{path, element_path, within, integer_in_range, typed, number_at, name_at, text_at, flag_at, number_or_at, optional_number_at, optional_text_at, table_at, count_of, array_of_size};
 
 use crate::fault::WorldFault;
 use crate::names::name_ok;
@@ -21,8 +22,8 @@ pub(crate) fn path(alloc: Global, at: &str, key: &str) -> Result<Text, AllocErro
 }
 
 /// The path of an element of an array, as `region[0]`.
-pub(crate) fn indexed(alloc: Global, key: &str, i: usize) -> Result<Text, AllocError>
-    ensures { IfOk result (λ text. text ≡ indexed key.now i) }
+pub(crate) fn element_path(alloc: Global, key: &str, i: usize) -> Result<Text, AllocError>
+    ensures { IfOk result (λ text. text ≡ element_path key.now i) }
 {
     Ok(Text::from_string(format!(in alloc; "{key}[{i}]")?))
 }
@@ -52,7 +53,7 @@ fn within(least: u32, most: u32, number: i64) -> Option<u32>
 }
 
 /// The number that a value is, from `least` to `most`, else WrongType or OutOfRange.
-pub(crate) fn ranged(
+pub(crate) fn integer_in_range(
     alloc: Global,
     least: u32,
     most: u32,
@@ -60,7 +61,8 @@ pub(crate) fn ranged(
     at: &str,
     value: &Value,
 ) -> Result<u32, WorldFault>
-    ensures value { Reads (λ n. n) result (ranged (path at.now key.now) least most (as_integer (view value.now))) }
+    ensures value { Reads (λ n. n) result
+        (integer_in_range (path at.now key.now) least most (as_integer (view value.now))) }
     ensures least { IfOk result (λ n. least ≤ n) }
     ensures most { IfOk result (λ n. n ≤ most) }
 {
@@ -83,13 +85,14 @@ pub(crate) fn number(
     at: &str,
     table: &Table,
 ) -> Result<u32, WorldFault>
-    ensures value { Reads (λ n. n) result (number_at least most key.now at.now (table_view table.now)) }
+    ensures value { Reads (λ n. n) result
+        (number_at least most key.now at.now (table_view table.now)) }
     ensures least { IfOk result (λ n. least ≤ n) }
     ensures most { IfOk result (λ n. n ≤ most) }
 {
     match member(table, key) {
         None => Err(WorldFault::Missing(path(alloc, at, key)?)),
-        Some(value) => ranged(alloc, least, most, key, at, value),
+        Some(value) => integer_in_range(alloc, least, most, key, at, value),
     }
 }
 
@@ -106,13 +109,14 @@ pub(crate) fn number_or(
 ) -> Result<u32, WorldFault>
     requires least { least ≤ default }
     requires most { default ≤ most }
-    ensures value { Reads (λ n. n) result (number_or_at default least most key.now at.now (table_view table.now)) }
+    ensures value { Reads (λ n. n) result
+        (number_or_at default least most key.now at.now (table_view table.now)) }
     ensures least { IfOk result (λ n. least ≤ n) }
     ensures most { IfOk result (λ n. n ≤ most) }
 {
     match member(table, key) {
         None => Ok(default),
-        Some(value) => ranged(alloc, least, most, key, at, value),
+        Some(value) => integer_in_range(alloc, least, most, key, at, value),
     }
 }
 
@@ -126,12 +130,13 @@ pub(crate) fn optional_number(
     at: &str,
     table: &Table,
 ) -> Result<Option<u32>, WorldFault>
-    ensures { Reads (λ o. o) result (optional_number_at least most key.now at.now (table_view table.now)) }
+    ensures { Reads (λ o. o) result
+        (optional_number_at least most key.now at.now (table_view table.now)) }
 {
     match member(table, key) {
         None => Ok(None),
         Some(value) => {
-            let number = ranged(alloc, least, most, key, at, value)?;
+            let number = integer_in_range(alloc, least, most, key, at, value)?;
             Ok(Some(number))
         }
     }
@@ -158,7 +163,7 @@ pub(crate) fn name(alloc: Global, key: &str, at: &str, table: &Table) -> Result<
 }
 
 /// The text that a value is, else WrongType.
-fn typed_text(alloc: Global, key: &str, at: &str, value: &Value) -> Result<Text, WorldFault>
+fn text_value(alloc: Global, key: &str, at: &str, value: &Value) -> Result<Text, WorldFault>
     ensures { Reads (λ t. t) result (typed (path at.now key.now) (as_str (view value.now))) }
 {
     match value.as_str() {
@@ -174,7 +179,7 @@ pub(crate) fn text(alloc: Global, key: &str, at: &str, table: &Table) -> Result<
 {
     match member(table, key) {
         None => Err(WorldFault::Missing(path(alloc, at, key)?)),
-        Some(value) => typed_text(alloc, key, at, value),
+        Some(value) => text_value(alloc, key, at, value),
     }
 }
 
@@ -191,7 +196,7 @@ pub(crate) fn optional_text(
     match member(table, key) {
         None => Ok(None),
         Some(value) => {
-            let text = typed_text(alloc, key, at, value)?;
+            let text = text_value(alloc, key, at, value)?;
             Ok(Some(text))
         }
     }
@@ -238,14 +243,15 @@ fn count(array: &Array) -> usize
 }
 
 /// The array that a value is, with at least `least` elements and at most `most`, else WrongType or OutOfRange.
-pub(crate) fn sized<'a>(
+pub(crate) fn array_of_size<'a>(
     alloc: Global,
     least: usize,
     most: usize,
     key: &str,
     value: &'a Value,
 ) -> Result<&'a Array, WorldFault>
-    ensures value { Reads (λ a. array_view a.now) result (sized key.now least most (as_array (view value.now))) }
+    ensures value { Reads (λ a. array_view a.now) result
+        (array_of_size key.now least most (as_array (view value.now))) }
     ensures most { IfOk result (λ a. length a.now.items ≤ most) }
 {
     match value.as_array() {

@@ -7,13 +7,13 @@ ghost use Rattle.atl_tables.specs.Worlds.{IsKind};
 
 use crate::elements::Element;
 use crate::fault::WorldFault;
-use crate::keys::{self, indexed};
+use crate::keys::{self, element_path};
 use crate::let_go;
 use crate::limits::{LAST_LEVEL, MOST_AMOUNT, MOST_SIZE};
-use crate::tables::{Draft, Tables};
 use crate::text::Text;
-use crate::titled::{Titled, known, known_or_absent};
+use crate::titles::{Titled, known, known_number_or_none};
 use crate::world::Kind;
+use crate::world_draft::{Draft, WorldDraft};
 use std::alloc::Global;
 use toml::Table;
 
@@ -146,8 +146,8 @@ impl Draft for KindDraft {
     ghost is_sound = { λ all i x. IsKind (length all.items) (length all.skills) x };
 
     #[tactic(auto, unfolding(crate::specs::KindTable::kind_known, crate::specs::KindTable::kind_of))]
-    fn resolve(&self, alloc: Global, all: &Tables, i: usize) -> Result<Kind, WorldFault> {
-        let place = indexed(alloc, "kind", i)?;
+    fn resolve(&self, alloc: Global, all: &WorldDraft, i: usize) -> Result<Kind, WorldFault> {
+        let place = element_path(alloc, "kind", i)?;
         let at = place.as_str();
         let skills = all.skills.as_slice();
         let building = &self.building;
@@ -160,7 +160,7 @@ impl Draft for KindDraft {
             &building.material,
         )?;
         let skill = known(alloc, skills, "skill", at, &building.skill)?;
-        let helps = known_or_absent(alloc, skills, "helps", at, &purpose.helps)?;
+        let helps = known_number_or_none(alloc, skills, "helps", at, &purpose.helps)?;
         let name = self.name.copy(alloc)?;
         Ok(Kind {
             name,

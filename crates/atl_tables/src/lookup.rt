@@ -1,11 +1,11 @@
-//! The items, skills and kinds that a word names.
+//! Finds the item, skill or kind that a word names. See docs/RULES.md, "Names in orders".
 ghost use Rattle.std.specs.Prelude.{◌≡◌, ◌<◌, length, IfSome};
 ghost use Rattle.std.specs.Str.{str_eq_ignore_ascii_case};
-ghost use Rattle.atl_tables.specs.Lookup.{letter_of, name_of, place_named, item_named, skill_named, kind_named};
+ghost use Rattle.atl_tables.specs.Lookup.{letter_of, name_of, index_named, item_named, skill_named, kind_named};
 
 use crate::letters::{SPACE, UNDERSCORE};
 use crate::text::Text;
-use crate::titled::Titled;
+use crate::titles::Titled;
 use crate::world::{Item, Kind, World};
 
 impl Titled for Item {
@@ -53,8 +53,8 @@ fn is_named(name: &[u8], word: &[u8], quoted: bool) -> bool
 }
 
 /// The place of the first thing that a word names.
-fn place_named<T: Titled>(things: &[T], word: &[u8], quoted: bool) -> Option<usize>
-    ensures value { result ≡ place_named T.title_of things.now word.now quoted }
+fn index_named<T: Titled>(things: &[T], word: &[u8], quoted: bool) -> Option<usize>
+    ensures value { result ≡ index_named T.title_of things.now word.now quoted }
     ensures within { IfSome result (λ i. i < length things.now) }
 {
     things
@@ -68,20 +68,20 @@ impl World {
     pub fn item_named(&self, word: &[u8], quoted: bool) -> Option<u16>
         ensures { result ≡ item_named self.now word.now quoted }
     {
-        place_named(self.items(), word, quoted).map(|place| place as u16)
+        index_named(self.items(), word, quoted).map(|place| place as u16)
     }
 
     /// The number of the skill that a word names, as `item_named` does it.
     pub fn skill_named(&self, word: &[u8], quoted: bool) -> Option<u16>
         ensures { result ≡ skill_named self.now word.now quoted }
     {
-        place_named(self.skills(), word, quoted).map(|place| place as u16)
+        index_named(self.skills(), word, quoted).map(|place| place as u16)
     }
 
     /// The number of the kind of structure that a word names, as `item_named` does it.
     pub fn kind_named(&self, word: &[u8], quoted: bool) -> Option<u16>
         ensures { result ≡ kind_named self.now word.now quoted }
     {
-        place_named(self.kinds(), word, quoted).map(|place| place as u16)
+        index_named(self.kinds(), word, quoted).map(|place| place as u16)
     }
 }

@@ -1,24 +1,24 @@
-//! The tables `[[region.market]]`.
+//! The tables `[[region.market]]`. See docs/FORMATS.md, "The world file".
 ghost use Rattle.std.specs.Prelude.{◌≡◌, ◌≤◌, IfOk, length};
 ghost use Rattle.std.specs.List.{All};
 ghost use Rattle.toml.specs.View.{table_view};
 ghost use Rattle.atl_tables.specs.Drafts.{IsMarketDraft};
 ghost use Rattle.atl_tables.specs.Faults.{first_fault};
-ghost use Rattle.atl_tables.specs.Given.{Gives};
+ghost use Rattle.atl_tables.specs.Results.{Gives};
 ghost use Rattle.atl_tables.specs.MarketTable.{market_keys, market_from, markets_keys, markets_from, market_known, market_of};
 ghost use Rattle.atl_tables.specs.Worlds.{IsMarket};
 
 use crate::elements::{Element, optional_list};
 use crate::fault::WorldFault;
+use crate::has_number::HasNumber;
 use crate::keys::{self, path};
 use crate::let_go;
 use crate::limits::{MOST_AMOUNT, MOST_MARKETS, MOST_PRICE};
-use crate::placed::Placed;
 use crate::sequence::Sequence;
-use crate::tables::{Draft, Tables};
 use crate::text::Text;
-use crate::titled::{Titled, known};
+use crate::titles::{Titled, known};
 use crate::world::Market;
+use crate::world_draft::{Draft, WorldDraft};
 use std::alloc::Global;
 use toml::Table;
 
@@ -77,7 +77,8 @@ pub(crate) fn markets(
     at: &str,
     table: &Table,
 ) -> Result<Sequence<MarketDraft>, WorldFault>
-    ensures value { Gives (λ v. v) result (first_fault (markets_keys at.now (table_view table.now))) (markets_from at.now (table_view table.now)) }
+    ensures value { Gives (λ v. v) result (first_fault (markets_keys at.now (table_view table.now)))
+        (markets_from at.now (table_view table.now)) }
     ensures sound { IfOk result (λ v. All IsMarketDraft v) }
 {
     let array = path(alloc, at, "market")?;
@@ -104,7 +105,7 @@ impl Draft for MarketDraft {
     ghost is_sound = { λ all i m. IsMarket (length all.items) m.item m };
 
     #[tactic(auto, unfolding(crate::specs::MarketTable::market_known, crate::specs::MarketTable::market_of))]
-    fn resolve(&self, alloc: Global, all: &Tables, _i: usize) -> Result<Market, WorldFault> {
+    fn resolve(&self, alloc: Global, all: &WorldDraft, _i: usize) -> Result<Market, WorldFault> {
         let at = self.place.as_str();
         let item = known(alloc, all.items.as_slice(), "item", at, &self.item)?;
         Ok(Market {
@@ -117,7 +118,7 @@ impl Draft for MarketDraft {
     }
 }
 
-impl Placed for Market {
+impl HasNumber for Market {
     ghost place_of = { λ m. m.item };
 
     fn place(&self) -> u32 {

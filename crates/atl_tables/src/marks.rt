@@ -1,47 +1,47 @@
-//! Which numbers are marked.
+//! A set of marked numbers.
 ghost use Rattle.std.specs.Prelude.{◌≡◌, true, ◌+◌, ◌<◌, ◌≤◌, IfOk, OnOk};
 ghost use Rattle.std.specs.FinMap as map;
 ghost use Rattle.std.specs.FinSet as set;
 ghost use Rattle.atl_tables.specs.Limits.{number_count};
-ghost use Rattle.atl_tables.specs.Marked.{held, HasRoom};
+ghost use Rattle.atl_tables.specs.RoomySets.{held, HasRoom};
 ghost use Rattle.atl_tables.specs.Tracking.{marked_with, Lists};
 
 use crate::let_go;
-use crate::marked::MarkedNumbers;
+use crate::marked_numbers::MarkedNumbers;
 use crate::numbered::Numbered;
-use crate::rising::RisingNumbers;
+use crate::sorted_numbers::SortedNumbers;
 use std::alloc::{AllocError, Global};
 use std::marker::Model;
 
-/// So many numbers are late at most.
-const LATE: usize = 512;
+/// At most this many numbers are recent: not merged yet.
+const RECENT_LIMIT: usize = 512;
 
 /// The marked numbers, with room for more: to mark one takes no memory, and to let all marks go takes no longer than the
 /// marks are many.
 pub struct Marks {
-    numbers: RisingNumbers,
+    numbers: SortedNumbers,
     // Those that were marked last, so few that it takes little to put one among them.
-    late: RisingNumbers,
+    recent: SortedNumbers,
 }
 
 impl Drop for Marks {
     fn drop(self) {
-        let_go!(self: Marks { numbers, late });
+        let_go!(self: Marks { numbers, recent });
     }
 }
 
 impl Model for Marks {
     ghost use Rattle.std.specs.FinSet as set;
-    ghost use Rattle.atl_tables.specs.Marked.{Marked, marked_code};
-    ghost use Rattle.atl_tables.specs.Rising.{AreMarks};
+    ghost use Rattle.atl_tables.specs.RoomySets.{RoomySet, roomy_set_code};
+    ghost use Rattle.atl_tables.specs.SortedNumbers.{AreMarks};
 
-    ghost Value = { Marked };
+    ghost Value = { RoomySet };
 
-    ghost coded = { marked_code };
+    ghost coded = { roomy_set_code };
 
-    ghost view = { λ a. record { numbers = set.union a.numbers.numbers a.late.numbers; room = a.numbers.room } };
+    ghost view = { λ a. record { numbers = set.union a.numbers.numbers a.recent.numbers; room = a.numbers.room } };
 
-    ghost invariant = { λ a. AreMarks a.numbers a.late };
+    ghost invariant = { λ a. AreMarks a.numbers a.recent };
 }
 
 impl Marks {
@@ -50,8 +50,8 @@ impl Marks {
         ensures { result ≡ record { numbers = set.empty; room = 0 } }
     {
         Marks {
-            numbers: RisingNumbers::new(alloc),
-            late: RisingNumbers::new(alloc),
+            numbers: SortedNumbers::new(alloc),
+            recent: SortedNumbers::new(alloc),
         }
     }
 
@@ -59,9 +59,9 @@ impl Marks {
     pub fn with_room(alloc: Global, room: usize) -> Result<Marks, AllocError>
         ensures { IfOk result (λ marks. marks ≡ record { numbers = set.empty; room = room }) }
     {
-        let late = RisingNumbers::with_room(alloc, room.min(LATE))?;
-        let numbers = RisingNumbers::with_room(alloc, room)?;
-        Ok(Marks { numbers, late })
+        let recent = SortedNumbers::with_room(alloc, room.min(RECENT_LIMIT))?;
+        let numbers = SortedNumbers::with_room(alloc, room)?;
+        Ok(Marks { numbers, recent })
     }
 
     /// Makes room for so many numbers more. Without memory for it nothing changes.
@@ -70,11 +70,12 @@ impl Marks {
         ensures room { OnOk result (set.len self.old.numbers + more ≤ self.new.room) }
         ensures kept { self.old.room ≤ self.new.room }
     {
-        let late = self.late.len();
-        let Some(all) = late.checked_add(more) else {
+        let recent = self.recent.len();
+        let Some(all) = recent.checked_add(more) else {
             return Err(AllocError);
         };
-        self.late.make_room(LATE.saturating_sub(late).min(more))?;
+        self.recent
+            .make_room(RECENT_LIMIT.saturating_sub(recent).min(more))?;
         self.numbers.make_room(all)
     }
 
@@ -86,10 +87,10 @@ impl Marks {
         if self.contains(number) {
             return;
         }
-        if takes_late(&self.late) {
-            self.late.add(number);
+        if merges_recent(&self.recent) {
+            self.recent.add(number);
         } else {
-            self.numbers.take_over(&mut self.late);
+            self.numbers.merge_from(&mut self.recent);
             self.numbers.add(number);
         }
     }
@@ -97,7 +98,8 @@ impl Marks {
     /// Marks a number if it has a value, where there is room to mark every value. It takes no memory.
     pub fn mark_present<V: Drop>(&mut self, values: &Numbered<V>, number: u32)
         requires { HasRoom values.now self.old }
-        ensures { self.new ≡ record self.old { numbers = marked_with self.old.numbers number (map.get values.now number) } }
+        ensures { self.new ≡ record self.old
+            { numbers = marked_with self.old.numbers number (map.get values.now number) } }
     {
         match values.get(number) {
             Some(_) => self.add(number),
@@ -120,7 +122,7 @@ impl Marks {
         ensures { self.new ≡ record self.old { numbers = set.remove self.old.numbers number } }
     {
         self.numbers.take(number);
-        self.late.take(number);
+        self.recent.take(number);
     }
 
     /// Leaves nothing marked. It takes no memory.
@@ -128,14 +130,14 @@ impl Marks {
         ensures { self.new ≡ record self.old { numbers = set.empty } }
     {
         self.numbers.clear();
-        self.late.clear();
+        self.recent.clear();
     }
 
     /// Whether a number is marked.
     pub fn contains(&self, number: u32) -> bool
         ensures { result ≡ set.contains self.now.numbers number }
     {
-        self.numbers.contains(number) || self.late.contains(number)
+        self.numbers.contains(number) || self.recent.contains(number)
     }
 
     /// How many numbers are marked.
@@ -143,7 +145,7 @@ impl Marks {
         ensures value { result ≡ set.len self.now.numbers }
         ensures small { result ≤ number_count }
     {
-        self.numbers.len() + self.late.len()
+        self.numbers.len() + self.recent.len()
     }
 
     /// The marked numbers, in rising order. It takes no memory.
@@ -152,14 +154,14 @@ impl Marks {
     {
         MarkedNumbers {
             numbers: self.numbers.as_slice().iter(),
-            late: self.late.as_slice().iter(),
+            recent: self.recent.as_slice().iter(),
         }
     }
 }
 
 /// Whether one number more can be among those that were marked last.
-fn takes_late(late: &RisingNumbers) -> bool
-    ensures { result ≡ true → set.len late.now.numbers < late.now.room }
+fn merges_recent(recent: &SortedNumbers) -> bool
+    ensures { result ≡ true → set.len recent.now.numbers < recent.now.room }
 {
-    late.len() < late.room().min(LATE)
+    recent.len() < recent.room().min(RECENT_LIMIT)
 }

@@ -1,4 +1,4 @@
-//! The rules of names and pass texts.
+//! The rules for names and pass texts. See docs/RULES.md, "Names and pass texts".
 ghost use Rattle.std.specs.Prelude.{◌≡◌};
 ghost use Rattle.std.specs.List.{list_all};
 ghost use Rattle.atl_tables.specs.Names.{name_ok, pass_ok, is_short, is_name_byte, is_pass_byte, has_open_ends};

@@ -1,24 +1,24 @@
-//! That neighbours are mutual.
+//! Checks that neighbours are mutual. See docs/FORMATS.md, "The world file".
 ghost use Rattle.std.specs.Prelude.{◌≡◌, OnOk, option_and_then};
 ghost use Rattle.std.specs.FinMap.{get};
 ghost use Rattle.std.specs.List.{All};
 ghost use Rattle.atl_tables.specs.Each.{each};
 ghost use Rattle.atl_tables.specs.Faults.{first_fault};
-ghost use Rattle.atl_tables.specs.Given.{Gives};
+ghost use Rattle.atl_tables.specs.Results.{Gives};
 ghost use Rattle.atl_tables.specs.Keys.{path};
 ghost use Rattle.atl_tables.specs.Neighbours.{is_number, neighbour, neighbours_at};
 ghost use Rattle.atl_tables.specs.Worlds.{beside, LeadsBack, HasNeighbours};
 
 use crate::direction::Direction::{self, East, North, South, West};
 use crate::fault::WorldFault;
-use crate::keys::{indexed, path};
+use crate::keys::{element_path, path};
 use crate::numbered::Numbered;
 use crate::region_table::RegionDraft;
 use crate::world::RegionPlan;
 use std::alloc::Global;
 
 /// The neighbour of a region on a side, where there is such a region and it has one.
-fn beyond(regions: &Numbered<RegionPlan>, number: u32, side: Direction) -> Option<u32>
+fn region_next_to(regions: &Numbered<RegionPlan>, number: u32, side: Direction) -> Option<u32>
     ensures { result ≡ option_and_then (beside side) (get regions.now number) }
 {
     match regions.get(number) {
@@ -46,13 +46,14 @@ fn neighbour(
     number: u32,
     other: Option<u32>,
 ) -> Result<(), WorldFault>
-    ensures value { Gives (λ u. u) result (neighbour (path at.now key.now) regions.now opposite number other) (tt {0}) }
+    ensures value { Gives (λ u. u) result
+        (neighbour (path at.now key.now) regions.now opposite number other) (tt {0}) }
     ensures back { OnOk result (LeadsBack regions.now (beside opposite) number other) }
 {
     match other {
         None => Ok(()),
         Some(other) => {
-            if is_number(number, beyond(regions, other, opposite)) {
+            if is_number(number, region_next_to(regions, other, opposite)) {
                 return Ok(());
             }
             Err(WorldFault::BadNeighbour(path(alloc, at, key)?))
@@ -67,10 +68,13 @@ fn neighbours_of(
     i: usize,
     draft: &RegionDraft,
 ) -> Result<(), WorldFault>
-    ensures value { Gives (λ u. u) result (first_fault (neighbours_at regions.now i draft.now)) (tt {0}) }
-    ensures back { OnOk result (HasNeighbours regions.now draft.now.place.number draft.now.sides.north draft.now.sides.south draft.now.sides.east draft.now.sides.west) }
+    ensures value { Gives (λ u. u) result (first_fault (neighbours_at regions.now i draft.now))
+        (tt {0}) }
+    ensures back { OnOk result
+        (HasNeighbours regions.now draft.now.place.number draft.now.sides.north
+        draft.now.sides.south draft.now.sides.east draft.now.sides.west) }
 {
-    let place = indexed(alloc, "region", i)?;
+    let place = element_path(alloc, "region", i)?;
     let at = place.as_str();
     let number = draft.place.number;
     let sides = &draft.sides;
@@ -86,8 +90,11 @@ pub(crate) fn mutual_neighbours(
     regions: &Numbered<RegionPlan>,
     drafts: &[RegionDraft],
 ) -> Result<(), WorldFault>
-    ensures value { Gives (λ u. u) result (first_fault (each (neighbours_at regions.now) 0 drafts.now)) (tt {0}) }
-    ensures back { OnOk result (All (λ d. HasNeighbours regions.now d.place.number d.sides.north d.sides.south d.sides.east d.sides.west) drafts.now) }
+    ensures value { Gives (λ u. u) result
+        (first_fault (each (neighbours_at regions.now) 0 drafts.now)) (tt {0}) }
+    ensures back { OnOk result
+        (All (λ d. HasNeighbours regions.now d.place.number d.sides.north d.sides.south d.sides.east
+        d.sides.west) drafts.now) }
 {
     for i in 0..drafts.len() {
         neighbours_of(alloc, regions, i, &drafts[i])?;

@@ -1,4 +1,4 @@
-//! Values under numbers, in rising order of the numbers.
+//! A map by number, sorted by its numbers.
 ghost use Rattle.std.specs.Prelude.{◌≡◌, ℕ, IfOk, OnOk, OnErr, IsOk, option_copied, None, Some, is_some, length};
 ghost use Rattle.std.specs.Ordering.{nat_cmp};
 ghost use Rattle.std.specs.FinMap as map;
@@ -113,7 +113,9 @@ impl<V: Drop> Numbered<Numbered<V>> {
         number: u32,
         value: V,
     ) -> Result<(), AllocError>
-        ensures ok { OnOk result (self.new ≡ map.insert self.old group (map.insert (group_of self.old group) number value)) }
+        ensures ok { OnOk result
+            (self.new ≡ map.insert self.old group
+            (map.insert (group_of self.old group) number value)) }
         ensures err { OnErr result (self.new ≡ self.old) }
     {
         match self.get_mut(group) {

@@ -2,22 +2,22 @@
 ghost use Rattle.std.specs.Prelude.{◌≡◌, ◌≤◌, IfOk, map};
 ghost use Rattle.std.specs.List.{All};
 ghost use Rattle.toml.specs.View.{table_view};
-ghost use Rattle.atl_tables.specs.Drafts.{AreTables, IsOutput};
+ghost use Rattle.atl_tables.specs.Drafts.{IsOutput, IsWorldDraft};
 ghost use Rattle.atl_tables.specs.Each.{each};
 ghost use Rattle.atl_tables.specs.Faults.{first_fault};
-ghost use Rattle.atl_tables.specs.Given.{Gives};
+ghost use Rattle.atl_tables.specs.Results.{Gives};
 ghost use Rattle.atl_tables.specs.KeyByKey.{conditions_of, value_of};
 ghost use Rattle.atl_tables.specs.Limits.{most_amount};
 ghost use Rattle.atl_tables.specs.OutputTable.{in_byte_order, amounts_keys, amounts_from, output_at, twin_key_at, known_key_at, amount_of};
 
 use crate::fault::WorldFault;
 use crate::item_table::ItemDraft;
-use crate::keys::{member, path, ranged};
+use crate::keys::{integer_in_range, member, path};
 use crate::limits::MOST_AMOUNT;
 use crate::sequence::Sequence;
-use crate::tables::Tables;
 use crate::text::Text;
-use crate::titled::{is_new, known, same_name};
+use crate::titles::{is_new, known, same_name};
+use crate::world_draft::WorldDraft;
 use std::alloc::{AllocError, Global};
 use std::collections::BTreeSet;
 use toml::Table;
@@ -31,13 +31,15 @@ pub struct Output {
 
 /// Each key with its amount, in byte order, else WrongType or OutOfRange at the first key without one.
 fn amounts(alloc: Global, at: &str, table: &Table) -> Result<Sequence<Output>, WorldFault>
-    ensures value { Gives (λ v. v) result (first_fault (amounts_keys at.now (in_byte_order (table_view table.now)))) (amounts_from at.now (in_byte_order (table_view table.now))) }
+    ensures value { Gives (λ v. v) result
+        (first_fault (amounts_keys at.now (in_byte_order (table_view table.now))))
+        (amounts_from at.now (in_byte_order (table_view table.now))) }
     ensures sound { IfOk result (λ v. All IsOutput v) }
 {
     let mut outputs = Sequence::new(alloc);
     for (key, value) in table.iter() {
         let key = key.as_str();
-        let amount = ranged(alloc, 0, MOST_AMOUNT, key, at, value)?;
+        let amount = integer_in_range(alloc, 0, MOST_AMOUNT, key, at, value)?;
         let item = Text::from_str(alloc, key)?;
         outputs.push(Output { item, amount })?;
     }
@@ -51,7 +53,9 @@ pub(crate) fn outputs(
     at: &str,
     table: &Table,
 ) -> Result<Sequence<Output>, WorldFault>
-    ensures value { Gives (λ v. v) result (first_fault (conditions_of output_at at.now (table_view table.now))) (value_of output_at at.now (table_view table.now)) }
+    ensures value { Gives (λ v. v) result
+        (first_fault (conditions_of output_at at.now (table_view table.now)))
+        (value_of output_at at.now (table_view table.now)) }
     ensures sound { IfOk result (λ v. All IsOutput v) }
 {
     match member(table, "output") {
@@ -67,8 +71,13 @@ pub(crate) fn outputs(
 }
 
 /// That no two keys are equal, ignoring ASCII case, else TwoNames at the second.
-pub(crate) fn no_twin_keys(alloc: Global, at: &str, outputs: &[Output]) -> Result<(), WorldFault>
-    ensures { Gives (λ u. u) result (first_fault (each (twin_key_at at.now outputs.now) 0 outputs.now)) (tt {0}) }
+pub(crate) fn no_duplicate_keys(
+    alloc: Global,
+    at: &str,
+    outputs: &[Output],
+) -> Result<(), WorldFault>
+    ensures { Gives (λ u. u) result
+        (first_fault (each (twin_key_at at.now outputs.now) 0 outputs.now)) (tt {0}) }
 {
     let mut seen = BTreeSet::new(alloc);
     for output in outputs {
@@ -82,12 +91,13 @@ pub(crate) fn no_twin_keys(alloc: Global, at: &str, outputs: &[Output]) -> Resul
 /// That each key stands for an item, else UnknownName at the first that doesn't.
 pub(crate) fn known_keys(
     alloc: Global,
-    all: &Tables,
+    all: &WorldDraft,
     at: &str,
     outputs: &[Output],
 ) -> Result<(), WorldFault>
-    requires { AreTables all.now }
-    ensures { Gives (λ u. u) result (first_fault (each (known_key_at all.now at.now) 0 outputs.now)) (tt {0}) }
+    requires { IsWorldDraft all.now }
+    ensures { Gives (λ u. u) result (first_fault (each (known_key_at all.now at.now) 0 outputs.now))
+        (tt {0}) }
 {
     for i in 0..outputs.len() {
         let item = &outputs[i].item;

@@ -1,13 +1,13 @@
-//! The reader of world files.
+//! Reads a world file. See docs/FORMATS.md, "The world file".
 ghost use Rattle.std.specs.Prelude.{◌≡◌, ◌≤◌, ◌<◌, ◌++◌, length, IfOk};
 ghost use Rattle.std.specs.List.{All};
 ghost use Rattle.toml.specs.View.{table_view};
-ghost use Rattle.atl_tables.specs.Drafts.{IsRegionDraft, AreThings, AreTables, HaveNames};
+ghost use Rattle.atl_tables.specs.Drafts.{IsRegionDraft, AreThingDrafts, IsWorldDraft, HaveNames};
 ghost use Rattle.atl_tables.specs.Faults.{first_fault, Reads};
-ghost use Rattle.atl_tables.specs.Given.{Gives};
+ghost use Rattle.atl_tables.specs.Results.{Gives};
 ghost use Rattle.atl_tables.specs.Limits.{most_regions};
 ghost use Rattle.atl_tables.specs.OldWorlds.{OldWorldsAreBare};
-ghost use Rattle.atl_tables.specs.Parts.{ArePartsOf, parts_of};
+ghost use Rattle.atl_tables.specs.Parts.{AreWorldPartsOf, world_parts_of};
 ghost use Rattle.atl_tables.specs.Worlds.{IsWorld, is_land, land_of};
 ghost use Rattle.atl_tables.specs.Sums.{numbers_where};
 ghost use Rattle.atl_tables.specs.World.{things_of, regions_in, tables_of, world_of_tables, things_are_good, regions_are_good, keys_are_good, titles_differ, names_differ, names_are_known, neighbours_are_mutual, is_some_land, table_conditions, conditions, world_by, world_of, old_world_of};
@@ -15,26 +15,26 @@ ghost use Rattle.atl_tables.specs.World.{things_of, regions_in, tables_of, world
 use crate::elements::{list, optional_list};
 use crate::fault::WorldFault;
 use crate::format::Format;
+use crate::has_number::by_number;
 use crate::item_table::ItemDraft;
 use crate::kind_table::KindDraft;
 use crate::limits::{MOST_ITEMS, MOST_KINDS, MOST_REGIONS, MOST_SKILLS, MOST_TERRAINS};
 use crate::neighbours::mutual_neighbours;
 use crate::numbered::Numbered;
-use crate::placed::by_number;
 use crate::region_table::{OldRegion, RegionDraft, without_markets};
-use crate::regions::no_twin_numbers;
+use crate::regions::no_duplicate_numbers;
 use crate::rules_table::{resolve_rules, rules};
 use crate::sequence::Sequence;
-use crate::tables::{Tables, resolve_all};
 use crate::terrain_table::TerrainDraft;
-use crate::titled::{no_twins, no_twins_within};
+use crate::titles::{no_duplicate_names, no_duplicates_inside};
 use crate::world::{Item, Kind, RegionPlan, Rules, Skill, Terrain, World};
+use crate::world_draft::{WorldDraft, resolve_all};
 use std::alloc::{AllocError, Global};
 use toml::Table;
 
 /// What tables stand for, with regions in the order of the file.
 #[derive(Drop)]
-pub struct Parts {
+pub struct WorldParts {
     pub rules: Rules,
     pub terrains: Sequence<Terrain>,
     pub items: Sequence<Item>,
@@ -44,21 +44,22 @@ pub struct Parts {
 
 /// The tables that a world file may lack.
 #[derive(Drop)]
-pub struct Things {
+pub struct ThingDrafts {
     pub items: Sequence<ItemDraft>,
     pub skills: Sequence<Skill>,
     pub kinds: Sequence<KindDraft>,
 }
 
 #[tactic(auto, unfolding(crate::specs::World::things_are_good, crate::specs::World::things_of))]
-fn read_things(alloc: Global, document: &Table) -> Result<Things, WorldFault>
-    ensures value { Gives (λ t. t) result (first_fault (things_are_good (table_view document.now))) (things_of (table_view document.now)) }
-    ensures sound { IfOk result AreThings }
+fn read_thing_drafts(alloc: Global, document: &Table) -> Result<ThingDrafts, WorldFault>
+    ensures value { Gives (λ t. t) result (first_fault (things_are_good (table_view document.now)))
+        (things_of (table_view document.now)) }
+    ensures sound { IfOk result AreThingDrafts }
 {
     let items = optional_list::<ItemDraft>(alloc, MOST_ITEMS, "item", "item", document)?;
     let skills = optional_list::<Skill>(alloc, MOST_SKILLS, "skill", "skill", document)?;
     let kinds = optional_list::<KindDraft>(alloc, MOST_KINDS, "kind", "kind", document)?;
-    Ok(Things {
+    Ok(ThingDrafts {
         items,
         skills,
         kinds,
@@ -72,7 +73,9 @@ fn read_regions(
     format: Format,
     document: &Table,
 ) -> Result<Sequence<RegionDraft>, WorldFault>
-    ensures value { Gives (λ v. v) result (first_fault (regions_are_good format (table_view document.now))) (regions_in format (table_view document.now)) }
+    ensures value { Gives (λ v. v) result
+        (first_fault (regions_are_good format (table_view document.now)))
+        (regions_in format (table_view document.now)) }
     ensures sound { IfOk result (λ v. All IsRegionDraft v) }
     ensures most { IfOk result (λ v. length v ≤ most_regions) }
 {
@@ -87,20 +90,22 @@ fn read_regions(
 
 /// What the tables say, else the first fault of a key.
 #[tactic(auto, unfolding(crate::specs::World::keys_are_good, crate::specs::World::tables_of))]
-fn tables(alloc: Global, format: Format, document: &Table) -> Result<Tables, WorldFault>
-    ensures value { Gives (λ t. t) result (first_fault (keys_are_good format (table_view document.now))) (tables_of format (table_view document.now)) }
-    ensures sound { IfOk result AreTables }
+fn tables(alloc: Global, format: Format, document: &Table) -> Result<WorldDraft, WorldFault>
+    ensures value { Gives (λ t. t) result
+        (first_fault (keys_are_good format (table_view document.now)))
+        (tables_of format (table_view document.now)) }
+    ensures sound { IfOk result IsWorldDraft }
 {
     let rules = rules(alloc, document)?;
     let terrains = list::<TerrainDraft>(alloc, MOST_TERRAINS, "terrain", document)?;
-    let things = read_things(alloc, document)?;
-    let Things {
+    let things = read_thing_drafts(alloc, document)?;
+    let ThingDrafts {
         items,
         skills,
         kinds,
     } = things;
     let regions = read_regions(alloc, format, document)?;
-    Ok(Tables {
+    Ok(WorldDraft {
         rules,
         terrains,
         items,
@@ -112,39 +117,40 @@ fn tables(alloc: Global, format: Format, document: &Table) -> Result<Tables, Wor
 
 /// That no two terrains, items, skills or kinds have one name, else TwoNames.
 #[tactic(auto, unfolding(crate::specs::World::titles_differ))]
-fn titles_differ(alloc: Global, all: &Tables) -> Result<(), WorldFault>
+fn titles_differ(alloc: Global, all: &WorldDraft) -> Result<(), WorldFault>
     ensures { Gives (λ u. u) result (first_fault (titles_differ all.now)) (tt {0}) }
 {
-    no_twins(alloc, "terrain", "name", all.terrains.as_slice())?;
-    no_twins(alloc, "item", "name", all.items.as_slice())?;
-    no_twins(alloc, "skill", "name", all.skills.as_slice())?;
-    no_twins(alloc, "kind", "name", all.kinds.as_slice())
+    no_duplicate_names(alloc, "terrain", "name", all.terrains.as_slice())?;
+    no_duplicate_names(alloc, "item", "name", all.items.as_slice())?;
+    no_duplicate_names(alloc, "skill", "name", all.skills.as_slice())?;
+    no_duplicate_names(alloc, "kind", "name", all.kinds.as_slice())
 }
 
 /// That no name and no number stands twice, else TwoNames.
 #[tactic(auto, unfolding(crate::specs::World::names_differ))]
-fn names_differ(alloc: Global, all: &Tables) -> Result<(), WorldFault>
+fn names_differ(alloc: Global, all: &WorldDraft) -> Result<(), WorldFault>
     ensures { Gives (λ u. u) result (first_fault (names_differ all.now)) (tt {0}) }
 {
     titles_differ(alloc, all)?;
-    no_twin_numbers(alloc, all.regions.as_slice())?;
-    no_twins_within(alloc, all.terrains.as_slice())?;
-    no_twins_within(alloc, all.regions.as_slice())
+    no_duplicate_numbers(alloc, all.regions.as_slice())?;
+    no_duplicates_inside(alloc, all.terrains.as_slice())?;
+    no_duplicates_inside(alloc, all.regions.as_slice())
 }
 
 /// What the tables stand for, else UnknownName.
 #[tactic(auto, unfolding(crate::specs::World::names_are_known))]
-fn resolve(alloc: Global, all: &Tables) -> Result<Parts, WorldFault>
-    requires { AreTables all.now }
-    ensures value { Gives (λ p. p) result (first_fault (names_are_known all.now)) (parts_of all.now) }
-    ensures sound { IfOk result (ArePartsOf all.now) }
+fn resolve(alloc: Global, all: &WorldDraft) -> Result<WorldParts, WorldFault>
+    requires { IsWorldDraft all.now }
+    ensures value { Gives (λ p. p) result (first_fault (names_are_known all.now))
+        (world_parts_of all.now) }
+    ensures sound { IfOk result (AreWorldPartsOf all.now) }
 {
     let rules = resolve_rules(alloc, all)?;
     let terrains = resolve_all(alloc, all, all.terrains.as_slice())?;
     let items = resolve_all(alloc, all, all.items.as_slice())?;
     let kinds = resolve_all(alloc, all, all.kinds.as_slice())?;
     let regions = resolve_all(alloc, all, all.regions.as_slice())?;
-    Ok(Parts {
+    Ok(WorldParts {
         rules,
         terrains,
         items,
@@ -189,8 +195,43 @@ fn with_land(
     kinds: Sequence<Kind>,
     regions: Numbered<RegionPlan>,
 ) -> Result<World, WorldFault>
-    requires world { 0 < length (land_of (record { rules = rules; terrains = terrains; items = items; skills = skills; kinds = kinds; regions = regions })) → IsWorld (record { rules = rules; terrains = terrains; items = items; skills = skills; kinds = kinds; regions = regions }) }
-    ensures { Gives (λ w. w) result (first_fault (is_some_land (land_of (record { rules = rules; terrains = terrains; items = items; skills = skills; kinds = kinds; regions = regions })))) (record { rules = rules; terrains = terrains; items = items; skills = skills; kinds = kinds; regions = regions }) }
+    requires world { 0 < length
+        (land_of (record {
+          rules = rules;
+          terrains = terrains;
+          items = items;
+          skills = skills;
+          kinds
+              = kinds;
+          regions = regions;
+        }))
+        → IsWorld (record {
+          rules = rules;
+          terrains = terrains;
+          items = items;
+          skills = skills;
+          kinds = kinds;
+          regions = regions;
+        }) }
+    ensures { Gives (λ w. w) result
+        (first_fault (is_some_land
+        (land_of (record {
+          rules = rules;
+          terrains = terrains;
+          items = items;
+          skills = skills;
+          kinds
+              = kinds;
+          regions = regions;
+        }))))
+        (record {
+          rules = rules;
+          terrains = terrains;
+          items = items;
+          skills = skills;
+          kinds = kinds;
+          regions = regions;
+        }) }
 {
     let land = land(alloc, terrains.as_slice(), &regions)?;
     if land.len() == 0 {
@@ -201,14 +242,16 @@ fn with_land(
 
 /// The world of what tables stand for, where neighbours are mutual, else BadNeighbour; or NoLand.
 #[tactic(auto, unfolding(crate::specs::World::neighbours_are_mutual))]
-fn join(alloc: Global, all: Tables, parts: Parts) -> Result<World, WorldFault>
-    requires all { AreTables all }
+fn join(alloc: Global, all: WorldDraft, parts: WorldParts) -> Result<World, WorldFault>
+    requires all { IsWorldDraft all }
     requires names { HaveNames all }
-    requires parts { parts ≡ parts_of all }
-    requires sound { ArePartsOf all parts }
-    ensures { Gives (λ w. w) result (first_fault (neighbours_are_mutual all ++ is_some_land (land_of (world_of_tables all)))) (world_of_tables all) }
+    requires parts { parts ≡ world_parts_of all }
+    requires sound { AreWorldPartsOf all parts }
+    ensures { Gives (λ w. w) result
+        (first_fault (neighbours_are_mutual all ++ is_some_land (land_of (world_of_tables all))))
+        (world_of_tables all) }
 {
-    let Parts {
+    let WorldParts {
         rules,
         terrains,
         items,
@@ -222,8 +265,8 @@ fn join(alloc: Global, all: Tables, parts: Parts) -> Result<World, WorldFault>
 }
 
 /// The world that tables describe, or the first fault of their names, numbers and neighbours, or NoLand.
-fn from_tables(alloc: Global, all: Tables) -> Result<World, WorldFault>
-    requires { AreTables all }
+fn from_tables(alloc: Global, all: WorldDraft) -> Result<World, WorldFault>
+    requires { IsWorldDraft all }
     ensures { Gives (λ w. w) result (first_fault (table_conditions all)) (world_of_tables all) }
 {
     names_differ(alloc, &all)?;
@@ -233,7 +276,8 @@ fn from_tables(alloc: Global, all: Tables) -> Result<World, WorldFault>
 
 #[tactic(auto, unfolding(crate::specs::World::conditions))]
 fn from_document(alloc: Global, format: Format, document: &Table) -> Result<World, WorldFault>
-    ensures { Gives (λ w. w) result (first_fault (conditions format (table_view document.now))) (world_of_tables (tables_of format (table_view document.now))) }
+    ensures { Gives (λ w. w) result (first_fault (conditions format (table_view document.now)))
+        (world_of_tables (tables_of format (table_view document.now))) }
 {
     let all = tables(alloc, format, document)?;
     from_tables(alloc, all)

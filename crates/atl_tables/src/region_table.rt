@@ -1,29 +1,29 @@
 //! The tables `[[region]]`. See docs/FORMATS.md, "The world file".
 ghost use Rattle.std.specs.Prelude.{◌≡◌, IfOk, length, map};
 ghost use Rattle.toml.specs.View.{table_view};
-ghost use Rattle.atl_tables.specs.Drafts.{IsPlace, IsOldRegion, IsRegionDraft};
+ghost use Rattle.atl_tables.specs.Drafts.{AreRegionBasics, IsOldRegion, IsRegionDraft};
 ghost use Rattle.atl_tables.specs.Faults.{first_fault};
-ghost use Rattle.atl_tables.specs.Given.{Gives};
+ghost use Rattle.atl_tables.specs.Results.{Gives};
 ghost use Rattle.atl_tables.specs.RegionTable.{place_keys, place_from, side_keys, sides_from, old_region_keys, old_region_from, as_draft, region_keys, region_from, market_twins, region_known, region_of};
 ghost use Rattle.atl_tables.specs.Worlds.{IsRegionPlan};
 
 use crate::elements::Element;
 use crate::fault::WorldFault;
-use crate::keys::{self, indexed, path};
+use crate::has_number::{HasNumber, by_number};
+use crate::keys::{self, element_path, path};
 use crate::let_go;
 use crate::limits::{LAST_REGION, MOST_AMOUNT};
 use crate::market_table::{MarketDraft, markets};
-use crate::placed::{Placed, by_number};
 use crate::sequence::Sequence;
-use crate::tables::{Draft, Tables, resolve_all};
 use crate::text::Text;
-use crate::titled::{Holder, known, no_twins};
+use crate::titles::{HasUniqueNames, known, no_duplicate_names};
 use crate::world::RegionPlan;
+use crate::world_draft::{Draft, WorldDraft, resolve_all};
 use std::alloc::{AllocError, Global};
 use toml::Table;
 
 /// What a region is, with its terrain by name.
-pub struct Place {
+pub struct RegionBasics {
     /// From 1 to `LAST_REGION`.
     pub number: u32,
     /// As the file writes it; it keeps the rule of names.
@@ -36,9 +36,9 @@ pub struct Place {
     pub money: u32,
 }
 
-impl Drop for Place {
+impl Drop for RegionBasics {
     fn drop(self) {
-        let_go!(self: Place { number, name, terrain, peasants, money });
+        let_go!(self: RegionBasics { number, name, terrain, peasants, money });
     }
 }
 
@@ -54,13 +54,13 @@ pub struct Sides {
 /// A region of a file of the first format, with its terrain by name.
 #[derive(Drop)]
 pub struct OldRegion {
-    pub place: Place,
+    pub place: RegionBasics,
     pub sides: Sides,
 }
 
 /// A region, with its terrain and the items of its markets by name.
 pub struct RegionDraft {
-    pub place: Place,
+    pub place: RegionBasics,
     pub sides: Sides,
     /// Its markets, in the order of the file.
     pub markets: Sequence<MarketDraft>,
@@ -72,21 +72,21 @@ impl Drop for RegionDraft {
     }
 }
 
-impl Element for Place {
+impl Element for RegionBasics {
     ghost conditions = { place_keys };
 
     ghost record_of = { place_from };
 
-    ghost is_sound = { IsPlace };
+    ghost is_sound = { AreRegionBasics };
 
     #[tactic(auto, unfolding(crate::specs::RegionTable::place_keys, crate::specs::RegionTable::place_from))]
-    fn read(alloc: Global, at: &str, table: &Table) -> Result<Place, WorldFault> {
+    fn read(alloc: Global, at: &str, table: &Table) -> Result<RegionBasics, WorldFault> {
         let number = keys::number(alloc, 1, LAST_REGION, "number", at, table)?;
         let name = keys::name(alloc, "name", at, table)?;
         let terrain = keys::text(alloc, "terrain", at, table)?;
         let peasants = keys::number(alloc, 0, MOST_AMOUNT, "peasants", at, table)?;
         let money = keys::number(alloc, 0, MOST_AMOUNT, "money", at, table)?;
-        Ok(Place {
+        Ok(RegionBasics {
             number,
             name,
             terrain,
@@ -98,7 +98,8 @@ impl Element for Place {
 
 #[tactic(auto, unfolding(crate::specs::RegionTable::side_keys, crate::specs::RegionTable::sides_from))]
 fn read_sides(alloc: Global, at: &str, table: &Table) -> Result<Sides, WorldFault>
-    ensures { Gives (λ s. s) result (first_fault (side_keys at.now (table_view table.now))) (sides_from at.now (table_view table.now)) }
+    ensures { Gives (λ s. s) result (first_fault (side_keys at.now (table_view table.now)))
+        (sides_from at.now (table_view table.now)) }
 {
     let north = keys::optional_number(alloc, 1, LAST_REGION, "north", at, table)?;
     let south = keys::optional_number(alloc, 1, LAST_REGION, "south", at, table)?;
@@ -121,7 +122,7 @@ impl Element for OldRegion {
 
     #[tactic(auto, unfolding(crate::specs::RegionTable::old_region_keys, crate::specs::RegionTable::old_region_from))]
     fn read(alloc: Global, at: &str, table: &Table) -> Result<OldRegion, WorldFault> {
-        let place = Place::read(alloc, at, table)?;
+        let place = RegionBasics::read(alloc, at, table)?;
         let sides = read_sides(alloc, at, table)?;
         Ok(OldRegion { place, sides })
     }
@@ -165,14 +166,14 @@ pub(crate) fn without_markets(
     Ok(drafts)
 }
 
-impl Holder for RegionDraft {
+impl HasUniqueNames for RegionDraft {
     ghost twins = { market_twins };
 
     #[tactic(auto, unfolding(crate::specs::RegionTable::market_twins))]
-    fn no_twins_within(&self, alloc: Global, i: usize) -> Result<(), WorldFault> {
-        let place = indexed(alloc, "region", i)?;
+    fn no_duplicates_inside(&self, alloc: Global, i: usize) -> Result<(), WorldFault> {
+        let place = element_path(alloc, "region", i)?;
         let place = path(alloc, place.as_str(), "market")?;
-        no_twins(alloc, place.as_str(), "item", self.markets.as_slice())
+        no_duplicate_names(alloc, place.as_str(), "item", self.markets.as_slice())
     }
 }
 
@@ -188,8 +189,8 @@ impl Draft for RegionDraft {
     ghost is_sound = { λ all i x. IsRegionPlan (length all.terrains) (length all.items) x.number x };
 
     #[tactic(auto, unfolding(crate::specs::RegionTable::region_known, crate::specs::RegionTable::region_of))]
-    fn resolve(&self, alloc: Global, all: &Tables, i: usize) -> Result<RegionPlan, WorldFault> {
-        let place = indexed(alloc, "region", i)?;
+    fn resolve(&self, alloc: Global, all: &WorldDraft, i: usize) -> Result<RegionPlan, WorldFault> {
+        let place = element_path(alloc, "region", i)?;
         let terrain = known(
             alloc,
             all.terrains.as_slice(),
@@ -215,7 +216,7 @@ impl Draft for RegionDraft {
     }
 }
 
-impl Placed for RegionPlan {
+impl HasNumber for RegionPlan {
     ghost place_of = { λ p. p.number };
 
     fn place(&self) -> u32 {

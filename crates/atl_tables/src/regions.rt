@@ -1,23 +1,23 @@
-//! The numbers of regions, of which no two are equal.
+//! Checks that no two regions have the same number.
 ghost use Rattle.atl_tables.specs.Faults.{first_fault};
-ghost use Rattle.atl_tables.specs.Given.{Gives};
-ghost use Rattle.atl_tables.specs.Regions.{twin_numbers};
+ghost use Rattle.atl_tables.specs.Results.{Gives};
+ghost use Rattle.atl_tables.specs.Regions.{duplicate_numbers};
 
 use crate::fault::WorldFault;
-use crate::keys::{indexed, path};
+use crate::keys::{element_path, path};
 use crate::numbered::Numbered;
 use crate::region_table::RegionDraft;
 use std::alloc::Global;
 
 /// That no two regions have one number, else TwoNames at the second.
-pub(crate) fn no_twin_numbers(alloc: Global, drafts: &[RegionDraft]) -> Result<(), WorldFault>
-    ensures { Gives (λ u. u) result (first_fault (twin_numbers drafts.now)) (tt {0}) }
+pub(crate) fn no_duplicate_numbers(alloc: Global, drafts: &[RegionDraft]) -> Result<(), WorldFault>
+    ensures { Gives (λ u. u) result (first_fault (duplicate_numbers drafts.now)) (tt {0}) }
 {
     let mut seen: Numbered<()> = Numbered::new(alloc);
     for i in 0..drafts.len() {
         let number = drafts[i].place.number;
         if let Some(()) = seen.get(number) {
-            let place = indexed(alloc, "region", i)?;
+            let place = element_path(alloc, "region", i)?;
             return Err(WorldFault::TwoNames(path(alloc, place.as_str(), "number")?));
         }
         seen.insert(number, ())?;

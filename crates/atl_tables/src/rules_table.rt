@@ -1,9 +1,9 @@
 //! The table `[rules]`. See docs/FORMATS.md, "The world file".
 ghost use Rattle.std.specs.Prelude.{IfOk, length};
 ghost use Rattle.toml.specs.View.{table_view};
-ghost use Rattle.atl_tables.specs.Drafts.{ArePrices, ArePeasantRules, AreMenRules, AreRulesDraft, AreTables};
+ghost use Rattle.atl_tables.specs.Drafts.{ArePrices, ArePeasantRules, AreMenRules, AreRulesDraft, IsWorldDraft};
 ghost use Rattle.atl_tables.specs.Faults.{first_fault};
-ghost use Rattle.atl_tables.specs.Given.{Gives};
+ghost use Rattle.atl_tables.specs.Results.{Gives};
 ghost use Rattle.atl_tables.specs.KeyByKey.{conditions_of, value_of};
 ghost use Rattle.atl_tables.specs.Worlds.{AreRules};
 ghost use Rattle.atl_tables.specs.RulesTable.{prices_at, peasants_at, men_at, skill_names_at, rules_at, rules_conditions, rules_in, rules_known, rules_of};
@@ -13,10 +13,10 @@ use crate::fault::WorldFault;
 use crate::limits::{
     MOST_AMOUNT, MOST_FRACTION, MOST_GROWTH, MOST_PER_HEAD, MOST_PRICE, MOST_WEIGHT,
 };
-use crate::tables::Tables;
 use crate::text::Text;
-use crate::titled::known_or_absent;
+use crate::titles::known_number_or_none;
 use crate::world::Rules;
+use crate::world_draft::WorldDraft;
 use crate::{keys, let_go};
 use std::alloc::Global;
 use toml::Table;
@@ -148,7 +148,9 @@ impl Element for MenRules {
 
 #[tactic(auto, unfolding(crate::specs::RulesTable::skill_names_at, crate::specs::Keys::optional_text_at))]
 fn skill_names(alloc: Global, at: &str, table: &Table) -> Result<SkillNames, WorldFault>
-    ensures { Gives (λ s. s) result (first_fault (conditions_of skill_names_at at.now (table_view table.now))) (value_of skill_names_at at.now (table_view table.now)) }
+    ensures { Gives (λ s. s) result
+        (first_fault (conditions_of skill_names_at at.now (table_view table.now)))
+        (value_of skill_names_at at.now (table_view table.now)) }
 {
     let observation = keys::optional_text(alloc, "observation", at, table)?;
     let stealth = keys::optional_text(alloc, "stealth", at, table)?;
@@ -185,7 +187,8 @@ impl Element for RulesDraft {
 /// The rules of the document, or the first fault of the table. Missing where the document has no such table.
 #[tactic(auto, unfolding(crate::specs::RulesTable::rules_conditions, crate::specs::RulesTable::rules_in))]
 pub(crate) fn rules(alloc: Global, document: &Table) -> Result<RulesDraft, WorldFault>
-    ensures value { Gives (λ r. r) result (first_fault (rules_conditions (table_view document.now))) (rules_in (table_view document.now)) }
+    ensures value { Gives (λ r. r) result (first_fault (rules_conditions (table_view document.now)))
+        (rules_in (table_view document.now)) }
     ensures sound { IfOk result AreRulesDraft }
 {
     let table = keys::table(alloc, "rules", document)?;
@@ -194,8 +197,8 @@ pub(crate) fn rules(alloc: Global, document: &Table) -> Result<RulesDraft, World
 
 /// The rules, with skills by number. UnknownName at the first key whose skill isn't there.
 #[tactic(auto, unfolding(crate::specs::RulesTable::rules_known, crate::specs::RulesTable::rules_of))]
-pub(crate) fn resolve_rules(alloc: Global, all: &Tables) -> Result<Rules, WorldFault>
-    requires { AreTables all.now }
+pub(crate) fn resolve_rules(alloc: Global, all: &WorldDraft) -> Result<Rules, WorldFault>
+    requires { IsWorldDraft all.now }
     ensures value { Gives (λ r. r) result (first_fault (rules_known all.now)) (rules_of all.now) }
     ensures sound { IfOk result (AreRules (length all.now.skills)) }
 {
@@ -206,9 +209,15 @@ pub(crate) fn resolve_rules(alloc: Global, all: &Tables) -> Result<Rules, WorldF
         skills,
     } = &all.rules;
     let known = all.skills.as_slice();
-    let observation = known_or_absent(alloc, known, "observation", "rules", &skills.observation)?;
-    let stealth = known_or_absent(alloc, known, "stealth", "rules", &skills.stealth)?;
-    let sailing = known_or_absent(alloc, known, "sailing", "rules", &skills.sailing)?;
+    let observation = known_number_or_none(
+        alloc,
+        known,
+        "observation",
+        "rules",
+        &skills.observation,
+    )?;
+    let stealth = known_number_or_none(alloc, known, "stealth", "rules", &skills.stealth)?;
+    let sailing = known_number_or_none(alloc, known, "sailing", "rules", &skills.sailing)?;
     Ok(Rules {
         maintenance: prices.maintenance,
         tax_per_man: prices.tax_per_man,

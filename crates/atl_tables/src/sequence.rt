@@ -1,4 +1,4 @@
-//! Values one after another.
+//! A list of values, seen in contracts as a list.
 ghost use Rattle.std.specs.Prelude.{◌≡◌, ◌++◌, ◌∷◌, [], IfOk, OnOk, OnErr, length};
 
 use std::alloc::{AllocError, Global};

@@ -7,7 +7,7 @@ use crate::fault::WorldFault;
 use crate::keys;
 use crate::limits::MOST_PRICE;
 use crate::text::Text;
-use crate::titled::Titled;
+use crate::titles::Titled;
 use crate::world::Skill;
 use std::alloc::Global;
 use toml::Table;

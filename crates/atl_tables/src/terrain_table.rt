@@ -7,15 +7,15 @@ ghost use Rattle.atl_tables.specs.TerrainTable.{economy_at, terrain_keys, terrai
 
 use crate::elements::Element;
 use crate::fault::WorldFault;
-use crate::keys::{self, indexed, path};
+use crate::keys::{self, element_path, path};
 use crate::let_go;
 use crate::limits::{MOST_AMOUNT, MOST_PRICE};
-use crate::output_table::{Output, amounts_of, known_keys, no_twin_keys, outputs};
+use crate::output_table::{Output, amounts_of, known_keys, no_duplicate_keys, outputs};
 use crate::sequence::Sequence;
-use crate::tables::{Draft, Tables};
 use crate::text::Text;
-use crate::titled::{Holder, Titled};
+use crate::titles::{HasUniqueNames, Titled};
 use crate::world::Terrain;
+use crate::world_draft::{Draft, WorldDraft};
 use std::alloc::Global;
 use toml::Table;
 
@@ -113,8 +113,8 @@ impl Draft for TerrainDraft {
     ghost is_sound = { λ all i x. IsTerrain (length all.items) x };
 
     #[tactic(auto, unfolding(crate::specs::TerrainTable::terrain_known, crate::specs::TerrainTable::terrain_of))]
-    fn resolve(&self, alloc: Global, all: &Tables, i: usize) -> Result<Terrain, WorldFault> {
-        let place = indexed(alloc, "terrain", i)?;
+    fn resolve(&self, alloc: Global, all: &WorldDraft, i: usize) -> Result<Terrain, WorldFault> {
+        let place = element_path(alloc, "terrain", i)?;
         let place = path(alloc, place.as_str(), "output")?;
         known_keys(alloc, all, place.as_str(), self.output.as_slice())?;
         let output = amounts_of(alloc, all.items.as_slice(), self.output.as_slice())?;
@@ -131,13 +131,13 @@ impl Draft for TerrainDraft {
     }
 }
 
-impl Holder for TerrainDraft {
+impl HasUniqueNames for TerrainDraft {
     ghost twins = { terrain_twins };
 
     #[tactic(auto, unfolding(crate::specs::TerrainTable::terrain_twins))]
-    fn no_twins_within(&self, alloc: Global, i: usize) -> Result<(), WorldFault> {
-        let place = indexed(alloc, "terrain", i)?;
+    fn no_duplicates_inside(&self, alloc: Global, i: usize) -> Result<(), WorldFault> {
+        let place = element_path(alloc, "terrain", i)?;
         let place = path(alloc, place.as_str(), "output")?;
-        no_twin_keys(alloc, place.as_str(), self.output.as_slice())
+        no_duplicate_keys(alloc, place.as_str(), self.output.as_slice())
     }
 }

@@ -232,9 +232,34 @@ impl World {
         regions: Numbered<RegionPlan>,
         land: Sequence<u32>,
     ) -> World
-        requires world { IsWorld (record { rules = rules; terrains = terrains; items = items; skills = skills; kinds = kinds; regions = regions }) }
-        requires land { land ≡ land_of (record { rules = rules; terrains = terrains; items = items; skills = skills; kinds = kinds; regions = regions }) }
-        ensures { result ≡ record { rules = rules; terrains = terrains; items = items; skills = skills; kinds = kinds; regions = regions } }
+        requires world { IsWorld
+            (record {
+              rules = rules;
+              terrains = terrains;
+              items = items;
+              skills = skills;
+              kinds =
+                  kinds;
+              regions = regions;
+            }) }
+        requires land { land ≡ land_of
+            (record {
+              rules = rules;
+              terrains = terrains;
+              items = items;
+              skills = skills;
+              kinds =
+                  kinds;
+              regions = regions;
+            }) }
+        ensures { result ≡ record {
+          rules = rules;
+          terrains = terrains;
+          items = items;
+          skills = skills;
+          kinds = kinds;
+          regions = regions;
+        } }
     {
         World {
             rules,

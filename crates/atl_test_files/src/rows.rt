@@ -1,8 +1,8 @@
 //! The rows of a campaign, put into the tables of the first format.
 use atl_state::Parts;
 use atl_state::parts::{
-    StoredBooks, StoredFaction, StoredHas, StoredHead, StoredMail, StoredRegion, StoredReport,
-    StoredStructure, StoredUnit,
+    StoredBooks, StoredCampaignRow, StoredFaction, StoredHas, StoredMail, StoredRegion,
+    StoredReport, StoredStructure, StoredUnit,
 };
 use sqlite::{Alter, Connection, Error, params};
 
@@ -115,7 +115,7 @@ fn put_each<S: Alter, T: Put>(conn: &mut Connection<S>, rows: &[T]) -> Result<()
 fn put_head<S: Alter>(
     conn: &mut Connection<S>,
     world: &str,
-    heads: &[StoredHead],
+    heads: &[StoredCampaignRow],
 ) -> Result<(), Error> {
     for head in heads {
         conn.execute(

@@ -1,4 +1,4 @@
-//! What is told and what is wanted, compared. The assertions stand here alone.
+//! Compares what is returned with what is wanted. Only this module asserts.
 use atl_http::HttpFault;
 use std::process::Abort;
 

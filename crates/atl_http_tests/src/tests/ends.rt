@@ -1,4 +1,4 @@
-//! Readers and writers that give and take little, or nothing.
+//! Readers that give a few bytes at a time, and writers that take few or none.
 use std::alloc::Global;
 use std::io::{self, ErrorKind, Read, Write};
 

@@ -1,4 +1,5 @@
-//! What the first bytes of a request come to, before any command runs. See docs/FORMATS.md, "HTTP".
+//! The verdict on the first bytes of a request, before any command runs. See docs/FORMATS.md,
+//! "HTTP".
 use super::compare::is_text;
 use atl_http::{Verdict, pieces_do_not_matter, verdict_on};
 use std::alloc::{AllocError, Global};

@@ -1,4 +1,4 @@
-//! Services, requests and what is told of them.
+//! Builds services and requests, and plays tables of requests and replies.
 use super::compare::{is_text, is_true};
 use super::serving::Served;
 use atl_http::HttpFault;

@@ -1,4 +1,4 @@
-//! Requests that come in pieces, or not whole, and replies that can't be written.
+//! Requests that arrive in pieces or cut short, and replies that can't be written.
 use super::compare::{is_count, is_number, is_text};
 use super::ends::{Narrow, Pieces};
 use super::making::{begun, has_books, tells, told};

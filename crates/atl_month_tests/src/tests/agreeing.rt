@@ -1,4 +1,4 @@
-//! The phases that share pots, and upkeep, come to what they come to when they are reckoned plainly.
+//! Compares the phases that share pots, and upkeep, with a plain reference calculation.
 ghost use Rattle.atl_state.specs.Good.{IsGood};
 ghost use Rattle.atl_instant.specs.Fit.{AreFit};
 

@@ -7,7 +7,7 @@ ghost use Rattle.atl_instant.specs.Fit.{AreFit};
 use super::months::month;
 use atl_instant::Month;
 use atl_state::parts::{
-    Parts, StoredBooks, StoredFaction, StoredHas, StoredHead, StoredMarket, StoredReport,
+    Parts, StoredBooks, StoredCampaignRow, StoredFaction, StoredHas, StoredMarket, StoredReport,
     StoredUnit,
 };
 use atl_state::{Campaign, check, founded};
@@ -416,9 +416,9 @@ fn all_in_stock(markets: &Sequence<StoredMarket>, item: u32) -> i64 {
 
 // ---- factions and books
 
-fn head(alloc: Global) -> Result<Sequence<StoredHead>, AllocError> {
+fn head(alloc: Global) -> Result<Sequence<StoredCampaignRow>, AllocError> {
     let mut all = Sequence::new(alloc);
-    all.push(StoredHead {
+    all.push(StoredCampaignRow {
         id: 1,
         format: 2,
         month: 0,

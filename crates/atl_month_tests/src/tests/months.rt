@@ -1,4 +1,4 @@
-//! Months of mailings that are given as texts.
+//! Builds months of mailings from texts.
 ghost use Rattle.std.specs.Prelude.{◌≡◌, All, IfOk, map};
 ghost use Rattle.atl_orders.specs.Mailing.{IsReadWith};
 ghost use Rattle.atl_instant.specs.Month.{HaveOwnFactions};

@@ -1,4 +1,4 @@
-//! Which orders phases have, and in which order, by hand.
+//! Which orders each phase gets, and in which order.
 use super::months::{month, world};
 use super::phases::{Studying, Working};
 use super::telling::row_is;
@@ -25,7 +25,7 @@ fn tell<P: PhaseVerbs>(
             order.unit,
             order.line,
             order.faction,
-            order.order.verb().keyword()
+            order.order.verb.keyword()
         )?;
         told.push_str(&line)?;
     }
@@ -214,7 +214,7 @@ fn is_verb(rt: &impl Abort, told: Option<Verb>, wanted: Option<Verb>) {
 /// The verb of the order at a place of a faction's mailing.
 fn verb_at(month: &Month, faction: u32, place: usize) -> Option<Verb> {
     let entry = month.mailing(faction)?.entries.as_slice().get(place)?;
-    Some(entry.order.verb())
+    Some(entry.order.verb)
 }
 
 /// The orders at places, as far as there are any, and the mailings.
@@ -234,7 +234,7 @@ fn orders_are(rt: &impl Abort, month: &Month) {
 
 fn events_are(rt: &impl Abort, mut month: Month) -> Result<(), Fail> {
     assert!(rt; month.events().is_empty());
-    month.tell(EVENT)?;
+    month.add_event(EVENT)?;
     assert!(rt; month.events() == [EVENT].as_slice());
     assert!(rt; month.words() == [7, 9].as_slice());
     let events = month.into_events();

@@ -1,9 +1,9 @@
 //! What upkeep takes from units of two factions and two regions, worked out by hand.
 ghost use Rattle.std.specs.Prelude.{All, IfOk};
-ghost use Rattle.atl_month.specs.Settling.{AreInOrder, IsPurse};
+ghost use Rattle.atl_month.specs.UpkeepSharing.{AreInOrder, IsUpkeepInput};
 
 use super::telling::{row_is, tell_pair};
-use atl_month::{Purse, settle};
+use atl_month::{UpkeepInput, upkeep_payments};
 use std::alloc::{AllocError, Global};
 use std::test::Fail;
 
@@ -35,8 +35,8 @@ static SETTLED: [(&[(u8, u8, u16, u16)], &str); 11] = [
 ];
 
 /// These units, with the numbers from 1 on.
-fn purses_of(alloc: Global, units: &[(u8, u8, u16, u16)]) -> Result<Vec<Purse>, AllocError>
-    ensures each { IfOk result (λ purses. All IsPurse purses.items) }
+fn purses_of(alloc: Global, units: &[(u8, u8, u16, u16)]) -> Result<Vec<UpkeepInput>, AllocError>
+    ensures each { IfOk result (λ purses. All IsUpkeepInput purses.items) }
     ensures order { IfOk result (λ purses. AreInOrder purses.items) }
 {
     let mut purses = Vec::new(alloc);
@@ -46,7 +46,7 @@ fn purses_of(alloc: Global, units: &[(u8, u8, u16, u16)]) -> Result<Vec<Purse>, 
             return Ok(purses);
         };
         last = unit;
-        purses.push(Purse {
+        purses.push(UpkeepInput {
             unit,
             region: u32::from(*region),
             faction: u32::from(*faction),
@@ -60,7 +60,7 @@ fn purses_of(alloc: Global, units: &[(u8, u8, u16, u16)]) -> Result<Vec<Purse>, 
 fn told_of(alloc: Global, units: &[(u8, u8, u16, u16)]) -> Result<String, Fail> {
     let purses = purses_of(alloc, units)?;
     let mut told = String::new(alloc);
-    for unit in settle(alloc, MAINTENANCE, &purses)?.iter() {
+    for unit in upkeep_payments(alloc, MAINTENANCE, &purses)?.iter() {
         tell_pair(
             alloc,
             u64::from(unit.paid),

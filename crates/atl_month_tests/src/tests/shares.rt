@@ -1,4 +1,4 @@
-//! Shares that were worked out by hand.
+//! Shares of single pots, worked out by hand.
 ghost use Rattle.std.specs.Prelude.{◌≤◌, All, IsTrue};
 
 use atl_market::share;

@@ -1,4 +1,4 @@
-//! What is told of a row of a table of cases, beside what is wanted.
+//! Compares the answer for a row of a table of cases with what is wanted.
 use std::alloc::{AllocError, Global};
 use std::process::Abort;
 

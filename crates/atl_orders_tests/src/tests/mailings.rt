@@ -1,7 +1,7 @@
 //! Mailings: what is read of each form of order, of blocks, line ends and long texts.
 use super::asserts::{is_number, row_is};
 use super::worlds::{THINGS, world_with};
-use atl_orders::{MailFault, Mailing, Order, Span, read_mailing};
+use atl_orders::{MailFault, Mailing, Operands, Span, read_mailing};
 use atl_tables::{Text, World};
 use std::alloc::Global;
 use std::process::Abort;
@@ -10,8 +10,10 @@ use std::test::Fail;
 /// Adds the orders of a mailing in the form of `Debug`, each behind its line.
 fn tell_orders(alloc: Global, mailing: &Mailing, told: &mut String) -> Result<(), Fail> {
     for entry in mailing.entries.as_slice().iter() {
-        let order = format!(in alloc; "{}: {:?} {:?};", entry.line, entry.target, entry.order)?;
+        let order = format!(in alloc; "{}: {:?} {:?}", entry.line, entry.target, entry.order.verb)?;
         told.push_str(&order)?;
+        let operands = format!(in alloc; " {:?};", entry.order.operands)?;
+        told.push_str(&operands)?;
     }
     Ok(())
 }
@@ -64,65 +66,68 @@ fn text_tells(
 
 /// A good form of each order, in any case, quoted and bare, with comments, tabs and words too many.
 static GOOD: [(&str, &str); 24] = [
-    ("WORK", "Work"),
-    ("\"work\" now", "Work"),
-    ("TaX", "Tax"),
-    ("LEAVE", "Leave"),
+    ("WORK", "Work Nothing"),
+    ("\"work\" now", "Work Nothing"),
+    ("TaX", "Tax Nothing"),
+    ("LEAVE", "Leave Nothing"),
     (
         "NAME UNIT Big_Bob",
-        "Name { what: Unit, name: Span { start: 29, end: 36, quoted: false } }",
+        "Name Name { what: Unit, name: Span { start: 29, end: 36, quoted: false } }",
     ),
     (
         "name faction \"a _b\"",
-        "Name { what: Faction, name: Span { start: 33, end: 37, quoted: true } }",
+        "Name Name { what: Faction, name: Span { start: 33, end: 37, quoted: true } }",
     ),
     (
         "NAME BUILDING x;y",
-        "Name { what: Building, name: Span { start: 33, end: 34, quoted: false } }",
+        "Name Name { what: Building, name: Span { start: 33, end: 34, quoted: false } }",
     ),
     (
         "NAME SHIP\tx\"y",
-        "Name { what: Ship, name: Span { start: 29, end: 30, quoted: false } }",
+        "Name Name { what: Ship, name: Span { start: 29, end: 30, quoted: false } }",
     ),
-    ("GUARD 0", "Guard(false)"),
-    ("GUARD 001", "Guard(true)"),
-    ("ENTER 3", "Enter(3)"),
-    ("BOARD 3", "Enter(3)"),
-    ("PROMOTE NEW 9999", "Promote(Alias(9999))"),
-    ("PAY 2 100", "Pay { to: Number(2), amount: 100 }"),
+    ("GUARD 0", "Guard Flag(false)"),
+    ("GUARD 001", "Guard Flag(true)"),
+    ("ENTER 3", "Enter Number(3)"),
+    ("BOARD 3", "Enter Number(3)"),
+    ("PROMOTE NEW 9999", "Promote Unit(Alias(9999))"),
+    (
+        "PAY 2 100",
+        "Pay UnitAndNumber { to: Number(2), number: 100 }",
+    ),
     (
         "TRANSFER \"new\" \"4\" 1",
-        "Transfer { to: Alias(4), men: 1 }",
+        "Transfer UnitAndNumber { to: Alias(4), number: 1 }",
     ),
-    ("RECRUIT 10", "Recruit(10)"),
-    ("QUIT 1", "Quit(1)"),
+    ("RECRUIT 10", "Recruit Number(10)"),
+    ("QUIT 1", "Quit Number(1)"),
     (
         "TEACH 7 new 3 \"9\" ; 8",
-        "Teach(Sequence { items: [Number(7), Alias(3), Number(9)] })",
+        "Teach Units(Sequence { items: [Number(7), Alias(3), Number(9)] })",
     ),
-    ("BUILD ; boat", "Build(None)"),
-    ("MOVE north", "Move(North)"),
-    ("MOVE South", "Move(South)"),
-    ("SAIL EAST", "Sail(East)"),
-    ("SAIL \"west", "Sail(West)"),
-    ("FORM 5", "Form(5)"),
+    ("BUILD ; boat", "Build Kind(None)"),
+    ("MOVE north", "Move Direction(North)"),
+    ("MOVE South", "Move Direction(South)"),
+    ("SAIL EAST", "Sail Direction(East)"),
+    ("SAIL \"west", "Sail Direction(West)"),
+    ("FORM 5", "Form Alias(5)"),
 ];
 
 /// Orders that name things of the world.
 static NAMING: [(&str, &str); 7] = [
     (
         "GIVE 2 5 LONG_BOW",
-        "Give { to: Number(2), amount: 5, item: 1 }",
+        "Give UnitAndGoods { to: Number(2), amount: 5, item: 1 }",
     ),
     (
         "GIVE NEW 3 999999999 \"Long Bow\" x",
-        "Give { to: Alias(3), amount: 999999999, item: 1 }",
+        "Give UnitAndGoods { to: Alias(3), amount: 999999999, item: 1 }",
     ),
-    ("STUDY Tree_Felling", "Study(1)"),
-    ("PRODUCE wood", "Produce(0)"),
-    ("BUILD Boat", "Build(Some(0))"),
-    ("SELL 4 wood", "Sell { amount: 4, item: 0 }"),
-    ("buy 2 LONG_BOW x", "Buy { amount: 2, item: 1 }"),
+    ("STUDY Tree_Felling", "Study Skill(1)"),
+    ("PRODUCE wood", "Produce Item(0)"),
+    ("BUILD Boat", "Build Kind(Some(0))"),
+    ("SELL 4 wood", "Sell Goods { amount: 4, item: 0 }"),
+    ("buy 2 LONG_BOW x", "Buy Goods { amount: 2, item: 1 }"),
 ];
 
 /// Bad forms, with the first fault from left to right, up to those of PROMOTE.
@@ -232,23 +237,23 @@ static TEXTS: [(&str, &str); 10] = [
     // One faulty line.
     (
         "From: a club\r\n\r\n#ATLANTIS 1 secret\r\nUNIT 1 ; the first\r\nATTACK 2\r\nwork\r\n",
-        "6: Number(1) Work;5: 2 UnknownOrder;",
+        "6: Number(1) Work Nothing;5: 2 UnknownOrder;",
     ),
     // Blocks with each of their faults.
     (
         "#ATLANTIS 1\nWORK\nUNIT 1\nEND\nFORM 1\nFORM 2\nEND\nFORM 1\nTAX\nEND\nGIVE 2 0 wood\n",
-        "5: Number(1) Form(1);2: 1 NoUnit;4: 9 EndAlone;6: 8 NestedForm;8: 7 BadAlias;9: 1 NoUnit;11: 3 BadNumber;",
+        "5: Number(1) Form Alias(1);2: 1 NoUnit;4: 9 EndAlone;6: 8 NestedForm;8: 7 BadAlias;9: 1 NoUnit;11: 3 BadNumber;",
     ),
     // An alias is known before its FORM; orders in a block are the new unit's, behind it the parent's; a block without a unit
     // outside; a UNIT line ends a block; lines behind `#END` are ignored.
     (
         "#END\n#atlantis \"0001\"\nFORM 2\nWORK\nEND\nEND\nUNIT 4\nPAY NEW 2 5\nFORM 2\nTAX\nEND\nFORM 3\nUNIT 4\nLEAVE\nUNIT 0\nTAX\n\"#END\" now\nTAX",
-        "8: Number(4) Pay { to: Alias(2), amount: 5 };9: Number(4) Form(2);10: Alias(2) Tax;12: Number(4) Form(3);14: Number(4) Leave;3: 1 NoUnit;4: 1 NoUnit;6: 9 EndAlone;15: 3 BadNumber;16: 1 NoUnit;",
+        "8: Number(4) Pay UnitAndNumber { to: Alias(2), number: 5 };9: Number(4) Form Alias(2);10: Alias(2) Tax Nothing;12: Number(4) Form Alias(3);14: Number(4) Leave Nothing;3: 1 NoUnit;4: 1 NoUnit;6: 9 EndAlone;15: 3 BadNumber;16: 1 NoUnit;",
     ),
     // A carriage return before a line feed and at the end of the text is dropped, another one is a bad byte.
     (
         "#ATLANTIS 1\r\nUNIT 1\r\n\tWORK\t\r\n\r\nTAX\r\r\nL\rEAVE\n;\nLEAVE\r",
-        "3: Number(1) Work;8: Number(1) Leave;5: 6 BadByte;6: 6 BadByte;",
+        "3: Number(1) Work Nothing;8: Number(1) Leave Nothing;5: 6 BadByte;6: 6 BadByte;",
     ),
     // No header, or a bad one.
     ("hello", "refused 2"),
@@ -314,7 +319,13 @@ fn long_texts_tell(
 fn all_texts_tell(rt: &impl Abort, alloc: Global, world: &World) -> Result<(), Fail> {
     texts_tell(rt, alloc, world, &TEXTS)?;
     text_tells(rt, alloc, world, b"#ATLANTIS 1 \xc8", "")?;
-    text_tells(rt, alloc, world, NO_TEXT, "4: Number(1) Tax;3: 6 BadByte;")?;
+    text_tells(
+        rt,
+        alloc,
+        world,
+        NO_TEXT,
+        "4: Number(1) Tax Nothing;3: 6 BadByte;",
+    )?;
     long_texts_tell(rt, alloc, world, &LONG)
 }
 
@@ -322,8 +333,8 @@ fn all_texts_tell(rt: &impl Abort, alloc: Global, world: &World) -> Result<(), F
 fn words_of(alloc: Global, mailing: &Mailing) -> Result<String, Fail> {
     let mut words = String::new(alloc);
     for entry in mailing.entries.as_slice().iter() {
-        words.push_str(entry.order.verb().keyword())?;
-        if let Order::Name { name, .. } = &entry.order {
+        words.push_str(entry.order.verb.keyword())?;
+        if let Operands::Name { name, .. } = &entry.order.operands {
             let bytes = mailing.name(alloc, *name)?;
             let name = Text::from_utf8(alloc, bytes.as_slice())?;
             words.push_str(" ")?;

@@ -1,4 +1,4 @@
-//! The small world and the island, part by part, as their world files have them.
+//! What the small world and the island are once read, part by part.
 use super::asserts::{are_numbers, are_shown, is_number, row_is};
 use atl_tables::{RegionPlan, World, read_world};
 use atl_test_worlds::{ISLE, SMALL};

@@ -1,7 +1,7 @@
 //! Maps that keep which of their numbers changed, step by step.
 use super::asserts::{are_numbers, is_number};
 use super::containers::{filled, maps};
-use atl_tables::Tracked;
+use atl_tables::MarkedMap;
 use std::alloc::Global;
 use std::process::Abort;
 use std::test::Fail;
@@ -66,20 +66,20 @@ static ROUND: [Row; 5] = [
     (Step::Unmark, 3, &[]),
 ];
 
-fn inserts(map: &mut Tracked<u32>, number: u32, value: u32) -> Result<(), Fail> {
+fn inserts(map: &mut MarkedMap<u32>, number: u32, value: u32) -> Result<(), Fail> {
     if map.get(number).is_none() {
         map.insert(number, value)?;
     }
     Ok(())
 }
 
-fn changes_value(map: &mut Tracked<u32>, number: u32, value: u32) {
+fn changes_value(map: &mut MarkedMap<u32>, number: u32, value: u32) {
     if let Some(place) = map.get_mut(number) {
         *place = value;
     }
 }
 
-fn does(map: &mut Tracked<u32>, step: Step) -> Result<(), Fail> {
+fn does(map: &mut MarkedMap<u32>, step: Step) -> Result<(), Fail> {
     match step {
         Step::Insert(number, value) => inserts(map, number, value)?,
         Step::Put(number, value) => map.put(number, value)?,
@@ -96,7 +96,7 @@ fn does(map: &mut Tracked<u32>, step: Step) -> Result<(), Fail> {
 fn marks_are(
     rt: &impl Abort,
     alloc: Global,
-    map: &Tracked<u32>,
+    map: &MarkedMap<u32>,
     wanted: &[u32],
 ) -> Result<(), Fail> {
     let told: Vec<u32> = map.marked_numbers().collect(alloc)?;
@@ -105,7 +105,12 @@ fn marks_are(
     Ok(())
 }
 
-fn goes(rt: &impl Abort, alloc: Global, map: &mut Tracked<u32>, rows: &[Row]) -> Result<(), Fail> {
+fn goes(
+    rt: &impl Abort,
+    alloc: Global,
+    map: &mut MarkedMap<u32>,
+    rows: &[Row],
+) -> Result<(), Fail> {
     for (step, values, marks) in rows.iter() {
         does(map, *step)?;
         is_number(rt, map.len(), *values);
@@ -115,7 +120,7 @@ fn goes(rt: &impl Abort, alloc: Global, map: &mut Tracked<u32>, rows: &[Row]) ->
 }
 
 /// Asserts what the map is after `CHANGES`.
-fn is_changed(rt: &impl Abort, alloc: Global, map: &Tracked<u32>) -> Result<(), Fail> {
+fn is_changed(rt: &impl Abort, alloc: Global, map: &MarkedMap<u32>) -> Result<(), Fail> {
     assert!(rt; map.get(20) == Some(&6));
     assert!(rt; map.get(5).is_none());
     assert!(rt; map.is_marked(5));
@@ -126,14 +131,14 @@ fn is_changed(rt: &impl Abort, alloc: Global, map: &Tracked<u32>) -> Result<(), 
 
 #[test]
 fn tracked(rt: HostRuntime) -> Result<(), Fail> {
-    let mut map = Tracked::of(rt.alloc(), filled(rt.alloc())?)?;
+    let mut map = MarkedMap::of(rt.alloc(), filled(rt.alloc())?)?;
     marks_are(&rt, rt.alloc(), &map, &[])?;
     goes(&rt, rt.alloc(), &mut map, &CHANGES)?;
     is_changed(&rt, rt.alloc(), &map)
 }
 
 /// Many rounds, and then the steps in which marks go.
-fn goes_round(rt: &impl Abort, alloc: Global, map: &mut Tracked<u32>) -> Result<(), Fail> {
+fn goes_round(rt: &impl Abort, alloc: Global, map: &mut MarkedMap<u32>) -> Result<(), Fail> {
     for _ in 0..200 {
         goes(rt, alloc, map, &ROUND)?;
     }
@@ -142,7 +147,7 @@ fn goes_round(rt: &impl Abort, alloc: Global, map: &mut Tracked<u32>) -> Result<
 
 #[test]
 fn marks_of_what_is_gone(rt: HostRuntime) -> Result<(), Fail> {
-    let mut map = Tracked::of(rt.alloc(), filled(rt.alloc())?)?;
+    let mut map = MarkedMap::of(rt.alloc(), filled(rt.alloc())?)?;
     goes_round(&rt, rt.alloc(), &mut map)
 }
 
@@ -150,7 +155,7 @@ fn marks_of_what_is_gone(rt: HostRuntime) -> Result<(), Fail> {
 const MANY: u32 = 1008;
 
 /// Marks the numbers from 1 on, each once, in falling order or in one that neither rises nor falls.
-fn marks_each(map: &mut Tracked<u32>, falling: bool) {
+fn marks_each(map: &mut MarkedMap<u32>, falling: bool) {
     for step in 1..MANY + 1 {
         if falling {
             map.mark(MANY + 1 - step);
@@ -161,14 +166,14 @@ fn marks_each(map: &mut Tracked<u32>, falling: bool) {
 }
 
 /// Takes out each third number, with its mark.
-fn takes_thirds(map: &mut Tracked<u32>) {
+fn takes_thirds(map: &mut MarkedMap<u32>) {
     for third in 1..MANY / 3 + 1 {
         map.take_out(third * 3, false);
     }
 }
 
 /// Puts each third number in again, the highest first, and so marks it.
-fn puts_thirds(map: &mut Tracked<u32>) -> Result<(), Fail> {
+fn puts_thirds(map: &mut MarkedMap<u32>) -> Result<(), Fail> {
     for step in 0..MANY / 3 {
         inserts(map, MANY - step * 3, step)?;
     }
@@ -176,7 +181,7 @@ fn puts_thirds(map: &mut Tracked<u32>) -> Result<(), Fail> {
 }
 
 /// Asserts that the numbers are those from 1 on, with or without each third one, and how many they are.
-fn count_up(rt: &impl Abort, map: &Tracked<u32>, thirds: bool, count: usize) {
+fn count_up(rt: &impl Abort, map: &MarkedMap<u32>, thirds: bool, count: usize) {
     is_number(rt, map.marked(), count);
     let mut wanted = 1;
     for number in map.marked_numbers() {
@@ -186,7 +191,7 @@ fn count_up(rt: &impl Abort, map: &Tracked<u32>, thirds: bool, count: usize) {
 }
 
 /// Marks all numbers of a map that has them in some order, takes thirds out and puts them in again, and clears all marks.
-fn mixes(rt: &impl Abort, map: &mut Tracked<u32>, falling: bool) -> Result<(), Fail> {
+fn mixes(rt: &impl Abort, map: &mut MarkedMap<u32>, falling: bool) -> Result<(), Fail> {
     map.unmark();
     marks_each(map, falling);
     count_up(rt, map, true, 1008);
@@ -201,7 +206,7 @@ fn mixes(rt: &impl Abort, map: &mut Tracked<u32>, falling: bool) -> Result<(), F
 
 #[test]
 fn marks_in_any_order(rt: HostRuntime) -> Result<(), Fail> {
-    let mut map = Tracked::new(rt.alloc());
+    let mut map = MarkedMap::new(rt.alloc());
     is_number(&rt, map.len(), 0);
     for number in 0..MANY {
         map.put(number + 1, number)?;

@@ -1,4 +1,4 @@
-//! Months that are closed.
+//! Closing months, and when that is refused.
 use super::commands::AVALON;
 use super::mailings::FAULTY;
 use super::script::{Asked, Step, plays};

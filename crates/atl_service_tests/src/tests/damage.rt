@@ -1,4 +1,4 @@
-//! What opening tells of a database that was changed by hand.
+//! What opening a database returns that was changed by hand.
 use super::files::{connected, new_files};
 use super::making::begun;
 use super::script::{Asked, Step, follow};

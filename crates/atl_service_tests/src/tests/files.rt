@@ -1,4 +1,4 @@
-//! A database in files that stand in memory.
+//! Database files that are held in memory.
 use sqlite::{Connection, FileStore, Options};
 use sqlite_disk::{Disk, Files, Memory};
 use std::alloc::Global;

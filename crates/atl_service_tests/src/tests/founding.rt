@@ -1,4 +1,4 @@
-//! Why no campaign is founded.
+//! Refusals of founding.
 use super::commands::AVALON;
 use super::compare::is_text;
 use super::damage::changed;

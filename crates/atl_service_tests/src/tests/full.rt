@@ -1,4 +1,4 @@
-//! Joinings of campaigns with many units and factions: of one with room, and where no faction or no unit more can come.
+//! Joins of campaigns with many units and factions: with room for one more, and full ones.
 use super::commands::AVALON;
 use super::making::{begun_in_memory, opened};
 use super::script::{Asked, Step, follow};

@@ -1,4 +1,4 @@
-//! Mailings.
+//! Storing mailings, and their refusals.
 use super::commands::AVALON;
 use super::script::{Asked, Step, plays};
 use super::tables::{MAIL_BYTES, MAILINGS};

@@ -1,4 +1,4 @@
-//! What is refused changes nothing.
+//! Refused commands change nothing.
 use super::commands::{AVALON, FIRST_REPORT};
 use super::compare::is_number;
 use super::script::{Asked, Step, plays};

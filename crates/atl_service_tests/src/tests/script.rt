@@ -1,4 +1,4 @@
-//! A test as a table of steps: what is asked of a service, and what is wanted of it.
+//! A test as a table of steps: the command, and the answer that is wanted.
 use super::compare::{is_count, is_number, is_text};
 use super::making::{begun_in_memory, close, filled, join, long_mail, mail, report, told};
 use super::serving::Served;

@@ -1,4 +1,4 @@
-//! What the tables of a campaign hold, told in numbers.
+//! What the tables of a campaign hold, in numbers.
 use super::compare::is_amount;
 use super::serving::Tables;
 use std::process::Abort;

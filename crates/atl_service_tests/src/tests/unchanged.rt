@@ -1,4 +1,4 @@
-//! That what is refused changes no row: neither of the campaign that a service has, nor of its tables.
+//! Refused commands change no row: neither of the service's campaign nor of its tables.
 use super::compare::is_text;
 use super::damage::changed;
 use super::making::opened;

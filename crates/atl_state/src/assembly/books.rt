@@ -1,4 +1,4 @@
-//! The books.
+//! Builds the books from their rows.
 ghost use Rattle.std.specs.Prelude.{◌≡◌, ◌≤◌, IfOk};
 ghost use Rattle.atl_records.specs.Limits.{possible_things};
 ghost use Rattle.atl_state.specs.FromRows.{with_row, put_amounts};

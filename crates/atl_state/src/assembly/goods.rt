@@ -1,4 +1,4 @@
-//! What rows say that units have and regions have in stock, put where it belongs.
+//! Puts the rows of items, days and stocks into units and regions.
 ghost use Rattle.std.specs.Prelude.{◌≡◌, OnOk, true};
 ghost use Rattle.std.specs.List.{list_all};
 ghost use Rattle.atl_tables.specs.Sums.{changed};
@@ -17,7 +17,8 @@ use std::alloc::AllocError;
 /// Puts an item or the days of a skill beside what its unit has, where there is such a unit.
 fn put_thing(units: &mut Arena<Unit>, row: &StoredHas) -> Result<(), AllocError>
     requires { has_in_range row.now ≡ true }
-    ensures { OnOk result (units.new ≡ changed (holding_more row.now) units.old (as_u32 row.now.unit)) }
+    ensures { OnOk result (units.new
+        ≡ changed (holding_more row.now) units.old (as_u32 row.now.unit)) }
 {
     let Some(unit) = units.get_mut(as_u32(row.unit)) else {
         return Ok(());
@@ -43,7 +44,8 @@ pub(super) fn put_things(units: &mut Arena<Unit>, rows: &[StoredHas]) -> Result<
 
 /// Puts a stock beside those of its region, where there is such a region.
 fn put_stock(regions: &mut Numbered<Region>, row: &StoredMarket) -> Result<(), AllocError>
-    ensures { OnOk result (regions.new ≡ changed (stocking_more row.now) regions.old (as_u32 row.now.region)) }
+    ensures { OnOk result (regions.new
+        ≡ changed (stocking_more row.now) regions.old (as_u32 row.now.region)) }
 {
     match regions.get_mut(as_u32(row.region)) {
         Some(region) => region.stocks.insert(as_u32(row.item), as_u32(row.stock)),
@@ -56,7 +58,8 @@ pub(super) fn put_stocks(
     regions: &mut Numbered<Region>,
     rows: &[StoredMarket],
 ) -> Result<(), AllocError>
-    ensures { OnOk result (regions.new ≡ give (λ r. as_u32 r.region) stocking_more rows.now regions.old) }
+    ensures { OnOk result (regions.new
+        ≡ give (λ r. as_u32 r.region) stocking_more rows.now regions.old) }
 {
     for row in rows {
         put_stock(regions, row)?;

@@ -1,8 +1,8 @@
-//! The maps of a campaign but for its units.
+//! Builds the maps of factions, regions, structures, mail and reports from their rows.
 ghost use Rattle.std.specs.Prelude.{◌≡◌, IfOk, true};
 ghost use Rattle.std.specs.List.{list_all};
 ghost use Rattle.atl_tables.specs.Names.{name_ok};
-ghost use Rattle.atl_state.specs.Assembling.{unmarked, bare_region, tables_of};
+ghost use Rattle.atl_state.specs.Assembling.{without_marks, bare_region, campaign_maps_of};
 ghost use Rattle.atl_state.specs.FromRows.{as_u32, faction_of, region_of, structure_of, by_number};
 ghost use Rattle.atl_state.specs.RowRules.{faction_named};
 
@@ -13,7 +13,7 @@ use crate::parts::{
 };
 use crate::row_rules::as_u32;
 use atl_records::{Faction, Region, Structure};
-use atl_tables::{Numbered, Sequence, Text, Tracked};
+use atl_tables::{MarkedMap, Numbered, Sequence, Text};
 use std::alloc::{AllocError, Global};
 
 /// The factions of rows with good names.
@@ -22,7 +22,8 @@ pub(crate) fn factions_of(
     rows: &[StoredFaction],
 ) -> Result<Numbered<Faction>, AllocError>
     requires { list_all faction_named rows.now ≡ true }
-    ensures { IfOk result (λ factions. factions ≡ by_number (λ r. as_u32 r.number) faction_of rows.now) }
+    ensures { IfOk result (λ factions. factions
+        ≡ by_number (λ r. as_u32 r.number) faction_of rows.now) }
 {
     let mut factions = Numbered::new(alloc);
     for row in rows {
@@ -33,7 +34,8 @@ pub(crate) fn factions_of(
 }
 
 fn bare_regions(alloc: Global, rows: &[StoredRegion]) -> Result<Numbered<Region>, AllocError>
-    ensures { IfOk result (λ regions. regions ≡ by_number (λ r. as_u32 r.number) bare_region rows.now) }
+    ensures { IfOk result (λ regions. regions
+        ≡ by_number (λ r. as_u32 r.number) bare_region rows.now) }
 {
     let mut regions = Numbered::new(alloc);
     for row in rows {
@@ -48,7 +50,8 @@ pub(crate) fn regions_of(
     rows: &[StoredRegion],
     markets: &[StoredMarket],
 ) -> Result<Numbered<Region>, AllocError>
-    ensures { IfOk result (λ regions. regions ≡ by_number (λ r. as_u32 r.number) (region_of markets.now) rows.now) }
+    ensures { IfOk result (λ regions. regions
+        ≡ by_number (λ r. as_u32 r.number) (region_of markets.now) rows.now) }
 {
     let mut regions = bare_regions(alloc, rows)?;
     put_stocks(&mut regions, markets)?;
@@ -61,7 +64,8 @@ pub(crate) fn structures_of(
     rows: &[StoredStructure],
 ) -> Result<Numbered<Structure>, AllocError>
     requires { list_all (λ r. name_ok r.name) rows.now ≡ true }
-    ensures { IfOk result (λ structures. structures ≡ by_number (λ r. as_u32 r.number) structure_of rows.now) }
+    ensures { IfOk result (λ structures. structures
+        ≡ by_number (λ r. as_u32 r.number) structure_of rows.now) }
 {
     let mut structures = Numbered::new(alloc);
     for row in rows {
@@ -76,7 +80,8 @@ pub(crate) fn mail_of(
     alloc: Global,
     rows: &[StoredMail],
 ) -> Result<Numbered<Sequence<u8>>, AllocError>
-    ensures { IfOk result (λ mail. mail ≡ by_number (λ r. as_u32 r.faction) (λ r. r.text) rows.now) }
+    ensures { IfOk result (λ mail. mail
+        ≡ by_number (λ r. as_u32 r.faction) (λ r. r.text) rows.now) }
 {
     let mut mail = Numbered::new(alloc);
     for row in rows {
@@ -88,7 +93,8 @@ pub(crate) fn mail_of(
 
 /// The reports of rows.
 pub(crate) fn reports_of(alloc: Global, rows: &[StoredReport]) -> Result<Numbered<Text>, AllocError>
-    ensures { IfOk result (λ reports. reports ≡ by_number (λ r. as_u32 r.faction) (λ r. r.text) rows.now) }
+    ensures { IfOk result (λ reports. reports
+        ≡ by_number (λ r. as_u32 r.faction) (λ r. r.text) rows.now) }
 {
     let mut reports = Numbered::new(alloc);
     for row in rows {
@@ -99,70 +105,84 @@ pub(crate) fn reports_of(alloc: Global, rows: &[StoredReport]) -> Result<Numbere
 }
 
 /// The maps of a campaign but for its units, with nothing marked.
-pub(crate) struct Tables {
-    pub(crate) factions: Tracked<Faction>,
-    pub(crate) regions: Tracked<Region>,
-    pub(crate) structures: Tracked<Structure>,
-    pub(crate) mail: Tracked<Sequence<u8>>,
-    pub(crate) reports: Tracked<Text>,
+pub(crate) struct CampaignMaps {
+    pub(crate) factions: MarkedMap<Faction>,
+    pub(crate) regions: MarkedMap<Region>,
+    pub(crate) structures: MarkedMap<Structure>,
+    pub(crate) mail: MarkedMap<Sequence<u8>>,
+    pub(crate) reports: MarkedMap<Text>,
 }
 
-fn tracked_factions(alloc: Global, rows: &[StoredFaction]) -> Result<Tracked<Faction>, AllocError>
+fn marked_map_of_factions(
+    alloc: Global,
+    rows: &[StoredFaction],
+) -> Result<MarkedMap<Faction>, AllocError>
     requires { list_all faction_named rows.now ≡ true }
-    ensures { IfOk result (λ t. t ≡ unmarked (by_number (λ r. as_u32 r.number) faction_of rows.now)) }
+    ensures { IfOk result (λ t. t
+        ≡ without_marks (by_number (λ r. as_u32 r.number) faction_of rows.now)) }
 {
     let factions = factions_of(alloc, rows)?;
-    Tracked::of(alloc, factions)
+    MarkedMap::of(alloc, factions)
 }
 
-fn tracked_regions(
+fn marked_map_of_regions(
     alloc: Global,
     rows: &[StoredRegion],
     markets: &[StoredMarket],
-) -> Result<Tracked<Region>, AllocError>
-    ensures { IfOk result (λ t. t ≡ unmarked (by_number (λ r. as_u32 r.number) (region_of markets.now) rows.now)) }
+) -> Result<MarkedMap<Region>, AllocError>
+    ensures { IfOk result (λ t. t
+        ≡ without_marks (by_number (λ r. as_u32 r.number) (region_of markets.now) rows.now)) }
 {
     let regions = regions_of(alloc, rows, markets)?;
-    Tracked::of(alloc, regions)
+    MarkedMap::of(alloc, regions)
 }
 
-fn tracked_structures(
+fn marked_map_of_structures(
     alloc: Global,
     rows: &[StoredStructure],
-) -> Result<Tracked<Structure>, AllocError>
+) -> Result<MarkedMap<Structure>, AllocError>
     requires { list_all (λ r. name_ok r.name) rows.now ≡ true }
-    ensures { IfOk result (λ t. t ≡ unmarked (by_number (λ r. as_u32 r.number) structure_of rows.now)) }
+    ensures { IfOk result (λ t. t
+        ≡ without_marks (by_number (λ r. as_u32 r.number) structure_of rows.now)) }
 {
     let structures = structures_of(alloc, rows)?;
-    Tracked::of(alloc, structures)
+    MarkedMap::of(alloc, structures)
 }
 
-fn tracked_mail(alloc: Global, rows: &[StoredMail]) -> Result<Tracked<Sequence<u8>>, AllocError>
-    ensures { IfOk result (λ t. t ≡ unmarked (by_number (λ r. as_u32 r.faction) (λ r. r.text) rows.now)) }
+fn marked_map_of_mail(
+    alloc: Global,
+    rows: &[StoredMail],
+) -> Result<MarkedMap<Sequence<u8>>, AllocError>
+    ensures { IfOk result (λ t. t
+        ≡ without_marks (by_number (λ r. as_u32 r.faction) (λ r. r.text) rows.now)) }
 {
     let mail = mail_of(alloc, rows)?;
-    Tracked::of(alloc, mail)
+    MarkedMap::of(alloc, mail)
 }
 
-fn tracked_reports(alloc: Global, rows: &[StoredReport]) -> Result<Tracked<Text>, AllocError>
-    ensures { IfOk result (λ t. t ≡ unmarked (by_number (λ r. as_u32 r.faction) (λ r. r.text) rows.now)) }
+fn marked_map_of_reports(
+    alloc: Global,
+    rows: &[StoredReport],
+) -> Result<MarkedMap<Text>, AllocError>
+    ensures { IfOk result (λ t. t
+        ≡ without_marks (by_number (λ r. as_u32 r.faction) (λ r. r.text) rows.now)) }
 {
     let reports = reports_of(alloc, rows)?;
-    Tracked::of(alloc, reports)
+    MarkedMap::of(alloc, reports)
 }
 
 /// The maps but for the units, of rows with good names.
-pub(crate) fn tables_of(alloc: Global, parts: &Parts) -> Result<Tables, AllocError>
+pub(crate) fn campaign_maps_of(alloc: Global, parts: &Parts) -> Result<CampaignMaps, AllocError>
     requires factions { list_all faction_named parts.now.factions ≡ true }
     requires structures { list_all (λ r. name_ok r.name) parts.now.structures ≡ true }
-    ensures { IfOk result (λ tables. tables ≡ tables_of parts.now) }
+    ensures { IfOk result (λ tables. tables ≡ campaign_maps_of parts.now) }
 {
-    let factions = tracked_factions(alloc, parts.factions.as_slice())?;
-    let regions = tracked_regions(alloc, parts.regions.as_slice(), parts.markets.as_slice())?;
-    let structures = tracked_structures(alloc, parts.structures.as_slice())?;
-    let mail = tracked_mail(alloc, parts.mail.as_slice())?;
-    let reports = tracked_reports(alloc, parts.reports.as_slice())?;
-    Ok(Tables {
+    let factions = marked_map_of_factions(alloc, parts.factions.as_slice())?;
+    let regions = marked_map_of_regions(alloc, parts.regions.as_slice(), parts.markets.as_slice())?;
+    let structures = marked_map_of_structures(alloc, parts.structures.as_slice())?;
+    let mail = marked_map_of_mail(alloc, parts.mail.as_slice())?;
+    let reports = marked_map_of_reports(alloc, parts.reports.as_slice())?;
+    Ok(CampaignMaps {
         factions,
         regions,
         structures,

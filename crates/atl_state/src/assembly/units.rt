@@ -1,4 +1,4 @@
-//! The units, with what they have, and the lists of them.
+//! Builds the units from their rows, and the lists of units.
 ghost use Rattle.std.specs.Prelude.{◌≡◌, IfOk, true};
 ghost use Rattle.std.specs.List.{list_all};
 ghost use Rattle.atl_tables.specs.Names.{name_ok};
@@ -11,7 +11,7 @@ ghost use Rattle.atl_state.specs.RowRules.{unit_in_range, has_in_range};
 use super::goods::put_things;
 use super::records::name_of;
 use crate::arena::Arena;
-use crate::lists::{UnitLists, listing_of};
+use crate::lists::{UnitLists, list_keys_of};
 use crate::parts::{Parts, StoredHas, StoredUnit};
 use crate::row_rules::{as_u32, is_set};
 use crate::units::Units;
@@ -60,7 +60,8 @@ pub(crate) fn units_of(
     requires named { list_all (λ r. name_ok r.name) rows.now ≡ true }
     requires range { list_all unit_in_range rows.now ≡ true }
     requires amounts { list_all has_in_range has.now ≡ true }
-    ensures { IfOk result (λ units. units ≡ by_number (λ r. as_u32 r.number) (unit_of has.now) rows.now) }
+    ensures { IfOk result (λ units. units
+        ≡ by_number (λ r. as_u32 r.number) (unit_of has.now) rows.now) }
 {
     let mut units = bare_units(alloc, rows)?;
     put_things(&mut units, has)?;
@@ -72,7 +73,9 @@ pub(crate) fn roster_of(alloc: Global, parts: &Parts) -> Result<Units, AllocErro
     requires named { list_all (λ r. name_ok r.name) parts.now.units ≡ true }
     requires range { list_all unit_in_range parts.now.units ≡ true }
     requires amounts { list_all has_in_range parts.now.has ≡ true }
-    ensures { IfOk result (λ units. units ≡ unmarked_units (by_number (λ r. as_u32 r.number) (unit_of parts.now.has) parts.now.units)) }
+    ensures { IfOk result (λ units. units
+        ≡ unmarked_units (by_number (λ r. as_u32 r.number) (unit_of parts.now.has)
+        parts.now.units)) }
 {
     let units = units_of(alloc, parts.units.as_slice(), parts.has.as_slice())?;
     Units::of(alloc, units)
@@ -84,7 +87,7 @@ pub(crate) fn lists_of(alloc: Global, units: &Units) -> Result<UnitLists, AllocE
 {
     let mut lists = UnitLists::new(alloc);
     for (number, unit) in units.iter() {
-        lists.add(alloc, number, listing_of(unit))?;
+        lists.add(alloc, number, list_keys_of(unit))?;
     }
     Ok(lists)
 }

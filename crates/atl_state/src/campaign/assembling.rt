@@ -1,4 +1,4 @@
-//! How a campaign is made of rows.
+//! Makes a campaign of checked rows.
 ghost use Rattle.std.specs.Prelude.{◌≡◌, IfOk, length, true};
 ghost use Rattle.atl_tables.specs.Worlds.{IsWorld};
 ghost use Rattle.atl_state.specs.FromRows.{campaign_of};
@@ -6,16 +6,16 @@ ghost use Rattle.atl_state.specs.Marks.{no_marks};
 ghost use Rattle.atl_state.specs.RowRules.{are_named, people_in_range};
 
 use super::Campaign;
-use crate::assembly::{Tables, books_of, lists_of, pass_of, roster_of, tables_of};
+use crate::assembly::{CampaignMaps, books_of, campaign_maps_of, lists_of, pass_of, roster_of};
 use crate::parts::Parts;
-use crate::row_rules::{as_u32, head_of};
+use crate::row_rules::{as_u32, campaign_row_of};
 use atl_records::{ENTRY_COUNT, FIRST_ITEM};
 use atl_tables::{Marks, World};
 use std::alloc::{AllocError, Global};
 
 /// The campaign that rows say, with nothing marked.
 #[tactic(auto, unfolding(crate::specs::FromRows::campaign_of))]
-pub(crate) fn assembled(alloc: Global, world: &World, parts: &Parts) -> Result<Campaign, AllocError>
+pub(crate) fn assemble(alloc: Global, world: &World, parts: &Parts) -> Result<Campaign, AllocError>
     requires one { length parts.now.campaign ≡ 1 }
     requires named { are_named parts.now ≡ true }
     requires people { people_in_range parts.now ≡ true }
@@ -23,20 +23,20 @@ pub(crate) fn assembled(alloc: Global, world: &World, parts: &Parts) -> Result<C
     ensures marks { IfOk result (λ c. c.marks ≡ no_marks) }
     ensures world { IsWorld world.now }
 {
-    let head = head_of(parts);
+    let head = campaign_row_of(parts);
     let things = FIRST_ITEM + world.items().len();
     let pass = pass_of(alloc, &head.pass)?;
     let units = roster_of(alloc, parts)?;
     let lists = lists_of(alloc, &units)?;
     let books = books_of(alloc, things, parts.books.as_slice())?;
     let amounts_marked = Marks::with_room(alloc, ENTRY_COUNT * things)?;
-    let Tables {
+    let CampaignMaps {
         factions,
         regions,
         structures,
         mail,
         reports,
-    } = tables_of(alloc, parts)?;
+    } = campaign_maps_of(alloc, parts)?;
     Ok(Campaign {
         alloc,
         month: as_u32(head.month),

@@ -1,4 +1,4 @@
-//! A campaign of nothing.
+//! An empty campaign.
 ghost use Rattle.std.specs.Prelude.{◌≡◌};
 ghost use Rattle.atl_state.specs.Campaign.{blank};
 
@@ -6,7 +6,7 @@ use super::Campaign;
 use crate::lists::UnitLists;
 use crate::units::Units;
 use atl_records::Books;
-use atl_tables::{Marks, Text, Tracked};
+use atl_tables::{MarkedMap, Marks, Text};
 use std::alloc::Global;
 
 impl Campaign {
@@ -22,12 +22,12 @@ impl Campaign {
             next_faction: 1,
             next_unit: 1,
             next_structure: 1,
-            factions: Tracked::new(alloc),
-            regions: Tracked::new(alloc),
+            factions: MarkedMap::new(alloc),
+            regions: MarkedMap::new(alloc),
             units: Units::new(alloc),
-            structures: Tracked::new(alloc),
-            mail: Tracked::new(alloc),
-            reports: Tracked::new(alloc),
+            structures: MarkedMap::new(alloc),
+            mail: MarkedMap::new(alloc),
+            reports: MarkedMap::new(alloc),
             books: Books::blank(alloc),
             amounts_marked: Marks::new(alloc),
             row_marked: false,

@@ -1,4 +1,4 @@
-//! How units and structures come.
+//! Adds units and structures to a campaign.
 ghost use Rattle.std.specs.Prelude.{◌≡◌, ◌≤◌, IfOk, OnOk, OnErr, None};
 ghost use Rattle.std.specs.FinMap as map;
 ghost use Rattle.atl_records.specs.Limits.{last_unit, most_structures};
@@ -6,7 +6,7 @@ ghost use Rattle.atl_state.specs.Marking.{mark_unit_added, mark_unit_begun, mark
 ghost use Rattle.atl_state.specs.Campaign.{with_unit, with_unit_begun, with_structure_begun};
 
 use super::Campaign;
-use crate::lists::listing_of;
+use crate::lists::list_keys_of;
 use atl_records::{Structure, Unit};
 use std::alloc::AllocError;
 
@@ -14,10 +14,15 @@ impl Campaign {
     /// Adds a unit under a number that no unit has, and marks it and its goods. Without memory for it nothing changes.
     fn add_unit(&mut self, number: u32, unit: Unit) -> Result<(), AllocError>
         requires { map.get self.old.value.units number ≡ None }
-        ensures ok { OnOk result (self.new ≡ record { value = with_unit self.old.value number unit; marks = mark_unit_added self.old number }) }
+        ensures ok { OnOk result
+            (self.new ≡ record {
+              value = with_unit self.old.value number unit;
+              marks =
+                  mark_unit_added self.old number;
+            }) }
         ensures err { OnErr result (self.new ≡ self.old) }
     {
-        let listing = listing_of(&unit);
+        let listing = list_keys_of(&unit);
         self.lists.add(self.alloc, number, listing)?;
         match self.units.insert(number, unit) {
             Ok(()) => Ok(()),

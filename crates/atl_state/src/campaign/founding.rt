@@ -1,4 +1,4 @@
-//! How a campaign begins.
+//! Founds a campaign of a world. See docs/RULES.md, "Founding".
 ghost use Rattle.std.specs.Prelude.{◌≡◌, ◌≤◌, ◌+◌, IsTrue, IfOk, length, pos};
 ghost use Rattle.std.specs.FinMap as map;
 ghost use Rattle.std.specs.FinSet as set;
@@ -8,8 +8,8 @@ ghost use Rattle.atl_tables.specs.Sums.{sum_over, mapped};
 ghost use Rattle.atl_records.specs.declared.books.Entry.TheVariants.{Founding};
 ghost use Rattle.atl_records.specs.declared.books.Thing.TheVariants.{Money, People};
 ghost use Rattle.atl_records.specs.Limits.{most_things, possible_things, most_founded};
-ghost use Rattle.atl_records.specs.Books.{no_amounts, with_booked};
-ghost use Rattle.atl_records.specs.Amounts.{kept};
+ghost use Rattle.atl_records.specs.Books.{after_booking, no_amounts};
+ghost use Rattle.atl_records.specs.Amounts.{region_amount};
 ghost use Rattle.atl_state.specs.Marks.{no_marks};
 ghost use Rattle.atl_state.specs.Founding.{founded_of, founded_region};
 ghost use Rattle.atl_state.specs.Good.{IsGood};
@@ -17,12 +17,16 @@ ghost use Rattle.atl_state.specs.Good.{IsGood};
 use super::Campaign;
 use crate::totals::regions_total;
 use atl_records::{Books, ENTRY_COUNT, Entry, FIRST_ITEM, Region, Thing};
-use atl_tables::{Marks, Numbered, RegionPlan, Text, Tracked, World};
+use atl_tables::{MarkedMap, Marks, Numbered, RegionPlan, Text, World};
 use std::alloc::{AllocError, Global};
 
 /// The regions as they are founded.
-fn regions_made(alloc: Global, plans: &Numbered<RegionPlan>) -> Result<Tracked<Region>, AllocError>
-    ensures { IfOk result (λ regions. regions ≡ record { values = mapped founded_region plans.now; marks = set.empty }) }
+fn make_regions(
+    alloc: Global,
+    plans: &Numbered<RegionPlan>,
+) -> Result<MarkedMap<Region>, AllocError>
+    ensures { IfOk result (λ regions. regions
+        ≡ record { values = mapped founded_region plans.now; marks = set.empty }) }
 {
     let mut regions = Numbered::new(alloc);
     for (number, plan) in plans.iter() {
@@ -33,21 +37,27 @@ fn regions_made(alloc: Global, plans: &Numbered<RegionPlan>) -> Result<Tracked<R
         };
         regions.insert(number, region)?;
     }
-    Tracked::of(alloc, regions)
+    MarkedMap::of(alloc, regions)
 }
 
 /// What the books say at founding, for so many things.
 fn founding_books(
     alloc: Global,
     things: usize,
-    regions: &Tracked<Region>,
+    regions: &MarkedMap<Region>,
 ) -> Result<Books, AllocError>
     requires few { length (map.entries regions.now.values) ≤ most_regions }
     requires some { 2 ≤ things }
     requires possible { things ≤ possible_things }
-    ensures money { IfOk result (λ _. sum_over (λ r. kept Money r) regions.now.values ≤ most_founded) }
-    ensures people { IfOk result (λ _. sum_over (λ r. kept People r) regions.now.values ≤ most_founded) }
-    ensures value { IfOk result (λ books. books ≡ with_booked (with_booked (no_amounts things) Founding Money (pos (sum_over (λ r. kept Money r) regions.now.values))) Founding People (pos (sum_over (λ r. kept People r) regions.now.values))) }
+    ensures money { IfOk result
+        (λ _. sum_over (λ r. region_amount Money r) regions.now.values ≤ most_founded) }
+    ensures people { IfOk result
+        (λ _. sum_over (λ r. region_amount People r) regions.now.values ≤ most_founded) }
+    ensures value { IfOk result
+        (λ books. books ≡ after_booking
+        (after_booking (no_amounts things) Founding Money
+        (pos (sum_over (λ r. region_amount Money r) regions.now.values))) Founding People
+        (pos (sum_over (λ r. region_amount People r) regions.now.values))) }
 {
     let mut books = Books::new(alloc, things)?;
     let money = regions_total(regions, Thing::Money);
@@ -67,7 +77,7 @@ pub fn founded(alloc: Global, world: &World, pass: &[u8]) -> Result<Campaign, Al
     ensures marks { IfOk result (λ c. c.marks ≡ no_marks) }
 {
     let pass = Text::from_utf8(alloc, pass)?;
-    let regions = regions_made(alloc, world.regions())?;
+    let regions = make_regions(alloc, world.regions())?;
     let things = FIRST_ITEM + world.items().len();
     let books = founding_books(alloc, things, &regions)?;
     let amounts_marked = Marks::with_room(alloc, ENTRY_COUNT * things)?;

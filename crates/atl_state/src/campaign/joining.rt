@@ -1,4 +1,4 @@
-//! How a faction joins.
+//! Lets a faction join. See docs/RULES.md, "Joining".
 ghost use Rattle.std.specs.Prelude.{◌≡◌, ◌≤◌, ◌<◌, ◌++◌, IsTrue, IfOk, OnOk, OnErr, codes, false, length, nat_eq, pos};
 ghost use Rattle.std.specs.Cmp.Lexicographic.{pointwise};
 ghost use Rattle.std.specs.FinMap as map;
@@ -9,7 +9,7 @@ ghost use Rattle.atl_tables.specs.Names.{name_ok, pass_ok};
 ghost use Rattle.atl_tables.specs.Worlds.{IsWorld};
 ghost use Rattle.atl_records.specs.declared.books.Entry.TheVariants.{Joining};
 ghost use Rattle.atl_records.specs.declared.books.Thing.TheVariants.{Money, People};
-ghost use Rattle.atl_records.specs.Books.{amount_in, with_booked, IsSmall};
+ghost use Rattle.atl_records.specs.Books.{amount_in, after_booking, IsSmall};
 ghost use Rattle.atl_state.specs.Good.{IsGood, IsSound};
 ghost use Rattle.atl_state.specs.Joining.{name_taken, is_full, home_of, new_faction, joined, Joins};
 ghost use Rattle.atl_records.specs.Limits.{holding_limit, last_unit};
@@ -20,11 +20,12 @@ use atl_orders::LAST_FACTION;
 use atl_records::{
     Books, Entry, Faction, Holding, JoinFault, LAST_UNIT, MOST_UNITS, Thing, Unit, amount_number,
 };
-use atl_tables::{Numbered, Text, Tracked, World};
+use atl_tables::{MarkedMap, Numbered, Text, World};
 use std::alloc::{AllocError, Global};
 
-fn is_taken(factions: &Tracked<Faction>, name: &[u8]) -> bool
-    ensures { result ≡ list_any (λ e. pointwise nat_eq e.1.joined_as name.now) (map.entries factions.now.values) }
+fn is_taken(factions: &MarkedMap<Faction>, name: &[u8]) -> bool
+    ensures { result ≡ list_any (λ e. pointwise nat_eq e.1.joined_as name.now)
+        (map.entries factions.now.values) }
 {
     for (_, faction) in factions.iter() {
         if faction.joined_as.as_bytes() == name {
@@ -42,7 +43,7 @@ fn home(world: &World, word: u32) -> u32
     land[word as usize % land.len()]
 }
 
-fn unit_made(
+fn make_unit(
     alloc: Global,
     number: u32,
     faction: u32,
@@ -50,12 +51,21 @@ fn unit_made(
     money: u32,
 ) -> Result<Unit, AllocError>
     requires { money ≤ holding_limit }
-    ensures { IfOk result (λ unit. unit ≡ record {
-      faction = faction;
-      region = region;
-      structure = 0;
-      holding = record { name = codes "Unit " ++ decimal number; men = 1; money = money; guard = false; items = map.empty; days = map.empty };
-    }) }
+    ensures { IfOk result (λ unit. unit
+        ≡ record {
+          faction = faction;
+          region = region;
+          structure = 0;
+          holding = record {
+            name = codes "Unit " ++ decimal number;
+            men = 1;
+            money = money;
+            guard = false;
+            items =
+                map.empty;
+            days = map.empty;
+          };
+        }) }
 {
     let name = Text::from_string(format!(in alloc; "Unit {number}")?);
     Ok(Unit {
@@ -66,7 +76,7 @@ fn unit_made(
     })
 }
 
-fn faction_made(alloc: Global, number: u32, name: &[u8], pass: &[u8]) -> Result<Faction, AllocError>
+fn make_faction(alloc: Global, number: u32, name: &[u8], pass: &[u8]) -> Result<Faction, AllocError>
     requires name { IsUtf8 name.now }
     requires pass { IsUtf8 pass.now }
     ensures { IfOk result (λ faction. faction ≡ new_faction number name.now pass.now) }
@@ -85,7 +95,8 @@ fn book_joining(books: &mut Books, money: u32)
     requires rows { 2 ≤ length books.old }
     requires money { IsSmall (amount_in books.old Joining Money) }
     requires people { IsSmall (amount_in books.old Joining People) }
-    ensures { books.new ≡ with_booked (with_booked books.old Joining Money (pos money)) Joining People (pos 1) }
+    ensures { books.new ≡ after_booking (after_booking books.old Joining Money (pos money)) Joining
+        People (pos 1) }
 {
     books.book(Entry::Joining, Thing::Money, i64::from(money));
     books.book(Entry::Joining, Thing::People, 1);
@@ -122,7 +133,8 @@ impl Campaign {
         requires good { IsGood world.now self.old.value }
         requires name { IsTrue (name_ok name.now) }
         requires pass { IsTrue (pass_ok pass.now) }
-        ensures definition { Joins world.now name.now pass.now word self.old.value result self.new.value }
+        ensures definition { Joins world.now name.now pass.now word self.old.value result
+            self.new.value }
         ensures sound { IsSound world.now self.new.value }
         ensures marks { OnOk result (self.new.marks ≡ join_marked self.old) }
         ensures err { OnErr result (self.new ≡ self.old) }
@@ -151,8 +163,10 @@ impl Campaign {
         requires room { self.old.value.next_unit ≤ last_unit }
         requires name { IsUtf8 name.now }
         requires pass { IsUtf8 pass.now }
-        ensures ok { OnOk result (self.new.value ≡ joined world.now name.now pass.now word self.old.value) }
-        ensures numbers { IfOk result (λ numbers. numbers ≡ (self.old.value.next_faction, self.old.value.next_unit)) }
+        ensures ok { OnOk result
+            (self.new.value ≡ joined world.now name.now pass.now word self.old.value) }
+        ensures numbers { IfOk result
+            (λ numbers. numbers ≡ (self.old.value.next_faction, self.old.value.next_unit)) }
         ensures err { OnErr result (self.new ≡ self.old) }
         ensures marks { OnOk result (self.new.marks ≡ join_marked self.old) }
         ensures world { IsWorld world.now }
@@ -161,8 +175,8 @@ impl Campaign {
         let number = self.next_unit;
         let money = world.rules().start_money;
         let region = home(world, word);
-        let unit = unit_made(self.alloc, number, faction, region, money)?;
-        let member = faction_made(self.alloc, faction, name, pass)?;
+        let unit = make_unit(self.alloc, number, faction, region, money)?;
+        let member = make_faction(self.alloc, faction, name, pass)?;
         let was_marked = self.factions.is_marked(faction);
         self.factions.insert(faction, member)?;
         match self.begin_unit(unit) {

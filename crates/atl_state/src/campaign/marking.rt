@@ -1,9 +1,9 @@
-//! What of a campaign is marked.
+//! Reads and clears the change marks of a campaign.
 ghost use Rattle.std.specs.Prelude.{◌≡◌, ◌<◌, length};
 ghost use Rattle.std.specs.FinMap as map;
 ghost use Rattle.std.specs.FinSet as set;
 ghost use Rattle.atl_tables.specs.Tracking.{Lists};
-ghost use Rattle.atl_records.specs.Books.{thing_place, amount_number};
+ghost use Rattle.atl_records.specs.Books.{thing_index, amount_number};
 ghost use Rattle.atl_state.specs.Marks.{AreWithin, no_marks, marks_in};
 
 use super::Campaign;
@@ -15,7 +15,8 @@ impl Campaign {
     /// memory.
     pub fn marks(&self) -> usize
         ensures value { result ≡ marks_in self.now.marks }
-        ensures units { AreWithin self.now.marks.units self.now.marks.rows self.now.marks.goods self.now.marks.items self.now.marks.skills }
+        ensures units { AreWithin self.now.marks.units self.now.marks.rows self.now.marks.goods
+            self.now.marks.items self.now.marks.skills }
     {
         let row = if self.row_marked { 1 } else { 0 };
         let named = self.factions.marked() + self.mail.marked() + self.reports.marked();
@@ -97,7 +98,7 @@ impl Campaign {
 
     /// Whether an amount of the books is marked.
     pub fn is_amount_marked(&self, entry: Entry, thing: Thing) -> bool
-        requires { thing_place thing < length self.now.value.books }
+        requires { thing_index thing < length self.now.value.books }
         ensures { result ≡ set.contains self.now.marks.books (amount_number entry thing) }
     {
         self.amounts_marked.contains(amount_number(entry, thing))

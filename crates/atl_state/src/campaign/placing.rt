@@ -1,11 +1,12 @@
-//! Where units are, and who owns the structures that they leave and enter.
+//! Moves units, and keeps the owners of the structures that they leave and enter. See
+//! docs/RULES.md, "Owners".
 ghost use Rattle.std.specs.Prelude.{◌≡◌, OnOk, OnErr};
 ghost use Rattle.std.specs.FinMap as map;
 ghost use Rattle.atl_state.specs.Marking.{handed_marked, put_marked, place_marked, taken_marked, gone_marked};
 ghost use Rattle.atl_state.specs.Owners.{first_other, heir, owner_after, is_owned_by, with_place, without_unit};
 
 use super::Campaign;
-use crate::lists::{Listing, listing_of};
+use crate::lists::{ListKeys, list_keys_of};
 use std::alloc::AllocError;
 
 /// The first of some numbers but for one, or 0.
@@ -66,10 +67,10 @@ impl Campaign {
         ensures err { OnErr result (self.new ≡ self.old) }
     {
         let from = match self.units.get(number) {
-            Some(unit) => listing_of(unit),
+            Some(unit) => list_keys_of(unit),
             None => return Ok(()),
         };
-        let to = Listing {
+        let to = ListKeys {
             region,
             structure,
             ..from
@@ -84,9 +85,11 @@ impl Campaign {
     /// marked, and each structure that got another owner. Where there is no such unit nothing changes; without memory
     /// neither. See docs/RULES.md, "Owners".
     pub fn place(&mut self, number: u32, region: u32, structure: u32) -> Result<(), AllocError>
-        ensures ok { OnOk result (self.new.value ≡ with_place self.old.value number region structure) }
+        ensures ok { OnOk result
+            (self.new.value ≡ with_place self.old.value number region structure) }
         ensures err { OnErr result (self.new ≡ self.old) }
-        ensures marks { OnOk result (self.new.marks ≡ (place_marked self.old number region structure).marks) }
+        ensures marks { OnOk result
+            (self.new.marks ≡ (place_marked self.old number region structure).marks) }
     {
         let left = match self.units.get(number) {
             Some(unit) => unit.structure,
@@ -106,7 +109,7 @@ impl Campaign {
         ensures { self.new ≡ taken_marked self.old number }
     {
         let listing = match self.units.get(number) {
-            Some(unit) => listing_of(unit),
+            Some(unit) => list_keys_of(unit),
             None => return,
         };
         self.lists.remove(number, listing);

@@ -3,7 +3,7 @@
 ghost use Rattle.std.specs.Prelude.{◌≡◌, ◌≤◌, ◌<◌, ◌⊎◌, ◌+ℤ◌, IsOk, OnErr, OnOk, length};
 ghost use Rattle.std.specs.Int.{w64};
 ghost use Rattle.std.specs.Int.RustNames.{FitsSigned};
-ghost use Rattle.atl_records.specs.Books.{amount_in, thing_place};
+ghost use Rattle.atl_records.specs.Books.{amount_in, thing_index};
 ghost use Rattle.atl_records.specs.Limits.{holding_limit, men_limit};
 ghost use Rattle.atl_state.specs.Marking.{mark_row, mark_faction, mark_region, mark_structure, mark_unit_row, mark_item, mark_skill, item_marked, skill_marked, mark_amount, mark_all_mail};
 ghost use Rattle.atl_state.specs.Campaign.{with_month, with_faction_name, with_gone, with_peasants, with_region_money, with_stock, with_unit_name, with_men, with_money, with_item, with_skill, with_guard, with_done, with_structure_name, with_structure_region, with_owner, with_amount, without_mail};
@@ -110,7 +110,8 @@ impl Campaign {
     pub fn set_item(&mut self, unit: u32, item: u32, amount: u32) -> Result<(), AllocError>
         requires { amount ≤ holding_limit }
         ensures ok { OnOk result (self.new.value ≡ with_item self.old.value unit item amount) }
-        ensures err { OnErr result ((self.new ≡ self.old) ⊎ (self.new ≡ item_marked self.old unit item)) }
+        ensures err { OnErr result
+            ((self.new ≡ self.old) ⊎ (self.new ≡ item_marked self.old unit item)) }
         ensures marks { OnOk result (self.new.marks ≡ mark_item self.old unit item) }
     {
         self.units.set_item(self.alloc, unit, item, amount)
@@ -120,7 +121,8 @@ impl Campaign {
     /// of its goods. AllocError without memory, and then the campaign is as it was, but for that mark.
     pub fn set_days(&mut self, unit: u32, skill: u32, days: u32) -> Result<(), AllocError>
         ensures ok { OnOk result (self.new.value ≡ with_skill self.old.value unit skill days) }
-        ensures err { OnErr result ((self.new ≡ self.old) ⊎ (self.new ≡ skill_marked self.old unit skill)) }
+        ensures err { OnErr result
+            ((self.new ≡ self.old) ⊎ (self.new ≡ skill_marked self.old unit skill)) }
         ensures marks { OnOk result (self.new.marks ≡ mark_skill self.old unit skill) }
     {
         self.units.set_days(self.alloc, unit, skill, days)
@@ -177,7 +179,7 @@ impl Campaign {
     /// Books so much more of a thing under an entry (money, men and peasants, or pieces of an item), or less where it is
     /// negative, and marks that amount. See docs/RULES.md, "Books".
     pub fn book(&mut self, entry: Entry, thing: Thing, amount: i64)
-        requires there { thing_place thing < length self.old.value.books }
+        requires there { thing_index thing < length self.old.value.books }
         requires fits { FitsSigned w64 (amount_in self.old.value.books entry thing +ℤ amount) }
         ensures what { self.new.value ≡ with_amount self.old.value entry thing amount }
         ensures marks { self.new.marks ≡ mark_amount self.old entry thing }

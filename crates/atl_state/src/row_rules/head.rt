@@ -1,15 +1,15 @@
-//! The campaign's own row, and the format that it names.
+//! Checks that there is one campaign row, with a known format.
 ghost use Rattle.std.specs.Prelude.{◌≡◌, length};
-ghost use Rattle.atl_state.specs.FromRows.{head_of};
-ghost use Rattle.atl_state.specs.RowRules.{is_one_head, are_of_format};
+ghost use Rattle.atl_state.specs.FromRows.{campaign_row_of};
+ghost use Rattle.atl_state.specs.RowRules.{is_one_campaign_row, are_of_format};
 
 use super::numbers::is_from;
-use crate::parts::{Parts, StoredHead, StoredMarket};
+use crate::parts::{Parts, StoredCampaignRow, StoredMarket};
 use atl_tables::Format;
 
 /// Whether there is one row of the campaign's own, whose id is 1 and whose format is this one.
-pub(crate) fn is_one_head(format: Format, rows: &[StoredHead]) -> bool
-    ensures { result ≡ is_one_head format rows.now }
+pub(crate) fn is_one_campaign_row(format: Format, rows: &[StoredCampaignRow]) -> bool
+    ensures { result ≡ is_one_campaign_row format rows.now }
 {
     if rows.len() != 1 {
         return false;
@@ -30,9 +30,9 @@ pub(crate) fn are_of_format(format: Format, rows: &[StoredMarket]) -> bool
 }
 
 /// The campaign's own row.
-pub(crate) fn head_of(parts: &Parts) -> &StoredHead
+pub(crate) fn campaign_row_of(parts: &Parts) -> &StoredCampaignRow
     requires { length parts.now.campaign ≡ 1 }
-    ensures { result.now ≡ head_of parts.now }
+    ensures { result.now ≡ campaign_row_of parts.now }
 {
     &parts.campaign.as_slice()[0]
 }

@@ -1,6 +1,5 @@
 //! Whether no two rows of a table have one key.
-ghost use Rattle.std.specs.Prelude.{◌≡◌, IfOk, map, true};
-ghost use Rattle.std.specs.Bool.{Decides};
+ghost use Rattle.std.specs.Prelude.{◌≡◌, IfOk, map, true, ◌↔◌, IsTrue};
 ghost use Rattle.std.specs.List.{IsDistinct};
 ghost use Rattle.std.specs.List.Sorted.{IsStrictlySortedBy};
 ghost use Rattle.std.specs.Ordering.{eq_by_cmp};
@@ -105,7 +104,7 @@ fn keys_of<R: Keyed>(alloc: Global, rows: &[R]) -> Result<Vec<(i64, i64, i64)>, 
 }
 
 /// Whether each value is above the one before it.
-fn are_rising<K: Ord + Drop>(keys: &[K]) -> bool
+fn are_sorted<K: Ord + Drop>(keys: &[K]) -> bool
     ensures { result ≡ true → IsStrictlySortedBy K.cmp keys.now }
 {
     for i in 1..keys.len() {
@@ -119,9 +118,9 @@ fn are_rising<K: Ord + Drop>(keys: &[K]) -> bool
 
 /// Whether no two of the values are equal. Where they don't rise it takes memory for each, and n log n steps.
 pub fn are_distinct<K: Ord + Copy + Drop>(alloc: Global, keys: &[K]) -> Result<bool, AllocError>
-    ensures { IfOk result (λ yes. Decides yes (IsDistinct (eq_by_cmp K.cmp) keys.now)) }
+    ensures { IfOk result (λ yes. IsTrue yes ↔ (IsDistinct (eq_by_cmp K.cmp) keys.now)) }
 {
-    if are_rising(keys) {
+    if are_sorted(keys) {
         return Ok(true);
     }
     let mut seen = BTreeSet::new(alloc);
@@ -135,7 +134,7 @@ pub fn are_distinct<K: Ord + Copy + Drop>(alloc: Global, keys: &[K]) -> Result<b
 
 /// Whether no two rows have one key.
 fn have_keys<R: Keyed>(alloc: Global, rows: &[R]) -> Result<bool, AllocError>
-    ensures { IfOk result (λ yes. Decides yes (HaveKeys R.key_of rows.now)) }
+    ensures { IfOk result (λ yes. IsTrue yes ↔ (HaveKeys R.key_of rows.now)) }
 {
     let keys = keys_of(alloc, rows)?;
     are_distinct(alloc, &keys)
@@ -143,7 +142,7 @@ fn have_keys<R: Keyed>(alloc: Global, rows: &[R]) -> Result<bool, AllocError>
 
 /// Whether in no table two rows have one key.
 pub(super) fn are_keyed(alloc: Global, parts: &Parts) -> Result<bool, AllocError>
-    ensures { IfOk result (λ yes. Decides yes (AreKeyed parts.now)) }
+    ensures { IfOk result (λ yes. IsTrue yes ↔ (AreKeyed parts.now)) }
 {
     let factions = have_keys(alloc, parts.factions.as_slice())?;
     let regions = have_keys(alloc, parts.regions.as_slice())?;

@@ -1,4 +1,4 @@
-//! The markets that rows name.
+//! Checks that the markets of rows are in the world.
 ghost use Rattle.std.specs.Prelude.{◌≡◌};
 ghost use Rattle.std.specs.List.{list_all};
 ghost use Rattle.std.specs.Option.{option_copied};
@@ -12,7 +12,8 @@ use atl_tables::{Market, World};
 
 /// The market whose stock a row is, where there is one.
 pub(super) fn market_of<'w>(world: &'w World, row: &StoredMarket) -> Option<&'w Market>
-    ensures { option_copied result ≡ market_of world.now (as_u32 row.now.region) (as_u32 row.now.item) }
+    ensures { option_copied result
+        ≡ market_of world.now (as_u32 row.now.region) (as_u32 row.now.item) }
 {
     let plan = world.region(as_u32(row.region))?;
     plan.markets.get(as_u32(row.item))

@@ -1,11 +1,10 @@
-//! Whether names and pass texts keep their rules.
-ghost use Rattle.std.specs.Prelude.{◌≡◌, IfOk, length, map};
-ghost use Rattle.std.specs.Bool.{Decides};
+//! Checks the names and pass texts of rows. See docs/RULES.md, "Names and pass texts".
+ghost use Rattle.std.specs.Prelude.{◌≡◌, IfOk, length, map, ◌↔◌, IsTrue};
 ghost use Rattle.std.specs.List.{list_all};
 ghost use Rattle.atl_tables.specs.Names.{name_ok};
 ghost use Rattle.atl_state.specs.RowRules.{faction_named, are_named, HaveJoined, AreRowsNamed};
 
-use super::head::head_of;
+use super::head::campaign_row_of;
 use super::keys::are_distinct;
 use crate::parts::{Parts, StoredFaction, StoredStructure, StoredUnit};
 use atl_tables::{name_ok, pass_ok};
@@ -41,14 +40,15 @@ fn are_named(parts: &Parts) -> bool
     requires { length parts.now.campaign ≡ 1 }
     ensures { result ≡ are_named parts.now }
 {
-    pass_ok(head_of(parts).pass.as_slice())
+    pass_ok(campaign_row_of(parts).pass.as_slice())
         && factions_named(parts.factions.as_slice())
         && units_named(parts.units.as_slice())
         && structures_named(parts.structures.as_slice())
 }
 
 fn joined_names(alloc: Global, rows: &[StoredFaction]) -> Result<Vec<&[u8]>, AllocError>
-    ensures { IfOk result (λ names. map (λ name. name.now) names.items ≡ map (λ r. r.joined_as) rows.now) }
+    ensures { IfOk result (λ names. map (λ name. name.now) names.items
+        ≡ map (λ r. r.joined_as) rows.now) }
 {
     let mut names = Vec::new(alloc);
     for row in rows {
@@ -59,7 +59,7 @@ fn joined_names(alloc: Global, rows: &[StoredFaction]) -> Result<Vec<&[u8]>, All
 
 /// Whether no two factions joined under one name.
 fn have_joined(alloc: Global, rows: &[StoredFaction]) -> Result<bool, AllocError>
-    ensures { IfOk result (λ yes. Decides yes (HaveJoined rows.now)) }
+    ensures { IfOk result (λ yes. IsTrue yes ↔ (HaveJoined rows.now)) }
 {
     let names = joined_names(alloc, rows)?;
     are_distinct(alloc, &names)
@@ -68,7 +68,7 @@ fn have_joined(alloc: Global, rows: &[StoredFaction]) -> Result<bool, AllocError
 /// Whether names, joined names and pass texts keep their rules, and no two factions joined under one name.
 pub(crate) fn rows_named(alloc: Global, parts: &Parts) -> Result<bool, AllocError>
     requires { length parts.now.campaign ≡ 1 }
-    ensures { IfOk result (λ yes. Decides yes (AreRowsNamed parts.now)) }
+    ensures { IfOk result (λ yes. IsTrue yes ↔ (AreRowsNamed parts.now)) }
 {
     let joined = have_joined(alloc, parts.factions.as_slice())?;
     Ok(joined && are_named(parts))

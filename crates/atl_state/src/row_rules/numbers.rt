@@ -1,4 +1,4 @@
-//! Numbers of rows, and whether they are in a range.
+//! Converts the numbers of rows, and checks their ranges.
 ghost use Rattle.std.specs.Prelude.{◌≡◌};
 ghost use Rattle.atl_state.specs.FromRows.{as_u32, as_u16, is_set};
 ghost use Rattle.atl_state.specs.RowRules.{is_from, is_within};

@@ -1,15 +1,14 @@
-//! Whether rows have keys that differ, numbers in their ranges, and are not too many.
-ghost use Rattle.std.specs.Prelude.{◌≡◌, IfOk, length};
-ghost use Rattle.std.specs.Bool.{Decides};
+//! Checks the keys, ranges and counts of all rows.
+ghost use Rattle.std.specs.Prelude.{◌≡◌, IfOk, length, ◌↔◌, IsTrue};
 ghost use Rattle.std.specs.List.{list_all};
-ghost use Rattle.atl_state.specs.RowRules.{head_in_range, faction_in_range, region_in_range, unit_in_range, has_in_range, structure_in_range, books_bound, books_in_range, market_in_range, are_few, people_in_range, numbers_in_range, AreRowsInRange};
+ghost use Rattle.atl_state.specs.RowRules.{campaign_row_in_range, faction_in_range, region_in_range, unit_in_range, has_in_range, structure_in_range, books_bound, books_in_range, market_in_range, are_few, people_in_range, numbers_in_range, AreRowsInRange};
 
-use super::head::head_of;
+use super::head::campaign_row_of;
 use super::keys::are_keyed;
 use super::markets::market_of;
 use super::numbers::{as_u16, as_u32, is_from, is_set, is_within};
 use crate::parts::{
-    Parts, StoredBooks, StoredFaction, StoredHas, StoredHead, StoredMarket, StoredRegion,
+    Parts, StoredBooks, StoredCampaignRow, StoredFaction, StoredHas, StoredMarket, StoredRegion,
     StoredStructure, StoredUnit,
 };
 use atl_orders::LAST_FACTION;
@@ -21,8 +20,8 @@ use atl_tables::World;
 use atl_tables::limits::{MOST_AMOUNT, MOST_REGIONS};
 use std::alloc::{AllocError, Global};
 
-fn head_in_range(head: &StoredHead) -> bool
-    ensures { result ≡ head_in_range head.now }
+fn campaign_row_in_range(head: &StoredCampaignRow) -> bool
+    ensures { result ≡ campaign_row_in_range head.now }
 {
     is_from(0, LAST_MONTH, head.month)
         && is_from(1, LAST_FACTION + 1, head.next_faction)
@@ -146,7 +145,7 @@ fn books_bound(parts: &Parts) -> u128
     requires { length parts.now.campaign ≡ 1 }
     ensures { result ≡ books_bound parts.now }
 {
-    let months = u128::from(as_u32(head_of(parts).month)) + 1;
+    let months = u128::from(as_u32(campaign_row_of(parts).month)) + 1;
     MOST_IN_MONTH * months + MOST_IN_JOINING * parts.factions.len() as u128
 }
 
@@ -154,7 +153,7 @@ fn numbers_in_range(world: &World, parts: &Parts) -> bool
     requires { length parts.now.campaign ≡ 1 }
     ensures { result ≡ numbers_in_range world.now parts.now }
 {
-    head_in_range(head_of(parts))
+    campaign_row_in_range(campaign_row_of(parts))
         && people_in_range(parts)
         && structures_in_range(world, parts.structures.as_slice())
         && all_books_in_range(books_bound(parts), parts.books.as_slice())
@@ -164,7 +163,7 @@ fn numbers_in_range(world: &World, parts: &Parts) -> bool
 /// Whether no two rows of a table have one key, each number is in its range and there are not too many rows.
 pub(crate) fn rows_in_range(alloc: Global, world: &World, parts: &Parts) -> Result<bool, AllocError>
     requires { length parts.now.campaign ≡ 1 }
-    ensures { IfOk result (λ yes. Decides yes (AreRowsInRange world.now parts.now)) }
+    ensures { IfOk result (λ yes. IsTrue yes ↔ (AreRowsInRange world.now parts.now)) }
 {
     let keyed = are_keyed(alloc, parts)?;
     Ok(keyed && are_few(parts) && numbers_in_range(world, parts))

@@ -1,8 +1,7 @@
 //! Whether the books say what units and regions hold.
-ghost use Rattle.std.specs.Prelude.{◌≡◌, ◌<◌, ℕ, length, pos};
-ghost use Rattle.std.specs.Bool.{Decides};
+ghost use Rattle.std.specs.Prelude.{◌≡◌, ◌<◌, ℕ, length, pos, ◌↔◌, IsTrue};
 ghost use Rattle.atl_tables.specs.Worlds.{IsWorld};
-ghost use Rattle.atl_records.specs.Books.{booked, thing_place, IsGrid};
+ghost use Rattle.atl_records.specs.Books.{booked, thing_index, IsGrid};
 ghost use Rattle.atl_state.specs.Founding.{things_of};
 ghost use Rattle.atl_records.specs.Every.{Every};
 ghost use Rattle.atl_state.specs.Good.{AreOfMarkets};
@@ -16,8 +15,9 @@ use atl_tables::World;
 /// Whether the total of a thing is the sum of its entries.
 fn is_balanced(campaign: &Campaign, thing: Thing) -> bool
     requires few { IsCountable campaign.now.value }
-    requires there { thing_place thing < length campaign.now.value.books }
-    ensures { Decides result (pos (total campaign.now.value thing) ≡ booked campaign.now.value.books thing) }
+    requires there { thing_index thing < length campaign.now.value.books }
+    ensures { IsTrue result ↔
+        (pos (total campaign.now.value thing) ≡ booked campaign.now.value.books thing) }
 {
     i128::from(campaign.total(thing)) == campaign.books().sum(thing)
 }
@@ -26,7 +26,9 @@ fn is_balanced(campaign: &Campaign, thing: Thing) -> bool
 fn are_items_balanced(world: &World, campaign: &Campaign) -> bool
     requires few { IsCountable campaign.now.value }
     requires grid { IsGrid (things_of world.now) campaign.now.value.books }
-    ensures decision { Decides result ((i : ℕ) → i < length world.now.items → pos (total campaign.now.value (Item i)) ≡ booked campaign.now.value.books (Item i)) }
+    ensures decision { IsTrue result ↔
+        ((i : ℕ) → i < length world.now.items
+        → pos (total campaign.now.value (Item i)) ≡ booked campaign.now.value.books (Item i)) }
     ensures world { IsWorld world.now }
 {
     for item in 0..world.items().len() as u16 {
@@ -41,7 +43,9 @@ fn are_items_balanced(world: &World, campaign: &Campaign) -> bool
 fn are_people_balanced(campaign: &Campaign) -> bool
     requires few { IsCountable campaign.now.value }
     requires there { 1 < length campaign.now.value.books }
-    ensures { Decides result ((pos (total campaign.now.value Money) ≡ booked campaign.now.value.books Money) × (pos (total campaign.now.value People) ≡ booked campaign.now.value.books People)) }
+    ensures { IsTrue result ↔
+        ((pos (total campaign.now.value Money) ≡ booked campaign.now.value.books Money)
+        × (pos (total campaign.now.value People) ≡ booked campaign.now.value.books People)) }
 {
     is_balanced(campaign, Thing::Money) && is_balanced(campaign, Thing::People)
 }
@@ -51,9 +55,10 @@ fn are_people_balanced(campaign: &Campaign) -> bool
 pub(crate) fn are_balanced(world: &World, campaign: &Campaign) -> bool
     requires few { IsCountable campaign.now.value }
     requires grid { IsGrid (things_of world.now) campaign.now.value.books }
-    requires items { Every (λ n u. Every (λ i amount. i < length world.now.items) u.holding.items) campaign.now.value.units }
+    requires items { Every (λ n u. Every (λ i amount. i < length world.now.items) u.holding.items)
+        campaign.now.value.units }
     requires stocks { Every (λ n r. AreOfMarkets world.now n r.stocks) campaign.now.value.regions }
-    ensures { Decides result (Balances campaign.now.value) }
+    ensures { IsTrue result ↔ (Balances campaign.now.value) }
 {
     are_people_balanced(campaign) && are_items_balanced(world, campaign)
 }

@@ -1,6 +1,5 @@
-//! Days of study.
-ghost use Rattle.std.specs.Prelude.{◌≤◌, ◌*◌};
-ghost use Rattle.std.specs.Bool.{Decides};
+//! The rule for days of study.
+ghost use Rattle.std.specs.Prelude.{◌≤◌, ◌*◌, ◌↔◌, IsTrue};
 ghost use Rattle.atl_records.specs.Every.{Every};
 ghost use Rattle.atl_state.specs.Good.{AreDays};
 ghost use Rattle.atl_records.specs.Limits.{most_days};
@@ -10,7 +9,8 @@ use atl_records::{Holding, MOST_DAYS};
 
 /// Whether the days of each skill that is studied are from 1 to MOST_DAYS for each man.
 fn has_days(holding: &Holding) -> bool
-    ensures { Decides result (Every (λ s days. (1 ≤ days) × (days ≤ most_days * holding.now.men)) holding.now.days) }
+    ensures { IsTrue result ↔
+        (Every (λ s days. (1 ≤ days) × (days ≤ most_days * holding.now.men)) holding.now.days) }
 {
     let most = MOST_DAYS * holding.men();
     holding.days().all(|(_, days)| 1 <= *days && *days <= most)
@@ -18,7 +18,7 @@ fn has_days(holding: &Holding) -> bool
 
 /// Whether each unit has 1 to MOST_DAYS days for each man in each skill that it studied. It takes no memory.
 pub(crate) fn are_days(campaign: &Campaign) -> bool
-    ensures { Decides result (AreDays campaign.now.value) }
+    ensures { IsTrue result ↔ (AreDays campaign.now.value) }
 {
     campaign.units().all(|(_, unit)| has_days(&unit.holding))
 }

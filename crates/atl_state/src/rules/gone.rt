@@ -1,6 +1,5 @@
-//! Factions that are gone.
-ghost use Rattle.std.specs.Prelude.{◌≡◌, true, []};
-ghost use Rattle.std.specs.Bool.{Decides};
+//! The rule that a faction is gone exactly when it has no unit.
+ghost use Rattle.std.specs.Prelude.{◌≡◌, true, [], ◌↔◌, IsTrue};
 ghost use Rattle.atl_state.specs.Good.{GoneHaveNone, NoneAreGone};
 ghost use Rattle.atl_state.specs.Campaign.{numbers_of};
 
@@ -9,14 +8,16 @@ use atl_records::Faction;
 
 /// Whether a faction is gone exactly where it has no unit.
 fn is_gone_without(campaign: &Campaign, number: u32, faction: &Faction) -> bool
-    ensures { Decides result ((faction.now.gone ≡ true → numbers_of number campaign.now.value.units ≡ []) × (numbers_of number campaign.now.value.units ≡ [] → faction.now.gone ≡ true)) }
+    ensures { IsTrue result ↔
+        ((faction.now.gone ≡ true → numbers_of number campaign.now.value.units ≡ [])
+        × (numbers_of number campaign.now.value.units ≡ [] → faction.now.gone ≡ true)) }
 {
     faction.gone == campaign.of_faction(number).is_empty()
 }
 
 /// Whether each faction is gone exactly where it has no unit. It takes no memory.
 pub(crate) fn are_gone(campaign: &Campaign) -> bool
-    ensures { Decides result (GoneHaveNone campaign.now.value × NoneAreGone campaign.now.value) }
+    ensures { IsTrue result ↔ (GoneHaveNone campaign.now.value × NoneAreGone campaign.now.value) }
 {
     campaign.factions().all(|(number, faction)| is_gone_without(campaign, number, faction))
 }

@@ -1,6 +1,5 @@
-//! Guards.
-ghost use Rattle.std.specs.Prelude.{◌≡◌, None};
-ghost use Rattle.std.specs.Bool.{Decides};
+//! The rule that at most one faction guards a region.
+ghost use Rattle.std.specs.Prelude.{◌≡◌, None, ◌↔◌, IsTrue};
 ghost use Rattle.atl_state.specs.Deciding.{agree, guard_of, one_holder};
 ghost use Rattle.atl_records.specs.Every.{Every, IsThere};
 ghost use Rattle.atl_state.specs.Good.{AreOfOneFaction, guards};
@@ -30,7 +29,8 @@ fn agree(one: Option<u32>, other: Option<u32>) -> bool
 
 /// Whether all guards of a region are of one faction.
 fn has_one_holder(campaign: &Campaign, region: u32) -> bool
-    ensures { result ≡ one_holder (guard_of campaign.now.value) None (numbers_in region campaign.now.value.units) }
+    ensures { result ≡ one_holder (guard_of campaign.now.value) None
+        (numbers_in region campaign.now.value.units) }
 {
     let mut holder = None;
     for number in campaign.in_region(region) {
@@ -46,7 +46,7 @@ fn has_one_holder(campaign: &Campaign, region: u32) -> bool
 /// Whether at most one faction guards each region, where the regions of all units are there. It takes no memory.
 pub(crate) fn are_guarded(campaign: &Campaign) -> bool
     requires { Every (λ n u. IsThere campaign.now.value.regions u.region) campaign.now.value.units }
-    ensures { Decides result (AreOfOneFaction guards campaign.now.value) }
+    ensures { IsTrue result ↔ (AreOfOneFaction guards campaign.now.value) }
 {
     campaign
         .regions()

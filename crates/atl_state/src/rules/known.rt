@@ -1,6 +1,5 @@
-//! What is named by its number: all of it is there.
-ghost use Rattle.std.specs.Prelude.{◌≡◌, ◌≢◌, ◌<◌, ◌↔◌, ℕ, IsSome, Some, length};
-ghost use Rattle.std.specs.Bool.{Decides};
+//! The rule that everything that is named by number exists.
+ghost use Rattle.std.specs.Prelude.{◌≡◌, ◌≢◌, ◌<◌, ◌↔◌, ℕ, IsSome, Some, length, IsTrue};
 ghost use Rattle.std.specs.FinMap as map;
 ghost use Rattle.atl_tables.specs.ByNumber.{market_of};
 ghost use Rattle.atl_records.specs.declared.records.Structure as builds;
@@ -12,32 +11,33 @@ use atl_records::{Holding, Region, Structure, Unit};
 use atl_tables::{Entries, World};
 
 fn is_faction(campaign: &Campaign, number: u32) -> bool
-    ensures { Decides result (IsThere campaign.now.value.factions number) }
+    ensures { IsTrue result ↔ (IsThere campaign.now.value.factions number) }
 {
     campaign.faction(number).is_some()
 }
 
 fn is_region(campaign: &Campaign, number: u32) -> bool
-    ensures { Decides result (IsThere campaign.now.value.regions number) }
+    ensures { IsTrue result ↔ (IsThere campaign.now.value.regions number) }
 {
     campaign.region(number).is_some()
 }
 
 fn is_unit(campaign: &Campaign, number: u32) -> bool
-    ensures { Decides result (IsThere campaign.now.value.units number) }
+    ensures { IsTrue result ↔ (IsThere campaign.now.value.units number) }
 {
     campaign.unit(number).is_some()
 }
 
 fn is_of_world(world: &World, number: u32) -> bool
-    ensures { Decides result (IsThere world.now.regions number) }
+    ensures { IsTrue result ↔ (IsThere world.now.regions number) }
 {
     world.region(number).is_some()
 }
 
 /// Whether each region is one of the world's.
 fn are_of_world(world: &World, campaign: &Campaign) -> bool
-    ensures { Decides result (Every (λ n r. IsThere world.now.regions n) campaign.now.value.regions) }
+    ensures { IsTrue result ↔
+        (Every (λ n r. IsThere world.now.regions n) campaign.now.value.regions) }
 {
     campaign
         .regions()
@@ -46,7 +46,8 @@ fn are_of_world(world: &World, campaign: &Campaign) -> bool
 
 /// Whether each of the world's regions is there.
 fn are_all_there(world: &World, campaign: &Campaign) -> bool
-    ensures { Decides result (Every (λ n p. IsThere campaign.now.value.regions n) world.now.regions) }
+    ensures { IsTrue result ↔
+        (Every (λ n p. IsThere campaign.now.value.regions n) world.now.regions) }
 {
     world
         .regions()
@@ -56,14 +57,15 @@ fn are_all_there(world: &World, campaign: &Campaign) -> bool
 
 /// Whether the regions are exactly the world's.
 fn are_regions_known(world: &World, campaign: &Campaign) -> bool
-    ensures { Decides result ((n : ℕ) → IsThere campaign.now.value.regions n ↔ IsThere world.now.regions n) }
+    ensures { IsTrue result ↔
+        ((n : ℕ) → IsThere campaign.now.value.regions n ↔ IsThere world.now.regions n) }
 {
     are_of_world(world, campaign) && are_all_there(world, campaign)
 }
 
 /// Whether the world has a market for an item in a region.
 fn has_market(world: &World, region: u32, item: u32) -> bool
-    ensures { Decides result (IsSome (market_of world.now region item)) }
+    ensures { IsTrue result ↔ (IsSome (market_of world.now region item)) }
 {
     match world.region(region) {
         Some(plan) => plan.markets.get(item).is_some(),
@@ -73,7 +75,7 @@ fn has_market(world: &World, region: u32, item: u32) -> bool
 
 /// Whether a region has stocks of its markets alone.
 fn is_of_markets(world: &World, number: u32, region: &Region) -> bool
-    ensures { Decides result (AreOfMarkets world.now number region.now.stocks) }
+    ensures { IsTrue result ↔ (AreOfMarkets world.now number region.now.stocks) }
 {
     region
         .stocks
@@ -83,7 +85,8 @@ fn is_of_markets(world: &World, number: u32, region: &Region) -> bool
 
 /// Whether all stocks are of markets of their regions.
 fn are_of_markets(world: &World, campaign: &Campaign) -> bool
-    ensures { Decides result (Every (λ n r. AreOfMarkets world.now n r.stocks) campaign.now.value.regions) }
+    ensures { IsTrue result ↔
+        (Every (λ n r. AreOfMarkets world.now n r.stocks) campaign.now.value.regions) }
 {
     campaign
         .regions()
@@ -92,7 +95,8 @@ fn are_of_markets(world: &World, campaign: &Campaign) -> bool
 
 /// Whether the regions are exactly the world's, and all stocks are of their markets.
 fn are_stocks_known(world: &World, campaign: &Campaign) -> bool
-    ensures { Decides result (((n : ℕ) → IsThere campaign.now.value.regions n ↔ IsThere world.now.regions n)
+    ensures { IsTrue result ↔
+        (((n : ℕ) → IsThere campaign.now.value.regions n ↔ IsThere world.now.regions n)
         × Every (λ n r. AreOfMarkets world.now n r.stocks) campaign.now.value.regions) }
 {
     are_regions_known(world, campaign) && are_of_markets(world, campaign)
@@ -100,14 +104,16 @@ fn are_stocks_known(world: &World, campaign: &Campaign) -> bool
 
 /// Whether all numbers are below a count.
 fn are_below(mut entries: Entries<'_, u32>, count: usize) -> bool
-    ensures { Decides result (EachOf (λ n amount. n < count) entries.entry) }
+    ensures { IsTrue result ↔ (EachOf (λ n amount. n < count) entries.entry) }
 {
     entries.all(|(number, _)| (number as usize) < count)
 }
 
 /// Whether the items held and the skills studied are the world's.
 fn holds_known(world: &World, holding: &Holding) -> bool
-    ensures { Decides result (Every (λ i amount. i < length world.now.items) holding.now.items × Every (λ s days. s < length world.now.skills) holding.now.days) }
+    ensures { IsTrue result ↔
+        (Every (λ i amount. i < length world.now.items) holding.now.items
+        × Every (λ s days. s < length world.now.skills) holding.now.days) }
 {
     are_below(holding.items(), world.items().len())
         && are_below(holding.days(), world.skills().len())
@@ -115,7 +121,11 @@ fn holds_known(world: &World, holding: &Holding) -> bool
 
 /// Whether a unit is inside nothing, or inside a structure of its region.
 fn is_inside_here(campaign: &Campaign, unit: &Unit) -> bool
-    ensures { Decides result (unit.now.structure ≢ 0 → (s : builds.Structure) × (map.get campaign.now.value.structures unit.now.structure ≡ Some s) × (s.region ≡ unit.now.region)) }
+    ensures { IsTrue result ↔
+        (unit.now.structure ≢ 0
+        → (s : builds.Structure)
+        × (map.get campaign.now.value.structures unit.now.structure ≡ Some s)
+        × (s.region ≡ unit.now.region)) }
 {
     if unit.structure == 0 {
         return true;
@@ -128,29 +138,37 @@ fn is_inside_here(campaign: &Campaign, unit: &Unit) -> bool
 
 /// Whether a unit's faction and region are there.
 fn is_somewhere(campaign: &Campaign, unit: &Unit) -> bool
-    ensures { Decides result (IsThere campaign.now.value.factions unit.now.faction × IsThere campaign.now.value.regions unit.now.region) }
+    ensures { IsTrue result ↔
+        (IsThere campaign.now.value.factions unit.now.faction
+        × IsThere campaign.now.value.regions unit.now.region) }
 {
     is_faction(campaign, unit.faction) && is_region(campaign, unit.region)
 }
 
 /// Whether a unit's structure, and what it holds and studied, are there.
 fn is_at_home(world: &World, campaign: &Campaign, unit: &Unit) -> bool
-    ensures { Decides result ((unit.now.structure ≢ 0 → (s : builds.Structure) × (map.get campaign.now.value.structures unit.now.structure ≡ Some s) × (s.region ≡ unit.now.region))
-        × (Every (λ i amount. i < length world.now.items) unit.now.holding.items × Every (λ s days. s < length world.now.skills) unit.now.holding.days)) }
+    ensures { IsTrue result ↔
+        ((unit.now.structure ≢ 0
+        → (s : builds.Structure)
+        × (map.get campaign.now.value.structures unit.now.structure ≡ Some s)
+        × (s.region ≡ unit.now.region))
+        × (Every (λ i amount. i < length world.now.items) unit.now.holding.items
+        × Every (λ s days. s < length world.now.skills) unit.now.holding.days)) }
 {
     is_inside_here(campaign, unit) && holds_known(world, &unit.holding)
 }
 
 /// Whether all that a unit names is there.
 fn is_placed(world: &World, campaign: &Campaign, unit: &Unit) -> bool
-    ensures { Decides result (IsPlaced world.now campaign.now.value unit.now) }
+    ensures { IsTrue result ↔ (IsPlaced world.now campaign.now.value unit.now) }
 {
     is_somewhere(campaign, unit) && is_at_home(world, campaign, unit)
 }
 
 /// Whether all that the units name is there.
 fn are_placed(world: &World, campaign: &Campaign) -> bool
-    ensures { Decides result (Every (λ n u. IsPlaced world.now campaign.now.value u) campaign.now.value.units) }
+    ensures { IsTrue result ↔
+        (Every (λ n u. IsPlaced world.now campaign.now.value u) campaign.now.value.units) }
 {
     campaign
         .units()
@@ -159,28 +177,32 @@ fn are_placed(world: &World, campaign: &Campaign) -> bool
 
 /// Whether a structure's kind and region are there.
 fn is_standing(world: &World, campaign: &Campaign, structure: &Structure) -> bool
-    ensures { Decides result ((structure.now.kind < length world.now.kinds) × IsThere campaign.now.value.regions structure.now.region) }
+    ensures { IsTrue result ↔
+        ((structure.now.kind < length world.now.kinds)
+        × IsThere campaign.now.value.regions structure.now.region) }
 {
     usize::from(structure.kind) < world.kinds().len() && is_region(campaign, structure.region)
 }
 
 /// Whether nobody owns a structure, or a unit that is there.
 fn is_owner_there(campaign: &Campaign, structure: &Structure) -> bool
-    ensures { Decides result (structure.now.owner ≢ 0 → IsThere campaign.now.value.units structure.now.owner) }
+    ensures { IsTrue result ↔
+        (structure.now.owner ≢ 0 → IsThere campaign.now.value.units structure.now.owner) }
 {
     structure.owner == 0 || is_unit(campaign, structure.owner)
 }
 
 /// Whether all that a structure names is there.
 fn is_built(world: &World, campaign: &Campaign, structure: &Structure) -> bool
-    ensures { Decides result (IsBuilt world.now campaign.now.value structure.now) }
+    ensures { IsTrue result ↔ (IsBuilt world.now campaign.now.value structure.now) }
 {
     is_standing(world, campaign, structure) && is_owner_there(campaign, structure)
 }
 
 /// Whether all that the structures name is there.
 fn are_built(world: &World, campaign: &Campaign) -> bool
-    ensures { Decides result (Every (λ n s. IsBuilt world.now campaign.now.value s) campaign.now.value.structures) }
+    ensures { IsTrue result ↔
+        (Every (λ n s. IsBuilt world.now campaign.now.value s) campaign.now.value.structures) }
 {
     campaign
         .structures()
@@ -189,7 +211,8 @@ fn are_built(world: &World, campaign: &Campaign) -> bool
 
 /// Whether all mail is of factions that are there.
 fn are_mail_known(campaign: &Campaign) -> bool
-    ensures { Decides result (Every (λ n text. IsThere campaign.now.value.factions n) campaign.now.value.mail) }
+    ensures { IsTrue result ↔
+        (Every (λ n text. IsThere campaign.now.value.factions n) campaign.now.value.mail) }
 {
     campaign
         .mail()
@@ -198,7 +221,8 @@ fn are_mail_known(campaign: &Campaign) -> bool
 
 /// Whether all reports are of factions that are there.
 fn are_reports_known(campaign: &Campaign) -> bool
-    ensures { Decides result (Every (λ n text. IsThere campaign.now.value.factions n) campaign.now.value.reports) }
+    ensures { IsTrue result ↔
+        (Every (λ n text. IsThere campaign.now.value.factions n) campaign.now.value.reports) }
 {
     campaign
         .reports()
@@ -207,16 +231,18 @@ fn are_reports_known(campaign: &Campaign) -> bool
 
 /// Whether the regions, and all that they, units and structures name, are there.
 fn are_things_known(world: &World, campaign: &Campaign) -> bool
-    ensures { Decides result ((((n : ℕ) → IsThere campaign.now.value.regions n ↔ IsThere world.now.regions n)
+    ensures { IsTrue result ↔
+        ((((n : ℕ) → IsThere campaign.now.value.regions n ↔ IsThere world.now.regions n)
         × Every (λ n r. AreOfMarkets world.now n r.stocks) campaign.now.value.regions)
-        × (Every (λ n u. IsPlaced world.now campaign.now.value u) campaign.now.value.units × Every (λ n s. IsBuilt world.now campaign.now.value s) campaign.now.value.structures)) }
+        × (Every (λ n u. IsPlaced world.now campaign.now.value u) campaign.now.value.units
+        × Every (λ n s. IsBuilt world.now campaign.now.value s) campaign.now.value.structures)) }
 {
     are_stocks_known(world, campaign) && (are_placed(world, campaign) && are_built(world, campaign))
 }
 
 /// Whether the factions of mail and reports are there.
 fn are_posts_known(campaign: &Campaign) -> bool
-    ensures { Decides result (ArePosted campaign.now.value) }
+    ensures { IsTrue result ↔ (ArePosted campaign.now.value) }
 {
     are_mail_known(campaign) && are_reports_known(campaign)
 }
@@ -224,7 +250,7 @@ fn are_posts_known(campaign: &Campaign) -> bool
 /// Whether the regions are exactly the world's, with stocks of their markets, all that is named by its number is there, and
 /// each unit's structure is in the unit's region. It takes no memory.
 pub(crate) fn are_known(world: &World, campaign: &Campaign) -> bool
-    ensures { Decides result (AreKnown world.now campaign.now.value) }
+    ensures { IsTrue result ↔ (AreKnown world.now campaign.now.value) }
 {
     are_things_known(world, campaign) && are_posts_known(campaign)
 }

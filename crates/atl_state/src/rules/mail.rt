@@ -1,5 +1,5 @@
-//! Mail.
-ghost use Rattle.std.specs.Bool.{Decides};
+//! The rule for stored mail.
+ghost use Rattle.std.specs.Prelude.{◌↔◌, IsTrue};
 ghost use Rattle.atl_orders.specs.Mailing.{IsMailingOf};
 ghost use Rattle.atl_state.specs.Good.{IsActive, IsMail};
 
@@ -9,7 +9,7 @@ use atl_tables::Sequence;
 
 /// Whether a faction is there, and not gone.
 fn is_active(campaign: &Campaign, number: u32) -> bool
-    ensures { Decides result (IsActive campaign.now.value number) }
+    ensures { IsTrue result ↔ (IsActive campaign.now.value number) }
 {
     match campaign.faction(number) {
         Some(faction) => !faction.gone,
@@ -19,7 +19,7 @@ fn is_active(campaign: &Campaign, number: u32) -> bool
 
 /// Whether a text is a mailing of a faction that is not gone.
 fn is_kept(campaign: &Campaign, number: u32, text: &Sequence<u8>) -> bool
-    ensures { Decides result (IsMailingOf number text.now × IsActive campaign.now.value number) }
+    ensures { IsTrue result ↔ (IsMailingOf number text.now × IsActive campaign.now.value number) }
 {
     is_mailing_of(number, text.as_slice()) && is_active(campaign, number)
 }
@@ -27,7 +27,7 @@ fn is_kept(campaign: &Campaign, number: u32, text: &Sequence<u8>) -> bool
 /// Whether each mail is of a faction that is not gone, is not too long and has a header that names the faction. It
 /// takes no memory.
 pub(crate) fn are_mailings(campaign: &Campaign) -> bool
-    ensures { Decides result (IsMail campaign.now.value) }
+    ensures { IsTrue result ↔ (IsMail campaign.now.value) }
 {
     campaign
         .mail()

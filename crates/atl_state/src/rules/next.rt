@@ -1,6 +1,5 @@
-//! The numbers that come next.
-ghost use Rattle.std.specs.Prelude.{◌≡◌, ◌≤◌, ◌<◌, ◌+◌, ℕ, None};
-ghost use Rattle.std.specs.Bool.{Decides};
+//! The rule for the numbers that are given next.
+ghost use Rattle.std.specs.Prelude.{◌≡◌, ◌≤◌, ◌<◌, ◌+◌, ℕ, None, ◌↔◌, IsTrue};
 ghost use Rattle.std.specs.FinMap as map;
 ghost use Rattle.atl_records.specs.Every.{EachOf};
 ghost use Rattle.atl_state.specs.Good.{AreNumbered, IsNumbered};
@@ -10,21 +9,22 @@ use atl_tables::Entries;
 
 /// Whether all numbers are from the least one on and before the next.
 fn are_between<V>(mut entries: Entries<'_, V>, least: u32, next: u32) -> bool
-    ensures { Decides result (EachOf (λ n v. (least ≤ n) × (n < next)) entries.entry) }
+    ensures { IsTrue result ↔ (EachOf (λ n v. (least ≤ n) × (n < next)) entries.entry) }
 {
     entries.all(|(number, _)| least <= number && number < next)
 }
 
 /// Whether a number is the next one behind so many, numbered from 1.
 fn is_behind(next: u32, count: usize) -> bool
-    ensures { Decides result (next ≡ count + 1) }
+    ensures { IsTrue result ↔ (next ≡ count + 1) }
 {
     1 <= next && (next - 1) as usize == count
 }
 
 /// Whether the factions are numbered from 1 without a gap, and the next number is the one behind.
 fn are_factions_numbered(campaign: &Campaign) -> bool
-    ensures { Decides result (IsNumbered campaign.now.value.factions campaign.now.value.next_faction) }
+    ensures { IsTrue result ↔
+        (IsNumbered campaign.now.value.factions campaign.now.value.next_faction) }
 {
     let next = campaign.next_faction();
     are_between(campaign.factions(), 1, next) && is_behind(next, campaign.faction_count())
@@ -32,7 +32,8 @@ fn are_factions_numbered(campaign: &Campaign) -> bool
 
 /// Whether the structures are numbered from 1 without a gap, and the next number is the one behind.
 fn are_structures_numbered(campaign: &Campaign) -> bool
-    ensures { Decides result (IsNumbered campaign.now.value.structures campaign.now.value.next_structure) }
+    ensures { IsTrue result ↔
+        (IsNumbered campaign.now.value.structures campaign.now.value.next_structure) }
 {
     let next = campaign.next_structure();
     are_between(campaign.structures(), 1, next) && is_behind(next, campaign.structure_count())
@@ -40,7 +41,8 @@ fn are_structures_numbered(campaign: &Campaign) -> bool
 
 /// Whether no unit has the number that comes next, or a later one.
 fn are_units_before(campaign: &Campaign) -> bool
-    ensures { Decides result ((n : ℕ) → campaign.now.value.next_unit ≤ n → map.get campaign.now.value.units n ≡ None) }
+    ensures { IsTrue result ↔
+        ((n : ℕ) → campaign.now.value.next_unit ≤ n → map.get campaign.now.value.units n ≡ None) }
 {
     let next = campaign.next_unit();
     campaign.units().all(|(number, _)| number < next)
@@ -49,7 +51,7 @@ fn are_units_before(campaign: &Campaign) -> bool
 /// Whether the numbers that come next are greater than all of their sort, and no faction and no structure is missing
 /// before them. It takes no memory.
 pub(crate) fn are_numbered(campaign: &Campaign) -> bool
-    ensures { Decides result (AreNumbered campaign.now.value) }
+    ensures { IsTrue result ↔ (AreNumbered campaign.now.value) }
 {
     are_factions_numbered(campaign)
         && are_structures_numbered(campaign)

@@ -1,6 +1,5 @@
-//! Owners of structures.
-ghost use Rattle.std.specs.Prelude.{◌≡◌, ◌≢◌, Some};
-ghost use Rattle.std.specs.Bool.{Decides};
+//! The rule for owners of structures. See docs/RULES.md, "Owners".
+ghost use Rattle.std.specs.Prelude.{◌≡◌, ◌≢◌, Some, ◌↔◌, IsTrue};
 ghost use Rattle.std.specs.FinMap as map;
 ghost use Rattle.atl_records.specs.declared.records.Structure as builds;
 ghost use Rattle.atl_state.specs.Deciding.{HasOwnerInside};
@@ -12,7 +11,7 @@ use atl_records::{Structure, Unit};
 
 /// Whether nobody owns a structure, or a unit inside.
 fn is_owner_inside(campaign: &Campaign, number: u32, structure: &Structure) -> bool
-    ensures { Decides result (HasOwnerInside campaign.now.value number structure.now) }
+    ensures { IsTrue result ↔ (HasOwnerInside campaign.now.value number structure.now) }
 {
     if structure.owner == 0 {
         return true;
@@ -25,14 +24,17 @@ fn is_owner_inside(campaign: &Campaign, number: u32, structure: &Structure) -> b
 
 /// Whether each structure that has an owner has one inside.
 fn are_owners_inside(campaign: &Campaign) -> bool
-    ensures { Decides result (Every (HasOwnerInside campaign.now.value) campaign.now.value.structures) }
+    ensures { IsTrue result ↔
+        (Every (HasOwnerInside campaign.now.value) campaign.now.value.structures) }
 {
     campaign.structures().all(|(number, structure)| is_owner_inside(campaign, number, structure))
 }
 
 /// Whether the structure that a unit is inside, where it is there, has an owner.
 fn is_with_owner(campaign: &Campaign, unit: &Unit) -> bool
-    ensures { Decides result ((s : builds.Structure) → map.get campaign.now.value.structures unit.now.structure ≡ Some s → s.owner ≢ 0) }
+    ensures { IsTrue result ↔
+        ((s : builds.Structure) → map.get campaign.now.value.structures unit.now.structure ≡ Some s
+        → s.owner ≢ 0) }
 {
     match campaign.structure(unit.structure) {
         Some(structure) => structure.owner != 0,
@@ -42,7 +44,10 @@ fn is_with_owner(campaign: &Campaign, unit: &Unit) -> bool
 
 /// Whether no unit is inside a structure without an owner.
 fn are_with_owners(campaign: &Campaign) -> bool
-    ensures { Decides result (Every (λ m u. (s : builds.Structure) → map.get campaign.now.value.structures u.structure ≡ Some s → s.owner ≢ 0) campaign.now.value.units) }
+    ensures { IsTrue result ↔
+        (Every (λ m u. (s : builds.Structure)
+        → map.get campaign.now.value.structures u.structure ≡ Some s → s.owner ≢ 0)
+        campaign.now.value.units) }
 {
     campaign
         .units()
@@ -51,7 +56,7 @@ fn are_with_owners(campaign: &Campaign) -> bool
 
 /// Whether each structure is owned by a unit inside, or by nobody where none is inside. It takes no memory.
 pub(crate) fn are_owned(campaign: &Campaign) -> bool
-    ensures { Decides result (AreOwned campaign.now.value) }
+    ensures { IsTrue result ↔ (AreOwned campaign.now.value) }
 {
     are_owners_inside(campaign) && are_with_owners(campaign)
 }

@@ -1,19 +1,19 @@
-//! Reports.
-ghost use Rattle.std.specs.Bool.{Decides};
+//! The rule that every faction has a report.
+ghost use Rattle.std.specs.Prelude.{◌↔◌, IsTrue};
 ghost use Rattle.atl_records.specs.Every.{IsThere};
 ghost use Rattle.atl_state.specs.Good.{AreReported};
 
 use crate::campaign::Campaign;
 
 fn has_report(campaign: &Campaign, number: u32) -> bool
-    ensures { Decides result (IsThere campaign.now.value.reports number) }
+    ensures { IsTrue result ↔ (IsThere campaign.now.value.reports number) }
 {
     campaign.report(number).is_some()
 }
 
 /// Whether each faction has a report. It takes no memory.
 pub(crate) fn are_reported(campaign: &Campaign) -> bool
-    ensures { Decides result (AreReported campaign.now.value) }
+    ensures { IsTrue result ↔ (AreReported campaign.now.value) }
 {
     campaign
         .factions()

@@ -1,6 +1,5 @@
-//! What stands on water.
-ghost use Rattle.std.specs.Prelude.{◌≡◌, false, true};
-ghost use Rattle.std.specs.Bool.{Decides};
+//! The rule for units and structures on water.
+ghost use Rattle.std.specs.Prelude.{◌≡◌, false, true, ◌↔◌, IsTrue};
 ghost use Rattle.atl_records.specs.Every.{Every};
 ghost use Rattle.atl_state.specs.Good.{AreAfloat, IsAboard, is_ship};
 ghost use Rattle.atl_tables.specs.ByNumber.{is_land_at, size_of};
@@ -11,7 +10,7 @@ use atl_tables::World;
 
 /// Whether a unit is inside a ship.
 fn is_aboard(world: &World, campaign: &Campaign, unit: &Unit) -> bool
-    ensures { Decides result (IsAboard world.now campaign.now.value unit.now) }
+    ensures { IsTrue result ↔ (IsAboard world.now campaign.now.value unit.now) }
 {
     match campaign.structure(unit.structure) {
         Some(structure) => world.is_ship(structure.kind),
@@ -21,7 +20,9 @@ fn is_aboard(world: &World, campaign: &Campaign, unit: &Unit) -> bool
 
 /// Whether each unit on water is inside a ship.
 fn are_units_afloat(world: &World, campaign: &Campaign) -> bool
-    ensures { Decides result (Every (λ n u. is_land_at world.now u.region ≡ false → IsAboard world.now campaign.now.value u) campaign.now.value.units) }
+    ensures { IsTrue result ↔
+        (Every (λ n u. is_land_at world.now u.region ≡ false
+        → IsAboard world.now campaign.now.value u) campaign.now.value.units) }
 {
     campaign.units().all(|(_, unit)| world.is_land_at(unit.region)
         || is_aboard(world, campaign, unit))
@@ -29,14 +30,19 @@ fn are_units_afloat(world: &World, campaign: &Campaign) -> bool
 
 /// Whether a structure is a complete ship.
 fn is_complete_ship(world: &World, structure: &Structure) -> bool
-    ensures { Decides result ((is_ship world.now structure.now ≡ true) × (structure.now.done ≡ size_of world.now structure.now.kind)) }
+    ensures { IsTrue result ↔
+        ((is_ship world.now structure.now ≡ true)
+        × (structure.now.done ≡ size_of world.now structure.now.kind)) }
 {
     world.is_ship(structure.kind) && structure.done == world.size_of(structure.kind)
 }
 
 /// Whether each structure on water is a complete ship.
 fn are_ships_afloat(world: &World, campaign: &Campaign) -> bool
-    ensures { Decides result (Every (λ n s. is_land_at world.now s.region ≡ false → (is_ship world.now s ≡ true) × (s.done ≡ size_of world.now s.kind)) campaign.now.value.structures) }
+    ensures { IsTrue result ↔
+        (Every (λ n s. is_land_at world.now s.region ≡ false
+        → (is_ship world.now s ≡ true) × (s.done ≡ size_of world.now s.kind))
+        campaign.now.value.structures) }
 {
     campaign.structures().all(|(_, structure)| world.is_land_at(structure.region)
         || is_complete_ship(world, structure))
@@ -44,7 +50,7 @@ fn are_ships_afloat(world: &World, campaign: &Campaign) -> bool
 
 /// Whether each unit on water is inside a ship, and each structure there is a complete ship. It takes no memory.
 pub(crate) fn are_afloat(world: &World, campaign: &Campaign) -> bool
-    ensures { Decides result (AreAfloat world.now campaign.now.value) }
+    ensures { IsTrue result ↔ (AreAfloat world.now campaign.now.value) }
 {
     are_units_afloat(world, campaign) && are_ships_afloat(world, campaign)
 }

@@ -1,6 +1,6 @@
 //! Rows of a campaign that are made by hand, put into tables one by one.
 use atl_state::parts::{
-    Parts, StoredBooks, StoredFaction, StoredHas, StoredHead, StoredMarket, StoredRegion,
+    Parts, StoredBooks, StoredCampaignRow, StoredFaction, StoredHas, StoredMarket, StoredRegion,
     StoredReport, StoredStructure, StoredUnit,
 };
 use atl_tables::{Format, Sequence, Text};
@@ -63,8 +63,12 @@ fn no_rows(alloc: Global) -> Parts {
     }
 }
 
-fn add_head(alloc: Global, heads: &mut Sequence<StoredHead>, rows: &Rows) -> Result<(), Fail> {
-    heads.push(StoredHead {
+fn add_head(
+    alloc: Global,
+    heads: &mut Sequence<StoredCampaignRow>,
+    rows: &Rows,
+) -> Result<(), Fail> {
+    heads.push(StoredCampaignRow {
         id: 1,
         format: rows.format,
         month: 0,

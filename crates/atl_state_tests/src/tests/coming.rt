@@ -1,4 +1,4 @@
-//! How a faction joins, and how units and structures come, are lent and go: what of it is marked.
+//! Joins, and adding, lending and removing units and structures: what of it is marked.
 use super::compare::{is_amount, is_count};
 use super::making::{BOAT, avalon_joins, founded_in};
 use super::shown::{Ask, Row, goes};

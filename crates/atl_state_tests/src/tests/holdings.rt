@@ -1,4 +1,4 @@
-//! What a holding can be set to, and what it tells of it.
+//! Setting and reading a holding.
 use super::compare::{is_amount, row_is_text};
 use super::making::one_man;
 use atl_state::Holding;

@@ -1,4 +1,4 @@
-//! Campaigns, people and structures to work on.
+//! Builds campaigns, people and structures.
 ghost use Rattle.std.specs.Prelude.{IfOk};
 ghost use Rattle.atl_state.specs.Good.{IsGood};
 

@@ -28,7 +28,7 @@ fn rows(alloc: Global) -> Result<Parts, Fail> {
 
 /// The pass text is gm.
 const HEAD: &str =
-    "[StoredHead { id: 1, format: 2, month: 0, next_faction: 2, next_unit: 2, next_structure: 2, \
+    "[StoredCampaignRow { id: 1, format: 2, month: 0, next_faction: 2, next_unit: 2, next_structure: 2, \
     pass: Sequence { items: [103, 109] } }]";
 
 /// Both names are Avalon, the pass text is pw.

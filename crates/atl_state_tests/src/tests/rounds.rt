@@ -1,4 +1,4 @@
-//! Units that go and come in turn: who is there, what is marked, and what their rows say.
+//! Units that are removed and added in turn: who is there, what is marked, and the rows.
 use super::checks::checked;
 use super::compare::is_count;
 use super::making::{FAR, joined_in};

@@ -1,4 +1,4 @@
-//! What a campaign has, and what of it is marked, as texts; and tables of steps with both.
+//! Prints a campaign and its marks, for tables of steps with both.
 use super::compare::row_is_text;
 use super::steps::{Step, does};
 use atl_state::{Campaign, Entry, MOST_UNITS, Thing};

@@ -1,4 +1,4 @@
-//! Calls that change a campaign, as the rows of tables name them.
+//! The steps of the tables: calls that change a campaign.
 use super::making::{is_begun, man_comes};
 use atl_state::{Campaign, Holding};
 use atl_tables::{Sequence, Text};

@@ -1,4 +1,4 @@
-//! Single goods of units, which are set and marked one by one.
+//! Single items and skills of units, set and marked one by one.
 use super::making::joined_by;
 use super::shown::{Ask, Row, goes};
 use super::steps::{OfUnit, Step};

@@ -15,8 +15,10 @@ use sqlite::{Alter, Connection};
 pub(crate) fn confirm<S: Alter>(conn: &mut Connection<S>, format: Format) -> Result<(), LoadFault>
     requires idle { conn.old.in_transaction ≡ false }
     requires settled { IsSettled (state S.Store conn.old) }
-    ensures ok { HasCleanDisk (state S.Store conn.new) → OnOk result (IsConfirmed format (state S.Store conn.old) (state S.Store conn.new)) }
-    ensures fails { HasCleanDisk (state S.Store conn.new) → IfErr result (FailsToConfirm S.Store conn.old format) }
+    ensures ok { HasCleanDisk (state S.Store conn.new)
+        → OnOk result (IsConfirmed format (state S.Store conn.old) (state S.Store conn.new)) }
+    ensures fails { HasCleanDisk (state S.Store conn.new)
+        → IfErr result (FailsToConfirm S.Store conn.old format) }
     ensures leaves { Leaves S.Store conn.old conn.new }
 {
     if !has_tables_of(conn.schema(), format) {

@@ -1,6 +1,5 @@
-//! All rows of tables one after another, and the places of rows.
-ghost use Rattle.std.specs.Prelude.{◌≡◌, ◌++◌, ℕ, false, [], ◌∷◌, List, map, refl, Ok, Err, if◌then◌else◌, IfOk, IfErr};
-ghost use Rattle.std.specs.Bool.{Decides};
+//! Reads all rows of several tables, with their row ids.
+ghost use Rattle.std.specs.Prelude.{◌≡◌, ◌++◌, ℕ, false, [], ◌∷◌, List, map, refl, Ok, Err, if◌then◌else◌, IfOk, IfErr, ◌↔◌, IsTrue};
 ghost use Rattle.std.proofs.Common.{ap, ◌∙◌};
 ghost use Rattle.std.proofs.lemmas.List.{map-append};
 ghost use Rattle.sqlite.specs.Held.{state};
@@ -14,7 +13,7 @@ ghost use Rattle.atl_store.specs.Stored.{Form};
 ghost use Rattle.atl_store.specs.Tables.{Part};
 
 use crate::fault::{LoadFault, ReadFault};
-use crate::rows::{Listed, Placed};
+use crate::rows::{HasSelect, RowWithId};
 use atl_state::are_distinct;
 use atl_tables::{Format, Sequence};
 use sqlite::{Alter, Connection};
@@ -39,7 +38,8 @@ pub(crate) trait AllRows: Drop + Sized {
     ) -> Result<Option<Self>, LoadFault>
         requires idle { conn.old.in_transaction ≡ false }
         requires settled { IsSettled (state S.Store conn.old) }
-        ensures { ReadsSome S.Store conn.old selects (λ all. AreAllRows (state S.Store conn.old).now (rows all)) result conn.new };
+        ensures { ReadsSome S.Store conn.old selects
+            (λ all. AreAllRows (state S.Store conn.old).now (rows all)) result conn.new };
 
     /// No rows.
     fn none(alloc: Global) -> Self
@@ -61,12 +61,12 @@ fn kept<T: Drop>(rows: Result<Vec<T>, ReadFault>) -> Result<Option<Vec<T>>, Load
     }
 }
 
-impl<A: Listed> AllRows for Vec<A> {
-    ghost parts = { A.Listed.part ∷ [] };
+impl<A: HasSelect> AllRows for Vec<A> {
+    ghost parts = { A.HasSelect.part ∷ [] };
 
-    ghost selects = { ((listing_of A.Listed.part).select, A.Stored.forms) ∷ [] };
+    ghost selects = { ((listing_of A.HasSelect.part).select, A.Stored.forms) ∷ [] };
 
-    ghost rows = { λ all. (A.Listed.part, map A.Stored.shown all.items) ∷ [] };
+    ghost rows = { λ all. (A.HasSelect.part, map A.Stored.shown all.items) ∷ [] };
 
     ghost of_parts = { λ all. refl };
 
@@ -116,7 +116,9 @@ pub(crate) fn read_by<X: AllRows, Y: AllRows, S: Alter>(
     requires settled { IsSettled (state S.Store conn.old) }
     requires some { X.AllRows.parts ≡ other_parts First }
     requires others { Y.AllRows.parts ≡ late_parts }
-    ensures { ReadsSome S.Store conn.old (selects_by format X.AllRows.selects Y.AllRows.selects) (λ both. AreOfFormat format (state S.Store conn.old).now (X.AllRows.rows both.0 ++ Y.AllRows.rows both.1)) result conn.new }
+    ensures { ReadsSome S.Store conn.old (selects_by format X.AllRows.selects Y.AllRows.selects)
+        (λ both. AreOfFormat format (state S.Store conn.old).now
+        (X.AllRows.rows both.0 ++ Y.AllRows.rows both.1)) result conn.new }
 {
     match format {
         Format::First => {
@@ -128,7 +130,7 @@ pub(crate) fn read_by<X: AllRows, Y: AllRows, S: Alter>(
 }
 
 /// The places at which rows are kept.
-fn rowids_of<T>(alloc: Global, placed: &[Placed<T>]) -> Result<Vec<i64>, AllocError>
+fn rowids_of<T>(alloc: Global, placed: &[RowWithId<T>]) -> Result<Vec<i64>, AllocError>
     ensures { IfOk result (λ rowids. rowids.items ≡ map (λ s. s.rowid) placed.now) }
 {
     let mut rowids = Vec::with_capacity(alloc, placed.len())?;
@@ -139,26 +141,26 @@ fn rowids_of<T>(alloc: Global, placed: &[Placed<T>]) -> Result<Vec<i64>, AllocEr
 }
 
 /// Whether no two rows are kept at one place.
-fn are_apart<T>(alloc: Global, placed: &[Placed<T>]) -> Result<bool, AllocError>
-    ensures { IfOk result (λ yes. Decides yes (AreApart placed.now)) }
+fn are_apart<T>(alloc: Global, placed: &[RowWithId<T>]) -> Result<bool, AllocError>
+    ensures { IfOk result (λ yes. IsTrue yes ↔ (AreApart placed.now)) }
 {
     let rowids = rowids_of(alloc, placed)?;
     are_distinct(alloc, &rowids)
 }
 
 /// The rows without their places.
-fn unplaced<T: Drop>(alloc: Global, placed: Vec<Placed<T>>) -> Result<Sequence<T>, AllocError>
+fn without_ids<T: Drop>(alloc: Global, placed: Vec<RowWithId<T>>) -> Result<Sequence<T>, AllocError>
     ensures { IfOk result (λ rows. rows ≡ map (λ s. s.row) placed.items) }
 {
     let mut rows = Vec::with_capacity(alloc, placed.len())?;
-    for Placed { row, rowid: _ } in placed {
+    for RowWithId { row, rowid: _ } in placed {
         rows.push(row)?;
     }
     Ok(Sequence::from_vec(rows))
 }
 
 /// Store, where two rows are kept at one place.
-fn told_apart(are_apart: bool) -> Result<(), LoadFault>
+fn check_apart(are_apart: bool) -> Result<(), LoadFault>
     ensures { result ≡ (if are_apart then Ok tt else Err Store) }
 {
     if are_apart {
@@ -171,12 +173,13 @@ fn told_apart(are_apart: bool) -> Result<(), LoadFault>
 /// The rows without their places, which have to differ.
 pub(crate) fn rows_apart<T: Drop>(
     alloc: Global,
-    placed: Vec<Placed<T>>,
+    placed: Vec<RowWithId<T>>,
 ) -> Result<Sequence<T>, LoadFault>
-    ensures ok { IfOk result (λ rows. (rows ≡ map (λ s. s.row) placed.items) × AreApart placed.items) }
+    ensures ok { IfOk result
+        (λ rows. (rows ≡ map (λ s. s.row) placed.items) × AreApart placed.items) }
     ensures fails { IfErr result (Lacks (AreApart placed.items)) }
 {
-    told_apart(are_apart(alloc, &placed)?)?;
-    let rows = unplaced(alloc, placed)?;
+    check_apart(are_apart(alloc, &placed)?)?;
+    let rows = without_ids(alloc, placed)?;
     Ok(rows)
 }

@@ -1,4 +1,4 @@
-//! The tables but the campaign's own, as loading reads them, and their rows, as they are judged.
+//! Reads all tables but the campaign row.
 ghost use Rattle.std.specs.Prelude.{◌≡◌, false, IfOk, IfErr};
 ghost use Rattle.sqlite.specs.Held.{state};
 ghost use Rattle.atl_store.specs.Gathering.{IsSettled, AreOfFormat, ReadsSome, Lacks, AreAllApart, IsMadeOf};
@@ -6,9 +6,9 @@ ghost use Rattle.atl_store.specs.Loading.{other_selects};
 
 use crate::fault::LoadFault;
 use crate::loading::gathered::{AllRows, read_by, rows_apart};
-use crate::rows::Placed;
+use crate::rows::RowWithId;
 use atl_state::parts::{
-    Parts, StoredBooks, StoredFaction, StoredHas, StoredHead, StoredMail, StoredMarket,
+    Parts, StoredBooks, StoredCampaignRow, StoredFaction, StoredHas, StoredMail, StoredMarket,
     StoredRegion, StoredReport, StoredStructure, StoredUnit,
 };
 use atl_tables::{Format, Sequence};
@@ -18,7 +18,10 @@ use std::alloc::Global;
 /// Factions, regions, units and what they have.
 type People = (
     Vec<StoredFaction>,
-    (Vec<StoredRegion>, (Vec<StoredUnit>, Vec<Placed<StoredHas>>)),
+    (
+        Vec<StoredRegion>,
+        (Vec<StoredUnit>, Vec<RowWithId<StoredHas>>),
+    ),
 );
 
 /// Structures, mail, reports and the books.
@@ -26,18 +29,18 @@ type Works = (
     Vec<StoredStructure>,
     (
         Vec<StoredMail>,
-        (Vec<StoredReport>, Vec<Placed<StoredBooks>>),
+        (Vec<StoredReport>, Vec<RowWithId<StoredBooks>>),
     ),
 );
 
 /// Those that both formats have.
-type Early = (People, Works);
+type FirstFormatRows = (People, Works);
 
 /// Those that only the second has.
-type Late = Vec<Placed<StoredMarket>>;
+type SecondFormatRows = Vec<RowWithId<StoredMarket>>;
 
 /// All of them, in the order in which their tables are made.
-pub(crate) type Others = (Early, Late);
+pub(crate) type OtherRows = (FirstFormatRows, SecondFormatRows);
 
 /// The rows of all of them, those of the last ones only by the second format. There are none where a value of one of them is of
 /// another type.
@@ -45,10 +48,12 @@ pub(crate) fn read_others<S: Alter>(
     alloc: Global,
     conn: &mut Connection<S>,
     format: Format,
-) -> Result<Option<Others>, LoadFault>
+) -> Result<Option<OtherRows>, LoadFault>
     requires idle { conn.old.in_transaction ≡ false }
     requires settled { IsSettled (state S.Store conn.old) }
-    ensures { ReadsSome S.Store conn.old (other_selects format) (λ others. AreOfFormat format (state S.Store conn.old).now (⟦<Others as AllRows>⟧.rows others)) result conn.new }
+    ensures { ReadsSome S.Store conn.old (other_selects format)
+        (λ others. AreOfFormat format (state S.Store conn.old).now
+        (⟦<OtherRows as AllRows>⟧.rows others)) result conn.new }
 {
     read_by(alloc, conn, format)
 }
@@ -56,11 +61,11 @@ pub(crate) fn read_others<S: Alter>(
 /// The rows of all tables, of which the campaign's own has one.
 pub(crate) fn parts_with(
     alloc: Global,
-    head: StoredHead,
-    others: Others,
+    head: StoredCampaignRow,
+    others: OtherRows,
 ) -> Result<Parts, LoadFault>
-    ensures ok { IfOk result (λ parts. IsMadeOf head (⟦<Others as AllRows>⟧.rows others) parts) }
-    ensures fails { IfErr result (Lacks (AreAllApart (⟦<Others as AllRows>⟧.rows others))) }
+    ensures ok { IfOk result (λ parts. IsMadeOf head (⟦<OtherRows as AllRows>⟧.rows others) parts) }
+    ensures fails { IfErr result (Lacks (AreAllApart (⟦<OtherRows as AllRows>⟧.rows others))) }
 {
     let ((people, works), markets) = others;
     let (factions, (regions, (units, has))) = people;

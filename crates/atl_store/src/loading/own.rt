@@ -1,6 +1,5 @@
-//! The campaign's own row, as loading reads it.
-ghost use Rattle.std.specs.Prelude.{◌≡◌, false, pos, IfOk, IfErr};
-ghost use Rattle.std.specs.Bool.{Decides};
+//! Reads the campaign row and its world.
+ghost use Rattle.std.specs.Prelude.{◌≡◌, false, pos, IfOk, IfErr, ◌↔◌, IsTrue};
 ghost use Rattle.sqlite.specs.Held.{state};
 ghost use Rattle.sqlite.specs.Order.{column};
 ghost use Rattle.sqlite.specs.State.{HasCleanDisk};
@@ -15,7 +14,7 @@ use crate::fault::{LoadFault, ReadFault};
 use crate::rows::campaign::{StoredCampaign, select_campaign};
 use crate::rows::stored::parse_rows;
 use atl_state::Rule;
-use atl_state::parts::StoredHead;
+use atl_state::parts::StoredCampaignRow;
 use atl_tables::{Format, World, WorldFault, read_old_world, read_world};
 use sqlite::types::ValueRef;
 use sqlite::{Alter, Connection, Row};
@@ -41,8 +40,9 @@ fn only(mut rows: Vec<StoredCampaign>) -> Option<StoredCampaign>
     if rows.is_empty() { last } else { None }
 }
 
-fn is_own(head: &StoredHead, format: Format) -> bool
-    ensures { Decides result ((head.now.id ≡ pos 1) × (head.now.format ≡ pos (format_number format))) }
+fn is_own(head: &StoredCampaignRow, format: Format) -> bool
+    ensures { IsTrue result ↔
+        ((head.now.id ≡ pos 1) × (head.now.format ≡ pos (format_number format))) }
 {
     head.id == 1 && head.format == i64::from(format.number())
 }
@@ -69,7 +69,7 @@ fn world_from(alloc: Global, text: &str, format: Format) -> Result<World, LoadFa
 }
 
 /// The only row with its world, where it is as it should be.
-fn judged(
+fn check_own_rows(
     alloc: Global,
     rows: Vec<StoredCampaign>,
     format: Format,
@@ -91,7 +91,7 @@ fn own_of(alloc: Global, rows: &[Row], format: Format) -> Result<(StoredCampaign
     ensures { JudgesRows format rows.now result }
 {
     match parse_rows(alloc, rows) {
-        Ok(rows) => judged(alloc, rows, format),
+        Ok(rows) => check_own_rows(alloc, rows, format),
         Err(fault) => Err(own_fault(fault)),
     }
 }
@@ -106,7 +106,7 @@ fn other(format: Format) -> Format
 }
 
 fn says(row: &Row, format: Format) -> bool
-    ensures { Decides result (column row.now 1 ≡ int (format_number format)) }
+    ensures { IsTrue result ↔ (column row.now 1 ≡ int (format_number format)) }
 {
     match row.get_ref(1) {
         Ok(ValueRef::Int(number)) => number == i64::from(format.number()),
@@ -116,7 +116,7 @@ fn says(row: &Row, format: Format) -> bool
 
 /// Whether the rows that are shown are one of the other format, whatever else it says.
 fn is_other(rows: &[Row], format: Format) -> bool
-    ensures { Decides result (IsOther format rows.now) }
+    ensures { IsTrue result ↔ (IsOther format rows.now) }
 {
     rows.len() == 1 && says(&rows[0], other(format))
 }
@@ -139,8 +139,10 @@ pub(crate) fn read_own<S: Alter>(
 ) -> Result<(StoredCampaign, World), LoadFault>
     requires idle { conn.old.in_transaction ≡ false }
     requires settled { IsSettled (state S.Store conn.old) }
-    ensures ok { HasCleanDisk (state S.Store conn.new) → IfOk result (λ both. OwnRead S.Store conn.old format both.0 both.1) }
-    ensures err { HasCleanDisk (state S.Store conn.new) → IfErr result (RefusesToLoadIn format S.Store conn.old) }
+    ensures ok { HasCleanDisk (state S.Store conn.new)
+        → IfOk result (λ both. OwnRead S.Store conn.old format both.0 both.1) }
+    ensures err { HasCleanDisk (state S.Store conn.new)
+        → IfErr result (RefusesToLoadIn format S.Store conn.old) }
     ensures leaves { Leaves S.Store conn.old conn.new }
 {
     match select_campaign(conn) {

@@ -6,7 +6,7 @@ ghost use Rattle.atl_store.specs.Written.{books_shown};
 ghost use Rattle.atl_store.specs.Writes.{WritesRow, TakesOut};
 
 use crate::rows::columns::two_integers;
-use crate::rows::stored::{Listed, Placed, Stored};
+use crate::rows::stored::{HasSelect, RowWithId, Stored};
 use crate::statement::run;
 use atl_state::parts::StoredBooks;
 use atl_tables::Format;
@@ -41,7 +41,8 @@ pub(crate) fn drop_books<S: Alter>(
     entry: u32,
     thing: u32,
 ) -> Result<(), Error>
-    ensures { TakesOut S.Store books_table 2 (books_key entry thing) result tx.old.conn tx.new.conn }
+    ensures { TakesOut S.Store books_table 2 (books_key entry thing) result tx.old.conn
+        tx.new.conn }
 {
     run(
         tx,
@@ -50,12 +51,12 @@ pub(crate) fn drop_books<S: Alter>(
     )
 }
 
-impl Stored for Placed<StoredBooks> {
+impl Stored for RowWithId<StoredBooks> {
     ghost forms = { books_forms };
 
     ghost shown = { books_stored };
 
-    fn from_row(_alloc: Global, row: &Row) -> Result<Placed<StoredBooks>, Error> {
+    fn from_row(_alloc: Global, row: &Row) -> Result<RowWithId<StoredBooks>, Error> {
         let (entry, thing) = two_integers(row, 0)?;
         let (amount, rowid) = two_integers(row, 2)?;
         let row = StoredBooks {
@@ -63,16 +64,16 @@ impl Stored for Placed<StoredBooks> {
             thing,
             amount,
         };
-        Ok(Placed { row, rowid })
+        Ok(RowWithId { row, rowid })
     }
 }
 
-impl Listed for Placed<StoredBooks> {
+impl HasSelect for RowWithId<StoredBooks> {
     ghost part = { Books };
 
     ghost columns = { refl };
 
-    fn asked() -> (Format, &'static str) {
+    fn select_of() -> (Format, &'static str) {
         (
             Format::First,
             "SELECT entry, thing, amount, rowid FROM books ORDER BY entry, thing",

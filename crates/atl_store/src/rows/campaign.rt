@@ -1,23 +1,23 @@
-//! The table of the campaign's own row.
+//! The table `campaign`: one row, the campaign row.
 ghost use Rattle.std.specs.Prelude.{◌≡◌, false, not, IsTrue, IfOk, IfErr, refl};
 ghost use Rattle.atl_store.specs.Faults.{is_memory};
 ghost use Rattle.atl_store.specs.Stored.{first_columns, IsTyped};
 ghost use Rattle.atl_store.specs.Tables.{Own, campaign_table};
 ghost use Rattle.atl_store.specs.Written.{head_shown};
-ghost use Rattle.atl_store.specs.PutsHead.{PutsHead};
-ghost use Rattle.atl_store.specs.Shown.{head_values, head_stored, head_forms, campaign_stored, campaign_forms};
+ghost use Rattle.atl_store.specs.PutsCampaignRow.{PutsCampaignRow};
+ghost use Rattle.atl_store.specs.Shown.{campaign_row_values, campaign_row_stored, campaign_row_forms, campaign_stored, campaign_forms};
 ghost use Rattle.atl_store.specs.Statements.{campaign_upsert, selection, upgrading_upsert};
 ghost use Rattle.atl_store.specs.OwnStatements.{Only};
 ghost use Rattle.atl_store.specs.Writes.{Writes};
 ghost use Rattle.atl_store.specs.Inside.{Inside, HasTables};
 ghost use Rattle.atl_store.specs.Reading.{Asks};
-ghost use Rattle.atl_store.specs.UpgradeSteps.{UpgradesHead};
+ghost use Rattle.atl_store.specs.UpgradeSteps.{UpgradesCampaignRow};
 
 use crate::fault::ReadFault;
 use crate::rows::columns::{letters, three_integers, words};
-use crate::rows::stored::{Listed, Stored, select};
+use crate::rows::stored::{HasSelect, Stored, select};
 use crate::statement::run;
-use atl_state::parts::StoredHead;
+use atl_state::parts::StoredCampaignRow;
 use atl_tables::Format;
 use sqlite::{Alter, Connection, Error, Row, Transaction, params};
 use std::alloc::Global;
@@ -43,7 +43,10 @@ pub(crate) fn put_campaign<S: Alter>(
     row: &CampaignRow<'_>,
     world: &str,
 ) -> Result<(), Error>
-    ensures { Writes S.Store (Only campaign_upsert (head_values (head_shown row.now) world.now)) (Inside HasTables (PutsHead (head_shown row.now) world.now)) result tx.old.conn tx.new.conn }
+    ensures { Writes S.Store
+        (Only campaign_upsert (campaign_row_values (head_shown row.now) world.now))
+        (Inside HasTables (PutsCampaignRow (head_shown row.now) world.now)) result tx.old.conn
+        tx.new.conn }
 {
     run(
         tx,
@@ -65,7 +68,10 @@ pub(crate) fn put_upgraded<S: Alter>(
     row: &CampaignRow<'_>,
     world: &str,
 ) -> Result<(), Error>
-    ensures { Writes S.Store (Only upgrading_upsert (head_values (head_shown row.now) world.now)) (Inside HasTables (UpgradesHead (head_shown row.now) world.now)) result tx.old.conn tx.new.conn }
+    ensures { Writes S.Store
+        (Only upgrading_upsert (campaign_row_values (head_shown row.now) world.now))
+        (Inside HasTables (UpgradesCampaignRow (head_shown row.now) world.now)) result tx.old.conn
+        tx.new.conn }
 {
     run(
         tx,
@@ -85,7 +91,7 @@ pub(crate) fn put_upgraded<S: Alter>(
 #[derive(Debug)]
 pub struct StoredCampaign {
     /// All of the row but the world text.
-    pub head: StoredHead,
+    pub head: StoredCampaignRow,
     /// The text of a world file, byte for byte as it was handed in.
     pub world: String,
 }
@@ -98,7 +104,7 @@ impl Drop for StoredCampaign {
 
 impl StoredCampaign {
     /// The row but for its world text.
-    pub(crate) fn into_head(self) -> StoredHead
+    pub(crate) fn into_campaign_row(self) -> StoredCampaignRow
         ensures { result ≡ self.head }
     {
         let StoredCampaign { head, world: _ } = self;
@@ -107,14 +113,15 @@ impl StoredCampaign {
 }
 
 /// The row but for its world text.
-fn head(alloc: Global, row: &Row) -> Result<StoredHead, Error>
-    ensures ok { IfOk result (λ head. head_stored head ≡ first_columns 7 row.now) }
-    ensures typed { IfOk result (λ _. IsTyped head_forms row.now) }
-    ensures other { IfErr result (λ e. IsTrue (not (is_memory e)) → ¬ IsTyped head_forms row.now) }
+fn head(alloc: Global, row: &Row) -> Result<StoredCampaignRow, Error>
+    ensures ok { IfOk result (λ head. campaign_row_stored head ≡ first_columns 7 row.now) }
+    ensures typed { IfOk result (λ _. IsTyped campaign_row_forms row.now) }
+    ensures other { IfErr result
+        (λ e. IsTrue (not (is_memory e)) → ¬ IsTyped campaign_row_forms row.now) }
 {
     let (id, format, month) = three_integers(row, 0)?;
     let (next_faction, next_unit, next_structure) = three_integers(row, 3)?;
-    Ok(StoredHead {
+    Ok(StoredCampaignRow {
         id,
         format,
         month,
@@ -149,12 +156,12 @@ pub(crate) fn select_campaign<S: Alter>(conn: &mut Connection<S>) -> Result<Vec<
     select(conn, ALL)
 }
 
-impl Listed for StoredCampaign {
+impl HasSelect for StoredCampaign {
     ghost part = { Own };
 
     ghost columns = { refl };
 
-    fn asked() -> (Format, &'static str) {
+    fn select_of() -> (Format, &'static str) {
         (Format::First, ALL)
     }
 }

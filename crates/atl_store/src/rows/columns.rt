@@ -1,4 +1,4 @@
-//! The values of a row, each in the form that its column is read as.
+//! Reads the values of a row's columns, each with its type.
 ghost use Rattle.std.specs.Prelude.{◌≡◌, ◌+◌, ◌≤◌, IsTrue, not, IfOk, IfErr, string_bytes};
 ghost use Rattle.sqlite.specs.declared.types.Value.TheVariants.{Int, Text, Blob};
 ghost use Rattle.sqlite.specs.Order.{column};
@@ -13,7 +13,8 @@ use std::alloc::Global;
 /// A whole number.
 pub(crate) fn integer(row: &Row, at: usize) -> Result<i64, Error>
     ensures ok { IfOk result (λ n. column row.now at ≡ Int n) }
-    ensures other { IfErr result (λ e. IsTrue (not (is_memory e)) → ¬ IsOf Number (column row.now at)) }
+    ensures other { IfErr result
+        (λ e. IsTrue (not (is_memory e)) → ¬ IsOf Number (column row.now at)) }
 {
     let number = row.get(at)?;
     Ok(number)
@@ -22,7 +23,8 @@ pub(crate) fn integer(row: &Row, at: usize) -> Result<i64, Error>
 /// A text of UTF-8.
 pub(crate) fn words(row: &Row, at: usize) -> Result<String, Error>
     ensures ok { IfOk result (λ s. column row.now at ≡ Text (string_bytes s)) }
-    ensures other { IfErr result (λ e. IsTrue (not (is_memory e)) → ¬ IsOf Words (column row.now at)) }
+    ensures other { IfErr result
+        (λ e. IsTrue (not (is_memory e)) → ¬ IsOf Words (column row.now at)) }
 {
     let text = row.get(at)?;
     Ok(text)
@@ -31,7 +33,8 @@ pub(crate) fn words(row: &Row, at: usize) -> Result<String, Error>
 /// The bytes of a text, whatever they are.
 pub(crate) fn letters(alloc: Global, row: &Row, at: usize) -> Result<Sequence<u8>, Error>
     ensures ok { IfOk result (λ b. column row.now at ≡ Text b) }
-    ensures other { IfErr result (λ e. IsTrue (not (is_memory e)) → ¬ IsOf Letters (column row.now at)) }
+    ensures other { IfErr result
+        (λ e. IsTrue (not (is_memory e)) → ¬ IsOf Letters (column row.now at)) }
 {
     match row.get_ref(at)? {
         ValueRef::Text(text) => match Sequence::from_slice(alloc, text) {
@@ -45,7 +48,8 @@ pub(crate) fn letters(alloc: Global, row: &Row, at: usize) -> Result<Sequence<u8
 /// Bytes.
 pub(crate) fn bytes(row: &Row, at: usize) -> Result<Sequence<u8>, Error>
     ensures ok { IfOk result (λ b. column row.now at ≡ Blob b) }
-    ensures other { IfErr result (λ e. IsTrue (not (is_memory e)) → ¬ IsOf Bytes (column row.now at)) }
+    ensures other { IfErr result
+        (λ e. IsTrue (not (is_memory e)) → ¬ IsOf Bytes (column row.now at)) }
 {
     let bytes = row.get(at)?;
     Ok(Sequence::from_vec(bytes))
@@ -54,8 +58,11 @@ pub(crate) fn bytes(row: &Row, at: usize) -> Result<Sequence<u8>, Error>
 /// Two whole numbers, from this column on.
 pub(crate) fn two_integers(row: &Row, first: usize) -> Result<(i64, i64), Error>
     requires { first ≤ 8 }
-    ensures ok { IfOk result (λ n. (column row.now first ≡ Int n.0) × (column row.now (first + 1) ≡ Int n.1)) }
-    ensures other { IfErr result (λ e. IsTrue (not (is_memory e)) → ¬ (IsOf Number (column row.now first) × IsOf Number (column row.now (first + 1)))) }
+    ensures ok { IfOk result
+        (λ n. (column row.now first ≡ Int n.0) × (column row.now (first + 1) ≡ Int n.1)) }
+    ensures other { IfErr result
+        (λ e. IsTrue (not (is_memory e))
+        → ¬ (IsOf Number (column row.now first) × IsOf Number (column row.now (first + 1)))) }
 {
     let one = integer(row, first)?;
     let two = integer(row, first + 1)?;
@@ -65,8 +72,13 @@ pub(crate) fn two_integers(row: &Row, first: usize) -> Result<(i64, i64), Error>
 /// Three whole numbers, from this column on.
 pub(crate) fn three_integers(row: &Row, first: usize) -> Result<(i64, i64, i64), Error>
     requires { first ≤ 8 }
-    ensures ok { IfOk result (λ n. (column row.now first ≡ Int n.0) × (column row.now (first + 1) ≡ Int n.1) × (column row.now (first + 2) ≡ Int n.2)) }
-    ensures other { IfErr result (λ e. IsTrue (not (is_memory e)) → ¬ (IsOf Number (column row.now first) × IsOf Number (column row.now (first + 1)) × IsOf Number (column row.now (first + 2)))) }
+    ensures ok { IfOk result
+        (λ n. (column row.now first ≡ Int n.0) × (column row.now (first + 1) ≡ Int n.1)
+        × (column row.now (first + 2) ≡ Int n.2)) }
+    ensures other { IfErr result
+        (λ e. IsTrue (not (is_memory e))
+        → ¬ (IsOf Number (column row.now first) × IsOf Number (column row.now (first + 1))
+        × IsOf Number (column row.now (first + 2)))) }
 {
     let one = integer(row, first)?;
     let two = integer(row, first + 1)?;

@@ -4,9 +4,9 @@ ghost use Rattle.atl_store.specs.Tables.{Factions};
 ghost use Rattle.atl_store.specs.Rows.{faction_line};
 ghost use Rattle.atl_store.specs.Shown.{faction_stored, faction_forms};
 
-use crate::kept::{Kept, Mapped};
+use crate::numbered_rows::{Mapped, NumberedRow};
 use crate::rows::columns::{integer, letters};
-use crate::rows::stored::{Listed, Stored};
+use crate::rows::stored::{HasSelect, Stored};
 use crate::statement::run;
 use atl_state::parts::StoredFaction;
 use atl_state::{Campaign, Faction};
@@ -14,7 +14,7 @@ use atl_tables::{Entries, Format, MarkedNumbers};
 use sqlite::{Alter, Error, Row, Transaction, params};
 use std::alloc::Global;
 
-impl Kept for Faction {
+impl NumberedRow for Faction {
     ghost part = { Factions };
 
     ghost is_numbered = { tt };
@@ -85,12 +85,12 @@ impl Stored for StoredFaction {
     }
 }
 
-impl Listed for StoredFaction {
+impl HasSelect for StoredFaction {
     ghost part = { Factions };
 
     ghost columns = { refl };
 
-    fn asked() -> (Format, &'static str) {
+    fn select_of() -> (Format, &'static str) {
         (
             Format::First,
             "SELECT number, joined_as, name, pass, gone FROM faction ORDER BY number",

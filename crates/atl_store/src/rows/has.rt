@@ -6,7 +6,7 @@ ghost use Rattle.atl_store.specs.Written.{has_shown, sort_number};
 ghost use Rattle.atl_store.specs.Writes.{WritesRow, TakesOut};
 
 use crate::rows::columns::{three_integers, two_integers};
-use crate::rows::stored::{Listed, Placed, Stored};
+use crate::rows::stored::{HasSelect, RowWithId, Stored};
 use crate::statement::run;
 use atl_state::parts::StoredHas;
 use atl_tables::Format;
@@ -15,19 +15,19 @@ use std::alloc::Global;
 
 /// What a row of the table is of: an amount of an item, or days of a skill.
 #[derive(Clone, Copy, Debug, PartialEq, Eq)]
-pub enum Sort {
+pub enum ThingKind {
     Item,
     Skill,
 }
 
-impl Sort {
+impl ThingKind {
     /// The number that stands for it in the table.
     pub(crate) fn number(self) -> u32
         ensures { result ≡ sort_number self }
     {
         match self {
-            Sort::Item => 0,
-            Sort::Skill => 1,
+            ThingKind::Item => 0,
+            ThingKind::Skill => 1,
         }
     }
 }
@@ -38,7 +38,7 @@ pub struct HasRow {
     /// The number of the unit.
     pub unit: u32,
     /// Whether it is an item or a skill.
-    pub sort: Sort,
+    pub sort: ThingKind,
     /// The world's number of the item or the skill.
     pub thing: u32,
     /// How many of the item, or how many days of the skill.
@@ -61,10 +61,11 @@ pub(crate) fn put_has<S: Alter>(tx: &mut Transaction<'_, S>, row: &HasRow) -> Re
 pub(crate) fn drop_has<S: Alter>(
     tx: &mut Transaction<'_, S>,
     unit: u32,
-    sort: Sort,
+    sort: ThingKind,
     thing: u32,
 ) -> Result<(), Error>
-    ensures { TakesOut S.Store has_table 3 (has_key unit (sort_number sort) thing) result tx.old.conn tx.new.conn }
+    ensures { TakesOut S.Store has_table 3 (has_key unit (sort_number sort) thing) result
+        tx.old.conn tx.new.conn }
 {
     let sort = sort.number();
     run(
@@ -81,12 +82,12 @@ pub(crate) fn drop_goods<S: Alter>(tx: &mut Transaction<'_, S>, unit: u32) -> Re
     run(tx, "DELETE FROM has WHERE unit = ?1", params![unit])
 }
 
-impl Stored for Placed<StoredHas> {
+impl Stored for RowWithId<StoredHas> {
     ghost forms = { has_forms };
 
     ghost shown = { has_stored };
 
-    fn from_row(_alloc: Global, row: &Row) -> Result<Placed<StoredHas>, Error> {
+    fn from_row(_alloc: Global, row: &Row) -> Result<RowWithId<StoredHas>, Error> {
         let (unit, sort) = two_integers(row, 0)?;
         let (thing, amount, rowid) = three_integers(row, 2)?;
         let row = StoredHas {
@@ -95,16 +96,16 @@ impl Stored for Placed<StoredHas> {
             thing,
             amount,
         };
-        Ok(Placed { row, rowid })
+        Ok(RowWithId { row, rowid })
     }
 }
 
-impl Listed for Placed<StoredHas> {
+impl HasSelect for RowWithId<StoredHas> {
     ghost part = { Goods };
 
     ghost columns = { refl };
 
-    fn asked() -> (Format, &'static str) {
+    fn select_of() -> (Format, &'static str) {
         (
             Format::First,
             "SELECT unit, sort, thing, amount, rowid FROM has ORDER BY unit, sort, thing",

@@ -4,9 +4,9 @@ ghost use Rattle.atl_store.specs.Tables.{Mail, mail_table};
 ghost use Rattle.atl_store.specs.Shown.{mail_row, mail_stored, mail_forms};
 ghost use Rattle.atl_store.specs.Writes.{WritesRow};
 
-use crate::kept::{Kept, Mapped};
+use crate::numbered_rows::{Mapped, NumberedRow};
 use crate::rows::columns::{bytes, integer};
-use crate::rows::stored::{Listed, Stored};
+use crate::rows::stored::{HasSelect, Stored};
 use crate::statement::run;
 use atl_state::Campaign;
 use atl_state::parts::StoredMail;
@@ -20,7 +20,8 @@ pub(crate) fn put_mail<S: Alter>(
     faction: u32,
     text: &[u8],
 ) -> Result<(), Error>
-    ensures { WritesRow S.Store mail_table 1 (mail_row faction text.now) result tx.old.conn tx.new.conn }
+    ensures { WritesRow S.Store mail_table 1 (mail_row faction text.now) result tx.old.conn
+        tx.new.conn }
 {
     run(
         tx,
@@ -30,7 +31,7 @@ pub(crate) fn put_mail<S: Alter>(
 }
 
 /// The mail of a faction.
-impl Kept for Sequence<u8> {
+impl NumberedRow for Sequence<u8> {
     ghost part = { Mail };
 
     ghost is_numbered = { tt };
@@ -82,12 +83,12 @@ impl Stored for StoredMail {
     }
 }
 
-impl Listed for StoredMail {
+impl HasSelect for StoredMail {
     ghost part = { Mail };
 
     ghost columns = { refl };
 
-    fn asked() -> (Format, &'static str) {
+    fn select_of() -> (Format, &'static str) {
         (
             Format::First,
             "SELECT faction, text FROM mail ORDER BY faction",

@@ -5,7 +5,7 @@ ghost use Rattle.atl_store.specs.Shown.{int, market_row, market_stored, market_f
 ghost use Rattle.atl_store.specs.Writes.{WritesRow, TakesOut};
 
 use crate::rows::columns::two_integers;
-use crate::rows::stored::{Listed, Placed, Stored};
+use crate::rows::stored::{HasSelect, RowWithId, Stored};
 use crate::statement::run;
 use atl_state::parts::StoredMarket;
 use atl_tables::Format;
@@ -19,7 +19,8 @@ pub(crate) fn put_stock<S: Alter>(
     item: u32,
     stock: u32,
 ) -> Result<(), Error>
-    ensures { WritesRow S.Store market_table 2 (market_row region item stock) result tx.old.conn tx.new.conn }
+    ensures { WritesRow S.Store market_table 2 (market_row region item stock) result tx.old.conn
+        tx.new.conn }
 {
     run(
         tx,
@@ -35,12 +36,12 @@ pub(crate) fn drop_stocks<S: Alter>(tx: &mut Transaction<'_, S>, region: u32) ->
     run(tx, "DELETE FROM market WHERE region = ?1", params![region])
 }
 
-impl Stored for Placed<StoredMarket> {
+impl Stored for RowWithId<StoredMarket> {
     ghost forms = { market_forms };
 
     ghost shown = { market_stored };
 
-    fn from_row(_alloc: Global, row: &Row) -> Result<Placed<StoredMarket>, Error> {
+    fn from_row(_alloc: Global, row: &Row) -> Result<RowWithId<StoredMarket>, Error> {
         let (region, item) = two_integers(row, 0)?;
         let (stock, rowid) = two_integers(row, 2)?;
         let row = StoredMarket {
@@ -48,16 +49,16 @@ impl Stored for Placed<StoredMarket> {
             item,
             stock,
         };
-        Ok(Placed { row, rowid })
+        Ok(RowWithId { row, rowid })
     }
 }
 
-impl Listed for Placed<StoredMarket> {
+impl HasSelect for RowWithId<StoredMarket> {
     ghost part = { Markets };
 
     ghost columns = { refl };
 
-    fn asked() -> (Format, &'static str) {
+    fn select_of() -> (Format, &'static str) {
         (
             Format::Second,
             "SELECT region, item, stock, rowid FROM market ORDER BY region, item",

@@ -4,9 +4,9 @@ ghost use Rattle.atl_store.specs.Tables.{Regions};
 ghost use Rattle.atl_store.specs.Rows.{region_line};
 ghost use Rattle.atl_store.specs.Shown.{region_stored, region_forms};
 
-use crate::kept::{Kept, Mapped};
+use crate::numbered_rows::{Mapped, NumberedRow};
 use crate::rows::columns::three_integers;
-use crate::rows::stored::{Listed, Stored};
+use crate::rows::stored::{HasSelect, Stored};
 use crate::statement::run;
 use atl_state::parts::StoredRegion;
 use atl_state::{Campaign, Region};
@@ -14,7 +14,7 @@ use atl_tables::{Entries, Format, MarkedNumbers};
 use sqlite::{Alter, Error, Row, Transaction, params};
 use std::alloc::Global;
 
-impl Kept for Region {
+impl NumberedRow for Region {
     ghost part = { Regions };
 
     ghost is_numbered = { tt };
@@ -73,12 +73,12 @@ impl Stored for StoredRegion {
     }
 }
 
-impl Listed for StoredRegion {
+impl HasSelect for StoredRegion {
     ghost part = { Regions };
 
     ghost columns = { refl };
 
-    fn asked() -> (Format, &'static str) {
+    fn select_of() -> (Format, &'static str) {
         (
             Format::First,
             "SELECT number, peasants, money FROM region ORDER BY number",

@@ -3,9 +3,9 @@ ghost use Rattle.std.specs.Prelude.{refl};
 ghost use Rattle.atl_store.specs.Tables.{Reports};
 ghost use Rattle.atl_store.specs.Shown.{report_row, report_stored, report_forms};
 
-use crate::kept::{Kept, Mapped};
+use crate::numbered_rows::{Mapped, NumberedRow};
 use crate::rows::columns::{integer, words};
-use crate::rows::stored::{Listed, Stored};
+use crate::rows::stored::{HasSelect, Stored};
 use crate::statement::run;
 use atl_state::Campaign;
 use atl_state::parts::StoredReport;
@@ -14,7 +14,7 @@ use sqlite::{Alter, Error, Row, Transaction, params};
 use std::alloc::Global;
 
 /// The report of a faction.
-impl Kept for Text {
+impl NumberedRow for Text {
     ghost part = { Reports };
 
     ghost is_numbered = { tt };
@@ -73,12 +73,12 @@ impl Stored for StoredReport {
     }
 }
 
-impl Listed for StoredReport {
+impl HasSelect for StoredReport {
     ghost part = { Reports };
 
     ghost columns = { refl };
 
-    fn asked() -> (Format, &'static str) {
+    fn select_of() -> (Format, &'static str) {
         (
             Format::First,
             "SELECT faction, text FROM report ORDER BY faction",

@@ -1,4 +1,4 @@
-//! Rows as they are read.
+//! Reads rows with a SELECT, and parses them.
 ghost use Rattle.std.specs.Prelude.{◌≡◌, ◌≢◌, List, map, length, false, true, not, IsTrue, IfOk, IfErr};
 ghost use Rattle.sqlite.specs.Given.{IsPlain};
 ghost use Rattle.sqlite.specs.Listing.{understood};
@@ -30,12 +30,12 @@ pub trait Stored: Drop + Sized {
 }
 
 /// A row of a table of which all rows are read at once.
-pub trait Listed: Stored {
+pub trait HasSelect: Stored {
     // The part of a campaign that the table is of.
     ghost part: { Part };
 
     /// The format since which there is the table, and the SELECT of all its columns.
-    fn asked() -> (Format, &'static str)
+    fn select_of() -> (Format, &'static str)
         ensures since { result.0 ≡ (listing_of part).since }
         ensures select { result.1.now ≡ (listing_of part).select };
 
@@ -44,10 +44,12 @@ pub trait Listed: Stored {
     /// world text that isn't UTF-8; whatever is answered, nothing is changed.
     final fn read<S: Alter>(alloc: Global, conn: &mut Connection<S>) -> Result<Vec<Self>, ReadFault>
         requires { conn.old.in_transaction ≡ false }
-        ensures select { ReadsRows S.Store (listing_of part).select conn.old Self.forms Self.shown result conn.new }
-        ensures table { GivesTable S.Store (listing_of part).since (listing_of part).in_table Self.shown result conn.old conn.new }
+        ensures select { ReadsRows S.Store (listing_of part).select conn.old Self.forms Self.shown
+            result conn.new }
+        ensures table { GivesTable S.Store (listing_of part).since (listing_of part).in_table
+            Self.shown result conn.old conn.new }
     {
-        let (since, select) = Self::asked();
+        let (since, select) = Self::select_of();
         read_all(alloc, conn, since, select)
     }
 
@@ -57,7 +59,7 @@ pub trait Listed: Stored {
 
 /// A row of a table that has no number for its rows, with the place that the database keeps it at.
 #[derive(Debug, Drop)]
-pub struct Placed<T> {
+pub struct RowWithId<T> {
     pub row: T,
     /// Where it is kept, which differs from row to row of a table.
     pub rowid: i64,
@@ -65,7 +67,8 @@ pub struct Placed<T> {
 
 /// Each row of an answer.
 pub(crate) fn parse_rows<T: Stored>(alloc: Global, rows: &[Row]) -> Result<Vec<T>, ReadFault>
-    ensures ok { IfOk result (λ all. map T.shown all.items ≡ map (first_columns (length T.forms)) rows.now) }
+    ensures ok { IfOk result
+        (λ all. map T.shown all.items ≡ map (first_columns (length T.forms)) rows.now) }
     ensures typed { IfOk result (λ _. AreTyped T.forms rows.now) }
     ensures other { IfErr result (λ fault. fault ≡ OtherType → ¬ AreTyped T.forms rows.now) }
     ensures which { IfErr result (λ fault. fault ≢ OtherType → fault ≡ Memory) }
@@ -148,7 +151,8 @@ pub(crate) fn read_all<T: Stored, S: Alter>(
     sql: &str,
 ) -> Result<Vec<T>, ReadFault>
     requires idle { conn.old.in_transaction ≡ false }
-    requires plain { HasTablesOf since conn.old.schema → IsPlain (understood conn.old.schema sql.now) }
+    requires plain { HasTablesOf since conn.old.schema
+        → IsPlain (understood conn.old.schema sql.now) }
     ensures { ReadsRows S.Store sql.now conn.old T.Stored.forms T.Stored.shown result conn.new }
 {
     if !has_tables_of(conn.schema(), since) {

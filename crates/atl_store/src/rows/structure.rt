@@ -4,9 +4,9 @@ ghost use Rattle.atl_store.specs.Tables.{Structures};
 ghost use Rattle.atl_store.specs.Rows.{structure_line};
 ghost use Rattle.atl_store.specs.Shown.{structure_stored, structure_forms};
 
-use crate::kept::{Kept, Mapped};
+use crate::numbered_rows::{Mapped, NumberedRow};
 use crate::rows::columns::{letters, three_integers, two_integers};
-use crate::rows::stored::{Listed, Stored};
+use crate::rows::stored::{HasSelect, Stored};
 use crate::statement::run;
 use atl_state::parts::StoredStructure;
 use atl_state::{Campaign, Structure};
@@ -14,7 +14,7 @@ use atl_tables::{Entries, Format, MarkedNumbers};
 use sqlite::{Alter, Error, Row, Transaction, params};
 use std::alloc::Global;
 
-impl Kept for Structure {
+impl NumberedRow for Structure {
     ghost part = { Structures };
 
     ghost is_numbered = { tt };
@@ -84,12 +84,12 @@ impl Stored for StoredStructure {
     }
 }
 
-impl Listed for StoredStructure {
+impl HasSelect for StoredStructure {
     ghost part = { Structures };
 
     ghost columns = { refl };
 
-    fn asked() -> (Format, &'static str) {
+    fn select_of() -> (Format, &'static str) {
         (
             Format::First,
             "SELECT number, kind, name, region, done, owner FROM structure ORDER BY number",

@@ -5,9 +5,9 @@ ghost use Rattle.atl_store.specs.Rows.{lines_of, unit_line};
 ghost use Rattle.atl_store.specs.Shown.{unit_stored, unit_forms};
 ghost use Rattle.atl_store.specs.Writes.{WritesRows};
 
-use crate::kept::Kept;
+use crate::numbered_rows::NumberedRow;
 use crate::rows::columns::{letters, three_integers, two_integers};
-use crate::rows::stored::{Listed, Stored};
+use crate::rows::stored::{HasSelect, Stored};
 use crate::statement::run;
 use atl_state::parts::StoredUnit;
 use atl_state::{Campaign, SlotEntries, Unit};
@@ -15,7 +15,7 @@ use atl_tables::{Format, MarkedNumbers};
 use sqlite::{Alter, Error, Row, Transaction, params};
 use std::alloc::Global;
 
-impl Kept for Unit {
+impl NumberedRow for Unit {
     ghost part = { Units };
 
     ghost is_numbered = { tt };
@@ -67,7 +67,8 @@ pub(crate) fn put_units<S: Alter>(
     tx: &mut Transaction<'_, S>,
     units: SlotEntries<'_, Unit>,
 ) -> Result<(), Error>
-    ensures { WritesRows S.Store unit_table 1 (lines_of unit_line units.entry) result tx.old.conn tx.new.conn }
+    ensures { WritesRows S.Store unit_table 1 (lines_of unit_line units.entry) result tx.old.conn
+        tx.new.conn }
 {
     for (number, unit) in units {
         unit.put(tx, number)?;
@@ -97,12 +98,12 @@ impl Stored for StoredUnit {
     }
 }
 
-impl Listed for StoredUnit {
+impl HasSelect for StoredUnit {
     ghost part = { Units };
 
     ghost columns = { refl };
 
-    fn asked() -> (Format, &'static str) {
+    fn select_of() -> (Format, &'static str) {
         (
             Format::First,
             "SELECT number, faction, name, region, structure, men, money, guard FROM unit ORDER BY number",

@@ -1,6 +1,5 @@
-//! The CHECK of the campaign's own table.
-ghost use Rattle.std.specs.Prelude.{◌≡◌, ◌≢◌, [], ◌∷◌, ℕ, Some, IfSome, IfNone, pos};
-ghost use Rattle.std.specs.Bool.{Decides};
+//! Checks the CHECK clause of the table `campaign`.
+ghost use Rattle.std.specs.Prelude.{◌≡◌, ◌≢◌, [], ◌∷◌, ℕ, Some, IfSome, IfNone, pos, ◌↔◌, IsTrue};
 ghost use Rattle.std.specs.Option.{option_copied};
 ghost use Rattle.sqlite.specs.declared.types.Value.TheVariants.{Int};
 ghost use Rattle.sqlite_schema.specs.Code.{term_in};
@@ -18,8 +17,10 @@ use sqlite_value::value::Value;
 
 /// The places of the two sides, where the node says that they are equal.
 fn sides(node: Option<&Op>) -> Option<(usize, usize)>
-    ensures equal { IfSome result (λ two. option_copied node.entry ≡ Some (variant.Binary (Compare Eq Binary) two.0 two.1)) }
-    ensures other { IfNone result ((a b : ℕ) → option_copied node.entry ≢ Some (variant.Binary (Compare Eq Binary) a b)) }
+    ensures equal { IfSome result
+        (λ two. option_copied node.entry ≡ Some (variant.Binary (Compare Eq Binary) two.0 two.1)) }
+    ensures other { IfNone result
+        ((a b : ℕ) → option_copied node.entry ≢ Some (variant.Binary (Compare Eq Binary) a b)) }
 {
     match node {
         Some(Op::Binary(BinaryOp::Compare(CompareOp::Eq, Collation::Binary), left, right)) => {
@@ -31,20 +32,21 @@ fn sides(node: Option<&Op>) -> Option<(usize, usize)>
 
 /// The number of the row that is checked.
 fn is_number(node: Option<&Op>) -> bool
-    ensures { Decides result (option_copied node.entry ≡ Some (variant.Column 1 0)) }
+    ensures { IsTrue result ↔ (option_copied node.entry ≡ Some (variant.Column 1 0)) }
 {
     matches!(node, Some(Op::Column(1, 0)))
 }
 
 fn is_one(node: Option<&Op>) -> bool
-    ensures { Decides result (option_copied node.entry ≡ Some (variant.Literal (Int (pos 1)))) }
+    ensures { IsTrue result ↔ (option_copied node.entry ≡ Some (variant.Literal (Int (pos 1)))) }
 {
     matches!(node, Some(Op::Literal(Value::Int(1))))
 }
 
 /// The expression at a place among the nodes says that the row has the number 1.
 fn has_number_one(nodes: &[Op], root: usize) -> bool
-    ensures { Decides result (term_in nodes.now root ≡ op2 (Compare Eq Binary) (col 1 0) (lit (Int (pos 1)))) }
+    ensures { IsTrue result ↔
+        (term_in nodes.now root ≡ op2 (Compare Eq Binary) (col 1 0) (lit (Int (pos 1)))) }
 {
     match sides(at(nodes, root)) {
         Some((left, right)) => is_number(at(nodes, left)) && is_one(at(nodes, right)),
@@ -54,7 +56,8 @@ fn has_number_one(nodes: &[Op], root: usize) -> bool
 
 /// The check that the campaign's own row has the number 1, and no other.
 pub(crate) fn is_own_row(checks: &Terms) -> bool
-    ensures { Decides result (checks.now ≡ op2 (Compare Eq Binary) (col 1 0) (lit (Int (pos 1))) ∷ []) }
+    ensures { IsTrue result ↔
+        (checks.now ≡ op2 (Compare Eq Binary) (col 1 0) (lit (Int (pos 1))) ∷ []) }
 {
     match checks.roots.as_slice() {
         [root] => has_number_one(checks.nodes.as_slice(), *root),

@@ -1,6 +1,5 @@
 //! The columns of a table.
-ghost use Rattle.std.specs.Prelude.{◌≡◌, map};
-ghost use Rattle.std.specs.Bool.{Decides};
+ghost use Rattle.std.specs.Prelude.{◌≡◌, map, ◌↔◌, IsTrue};
 ghost use Rattle.atl_store.specs.Sets.{field};
 
 use sqlite_schema::schema::{Column, Kind};
@@ -9,7 +8,7 @@ use sqlite_value::value::Value;
 
 /// A column of a STRICT table, NOT NULL, with this name.
 fn is_field(column: &Column, name: &[u8], kind: Kind) -> bool
-    ensures { Decides result (column.now ≡ field name.now kind) }
+    ensures { IsTrue result ↔ (column.now ≡ field name.now kind) }
 {
     column.name.as_slice() == name
         && column.kind == kind
@@ -21,7 +20,7 @@ fn is_field(column: &Column, name: &[u8], kind: Kind) -> bool
 
 /// Such columns, in this order.
 pub(crate) fn are_fields(columns: &[Column], fields: &[(&[u8], Kind)]) -> bool
-    ensures { Decides result (columns.now ≡ map (λ f. field f.0.now f.1) fields.now) }
+    ensures { IsTrue result ↔ (columns.now ≡ map (λ f. field f.0.now f.1) fields.now) }
 {
     if columns.len() != fields.len() {
         return false;

@@ -1,6 +1,5 @@
-//! The indexes of the tables' keys, and those that came behind them.
-ghost use Rattle.std.specs.Prelude.{◌≡◌, ◌==◌, ◌≤◌, ◌++◌, true, codes, length, slice_get, take};
-ghost use Rattle.std.specs.Bool.{Decides};
+//! Checks the indexes of the tables' keys, and indexes that were added later.
+ghost use Rattle.std.specs.Prelude.{◌≡◌, ◌==◌, ◌≤◌, ◌++◌, true, codes, length, slice_get, take, ◌↔◌, IsTrue};
 ghost use Rattle.std.specs.List.{AllByRecursion, list_any};
 ghost use Rattle.std.specs.Fmt.{decimal};
 ghost use Rattle.sqlite_value.specs.Keys.{plain};
@@ -9,13 +8,21 @@ ghost use Rattle.atl_store.specs.Tables.{all_tables, all_indexes, IsHarmless, Ar
 use crate::schema::keys::is_plain;
 use crate::tables::{
     ALL, BOOKS, BOOKS_INDEX, BOOKS_UNIQUE, FACTION, FACTION_INDEX, FACTION_UNIQUE, HAS, HAS_INDEX,
-    HAS_UNIQUE, MARKET, MARKET_INDEX, MARKET_UNIQUE, Made,
+    HAS_UNIQUE, MARKET, MARKET_INDEX, MARKET_UNIQUE, TableDefinition,
 };
 use sqlite_schema::schema::Index;
 
 /// The index that the database makes for a unique key of a table.
 fn is_index(found: &Index, name: &[u8], tree: u32, table: u32, columns: &[usize]) -> bool
-    ensures { Decides result (found.now ≡ record { name = name.now; tree = tree; table = table; columns = columns.now; order = plain; is_unique = true }) }
+    ensures { IsTrue result ↔
+        (found.now ≡ record {
+          name = name.now;
+          tree = tree;
+          table = table;
+          columns = columns.now;
+          order = plain;
+          is_unique = true;
+        }) }
 {
     found.name.as_slice() == name
         && found.tree == tree
@@ -26,16 +33,31 @@ fn is_index(found: &Index, name: &[u8], tree: u32, table: u32, columns: &[usize]
 }
 
 /// The index of the only unique key of a table.
-fn is_index_of(found: &Index, made: &Made, name: &[u8], tree: u32, columns: &[usize]) -> bool
+fn is_index_of(
+    found: &Index,
+    made: &TableDefinition,
+    name: &[u8],
+    tree: u32,
+    columns: &[usize],
+) -> bool
     requires { name.now ≡ codes "sqlite_autoindex_" ++ (made.now.name.now ++ codes "_1") }
-    ensures { Decides result (found.now ≡ record { name = codes "sqlite_autoindex_" ++ (made.now.name.now ++ (codes "_" ++ decimal 1)); tree = tree; table = made.now.tree; columns = columns.now; order = plain; is_unique = true }) }
+    ensures { IsTrue result ↔
+        (found.now ≡ record {
+          name = codes "sqlite_autoindex_"
+              ++ (made.now.name.now ++ (codes "_" ++ decimal 1));
+          tree = tree;
+          table = made.now.tree;
+          columns = columns.now;
+          order = plain;
+          is_unique = true;
+        }) }
 {
     is_index(found, name, tree, made.tree, columns)
 }
 
 /// Whether this is the index with this place among those of the keys that are not the row's number.
 fn is_key_index(found: &Index, place: usize) -> bool
-    ensures { Decides result (slice_get all_indexes place ≡ Some found.now) }
+    ensures { IsTrue result ↔ (slice_get all_indexes place ≡ Some found.now) }
 {
     match place {
         0 => is_index_of(
@@ -73,7 +95,7 @@ fn is_key_index(found: &Index, place: usize) -> bool
 /// So many indexes are the first that are made.
 fn are_first_indexes(indexes: &[Index], count: usize) -> bool
     requires { count ≤ length indexes.now }
-    ensures { Decides result (take count indexes.now ≡ take count all_indexes) }
+    ensures { IsTrue result ↔ (take count indexes.now ≡ take count all_indexes) }
 {
     for place in 0..count {
         if !is_key_index(&indexes[place], place) {
@@ -83,7 +105,7 @@ fn are_first_indexes(indexes: &[Index], count: usize) -> bool
     true
 }
 
-fn is_among(tree: u32, tables: &[Made]) -> bool
+fn is_among(tree: u32, tables: &[TableDefinition]) -> bool
     ensures { result ≡ list_any (λ t. tree == t.tree) tables.now }
 {
     tables.iter().any(|table| tree == table.tree)
@@ -100,14 +122,14 @@ fn is_ours(tree: u32, count: usize) -> bool
 /// An index that makes nothing of the first so many tables unique.
 fn is_harmless(found: &Index, count: usize) -> bool
     requires { count ≤ length all_tables }
-    ensures { Decides result (IsHarmless count found.now) }
+    ensures { IsTrue result ↔ (IsHarmless count found.now) }
 {
     !found.is_unique || !is_ours(found.table, count)
 }
 
 fn are_harmless(indexes: &[Index], count: usize) -> bool
     requires { count ≤ length all_tables }
-    ensures { Decides result (AllByRecursion (IsHarmless count) indexes.now) }
+    ensures { IsTrue result ↔ (AllByRecursion (IsHarmless count) indexes.now) }
 {
     for index in indexes {
         if !is_harmless(index, count) {
@@ -121,7 +143,7 @@ fn are_harmless(indexes: &[Index], count: usize) -> bool
 pub(crate) fn are_indexes(indexes: &[Index], tables: usize, keys: usize) -> bool
     requires tables { tables ≤ length all_tables }
     requires keys { keys ≤ length all_indexes }
-    ensures { Decides result (AreIndexes tables keys indexes.now) }
+    ensures { IsTrue result ↔ (AreIndexes tables keys indexes.now) }
 {
     indexes.len() >= keys
         && are_first_indexes(indexes, keys)

@@ -1,23 +1,28 @@
 //! What the tables have in common.
-ghost use Rattle.std.specs.Prelude.{◌≡◌, [], ◌∷◌, map, Some, None, false};
-ghost use Rattle.std.specs.Bool.{Decides};
+ghost use Rattle.std.specs.Prelude.{◌≡◌, [], ◌∷◌, map, Some, None, false, ◌↔◌, IsTrue};
 ghost use Rattle.atl_store.specs.Sets.{field, table};
 
 use crate::schema::columns::are_fields;
 use crate::schema::keys::{has_no_unique, is_numbered, is_under, is_unique};
-use crate::tables::Made;
+use crate::tables::TableDefinition;
 use sqlite_schema::schema::{Stamps, Table};
 
 /// No default reads the time.
 fn is_unstamped(stamps: &Stamps) -> bool
-    ensures { Decides result (stamps.now ≡ record { places = []; terms = []; formats = [] }) }
+    ensures { IsTrue result ↔ (stamps.now ≡ record { places = []; terms = []; formats = [] }) }
 {
     stamps.places.is_empty() && stamps.terms.roots.is_empty() && stamps.formats.is_empty()
 }
 
 /// No foreign key, no default that is computed, and no AUTOINCREMENT.
 fn is_without_more(found: &Table) -> bool
-    ensures { Decides result (found.now ≡ record found.now { references = []; computed = []; stamps = record { places = []; terms = []; formats = [] }; is_counted = false }) }
+    ensures { IsTrue result ↔
+        (found.now ≡ record found.now {
+          references = [];
+          computed = [];
+          stamps = record { places = []; terms = []; formats = [] };
+          is_counted = false;
+        }) }
 {
     found.references.is_empty()
         && found.computed.is_empty()
@@ -26,8 +31,11 @@ fn is_without_more(found: &Table) -> bool
 }
 
 /// A table of such columns, whatever its keys and checks are.
-pub(crate) fn is_strict(found: &Table, made: &Made) -> bool
-    ensures { Decides result (found.now ≡ record (table made.now.tree made.now.name.now (map (λ f. field f.0.now f.1) made.now.columns.now) found.now.key found.now.primary found.now.uniques found.now.checks) { orders = found.now.orders }) }
+pub(crate) fn is_strict(found: &Table, made: &TableDefinition) -> bool
+    ensures { IsTrue result ↔
+        (found.now ≡ record (table made.now.tree made.now.name.now
+        (map (λ f. field f.0.now f.1) made.now.columns.now) found.now.key found.now.primary
+        found.now.uniques found.now.checks) { orders = found.now.orders }) }
 {
     found.tree == made.tree
         && found.name.as_slice() == made.name
@@ -36,22 +44,29 @@ pub(crate) fn is_strict(found: &Table, made: &Made) -> bool
 }
 
 /// The same, without a check.
-fn is_unchecked(found: &Table, made: &Made) -> bool
-    ensures { Decides result (found.now ≡ record (table made.now.tree made.now.name.now (map (λ f. field f.0.now f.1) made.now.columns.now) found.now.key found.now.primary found.now.uniques []) { orders = found.now.orders }) }
+fn is_unchecked(found: &Table, made: &TableDefinition) -> bool
+    ensures { IsTrue result ↔
+        (found.now ≡ record (table made.now.tree made.now.name.now
+        (map (λ f. field f.0.now f.1) made.now.columns.now) found.now.key found.now.primary
+        found.now.uniques []) { orders = found.now.orders }) }
 {
     is_strict(found, made) && found.checks.roots.is_empty()
 }
 
 /// A table under the number of its rows, with nothing else unique and no check.
-pub(crate) fn is_simple(found: &Table, made: &Made) -> bool
-    ensures { Decides result (found.now ≡ table made.now.tree made.now.name.now (map (λ f. field f.0.now f.1) made.now.columns.now) (Some 0) (0 ∷ []) [] []) }
+pub(crate) fn is_simple(found: &Table, made: &TableDefinition) -> bool
+    ensures { IsTrue result ↔
+        (found.now ≡ table made.now.tree made.now.name.now
+        (map (λ f. field f.0.now f.1) made.now.columns.now) (Some 0) (0 ∷ []) [] []) }
 {
     is_unchecked(found, made) && is_numbered(found) && has_no_unique(found)
 }
 
 /// A table with a key of several columns, whose rows have no number of their own.
-pub(crate) fn is_keyed(found: &Table, made: &Made, key: &[usize]) -> bool
-    ensures { Decides result (found.now ≡ table made.now.tree made.now.name.now (map (λ f. field f.0.now f.1) made.now.columns.now) None key.now (key.now ∷ []) []) }
+pub(crate) fn is_keyed(found: &Table, made: &TableDefinition, key: &[usize]) -> bool
+    ensures { IsTrue result ↔
+        (found.now ≡ table made.now.tree made.now.name.now
+        (map (λ f. field f.0.now f.1) made.now.columns.now) None key.now (key.now ∷ []) []) }
 {
     is_unchecked(found, made) && is_under(found, key) && is_unique(found, key)
 }

@@ -1,4 +1,4 @@
-//! What a database holds, by statements of a person.
+//! Reads and changes what a database holds, by statements written by hand.
 use super::words::{done, text_of};
 use atl_test_worlds::month::ROWS;
 use sqlite::{Alter, Connection, params};

@@ -1,4 +1,4 @@
-//! What the steps of a script share next to the connection.
+//! The campaign that the steps of a script share, and a text that one step keeps for a later one.
 use super::campaigns::founded_by;
 use super::words::{done, yes_or_no};
 use atl_state::Campaign;

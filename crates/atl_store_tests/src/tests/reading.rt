@@ -1,4 +1,4 @@
-//! Tables that a person changed: what their read answers.
+//! Reading tables that a person changed by hand.
 use super::script::play_new;
 use std::test::Fail;
 

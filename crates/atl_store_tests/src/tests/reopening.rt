@@ -1,8 +1,8 @@
-//! A campaign is there again after a crash.
+//! Opening a campaign again after a crash.
 use super::game::new_game;
 use super::script::play;
 use super::stopped::{new_files, open};
-use atl_store::reopened;
+use atl_store::reopen_connection;
 use sqlite::{Connection, FileStore};
 use sqlite_disk::{Crash, Disk};
 use std::alloc::Global;
@@ -14,7 +14,7 @@ fn opened_again<D: Crash + Drop>(
     alloc: Global,
     conn: Connection<FileStore<D>>,
 ) -> Result<Connection<FileStore<D>>, Fail> {
-    Ok(reopened(alloc, conn)?)
+    Ok(reopen_connection(alloc, conn)?)
 }
 
 /// Asserts that what a crash leaves of a campaign as it is founded is this campaign.

@@ -7,7 +7,7 @@ use atl_state::parts::{
     StoredStructure, StoredUnit,
 };
 use atl_store::rows::campaign::StoredCampaign;
-use atl_store::rows::{Listed, Placed};
+use atl_store::rows::{HasSelect, RowWithId};
 use sqlite::{Alter, Connection};
 use std::alloc::{AllocError, Global};
 use std::test::Fail;
@@ -108,7 +108,7 @@ impl Line for StoredMarket {
     }
 }
 
-impl<T: Line> Line for Placed<T> {
+impl<T: Line> Line for RowWithId<T> {
     fn line(&self, alloc: Global) -> Result<String, AllocError> {
         self.row.line(alloc)
     }
@@ -130,7 +130,7 @@ fn lines<T: Line>(alloc: Global, rows: &[T]) -> Result<String, AllocError> {
 }
 
 /// The rows of a table, or the fault of their read.
-fn rows_of<T: Line + Listed, S: Alter>(
+fn rows_of<T: Line + HasSelect, S: Alter>(
     alloc: Global,
     conn: &mut Connection<S>,
 ) -> Result<String, Fail> {
@@ -154,12 +154,12 @@ pub(crate) fn read<S: Alter>(
         "faction" => rows_of::<StoredFaction, S>(alloc, conn),
         "region" => rows_of::<StoredRegion, S>(alloc, conn),
         "unit" => rows_of::<StoredUnit, S>(alloc, conn),
-        "has" => rows_of::<Placed<StoredHas>, S>(alloc, conn),
+        "has" => rows_of::<RowWithId<StoredHas>, S>(alloc, conn),
         "structure" => rows_of::<StoredStructure, S>(alloc, conn),
         "mail" => rows_of::<StoredMail, S>(alloc, conn),
         "report" => rows_of::<StoredReport, S>(alloc, conn),
-        "books" => rows_of::<Placed<StoredBooks>, S>(alloc, conn),
-        "market" => rows_of::<Placed<StoredMarket>, S>(alloc, conn),
+        "books" => rows_of::<RowWithId<StoredBooks>, S>(alloc, conn),
+        "market" => rows_of::<RowWithId<StoredMarket>, S>(alloc, conn),
         _ => Err(Fail::new("a table")),
     }
 }

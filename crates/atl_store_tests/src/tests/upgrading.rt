@@ -1,4 +1,4 @@
-//! Files of the first format are told as such, and upgraded.
+//! Files of the first format: they are recognized, and upgraded.
 use super::script::play_new;
 use std::alloc::Global;
 use std::process::Abort;

@@ -1,4 +1,4 @@
-//! Answers in words.
+//! Turns answers into words.
 use std::alloc::Global;
 use std::fmt::Display;
 use std::test::Fail;

@@ -2,12 +2,12 @@ use Rattle.std.proofs.Common.{◌+◌, ap, sym, ◌∙◌, drop}
 use Rattle.std.proofs.lemmas.List.{drop_more}
 use Rattle.std.specs.Prelude.{fold}
 use Rattle.atl_state.proofs.CoverLaws.{marks-trans}
-use Rattle.atl_action.specs.Sail.{taken_along}
+use Rattle.atl_action.specs.Sail.{with_unit_aboard}
 use Rattle.atl_action.proofs.sail.take_all.Goals as goal
 
 pub loop-unit-preserved : goal.loop-unit-preserved
 loop-unit-preserved c =
-    let one = taken_along c.args.ship c.args.to in
+    let one = with_unit_aboard c.args.ship c.args.to in
     let xs = c.args.units.now in
     let i = c.loop-unit.unit-index in
     let before = c.loop-unit.campaign.value in

@@ -4,12 +4,12 @@ use Rattle.std.proofs.lemmas.List.{append-nil}
 use Rattle.std.specs.Prelude.{fold, unwrap_or}
 use Rattle.std.specs.Ordering.{nat_cmp}
 use Rattle.std.specs.FinMap.{empty, get-empty}
-use Rattle.atl_records.specs.Held.{amount_of}
+use Rattle.atl_records.specs.Holdings.{amount_of}
 use Rattle.atl_instant.specs.Month.{MonthValue, with_events}
 use Rattle.atl_instant.specs.PhaseOrders.{orders_by_unit, task_of}
-use Rattle.atl_instant.specs.declared.written.Written.{Written}
+use Rattle.atl_instant.specs.declared.phase_order.PhaseOrder.{PhaseOrder}
 use Rattle.atl_instant.proofs.FoldLaws.{fold_behind, fold_ended, fold_mapped}
-use Rattle.atl_action.specs.Teach.{Taught, is_teaching, taught_out, teach_order}
+use Rattle.atl_action.specs.Teach.{TaughtMen, after_lessons, is_teaching, teach_order}
 use Rattle.atl_action.proofs.teach.teach_all.Goals as goal
 
 -- before the first lesson nobody is taught
@@ -27,20 +27,20 @@ loop-order-init c =
 pub loop-order-preserved : goal.loop-order-preserved
 loop-order-preserved c =
     let step = teach_order c.args.campaign.now.value c.args.learning.now in
-    let before : Taught × MonthValue = (amount_of c.loop-order.taught, with_events c.args.month.now c.loop-order.events.items) in
-    let one = λ (p : Taught × MonthValue) (x : Written). step p (task_of x) in
+    let before : TaughtMen × MonthValue = (amount_of c.loop-order.taught, with_events c.args.month.now c.loop-order.events.items) in
+    let one = λ (p : TaughtMen × MonthValue) (x : PhaseOrder). step p (task_of x) in
     fold_behind one c.deref-order-items.result.now c.loop-order.order-index c.order-item.result before c.loop-order-test.true (c.in_ok-teach_one.ensures ∙ ap (one before) c.order-item.is) c.loop-order.invariant
 
 pub returns-clause-meaning : goal.returns-clause-meaning
-unfolding taught_out
+unfolding after_lessons
 returns-clause-meaning c =
     let step = teach_order c.args.campaign.now.value c.args.learning.now in
     let m = c.args.month.now in
     let xs = c.deref-order-items.result.now in
-    let start : Taught × MonthValue = ((λ n. 0), with_events m []) in
-    let behind : Taught × MonthValue = (amount_of c.loop-order.taught, with_events m c.loop-order.events.items) in
+    let start : TaughtMen × MonthValue = ((λ n. 0), with_events m []) in
+    let behind : TaughtMen × MonthValue = (amount_of c.loop-order.taught, with_events m c.loop-order.events.items) in
     let none : start ≡ ((λ n. 0), m) = ap (λ es. ((λ n. 0), record m { events = es })) (append-nil m.events) in
-    ap (λ n. (amount_of c.loop-order.taught, n)) c.in_ok-tell_all.ensures
+    ap (λ n. (amount_of c.loop-order.taught, n)) c.in_ok-add_events.ensures
     ∙ ap (λ es. (amount_of c.loop-order.taught, with_events m es)) c.deref.ensures.value
     ∙ fold_ended (λ p o. step p (task_of o)) xs c.loop-order.order-index behind (omega (arith, c.loop-order-test.false)) c.loop-order.invariant
     ∙ fold_mapped step task_of start xs

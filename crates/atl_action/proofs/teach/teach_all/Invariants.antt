@@ -1,6 +1,6 @@
 use Rattle.std.proofs.Common.{◌≡◌, [], drop}
 use Rattle.std.specs.Prelude.{fold}
-use Rattle.atl_records.specs.Held.{amount_of}
+use Rattle.atl_records.specs.Holdings.{amount_of}
 use Rattle.atl_instant.specs.Month.{with_events}
 use Rattle.atl_instant.specs.PhaseOrders.{task_of}
 use Rattle.atl_action.specs.Teach.{teach_order}

@@ -1,17 +1,17 @@
 use Rattle.std.proofs.Common.{◌≡◌, ◌≤◌, ◌+◌, ◌-◌, ℕ, drop, min, sum_by}
 use Rattle.std.specs.Prelude.{nat_eq}
 use Rattle.std.specs.List.{IsDistinct}
-use Rattle.atl_records.specs.Held.{amount_of}
-use Rattle.atl_action.specs.Teach.{taught_now, untaught}
+use Rattle.atl_records.specs.Holdings.{amount_of}
+use Rattle.atl_action.specs.Teach.{taught_in_lesson, untaught_men}
 use Rattle.atl_action.proofs.teach.teach_men.Given as goal
 
 abbrev pub invariant-loop-unit : goal.invariant-loop-unit
 invariant-loop-unit l = record {
   taught : (k : ℕ) →
-      amount_of l.taught k + taught_now l.campaign.value (amount_of l.taught) l.left (drop l.unit-index l.units) k
-      ≡ amount_of l.fn.taught k + taught_now l.campaign.value (amount_of l.fn.taught) l.places l.units k;
-  men : (l.places - l.left) + min (sum_by (untaught l.campaign.value (amount_of l.taught)) (drop l.unit-index l.units)) l.left
-      ≡ min (sum_by (untaught l.campaign.value (amount_of l.fn.taught)) l.units) l.places;
+      amount_of l.taught k + taught_in_lesson l.campaign.value (amount_of l.taught) l.left (drop l.unit-index l.units) k
+      ≡ amount_of l.fn.taught k + taught_in_lesson l.campaign.value (amount_of l.fn.taught) l.places l.units k;
+  men : (l.places - l.left) + min (sum_by (untaught_men l.campaign.value (amount_of l.taught)) (drop l.unit-index l.units)) l.left
+      ≡ min (sum_by (untaught_men l.campaign.value (amount_of l.fn.taught)) l.units) l.places;
   left : l.left ≤ l.places;
   distinct : IsDistinct nat_eq (drop l.unit-index l.units);
 }

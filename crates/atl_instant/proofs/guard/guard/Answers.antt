@@ -1,6 +1,6 @@
 use Rattle.std.proofs.Common.{sym}
 use Rattle.atl_instant.proofs.GuardingLaws.{flag_marks}
-use Rattle.atl_instant.proofs.HolderLaws.{can_guard, holders_set}
+use Rattle.atl_instant.proofs.RegionGuardLaws.{can_guard, holders_set}
 use Rattle.atl_instant.proofs.guard.guard.Goals as goal
 
 pub returns-clause-held : goal.returns-clause-held

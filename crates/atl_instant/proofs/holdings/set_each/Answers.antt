@@ -3,7 +3,7 @@ use Rattle.std.proofs.Math.ListN.{drop_of_length-le}
 use Rattle.std.proofs.lemmas.List.{drop_more}
 use Rattle.atl_records.specs.declared.records.Unit.{Unit}
 use Rattle.atl_state.specs.Campaign.{CampaignValue, unit_changed}
-use Rattle.atl_records.specs.Held.{with_amount_of}
+use Rattle.atl_records.specs.Holdings.{with_amount_of}
 use Rattle.atl_state.specs.Marks.{Marks}
 use Rattle.atl_state.proofs.CoverLaws.{marks-refl, marks-trans}
 use Rattle.atl_instant.specs.Holdings.{with_days}

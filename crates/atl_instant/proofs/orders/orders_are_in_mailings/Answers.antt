@@ -1,4 +1,4 @@
-use Rattle.atl_instant.proofs.WrittenLaws as laws
+use Rattle.atl_instant.proofs.PhaseOrderLaws as laws
 use Rattle.atl_instant.proofs.orders.orders_are_in_mailings.Goals as goal
 
 pub returns : goal.returns

@@ -2,14 +2,14 @@ use Rattle.std.proofs.Common.{◌≡◌, ◌+◌, ℕ, drop, get_or, arith}
 use Rattle.atl_records.specs.declared.books.Thing.TheVariants.{Item}
 use Rattle.atl_state.specs.Founding.{things_of}
 use Rattle.atl_state.proofs.CoverLaws.{marks-trans}
-use Rattle.atl_instant.specs.Quit.{item_gone}
+use Rattle.atl_instant.specs.Quit.{with_item_loss}
 use Rattle.atl_instant.proofs.FoldLaws.{fold_behind}
 use Rattle.atl_instant.proofs.QuitLaws.{gone_grid, gone_marks, known_ahead, next_room, rest_room, room_ahead}
 use Rattle.atl_instant.proofs.quit.book_items.Goals as goal
 use Rattle.atl_instant.specs.LostItems.{moving_items}
 
-pub book_gone-requires-clause-room : goal.book_gone-requires-clause-room
-book_gone-requires-clause-room c = next_room c.args.items.now c.loop-item.item-index c.loop-item.campaign.value c.loop-item-test.true c.loop-item.invariant.room
+pub book_loss-requires-clause-room : goal.book_loss-requires-clause-room
+book_loss-requires-clause-room c = next_room c.args.items.now c.loop-item.item-index c.loop-item.campaign.value c.loop-item-test.true c.loop-item.invariant.room
 
 pub loop-item-preserved : goal.loop-item-preserved
 loop-item-preserved c =
@@ -20,14 +20,14 @@ loop-item-preserved c =
     let before = c.loop-item.campaign.value in
     let old = c.loop-item.invariant in
     let known = known_ahead w list i c.loop-item-test.true old.known in
-    let is : c.book_gone.new.campaign.value ≡ item_gone before x = c.book_gone.ensures.what in
+    let is : c.book_loss.new.campaign.value ≡ with_item_loss before x = c.book_loss.ensures.what in
     record {
-      rest = fold_behind item_gone list i (0, 0) before c.loop-item-test.true is old.rest;
+      rest = fold_behind with_item_loss list i (0, 0) before c.loop-item-test.true is old.rest;
       grid = rw is (gone_grid (things_of w) before (Item x.0) x.1 old.grid);
       known = known.1;
       room =
           rw is (rest_room (things_of w) (Item x.0) x.1 (moving_items (drop (i + 1) list)) before old.grid (omega (arith, known.0))
           (room_ahead list i before c.loop-item-test.true old.room));
-      marks = marks-trans c.args.campaign.now c.loop-item.campaign c.book_gone.new.campaign old.marks
-          (gone_marks (things_of w) c.loop-item.campaign c.book_gone.new.campaign (Item x.0) x.1 old.grid (omega (arith, known.0)) c.book_gone.ensures.what c.book_gone.ensures.marks);
+      marks = marks-trans c.args.campaign.now c.loop-item.campaign c.book_loss.new.campaign old.marks
+          (gone_marks (things_of w) c.loop-item.campaign c.book_loss.new.campaign (Item x.0) x.1 old.grid (omega (arith, known.0)) c.book_loss.ensures.what c.book_loss.ensures.marks);
     }

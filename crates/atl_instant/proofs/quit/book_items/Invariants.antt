@@ -5,13 +5,13 @@ use Rattle.atl_state.specs.Covers.{MarksChanges}
 use Rattle.atl_records.specs.Every.{EachOf}
 use Rattle.atl_state.specs.Founding.{things_of}
 use Rattle.atl_instant.specs.Meaning.{HaveRoom}
-use Rattle.atl_instant.specs.Quit.{item_gone}
+use Rattle.atl_instant.specs.Quit.{with_item_loss}
 use Rattle.atl_instant.proofs.quit.book_items.Given as goal
 use Rattle.atl_instant.specs.LostItems.{moving_items}
 
 abbrev pub invariant-loop-item : goal.invariant-loop-item
 invariant-loop-item l = record {
-  rest : fold item_gone l.campaign.value (drop l.item-index l.items) ≡ fold item_gone l.initial.campaign.value l.items;
+  rest : fold with_item_loss l.campaign.value (drop l.item-index l.items) ≡ fold with_item_loss l.initial.campaign.value l.items;
   grid : IsGrid (things_of l.world) l.campaign.value.books;
   known : EachOf (λ i amount. i < length l.world.items) (drop l.item-index l.items);
   room : HaveRoom (moving_items (drop l.item-index l.items)) l.campaign.value;

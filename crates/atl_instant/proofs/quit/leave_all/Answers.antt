@@ -1,9 +1,9 @@
 use Rattle.std.proofs.Common.{◌≡◌, ℕ, get_or}
 use Rattle.atl_state.proofs.CoverLaws.{marks-trans}
-use Rattle.atl_instant.specs.Quit.{left_at}
+use Rattle.atl_instant.specs.Quit.{after_leaving}
 use Rattle.atl_instant.proofs.FoldLaws.{fold_behind}
 use Rattle.atl_instant.proofs.QuitLaws.{left_well}
-use Rattle.atl_instant.proofs.StepLaws.{room_left}
+use Rattle.atl_instant.proofs.OrderEffectLaws.{room_left}
 use Rattle.atl_instant.proofs.quit.leave_all.Goals as goal
 
 pub loop-number-preserved : goal.loop-number-preserved
@@ -12,11 +12,11 @@ loop-number-preserved c =
     let n : ℕ = get_or c.args.numbers.now c.loop-number.number-index 0 in
     let before = c.loop-number.campaign.value in
     let old = c.loop-number.invariant in
-    let is : c.leave.new.campaign.value ≡ left_at before n = c.in_ok-leave.ensures.what in
+    let is : c.leave.new.campaign.value ≡ after_leaving before n = c.in_ok-leave.ensures.what in
     let well = left_well w before n old.steady in
     record {
-      rest = fold_behind left_at c.args.numbers.now c.loop-number.number-index 0 before c.loop-number-test.true is old.rest;
+      rest = fold_behind after_leaving c.args.numbers.now c.loop-number.number-index 0 before c.loop-number-test.true is old.rest;
       steady = rw is well.holds_still;
-      room = rw is (room_left w before (left_at before n) well old.room);
+      room = rw is (room_left w before (after_leaving before n) well old.room);
       marks = marks-trans c.args.campaign.now c.loop-number.campaign c.leave.new.campaign old.marks c.in_ok-leave.ensures.marks;
     }

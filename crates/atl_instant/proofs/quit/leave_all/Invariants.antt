@@ -3,12 +3,12 @@ use Rattle.std.specs.Prelude.{fold}
 use Rattle.atl_state.specs.Covers.{MarksChanges}
 use Rattle.atl_state.specs.Good.{IsSteady}
 use Rattle.atl_instant.specs.Meaning.{HaveRoom}
-use Rattle.atl_instant.specs.Quit.{left_at, quit_reserve}
+use Rattle.atl_instant.specs.Quit.{after_leaving, quit_reserve}
 use Rattle.atl_instant.proofs.quit.leave_all.Given as goal
 
 abbrev pub invariant-loop-number : goal.invariant-loop-number
 invariant-loop-number l = record {
-  rest : fold left_at l.campaign.value (drop l.number-index l.numbers) ≡ fold left_at l.initial.campaign.value l.numbers;
+  rest : fold after_leaving l.campaign.value (drop l.number-index l.numbers) ≡ fold after_leaving l.initial.campaign.value l.numbers;
   steady : IsSteady l.world l.campaign.value;
   room : HaveRoom (quit_reserve l.campaign.value) l.campaign.value;
   marks : MarksChanges l.initial.campaign l.campaign;

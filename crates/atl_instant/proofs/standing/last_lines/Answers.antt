@@ -1,7 +1,8 @@
 use Rattle.std.proofs.Common.{◌≡◌, ◌+◌, ◌<◌, max, sym, ap, ◌∙◌, rules, length, drop, map, get_or}
-use Rattle.atl_orders.specs.Mailing.{entry_said}
-use Rattle.atl_instant.specs.PhaseOrders.{slot_number, slot_of, last_line, tasks_from}
-use Rattle.atl_instant.specs.Collecting.{line_in, with_line}
+use Rattle.atl_orders.specs.Mailing.{entry_value}
+use Rattle.atl_orders.specs.Verbs.{Row}
+use Rattle.atl_instant.specs.PhaseOrders.{slot_number, last_line, tasks_from}
+use Rattle.atl_instant.specs.OrderIndices.{line_in, with_line}
 use Rattle.atl_instant.proofs.StandingLaws as laws
 use Rattle.atl_instant.proofs.standing.last_lines.Goals as goal
 use Rattle.atl_instant.proofs.standing.last_lines.Goals.{in-Some+in_ok-note, in_default}
@@ -17,9 +18,9 @@ loop-entry-preserved c slot unit =
     let lines = c.loop-entry.lines in
     let inside : i < length m.entries = search rules in
     let at : e ≡ get_or m.entries i e = c.entry-item.is ∙ ap (λ es. get_or es i e) c.as_slice-entry-items.ensures in
-    let in_slot = sym (c.slot_of.ensures ∙ ap slot_of c.verb.ensures) in
-    let rest = last_line slot unit (tasks_from c.args.aliases.now m.faction (i + 1) (map (entry_said m.text) (drop (i + 1) m.entries))) in
-    elim c.match-slot_of.branch [
+    let in_slot = sym (ap (λ (r : Row). r.slot) c.row.ensures) in
+    let rest = last_line slot unit (tasks_from c.args.aliases.now m.faction (i + 1) (map (entry_value m.text) (drop (i + 1) m.entries))) in
+    elim c.match-row.branch [
       | in-Some+in_ok-note w ↦
           ap (λ l. max (line_in l (slot_number slot) unit) rest) (w.lines-is ∙ w.in_ok-note.ensures ∙ ap (λ n. with_line lines (slot_number w.in-Some.slot) n e.line) w.unit_of-unit.ensures)
           ∙ laws.noted slot c.args.aliases.now m.faction m.text m.entries i e lines w.in-Some.slot unit inside at (in_slot ∙ w.in-Some.is)

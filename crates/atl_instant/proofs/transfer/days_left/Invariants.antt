@@ -1,7 +1,7 @@
 use Rattle.std.proofs.Common.{◌≡◌, ◌≤◌, ◌-◌, ◌*◌, ◌++◌, map}
 use Rattle.atl_records.specs.Every.{EachOf}
 use Rattle.atl_records.specs.Limits.{most_days}
-use Rattle.atl_instant.specs.Raising.{left_list}
+use Rattle.atl_instant.specs.SkillDays.{left_list}
 use Rattle.atl_instant.specs.Transfer.{days_going}
 use Rattle.atl_instant.proofs.transfer.days_left.Given as goal
 

@@ -1,8 +1,8 @@
 use Rattle.std.proofs.Common.{◌≡◌, ◌≤◌, ◌+◌, ◌*◌, ◌++◌, map}
 use Rattle.atl_records.specs.Every.{EachOf}
-use Rattle.atl_records.specs.Held.{amount_of}
+use Rattle.atl_records.specs.Holdings.{amount_of}
 use Rattle.atl_records.specs.Limits.{most_days}
-use Rattle.atl_instant.specs.Raising.{raised_list}
+use Rattle.atl_instant.specs.SkillDays.{raised_list}
 use Rattle.atl_instant.specs.Transfer.{days_going}
 use Rattle.atl_instant.proofs.transfer.days_raised.Given as goal
 

@@ -2,7 +2,7 @@ use Rattle.std.proofs.Common.{◌≡◌, ℕ, ◌≤◌, ◌+◌, ◌-◌, Some,
 use Rattle.std.proofs.lemmas.Result.{on_ok_weaker}
 use Rattle.std.specs.FinMap.{get}
 use Rattle.atl_records.specs.Every.{Every}
-use Rattle.atl_records.specs.Held.{Held}
+use Rattle.atl_records.specs.Holdings.{HoldingValue}
 use Rattle.atl_records.specs.declared.records.Unit.{Unit}
 use Rattle.atl_state.proofs.CoverLaws.{marks-trans}
 use Rattle.atl_instant.specs.Holdings.{with_days}
@@ -22,8 +22,8 @@ returns c =
     let sender = sym c.in-Some-Some.ensures in
     let receiver = sym c.in-Some-Some.ensures' in
     let listed : (x : Unit) (n : ℕ) → get before.value.units n ≡ Some x → Every (λ s days. 1 ≤ days) x.holding.days = (λ x n is s days there. (c.requires.days n x is s days there).0) in
-    let h : Held = record u.holding { men = c.men.result - c.args.going; days = with_days u.holding.days c.deref.result.now } in
-    let k : Held = record v.holding { men = c.men-2.result + c.args.going; days = with_days v.holding.days c.deref-2.result.now } in
+    let h : HoldingValue = record u.holding { men = c.men.result - c.args.going; days = with_days u.holding.days c.deref.result.now } in
+    let k : HoldingValue = record v.holding { men = c.men-2.result + c.args.going; days = with_days v.holding.days c.deref-2.result.now } in
     let h_is : h ≡ with_fewer c.args.going u.holding = rw (c.men.ensures.value, c.deref.ensures.value, c.in_ok-left.ensures) (fewer_is c.args.going u.holding (listed u c.args.from sender)) in
     let k_is : k ≡ with_more c.args.going u.holding v.holding = rw (c.men-2.ensures.value, c.deref-2.ensures.value, c.in_ok-raised.ensures) (more_is c.args.going u.holding v.holding (listed v c.args.to receiver)) in
     let one = c.in_ok-set_people.ensures.what in

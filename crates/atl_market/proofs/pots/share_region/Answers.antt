@@ -2,7 +2,7 @@ use Rattle.std.proofs.Common.{◌≡◌, false, is_some, List, [], ◌∷◌, ma
 use Rattle.std.specs.List.{zip}
 use Rattle.std.specs.FinMap.{get}
 use Rattle.atl_market.proofs.PotLaws.{none_asked}
-use Rattle.atl_market.specs.Asked.{regions_asked}
+use Rattle.atl_market.specs.RegionsWithWants.{regions_with_wants}
 use Rattle.atl_market.specs.Pots.{takers_in, want_of}
 use Rattle.atl_market.specs.Puts.{with_each}
 use Rattle.atl_market.specs.Share.{shares}
@@ -20,6 +20,6 @@ returns-then-is_empty g c =
 
 pub returns-then-is_none : goal.returns-then-is_none
 returns-then-is_none g c =
-    let free : is_some (get (regions_asked c.args.wants.now c.args.campaign.now.value) c.args.region) ≡ false = search rules in
+    let free : is_some (get (regions_with_wants c.args.wants.now c.args.campaign.now.value) c.args.region) ≡ false = search rules in
     let none : takers_in c.args.wants.now c.args.campaign.now.value.units c.args.region ≡ [] = none_asked c.args.wants.now c.args.campaign.now.value c.args.region free in
     ap (λ takers. with_each c.args.given.now (zip takers (shares (g.P.Pots.pot_of c.args.pots.now c.args.region) (map (want_of c.args.wants.now) takers)))) (sym none)

@@ -1,4 +1,4 @@
-use Rattle.atl_market.proofs.PaidLaws as laws
+use Rattle.atl_market.proofs.AfterPotsLaws as laws
 use Rattle.atl_market.proofs.tax.tax_pays_all_at_once.Goals as goal
 
 pub returns : goal.returns

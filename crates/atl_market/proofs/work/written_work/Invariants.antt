@@ -1,10 +1,9 @@
 use Rattle.std.proofs.Common.{◌≡◌, ◌++◌, drop, filter, map}
-use Rattle.atl_orders.specs.Orders.{verb_of_order}
 use Rattle.atl_instant.specs.PhaseOrders.{task_of}
 use Rattle.atl_market.specs.Work.{is_work}
 use Rattle.atl_market.proofs.work.written_work.Given as goal
 
 abbrev pub invariant-loop-order : goal.invariant-loop-order
 invariant-loop-order l =
-    map task_of l.list.items ++ filter (λ t. is_work (verb_of_order t.said)) (map task_of (drop l.order-index l.orders))
-    ≡ filter (λ t. is_work (verb_of_order t.said)) (map task_of l.orders)
+    map task_of l.list.items ++ filter (λ t. is_work t.order_value.verb) (map task_of (drop l.order-index l.orders))
+    ≡ filter (λ t. is_work t.order_value.verb) (map task_of l.orders)

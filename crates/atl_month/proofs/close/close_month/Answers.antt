@@ -3,7 +3,7 @@ use Rattle.std.proofs.lemmas.List.Elements.{recursion_from_All}
 use Rattle.atl_orders.specs.Mailing.{IsReadWith, reading_of}
 use Rattle.atl_instant.specs.Fit.{AreFit}
 use Rattle.atl_instant.specs.Month.{MonthValue, by_faction}
-use Rattle.atl_month.specs.Month.{begun, month_keeps, phases_moving}
+use Rattle.atl_month.specs.Month.{month_keeps, new_month, phases_moving}
 use Rattle.atl_month.proofs.MonthLaws.{books_near, factions_stay, finished_good, month_is}
 use Rattle.atl_instant.proofs.FitLaws.{read_fit}
 use Rattle.atl_month.proofs.MoveLaws.{phases_little}
@@ -24,7 +24,7 @@ returns-clause-books c = books_near c.args.world.now c.args.campaign.value c.in_
 
 pub returns-clause-keeps : goal.returns-clause-keeps
 returns-clause-keeps c =
-    let is : c.new-month.result ≡ begun (by_faction (map reading_of c.args.mailings.items)) c.args.words.now = search rules in
+    let is : c.new-month.result ≡ new_month (by_faction (map reading_of c.args.mailings.items)) c.args.words.now = search rules in
     subst (λ (m : MonthValue). month_keeps c.args.world.now m c.args.campaign.value c.in_ok-campaign.campaign.value) is c.in_ok-campaign.ensures.keeps
 
 pub run_phases-requires-clause-read : goal.run_phases-requires-clause-read
@@ -36,7 +36,7 @@ run_phases-requires-clause-read c =
 
 pub returns-clause-definition : goal.returns-clause-definition
 returns-clause-definition c =
-    let is : c.new-month.result ≡ begun (by_faction (map reading_of c.args.mailings.items)) c.args.words.now = search rules in
+    let is : c.new-month.result ≡ new_month (by_faction (map reading_of c.args.mailings.items)) c.args.words.now = search rules in
     month_is c.args.world.now c.args.campaign.value c.in_ok-campaign.campaign.value c.new-month.result c.in_ok-campaign.month (by_faction (map reading_of c.args.mailings.items)) c.args.words.now c.into_events.result.items
     c.in_ok-campaign.ensures.meaning is c.into_events.ensures
 

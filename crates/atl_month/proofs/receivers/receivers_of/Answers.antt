@@ -5,7 +5,7 @@ use Rattle.atl_records.specs.declared.records.Unit.{Unit}
 use Rattle.atl_records.specs.Every.{EachOf}
 use Rattle.atl_state.specs.Owners.{first_or_zero}
 use Rattle.atl_records.proofs.EveryLaws.{each-from_every}
-use Rattle.atl_month.specs.Receivers.{or_if_zero, receiver_in, receiver_noted}
+use Rattle.atl_month.specs.Receivers.{or_if_zero, receiver_in, with_receiver_of}
 use Rattle.atl_month.specs.Sweep.{receives}
 use Rattle.atl_month.proofs.ReceiverLaws.{all_noted, noted_goes_on, nothing_noted}
 use Rattle.atl_month.proofs.receivers.receivers_of.Goals as goal
@@ -28,7 +28,7 @@ loop-number-preserved c =
     let u = c.in-Some.unit.now in
     let listed : c.loop-number.number-iterator ≡ (n, u) ∷ c.next.new.self = search rules in
     let least : EachOf (λ n u. 1 ≤ n) ((n, u) ∷ c.next.new.self) = subst (λ (l : List (ℕ × Unit)). EachOf (λ n u. 1 ≤ n) l) listed low in
-    let is : c.note.new.receivers ≡ receiver_noted before n u = search rules in (
+    let is : c.note.new.receivers ≡ with_receiver_of before n u = search rules in (
       tt,
       tt,
       (λ r f. rw is (noted_goes_on before n u c.next.new.self least.0 r f ∙ ap (λ (l : List (ℕ × Unit)). or_if_zero (receiver_in before r f) (first_or_zero (numbers_among (receives r f) l))) (sym listed) ∙ rest r f)),

@@ -8,7 +8,7 @@ use Rattle.atl_state.proofs.CoverLaws.{marks-refl, marks-trans}
 use Rattle.atl_records.proofs.EveryLaws.{sorted}
 use Rattle.atl_instant.specs.Meaning.{HaveRoom}
 use Rattle.atl_instant.proofs.MeaningLaws.{room_less}
-use Rattle.atl_month.specs.Restock.{market_restocked, restocked, stocks_by}
+use Rattle.atl_month.specs.Restock.{after_market_restock, after_restock, stocks_by}
 use Rattle.atl_month.proofs.RestockLaws.{IsOf, markets_are, markets_there, none_of, one_leaves_well, room_behind_market, room_for_market, stocking, stocks_little}
 use Rattle.atl_month.proofs.restock.restock_region.Goals as goal
 
@@ -26,7 +26,7 @@ loop-item-init c =
     record {
       can_next = tt;
       is_finite = tt;
-      rest = ap (restocked n before.value) (listed ∙ ap (λ m. entries m) (sym (markets_there w c.region.ensures.world n plan there)));
+      rest = ap (after_restock n before.value) (listed ∙ ap (λ m. entries m) (sym (markets_there w c.region.ensures.world n plan there)));
       each = subst (EachOf (IsOf w n)) (sym listed) (markets_are w c.region.ensures.world n plan there);
       steady = c.requires.steady;
       room =
@@ -51,11 +51,11 @@ loop-item-preserved c =
     let there : IsThere w.regions n = (c.in-Some.plan.now, sym c.in-Some.ensures.value) in
     let each = subst (EachOf (IsOf w n)) c.in-Some-2.ensures.steps old.each in
     let room = subst (λ (es : List (ℕ × Market)). HaveRoom (stocking es) before) c.in-Some-2.ensures.steps old.room in
-    let is : c.restock_market.new.campaign.value ≡ market_restocked n before x = c.in_ok-restock_market.ensures.what in
+    let is : c.restock_market.new.campaign.value ≡ after_market_restock n before x = c.in_ok-restock_market.ensures.what in
     record {
       can_next = tt;
       is_finite = tt;
-      rest = ap (λ s. fold (market_restocked n) s rest) is ∙ sym (ap (fold (market_restocked n) before) c.in-Some-2.ensures.steps) ∙ old.rest;
+      rest = ap (λ s. fold (after_market_restock n) s rest) is ∙ sym (ap (fold (after_market_restock n) before) c.in-Some-2.ensures.steps) ∙ old.rest;
       each = each.1;
       steady = rw is (one_leaves_well w n there before x each.0 old.steady).leaves_it;
       room = rw is (room_behind_market w n there x rest before each.0 old.steady room);

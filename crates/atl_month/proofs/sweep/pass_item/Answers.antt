@@ -18,7 +18,7 @@ lose-requires c =
       there = rw books (omega (arith, c.requires.steady.numbers.books.rows, c.requires.known));
       room =
           rw books
-          (less_room (c.args.amount - c.taken_of-taken.result) c.args.amount (amount_in c.args.campaign.now.value.books Lost (Item c.args.item))
+          (less_room (c.args.amount - c.accepted_of-taken.result) c.args.amount (amount_in c.args.campaign.now.value.books Lost (Item c.args.item))
           (omega arith) c.requires.room);
     }
 
@@ -28,14 +28,14 @@ returns-in_ok-set_item-in-Some c =
     let there = sym c.in-Some.ensures in
     let old = c.args.campaign.now in
     let mid = c.set_item.new.self in
-    let have = c.amount-have.result + c.taken_of-taken.result in
+    let have = c.amount-have.result + c.accepted_of-taken.result in
     let set = item_changes old mid c.args.to c.from-number.result have c.in_ok-set_item-in-Some.ensures.ok c.in_ok-set_item-in-Some.ensures.marks in
     record {
       what =
-          rw (c.lose.ensures.what, c.in_ok-set_item-in-Some.ensures.ok, c.taken_of-taken.ensures, c.amount-have.ensures, c.from-number.ensures)
+          rw (c.lose.ensures.what, c.in_ok-set_item-in-Some.ensures.ok, c.accepted_of-taken.ensures, c.amount-have.ensures, c.from-number.ensures)
           (passed_item_is old.value c.args.to c.args.item c.args.amount u there);
       marks =
-          booked_marks (things_of c.args.world.now) old mid c.lose.new.campaign Lost (Item c.args.item) (neg_ℤ (pos (c.args.amount - c.taken_of-taken.result))) set.marks
+          booked_marks (things_of c.args.world.now) old mid c.lose.new.campaign Lost (Item c.args.item) (neg_ℤ (pos (c.args.amount - c.accepted_of-taken.result))) set.marks
           (rw (ap (λ (s : CampaignValue). s.books) set.value) c.requires.steady.numbers.books) (omega (arith, c.requires.known)) c.lose.ensures.what c.lose.ensures.marks;
     }
 

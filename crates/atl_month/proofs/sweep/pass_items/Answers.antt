@@ -2,7 +2,7 @@ use Rattle.std.proofs.Common.{◌≡◌, ◌+◌, ℕ, drop, get_or}
 use Rattle.atl_state.proofs.CoverLaws.{marks-trans}
 use Rattle.atl_instant.proofs.FoldLaws.{fold_behind}
 use Rattle.atl_instant.proofs.QuitLaws.{known_ahead, next_room, room_ahead}
-use Rattle.atl_month.specs.Sweep.{passed_item}
+use Rattle.atl_month.specs.Sweep.{after_passing_item}
 use Rattle.atl_month.proofs.SweepRunLaws.{item_passes, rest_room}
 use Rattle.atl_month.proofs.sweep.pass_items.Goals as goal
 
@@ -19,9 +19,9 @@ loop-item-preserved c =
     let before = c.loop-item.campaign.value in
     let old = c.loop-item.invariant in
     let known = known_ahead w list i c.loop-item-test.true old.known in
-    let is : c.pass_item.new.campaign.value ≡ passed_item to before x = c.in_ok-pass_item.ensures.what in
+    let is : c.pass_item.new.campaign.value ≡ after_passing_item to before x = c.in_ok-pass_item.ensures.what in
     record {
-      rest = fold_behind (passed_item to) list i (0, 0) before c.loop-item-test.true is old.rest;
+      rest = fold_behind (after_passing_item to) list i (0, 0) before c.loop-item-test.true is old.rest;
       steady = rw is (item_passes w before old.steady to x.0 x.1 known.0).steady;
       known = known.1;
       room =

@@ -5,12 +5,12 @@ use Rattle.atl_records.specs.Every.{EachOf}
 use Rattle.atl_state.specs.Good.{IsSteady}
 use Rattle.atl_instant.specs.Meaning.{HaveRoom}
 use Rattle.atl_instant.specs.LostItems.{moving_items}
-use Rattle.atl_month.specs.Sweep.{passed_item}
+use Rattle.atl_month.specs.Sweep.{after_passing_item}
 use Rattle.atl_month.proofs.sweep.pass_items.Given as goal
 
 abbrev pub invariant-loop-item : goal.invariant-loop-item
 invariant-loop-item l = record {
-  rest : fold (passed_item l.to) l.campaign.value (drop l.item-index l.items) ≡ fold (passed_item l.to) l.initial.campaign.value l.items;
+  rest : fold (after_passing_item l.to) l.campaign.value (drop l.item-index l.items) ≡ fold (after_passing_item l.to) l.initial.campaign.value l.items;
   steady : IsSteady l.world l.campaign.value;
   known : EachOf (λ i amount. i < length l.world.items) (drop l.item-index l.items);
   room : HaveRoom (moving_items (drop l.item-index l.items)) l.campaign.value;

@@ -6,7 +6,7 @@ use Rattle.atl_month.proofs.sweep.pass_money.Goals as goal
 pub returns-in-Some-clause-marks : goal.returns-in-Some-clause-marks
 returns-in-Some-clause-marks c =
     let (things, two, grid) = c.requires.grid in
-    money_marks things _ (c.args.amount - c.taken_of-taken.result) c.args.to c.args.campaign.now c.set_money.new.self c.lose.new.campaign
+    money_marks things _ (c.args.amount - c.accepted_of-taken.result) c.args.to c.args.campaign.now c.set_money.new.self c.lose.new.campaign
     c.set_money.ensures.what c.set_money.ensures.marks c.lose.ensures.what c.lose.ensures.marks grid two
 
 pub returns-in-None-clause-marks : goal.returns-in-None-clause-marks

@@ -1,10 +1,10 @@
 use Rattle.atl_state.proofs.CoverLaws.{marks-trans}
 use Rattle.atl_instant.proofs.FoldLaws.{fold_behind}
-use Rattle.atl_month.specs.Sweep.{faction_swept}
+use Rattle.atl_month.specs.Sweep.{after_sweeping_faction}
 use Rattle.atl_month.proofs.sweep.sweep_factions.Goals as goal
 
 pub loop-number-preserved : goal.loop-number-preserved
 loop-number-preserved c = record {
-  rest = fold_behind faction_swept c.args.numbers.now c.loop-number.number-index 0 c.loop-number.campaign.value c.loop-number-test.true c.sweep_faction.ensures.what c.loop-number.invariant.rest;
+  rest = fold_behind after_sweeping_faction c.args.numbers.now c.loop-number.number-index 0 c.loop-number.campaign.value c.loop-number-test.true c.sweep_faction.ensures.what c.loop-number.invariant.rest;
   marks = marks-trans c.args.campaign.now c.loop-number.campaign c.sweep_faction.new.campaign c.loop-number.invariant.marks c.sweep_faction.ensures.marks;
 }

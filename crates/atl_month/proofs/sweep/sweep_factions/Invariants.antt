@@ -1,11 +1,11 @@
 use Rattle.std.proofs.Common.{◌≡◌, drop}
 use Rattle.std.specs.Prelude.{fold}
 use Rattle.atl_state.specs.Covers.{MarksChanges}
-use Rattle.atl_month.specs.Sweep.{faction_swept}
+use Rattle.atl_month.specs.Sweep.{after_sweeping_faction}
 use Rattle.atl_month.proofs.sweep.sweep_factions.Given as goal
 
 abbrev pub invariant-loop-number : goal.invariant-loop-number
 invariant-loop-number l = record {
-  rest : fold faction_swept l.campaign.value (drop l.number-index l.numbers) ≡ fold faction_swept l.initial.campaign.value l.numbers;
+  rest : fold after_sweeping_faction l.campaign.value (drop l.number-index l.numbers) ≡ fold after_sweeping_faction l.initial.campaign.value l.numbers;
   marks : MarksChanges l.initial.campaign l.campaign;
 }

@@ -5,12 +5,12 @@ use Rattle.atl_state.specs.Covers.{MarksChanges}
 use Rattle.atl_state.specs.Good.{IsSteady}
 use Rattle.atl_instant.specs.Meaning.{HaveRoom, moved_times}
 use Rattle.atl_month.specs.Receivers.{AreReceivers}
-use Rattle.atl_month.specs.Sweep.{loses_by, swept_at}
+use Rattle.atl_month.specs.Sweep.{after_sweeping_unit, loses_by}
 use Rattle.atl_month.proofs.sweep.sweep_units.Given as goal
 
 abbrev pub invariant-loop-number : goal.invariant-loop-number
 invariant-loop-number l = record {
-  rest : fold swept_at l.campaign.value (drop l.number-index l.numbers) ≡ fold swept_at l.initial.campaign.value l.numbers;
+  rest : fold after_sweeping_unit l.campaign.value (drop l.number-index l.numbers) ≡ fold after_sweeping_unit l.initial.campaign.value l.numbers;
   steady : IsSteady l.world l.campaign.value;
   receivers : AreReceivers l.campaign.value l.receivers;
   room : HaveRoom (moved_times (length (drop l.number-index l.numbers)) (loses_by most_amount)) l.campaign.value;

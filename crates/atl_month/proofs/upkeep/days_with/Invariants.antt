@@ -1,5 +1,5 @@
 use Rattle.std.proofs.Common.{◌≡◌, ◌*◌, ◌/◌, ◌++◌, map}
-use Rattle.atl_month.specs.Sparing.{staying_list}
+use Rattle.atl_month.specs.UpkeepTaken.{staying_list}
 use Rattle.atl_month.proofs.upkeep.days_with.Given as goal
 
 abbrev pub invariant-loop-skill : goal.invariant-loop-skill

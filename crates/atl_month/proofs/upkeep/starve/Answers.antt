@@ -3,15 +3,15 @@ use Rattle.std.specs.FinMap.{get}
 use Rattle.std.proofs.lemmas.Option.{same_Some}
 use Rattle.std.proofs.lemmas.Result.{on_ok_weaker}
 use Rattle.atl_records.specs.Every.{Every}
-use Rattle.atl_records.specs.Held.{Held}
+use Rattle.atl_records.specs.Holdings.{HoldingValue}
 use Rattle.atl_state.specs.Lending.{with_held}
 use Rattle.atl_state.specs.Marks.{Marks}
 use Rattle.atl_records.specs.declared.records.Unit.{Unit}
 use Rattle.atl_instant.specs.Holdings.{ChangesHolding, with_days}
 use Rattle.atl_instant.proofs.ChangeLaws.{changed_held, money_changes, then_changes}
 use Rattle.atl_instant.proofs.MarkLaws.{on_ok_both}
-use Rattle.atl_month.specs.Settling.{CanSpare}
-use Rattle.atl_month.specs.Upkeep.{supplied}
+use Rattle.atl_month.specs.UpkeepSharing.{CanSpare}
+use Rattle.atl_month.specs.Upkeep.{after_upkeep}
 use Rattle.atl_month.proofs.UpkeepLaws.{starved_supplied}
 use Rattle.atl_month.proofs.upkeep.starve.Goals as goal
 
@@ -29,8 +29,8 @@ returns c =
     let days = c.deref.result.now in
     let spare : CanSpare s v.holding.men v.holding.money = subst (λ (x : Unit). CanSpare s x.holding.men x.holding.money) (same_Some _ _ (sym can.there ∙ there)) can.spare in
     let listed : Every (λ k d. 1 ≤ d) v.holding.days = (λ k d at. (can.steady.days s.unit v there k d at).0) in
-    let h : Held = record v.holding { men = left; money = money; days = with_days v.holding.days days } in
-    let h_is : h ≡ supplied s v.holding = rw (c.deref.ensures.value, c.in_ok-days.ensures, c.men.ensures.value, c.money.ensures.value) (starved_supplied s v.holding c.requires.some spare.starved listed) in
+    let h : HoldingValue = record v.holding { men = left; money = money; days = with_days v.holding.days days } in
+    let h_is : h ≡ after_upkeep s v.holding = rw (c.deref.ensures.value, c.in_ok-days.ensures, c.men.ensures.value, c.money.ensures.value) (starved_supplied s v.holding c.requires.some spare.starved listed) in
     let all = λ (people : ChangesHolding mid after s.unit (λ x. record x { men = left; days = with_days x.days days })).
     then_changes old mid after s.unit (λ x. record x { money = money }) (λ x. record x { men = left; days = with_days x.days days })
     (money_changes old mid s.unit money c.set_money.ensures.what c.set_money.ensures.marks) people in
@@ -38,7 +38,7 @@ returns c =
       what =
           on_ok_weaker c.set_people.result
           (λ people u is.
-          subst (λ (x : Unit). after.value ≡ with_held old.value s.unit (supplied s x.holding) (Some x)) (same_Some _ _ (sym there ∙ is))
+          subst (λ (x : Unit). after.value ≡ with_held old.value s.unit (after_upkeep s x.holding) (Some x)) (same_Some _ _ (sym there ∙ is))
           (changed_held (λ x. record x { men = left; money = money; days = with_days x.days days }) old.value after.value s.unit (all people).value v there
           ∙ ap (λ x. with_held old.value s.unit x (Some v)) h_is))
           c.set_people.ensures.what;

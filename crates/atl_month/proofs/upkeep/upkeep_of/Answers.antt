@@ -1,12 +1,12 @@
 use Rattle.std.proofs.Common.{ap, sym, arith}
 use Rattle.std.specs.Prelude.{neg_ℤ, pos}
 use Rattle.atl_tables.specs.Limits.{most_amount}
-use Rattle.atl_records.specs.Books.{amount_in, with_booked}
+use Rattle.atl_records.specs.Books.{after_booking, amount_in}
 use Rattle.atl_state.specs.Founding.{things_of}
 use Rattle.atl_records.specs.declared.books.Entry.TheVariants.{Starved, Upkeep}
 use Rattle.atl_records.specs.declared.books.Thing.TheVariants.{Money, People}
 use Rattle.atl_state.specs.Campaign.{CampaignValue}
-use Rattle.atl_records.proofs.BookLaws.{IsGrid-with_booked}
+use Rattle.atl_records.proofs.BookLaws.{IsGrid-after_booking}
 use Rattle.atl_instant.specs.Meaning.{moves_only}
 use Rattle.atl_instant.proofs.BookingLaws.{booked-room, within-neg}
 use Rattle.atl_instant.proofs.MeaningLaws.{less_room}
@@ -19,7 +19,7 @@ book_taken-requires c =
     let s = c.args.settled.now in
     let before = c.args.campaign.now.value in
     let u = can.unit in
-    let what = c.in_ok-supply_unit.ensures.what u can.there in
+    let what = c.in_ok-take_upkeep.ensures.what u can.there in
     let few = few_paid w before s u can.there can.spare can.steady in
     record {
       there = rw (ap (λ (s : CampaignValue). s.books) what) (omega (arith, can.steady.numbers.books.rows));
@@ -33,10 +33,10 @@ book_taken-requires-2 c =
     let before = c.args.campaign.now.value in
     let paid = few_paid w before s can.unit can.there can.spare can.steady in
     let starved = few_starved w before s can.unit can.there can.spare can.steady in
-    let behind = with_booked before.books Upkeep Money (neg_ℤ (pos s.paid)) in
-    let grid = IsGrid-with_booked (things_of w) before.books Upkeep Money (neg_ℤ (pos s.paid)) can.steady.numbers.books in
+    let behind = after_booking before.books Upkeep Money (neg_ℤ (pos s.paid)) in
+    let grid = IsGrid-after_booking (things_of w) before.books Upkeep Money (neg_ℤ (pos s.paid)) can.steady.numbers.books in
     let booked = ap (λ (s : CampaignValue). s.books) c.book_taken.ensures.what in
-    let fed = ap (λ (s : CampaignValue). s.books) (c.in_ok-supply_unit.ensures.what can.unit can.there) in
+    let fed = ap (λ (s : CampaignValue). s.books) (c.in_ok-take_upkeep.ensures.what can.unit can.there) in
     record {
       there = rw (booked, fed) (omega (arith, grid.rows));
       room =
@@ -49,15 +49,15 @@ book_taken-requires-2 c =
 pub returns-clause-what : goal.returns-clause-what
 returns-clause-what c =
     let (w, can) = c.requires in
-    let what = c.in_ok-supply_unit.ensures.what can.unit can.there in
+    let what = c.in_ok-take_upkeep.ensures.what can.unit can.there in
     rw (c.book_taken-2.ensures.what, c.book_taken.ensures.what, what) (sym (upkeep_at_is c.args.campaign.now.value c.args.settled.now can.unit can.there))
 
 pub returns-clause-marks : goal.returns-clause-marks
 returns-clause-marks c =
     let (w, can) = c.requires in
     let s = c.args.settled.now in
-    let what = c.in_ok-supply_unit.ensures.what can.unit can.there in
-    upkeep_marks (things_of w) c.args.campaign.now c.supply_unit.new.campaign c.book_taken.new.campaign c.book_taken-2.new.campaign s
+    let what = c.in_ok-take_upkeep.ensures.what can.unit can.there in
+    upkeep_marks (things_of w) c.args.campaign.now c.take_upkeep.new.campaign c.book_taken.new.campaign c.book_taken-2.new.campaign s
     (neg_ℤ (pos s.paid)) (neg_ℤ (pos s.starved))
-    c.in_ok-supply_unit.ensures.marks c.book_taken.ensures.what c.book_taken.ensures.marks c.book_taken-2.ensures.what c.book_taken-2.ensures.marks
+    c.in_ok-take_upkeep.ensures.marks c.book_taken.ensures.what c.book_taken.ensures.marks c.book_taken-2.ensures.what c.book_taken-2.ensures.marks
     (rw (ap (λ (d : CampaignValue). d.books) what) can.steady.numbers.books) (omega arith)

@@ -4,8 +4,8 @@ use Rattle.std.proofs.lemmas.List.{drop_more}
 use Rattle.atl_state.proofs.CoverLaws.{marks-trans}
 use Rattle.atl_state.specs.Campaign.{CampaignValue}
 use Rattle.atl_market.specs.PotPhase.{CanInTurn}
-use Rattle.atl_month.specs.declared.settling.Settled.{Settled}
-use Rattle.atl_month.specs.Sparing.{CanSettle}
+use Rattle.atl_month.specs.declared.upkeep_sharing.UpkeepResult.{UpkeepResult}
+use Rattle.atl_month.specs.UpkeepTaken.{CanPayUpkeep}
 use Rattle.atl_month.specs.Upkeep.{upkeep_at}
 use Rattle.atl_month.proofs.upkeep.upkeep_of_all.Goals as goal
 
@@ -13,16 +13,16 @@ pub upkeep_of-requires : goal.upkeep_of-requires
 upkeep_of-requires c =
     let list = c.args.list.now in
     let i = c.loop-settled.settled-index in
-    let s : Settled = get_or list i (record { unit = 0; faction = 0; paid = 0; starved = 0 }) in
+    let s : UpkeepResult = get_or list i (record { unit = 0; faction = 0; paid = 0; starved = 0 }) in
     let behind : drop i list ≡ s ∷ drop (i + 1) list = drop_more list i _ c.loop-settled-test.true in
     let (w, can) = c.loop-settled.invariant.can in
-    (w, (subst (CanInTurn (CanSettle w) upkeep_at c.loop-settled.campaign.value) behind can).0)
+    (w, (subst (CanInTurn (CanPayUpkeep w) upkeep_at c.loop-settled.campaign.value) behind can).0)
 
 pub loop-settled-preserved : goal.loop-settled-preserved
 loop-settled-preserved c =
     let list = c.args.list.now in
     let i = c.loop-settled.settled-index in
-    let s : Settled = get_or list i (record { unit = 0; faction = 0; paid = 0; starved = 0 }) in
+    let s : UpkeepResult = get_or list i (record { unit = 0; faction = 0; paid = 0; starved = 0 }) in
     let before = c.loop-settled.campaign.value in
     let after = c.upkeep_of.new.campaign.value in
     let old = c.loop-settled.invariant in
@@ -32,6 +32,6 @@ loop-settled-preserved c =
     let (w, can) = old.can in
     record {
       rest = ap (λ (d : CampaignValue). fold upkeep_at d (drop (i + 1) list)) is ∙ sym (ap (fold upkeep_at before) behind) ∙ old.rest;
-      can = (w, rw is (subst (CanInTurn (CanSettle w) upkeep_at before) behind can).1);
+      can = (w, rw is (subst (CanInTurn (CanPayUpkeep w) upkeep_at before) behind can).1);
       marks = marks-trans c.args.campaign.now c.loop-settled.campaign c.upkeep_of.new.campaign old.marks marked;
     }

@@ -3,13 +3,13 @@ use Rattle.std.specs.Prelude.{fold}
 use Rattle.atl_tables.specs.Worlds.{WorldValue}
 use Rattle.atl_state.specs.Covers.{MarksChanges}
 use Rattle.atl_market.specs.PotPhase.{CanInTurn}
-use Rattle.atl_month.specs.Sparing.{CanSettle}
+use Rattle.atl_month.specs.UpkeepTaken.{CanPayUpkeep}
 use Rattle.atl_month.specs.Upkeep.{upkeep, upkeep_at}
 use Rattle.atl_month.proofs.upkeep.upkeep_of_all.Given as goal
 
 abbrev pub invariant-loop-settled : goal.invariant-loop-settled
 invariant-loop-settled l = record {
   rest : fold upkeep_at l.campaign.value (drop l.settled-index l.list) ≡ upkeep l.initial.campaign.value l.list;
-  can : (w : WorldValue) × CanInTurn (CanSettle w) upkeep_at l.campaign.value (drop l.settled-index l.list);
+  can : (w : WorldValue) × CanInTurn (CanPayUpkeep w) upkeep_at l.campaign.value (drop l.settled-index l.list);
   marks : MarksChanges l.initial.campaign l.campaign;
 }

@@ -1,4 +1,4 @@
-//! A campaign as lists of numbers.
+//! The reference's campaign: lists of numbers.
 use atl_state::{Campaign, Entry, Event, Region, Thing, Unit};
 use atl_tables::let_go;
 use std::alloc::{AllocError, Global};

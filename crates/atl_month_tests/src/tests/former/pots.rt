@@ -1,7 +1,7 @@
-//! Pots, each with a look at all units.
+//! The reference's pots: all units are looked at for each pot.
 use super::plain::{Person, Plain};
 use super::shares::share;
-use atl_instant::Written;
+use atl_instant::PhaseOrder;
 use atl_state::{EventFault, Outcome};
 use std::alloc::{AllocError, Global};
 
@@ -23,7 +23,7 @@ pub(crate) enum Claim {
 /// An order with what it comes to.
 #[derive(Clone, Copy, Drop)]
 pub(crate) struct Claimed<'m> {
-    pub order: Written<'m>,
+    pub order: PhaseOrder<'m>,
     pub claim: Claim,
 }
 
@@ -36,7 +36,7 @@ pub(crate) struct Given {
 }
 
 /// The unit of an order, where the order's faction has it.
-pub(crate) fn own(plain: &Plain, order: Written<'_>) -> Option<Person> {
+pub(crate) fn own(plain: &Plain, order: PhaseOrder<'_>) -> Option<Person> {
     let person = plain.person(order.unit)?;
     if person.faction == order.faction {
         Some(person)

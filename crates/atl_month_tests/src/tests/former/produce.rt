@@ -2,8 +2,8 @@
 use super::plain::{Good, Person, Plain};
 use super::pots::{Claim, Given, Pot, own};
 use super::tax::MOST_MONEY;
-use atl_instant::Written;
-use atl_orders::Order;
+use atl_instant::PhaseOrder;
+use atl_orders::Operands;
 use atl_state::{Entry, EventFault, Thing};
 use atl_tables::{Item, World};
 use std::alloc::AllocError;
@@ -46,9 +46,9 @@ fn raw_for(plain: &Plain, person: Person, item: &Item) -> Option<u64> {
 }
 
 /// The item that an order names.
-fn item_of(order: Written<'_>) -> u32 {
-    match order.order {
-        Order::Produce(item) => u32::from(*item),
+fn item_of(order: PhaseOrder<'_>) -> u32 {
+    match &order.order.operands {
+        Operands::Item(item) => u32::from(*item),
         _ => 0,
     }
 }
@@ -76,7 +76,7 @@ fn fault(plain: &Plain, person: Person, item: &Item) -> Option<EventFault> {
 }
 
 /// What an order comes to.
-pub(crate) fn claim(world: &World, plain: &Plain, order: Written<'_>) -> Claim {
+pub(crate) fn claim(world: &World, plain: &Plain, order: PhaseOrder<'_>) -> Claim {
     let number = item_of(order);
     let (Some(person), Some(item)) = (own(plain, order), world.items().get(number as usize)) else {
         return Claim::Fault(EventFault::NotYours);

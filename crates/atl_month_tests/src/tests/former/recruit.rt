@@ -1,8 +1,8 @@
 //! RECRUIT: peasants join, at a price.
 use super::plain::{Land, Person, Plain};
 use super::pots::{Claim, Given, Pot, own};
-use atl_instant::Written;
-use atl_orders::Order;
+use atl_instant::PhaseOrder;
+use atl_orders::Operands;
 use atl_state::{Entry, EventFault, Thing};
 use atl_tables::World;
 use std::alloc::AllocError;
@@ -18,21 +18,21 @@ fn price(world: &World) -> u64 {
 }
 
 /// How many an order asks for.
-fn asked(order: Written<'_>) -> u64 {
-    match order.order {
-        Order::Recruit(men) => u64::from(*men),
+fn asked(order: PhaseOrder<'_>) -> u64 {
+    match &order.order.operands {
+        Operands::Number(men) => u64::from(*men),
         _ => 0,
     }
 }
 
-fn want(world: &World, person: Person, order: Written<'_>) -> u64 {
+fn want(world: &World, person: Person, order: PhaseOrder<'_>) -> u64 {
     let payable = person.money.checked_div(price(world)).unwrap_or(0);
     let room = MOST_MEN.saturating_sub(person.men);
     asked(order).min(payable).min(room)
 }
 
 /// What an order comes to.
-pub(crate) fn claim(world: &World, plain: &Plain, order: Written<'_>) -> Claim {
+pub(crate) fn claim(world: &World, plain: &Plain, order: PhaseOrder<'_>) -> Claim {
     let Some(person) = own(plain, order) else {
         return Claim::Fault(EventFault::NotYours);
     };

@@ -3,9 +3,9 @@ use super::plain::{Land, Plain};
 use super::pots::{Claim, Claimed, Given, Pot, given_to, outcome, shared};
 use super::trade::Trade;
 use super::{produce, recruit, tax, trade, work};
-use atl_instant::{Arrangement, Month, MonthLongVerbs, Written};
+use atl_instant::{Arrangement, Month, MonthLongVerbs, PhaseOrder};
 use atl_market::{BuyPhase, ProducePhase, RecruitPhase, SellPhase, TaxPhase};
-use atl_orders::{Mailing, Order};
+use atl_orders::{Mailing, Operands, Order, Verb};
 use atl_tables::{Sequence, World};
 use std::alloc::{AllocError, Global};
 
@@ -25,8 +25,8 @@ fn orders<'m>(
     sharing: Sharing,
     plain: &Plain,
     month: &'m Month,
-    work: Written<'m>,
-) -> Result<Vec<Written<'m>>, AllocError> {
+    work: PhaseOrder<'m>,
+) -> Result<Vec<PhaseOrder<'m>>, AllocError> {
     let arrangement = Arrangement::ByUnit;
     match sharing {
         Sharing::Trade(Trade::Sell) => month.orders(alloc, &SellPhase {}, arrangement),
@@ -41,7 +41,7 @@ fn orders<'m>(
     }
 }
 
-fn claim(sharing: Sharing, world: &World, plain: &Plain, order: Written<'_>) -> Claim {
+fn claim(sharing: Sharing, world: &World, plain: &Plain, order: PhaseOrder<'_>) -> Claim {
     match sharing {
         Sharing::Trade(trade) => trade::claim(trade, world, plain, order),
         Sharing::Tax => tax::claim(world, plain, order),
@@ -58,7 +58,7 @@ fn claims<'m>(
     world: &World,
     plain: &Plain,
     month: &'m Month,
-    work: Written<'m>,
+    work: PhaseOrder<'m>,
 ) -> Result<Vec<Claimed<'m>>, AllocError> {
     let mut claims = Vec::new(alloc);
     for order in orders(alloc, sharing, plain, month, work)?.iter() {
@@ -164,8 +164,11 @@ pub(crate) fn play(
         entries: Sequence::new(alloc),
         faults: Sequence::new(alloc),
     };
-    let order = Order::Work;
-    let work = Written {
+    let order = Order {
+        verb: Verb::Work,
+        operands: Operands::Nothing,
+    };
+    let work = PhaseOrder {
         unit: 0,
         line: 0,
         faction: 0,

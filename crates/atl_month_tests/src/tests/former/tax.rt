@@ -1,7 +1,7 @@
 //! TAX: who guards shares the money of the region.
 use super::plain::{Land, Plain};
 use super::pots::{Claim, Given, Pot, own};
-use atl_instant::Written;
+use atl_instant::PhaseOrder;
 use atl_state::EventFault;
 use atl_tables::World;
 
@@ -12,7 +12,7 @@ pub(crate) const MOST_MONEY: u64 = 999_999_999;
 const MONEY: u32 = 0;
 
 /// What an order comes to.
-pub(crate) fn claim(world: &World, plain: &Plain, order: Written<'_>) -> Claim {
+pub(crate) fn claim(world: &World, plain: &Plain, order: PhaseOrder<'_>) -> Claim {
     let Some(person) = own(plain, order) else {
         return Claim::Fault(EventFault::NotYours);
     };

@@ -2,8 +2,8 @@
 use super::plain::{Good, Person, Plain, Stock};
 use super::pots::{Claim, Given, Pot, own};
 use super::tax::MOST_MONEY;
-use atl_instant::Written;
-use atl_orders::Order;
+use atl_instant::PhaseOrder;
+use atl_orders::Operands;
 use atl_state::{Entry, EventFault, Thing};
 use atl_tables::{Market, World};
 use std::alloc::AllocError;
@@ -19,9 +19,9 @@ pub(crate) enum Trade {
 }
 
 /// How many of which item an order is about.
-fn asked(order: Written<'_>) -> (u64, u16) {
-    match order.order {
-        Order::Sell { amount, item } | Order::Buy { amount, item } => (u64::from(*amount), *item),
+fn asked(order: PhaseOrder<'_>) -> (u64, u16) {
+    match &order.order.operands {
+        Operands::Goods { amount, item } => (u64::from(*amount), *item),
         _ => (0, 0),
     }
 }
@@ -51,7 +51,7 @@ fn is_short(trade: Trade, plain: &Plain, person: Person, market: &Market) -> boo
 }
 
 /// What an order comes to.
-pub(crate) fn claim(trade: Trade, world: &World, plain: &Plain, order: Written<'_>) -> Claim {
+pub(crate) fn claim(trade: Trade, world: &World, plain: &Plain, order: PhaseOrder<'_>) -> Claim {
     let Some(person) = own(plain, order) else {
         return Claim::Fault(EventFault::NotYours);
     };

@@ -1,4 +1,4 @@
-//! Upkeep, with a look at all units for each unit.
+//! The reference's upkeep: all units are looked at for each unit.
 use super::plain::{Person, Plain};
 use atl_state::{Entry, Event, EventVerb, Outcome, Thing};
 use atl_tables::World;

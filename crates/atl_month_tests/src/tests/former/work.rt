@@ -2,8 +2,8 @@
 use super::plain::{Person, Plain};
 use super::pots::{Claim, Given, Pot, given_to, own};
 use super::tax::MOST_MONEY;
-use atl_instant::Written;
-use atl_orders::Order;
+use atl_instant::PhaseOrder;
+use atl_orders::Verb;
 use atl_state::{Entry, EventFault, Thing};
 use atl_tables::World;
 use std::alloc::{AllocError, Global};
@@ -28,7 +28,7 @@ fn places(world: &World, region: u32) -> u64 {
 }
 
 /// What an order comes to.
-pub(crate) fn claim(world: &World, plain: &Plain, order: Written<'_>) -> Claim {
+pub(crate) fn claim(world: &World, plain: &Plain, order: PhaseOrder<'_>) -> Claim {
     let Some(person) = own(plain, order) else {
         return Claim::Fault(EventFault::NotYours);
     };
@@ -41,7 +41,7 @@ pub(crate) fn claim(world: &World, plain: &Plain, order: Written<'_>) -> Claim {
 }
 
 /// Whether a unit with men has no month-long order of its own faction.
-fn is_idle(person: Person, orders: &[Written<'_>]) -> bool {
+fn is_idle(person: Person, orders: &[PhaseOrder<'_>]) -> bool {
     for order in orders {
         if order.unit == person.number && order.faction == person.faction {
             return false;
@@ -53,13 +53,13 @@ fn is_idle(person: Person, orders: &[Written<'_>]) -> bool {
 /// Adds the work of the units that have no order, each as another order of WORK.
 fn add_idle<'m>(
     plain: &Plain,
-    orders: &[Written<'m>],
-    work: Written<'m>,
-    tasks: &mut Vec<Written<'m>>,
+    orders: &[PhaseOrder<'m>],
+    work: PhaseOrder<'m>,
+    tasks: &mut Vec<PhaseOrder<'m>>,
 ) -> Result<(), AllocError> {
     for person in plain.people.iter() {
         if is_idle(*person, orders) {
-            tasks.push(Written {
+            tasks.push(PhaseOrder {
                 unit: person.number,
                 line: 0,
                 faction: person.faction,
@@ -76,12 +76,12 @@ fn add_idle<'m>(
 pub(crate) fn tasks<'m>(
     alloc: Global,
     plain: &Plain,
-    orders: &[Written<'m>],
-    work: Written<'m>,
-) -> Result<Vec<Written<'m>>, AllocError> {
+    orders: &[PhaseOrder<'m>],
+    work: PhaseOrder<'m>,
+) -> Result<Vec<PhaseOrder<'m>>, AllocError> {
     let mut tasks = Vec::new(alloc);
     for order in orders {
-        if matches!(order.order, Order::Work) {
+        if matches!(order.order.verb, Verb::Work) {
             tasks.push(*order)?;
         }
     }

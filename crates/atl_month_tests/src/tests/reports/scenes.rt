@@ -1,9 +1,9 @@
-//! Campaigns to be looked at. Each is made of rows that are checked, so it is one that commands can reach.
+//! Campaigns for the reports. Each is made of rows that are checked, so commands can reach it.
 ghost use Rattle.std.specs.Prelude.{IfOk};
 ghost use Rattle.atl_state.specs.Good.{IsGood};
 
 use atl_state::parts::{
-    Parts, StoredBooks, StoredFaction, StoredHas, StoredHead, StoredMarket, StoredRegion,
+    Parts, StoredBooks, StoredCampaignRow, StoredFaction, StoredHas, StoredMarket, StoredRegion,
     StoredReport, StoredStructure, StoredUnit,
 };
 use atl_state::{Campaign, check_as, founded};
@@ -100,9 +100,9 @@ pub(crate) const NOBODY: Scene = Scene {
     books: &[],
 };
 
-fn heads(alloc: Global, scene: &Scene) -> Result<Sequence<StoredHead>, Fail> {
+fn heads(alloc: Global, scene: &Scene) -> Result<Sequence<StoredCampaignRow>, Fail> {
     let mut all = Sequence::new(alloc);
-    all.push(StoredHead {
+    all.push(StoredCampaignRow {
         id: 1,
         format: SECOND_FORMAT,
         month: 0,

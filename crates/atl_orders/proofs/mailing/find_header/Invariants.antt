@@ -2,7 +2,7 @@ use Rattle.std.proofs.Common.{IfSome, ◌≡◌, ◌+◌, ◌≤◌, length}
 use Rattle.std.specs.Option.{option_copied}
 use Rattle.atl_orders.specs.Standing.{EndsWith}
 use Rattle.atl_orders.specs.Lines.{lines}
-use Rattle.atl_orders.specs.Views.{lines_of_rest, left_size}
+use Rattle.atl_orders.specs.Views.{lines_of_rest, rest_size}
 use Rattle.atl_orders.specs.Mailing.{header_from}
 use Rattle.atl_orders.proofs.mailing.find_header.Given as goal
 
@@ -10,8 +10,8 @@ abbrev pub invariant-loop-rest : goal.invariant-loop-rest
 invariant-loop-rest l = record {
   ends : IfSome (option_copied l.rest) (EndsWith l.text);
   same : header_from l.number (lines_of_rest (option_copied l.rest)) ≡ header_from 1 (lines l.text);
-  small : l.number + left_size (option_copied l.rest) ≤ length l.text + 2;
+  small : l.number + rest_size (option_copied l.rest) ≤ length l.text + 2;
 }
 
 abbrev pub decreases-loop-rest : goal.decreases-loop-rest
-decreases-loop-rest l = left_size (option_copied l.rest)
+decreases-loop-rest l = rest_size (option_copied l.rest)

@@ -1,23 +1,23 @@
 use Rattle.std.proofs.Common.{IfSome, ◌≡◌, ◌+◌, ◌<◌, ◌^◌, ◌++◌}
 use Rattle.std.specs.List.{flat_map}
 use Rattle.std.specs.Option.{option_copied}
-use Rattle.atl_orders.specs.declared.reading.Place.TheVariants.{Nowhere}
+use Rattle.atl_orders.specs.declared.reading.ReaderState.TheVariants.{Nowhere}
 use Rattle.atl_orders.specs.Aliasing.{no_alias}
-use Rattle.atl_orders.specs.Views.{given_by, lines_of_rest, left_size, body_entries, headed}
+use Rattle.atl_orders.specs.Views.{alias_set, lines_of_rest, rest_size, body_entries, header_value}
 use Rattle.atl_orders.specs.Standing.{EndsWith}
 use Rattle.atl_orders.specs.Mailing.{effects, entry_of, fault_of}
 use Rattle.atl_orders.proofs.mailing.read_body.Given as goal
 
 abbrev pub invariant-loop-rest : goal.invariant-loop-rest
 invariant-loop-rest l =
-    let left = effects l.world l.number l.place (given_by l.aliases) (lines_of_rest (option_copied l.rest)) in
-    let all = effects l.world l.header.next Nowhere no_alias (headed l.header).rest in
+    let left = effects l.world l.number l.place (alias_set l.aliases) (lines_of_rest (option_copied l.rest)) in
+    let all = effects l.world l.header.next Nowhere no_alias (header_value l.header).rest in
     record {
       ends : IfSome (option_copied l.rest) (EndsWith l.text);
       entries : body_entries l.text l.body ++ flat_map entry_of left ≡ flat_map entry_of all;
       faults : l.body.faults ++ flat_map fault_of left ≡ flat_map fault_of all;
-      small : l.number + left_size (option_copied l.rest) < 2 ^ 32;
+      small : l.number + rest_size (option_copied l.rest) < 2 ^ 32;
     }
 
 abbrev pub decreases-loop-rest : goal.decreases-loop-rest
-decreases-loop-rest l = left_size (option_copied l.rest)
+decreases-loop-rest l = rest_size (option_copied l.rest)

@@ -3,16 +3,16 @@ use Rattle.std.specs.FinMap.{empty, get}
 use Rattle.std.proofs.lemmas.Bool.{false≢true}
 use Rattle.atl_tables.specs.Worlds.{WorldValue}
 use Rattle.atl_state.specs.Good.{IsEarly, IsSteady}
-use Rattle.atl_records.specs.Held.{Held}
+use Rattle.atl_records.specs.Holdings.{HoldingValue}
 use Rattle.atl_state.specs.Lending.{with_held, with_holding}
 use Rattle.atl_records.specs.Limits.{most_days}
 use Rattle.atl_state.specs.Campaign.{CampaignValue}
 use Rattle.atl_records.specs.declared.records.Unit.{Unit}
 use Rattle.atl_records.proofs.EveryLaws.{every-empty}
-use Rattle.atl_state.proofs.HoldingLaws.{MayHold, of_one_faction_kept, steady-held}
+use Rattle.atl_state.proofs.HoldingLaws.{MayHold, of_one_faction_kept, steady-unit_amount}
 use Rattle.atl_phase_tests.proofs.settings.loses_men.Goals as goal
 
-abbrev without_men : Held → Held
+abbrev without_men : HoldingValue → HoldingValue
 without_men h = record h { men = 0; days = empty }
 
 never : (b : Bool) {P : Type 0} → (b && false) ≡ true → P
@@ -32,7 +32,7 @@ may_lose_men w c n u is steady =
       guard = never u.holding.guard;
     }
 
-men_lost : (w : WorldValue) (c : CampaignValue) (n : ℕ) (before after : Held) → Some before ≡ option_map (λ (u : Unit). u.holding) (get c.units n) → after ≡ without_men before → IsEarly w c → IsEarly w (with_holding c n after)
+men_lost : (w : WorldValue) (c : CampaignValue) (n : ℕ) (before after : HoldingValue) → Some before ≡ option_map (λ (u : Unit). u.holding) (get c.units n) → after ≡ without_men before → IsEarly w c → IsEarly w (with_holding c n after)
 men_lost w c n before after was is early = by_unit (get c.units n) refl was
   where
     by_unit : (o : Option Unit) → get c.units n ≡ o → Some before ≡ option_map (λ (u : Unit). u.holding) o → IsEarly w (with_held c n after o)
@@ -41,8 +41,8 @@ men_lost w c n before after was is early = by_unit (get c.units n) refl was
         let same : before ≡ u.holding = cc in
         let held : without_men u.holding ≡ after = sym (is ∙ ap without_men same) in
         record {
-          steady = steady-held w c n u after there (subst (MayHold w u) held (may_lose_men w c n u there early.steady)) early.steady;
-          flags = of_one_faction_kept w c n u after there (λ x. x.holding.guard) (λ g. ap (λ (h : Held). h.guard) held ∙ g) early.flags;
+          steady = steady-unit_amount w c n u after there (subst (MayHold w u) held (may_lose_men w c n u there early.steady)) early.steady;
+          flags = of_one_faction_kept w c n u after there (λ x. x.holding.guard) (λ g. ap (λ (h : HoldingValue). h.guard) held ∙ g) early.flags;
         }
 
 pub returns-in-Some-clause-early : goal.returns-in-Some-clause-early

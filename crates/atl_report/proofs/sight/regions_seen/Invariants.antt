@@ -1,8 +1,8 @@
 use Rattle.std.proofs.Common.{◌≡◌, drop}
 use Rattle.std.specs.FinMap.{empty}
 use Rattle.atl_state.specs.Campaign.{numbers_of}
-use Rattle.atl_report.specs.Gathering.{gathered}
+use Rattle.atl_report.specs.Gathering.{with_all_watched}
 use Rattle.atl_report.proofs.sight.regions_seen.Given as goal
 
 abbrev pub invariant-loop-number : goal.invariant-loop-number
-invariant-loop-number l = gathered l.campaign.value l.faction (drop l.number-index l.number-items) l.seen ≡ gathered l.campaign.value l.faction (numbers_of l.faction l.campaign.value.units) empty
+invariant-loop-number l = with_all_watched l.campaign.value l.faction (drop l.number-index l.number-items) l.seen ≡ with_all_watched l.campaign.value l.faction (numbers_of l.faction l.campaign.value.units) empty

@@ -2,7 +2,7 @@ use Rattle.std.proofs.Common.{rules, sym, arith, nat_le}
 use Rattle.std.specs.Prelude.{nat_lt}
 use Rattle.std.proofs.lemmas.List.Sorted.{IsPartitionPoint-from_clause}
 use Rattle.std.proofs.lemmas.List.Sums.{position_or_len_is}
-use Rattle.atl_state.proofs.RisingLaws.{parted, not_below, not_above}
+use Rattle.atl_state.proofs.SortedLaws.{parted, not_below, not_above}
 use Rattle.atl_state.proofs.numbers.first_above.Goals as goal
 
 pub returns-clause-place : goal.returns-clause-place

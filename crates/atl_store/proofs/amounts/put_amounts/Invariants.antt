@@ -4,5 +4,5 @@ use Rattle.atl_store.proofs.amounts.put_amounts.Given as goal
 
 abbrev pub invariant-loop-thing : goal.invariant-loop-thing
 invariant-loop-thing g l =
-    let rows = amount_rows (g.O.Stocked.line l.owner) in
-    Putting g.S.Store g.O.Stocked.table g.O.Stocked.key (rows l.thing-iterator) (rows l.fn.amounts) l.fn.tx.conn l.tx.conn
+    let rows = amount_rows (g.O.AmountWriter.line l.owner) in
+    Putting g.S.Store g.O.AmountWriter.table g.O.AmountWriter.key (rows l.thing-iterator) (rows l.fn.amounts) l.fn.tx.conn l.tx.conn

@@ -6,8 +6,8 @@ use Rattle.atl_store.proofs.amounts.put_some.Goals as goal
 
 pub returns : goal.returns
 returns g c =
-    let row = g.O.Stocked.line c.args.owner c.args.thing c.args.amount in
-    one_written g.S.Store g.O.Stocked.table g.O.Stocked.key row _ (ap (λ (zero : Bool). if zero then [] else row ∷ []) (is_not_zero c.args.amount c.if-amount-eq0.false)) c.put.ensures
+    let row = g.O.AmountWriter.line c.args.owner c.args.thing c.args.amount in
+    one_written g.S.Store g.O.AmountWriter.table g.O.AmountWriter.key row _ (ap (λ (zero : Bool). if zero then [] else row ∷ []) (is_not_zero c.args.amount c.if-amount-eq0.false)) c.put.ensures
 
 pub returns-then-amount-eq0 : goal.returns-then-amount-eq0
-returns-then-amount-eq0 g c = none_written g.S.Store g.O.Stocked.table g.O.Stocked.key _ (ap (thing_rows (g.O.Stocked.line c.args.owner) c.args.thing) c.if-amount-eq0.true)
+returns-then-amount-eq0 g c = none_written g.S.Store g.O.AmountWriter.table g.O.AmountWriter.key _ (ap (thing_rows (g.O.AmountWriter.line c.args.owner) c.args.thing) c.if-amount-eq0.true)

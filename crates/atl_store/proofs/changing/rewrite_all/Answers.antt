@@ -12,7 +12,7 @@ returns g c =
     let campaign = c.args.campaign.now in
     done_as g.S.Store (all_rewritten campaign (Own ∷ written_parts) refl)
     (then_done g.S.Store (own_then_rewritten campaign (Own ∷ []) written_parts refl)
-    (done_as g.S.Store (own_rewritten campaign) c.in_ok-rewrite_head.ensures) (done_as g.S.Store (in_turn_changed (Becomes campaign) written_parts refl) c.rewrite.ensures))
+    (done_as g.S.Store (own_rewritten campaign) c.in_ok-rewrite_campaign_row.ensures) (done_as g.S.Store (in_turn_changed (Becomes campaign) written_parts refl) c.rewrite.ensures))
 
-pub returns-in_err-rewrite_head : goal.returns-in_err-rewrite_head
-returns-in_err-rewrite_head g c = stops g.S.Store c.in_err-rewrite_head.ensures c.from_residual.ensures
+pub returns-in_err-rewrite_campaign_row : goal.returns-in_err-rewrite_campaign_row
+returns-in_err-rewrite_campaign_row g c = stops g.S.Store c.in_err-rewrite_campaign_row.ensures c.from_residual.ensures

@@ -14,12 +14,12 @@ returns g c =
     let text = c.args.text.now in
     two_steps g.S.Store (founding_done campaign text (Own ∷ written_parts) refl) (among g.S.Store (λ _ _. founds_tables) c.in_ok-create_tables.ensures)
     (then_done g.S.Store (own_then_filled campaign text (Own ∷ []) written_parts refl)
-    (done_as g.S.Store (own_filled campaign text) (among_only g.S.Store _ _ founds_head c.in_ok-put_head.ensures))
+    (done_as g.S.Store (own_filled campaign text) (among_only g.S.Store _ _ founds_head c.in_ok-put_campaign_row.ensures))
     (done_as g.S.Store (in_turn_changed (Fills campaign) written_parts refl) (among g.S.Store (λ _ _. founds_row) c.fill.ensures)))
 
 pub returns-in_err-create_tables : goal.returns-in_err-create_tables
 returns-in_err-create_tables g c = stops g.S.Store (among g.S.Store (λ _ _. founds_tables) c.in_err-create_tables.ensures) c.from_residual.ensures
 
-pub returns-in_err-put_head : goal.returns-in_err-put_head
-returns-in_err-put_head g c =
-    stops_second g.S.Store (among g.S.Store (λ _ _. founds_tables) c.in_ok-create_tables.ensures) (among_only g.S.Store _ _ founds_head c.in_err-put_head.ensures) c.from_residual-in_err-put_head.ensures
+pub returns-in_err-put_campaign_row : goal.returns-in_err-put_campaign_row
+returns-in_err-put_campaign_row g c =
+    stops_second g.S.Store (among g.S.Store (λ _ _. founds_tables) c.in_ok-create_tables.ensures) (among_only g.S.Store _ _ founds_head c.in_err-put_campaign_row.ensures) c.from_residual-in_err-put_campaign_row.ensures

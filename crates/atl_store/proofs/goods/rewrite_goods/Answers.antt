@@ -1,7 +1,7 @@
-use Rattle.atl_store.specs.declared.rows.has.Sort.TheVariants.{Item, Skill}
+use Rattle.atl_store.specs.declared.rows.has.ThingKind.TheVariants.{Item, Skill}
 use Rattle.atl_store.specs.Tables.{has_table}
 use Rattle.atl_store.specs.Rows.{HasRowsOf}
-use Rattle.atl_store.specs.Changing.{begins_marked, has_thing, of_sort}
+use Rattle.atl_store.specs.Changing.{begins_marked, has_thing, of_kind}
 use Rattle.atl_store.proofs.GoodsLaws.{goods_grouped}
 use Rattle.atl_store.proofs.RewriteLaws.{both_rewritten}
 use Rattle.atl_store.proofs.WholeLaws.{then_done}
@@ -15,11 +15,11 @@ pub returns : goal.returns
 returns g c =
     let marks = c.args.campaign.now.marks in
     let both = both_rewritten has_table (HasRowsOf c.args.campaign.now.value.units) in
-    then_done g.S.Store (both _ (of_sort Skill (has_thing marks.skills))) (then_done g.S.Store (both (begins_marked marks.goods) (of_sort Item (has_thing marks.items))) c.in_ok-rewrite_marked_groups.ensures c.in_ok-rewrite_sort.ensures)
-    c.rewrite_sort-2.ensures
+    then_done g.S.Store (both _ (of_kind Skill (has_thing marks.skills))) (then_done g.S.Store (both (begins_marked marks.goods) (of_kind Item (has_thing marks.items))) c.in_ok-rewrite_marked_groups.ensures c.in_ok-rewrite_kind.ensures)
+    c.rewrite_kind-2.ensures
 
 pub returns-in_err-rewrite_marked_groups : goal.returns-in_err-rewrite_marked_groups
 returns-in_err-rewrite_marked_groups g c = stops g.S.Store c.in_err-rewrite_marked_groups.ensures c.from_residual.ensures
 
-pub returns-in_err-rewrite_sort : goal.returns-in_err-rewrite_sort
-returns-in_err-rewrite_sort g c = stops_second g.S.Store c.in_ok-rewrite_marked_groups.ensures c.in_err-rewrite_sort.ensures c.from_residual-in_err-rewrite_sort.ensures
+pub returns-in_err-rewrite_kind : goal.returns-in_err-rewrite_kind
+returns-in_err-rewrite_kind g c = stops_second g.S.Store c.in_ok-rewrite_marked_groups.ensures c.in_err-rewrite_kind.ensures c.from_residual-in_err-rewrite_kind.ensures

@@ -11,7 +11,7 @@ returns-in_err-drop_rows g c = stops g.S.Store (among_only g.S.Store _ _ (drops_
 
 pub returns-in-Some : goal.returns-in-Some
 returns-in-Some g c =
-    let values = g.V.Kept.values c.args.campaign.now.value in
+    let values = g.V.NumberedRow.values c.args.campaign.now.value in
     let wanted = g.V.Grouped.wanted c.args.campaign.now.value in
     let value = c.in-Some.value.now in
     let got : get values c.args.number ≡ Some value = sym c.in-Some.ensures in
@@ -21,7 +21,7 @@ returns-in-Some g c =
 
 pub returns-in-None : goal.returns-in-None
 returns-in-None g c =
-    let values = g.V.Kept.values c.args.campaign.now.value in
+    let values = g.V.NumberedRow.values c.args.campaign.now.value in
     let wanted = g.V.Grouped.wanted c.args.campaign.now.value in
     weaker g.S.Store (bare_done g.V.Grouped.lines g.V.Grouped.more values wanted c.requires (table_of g.V.Grouped.part) c.args.number (sym c.in-None.ensures))
     (among_only g.S.Store _ _ (drops_group g.V.Grouped.part g.V.Grouped.is_grouped) c.in_ok-drop_rows.ensures)

@@ -1,5 +1,5 @@
 use Rattle.std.proofs.Common.{sym, ◌∙◌}
-use Rattle.atl_records.specs.Books.{entry_place, thing_place}
+use Rattle.atl_records.specs.Books.{entry_index, thing_index}
 use Rattle.atl_store.specs.Tables.{books_table}
 use Rattle.atl_store.specs.Rows.{BooksRowsOf}
 use Rattle.atl_store.specs.Rewriting.{is_number, of_amounts}
@@ -16,5 +16,5 @@ returns-then-is_amount_marked g c = weaker g.S.Store (settle_done c.args.campaig
 pub returns : goal.returns
 returns g c =
     let campaign = c.args.campaign.now in
-    begins g.S.Store (none_chosen books_table (BooksRowsOf campaign.value.books) (λ r. of_amounts campaign.marks.books (is_number (entry_place c.args.entry)) (is_number (thing_place c.args.thing)) r)
+    begins g.S.Store (none_chosen books_table (BooksRowsOf campaign.value.books) (λ r. of_amounts campaign.marks.books (is_number (entry_index c.args.entry)) (is_number (thing_index c.args.thing)) r)
     (unmarked_none campaign c.args.entry c.args.thing (sym c.is_amount_marked.ensures ∙ c.if-is_amount_marked.false)))

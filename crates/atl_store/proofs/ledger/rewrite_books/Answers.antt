@@ -1,6 +1,6 @@
 use Rattle.std.proofs.Common.{◌≡◌, ◌+◌, ◌-◌, suc, map, length, ap, subst, ◌∙◌, arith}
 use Rattle.std.specs.List.{range_with_len}
-use Rattle.atl_records.specs.Books.{all_entries, entry_place, thing_place}
+use Rattle.atl_records.specs.Books.{all_entries, entry_index, thing_index}
 use Rattle.atl_state.specs.Marks.{AreOfThings}
 use Rattle.atl_records.proofs.BookLaws.{place_at}
 use Rattle.atl_store.specs.Tables.{books_table}
@@ -15,7 +15,7 @@ pub loop-number-init : goal.loop-number-init
 loop-number-init g c =
     let count = length c.args.campaign.now.value.books in
     let whole : count - 0 ≡ count = omega arith in
-    begins g.S.Store (none_nearer books_table _ _ _ (λ r. ap (λ n. of_amounts c.args.campaign.now.marks.books (is_among (map entry_place all_entries)) (is_among (range_with_len 0 n)) r) whole))
+    begins g.S.Store (none_nearer books_table _ _ _ (λ r. ap (λ n. of_amounts c.args.campaign.now.marks.books (is_among (map entry_index all_entries)) (is_among (range_with_len 0 n)) r) whole))
 
 pub loop-number-preserved : goal.loop-number-preserved
 loop-number-preserved g c =
@@ -23,9 +23,9 @@ loop-number-preserved g c =
     let i = c.loop-number.number in
     let count = length campaign.value.books in
     let left : count - i ≡ suc (count - (i + 1)) = omega (arith, c.loop-number-test.true, c.things-number-end.ensures.count) in
-    let place : thing_place c.of_number.result ≡ i = ap thing_place c.of_number.ensures ∙ place_at i in
+    let place : thing_index c.of_number.result ≡ i = ap thing_index c.of_number.ensures ∙ place_at i in
     goes_on g.S.Store (λ old mid new so_far more. thing_nearer campaign i (range_with_len i (count - i)) (range_with_len (i + 1) (count - (i + 1))) (range_with_len 0 count) (ap (range_with_len i) left) old mid new so_far
-    (subst (λ t. Inside HasTables (RewritesAmounts campaign (is_among (map entry_place all_entries)) (is_number t)) mid new) place more))
+    (subst (λ t. Inside HasTables (RewritesAmounts campaign (is_among (map entry_index all_entries)) (is_number t)) mid new) place more))
     c.loop-number.invariant c.in_ok-rewrite_entries.ensures
 
 pub returns-in_err-rewrite_entries : goal.returns-in_err-rewrite_entries

@@ -1,6 +1,6 @@
 use Rattle.std.proofs.Common.{◌+◌, drop, refl, arith}
 use Rattle.std.proofs.lemmas.List.{drop_more, at_drop_all}
-use Rattle.atl_records.specs.Books.{thing_place}
+use Rattle.atl_records.specs.Books.{thing_index}
 use Rattle.atl_store.specs.Tables.{books_table}
 use Rattle.atl_store.specs.Rewriting.{is_number}
 use Rattle.atl_store.proofs.BooksRewriteLaws.{entry_nearer, entries_rewritten}
@@ -15,7 +15,7 @@ pub loop-entry-preserved : goal.loop-entry-preserved
 loop-entry-preserved g c =
     let i = c.loop-entry.entry-index in
     let entries = c.args.entries.now in
-    goes_on g.S.Store (entry_nearer c.args.campaign.now (is_number (thing_place c.args.thing)) _ (drop i entries) (drop (i + 1) entries) entries (drop_more entries i _ (omega (arith, c.loop-entry-test.true)))) c.loop-entry.invariant c.in_ok-rewrite_amount.ensures
+    goes_on g.S.Store (entry_nearer c.args.campaign.now (is_number (thing_index c.args.thing)) _ (drop i entries) (drop (i + 1) entries) entries (drop_more entries i _ (omega (arith, c.loop-entry-test.true)))) c.loop-entry.invariant c.in_ok-rewrite_amount.ensures
 
 pub returns-in_err-rewrite_amount : goal.returns-in_err-rewrite_amount
 returns-in_err-rewrite_amount g c = stops_second g.S.Store c.loop-entry.invariant c.in_err-rewrite_amount.ensures c.from_residual.ensures
@@ -23,4 +23,4 @@ returns-in_err-rewrite_amount g c = stops_second g.S.Store c.loop-entry.invarian
 pub returns : goal.returns
 returns g c =
     let entries = c.args.entries.now in
-    weaker g.S.Store (entries_rewritten c.args.campaign.now (is_number (thing_place c.args.thing)) (drop c.loop-entry.entry-index entries) entries (at_drop_all (λ es. es) entries c.loop-entry.entry-index c.loop-entry-test.false)) c.loop-entry.invariant
+    weaker g.S.Store (entries_rewritten c.args.campaign.now (is_number (thing_index c.args.thing)) (drop c.loop-entry.entry-index entries) entries (at_drop_all (λ es. es) entries c.loop-entry.entry-index c.loop-entry-test.false)) c.loop-entry.invariant

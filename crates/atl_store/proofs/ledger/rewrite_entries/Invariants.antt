@@ -1,5 +1,5 @@
 use Rattle.std.proofs.Common.{drop}
-use Rattle.atl_records.specs.Books.{thing_place}
+use Rattle.atl_records.specs.Books.{thing_index}
 use Rattle.atl_store.specs.OwnStatements.{OfChange}
 use Rattle.atl_store.specs.Inside.{Inside, HasTables}
 use Rattle.atl_store.specs.Rewriting.{is_number}
@@ -8,4 +8,4 @@ use Rattle.atl_store.proofs.WriteLaws.{SoFar}
 use Rattle.atl_store.proofs.ledger.rewrite_entries.Given as goal
 
 abbrev pub invariant-loop-entry : goal.invariant-loop-entry
-invariant-loop-entry g l = SoFar g.S.Store (OfChange l.fn.campaign.value) (Inside HasTables (NearingEntries l.fn.campaign (is_number (thing_place l.fn.thing)) (drop l.entry-index l.entries) l.entries)) l.fn.tx.conn l.tx.conn
+invariant-loop-entry g l = SoFar g.S.Store (OfChange l.fn.campaign.value) (Inside HasTables (NearingEntries l.fn.campaign (is_number (thing_index l.fn.thing)) (drop l.entry-index l.entries) l.entries)) l.fn.tx.conn l.tx.conn

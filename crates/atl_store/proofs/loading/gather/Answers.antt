@@ -37,4 +37,4 @@ returns-clause-ok g c clean =
     let mid = c.read_own.new.conn in
     let after_own : HasCleanDisk (state g.S.Store mid) = omega (arith, c.read_others.ensures.leaves.survives.clean, clean) in
     gathered_with c.args.format g.S.Store _ c.args.conn.now mid c.read_others.new.conn c.in_ok-own.own c.in_ok-own.world (c.in_ok-own.ensures.ok after_own) c.read_own.ensures.leaves c.read_others.result c.read_others.ensures c.in_ok-others.field-0 c.in_ok-others.was clean
-    c.in-Some.others c.in-Some.is c.in_ok-parts.parts c.into_head.result c.into_head.ensures c.in_ok-parts.ensures.ok
+    c.in-Some.others c.in-Some.is c.in_ok-parts.parts c.into_campaign_row.result c.into_campaign_row.ensures c.in_ok-parts.ensures.ok

@@ -1,21 +1,21 @@
 use Rattle.std.proofs.Common.{◌≡◌, ℕ, List, [], None, refl}
 use Rattle.atl_tables.specs.Faults.{first_fault}
-use Rattle.atl_tables.specs.Given.{Stops}
+use Rattle.atl_tables.specs.Results.{Stops}
 use Rattle.atl_tables.specs.Keys.{path}
 use Rattle.atl_tables.specs.OutputTable.{known_key_at}
 use Rattle.atl_tables.specs.Titles.{known, item_number}
 use Rattle.atl_tables.specs.declared.fault.WorldFault.{WorldFault}
 use Rattle.atl_tables.specs.declared.output_table.Output.{Output}
-use Rattle.atl_tables.specs.declared.tables.Tables.{Tables}
+use Rattle.atl_tables.specs.declared.world_draft.WorldDraft.{WorldDraft}
 use Rattle.atl_tables.proofs.FaultLaws.{exits, stops_here}
 use Rattle.atl_tables.proofs.EachLaws.{goes_on_at, ends_at}
 use Rattle.atl_tables.proofs.output_table.known_keys.Goals as goal
 
-unknown_here : (e : WorldFault) (all : Tables) (at : List ℕ) (i : ℕ) (o : Output) → Stops e (known (path at o.item) (item_number all o.item)) → Stops e (first_fault (known_key_at all at i o))
+unknown_here : (e : WorldFault) (all : WorldDraft) (at : List ℕ) (i : ℕ) (o : Output) → Stops e (known (path at o.item) (item_number all o.item)) → Stops e (first_fault (known_key_at all at i o))
 unfolding known_key_at
 unknown_here e all at i o h = stops_here e (known (path at o.item) (item_number all o.item)) [] h
 
-known_here : (all : Tables) (at : List ℕ) (i : ℕ) (o : Output) → known (path at o.item) (item_number all o.item) ≡ None → first_fault (known_key_at all at i o) ≡ None
+known_here : (all : WorldDraft) (at : List ℕ) (i : ℕ) (o : Output) → known (path at o.item) (item_number all o.item) ≡ None → first_fault (known_key_at all at i o) ≡ None
 unfolding known_key_at
 known_here all at i o h = rw h refl
 

@@ -2,12 +2,12 @@ use Rattle.std.proofs.Common.{◌++◌}
 use Rattle.atl_tables.specs.Faults.{Conditions}
 use Rattle.atl_tables.specs.Worlds.{land_of}
 use Rattle.atl_tables.specs.World.{names_differ, names_are_known, neighbours_are_mutual, is_some_land, world_of_tables}
-use Rattle.atl_tables.specs.declared.tables.Tables.{Tables}
+use Rattle.atl_tables.specs.declared.world_draft.WorldDraft.{WorldDraft}
 use Rattle.atl_tables.proofs.FaultLaws.{exits, stops_on, stops_after, gives_after}
-use Rattle.atl_tables.proofs.TwinLaws.{have_names}
+use Rattle.atl_tables.proofs.DuplicateLaws.{have_names}
 use Rattle.atl_tables.proofs.reading.from_tables.Goals as goal
 
-abbrev last : Tables → Conditions
+abbrev last : WorldDraft → Conditions
 last all = neighbours_are_mutual all ++ is_some_land (land_of (world_of_tables all))
 
 pub returns-in_err-names_differ : goal.returns-in_err-names_differ

@@ -2,31 +2,31 @@ use Rattle.std.proofs.Common.{◌≡◌, ◌<◌, List, length, subst, sym, ap, 
 use Rattle.std.specs.FinMap.{FinMap}
 use Rattle.std.specs.Ordering.{nat_cmp}
 use Rattle.atl_tables.specs.Faults.{Conditions, first_fault}
-use Rattle.atl_tables.specs.Given.{Gives}
-use Rattle.atl_tables.specs.Parts.{parts_of, ArePartsOf}
+use Rattle.atl_tables.specs.Results.{Gives}
+use Rattle.atl_tables.specs.Parts.{world_parts_of, AreWorldPartsOf}
 use Rattle.atl_tables.specs.Worlds.{WorldValue, IsWorld, land_of}
 use Rattle.atl_tables.specs.Sums.{by_number}
 use Rattle.atl_tables.specs.World.{neighbours_are_mutual, is_some_land, world_of_tables, regions_of}
-use Rattle.atl_tables.specs.declared.reading.Parts.{Parts}
-use Rattle.atl_tables.specs.declared.tables.Tables.{Tables}
+use Rattle.atl_tables.specs.declared.reading.WorldParts.{WorldParts}
+use Rattle.atl_tables.specs.declared.world_draft.WorldDraft.{WorldDraft}
 use Rattle.atl_tables.specs.declared.world.RegionPlan.{RegionPlan}
 use Rattle.atl_tables.proofs.FaultLaws.{exits, stops_on, gives_after}
 use Rattle.atl_tables.proofs.WorldLaws.{is_world}
 use Rattle.atl_tables.proofs.reading.join.Goals as goal
 
-abbrev land : Tables → Conditions
+abbrev land : WorldDraft → Conditions
 land all = is_some_land (land_of (world_of_tables all))
 
-regions_are : (all : Tables) (p : Parts) (plans : List RegionPlan) → p ≡ parts_of all → plans ≡ p.regions → by_number (λ r. r.number) plans ≡ regions_of all
+regions_are : (all : WorldDraft) (p : WorldParts) (plans : List RegionPlan) → p ≡ world_parts_of all → plans ≡ p.regions → by_number (λ r. r.number) plans ≡ regions_of all
 unfolding regions_of
-regions_are all p plans e q = ap (by_number (λ r. r.number)) (q ∙ ap (λ (x : Parts). x.regions) e)
+regions_are all p plans e q = ap (by_number (λ r. r.number)) (q ∙ ap (λ (x : WorldParts). x.regions) e)
 
-abbrev made_of : Tables → Parts → FinMap nat_cmp RegionPlan → WorldValue
+abbrev made_of : WorldDraft → WorldParts → FinMap nat_cmp RegionPlan → WorldValue
 made_of all p regions = record { rules = p.rules; terrains = p.terrains; items = p.items; skills = all.skills; kinds = p.kinds; regions = regions }
 
-planet_is : (all : Tables) (p : Parts) (regions : FinMap nat_cmp RegionPlan) → p ≡ parts_of all → regions ≡ regions_of all → made_of all p regions ≡ world_of_tables all
+planet_is : (all : WorldDraft) (p : WorldParts) (regions : FinMap nat_cmp RegionPlan) → p ≡ world_parts_of all → regions ≡ regions_of all → made_of all p regions ≡ world_of_tables all
 unfolding world_of_tables
-planet_is all p regions e q = ap (made_of all p) q ∙ ap (λ (x : Parts). made_of all x (regions_of all)) e
+planet_is all p regions e q = ap (made_of all p) q ∙ ap (λ (x : WorldParts). made_of all x (regions_of all)) e
 
 pub returns-in_err-mutual_neighbours : goal.returns-in_err-mutual_neighbours
 unfolding neighbours_are_mutual
@@ -41,7 +41,7 @@ with_land-requires c =
     let made = c.in_ok-regions.ensures.value ∙ regions_are all c.args.parts c.into_vec.result.items c.requires.parts c.into_vec.ensures in
     let e = planet_is all c.args.parts c.in_ok-regions.regions c.requires.parts made in
     let back = rw (c.as_slice.ensures, made) at c.in_ok-mutual_neighbours.ensures.back in
-    record { world = rw c.into_skills-skills.ensures (subst (λ (w : WorldValue). 0 < length (land_of w) → IsWorld w) (sym e) (is_world all c.requires.all (subst (ArePartsOf all) c.requires.parts c.requires.sound) c.requires.names back)) }
+    record { world = rw c.into_skills-skills.ensures (subst (λ (w : WorldValue). 0 < length (land_of w) → IsWorld w) (sym e) (is_world all c.requires.all (subst (AreWorldPartsOf all) c.requires.parts c.requires.sound) c.requires.names back)) }
 
 pub returns : goal.returns
 unfolding neighbours_are_mutual

@@ -7,23 +7,23 @@ use Rattle.atl_tables.specs.RegionTable.{region_known}
 use Rattle.atl_tables.specs.RulesTable.{rules_known}
 use Rattle.atl_tables.specs.TerrainTable.{terrain_known}
 use Rattle.atl_tables.specs.World.{names_are_known}
-use Rattle.atl_tables.specs.declared.tables.Tables.{Tables}
+use Rattle.atl_tables.specs.declared.world_draft.WorldDraft.{WorldDraft}
 use Rattle.atl_tables.proofs.FaultLaws.{exits, stops_on, stops_after, passes_both}
 use Rattle.atl_tables.proofs.reading.resolve.Goals as goal
 
-abbrev rules : Tables → Conditions
+abbrev rules : WorldDraft → Conditions
 rules all = rules_known all
 
-abbrev terrains : Tables → Conditions
+abbrev terrains : WorldDraft → Conditions
 terrains all = each (terrain_known all) 0 all.terrains
 
-abbrev items : Tables → Conditions
+abbrev items : WorldDraft → Conditions
 items all = each (item_known all) 0 all.items
 
-abbrev kinds : Tables → Conditions
+abbrev kinds : WorldDraft → Conditions
 kinds all = each (kind_known all) 0 all.kinds
 
-abbrev regions : Tables → Conditions
+abbrev regions : WorldDraft → Conditions
 regions all = each (region_known all) 0 all.regions
 
 pub returns-in_err-rules-clause-value : goal.returns-in_err-rules-clause-value

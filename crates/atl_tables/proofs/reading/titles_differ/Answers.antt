@@ -2,47 +2,47 @@ use Rattle.std.proofs.Common.{◌++◌, codes}
 use Rattle.atl_tables.specs.Faults.{Conditions}
 use Rattle.atl_tables.specs.Titles.{twins}
 use Rattle.atl_tables.specs.World.{titles_differ}
-use Rattle.atl_tables.specs.declared.tables.Tables.{Tables}
+use Rattle.atl_tables.specs.declared.world_draft.WorldDraft.{WorldDraft}
 use Rattle.atl_tables.proofs.FaultLaws.{exits, stops_on, stops_after, gives_after}
 use Rattle.atl_tables.proofs.reading.titles_differ.Goals as goal
 
-abbrev terrains : Tables → Conditions
+abbrev terrains : WorldDraft → Conditions
 terrains all = twins (λ d. d.name) (codes "terrain") (codes "name") all.terrains
 
-abbrev items : Tables → Conditions
+abbrev items : WorldDraft → Conditions
 items all = twins (λ d. d.name) (codes "item") (codes "name") all.items
 
-abbrev skills : Tables → Conditions
+abbrev skills : WorldDraft → Conditions
 skills all = twins (λ s. s.name) (codes "skill") (codes "name") all.skills
 
-abbrev kinds : Tables → Conditions
+abbrev kinds : WorldDraft → Conditions
 kinds all = twins (λ d. d.name) (codes "kind") (codes "name") all.kinds
 
-pub returns-in_err-no_twins : goal.returns-in_err-no_twins
+pub returns-in_err-no_duplicate_names : goal.returns-in_err-no_duplicate_names
 unfolding titles_differ
-returns-in_err-no_twins c =
+returns-in_err-no_duplicate_names c =
     let t = c.args.all.now in
-    let e = c.in_err-no_twins.field-0.0 in
-    exits _ _ _ _ _ c.from_residual.ensures.1 (stops_on e (terrains t) (items t ++ (skills t ++ kinds t)) (rw c.as_slice.ensures at c.in_err-no_twins.ensures))
+    let e = c.in_err-no_duplicate_names.field-0.0 in
+    exits _ _ _ _ _ c.from_residual.ensures.1 (stops_on e (terrains t) (items t ++ (skills t ++ kinds t)) (rw c.as_slice.ensures at c.in_err-no_duplicate_names.ensures))
 
-pub returns-in_err-no_twins-2 : goal.returns-in_err-no_twins-2
+pub returns-in_err-no_duplicate_names-2 : goal.returns-in_err-no_duplicate_names-2
 unfolding titles_differ
-returns-in_err-no_twins-2 c =
+returns-in_err-no_duplicate_names-2 c =
     let t = c.args.all.now in
-    let e = c.in_err-no_twins-2.field-0.0 in
-    exits _ _ _ _ _ c.from_residual-in_err-no_twins-2.ensures.1 (stops_after e (terrains t) (items t ++ (skills t ++ kinds t)) (rw c.as_slice.ensures at c.in_ok-no_twins.ensures.0) (stops_on e (items t) (skills t ++ kinds t) (rw c.as_slice-2.ensures at c.in_err-no_twins-2.ensures)))
+    let e = c.in_err-no_duplicate_names-2.field-0.0 in
+    exits _ _ _ _ _ c.from_residual-in_err-no_duplicate_names-2.ensures.1 (stops_after e (terrains t) (items t ++ (skills t ++ kinds t)) (rw c.as_slice.ensures at c.in_ok-no_duplicate_names.ensures.0) (stops_on e (items t) (skills t ++ kinds t) (rw c.as_slice-2.ensures at c.in_err-no_duplicate_names-2.ensures)))
 
-pub returns-in_err-no_twins-3 : goal.returns-in_err-no_twins-3
+pub returns-in_err-no_duplicate_names-3 : goal.returns-in_err-no_duplicate_names-3
 unfolding titles_differ
-returns-in_err-no_twins-3 c =
+returns-in_err-no_duplicate_names-3 c =
     let t = c.args.all.now in
-    let e = c.in_err-no_twins-3.field-0.0 in
-    exits _ _ _ _ _ c.from_residual-in_err-no_twins-3.ensures.1 (stops_after e (terrains t) (items t ++ (skills t ++ kinds t)) (rw c.as_slice.ensures at c.in_ok-no_twins.ensures.0) (stops_after e (items t) (skills t ++ kinds t) (rw c.as_slice-2.ensures at c.in_ok-no_twins-2.ensures.0) (stops_on e (skills t) (kinds t) (rw c.as_slice-3.ensures at c.in_err-no_twins-3.ensures))))
+    let e = c.in_err-no_duplicate_names-3.field-0.0 in
+    exits _ _ _ _ _ c.from_residual-in_err-no_duplicate_names-3.ensures.1 (stops_after e (terrains t) (items t ++ (skills t ++ kinds t)) (rw c.as_slice.ensures at c.in_ok-no_duplicate_names.ensures.0) (stops_after e (items t) (skills t ++ kinds t) (rw c.as_slice-2.ensures at c.in_ok-no_duplicate_names-2.ensures.0) (stops_on e (skills t) (kinds t) (rw c.as_slice-3.ensures at c.in_err-no_duplicate_names-3.ensures))))
 
 pub returns : goal.returns
 unfolding titles_differ
 returns c =
     let t = c.args.all.now in
-    gives_after (λ u. u) c.no_twins-4.result (terrains t) (items t ++ (skills t ++ kinds t)) (tt {0}) (rw c.as_slice.ensures at c.in_ok-no_twins.ensures.0)
-    (gives_after (λ u. u) c.no_twins-4.result (items t) (skills t ++ kinds t) (tt {0}) (rw c.as_slice-2.ensures at c.in_ok-no_twins-2.ensures.0)
-    (gives_after (λ u. u) c.no_twins-4.result (skills t) (kinds t) (tt {0}) (rw c.as_slice-3.ensures at c.in_ok-no_twins-3.ensures.0) (rw c.as_slice-4.ensures at c.no_twins-4.ensures)))
+    gives_after (λ u. u) c.no_duplicate_names-4.result (terrains t) (items t ++ (skills t ++ kinds t)) (tt {0}) (rw c.as_slice.ensures at c.in_ok-no_duplicate_names.ensures.0)
+    (gives_after (λ u. u) c.no_duplicate_names-4.result (items t) (skills t ++ kinds t) (tt {0}) (rw c.as_slice-2.ensures at c.in_ok-no_duplicate_names-2.ensures.0)
+    (gives_after (λ u. u) c.no_duplicate_names-4.result (skills t) (kinds t) (tt {0}) (rw c.as_slice-3.ensures at c.in_ok-no_duplicate_names-3.ensures.0) (rw c.as_slice-4.ensures at c.no_duplicate_names-4.ensures)))

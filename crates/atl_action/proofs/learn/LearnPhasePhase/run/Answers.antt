@@ -4,9 +4,9 @@ use Rattle.std.specs.FinMap.{FinMap, get, values}
 use Rattle.atl_orders.specs.Mailing.{Reading}
 use Rattle.atl_instant.specs.Month.{Aliases}
 use Rattle.atl_instant.specs.PhaseOrders.{orders_of}
-use Rattle.atl_instant.specs.Steps.{AreSpared, IsOwnOrder}
-use Rattle.atl_instant.specs.declared.written.Arrangement.TheVariants.{ByUnit}
-use Rattle.atl_instant.specs.Staying.{IsUnchanged}
+use Rattle.atl_instant.specs.OrderEffects.{AreUnaffected, IsOwnOrder}
+use Rattle.atl_instant.specs.declared.phase_order.Arrangement.TheVariants.{ByUnit}
+use Rattle.atl_instant.specs.NoWorse.{IsUnchanged}
 use Rattle.atl_action.specs.Learners.{is_studying}
 use Rattle.atl_action.proofs.learn.LearnPhasePhase.run.Goals as goal
 
@@ -18,5 +18,5 @@ returns-clause-keeps c =
     let before = c.args.campaign.value in
     let after = c.carry_out_orders.new.campaign.value in
     let taught = c.teach_all.new.month in
-    subst (λ (r : FinMap nat_cmp Reading). AreSpared IsOwnOrder IsUnchanged (values (orders_of is_studying ByUnit c.args.month.aliases r)) before after) c.in_ok-taught.ensures.readings
-    (subst (λ (a : Aliases). AreSpared IsOwnOrder IsUnchanged (values (orders_of is_studying ByUnit a taught.readings)) before after) c.in_ok-taught.ensures.aliases c.in_ok-carry_out_orders.ensures.keeps)
+    subst (λ (r : FinMap nat_cmp Reading). AreUnaffected IsOwnOrder IsUnchanged (values (orders_of is_studying ByUnit c.args.month.aliases r)) before after) c.in_ok-taught.ensures.readings
+    (subst (λ (a : Aliases). AreUnaffected IsOwnOrder IsUnchanged (values (orders_of is_studying ByUnit a taught.readings)) before after) c.in_ok-taught.ensures.aliases c.in_ok-carry_out_orders.ensures.keeps)

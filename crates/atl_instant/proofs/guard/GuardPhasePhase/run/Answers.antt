@@ -7,23 +7,23 @@ use Rattle.atl_state.specs.Campaign.{CampaignValue}
 use Rattle.atl_state.proofs.CoverLaws.{marks-refl, marks-trans}
 use Rattle.atl_instant.specs.Month.{MonthValue, with_events}
 use Rattle.atl_instant.specs.Guard.{guard_concerns, guard_step, is_guarding}
-use Rattle.atl_instant.specs.Holders.{AreHolders}
+use Rattle.atl_instant.specs.RegionGuards.{AreRegionGuards}
 use Rattle.atl_instant.specs.PhaseOrders.{orders_by_unit, task_of}
-use Rattle.atl_instant.specs.Staying.{IsNoWorse}
-use Rattle.atl_instant.specs.declared.written.Written.{Written}
-use Rattle.atl_instant.specs.Steps.{AreSpared, StepsWell, carried_out, one_order}
+use Rattle.atl_instant.specs.NoWorse.{IsNoWorse}
+use Rattle.atl_instant.specs.declared.phase_order.PhaseOrder.{PhaseOrder}
+use Rattle.atl_instant.specs.OrderEffects.{AreUnaffected, StepsWell, meaning_by_orders, one_order}
 use Rattle.atl_instant.specs.Unbooked.{books_nothing}
 use Rattle.atl_instant.proofs.FoldLaws.{each_mapped, fold_behind, fold_ended, fold_mapped}
 use Rattle.atl_instant.proofs.GuardingLaws.{guard_orderly}
-use Rattle.atl_instant.proofs.HolderLaws.{holders_are}
-use Rattle.atl_instant.proofs.StepLaws.{leaves_well, order_well, orders_fit, orders_spare, well_same, well_twice}
+use Rattle.atl_instant.proofs.RegionGuardLaws.{holders_are}
+use Rattle.atl_instant.proofs.OrderEffectLaws.{leaves_well, order_well, orders_fit, orders_spare, well_same, well_twice}
 use Rattle.atl_instant.proofs.guard.GuardPhasePhase.run.Goals as goal
 
 pub loop-order-init : goal.loop-order-init
 loop-order-init c = record {
   orders = ap (λ es. fold (λ p o. one_order guard_step c.args._world.now p (task_of o)) (c.args.campaign.value, with_events c.args.month es) c.deref-order-items.result.now) c.new-events.ensures.items;
   well = well_same c.args._world.now c.args.campaign.value c.requires.needs;
-  held = subst (AreHolders c.args.campaign.value) (sym c.in_ok-holders.ensures) (holders_are c.args.campaign.value c.requires.needs.guarded);
+  held = subst (AreRegionGuards c.args.campaign.value) (sym c.in_ok-holders.ensures) (holders_are c.args.campaign.value c.requires.needs.guarded);
   marks = marks-refl c.args.campaign;
 }
 
@@ -36,10 +36,10 @@ loop-order-preserved c =
     let xs = c.deref-order-items.result.now in
     let step = c.in_ok-guard_one.ensures.step w m in
     let o = c.order-item.result in
-    let one = λ (p : CampaignValue × MonthValue) (x : Written). one_order guard_step w p (task_of x) in
+    let one = λ (p : CampaignValue × MonthValue) (x : PhaseOrder). one_order guard_step w p (task_of x) in
     let fit =
-    subst (λ x. IsOrderOf w (task_of x).said) (sym c.order-item.is)
-    (each_mapped (λ t. IsOrderOf w t.said) task_of xs (orders_by_unit is_guarding m)
+    subst (λ x. IsOrderOf w (task_of x).order_value) (sym c.order-item.is)
+    (each_mapped (λ t. IsOrderOf w t.order_value) task_of xs (orders_by_unit is_guarding m)
     (ap (map task_of) c.deref-order-items.ensures.value ∙ c.in_ok-orders.ensures) (orders_fit w m.aliases m.readings c.requires.read is_guarding)
     c.loop-order.order-index o c.loop-order-test.true) in
     let well = order_well guard_step guard_orderly w m.aliases now (task_of o) c.loop-order.invariant.well.holds_still fit in
@@ -51,7 +51,7 @@ loop-order-preserved c =
     }
 
 pub returns-clause-meaning : goal.returns-clause-meaning
-unfolding carried_out
+unfolding meaning_by_orders
 returns-clause-meaning c =
     let w = c.args._world.now in
     let m = c.args.month in
@@ -61,7 +61,7 @@ returns-clause-meaning c =
     let xs = c.deref-order-items.result.now in
     let start : CampaignValue × MonthValue = (old, with_events m []) in
     let none : start ≡ (old, m) = ap (λ es. (old, record m { events = es })) (append-nil m.events) in
-    ap (λ n. (c.loop-order.campaign.value, n)) c.in_ok-tell_all.ensures
+    ap (λ n. (c.loop-order.campaign.value, n)) c.in_ok-add_events.ensures
     ∙ ap (λ es. (c.loop-order.campaign.value, with_events m es)) c.deref.ensures.value
     ∙ fold_ended (λ p o. step p (task_of o)) xs c.loop-order.order-index behind (omega (arith, c.loop-order-test.false)) c.loop-order.invariant.orders
     ∙ fold_mapped step task_of start xs
@@ -72,12 +72,12 @@ pub returns-clause-leaves : goal.returns-clause-leaves
 returns-clause-leaves c = leaves_well c.args._world.now c.args.campaign.value c.loop-order.campaign.value (λ e t. omega arith) c.loop-order.invariant.well
 
 pub returns-clause-keeps : goal.returns-clause-keeps
-unfolding carried_out
+unfolding meaning_by_orders
 returns-clause-keeps c =
     let w = c.args._world.now in
     let m = c.args.month in
     let ts = orders_by_unit is_guarding m in
-    subst (λ d. AreSpared guard_concerns IsNoWorse ts c.args.campaign.value d) (sym (ap (λ p. p.0) (returns-clause-meaning c)))
+    subst (λ d. AreUnaffected guard_concerns IsNoWorse ts c.args.campaign.value d) (sym (ap (λ p. p.0) (returns-clause-meaning c)))
     (orders_spare guard_step guard_orderly w c.args.campaign.value m ts c.requires.needs (orders_fit w m.aliases m.readings c.requires.read is_guarding))
 
 pub returns-clause-marks : goal.returns-clause-marks

@@ -3,10 +3,10 @@ use Rattle.std.specs.Prelude.{fold}
 use Rattle.atl_state.specs.Covers.{MarksChanges}
 use Rattle.atl_state.specs.Good.{IsSteady}
 use Rattle.atl_instant.specs.Guard.{guard_step}
-use Rattle.atl_instant.specs.Holders.{AreHolders}
+use Rattle.atl_instant.specs.RegionGuards.{AreRegionGuards}
 use Rattle.atl_instant.specs.Month.{with_events}
 use Rattle.atl_instant.specs.PhaseOrders.{task_of}
-use Rattle.atl_instant.specs.Steps.{StepsWell, one_order}
+use Rattle.atl_instant.specs.OrderEffects.{StepsWell, one_order}
 use Rattle.atl_instant.specs.Unbooked.{books_nothing}
 use Rattle.atl_instant.proofs.guard.GuardPhasePhase.run.Given as goal
 
@@ -15,6 +15,6 @@ invariant-loop-order l = record {
   orders : fold (λ p o. one_order guard_step l._world p (task_of o)) (l.campaign.value, with_events l.fn.month l.events.items) (drop l.order-index l.order-items)
       ≡ fold (λ p o. one_order guard_step l._world p (task_of o)) (l.fn.campaign.value, with_events l.fn.month []) l.order-items;
   well : StepsWell IsSteady books_nothing l._world l.fn.campaign.value l.campaign.value;
-  held : AreHolders l.campaign.value l.holders;
+  held : AreRegionGuards l.campaign.value l.holders;
   marks : MarksChanges l.fn.campaign l.campaign;
 }

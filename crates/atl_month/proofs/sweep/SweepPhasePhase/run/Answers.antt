@@ -4,7 +4,7 @@ use Rattle.atl_tables.specs.Limits.{most_amount}
 use Rattle.atl_state.proofs.CoverLaws.{marks-trans}
 use Rattle.atl_instant.specs.Meaning.{most_moved, moved_times}
 use Rattle.atl_instant.proofs.MeaningLaws.{room_less}
-use Rattle.atl_month.specs.Sweep.{loses_by, menless, sweep}
+use Rattle.atl_month.specs.Sweep.{loses_by, menless_units, sweep}
 use Rattle.atl_month.proofs.SweepAllLaws.{few_menless, loses_little, sweep_keeps_all, sweep_leaves_well}
 use Rattle.atl_month.proofs.sweep.SweepPhasePhase.run.Goals as goal
 
@@ -15,8 +15,8 @@ pub sweep_units-requires-clause-room : goal.sweep_units-requires-clause-room
 sweep_units-requires-clause-room c =
     let w = c.args.world.now in
     let before = c.args.campaign.value in
-    let list : c.deref.result.now ≡ menless before = search rules in
-    rw list (room_less (moved_times (length (menless before)) (loses_by most_amount)) (loses_by most_moved) before (loses_little (length (menless before)) (few_menless w before c.requires.needs)) c.requires.room)
+    let list : c.deref.result.now ≡ menless_units before = search rules in
+    rw list (room_less (moved_times (length (menless_units before)) (loses_by most_amount)) (loses_by most_moved) before (loses_little (length (menless_units before)) (few_menless w before c.requires.needs)) c.requires.room)
 
 pub returns : goal.returns
 returns c =

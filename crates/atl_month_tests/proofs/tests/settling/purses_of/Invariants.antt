@@ -1,11 +1,11 @@
 use Rattle.std.specs.Prelude.{All, ◌≤◌}
-use Rattle.atl_month.specs.declared.settling.Purse.{Purse}
-use Rattle.atl_month.specs.Settling.{AreInOrder, IsPurse}
+use Rattle.atl_month.specs.declared.upkeep_sharing.UpkeepInput.{UpkeepInput}
+use Rattle.atl_month.specs.UpkeepSharing.{AreInOrder, IsUpkeepInput}
 use Rattle.atl_month_tests.proofs.tests.settling.purses_of.Given as goal
 
 abbrev pub invariant-loop-region : goal.invariant-loop-region
 invariant-loop-region l = record {
-  each : All IsPurse l.purses.items;
+  each : All IsUpkeepInput l.purses.items;
   order : AreInOrder l.purses.items;
-  last : All (λ (p : Purse). p.unit ≤ l.last) l.purses.items;
+  last : All (λ (p : UpkeepInput). p.unit ≤ l.last) l.purses.items;
 }

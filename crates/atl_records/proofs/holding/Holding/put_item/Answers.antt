@@ -1,4 +1,4 @@
-use Rattle.atl_records.proofs.HeldLaws.{AreAmounts-put}
+use Rattle.atl_records.proofs.HoldingLaws.{AreAmounts-put}
 use Rattle.atl_records.proofs.holding.Holding.put_item.Goals as goal
 
 pub invariant_of-self : goal.invariant_of-self

@@ -1,4 +1,4 @@
-use Rattle.atl_records.proofs.HeldLaws.{AreAmounts-set}
+use Rattle.atl_records.proofs.HoldingLaws.{AreAmounts-set}
 use Rattle.atl_records.proofs.holding.Holding.set_amount.Goals as goal
 
 pub invariant_of-self : goal.invariant_of-self

@@ -1,5 +1,5 @@
 use Rattle.std.proofs.Common.{sym, subst}
-use Rattle.atl_records.specs.Held.{AreAmounts}
+use Rattle.atl_records.specs.Holdings.{AreAmounts}
 use Rattle.atl_state.proofs.AssemblyLaws.{none_held}
 use Rattle.atl_state.proofs.assembly.units.bare_unit.Goals as goal
 

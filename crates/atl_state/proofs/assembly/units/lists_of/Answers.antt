@@ -23,7 +23,7 @@ loop-number-preserved c =
     let so_far : entries done ++ (number, unit) ∷ rest ≡ entries c.args.units.now.values = ap (λ es. entries done ++ es) (sym c.in-Some.ensures.steps) ∙ c.loop-number.invariant.1 in (
       insert done number unit,
       ap (λ es. es ++ rest) (insert_last done c.args.units.now.values number unit rest so_far) ∙ append_assoc (entries done) ((number, unit) ∷ []) rest ∙ so_far,
-      c.in_ok-add.ensures.ok done unit (sym c.listing_of.ensures) (comes_new done c.args.units.now.values number unit rest so_far) c.loop-number.invariant.2,
+      c.in_ok-add.ensures.ok done unit (sym c.list_keys_of.ensures) (comes_new done c.args.units.now.values number unit rest so_far) c.loop-number.invariant.2,
     )
 
 pub returns : goal.returns

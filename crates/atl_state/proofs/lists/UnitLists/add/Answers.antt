@@ -1,5 +1,5 @@
 use Rattle.std.proofs.Common.{ap}
-use Rattle.atl_state.specs.declared.lists.Listing.{Listing}
+use Rattle.atl_state.specs.declared.lists.ListKeys.{ListKeys}
 use Rattle.atl_state.proofs.ListLaws.{AreInsideLists-came, AreLists-came, AreLists-undone_at}
 use Rattle.atl_state.proofs.lists.UnitLists.add.Goals as goal
 
@@ -12,9 +12,9 @@ returns-in-Err-clause-err c units fresh is = record {
 
 pub returns-in-Ok-list_apart-clause-ok : goal.returns-in-Ok-list_apart-clause-ok
 returns-in-Ok-list_apart-clause-ok c units u own fresh is = record {
-  regions = AreLists-came (λ v. v.region) units _ _ c.args.number c.args.listing.region u (ap (λ (l : Listing). l.region) own) fresh c.in_ok-list_number.ensures.ok is.regions;
-  factions = AreLists-came (λ v. v.faction) units _ _ c.args.number c.args.listing.faction u (ap (λ (l : Listing). l.faction) own) fresh c.in-Ok.ensures.ok is.factions;
-  structures = AreInsideLists-came units _ _ c.args.number c.args.listing.structure u (ap (λ (l : Listing). l.structure) own) fresh c.in-Ok-list_apart.ensures.ok is.structures;
+  regions = AreLists-came (λ v. v.region) units _ _ c.args.number c.args.listing.region u (ap (λ (l : ListKeys). l.region) own) fresh c.in_ok-list_number.ensures.ok is.regions;
+  factions = AreLists-came (λ v. v.faction) units _ _ c.args.number c.args.listing.faction u (ap (λ (l : ListKeys). l.faction) own) fresh c.in-Ok.ensures.ok is.factions;
+  structures = AreInsideLists-came units _ _ c.args.number c.args.listing.structure u (ap (λ (l : ListKeys). l.structure) own) fresh c.in-Ok-list_apart.ensures.ok is.structures;
 }
 
 pub returns-in-Err-list_apart-clause-err : goal.returns-in-Err-list_apart-clause-err

@@ -14,8 +14,8 @@ is_new : (b r : Bool) → r ≡ not b → r ≡ true → b ≡ false
 is_new true r h e = sym e ∙ h
 is_new false r h e = refl
 
-pub returns-then-are_rising : goal.returns-then-are_rising
-returns-then-are_rising g c = (λ _. IsDistinct-from_sorted g.K.Ord.cmp c.args.keys.now (c.are_rising.ensures c.if-are_rising.true), λ _. refl)
+pub returns-then-are_sorted : goal.returns-then-are_sorted
+returns-then-are_sorted g c = (λ _. IsDistinct-from_sorted g.K.Ord.cmp c.args.keys.now (c.are_sorted.ensures c.if-are_sorted.true), λ _. refl)
 
 pub loop-key-init : goal.loop-key-init
 unfolding IsDistinct

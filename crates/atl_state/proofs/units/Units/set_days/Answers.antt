@@ -6,7 +6,7 @@ use Rattle.std.proofs.lemmas.Result.{on_err_weaker}
 use Rattle.atl_tables.specs.Groups.{group_of}
 use Rattle.atl_tables.proofs.SumLaws.{put_same, put_same_err}
 use Rattle.atl_tables.proofs.TrackLaws.{fits-marked}
-use Rattle.atl_records.specs.Held.{Held}
+use Rattle.atl_records.specs.Holdings.{HoldingValue}
 use Rattle.atl_state.proofs.SlotLaws.{on_err}
 use Rattle.atl_state.specs.Marks.{with_thing}
 use Rattle.atl_state.proofs.UnitLaws.{same_values, AreUnits-skill}
@@ -33,7 +33,7 @@ invariant_of-self-2 c =
 pub returns-clause-err : goal.returns-clause-err
 returns-clause-err c =
     let unit = c.in-Some.unit.now in
-    let same = on_err_weaker c.set_days.result (ap (λ (h : Held). record unit { holding = h })) c.set_days.ensures.err in
+    let same = on_err_weaker c.set_days.result (ap (λ (h : HoldingValue). record unit { holding = h })) c.set_days.ensures.err in
     let units = put_same_err c.set_days.result c.self.inside.units c.args.number unit (record unit { holding = c.set_days.new.self }) (sym c.in-Some.ensures.value) same in
     let marks = set.insert c.self.inside.marks.numbers c.args.number in
     let marked = same_values (record { values = c.self.inside.units; marks = marks; rows = c.self.inside.rows.numbers; goods = c.self.inside.goods.numbers; items = c.self.inside.items; skills = with_thing c.self.inside.skills c.args.number c.args.skill }) in

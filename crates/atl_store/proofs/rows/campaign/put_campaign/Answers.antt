@@ -1,5 +1,5 @@
 use Rattle.std.proofs.Common.{rules}
-use Rattle.atl_store.proofs.HeadRowLaws.{puts_campaign}
+use Rattle.atl_store.proofs.CampaignRowLaws.{puts_campaign}
 use Rattle.atl_store.specs.Written.{head_shown}
 use Rattle.atl_store.proofs.StatementLaws.{runs_with}
 use Rattle.atl_store.proofs.rows.campaign.put_campaign.Goals as goal

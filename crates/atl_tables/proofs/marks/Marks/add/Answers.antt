@@ -1,6 +1,6 @@
 use Rattle.std.proofs.Common.{◌≡◌, true, sym, ap, ◌∙◌}
 use Rattle.std.specs.FinSet as set
-use Rattle.atl_tables.specs.Marked.{Marked}
+use Rattle.atl_tables.specs.RoomySets.{RoomySet}
 use Rattle.atl_tables.proofs.SetLaws.{insert_twice, union-insert, union-empty}
 use Rattle.atl_tables.proofs.ApartLaws.{fits_late, one_late, one_more}
 use Rattle.atl_tables.proofs.marks.Marks.add.Goals as goal
@@ -12,31 +12,31 @@ returns-then-contains c =
 
 pub add-requires : goal.add-requires
 add-requires c =
-    fits_late c.self.inside.numbers c.self.inside.late c.args.self.now c.args.number c.self.view_is c.self.invariant (sym c.contains.ensures ∙ c.if-contains.false) (c.takes_late.ensures c.if-takes_late.true)
+    fits_late c.self.inside.numbers c.self.inside.recent c.args.self.now c.args.number c.self.view_is c.self.invariant (sym c.contains.ensures ∙ c.if-contains.false) (c.merges_recent.ensures c.if-merges_recent.true)
 
 pub invariant_of-self : goal.invariant_of-self
 invariant_of-self c =
-    rw c.add.ensures (one_late c.self.inside.numbers c.self.inside.late c.args.self.now c.args.number c.self.view_is c.self.invariant (sym c.contains.ensures ∙ c.if-contains.false) c.requires)
+    rw c.add.ensures (one_late c.self.inside.numbers c.self.inside.recent c.args.self.now c.args.number c.self.view_is c.self.invariant (sym c.contains.ensures ∙ c.if-contains.false) c.requires)
 
-pub invariant_of-self-else-takes_late : goal.invariant_of-self-else-takes_late
-invariant_of-self-else-takes_late c =
-    rw (c.add-else-takes_late.ensures, c.take_over.ensures.numbers, c.take_over.ensures.others)
-    (one_more c.self.inside.numbers c.self.inside.late c.args.self.now c.args.number c.self.view_is c.self.invariant c.requires)
+pub invariant_of-self-else-merges_recent : goal.invariant_of-self-else-merges_recent
+invariant_of-self-else-merges_recent c =
+    rw (c.add-else-merges_recent.ensures, c.merge_from.ensures.numbers, c.merge_from.ensures.others)
+    (one_more c.self.inside.numbers c.self.inside.recent c.args.self.now c.args.number c.self.view_is c.self.invariant c.requires)
 
-pub returns-then-takes_late : goal.returns-then-takes_late
-returns-then-takes_late c =
+pub returns-then-merges_recent : goal.returns-then-merges_recent
+returns-then-merges_recent c =
     let n = c.args.number in
     let numbers : set.union c.self.inside.numbers.numbers c.add.new.self.numbers ≡ set.insert c.args.self.now.numbers n =
-    (λ i. set.union c.self.inside.numbers.numbers (c.add.ensures i).numbers) ∙ union-insert c.self.inside.numbers.numbers c.self.inside.late.numbers n
-    ∙ ap (λ (m : Marked). set.insert m.numbers n) c.self.view_is in
-    let room = ap (λ (m : Marked). m.room) c.self.view_is in
+    (λ i. set.union c.self.inside.numbers.numbers (c.add.ensures i).numbers) ∙ union-insert c.self.inside.numbers.numbers c.self.inside.recent.numbers n
+    ∙ ap (λ (m : RoomySet). set.insert m.numbers n) c.self.view_is in
+    let room = ap (λ (m : RoomySet). m.room) c.self.view_is in
     λ i. record { numbers = numbers i; room = room i }
 
-pub returns-else-takes_late : goal.returns-else-takes_late
-returns-else-takes_late c =
+pub returns-else-merges_recent : goal.returns-else-merges_recent
+returns-else-merges_recent c =
     let n = c.args.number in
-    let numbers : set.union c.add-else-takes_late.new.self.numbers c.take_over.new.others.numbers ≡ set.insert c.args.self.now.numbers n =
-    (λ i. set.union (c.add-else-takes_late.ensures i).numbers (c.take_over.ensures.others i).numbers) ∙ union-empty (set.insert c.take_over.new.self.numbers n)
-    ∙ ap (λ (m : Marked). set.insert m.numbers n) (c.take_over.ensures.numbers ∙ c.self.view_is) in
-    let room = ap (λ (m : Marked). m.room) c.add-else-takes_late.ensures ∙ ap (λ (m : Marked). m.room) (c.take_over.ensures.numbers ∙ c.self.view_is) in
+    let numbers : set.union c.add-else-merges_recent.new.self.numbers c.merge_from.new.others.numbers ≡ set.insert c.args.self.now.numbers n =
+    (λ i. set.union (c.add-else-merges_recent.ensures i).numbers (c.merge_from.ensures.others i).numbers) ∙ union-empty (set.insert c.merge_from.new.self.numbers n)
+    ∙ ap (λ (m : RoomySet). set.insert m.numbers n) (c.merge_from.ensures.numbers ∙ c.self.view_is) in
+    let room = ap (λ (m : RoomySet). m.room) c.add-else-merges_recent.ensures ∙ ap (λ (m : RoomySet). m.room) (c.merge_from.ensures.numbers ∙ c.self.view_is) in
     λ i. record { numbers = numbers i; room = room i }

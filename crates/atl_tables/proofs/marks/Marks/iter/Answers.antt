@@ -2,7 +2,7 @@ use Rattle.std.proofs.Common.{true, sym, ap, subst}
 use Rattle.std.specs.Slice.Iter.{iter_rest}
 use Rattle.std.specs.Ordering.{nat_cmp}
 use Rattle.std.specs.Set.{sorted_merge}
-use Rattle.atl_tables.specs.Marked.{Marked}
+use Rattle.atl_tables.specs.RoomySets.{RoomySet}
 use Rattle.atl_tables.specs.Tracking.{Lists}
 use Rattle.atl_tables.proofs.MergeLaws.{Lists-merged}
 use Rattle.atl_tables.proofs.marks.Marks.iter.Goals as goal
@@ -10,5 +10,5 @@ use Rattle.atl_tables.proofs.marks.Marks.iter.Goals as goal
 pub returns : goal.returns
 returns c =
     let numbers : Lists c.self.inside.numbers.numbers (iter_rest c.iter.result) = subst (λ xs. Lists c.self.inside.numbers.numbers xs) (sym c.iter.ensures.rest) c.as_slice.ensures in
-    let late : Lists c.self.inside.late.numbers (iter_rest c.iter-2.result) = subst (λ xs. Lists c.self.inside.late.numbers xs) (sym c.iter-2.ensures.rest) c.as_slice-2.ensures in
-    subst (λ marks. Lists marks (sorted_merge nat_cmp true (iter_rest c.iter.result) (iter_rest c.iter-2.result))) (ap (λ (m : Marked). m.numbers) c.self.view_is) (Lists-merged _ _ _ _ numbers late)
+    let recent : Lists c.self.inside.recent.numbers (iter_rest c.iter-2.result) = subst (λ xs. Lists c.self.inside.recent.numbers xs) (sym c.iter-2.ensures.rest) c.as_slice-2.ensures in
+    subst (λ marks. Lists marks (sorted_merge nat_cmp true (iter_rest c.iter.result) (iter_rest c.iter-2.result))) (ap (λ (m : RoomySet). m.numbers) c.self.view_is) (Lists-merged _ _ _ _ numbers recent)

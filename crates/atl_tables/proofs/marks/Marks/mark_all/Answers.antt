@@ -1,7 +1,7 @@
 use Rattle.std.proofs.Common.{◌≡◌, ℕ, [], map, refl, sym, ap, ◌∙◌, arith, rules}
 use Rattle.std.specs.FinMap.{entries}
 use Rattle.std.specs.FinSet as set
-use Rattle.atl_tables.specs.Marked.{held}
+use Rattle.atl_tables.specs.RoomySets.{held}
 use Rattle.atl_tables.proofs.SetLaws.{union-empty, union-next, len-next}
 use Rattle.atl_tables.proofs.marks.Marks.mark_all.Goals as goal
 

@@ -1,6 +1,6 @@
 use Rattle.std.proofs.Common.{◌≡◌, map}
 use Rattle.std.specs.FinSet as set
-use Rattle.atl_tables.specs.Marked.{held}
+use Rattle.atl_tables.specs.RoomySets.{held}
 use Rattle.atl_tables.proofs.marks.Marks.mark_all.Given as goal
 
 abbrev pub invariant-loop-number : goal.invariant-loop-number

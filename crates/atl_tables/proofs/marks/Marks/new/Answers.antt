@@ -1,6 +1,6 @@
 use Rattle.std.proofs.Common.{◌≡◌, ap, ◌∙◌}
 use Rattle.std.specs.FinSet as set
-use Rattle.atl_tables.specs.Marked.{Marked}
+use Rattle.atl_tables.specs.RoomySets.{RoomySet}
 use Rattle.atl_tables.proofs.SetLaws.{union-empty}
 use Rattle.atl_tables.proofs.ApartLaws.{no_marks}
 use Rattle.atl_tables.proofs.marks.Marks.new.Goals as goal
@@ -12,5 +12,5 @@ pub returns : goal.returns
 returns c =
     let numbers : set.union c.new.result.numbers c.new-2.result.numbers ≡ set.empty =
     (λ i. set.union (c.new.ensures i).numbers (c.new-2.ensures i).numbers) ∙ union-empty set.empty in
-    let room = ap (λ (m : Marked). m.room) c.new.ensures in
+    let room = ap (λ (m : RoomySet). m.room) c.new.ensures in
     λ i. record { numbers = numbers i; room = room i }

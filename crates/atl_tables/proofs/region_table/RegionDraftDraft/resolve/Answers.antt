@@ -6,7 +6,7 @@ use Rattle.atl_tables.specs.RegionTable.{region_known, region_of}
 use Rattle.atl_tables.specs.Sums.{by_number}
 use Rattle.atl_tables.specs.declared.world.Market.{Market}
 use Rattle.atl_tables.proofs.FaultLaws.{exits, stops_here}
-use Rattle.atl_tables.proofs.PlacedLaws.{at_number}
+use Rattle.atl_tables.proofs.HasNumberLaws.{at_number}
 use Rattle.atl_tables.proofs.region_table.RegionDraftDraft.resolve.Goals as goal
 
 pub returns-in_err-terrain-clause-value : goal.returns-in_err-terrain-clause-value

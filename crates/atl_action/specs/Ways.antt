@@ -1,9 +1,0 @@
--- Regions of the world.
-use Rattle.std.specs.Prelude.{ℕ, Bool, true, false}
-use Rattle.std.specs.Option.{option_map_or}
-use Rattle.std.specs.FinMap.{get}
-use Rattle.atl_tables.specs.Worlds.{WorldValue}
-
--- whether it is a region of the world
-abbrev pub is_region : WorldValue → (region : ℕ) → Bool
-is_region w region = option_map_or (λ plan. true) (get w.regions region) false

@@ -1,0 +1,15 @@
+//! Whether a number is that of a region of the world.
+ghost use Rattle.std.specs.Prelude.{◌≡◌};
+ghost use Rattle.atl_action.specs.Regions.{is_region};
+
+use atl_tables::World;
+
+/// Whether it is a region of the world.
+pub(crate) fn is_region(world: &World, region: u32) -> bool
+    ensures { result ≡ is_region world.now region }
+{
+    match world.region(region) {
+        Some(_) => true,
+        None => false,
+    }
+}

@@ -1,0 +1,30 @@
+-- Units that are no worse off behind one change, and behind the next, are no worse off behind both.
+use Rattle.std.proofs.Common.{refl, ◌∙◌, arith}
+use Rattle.atl_records.specs.declared.records.Unit.{Unit}
+use Rattle.atl_state.specs.Campaign.{CampaignValue}
+use Rattle.atl_instant.specs.NoWorse.{AreNoWorse, IsNoWorse}
+
+pub no_worse : (u : Unit) → IsNoWorse u u
+no_worse u = record { faction = refl; region = refl; structure = refl; name = refl; guard = refl; men = omega arith; money = omega arith; items = λ i. omega arith; days = λ s. omega arith }
+
+pub no_worse_twice : (u v x : Unit) → IsNoWorse u v → IsNoWorse v x → IsNoWorse u x
+no_worse_twice u v x one two = record {
+  faction = two.faction ∙ one.faction;
+  region = two.region ∙ one.region;
+  structure = two.structure ∙ one.structure;
+  name = two.name ∙ one.name;
+  guard = two.guard ∙ one.guard;
+  men = omega (arith, one.men, two.men);
+  money = omega (arith, one.money, two.money);
+  items = λ i. omega (arith, one.items i, two.items i);
+  days = λ s. omega (arith, one.days s, two.days s);
+}
+
+pub are_no_worse : (c : CampaignValue) → AreNoWorse c c
+are_no_worse c n u there = (u, there, no_worse u)
+
+pub are_no_worse_twice : (a b c : CampaignValue) → AreNoWorse a b → AreNoWorse b c → AreNoWorse a c
+are_no_worse_twice a b c one two n u there =
+    let (v, between, first) = one n u there in
+    let (x, behind, second) = two n v between in
+    (x, behind, no_worse_twice u v x first second)

@@ -1,0 +1,69 @@
+//! A map of which faction guards each region. See docs/RULES.md, "Guarding".
+ghost use Rattle.std.specs.Prelude.{◌≡◌, IfOk, OnOk};
+ghost use Rattle.std.specs.FinMap as map;
+ghost use Rattle.atl_instant.specs.RegionGuards.{guard_map_of, has_other_guard, with_guard_of};
+
+use atl_state::{Campaign, Unit};
+use atl_tables::Numbered;
+use std::alloc::{AllocError, Global};
+use std::marker::Model;
+
+/// The factions that guard regions, by region.
+#[derive(Drop)]
+pub(crate) struct RegionGuards {
+    factions: Numbered<u32>,
+}
+
+impl Model for RegionGuards {
+    ghost use Rattle.std.specs.Coded.{coded_ℕ};
+    ghost use Rattle.std.specs.FinMap as map;
+    ghost use Rattle.atl_instant.specs.RegionGuards.{GuardMap};
+
+    ghost Value = { GuardMap };
+
+    ghost coded = { map.code coded_ℕ coded_ℕ };
+
+    ghost view = { λ a. a.factions };
+}
+
+impl RegionGuards {
+    /// Those of a campaign, from one pass over its units.
+    pub(crate) fn of(alloc: Global, campaign: &Campaign) -> Result<RegionGuards, AllocError>
+        ensures { IfOk result (λ holders. holders ≡ guard_map_of campaign.now.value) }
+    {
+        let mut holders = RegionGuards {
+            factions: Numbered::new(alloc),
+        };
+        for (_, unit) in campaign.units() {
+            holders.note(unit)?;
+        }
+        Ok(holders)
+    }
+
+    /// Notes a unit's faction, if the unit is on guard.
+    fn note(&mut self, unit: &Unit) -> Result<(), AllocError>
+        ensures { OnOk result (self.new ≡ with_guard_of self.old unit.now) }
+    {
+        if unit.holding.guard() && unit.holding.men() > 0 {
+            self.set(unit.region, unit.faction)?;
+        }
+        Ok(())
+    }
+
+    /// Sets the faction that guards a region.
+    pub(crate) fn set(&mut self, region: u32, faction: u32) -> Result<(), AllocError>
+        ensures { OnOk result (self.new ≡ map.insert self.old region faction) }
+    {
+        self.factions.insert(region, faction)
+    }
+
+    /// Whether a faction other than this one guards a region.
+    pub(crate) fn has_other_guard(&self, region: u32, faction: u32) -> bool
+        ensures { result ≡ has_other_guard faction (map.get self.now region) }
+    {
+        match self.factions.get(region) {
+            Some(holder) => *holder != faction,
+            None => false,
+        }
+    }
+}

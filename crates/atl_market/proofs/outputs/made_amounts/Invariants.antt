@@ -1,0 +1,10 @@
+use Rattle.std.proofs.Common.{◌≡◌, map}
+use Rattle.std.specs.FinMap.{empty, entries}
+use Rattle.atl_market.specs.Produce.{made_by}
+use Rattle.atl_market.specs.Puts.{with_each}
+use Rattle.atl_market.proofs.outputs.made_amounts.Given as goal
+
+abbrev pub invariant-loop-unit : goal.invariant-loop-unit
+invariant-loop-unit l =
+    with_each l.made (map (λ e. (e.0, made_by l.world l.asked l.campaign.value l.wants e)) l.unit-iterator)
+    ≡ with_each empty (map (λ e. (e.0, made_by l.world l.asked l.campaign.value l.wants e)) (entries l.wants))

@@ -1,9 +1,0 @@
-use Rattle.std.proofs.Common.{◌≡◌}
-use Rattle.std.specs.List.{flat_map}
-use Rattle.std.specs.FinMap.{get}
-use Rattle.atl_market.specs.Asked.{region_at, regions_asked}
-use Rattle.atl_market.specs.Puts.{with_each}
-use Rattle.atl_market.proofs.pots.regions_asked.Given as goal
-
-abbrev pub invariant-loop-number : goal.invariant-loop-number
-invariant-loop-number l = with_each l.asked (flat_map (λ e. region_at e.0 (get l.campaign.value.units e.0)) l.number-iterator) ≡ regions_asked l.wants l.campaign.value

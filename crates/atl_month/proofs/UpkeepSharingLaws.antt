@@ -1,0 +1,274 @@
+-- The accounts of upkeep, unit by unit.
+use Rattle.std.proofs.Common.{◌≡◌, ◌≢◌, ◌==◌, ◌&&◌, ◌++◌, ℕ, zero, suc, ◌+◌, ◌-◌, ◌*◌, ◌≤◌, ◌<◌, min, Bool, true, false, cond, List, [], ◌∷◌, length, get_or, take, filter, sum_by, Option, unwrap_or, refl, sym, ap, ◌∙◌, mul_comm, add-zero, arith}
+use Rattle.std.specs.Prelude.{All, nat_lt}
+use Rattle.std.specs.Ordering.{nat_cmp}
+use Rattle.std.specs.FinMap.{FinMap, empty, get, insert, get-empty}
+use Rattle.std.proofs.Math.Nat.{div-lt_iff_lt-mul}
+use Rattle.std.proofs.lemmas.Bool.{and_parts}
+use Rattle.std.proofs.lemmas.Bool.Decides.{nat_tests}
+use Rattle.std.proofs.lemmas.List.Elements.{filter-append}
+use Rattle.std.proofs.lemmas.List.Sums.{sum_by-append}
+use Rattle.atl_tables.specs.Limits.{most_per_head}
+use Rattle.atl_tables.specs.Groups.{group_of}
+use Rattle.atl_records.specs.Limits.{holding_limit, men_limit}
+use Rattle.atl_records.proofs.EveryLaws.{get-insert_other, same_number}
+use Rattle.atl_state.proofs.RegionLaws.{get-insert_same}
+use Rattle.atl_month.specs.declared.accounts.Account.{Account}
+use Rattle.atl_month.specs.declared.upkeep_sharing.UpkeepInput.{UpkeepInput}
+use Rattle.atl_month.specs.declared.upkeep_sharing.UpkeepResult.{UpkeepResult}
+use Rattle.atl_month.specs.Accounts.{AccountMap, IsOpen, account_after, account_at, account_of, left_among, no_account, short_among, upkeep_result_by, with_account, with_counted}
+use Rattle.atl_instant.specs.InTurn.{amount_in_turn}
+use Rattle.atl_month.specs.UpkeepSharing.{AreInOrder, EachCanSpare, given_among, is_input_of, left_of, paid_by, peers_of, short_of, starved_of, upkeep_result_among}
+
+-- ---- an account that is put
+
+abbrev account_or : Option Account → Account
+account_or o = unwrap_or o no_account
+
+abbrev account_in : ℕ → Option (FinMap nat_cmp Account) → Account
+account_in faction o = account_or (get (unwrap_or o empty) faction)
+
+module _ (m : AccountMap) (r f : ℕ) (a : Account) where
+  abbrev put : AccountMap
+  put = with_account m r f a
+
+  put_same : account_at put r f ≡ a
+  put_same = ap (account_in f) (get-insert_same m r (insert (group_of m r) f a)) ∙ ap account_or (get-insert_same (group_of m r) f a)
+
+  other_region : (s g : ℕ) → s ≢ r → account_at put s g ≡ account_at m s g
+  other_region s g apart = ap (account_in g) (get-insert_other m r s (insert (group_of m r) f a) apart)
+
+  other_faction : (g : ℕ) → g ≢ f → account_at put r g ≡ account_at m r g
+  other_faction g apart =
+      ap (account_in g) (get-insert_same m r (insert (group_of m r) f a)) ∙ ap account_or (get-insert_other (group_of m r) f g a apart)
+
+  pub account_put : (s g : ℕ) → account_at put s g ≡ cond ((r == s) && (f == g)) a (account_at m s g)
+  account_put s g = by_region (r == s) refl
+    where
+      by_faction : r ≡ s → (c : Bool) → (f == g) ≡ c → account_at put s g ≡ cond c a (account_at m s g)
+      by_faction same true is = let one : f ≡ g = grind (arith, nat_tests) in rw (← same, ← one) put_same
+      by_faction same false is = let apart : g ≢ f = grind (arith, nat_tests) in rw (← same) (other_faction g apart)
+
+      by_region : (b : Bool) → (r == s) ≡ b → account_at put s g ≡ cond (b && (f == g)) a (account_at m s g)
+      by_region true is = by_faction (grind (arith, nat_tests)) (f == g) refl
+      by_region false is = let apart : s ≢ r = grind (arith, nat_tests) in other_region s g apart
+
+-- ---- a unit more
+
+module _ (amount : UpkeepInput → ℕ) (test : UpkeepInput → Bool) (xs : List UpkeepInput) (p : UpkeepInput) where
+  pub among_more : sum_by amount (filter test (xs ++ p ∷ [])) ≡ sum_by amount (filter test xs) + cond (test p) (amount p) 0
+  among_more =
+      ap (sum_by amount) (filter-append test xs (p ∷ [])) ∙ sum_by-append amount (filter test xs) (filter test (p ∷ []))
+      ∙ ap (λ n. sum_by amount (filter test xs) + n) (one (test p))
+    where
+      one : (b : Bool) → sum_by amount (cond b (p ∷ []) []) ≡ cond b (amount p) 0
+      one true = omega arith
+      one false = refl
+
+abbrev account : (left short given covered : ℕ) → Account
+account left short given covered = record { left = left; short = short; given = given; covered = covered }
+
+account_is : (a b c d e f g h : ℕ) → a ≡ e → b ≡ f → c ≡ g → d ≡ h → account a b c d ≡ account e f g h
+account_is a b c d e f g h x y z u = rw (x, y, z, u) refl
+
+-- The account of each unit is so behind a unit's, if that unit's is so, and those of others stay so.
+pub each_account : (P : ℕ → ℕ → Account → Type 0) (m : AccountMap) (p : UpkeepInput) (a : Account)
+    → P p.region p.faction a → ((s g : ℕ) → is_input_of s g p ≡ false → P s g (account_at m s g))
+    → (s g : ℕ) → P s g (account_at (with_account m p.region p.faction a) s g)
+each_account P m p a here others s g = by_test (is_input_of s g p) refl
+  where
+    at : (test : Bool) → is_input_of s g p ≡ test → account_at (with_account m p.region p.faction a) s g ≡ cond test a (account_at m s g)
+    at test is = account_put m p.region p.faction a s g ∙ ap (λ b. cond b a (account_at m s g)) is
+
+    by_test : (test : Bool) → is_input_of s g p ≡ test → P s g (account_at (with_account m p.region p.faction a) s g)
+    by_test true is =
+        let (first, second) = and_parts (p.region == s) (p.faction == g) is in
+        let region : p.region ≡ s = grind (arith, nat_tests) in
+        let faction : p.faction ≡ g = grind (arith, nat_tests) in
+        rw (at true is, ← region, ← faction) here
+    by_test false is = rw (at false is) (others s g is)
+
+own : (p : UpkeepInput) → is_input_of p.region p.faction p ≡ true
+own p = rw (same_number p.region, same_number p.faction) refl
+
+-- ---- the units are counted
+
+-- before the first unit
+pub no_accounts : (m s g : ℕ) → account_at empty s g ≡ account_of m [] [] s g
+no_accounts m s g = ap (account_in g) (get-empty nat_cmp s) ∙ ap account_or (get-empty nat_cmp g)
+
+-- an account of so many units at most
+pub record IsFew (n : ℕ) (a : Account) : Type 0 where
+  pub left : a.left ≤ holding_limit * n
+  pub short : a.short ≤ most_per_head * men_limit * n
+
+pub none_few : (s g : ℕ) → IsFew 0 (account_at empty s g)
+none_few s g = rw (ap (account_in g) (get-empty nat_cmp s) ∙ ap account_or (get-empty nat_cmp g)) (record { left = omega arith; short = omega arith })
+
+module _ (m : ℕ) (before : List UpkeepInput) (p : UpkeepInput) where
+  abbrev more : List UpkeepInput
+  more = before ++ p ∷ []
+
+  left_more : (s g : ℕ) → left_among m s g more ≡ left_among m s g before + cond (is_input_of s g p) (left_of m p) 0
+  left_more s g = among_more (left_of m) (is_input_of s g) before p
+
+  short_more : (s g : ℕ) → short_among m s g more ≡ short_among m s g before + cond (is_input_of s g p) (short_of m p) 0
+  short_more s g = among_more (short_of m) (is_input_of s g) before p
+
+  left_own : left_among m p.region p.faction more ≡ left_among m p.region p.faction before + left_of m p
+  left_own = left_more p.region p.faction ∙ ap (λ b. left_among m p.region p.faction before + cond b (left_of m p) 0) (own p)
+
+  short_own : short_among m p.region p.faction more ≡ short_among m p.region p.faction before + short_of m p
+  short_own = short_more p.region p.faction ∙ ap (λ b. short_among m p.region p.faction before + cond b (short_of m p) 0) (own p)
+
+  left_other : (s g : ℕ) → is_input_of s g p ≡ false → left_among m s g more ≡ left_among m s g before
+  left_other s g is = left_more s g ∙ ap (λ b. left_among m s g before + cond b (left_of m p) 0) is ∙ add-zero (left_among m s g before)
+
+  short_other : (s g : ℕ) → is_input_of s g p ≡ false → short_among m s g more ≡ short_among m s g before
+  short_other s g is = short_more s g ∙ ap (λ b. short_among m s g before + cond b (short_of m p) 0) is ∙ add-zero (short_among m s g before)
+
+  none_given : (x y : ℕ) → min 0 x ≡ min 0 y
+  none_given x y = omega arith
+
+  pub opened_more : (accounts : AccountMap) (a : Account) → ((s g : ℕ) → account_at accounts s g ≡ account_of m before [] s g)
+      → a ≡ with_counted m p (account_at accounts p.region p.faction)
+      → (s g : ℕ) → account_at (with_account accounts p.region p.faction a) s g ≡ account_of m more [] s g
+  opened_more accounts a each is =
+      each_account (λ s g b. b ≡ account_of m more [] s g) accounts p a
+      (is ∙ ap (with_counted m p) (each p.region p.faction) ∙ account_is _ _ _ _ _ _ _ _ (sym left_own) (sym short_own) (none_given _ _) (none_given _ _))
+      (λ s g apart. each s g ∙ account_is _ _ _ _ _ _ _ _ (sym (left_other s g apart)) (sym (short_other s g apart)) (none_given _ _) (none_given _ _))
+
+pub few_more : (m n : ℕ) (accounts : AccountMap) (p : UpkeepInput) (a : Account) → left_of m p ≤ holding_limit → short_of m p ≤ most_per_head * men_limit
+    → ((s g : ℕ) → IsFew n (account_at accounts s g)) → a ≡ with_counted m p (account_at accounts p.region p.faction)
+    → (s g : ℕ) → IsFew (n + 1) (account_at (with_account accounts p.region p.faction a) s g)
+few_more m n accounts p a left short each is =
+    let old = each p.region p.faction in
+    each_account (λ s g b. IsFew (n + 1) b) accounts p a
+    (rw is (record { left = omega (arith, old.left, left); short = omega (arith, old.short, short) }))
+    (λ s g apart. let o = each s g in record { left = omega (arith, o.left); short = omega (arith, o.short) })
+
+-- ---- the units of lower numbers
+
+module _ {A : Type 0} where
+  -- an element before a list, if a test says so
+  abbrev if_so : Bool → A → List A → List A
+  if_so b x xs = cond b (x ∷ xs) xs
+
+  -- two filters in either order
+  filters_swap : (t q : A → Bool) (xs : List A) → filter q (filter t xs) ≡ filter t (filter q xs)
+  filters_swap t q [] = refl
+  filters_swap t q (x ∷ xs) = either (filters_swap t q xs) (t x) (q x) refl refl
+    where
+      either : filter q (filter t xs) ≡ filter t (filter q xs) → (b d : Bool) → t x ≡ b → q x ≡ d
+          → filter q (if_so b x (filter t xs)) ≡ filter t (if_so d x (filter q xs))
+      either same true true is as_well =
+          ap (λ d. if_so d x (filter q (filter t xs))) as_well ∙ ap (λ l. x ∷ l) same
+          ∙ sym (ap (λ b. if_so b x (filter t (filter q xs))) is)
+      either same true false is not_so = ap (λ d. if_so d x (filter q (filter t xs))) not_so ∙ same
+      either same false true is as_well = same ∙ sym (ap (λ b. if_so b x (filter t (filter q xs))) is)
+      either same false false is not_so = same
+
+  none_pass : (t : A → Bool) (xs : List A) → All (λ x. t x ≡ false) xs → filter t xs ≡ []
+  none_pass t [] h = refl
+  none_pass t (x ∷ xs) h =
+      ap (λ b. if_so b x (filter t xs)) (h 0 x (omega arith))
+      ∙ none_pass t xs (λ k d l. h (suc k) d (omega (arith, l)))
+
+abbrev is_lower : ℕ → UpkeepInput → Bool
+is_lower n p = nat_lt p.unit n
+
+lower : (a b : ℕ) → a < b → nat_lt a b ≡ true
+lower a b l = grind (arith, nat_tests, l)
+
+no_lower : (a b : ℕ) → b < a + 1 → nat_lt a b ≡ false
+no_lower a b l = grind (arith, nat_tests, l)
+
+-- in a list in the order of their numbers they are those that come first
+pub lower_first : (all : List UpkeepInput) (i : ℕ) (d : UpkeepInput) → AreInOrder all → i < length all
+    → filter (is_lower (get_or all i d).unit) all ≡ take i all
+lower_first [] i d order l = absurd (omega (arith, l))
+lower_first (p ∷ ps) zero d order l =
+    ap (λ b. if_so b p (filter (is_lower p.unit) ps)) (no_lower p.unit p.unit (omega arith))
+    ∙ none_pass (is_lower p.unit) ps (λ k e h. no_lower _ p.unit (omega (arith, order 0 (suc k) e (omega arith) (omega (arith, h)))))
+lower_first (p ∷ ps) (suc i) d order l =
+    let n = (get_or ps i d).unit in
+    ap (λ b. if_so b p (filter (is_lower n) ps)) (lower p.unit n (order 0 (suc i) d (omega arith) l))
+    ∙ ap (λ l. p ∷ l) (lower_first ps i d (λ j k e h m. order (suc j) (suc k) e (omega (arith, h)) (omega (arith, m))) (omega (arith, l)))
+
+-- ---- the upkeep of all units
+
+next_dealt : (before want amount : ℕ) → min before amount + min (amount - min before amount) want ≡ min (before + want) amount
+next_dealt before want amount = omega arith
+
+is_dealt : (before want amount : ℕ) → min (amount - min before amount) want ≡ min (before + want) amount - min before amount
+is_dealt before want amount = omega arith
+
+module _ (m : ℕ) (all before : List UpkeepInput) (p : UpkeepInput) (accounts : AccountMap)
+    (each : (s g : ℕ) → account_at accounts s g ≡ account_of m all before s g) where
+  abbrev now : Account
+  now = account_of m all before p.region p.faction
+
+  abbrev peers : List UpkeepInput
+  peers = peers_of p.region p.faction all
+
+  abbrev amount : ℕ
+  amount = given_among m peers
+
+  pub settled_more : (a : Account) → a ≡ account_after m (account_at accounts p.region p.faction) p
+      → (s g : ℕ) → account_at (with_account accounts p.region p.faction a) s g ≡ account_of m all (before ++ p ∷ []) s g
+  settled_more a is =
+      each_account (λ s g b. b ≡ account_of m all (before ++ p ∷ []) s g) accounts p a
+      (is ∙ ap (λ b. account_after m b p) (each p.region p.faction)
+      ∙ account_is _ _ _ _ _ _ _ _ refl refl
+      (next_dealt (left_among m p.region p.faction before) (left_of m p) amount ∙ sym (ap (λ n. min n amount) (left_own m before p)))
+      (next_dealt (short_among m p.region p.faction before) (short_of m p) amount ∙ sym (ap (λ n. min n amount) (short_own m before p))))
+      (λ s g apart. each s g ∙ account_is _ _ _ _ _ _ _ _ refl refl
+      (sym (ap (λ n. min n (given_among m (peers_of s g all))) (left_other m before p s g apart)))
+      (sym (ap (λ n. min n (given_among m (peers_of s g all))) (short_other m before p s g apart))))
+
+  -- those of them before the unit are those of lower numbers
+  before_among : filter (is_lower p.unit) all ≡ before → filter (is_lower p.unit) peers ≡ peers_of p.region p.faction before
+  before_among first =
+      filters_swap (is_input_of p.region p.faction) (is_lower p.unit) all ∙ ap (peers_of p.region p.faction) first
+
+  pub settled_is : filter (is_lower p.unit) all ≡ before → upkeep_result_by m (account_at accounts p.region p.faction) p ≡ upkeep_result_among m peers p
+  settled_is first =
+      ap (λ b. upkeep_result_by m b p) (each p.region p.faction)
+      ∙ same_settled _ _ _ _ (ap (λ n. paid_by m p + n) (part_of (left_of m))) (ap (λ n. starved_of m (short_of m p - n)) (part_of (short_of m)))
+    where
+      -- what the unit gets or gives of an amount of all
+      part_of : (f : UpkeepInput → ℕ) → min (amount - min (sum_by f (peers_of p.region p.faction before)) amount) (f p) ≡ amount_in_turn amount (sum_by f (filter (is_lower p.unit) peers)) (f p)
+      part_of f =
+          is_dealt (sum_by f (peers_of p.region p.faction before)) (f p) amount
+          ∙ ap (λ xs. amount_in_turn amount (sum_by f xs) (f p)) (sym (before_among first))
+
+      settled : (paid starved : ℕ) → UpkeepResult
+      settled paid starved = record { unit = p.unit; faction = p.faction; paid = paid; starved = starved }
+
+      same_settled : (a b c d : ℕ) → a ≡ c → b ≡ d → settled a b ≡ settled c d
+      same_settled a b c d x y = rw (x, y) refl
+
+  pub account_open : IsOpen (account_at accounts p.region p.faction)
+  account_open = rw (each p.region p.faction) (record { given = omega arith; covered = omega arith })
+
+-- ---- what is taken is there
+
+-- where no more is missing than so many men cost, no more of them starve
+few_starve : (m men short : ℕ) → 1 ≤ m → short ≤ m * men → starved_of m short ≤ men
+few_starve m men short some most =
+    let rounded : short + (m - 1) < (men + 1) * m = omega (arith, mul_comm m men) in
+    let fewer : starved_of m short < men + 1 = (div-lt_iff_lt-mul some).1 rounded in
+    omega arith
+
+pub can_spare : EachCanSpare
+can_spare m some peers p =
+    let given = given_among m peers in
+    let before = filter (is_lower p.unit) peers in
+    let short = short_of m p - amount_in_turn given (sum_by (short_of m) before) (short_of m p) in
+    record {
+      paid = within given (sum_by (left_of m) before) p.money (m * p.men);
+      starved = few_starve m p.men short some (omega arith);
+    }
+  where
+    within : (given before money due : ℕ) → min money due + amount_in_turn given before (money - min money due) ≤ money
+    within given before money due = omega arith

@@ -1,0 +1,13 @@
+use Rattle.std.proofs.Common.{◌≡◌, ◌++◌, filter, map, drop}
+use Rattle.atl_month.specs.Upkeep.{starved_event, starves}
+use Rattle.atl_month.proofs.upkeep.report_starved.Given as goal
+
+abbrev pub invariant-loop-settled : goal.invariant-loop-settled
+invariant-loop-settled l = record {
+  readings : l.month.readings ≡ l.initial.month.readings;
+  aliases : l.month.aliases ≡ l.initial.month.aliases;
+  words : l.month.words ≡ l.initial.month.words;
+  rest :
+      l.month.events ++ map starved_event (filter starves (drop l.settled-index l.list))
+      ≡ l.initial.month.events ++ map starved_event (filter starves l.list);
+}

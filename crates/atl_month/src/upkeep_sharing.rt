@@ -1,0 +1,119 @@
+//! How the units of a faction in a region share the upkeep. See docs/RULES.md, "Upkeep".
+ghost use Rattle.std.specs.Prelude.{◌≡◌, ◌≤◌, [], ℕ, All, IfOk};
+ghost use Rattle.atl_tables.specs.Limits.{most_per_head};
+ghost use Rattle.atl_month.specs.Accounts.{IsOpen, account_after, account_at, account_of, upkeep_result_by};
+ghost use Rattle.atl_month.specs.UpkeepSharing.{AreInOrder, EachCanSpare, IsUpkeepInput, left_of, short_of, upkeep_results_of};
+
+use crate::accounts::{Account, Accounts, account_of, put_account};
+use atl_tables::Numbered;
+use std::alloc::{AllocError, Global};
+
+/// What upkeep sees of a unit: its number, the numbers of its region and of its faction, its men and its money.
+#[derive(Drop, Clone, Copy, Debug, PartialEq, Eq)]
+pub struct UpkeepInput {
+    pub unit: u32,
+    pub region: u32,
+    pub faction: u32,
+    pub men: u32,
+    pub money: u32,
+}
+
+/// What upkeep takes from a unit: its number and that of its faction, the money that it pays, for itself and for others, and how
+/// many of its men starve.
+#[derive(Drop, Clone, Copy, Debug, PartialEq, Eq)]
+pub struct UpkeepResult {
+    pub unit: u32,
+    pub faction: u32,
+    pub paid: u32,
+    pub starved: u32,
+}
+
+/// What a unit has left of its money behind its own upkeep, and what it is short of.
+fn balance(maintenance: u32, input: &UpkeepInput) -> (u64, u64)
+    requires most { maintenance ≤ most_per_head }
+    requires input { IsUpkeepInput input.now }
+    ensures { result ≡ (left_of maintenance input.now, short_of maintenance input.now) }
+{
+    let due = u64::from(maintenance) * u64::from(input.men);
+    let money = u64::from(input.money);
+    (money.saturating_sub(due), due.saturating_sub(money))
+}
+
+/// The accounts of these units, with nothing given yet.
+fn open_accounts(
+    alloc: Global,
+    maintenance: u32,
+    inputs: &[UpkeepInput],
+) -> Result<Accounts, AllocError>
+    requires most { maintenance ≤ most_per_head }
+    requires inputs { All IsUpkeepInput inputs.now }
+    ensures { IfOk result (λ accounts. (region faction : ℕ)
+        → account_at accounts region faction
+        ≡ account_of maintenance inputs.now [] region faction) }
+{
+    let mut accounts = Numbered::new(alloc);
+    for input in inputs {
+        let (left, short) = balance(maintenance, input);
+        let mut account = account_of(&accounts, input);
+        account.left += u128::from(left);
+        account.short += u128::from(short);
+        put_account(alloc, &mut accounts, input, account)?;
+    }
+    Ok(accounts)
+}
+
+/// Takes a unit's upkeep out of the account of its faction in its region.
+fn payment_of(maintenance: u32, account: &mut Account, input: &UpkeepInput) -> UpkeepResult
+    requires some { 1 ≤ maintenance }
+    requires most { maintenance ≤ most_per_head }
+    requires input { IsUpkeepInput input.now }
+    requires account { IsOpen account.old }
+    ensures settled { result ≡ upkeep_result_by maintenance account.old input.now }
+    ensures account { account.new ≡ account_after maintenance account.old input.now }
+{
+    let (left, short) = balance(maintenance, input);
+    let amount = account.left.min(account.short);
+    let given = u128::from(left).min(amount - account.given);
+    let covered = u128::from(short).min(amount - account.covered);
+    account.given += given;
+    account.covered += covered;
+    let own = u64::from(input.money) - left;
+    let maintenance = u64::from(maintenance);
+    let short = short - covered as u64;
+    UpkeepResult {
+        unit: input.unit,
+        faction: input.faction,
+        paid: (own + given as u64) as u32,
+        starved: ((short + (maintenance - 1)) / maintenance) as u32,
+    }
+}
+
+/// What upkeep takes from each of these units, in the order of their numbers: the units of one faction in one region pay for each
+/// other. The maintenance is money of a man a month. AllocError without memory. See docs/RULES.md, "Upkeep".
+pub fn upkeep_payments(
+    alloc: Global,
+    maintenance: u32,
+    inputs: &[UpkeepInput],
+) -> Result<Vec<UpkeepResult>, AllocError>
+    requires some { 1 ≤ maintenance }
+    requires most { maintenance ≤ most_per_head }
+    requires inputs { All IsUpkeepInput inputs.now }
+    requires order { AreInOrder inputs.now }
+    ensures definition { IfOk result
+        (λ list. list.items ≡ upkeep_results_of maintenance inputs.now) }
+{
+    let mut accounts = open_accounts(alloc, maintenance, inputs)?;
+    let mut list = Vec::new(alloc);
+    for input in inputs {
+        let mut account = account_of(&accounts, input);
+        let settled = payment_of(maintenance, &mut account, input);
+        put_account(alloc, &mut accounts, input, account)?;
+        list.push(settled)?;
+    }
+    Ok(list)
+}
+
+/// What upkeep takes from a unit is there: it pays no more money than it has, and no more men starve than it has.
+pub fn each_unit_can_spare()
+    ensures { EachCanSpare }
+{}

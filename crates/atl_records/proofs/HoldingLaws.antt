@@ -1,0 +1,79 @@
+-- Amounts by numbers, behind a change of one of them.
+use Rattle.std.proofs.Common.{◌≡◌, ◌≢◌, ◌==◌, ℕ, ◌≤◌, Bool, true, false, cond, Option, Some, None, refl, ap, subst, sym, ◌∙◌, inl, inr, arith}
+use Rattle.std.specs.Prelude.{Result, Ok, Err, OnOk, OnErr, unwrap_or, if◌then◌else◌}
+use Rattle.std.proofs.lemmas.Bool.{cases_Bool}
+use Rattle.std.proofs.lemmas.Bool.Decides.{nat_tests}
+use Rattle.std.specs.Ordering.{nat_cmp, eq_by_cmp}
+use Rattle.std.specs.Cmp.{nat_cmp_total, unsigned_ties}
+use Rattle.std.specs.FinMap.{FinMap, get, get-insert, get-remove, insert, remove}
+use Rattle.atl_records.specs.Every.{Every}
+use Rattle.atl_records.specs.Holdings.{AreAmounts, HoldingValue, IsHolding, amount_of, with_amount_of}
+use Rattle.atl_records.specs.Limits.{holding_limit}
+use Rattle.atl_records.proofs.EveryLaws.{every-insert, get-insert_other}
+use Rattle.atl_records.proofs.RemovedLaws.{every-remove, get-remove_other}
+
+-- what is so of the amount that is set is so of each
+pub every_amount : (P : ℕ → ℕ → Type 0) (items : FinMap nat_cmp ℕ) (i amount : ℕ) → (1 ≤ amount → P i amount) → Every P items → Every P (with_amount_of items i amount)
+every_amount P items i amount here old = by_zero (amount == 0) refl
+  where
+    by_zero : (b : Bool) → (amount == 0) ≡ b → Every P (if b then remove items i else insert items i amount)
+    by_zero true is = every-remove items i P old
+    by_zero false is = let some : 1 ≤ amount = grind (arith, nat_tests) in every-insert P items i amount (here some) old
+
+-- the amount that was set, and the others as they were
+pub set_amount : (items : FinMap nat_cmp ℕ) (i amount j : ℕ) → amount_of (with_amount_of items i amount) j ≡ cond (eq_by_cmp nat_cmp j i) amount (amount_of items j)
+set_amount items i amount j = by_zero (amount == 0) refl
+  where
+    put : (b : Bool) → unwrap_or (cond b (Some amount) (get items j)) 0 ≡ cond b amount (amount_of items j)
+    put true = refl
+    put false = refl
+
+    taken : (b : Bool) → 0 ≡ amount → unwrap_or (cond b None (get items j)) 0 ≡ cond b amount (amount_of items j)
+    taken true e = e
+    taken false e = refl
+
+    by_zero : (b : Bool) → (amount == 0) ≡ b → amount_of (if b then remove items i else insert items i amount) j ≡ cond (eq_by_cmp nat_cmp j i) amount (amount_of items j)
+    by_zero true is =
+        let none : 0 ≡ amount = grind (arith, nat_tests) in
+        ap (λ (o : Option ℕ). unwrap_or o 0) (get-remove nat_cmp_total items i j) ∙ taken (eq_by_cmp nat_cmp j i) none
+    by_zero false is = ap (λ (o : Option ℕ). unwrap_or o 0) (get-insert nat_cmp_total items i amount j) ∙ put (eq_by_cmp nat_cmp j i)
+
+-- a unit's amount of an item is within the limit
+pub amount_within : (h : HoldingValue) (i : ℕ) → IsHolding h → amount_of h.items i ≤ holding_limit
+amount_within h i is = by_option (get h.items i) refl
+  where
+    by_option : (o : Option ℕ) → get h.items i ≡ o → unwrap_or o 0 ≤ holding_limit
+    by_option None e = omega arith
+    by_option (Some amount) e = (is.items i amount e).1
+
+-- numbers that compare equal
+pub alike : (i j : ℕ) → eq_by_cmp nat_cmp j i ≡ true → j ≡ i
+alike i j is = let same : (j == i) ≡ true = unsigned_ties j i ∙ is in grind (arith, nat_tests)
+
+-- ---- the amount that was set, and each other one
+
+module _ (items : FinMap nat_cmp ℕ) (i amount : ℕ) where
+  pub set_same : amount_of (with_amount_of items i amount) i ≡ amount
+  set_same = let same : (i == i) ≡ true = grind (arith, nat_tests) in set_amount items i amount i ∙ ap (λ b. cond b amount (amount_of items i)) (sym (unsigned_ties i i) ∙ same)
+
+  pub set_other : (j : ℕ) → j ≢ i → amount_of (with_amount_of items i amount) j ≡ amount_of items j
+  set_other j apart = elim (cases_Bool (eq_by_cmp nat_cmp j i)) [
+    | inl same ↦ absurd (apart (alike i j same))
+    | inr other ↦ set_amount items i amount j ∙ ap (λ b. cond b amount (amount_of items j)) other
+  ]
+
+  pub get-set_other : (j : ℕ) → j ≢ i → get (with_amount_of items i amount) j ≡ get items j
+  get-set_other j apart = by_zero (amount == 0)
+    where
+      by_zero : (b : Bool) → get (if b then remove items i else insert items i amount) j ≡ get items j
+      by_zero true = get-remove_other items i j apart
+      by_zero false = get-insert_other items i j amount apart
+
+-- ---- a unit's amounts stay within the limits, whether there was memory or not
+pub AreAmounts-set : {E : Type 0} (r : Result (Unit {0}) E) (old new : FinMap nat_cmp ℕ) (item amount : ℕ) → amount ≤ holding_limit → OnOk r (new ≡ with_amount_of old item amount) → OnErr r (new ≡ old) → AreAmounts old → AreAmounts new
+AreAmounts-set (Ok u) old new item amount h put same is = subst AreAmounts (sym put) (every_amount (λ i n. (1 ≤ n) × (n ≤ holding_limit)) old item amount (λ some. (some, h)) is)
+AreAmounts-set (Err e) old new item amount h put same is = subst AreAmounts (sym same) is
+
+pub AreAmounts-put : {E : Type 0} (r : Result (Unit {0}) E) (old new : FinMap nat_cmp ℕ) (item amount : ℕ) → (1 ≤ amount) × (amount ≤ holding_limit) → OnOk r (new ≡ insert old item amount) → OnErr r (new ≡ old) → AreAmounts old → AreAmounts new
+AreAmounts-put (Ok u) old new item amount h put same is = subst AreAmounts (sym put) (every-insert (λ i n. (1 ≤ n) × (n ≤ holding_limit)) old item amount h is)
+AreAmounts-put (Err e) old new item amount h put same is = subst AreAmounts (sym same) is

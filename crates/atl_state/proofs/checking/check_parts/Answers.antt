@@ -1,0 +1,31 @@
+use Rattle.std.proofs.Common.{sym, subst, arith}
+use Rattle.atl_state.specs.Checking.{KeepsBelow, Fits}
+use Rattle.atl_state.specs.Good.{IsGood}
+use Rattle.atl_state.specs.Rows.{AreRowsOf}
+use Rattle.atl_state.specs.Campaign.{CampaignValue}
+use Rattle.atl_state.specs.declared.checking.Rule.TheVariants.{Names}
+use Rattle.atl_state.proofs.CheckLaws.{one-said, people-said, checked-rows, checked-fits, checked-good}
+use Rattle.atl_state.proofs.checking.check_parts.Goals as goal
+
+pub assemble-requires-clause-one : goal.assemble-requires-clause-one
+assemble-requires-clause-one c = one-said c.args.format c.args.world.now c.args.parts c.in_ok-check_rows.ensures
+
+pub assemble-requires-clause-named : goal.assemble-requires-clause-named
+assemble-requires-clause-named c = let before : KeepsBelow c.args.format c.args.world.now c.args.parts 4 = c.in_ok-check_rows.ensures in (before Names (omega arith)).texts
+
+pub assemble-requires-clause-people : goal.assemble-requires-clause-people
+assemble-requires-clause-people c = people-said c.args.format c.args.world.now c.args.parts c.in_ok-check_rows.ensures
+
+pub returns : goal.returns
+returns c =
+    let w = c.args.world.now in
+    let p = c.args.parts in
+    let f = c.args.format in
+    let all : KeepsBelow f w p 13 = c.in_ok-check_holders.ensures in
+    let what = c.in-Ok.ensures.what in
+    record {
+      rows = subst (λ (s : CampaignValue). AreRowsOf f s p) (sym what) (checked-rows f w p c.assemble.ensures.world all);
+      fits = subst (Fits f) (sym what) (checked-fits f w p c.assemble.ensures.world all);
+      good = subst (IsGood w) (sym what) (checked-good f w p c.assemble.ensures.world all);
+      marks = c.in-Ok.ensures.marks;
+    }

@@ -1,5 +1,0 @@
-use Rattle.atl_state.proofs.KeyLaws.{RisesTo}
-use Rattle.atl_state.proofs.row_rules.keys.are_rising.Given as goal
-
-abbrev pub invariant-loop-i : goal.invariant-loop-i
-invariant-loop-i g l = RisesTo g.met.K.Ord.total l.i l.keys

@@ -1,0 +1,5 @@
+use Rattle.atl_state.proofs.KeyLaws.{RisesTo}
+use Rattle.atl_state.proofs.row_rules.keys.are_sorted.Given as goal
+
+abbrev pub invariant-loop-i : goal.invariant-loop-i
+invariant-loop-i g l = RisesTo g.met.K.Ord.total l.i l.keys

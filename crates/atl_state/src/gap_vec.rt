@@ -1,0 +1,164 @@
+//! A vector with free room at both ends: a gap is closed from its nearer end.
+ghost use Rattle.std.specs.Prelude.{◌≡◌, ◌+◌, ◌-◌, ◌<◌, ◌≤◌, ◌^◌, OnOk, OnErr, IfOk, [], length, drop};
+ghost use Rattle.std.specs.List.{insert, remove};
+
+use std::alloc::{AllocError, Global};
+use std::marker::Model;
+
+/// A list that stands behind free places, which are at most half of all. To put something in, or to take it out, takes the
+/// time in which what stands on the nearer side of it moves.
+#[derive(Drop, Debug)]
+pub(crate) struct GapVec<T> {
+    items: Vec<T>,
+    free: usize,
+}
+
+impl<T> Model for GapVec<T> {
+    ghost use Rattle.std.specs.Prelude.{List, ◌+◌, ◌≤◌, length, drop};
+
+    ghost Value = { List T };
+
+    ghost view = { λ a. drop a.free a.items.items };
+
+    ghost invariant = { λ a. a.free + a.free ≤ length a.items.items };
+}
+
+/// Makes free places before a list that has none and is not empty, half as many as it has things and one. Tells how many.
+/// Without memory nothing changes.
+fn make_room<T: Copy + Drop>(items: &mut Vec<T>) -> Result<usize, AllocError>
+    requires { 0 < length items.old.items }
+    ensures some { IfOk result (λ free. 0 < free) }
+    ensures half { IfOk result (λ free. free + free ≤ length items.new.items) }
+    ensures part { IfOk result (λ free. drop free items.new.items ≡ items.old.items) }
+    ensures err { OnErr result (items.new.items ≡ items.old.items) }
+{
+    let count = items.len();
+    let free = count / 2 + 1;
+    items.resize(count + free, items[0])?;
+    items.copy_within(..count, free);
+    Ok(free)
+}
+
+/// Puts a thing at a place behind the free ones, of which it takes the last. What stands before that place moves.
+fn put_before<T: Copy + Drop>(items: &mut Vec<T>, free: usize, place: usize, thing: T)
+    requires some { 0 < free }
+    requires within { free + place ≤ length items.old.items }
+    ensures part { drop (free - 1) items.new.items
+        ≡ insert (drop free items.old.items) place thing }
+    ensures len { length items.new.items ≡ length items.old.items }
+{
+    let first = free - 1;
+    items.copy_within(free..free + place, first);
+    items[first + place] = thing;
+}
+
+/// Puts a thing at a place behind the free ones, and moves what stands on the nearer side of it. Tells how many are free then.
+/// Without memory nothing changes.
+fn open<T: Copy + Drop>(
+    items: &mut Vec<T>,
+    free: usize,
+    place: usize,
+    thing: T,
+) -> Result<usize, AllocError>
+    requires within { free + place ≤ length items.old.items }
+    requires half { free + free ≤ length items.old.items }
+    ensures part { IfOk result
+        (λ left. drop left items.new.items ≡ insert (drop free items.old.items) place thing) }
+    ensures half { IfOk result (λ left. left + left ≤ length items.new.items) }
+    ensures err { OnErr result (items.new.items ≡ items.old.items) }
+{
+    if items.len() - free - place <= place {
+        items.insert(free + place, thing)?;
+        return Ok(free);
+    }
+    let free = if free == 0 { make_room(items)? } else { free };
+    put_before(items, free, place, thing);
+    Ok(free - 1)
+}
+
+/// Takes out what stands at a place behind the free ones, and moves what stands on the nearer side of it. Tells how many
+/// are free then.
+fn close<T: Copy + Drop>(items: &mut Vec<T>, free: usize, place: usize) -> usize
+    requires { free + place < length items.old.items }
+    ensures part { drop result items.new.items ≡ remove (drop free items.old.items) place }
+    ensures within { result ≤ length items.new.items }
+{
+    let hole = free + place;
+    if place < items.len() - hole {
+        items.copy_within(free..hole, free + 1);
+        return free + 1;
+    }
+    items.remove(hole);
+    free
+}
+
+/// Moves what stands behind the free places to the front, where more than half are free. Tells how many are free then.
+fn compact<T: Copy + Drop>(items: &mut Vec<T>, free: usize) -> usize
+    requires { free ≤ length items.old.items }
+    ensures part { drop result items.new.items ≡ drop free items.old.items }
+    ensures half { result + result ≤ length items.new.items }
+{
+    let count = items.len() - free;
+    if free <= count {
+        return free;
+    }
+    items.copy_within(free.., 0);
+    items.truncate(count);
+    0
+}
+
+impl<T: Copy + Drop> GapVec<T> {
+    /// Nothing. It takes no memory.
+    pub(crate) fn new(alloc: Global) -> Self
+        ensures { result ≡ [] }
+    {
+        Self {
+            items: Vec::new(alloc),
+            free: 0,
+        }
+    }
+
+    /// Nothing, and room for so many things.
+    pub(crate) fn with_room(alloc: Global, room: usize) -> Result<Self, AllocError>
+        ensures { IfOk result (λ shelf. shelf ≡ []) }
+    {
+        Ok(Self {
+            items: Vec::with_capacity(alloc, room)?,
+            free: 0,
+        })
+    }
+
+    /// Puts a thing at a place. Without memory nothing changes.
+    pub(crate) fn insert(&mut self, place: usize, thing: T) -> Result<(), AllocError>
+        requires { place ≤ length self.old }
+        ensures ok { OnOk result (self.new ≡ insert self.old place thing) }
+        ensures err { OnErr result (self.new ≡ self.old) }
+    {
+        self.free = open(&mut self.items, self.free, place, thing)?;
+        Ok(())
+    }
+
+    /// Takes out what stands at a place. It takes no memory.
+    pub(crate) fn remove(&mut self, place: usize)
+        requires { place < length self.old }
+        ensures { self.new ≡ remove self.old place }
+    {
+        let free = close(&mut self.items, self.free, place);
+        self.free = compact(&mut self.items, free);
+    }
+
+    /// How many things there are.
+    pub(crate) fn len(&self) -> usize
+        ensures value { result ≡ length self.now }
+        ensures small { result < 2 ^ 63 }
+    {
+        self.items.len() - self.free
+    }
+
+    /// All things, in order.
+    pub(crate) fn as_slice(&self) -> &[T]
+        ensures { result.now ≡ self.now }
+    {
+        &self.items[self.free..]
+    }
+}

@@ -1,0 +1,14 @@
+use Rattle.atl_store.specs.Tables.{Books}
+use Rattle.atl_store.specs.Filling.{FillsPart}
+use Rattle.atl_store.specs.OwnStatements.{puts_row}
+use Rattle.atl_store.proofs.FillLaws.{books_fill}
+use Rattle.atl_store.proofs.LedgerLaws.{things_rows}
+use Rattle.atl_store.proofs.PartLaws.{in_turn_one}
+use Rattle.atl_store.proofs.WholeLaws.{done_as}
+use Rattle.atl_store.proofs.WriteLaws.{among_each}
+use Rattle.atl_store.proofs.write_parts.LedgerWrittenPart.fill.Goals as goal
+
+pub returns : goal.returns
+returns g c =
+    let campaign = c.args.campaign.now.value in
+    done_as g.S.Store (λ old new did. in_turn_one (FillsPart campaign) Books old new (books_fill campaign old new did)) (among_each g.S.Store _ _ (λ row there. puts_row Books (λ own. things_rows campaign _ row there)) c.put_all_books.ensures)

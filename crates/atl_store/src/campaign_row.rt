@@ -1,0 +1,72 @@
+//! Writes the campaign row.
+ghost use Rattle.std.specs.Prelude.{◌≡◌};
+ghost use Rattle.atl_store.specs.Rows.{campaign_row_of};
+ghost use Rattle.atl_store.specs.PutsCampaignRow.{PutsCampaignRow};
+ghost use Rattle.atl_store.specs.Rewriting.{RewritesCampaignRow};
+ghost use Rattle.atl_store.specs.Shown.{campaign_row_values};
+ghost use Rattle.atl_store.specs.UpgradeSteps.{UpgradesCampaignRow};
+ghost use Rattle.atl_store.specs.Written.{head_shown};
+ghost use Rattle.atl_store.specs.Statements.{campaign_upsert, upgrading_upsert};
+ghost use Rattle.atl_store.specs.OwnStatements.{Only, OfChange};
+ghost use Rattle.atl_store.specs.Writes.{Writes};
+ghost use Rattle.atl_store.specs.Inside.{Inside, HasTables};
+
+use crate::rows::campaign::{CampaignRow, put_campaign, put_upgraded};
+use atl_state::Campaign;
+use sqlite::{Alter, Error, Transaction};
+
+fn own_row(campaign: &Campaign) -> CampaignRow<'_>
+    ensures { head_shown result ≡ campaign_row_of campaign.now.value }
+{
+    CampaignRow {
+        month: campaign.month(),
+        next_faction: campaign.next_faction(),
+        next_unit: campaign.next_unit(),
+        next_structure: campaign.next_structure(),
+        pass: campaign.pass().as_str(),
+    }
+}
+
+/// Puts the campaign's own row with this world text. Where the row is there it keeps its own world text.
+pub(crate) fn put_campaign_row<S: Alter>(
+    tx: &mut Transaction<'_, S>,
+    campaign: &Campaign,
+    world: &str,
+) -> Result<(), Error>
+    ensures { Writes S.Store
+        (Only campaign_upsert (campaign_row_values (campaign_row_of campaign.now.value) world.now))
+        (Inside HasTables (PutsCampaignRow (campaign_row_of campaign.now.value) world.now)) result
+        tx.old.conn tx.new.conn }
+{
+    let row = own_row(campaign);
+    put_campaign(tx, &row, world)
+}
+
+/// Gives the campaign's own row the second format and this world text.
+pub(crate) fn upgrade_campaign_row<S: Alter>(
+    tx: &mut Transaction<'_, S>,
+    campaign: &Campaign,
+    world: &str,
+) -> Result<(), Error>
+    ensures { Writes S.Store
+        (Only upgrading_upsert (campaign_row_values (campaign_row_of campaign.now.value) world.now))
+        (Inside HasTables (UpgradesCampaignRow (campaign_row_of campaign.now.value) world.now))
+        result tx.old.conn tx.new.conn }
+{
+    let row = own_row(campaign);
+    put_upgraded(tx, &row, world)
+}
+
+/// Changes the campaign's own row, if it is marked.
+pub(crate) fn rewrite_campaign_row<S: Alter>(
+    tx: &mut Transaction<'_, S>,
+    campaign: &Campaign,
+) -> Result<(), Error>
+    ensures { Writes S.Store (OfChange campaign.now.value)
+        (Inside HasTables (RewritesCampaignRow campaign.now)) result tx.old.conn tx.new.conn }
+{
+    if campaign.is_row_marked() {
+        return put_campaign_row(tx, campaign, "");
+    }
+    Ok(())
+}

@@ -1,0 +1,121 @@
+//! Things with one row in a table, by number: how each is put, rewritten and deleted.
+ghost use Rattle.std.specs.Prelude.{◌≡◌, ◌↔◌, ℕ, [], ◌∷◌, take};
+ghost use Rattle.std.specs.Ordering.{nat_cmp};
+ghost use Rattle.std.specs.Option.{option_copied};
+ghost use Rattle.std.specs.FinMap.{FinMap, entries, get};
+ghost use Rattle.std.specs.FinSet.{FinSet};
+ghost use Rattle.sqlite.specs.Order.{Row as SqlRow};
+ghost use Rattle.atl_store.specs.Shown.{int};
+ghost use Rattle.atl_store.specs.Tables.{Part, IsNumberedPart, table_of};
+ghost use Rattle.atl_store.specs.Rows.{RowsOf, lines_of, rows_for};
+ghost use Rattle.atl_store.specs.Changing.{begins_marked, is_marked};
+ghost use Rattle.atl_store.specs.Statements.{deletion};
+ghost use Rattle.atl_store.specs.OwnStatements.{OfChange};
+ghost use Rattle.atl_store.specs.Writes.{Writes, WritesRow, WritesRows, TakesOut};
+ghost use Rattle.atl_store.specs.Inside.{Inside, HasTables};
+ghost use Rattle.atl_store.specs.Rewriting.{RewritesNumber, RewritesMarked};
+ghost use Rattle.atl_tables.specs.Tracking.{Lists};
+ghost use Rattle.atl_state.specs.Marks.{Marks};
+ghost use Rattle.atl_state.specs.Campaign.{CampaignValue};
+
+use crate::statement::run;
+use atl_state::Campaign;
+use atl_tables::{Entries, MarkedNumbers};
+use sqlite::{Alter, Error, Transaction, params};
+
+/// What has a row under its number in a table of its own.
+pub(crate) trait NumberedRow: Sized {
+    ghost part: { Part };
+
+    ghost is_numbered: { IsNumberedPart part };
+
+    ghost line: { ℕ → Self → SqlRow };
+
+    ghost numbered: { (n : ℕ) (v : Self) → take 1 (line n v) ≡ int n ∷ [] };
+
+    ghost values: { CampaignValue → FinMap nat_cmp Self };
+
+    ghost marks: { Marks → FinSet nat_cmp };
+
+    ghost are_rows: { (own : SqlRow) (c : CampaignValue) (r : SqlRow) → rows_for own c part r ↔ RowsOf line (values c) r };
+
+    ghost are_marked: { (m : Marks) (r : SqlRow) → is_marked m part r ≡ begins_marked (marks m) r };
+
+    /// What stands under a number of a campaign.
+    fn of(campaign: &Campaign, number: u32) -> Option<&Self>
+        ensures { option_copied result ≡ get (values campaign.now.value) number };
+
+    /// The numbers that are marked in a campaign, in rising order.
+    fn marked(campaign: &Campaign) -> MarkedNumbers<'_>
+        ensures { Lists (marks campaign.now.marks) result };
+
+    /// The text that deletes the row of a number.
+    fn removal() -> &'static str
+        ensures { result.now ≡ deletion (table_of part) 1 };
+
+    /// Inserts its row, or changes the one that has the number.
+    fn put<S: Alter>(&self, tx: &mut Transaction<'_, S>, number: u32) -> Result<(), Error>
+        ensures { WritesRow S.Store (table_of part) 1 (line number self.now) result tx.old.conn
+            tx.new.conn };
+}
+
+/// What stands in a map of a campaign, under its numbers.
+pub(crate) trait Mapped: NumberedRow {
+    /// All that a campaign has of it, in rising order of the numbers.
+    fn all(campaign: &Campaign) -> Entries<'_, Self>
+        ensures { result ≡ entries (Self.values campaign.now.value) };
+}
+
+/// Puts the rows of all entries.
+pub(crate) fn put_each<V: NumberedRow + Drop, S: Alter>(
+    tx: &mut Transaction<'_, S>,
+    values: Entries<'_, V>,
+) -> Result<(), Error>
+    ensures { WritesRows S.Store (table_of V.NumberedRow.part) 1
+        (lines_of V.NumberedRow.line values.entry) result tx.old.conn tx.new.conn }
+{
+    for (number, value) in values {
+        value.put(tx, number)?;
+    }
+    Ok(())
+}
+
+/// Deletes the row that has the number, where there is one.
+fn take_out<V: NumberedRow, S: Alter>(tx: &mut Transaction<'_, S>, number: u32) -> Result<(), Error>
+    ensures { TakesOut S.Store (table_of V.NumberedRow.part) 1 (int number ∷ []) result tx.old.conn
+        tx.new.conn }
+{
+    run(tx, V::removal(), params![number])
+}
+
+/// Puts the row of a number, or deletes it where nothing stands under the number.
+fn rewrite<V: NumberedRow + Drop, S: Alter>(
+    tx: &mut Transaction<'_, S>,
+    campaign: &Campaign,
+    number: u32,
+) -> Result<(), Error>
+    ensures { Writes S.Store (OfChange campaign.now.value)
+        (Inside HasTables (RewritesNumber (table_of V.NumberedRow.part) V.NumberedRow.line
+        (V.NumberedRow.values campaign.now.value) number)) result tx.old.conn tx.new.conn }
+{
+    match V::of(campaign, number) {
+        Some(value) => value.put(tx, number),
+        None => take_out::<V, S>(tx, number),
+    }
+}
+
+/// Puts or deletes the rows of all that is marked.
+pub(crate) fn rewrite_marked<V: NumberedRow + Drop, S: Alter>(
+    tx: &mut Transaction<'_, S>,
+    campaign: &Campaign,
+) -> Result<(), Error>
+    ensures { Writes S.Store (OfChange campaign.now.value)
+        (Inside HasTables (RewritesMarked (table_of V.NumberedRow.part) V.NumberedRow.line
+        (V.NumberedRow.values campaign.now.value) (V.NumberedRow.marks campaign.now.marks))) result
+        tx.old.conn tx.new.conn }
+{
+    for number in V::marked(campaign) {
+        rewrite::<V, S>(tx, campaign, number)?;
+    }
+    Ok(())
+}

@@ -1,0 +1,144 @@
+//! The tables of a campaign's parts, written one after another.
+ghost use Rattle.std.specs.Prelude.{◌≤◌, ◌++◌, List, [], ◌∷◌, length};
+ghost use Rattle.atl_records.specs.Limits.{most_things};
+ghost use Rattle.atl_store.specs.Tables.{Part, Units, Goods, Books, Markets};
+ghost use Rattle.atl_store.specs.OwnStatements.{OfRow, OfChange};
+ghost use Rattle.atl_store.specs.Writes.{Writes};
+ghost use Rattle.atl_store.specs.Inside.{Inside, HasTables, InTurn};
+ghost use Rattle.atl_store.specs.Filling.{FillsPart};
+ghost use Rattle.atl_store.specs.Rewriting.{RewritesPart};
+
+use crate::goods::{put_all_goods, rewrite_goods};
+use crate::grouped::rewrite_marked_groups;
+use crate::ledger::{put_all_books, rewrite_books};
+use crate::markets::put_all_stocks;
+use crate::numbered_rows::{Mapped, put_each, rewrite_marked};
+use crate::rows::unit::put_units;
+use atl_state::{Campaign, Faction, Region, Structure, Unit};
+use atl_tables::{Numbered, Sequence, Text};
+use sqlite::{Alter, Error, Transaction};
+
+/// All parts of a campaign but its own row, in the order in which they are written: factions, reports, regions, structures,
+/// books, stocks, units, what these have, and mail.
+pub(crate) type OtherParts = (
+    Numbered<Faction>,
+    (
+        Numbered<Text>,
+        (
+            Numbered<Region>,
+            (
+                Numbered<Structure>,
+                (
+                    Ledger,
+                    (Stocks, (UnitRows, (UnitGoods, Numbered<Sequence<u8>>))),
+                ),
+            ),
+        ),
+    ),
+);
+
+/// The books.
+pub(crate) struct Ledger;
+
+/// The stocks of all markets.
+pub(crate) struct Stocks;
+
+/// The units themselves, which stand in slots.
+pub(crate) struct UnitRows;
+
+/// What all units have.
+pub(crate) struct UnitGoods;
+
+/// Parts of a campaign, each with a table.
+pub(crate) trait WrittenPart {
+    ghost parts: { List Part };
+
+    /// Puts all their rows.
+    fn fill<S: Alter>(tx: &mut Transaction<'_, S>, campaign: &Campaign) -> Result<(), Error>
+        requires { length campaign.now.value.books ≤ most_things }
+        ensures { Writes S.Store (OfRow campaign.now.value)
+            (Inside HasTables (InTurn (FillsPart campaign.now.value) parts)) result tx.old.conn
+            tx.new.conn };
+
+    /// Puts the rows of all that is marked of them, and deletes those of what is gone.
+    fn rewrite<S: Alter>(tx: &mut Transaction<'_, S>, campaign: &Campaign) -> Result<(), Error>
+        requires { length campaign.now.value.books ≤ most_things }
+        ensures { Writes S.Store (OfChange campaign.now.value)
+            (Inside HasTables (InTurn (RewritesPart campaign.now) parts)) result tx.old.conn
+            tx.new.conn };
+}
+
+impl<X: WrittenPart, Y: WrittenPart> WrittenPart for (X, Y) {
+    ghost parts = { X.parts ++ Y.parts };
+
+    fn fill<S: Alter>(tx: &mut Transaction<'_, S>, campaign: &Campaign) -> Result<(), Error> {
+        X::fill(tx, campaign)?;
+        Y::fill(tx, campaign)
+    }
+
+    fn rewrite<S: Alter>(tx: &mut Transaction<'_, S>, campaign: &Campaign) -> Result<(), Error> {
+        X::rewrite(tx, campaign)?;
+        Y::rewrite(tx, campaign)
+    }
+}
+
+/// What stands under numbers of its own.
+impl<V: Mapped + Drop> WrittenPart for Numbered<V> {
+    ghost parts = { V.NumberedRow.part ∷ [] };
+
+    fn fill<S: Alter>(tx: &mut Transaction<'_, S>, campaign: &Campaign) -> Result<(), Error> {
+        put_each(tx, V::all(campaign))
+    }
+
+    fn rewrite<S: Alter>(tx: &mut Transaction<'_, S>, campaign: &Campaign) -> Result<(), Error> {
+        rewrite_marked::<V, S>(tx, campaign)
+    }
+}
+
+impl WrittenPart for Ledger {
+    ghost parts = { Books ∷ [] };
+
+    fn fill<S: Alter>(tx: &mut Transaction<'_, S>, campaign: &Campaign) -> Result<(), Error> {
+        put_all_books(tx, campaign)
+    }
+
+    fn rewrite<S: Alter>(tx: &mut Transaction<'_, S>, campaign: &Campaign) -> Result<(), Error> {
+        rewrite_books(tx, campaign)
+    }
+}
+
+impl WrittenPart for Stocks {
+    ghost parts = { Markets ∷ [] };
+
+    fn fill<S: Alter>(tx: &mut Transaction<'_, S>, campaign: &Campaign) -> Result<(), Error> {
+        put_all_stocks(tx, campaign.regions())
+    }
+
+    fn rewrite<S: Alter>(tx: &mut Transaction<'_, S>, campaign: &Campaign) -> Result<(), Error> {
+        rewrite_marked_groups::<Region, S>(tx, campaign)
+    }
+}
+
+impl WrittenPart for UnitRows {
+    ghost parts = { Units ∷ [] };
+
+    fn fill<S: Alter>(tx: &mut Transaction<'_, S>, campaign: &Campaign) -> Result<(), Error> {
+        put_units(tx, campaign.units())
+    }
+
+    fn rewrite<S: Alter>(tx: &mut Transaction<'_, S>, campaign: &Campaign) -> Result<(), Error> {
+        rewrite_marked::<Unit, S>(tx, campaign)
+    }
+}
+
+impl WrittenPart for UnitGoods {
+    ghost parts = { Goods ∷ [] };
+
+    fn fill<S: Alter>(tx: &mut Transaction<'_, S>, campaign: &Campaign) -> Result<(), Error> {
+        put_all_goods(tx, campaign.units())
+    }
+
+    fn rewrite<S: Alter>(tx: &mut Transaction<'_, S>, campaign: &Campaign) -> Result<(), Error> {
+        rewrite_goods(tx, campaign)
+    }
+}

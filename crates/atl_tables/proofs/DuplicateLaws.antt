@@ -1,0 +1,96 @@
+-- Where no name stands twice, the names differ.
+use Rattle.std.proofs.Common.{◌≡◌, ℕ, zero, suc, ◌+◌, Bool, true, false, cond, List, [], ◌∷◌, ◌++◌, map, take, codes, Some, None, refl, sym, ap, ◌∙◌, append_assoc, arith}
+use Rattle.std.specs.List.{list_any, slice_get, AllByRecursion}
+use Rattle.std.proofs.lemmas.Bool.{or_parts}
+use Rattle.std.proofs.lemmas.List.Folds.{list_any-append}
+use Rattle.std.proofs.lemmas.Map.Keys.{IsDistinct-from_apart, IsDistinct-cons}
+use Rattle.atl_tables.specs.Each.{each}
+use Rattle.atl_tables.specs.Faults.{Conditions, first_fault}
+use Rattle.atl_tables.specs.Keys.{path, element_path}
+use Rattle.atl_tables.specs.Names.{same_name, NamesDiffer}
+use Rattle.atl_tables.specs.Drafts.{HaveNames}
+use Rattle.atl_tables.specs.RegionTable.{market_twins}
+use Rattle.atl_tables.specs.Regions.{duplicate_numbers}
+use Rattle.atl_tables.specs.TerrainTable.{terrain_twins}
+use Rattle.atl_tables.specs.Titles.{twin_at, twins}
+use Rattle.atl_tables.specs.World.{titles_differ, names_differ}
+use Rattle.atl_tables.specs.declared.fault.WorldFault.{WorldFault}
+use Rattle.atl_tables.specs.declared.fault.WorldFault.TheVariants.{TwoNames}
+use Rattle.atl_tables.specs.declared.world_draft.WorldDraft.{WorldDraft}
+
+-- where no condition of two lists is broken, none of either is
+front_none : (fs gs : Conditions) → first_fault (fs ++ gs) ≡ None → first_fault fs ≡ None
+front_none [] gs h = refl
+front_none (None ∷ fs) gs h = front_none fs gs h
+front_none (Some f ∷ fs) gs h = h
+
+back_none : (fs gs : Conditions) → first_fault (fs ++ gs) ≡ None → first_fault gs ≡ None
+back_none [] gs h = h
+back_none (None ∷ fs) gs h = back_none fs gs h
+back_none (Some f ∷ fs) gs h = absurd (cc)
+
+at_each : {A : Type 0} (conditions : ℕ → A → Conditions) (i : ℕ) (xs : List A) → first_fault (each conditions i xs) ≡ None → (k : ℕ) (x : A) → slice_get xs k ≡ Some x → first_fault (conditions (i + k) x) ≡ None
+at_each conditions i [] h k x e = absurd (cc)
+at_each conditions i (y ∷ ys) h zero x e =
+    let same : y ≡ x = cc in
+    let here : i + 0 ≡ i = omega arith in
+    rw (here, ← same) (front_none (conditions i y) (each conditions (i + 1) ys) h)
+at_each conditions i (y ∷ ys) h (suc k) x e =
+    let there : i + suc k ≡ i + 1 + k = omega arith in
+    rw there (at_each conditions (i + 1) ys (back_none (conditions i y) (each conditions (i + 1) ys) h) k x e)
+
+module _ {A : Type 0} (title : A → List ℕ) where
+  abbrev is_before : A → List A → Bool
+  is_before x front = list_any (λ y. same_name (title y) (title x)) front
+
+  by_test : (b : Bool) (f : WorldFault) → first_fault (cond b (Some f) None ∷ []) ≡ None → b ≡ false
+  by_test true f h = absurd (cc)
+  by_test false f h = refl
+
+  no_twin : (array key : List ℕ) (all : List A) (i : ℕ) (x : A) → first_fault (twin_at title array key all i x) ≡ None → is_before x (take i all) ≡ false
+  unfolding twin_at
+  no_twin array key all i x h = by_test (is_before x (take i all)) (TwoNames (path (element_path array i) key)) h
+
+  head_differs : (x : A) (xs : List A) → ((k : ℕ) (y : A) → slice_get xs k ≡ Some y → same_name (title x) (title y) ≡ false) → AllByRecursion (λ n. same_name (title x) n ≡ false) (map title xs)
+  head_differs x [] h = tt
+  head_differs x (y ∷ ys) h = (h 0 y refl, head_differs x ys (λ k. h (suc k)))
+
+  in_middle : (front rest : List A) (x y : A) → is_before y (front ++ x ∷ rest) ≡ false → same_name (title x) (title y) ≡ false
+  in_middle front rest x y h =
+      let both = or_parts _ _ (sym (list_any-append (λ z. same_name (title z) (title y)) front (x ∷ rest)) ∙ h) in
+      (or_parts _ _ both.1).0
+
+  differ_behind : (front xs : List A) → ((k : ℕ) (x : A) → slice_get xs k ≡ Some x → is_before x (front ++ take k xs) ≡ false) → NamesDiffer (map title xs)
+  differ_behind front [] h = IsDistinct-from_apart same_name [] (λ i j d a b. absurd (omega (arith, b)))
+  differ_behind front (x ∷ xs) h =
+      IsDistinct-cons same_name (title x) (map title xs) (head_differs x xs (λ k y e. in_middle front (take k xs) x y (h (suc k) y e)))
+      (differ_behind (front ++ x ∷ []) xs (λ k y e. ap (is_before y) (append_assoc front (x ∷ []) (take k xs)) ∙ h (suc k) y e))
+
+  pub differ : (array key : List ℕ) (all : List A) → first_fault (twins title array key all) ≡ None → NamesDiffer (map title all)
+  differ array key all h = differ_behind [] all (λ k x e. let same : 0 + k ≡ k = omega arith in no_twin array key all k x (rw same at (at_each (twin_at title array key all) 0 all h k x e)))
+
+-- the names stay where a table stands for something
+pub names_kept : {A B : Type 0} (f : A → B) (n : A → List ℕ) (m : B → List ℕ) → ((x : A) → m (f x) ≡ n x) → (xs : List A) → map m (map f xs) ≡ map n xs
+names_kept f n m h [] = refl
+names_kept f n m h (x ∷ xs) = rw (h x, names_kept f n m h xs) refl
+
+-- of tables that keep the conditions on names
+titles_have_names : (all : WorldDraft) → first_fault (titles_differ all) ≡ None → HaveNames all
+unfolding titles_differ
+titles_have_names all h =
+    let terrains = twins (λ d. d.name) (codes "terrain") (codes "name") all.terrains in
+    let items = twins (λ d. d.name) (codes "item") (codes "name") all.items in
+    let skills = twins (λ s. s.name) (codes "skill") (codes "name") all.skills in
+    let kinds = twins (λ d. d.name) (codes "kind") (codes "name") all.kinds in
+    let behind_terrains = back_none terrains (items ++ (skills ++ kinds)) h in
+    let behind_items = back_none items (skills ++ kinds) behind_terrains in
+    record {
+      terrains = differ (λ d. d.name) (codes "terrain") (codes "name") all.terrains (front_none terrains (items ++ (skills ++ kinds)) h);
+      items = differ (λ d. d.name) (codes "item") (codes "name") all.items (front_none items (skills ++ kinds) behind_terrains);
+      skills = differ (λ s. s.name) (codes "skill") (codes "name") all.skills (front_none skills kinds behind_items);
+      kinds = differ (λ d. d.name) (codes "kind") (codes "name") all.kinds (back_none skills kinds behind_items);
+    }
+
+pub have_names : (all : WorldDraft) → first_fault (names_differ all) ≡ None → HaveNames all
+unfolding names_differ
+have_names all h = titles_have_names all (front_none (titles_differ all) (duplicate_numbers all.regions ++ (each terrain_twins 0 all.terrains ++ each market_twins 0 all.regions)) h)

@@ -1,0 +1,13 @@
+use Rattle.std.proofs.Common.{◌≡◌, ◌+◌, ◌≤◌, ◌++◌, List, length}
+use Rattle.std.specs.FinMap.{len}
+use Rattle.atl_tables.specs.Sums.{by_number}
+use Rattle.atl_tables.proofs.has_number.by_number.Given as goal
+
+abbrev pub invariant-loop-value : goal.invariant-loop-value
+invariant-loop-value g l = record {
+  whole : (rest : List _) × (l.values.items ++ rest ≡ l.fn.values.items) × (l.numbered ≡ by_number g.T.HasNumber.place_of rest);
+  few : len l.numbered + length l.values.items ≤ length l.fn.values.items;
+}
+
+abbrev pub decreases-loop-value : goal.decreases-loop-value
+decreases-loop-value g l = length l.values.items

@@ -1,0 +1,39 @@
+use Rattle.std.proofs.Common.{◌≡◌, ℕ, Bool, true, false, cond, List, take, Some, None}
+use Rattle.std.specs.List.{list_any}
+use Rattle.atl_tables.specs.Each.{each}
+use Rattle.atl_tables.specs.Faults.{first_fault}
+use Rattle.atl_tables.specs.Keys.{path}
+use Rattle.atl_tables.specs.OutputTable.{twin_key_at}
+use Rattle.atl_tables.specs.Names.{same_name}
+use Rattle.atl_tables.specs.declared.fault.WorldFault.TheVariants.{TwoNames}
+use Rattle.atl_tables.specs.declared.output_table.Output.{Output}
+use Rattle.atl_tables.proofs.EachLaws.{goes_on_at, ends_at}
+use Rattle.atl_tables.proofs.SeenLaws.{stands_before, stands_first, has_one_more}
+use Rattle.atl_tables.proofs.output_table.no_duplicate_keys.Goals as goal
+
+-- what the test says of a key
+by_test : (at : List ℕ) (all : List Output) (i : ℕ) (o : Output) (b : Bool) → list_any (λ p. same_name p.item o.item) (take i all) ≡ b → first_fault (twin_key_at at all i o) ≡ cond b (Some (TwoNames (path at o.item))) None
+unfolding twin_key_at
+by_test at all i o true h = rw h
+by_test at all i o false h = rw h
+
+pub returns-then-not-branch : goal.returns-then-not-branch
+returns-then-not-branch c =
+    let o = c.output-item.result in
+    let all = c.args.outputs.now in
+    let at = c.args.at.now in
+    let i = c.loop-output.output-index in
+    let test = stands_before (λ p. p.item) all i o c.loop-output.seen c.loop-output.invariant.seen _ c.in_ok-is_new.ensures.new c.if-not-branch.true in
+    rw (c.in_ok-path.ensures, c.as_str.ensures) (ends_at (twin_key_at at all) all i o (first_fault (each (twin_key_at at all) 0 all)) c.loop-output-test.true c.output-item.is c.loop-output.invariant.faults (TwoNames (path at o.item)) (by_test at all i o true test))
+
+pub loop-output-preserved : goal.loop-output-preserved
+loop-output-preserved c =
+    let o = c.output-item.result in
+    let all = c.args.outputs.now in
+    let at = c.args.at.now in
+    let i = c.loop-output.output-index in
+    let test = stands_first (λ p. p.item) all i o c.loop-output.seen c.loop-output.invariant.seen _ c.in_ok-is_new.ensures.new c.if-not-branch.false in
+    record {
+      seen = has_one_more (λ p. p.item) all i o c.loop-output.seen c.loop-output.invariant.seen c.is_new.new.seen c.loop-output-test.true c.output-item.is c.in_ok-is_new.ensures.seen;
+      faults = goes_on_at (twin_key_at at all) all i o (first_fault (each (twin_key_at at all) 0 all)) c.loop-output-test.true c.output-item.is c.loop-output.invariant.faults (by_test at all i o false test);
+    }

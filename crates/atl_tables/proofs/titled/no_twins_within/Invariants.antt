@@ -1,7 +1,0 @@
-use Rattle.std.proofs.Common.{◌≡◌, drop}
-use Rattle.atl_tables.specs.Each.{each}
-use Rattle.atl_tables.specs.Faults.{first_fault}
-use Rattle.atl_tables.proofs.titled.no_twins_within.Given as goal
-
-abbrev pub invariant-loop-i : goal.invariant-loop-i
-invariant-loop-i g l = first_fault (each g.T.Holder.twins l.i (drop l.i l.holders)) ≡ first_fault (each g.T.Holder.twins 0 l.holders)

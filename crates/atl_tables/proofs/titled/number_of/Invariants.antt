@@ -1,7 +1,0 @@
-use Rattle.std.proofs.Common.{◌≡◌, drop}
-use Rattle.std.specs.List.{position_from}
-use Rattle.atl_tables.specs.Names.{same_name}
-use Rattle.atl_tables.proofs.titled.number_of.Given as goal
-
-abbrev pub invariant-loop-i : goal.invariant-loop-i
-invariant-loop-i g l = position_from (λ x. same_name (g.T.Titled.title_of x) l.name) l.i (drop l.i l.items) ≡ position_from (λ x. same_name (g.T.Titled.title_of x) l.name) 0 l.items

@@ -1,0 +1,22 @@
+-- Marked numbers, with room for more.
+use Rattle.std.specs.Prelude.{◌≤◌, ℕ, refl}
+use Rattle.std.specs.Ordering.{nat_cmp}
+use Rattle.std.specs.Coded.{Coded, code_by, coded×, coded_ℕ}
+use Rattle.std.specs.FinMap.{FinMap, keys}
+use Rattle.std.specs.FinSet as set
+
+-- which numbers are marked, and for how many there is room
+pub record RoomySet : Type 0 where
+  pub numbers : set.FinSet nat_cmp
+  pub room : ℕ
+
+abbrev pub roomy_set_code : Coded RoomySet
+roomy_set_code = code_by (set.FinSet nat_cmp × ℕ) (coded× (set.code coded_ℕ) coded_ℕ) (λ m. (m.numbers, m.room)) (λ p. record { numbers = p.0; room = p.1 }) (λ _. refl)
+
+-- the numbers that have a value or a mark
+abbrev pub held : {V : Type 0} → FinMap nat_cmp V → set.FinSet nat_cmp → set.FinSet nat_cmp
+held values marks = set.union marks (set.from_list (keys values))
+
+-- there is room for a mark on each of them, so that marking takes no memory
+abbrev pub HasRoom : {V : Type 0} → FinMap nat_cmp V → RoomySet → Type 0
+HasRoom values marks = set.len (held values marks.numbers) ≤ marks.room

@@ -1,0 +1,25 @@
+-- For proofs alone: where a number is, or belongs, in a sorted list, and sets of marks in two such lists.
+use Rattle.std.specs.Prelude.{◌≡◌, ◌+◌, ◌<◌, ◌≤◌, ℕ, true, false, List, length, slice_index}
+use Rattle.std.specs.Ordering.{nat_cmp}
+use Rattle.std.specs.FinSet as set
+use Rattle.atl_tables.specs.RoomySets.{RoomySet}
+
+-- the number n is at the place i of a list
+pub record IsAt (xs : List ℕ) (n : ℕ) (i : ℕ) : Type 0 where
+  pub within : i < length xs
+  pub is : slice_index xs i ≡ n
+
+-- the number n belongs at the place i of a sorted list: it is above all before that place, and below all from there on
+pub record BelongsAt (xs : List ℕ) (n : ℕ) (i : ℕ) : Type 0 where
+  pub within : i ≤ length xs
+  pub before : (k : ℕ) → k < i → slice_index xs k < n
+  pub behind : (k : ℕ) → i ≤ k → k < length xs → n < slice_index xs k
+
+-- no number is in both
+pub record AreApart (s t : set.FinSet nat_cmp) : Type 0 where
+  pub apart : (n : ℕ) → set.contains s n ≡ true → set.contains t n ≡ false
+
+-- no number is in both, and there is room for all in the first
+pub record AreMarks (numbers recent : RoomySet) : Type 0 where
+  pub apart : AreApart numbers.numbers recent.numbers
+  pub fits : set.len numbers.numbers + set.len recent.numbers ≤ numbers.room

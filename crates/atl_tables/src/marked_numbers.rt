@@ -1,0 +1,62 @@
+//! An iterator over marked numbers.
+ghost use Rattle.std.specs.Slice.Iter.{iter_rest};
+ghost use Rattle.std.specs.Iterator.{YieldsFirstBy};
+
+use std::cmp::Ordering;
+use std::marker::Model;
+use std::slice::Iter;
+
+/// The marked numbers that are left to come, in rising order.
+#[derive(Drop)]
+pub struct MarkedNumbers<'a> {
+    pub(crate) numbers: Iter<'a, u32>,
+    pub(crate) recent: Iter<'a, u32>,
+}
+
+impl<'a> Model for MarkedNumbers<'a> {
+    ghost use Rattle.std.specs.Prelude.{List, ℕ, true};
+    ghost use Rattle.std.specs.Ordering.{nat_cmp};
+    ghost use Rattle.std.specs.Set.{sorted_merge};
+    ghost use Rattle.std.specs.Slice.Iter.{iter_rest};
+
+    ghost Value = { List ℕ };
+
+    ghost view = { λ a. sorted_merge nat_cmp true (iter_rest a.numbers) (iter_rest a.recent) };
+}
+
+impl<'a> Iterator for MarkedNumbers<'a> {
+    type Item = u32;
+
+    ghost use Rattle.std.specs.Iterator.{YieldsFirstBy, item_count};
+
+    ghost next_gives = { YieldsFirstBy (λ n. n) (λ s. s) };
+
+    ghost remaining = { item_count (λ s. s) };
+
+    fn next(&mut self) -> Option<u32> {
+        let Some(number) = self.numbers.as_slice().first() else {
+            return next_of(&mut self.recent);
+        };
+        let Some(recent) = self.recent.as_slice().first() else {
+            return next_of(&mut self.numbers);
+        };
+        match number.cmp(recent) {
+            Ordering::Less => next_of(&mut self.numbers),
+            Ordering::Equal => {
+                let _ = next_of(&mut self.recent);
+                next_of(&mut self.numbers)
+            }
+            Ordering::Greater => next_of(&mut self.recent),
+        }
+    }
+}
+
+/// The next number of a slice.
+fn next_of(numbers: &mut Iter<'_, u32>) -> Option<u32>
+    ensures { YieldsFirstBy (λ n. n) iter_rest numbers.old result numbers.new }
+{
+    match numbers.next() {
+        Some(number) => Some(*number),
+        None => None,
+    }
+}

@@ -1,0 +1,235 @@
+//! A sorted list of numbers.
+ghost use Rattle.std.specs.Prelude.{◌≡◌, ℕ, true, ◌+◌, ◌-◌, ◌<◌, ◌≤◌, [], ◌∷◌, ◌++◌, ◌↔◌, IsTrue, IfOk, IfErr, OnOk, length, take, slice_index, vec_capacity};
+ghost use Rattle.std.specs.List.{insert};
+ghost use Rattle.std.specs.List.Sorted.{IsStrictlySortedBy};
+ghost use Rattle.std.specs.Ordering.{nat_cmp};
+ghost use Rattle.std.specs.Set.{sorted_merge};
+ghost use Rattle.std.specs.FinSet as set;
+ghost use Rattle.atl_tables.specs.Limits.{number_count};
+ghost use Rattle.atl_tables.specs.SortedNumbers.{IsAt, BelongsAt, AreApart};
+ghost use Rattle.atl_tables.specs.Tracking.{Lists};
+
+use std::alloc::{AllocError, Global};
+use std::marker::Model;
+
+/// Numbers in a sorted list, with room for more. To put one in takes as long as those above it are many.
+#[derive(Drop)]
+pub struct SortedNumbers {
+    numbers: Vec<u32>,
+}
+
+impl Model for SortedNumbers {
+    ghost use Rattle.std.specs.Prelude.{vec_capacity};
+    ghost use Rattle.std.specs.List.Sorted.{IsStrictlySortedBy};
+    ghost use Rattle.std.specs.Ordering.{nat_cmp};
+    ghost use Rattle.std.specs.FinSet as set;
+    ghost use Rattle.atl_tables.specs.RoomySets.{RoomySet, roomy_set_code};
+
+    ghost Value = { RoomySet };
+
+    ghost coded = { roomy_set_code };
+
+    ghost view = { λ a. record { numbers = set.from_list a.numbers.items; room = vec_capacity a.numbers } };
+
+    ghost invariant = { λ a. IsStrictlySortedBy nat_cmp a.numbers.items };
+}
+
+impl SortedNumbers {
+    /// No number, and no room. It takes no memory.
+    pub fn new(alloc: Global) -> SortedNumbers
+        ensures { result ≡ record { numbers = set.empty; room = 0 } }
+    {
+        SortedNumbers {
+            numbers: Vec::new(alloc),
+        }
+    }
+
+    /// No number, and room for so many.
+    pub fn with_room(alloc: Global, room: usize) -> Result<SortedNumbers, AllocError>
+        ensures { IfOk result (λ made. made ≡ record { numbers = set.empty; room = room }) }
+    {
+        Ok(SortedNumbers {
+            numbers: Vec::with_capacity(alloc, room)?,
+        })
+    }
+
+    /// Makes room for so many numbers more. Without memory for it nothing changes.
+    pub fn make_room(&mut self, more: usize) -> Result<(), AllocError>
+        ensures numbers { self.new.numbers ≡ self.old.numbers }
+        ensures room { OnOk result (set.len self.old.numbers + more ≤ self.new.room) }
+        ensures kept { self.old.room ≤ self.new.room }
+    {
+        self.numbers.reserve(more)
+    }
+
+    /// Puts in a number for which there is room. It takes no memory.
+    pub fn add(&mut self, number: u32)
+        requires { set.len (set.insert self.old.numbers number) ≤ self.old.room }
+        ensures { self.new ≡ record self.old { numbers = set.insert self.old.numbers number } }
+    {
+        match index_of(&self.numbers, number) {
+            Ok(_) => {}
+            Err(place) => put_at(&mut self.numbers, place, number),
+        }
+    }
+
+    /// Puts in the numbers of another list, which has none of these, and leaves it none. There is room for all. It takes no
+    /// memory, and as long as the numbers above the least new one are many.
+    pub fn merge_from(&mut self, others: &mut SortedNumbers)
+        requires apart { AreApart self.old.numbers others.old.numbers }
+        requires room { set.len self.old.numbers + set.len others.old.numbers ≤ self.old.room }
+        ensures numbers { self.new
+            ≡ record self.old { numbers = set.union self.old.numbers others.old.numbers } }
+        ensures others { others.new ≡ record others.old { numbers = set.empty } }
+    {
+        unite(&mut self.numbers, &others.numbers);
+        others.numbers.clear();
+    }
+
+    /// Takes a number out. It takes no memory.
+    pub fn take(&mut self, number: u32)
+        ensures { self.new ≡ record self.old { numbers = set.remove self.old.numbers number } }
+    {
+        match index_of(&self.numbers, number) {
+            Ok(place) => {
+                self.numbers.remove(place);
+            }
+            Err(_) => {}
+        }
+    }
+
+    /// Takes all numbers out. It takes no memory.
+    pub fn clear(&mut self)
+        ensures { self.new ≡ record self.old { numbers = set.empty } }
+    {
+        self.numbers.clear();
+    }
+
+    /// Whether a number is in the list.
+    pub fn contains(&self, number: u32) -> bool
+        ensures { result ≡ set.contains self.now.numbers number }
+    {
+        match index_of(&self.numbers, number) {
+            Ok(_) => true,
+            Err(_) => false,
+        }
+    }
+
+    /// How many numbers there are.
+    pub fn len(&self) -> usize
+        ensures value { result ≡ set.len self.now.numbers }
+        ensures low { (n : ℕ) → set.contains self.now.numbers n ≡ true → n < number_count }
+    {
+        match self.numbers.last() {
+            Some(last) => count_up_to(&self.numbers, *last),
+            None => 0,
+        }
+    }
+
+    /// For how many numbers there is room in all.
+    pub fn room(&self) -> usize
+        ensures { result ≡ self.now.room }
+    {
+        self.numbers.capacity()
+    }
+
+    /// The numbers, in rising order.
+    pub fn as_slice(&self) -> &[u32]
+        ensures { Lists self.now.numbers result.now }
+    {
+        &self.numbers
+    }
+}
+
+/// Where a number stands in a sorted list, or else where it belongs.
+fn index_of(numbers: &[u32], number: u32) -> Result<usize, usize>
+    requires { IsStrictlySortedBy nat_cmp numbers.now }
+    ensures found { IfOk result (λ place. IsAt numbers.now number place) }
+    ensures missing { IfErr result (λ place. BelongsAt numbers.now number place) }
+{
+    numbers.binary_search(&number)
+}
+
+/// Puts a number at a place of a list that has room for it.
+fn put_at(numbers: &mut Vec<u32>, place: usize, number: u32)
+    requires within { place ≤ length numbers.old.items }
+    requires room { length numbers.old.items < vec_capacity numbers.old }
+    ensures items { numbers.new.items ≡ insert numbers.old.items place number }
+    ensures room { vec_capacity numbers.new ≡ vec_capacity numbers.old }
+{
+    let _ = numbers.insert(place, number);
+}
+
+/// How many numbers a list has, of which one is known.
+fn count_up_to(numbers: &[u32], last: u32) -> usize
+    ensures value { result ≡ length numbers.now }
+    ensures small { last < number_count }
+{
+    numbers.len()
+}
+
+/// Puts a number at the end of a list that has room for it.
+fn put_last(numbers: &mut Vec<u32>, number: u32)
+    requires { length numbers.old.items < vec_capacity numbers.old }
+    ensures items { numbers.new.items ≡ numbers.old.items ++ number ∷ [] }
+    ensures room { vec_capacity numbers.new ≡ vec_capacity numbers.old }
+{
+    let end = numbers.len();
+    put_at(numbers, end, number);
+}
+
+/// Puts numbers at the end of a list that has room for them.
+fn append(numbers: &mut Vec<u32>, others: &[u32])
+    requires { length numbers.old.items + length others.now ≤ vec_capacity numbers.old }
+    ensures items { numbers.new.items ≡ numbers.old.items ++ others.now }
+    ensures room { vec_capacity numbers.new ≡ vec_capacity numbers.old }
+{
+    for number in others {
+        put_last(numbers, *number);
+    }
+}
+
+/// Whether the last of so many numbers is above another one.
+fn is_last_above(numbers: &[u32], count: usize, other: u32) -> bool
+    requires { count ≤ length numbers.now }
+    ensures { IsTrue result ↔ ((0 < count) × (other < slice_index numbers.now (count - 1))) }
+{
+    count > 0 && numbers[count - 1] > other
+}
+
+/// Merges a sorted list's first numbers with those of another one, for which there is room behind them. The largest are
+/// put into their places first, so that each number is moved once.
+fn merge(numbers: &mut [u32], own: usize, others: &[u32])
+    requires size { length numbers.old ≡ own + length others.now }
+    requires rising { IsStrictlySortedBy nat_cmp (take own numbers.old) }
+    requires others { IsStrictlySortedBy nat_cmp others.now }
+    requires apart { AreApart (set.from_list (take own numbers.old)) (set.from_list others.now) }
+    ensures { numbers.new ≡ sorted_merge nat_cmp true (take own numbers.old) others.now }
+{
+    let mut own = own;
+    let mut left = others.len();
+    while left > 0 {
+        let other = others[left - 1];
+        if is_last_above(numbers, own, other) {
+            numbers[own + left - 1] = numbers[own - 1];
+            own -= 1;
+        } else {
+            numbers[own + left - 1] = other;
+            left -= 1;
+        }
+    }
+}
+
+/// Merges the numbers of another sorted list into one that has none of them and room for all.
+fn unite(numbers: &mut Vec<u32>, others: &[u32])
+    requires room { length numbers.old.items + length others.now ≤ vec_capacity numbers.old }
+    requires rising { IsStrictlySortedBy nat_cmp numbers.old.items }
+    requires others { IsStrictlySortedBy nat_cmp others.now }
+    requires apart { AreApart (set.from_list numbers.old.items) (set.from_list others.now) }
+    ensures items { numbers.new.items ≡ sorted_merge nat_cmp true numbers.old.items others.now }
+    ensures room { vec_capacity numbers.new ≡ vec_capacity numbers.old }
+{
+    let own = numbers.len();
+    append(numbers, others);
+    merge(numbers, own, others);
+}

@@ -1,0 +1,151 @@
+//! Names that must be unique, and the numbers that names stand for.
+ghost use Rattle.std.specs.Prelude.{◌≡◌, ◌≤◌, ◌<◌, ℕ, List, length, not, ◌||◌, IfOk, OnOk, OnErr, IfSome, Some, None, unwrap_or, option_and_then};
+ghost use Rattle.std.specs.BTreeSet.{IsUnchanged};
+ghost use Rattle.atl_tables.specs.Each.{each};
+ghost use Rattle.atl_tables.specs.Faults.{Conditions, first_fault};
+ghost use Rattle.atl_tables.specs.Results.{Gives};
+ghost use Rattle.atl_tables.specs.Keys.{path};
+ghost use Rattle.atl_tables.specs.Limits.{most_numbered};
+ghost use Rattle.atl_tables.specs.Titles.{twins, number_of, known, known_number_or_none};
+ghost use Rattle.atl_tables.specs.Names.{same_name};
+ghost use Rattle.atl_tables.specs.SeenNames.{has_name};
+
+use crate::fault::WorldFault;
+use crate::keys::{element_path, path};
+use crate::text::Text;
+use std::alloc::{AllocError, Global};
+use std::collections::BTreeSet;
+
+/// What has a name.
+pub(crate) trait Titled {
+    ghost title_of: { Self → List ℕ };
+
+    fn title(&self) -> &Text
+        ensures { result.now ≡ title_of self.now };
+}
+
+/// Whether two names are equal, ignoring ASCII case.
+pub(crate) fn same_name(name: &Text, other: &Text) -> bool
+    ensures { result ≡ same_name name.now other.now }
+{
+    name.as_bytes().eq_ignore_ascii_case(other.as_bytes())
+}
+
+/// Puts a name into those seen, and tells whether none of them was equal to it, ignoring ASCII case. Without memory they
+/// are as they were.
+pub(crate) fn is_new(
+    alloc: Global,
+    seen: &mut BTreeSet<String>,
+    name: &Text,
+) -> Result<bool, AllocError>
+    ensures new { IfOk result (λ new. new ≡ not (has_name seen.old name.now)) }
+    ensures seen { OnOk result
+        ((other : List ℕ) → has_name seen.new other
+        ≡ (has_name seen.old other || same_name name.now other)) }
+    ensures err { OnErr result (IsUnchanged seen.old seen.new) }
+{
+    let lowered = name.as_str().to_ascii_lowercase(alloc)?;
+    let new = seen.insert(lowered)?;
+    Ok(new)
+}
+
+/// That no two elements of the array at a path have equal names under a key, ignoring ASCII case, else TwoNames at the second.
+pub(crate) fn no_duplicate_names<T: Titled>(
+    alloc: Global,
+    array: &str,
+    key: &str,
+    items: &[T],
+) -> Result<(), WorldFault>
+    ensures { Gives (λ u. u) result (first_fault (twins T.title_of array.now key.now items.now))
+        (tt {0}) }
+{
+    let mut seen = BTreeSet::new(alloc);
+    for (i, item) in items.iter().enumerate() {
+        if !is_new(alloc, &mut seen, item.title())? {
+            let place = element_path(alloc, array, i)?;
+            return Err(WorldFault::TwoNames(path(alloc, place.as_str(), key)?));
+        }
+    }
+    Ok(())
+}
+
+/// What holds things of which no two may have one name.
+pub(crate) trait HasUniqueNames: Drop {
+    ghost twins: { ℕ → Self → Conditions };
+
+    /// That the i-th of its array holds no two things with equal names, ignoring ASCII case, else TwoNames at the second.
+    fn no_duplicates_inside(&self, alloc: Global, i: usize) -> Result<(), WorldFault>
+        ensures { Gives (λ u. u) result (first_fault (twins i self.now)) (tt {0}) };
+}
+
+/// Likewise of all, in the order of the file.
+pub(crate) fn no_duplicates_inside<T: HasUniqueNames>(
+    alloc: Global,
+    holders: &[T],
+) -> Result<(), WorldFault>
+    ensures { Gives (λ u. u) result (first_fault (each T.twins 0 holders.now)) (tt {0}) }
+{
+    for i in 0..holders.len() {
+        holders[i].no_duplicates_inside(alloc, i)?;
+    }
+    Ok(())
+}
+
+/// The number of the first with this name, counted from 0, where there is one.
+#[tactic(auto, unfolding(crate::specs::Titles::number_of))]
+pub(crate) fn number_of<T: Titled>(items: &[T], name: &Text) -> Option<u16>
+    requires { length items.now ≤ most_numbered }
+    ensures value { result ≡ number_of T.title_of items.now name.now }
+    ensures below { IfSome result (λ n. n < length items.now) }
+{
+    for i in 0..items.len() {
+        if same_name(items[i].title(), name) {
+            return Some(i as u16);
+        }
+    }
+    None
+}
+
+/// The number of the first with a name that a text under a key refers to, else UnknownName at the key's path.
+pub(crate) fn known<T: Titled>(
+    alloc: Global,
+    items: &[T],
+    key: &str,
+    at: &str,
+    name: &Text,
+) -> Result<u16, WorldFault>
+    requires { length items.now ≤ most_numbered }
+    ensures value { Gives (λ n. n) result
+        (known (path at.now key.now) (number_of T.title_of items.now name.now))
+        (unwrap_or (number_of T.title_of items.now name.now) 0) }
+    ensures number { IfOk result (λ n. number_of T.title_of items.now name.now ≡ Some n) }
+    ensures below { IfOk result (λ n. n < length items.now) }
+{
+    match number_of(items, name) {
+        Some(number) => Ok(number),
+        None => Err(WorldFault::UnknownName(path(alloc, at, key)?)),
+    }
+}
+
+/// Likewise of a text that may be missing.
+pub(crate) fn known_number_or_none<T: Titled>(
+    alloc: Global,
+    items: &[T],
+    key: &str,
+    at: &str,
+    name: &Option<Text>,
+) -> Result<Option<u16>, WorldFault>
+    requires { length items.now ≤ most_numbered }
+    ensures value { Gives (λ n. n) result
+        (known_number_or_none (path at.now key.now) (number_of T.title_of items.now) name.now)
+        (option_and_then (number_of T.title_of items.now) name.now) }
+    ensures below { IfOk result (λ o. IfSome o (λ n. n < length items.now)) }
+{
+    match name {
+        None => Ok(None),
+        Some(name) => {
+            let number = known(alloc, items, key, at, name)?;
+            Ok(Some(number))
+        }
+    }
+}

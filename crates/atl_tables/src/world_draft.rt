@@ -1,0 +1,95 @@
+//! A world file once read, before names are looked up, and how each table becomes its record.
+ghost use Rattle.std.specs.Prelude.{◌≡◌, ℕ, IfOk, map};
+ghost use Rattle.std.specs.List.{All};
+ghost use Rattle.atl_tables.specs.Drafts.{IsWorldDraft};
+ghost use Rattle.atl_tables.specs.Each.{each};
+ghost use Rattle.atl_tables.specs.EachIndex.{EachIndex};
+ghost use Rattle.atl_tables.specs.Faults.{Conditions, first_fault};
+ghost use Rattle.atl_tables.specs.Results.{Gives};
+ghost use Rattle.atl_tables.specs.declared.world_draft.WorldDraft.{WorldDraft};
+
+use crate::fault::WorldFault;
+use crate::item_table::ItemDraft;
+use crate::kind_table::KindDraft;
+use crate::let_go;
+use crate::region_table::RegionDraft;
+use crate::rules_table::RulesDraft;
+use crate::sequence::Sequence;
+use crate::terrain_table::TerrainDraft;
+use crate::world::Skill;
+use std::alloc::Global;
+
+/// What the tables of a document say, before names are looked up.
+pub struct WorldDraft {
+    pub rules: RulesDraft,
+    pub terrains: Sequence<TerrainDraft>,
+    pub items: Sequence<ItemDraft>,
+    pub skills: Sequence<Skill>,
+    pub kinds: Sequence<KindDraft>,
+    pub regions: Sequence<RegionDraft>,
+}
+
+impl WorldDraft {
+    /// The skills, of which the world has what the file says.
+    pub(crate) fn into_skills(self) -> Sequence<Skill>
+        ensures { result ≡ self.skills }
+    {
+        let WorldDraft {
+            rules: _,
+            terrains: _,
+            items: _,
+            skills,
+            kinds: _,
+            regions: _,
+        } = self;
+        skills
+    }
+}
+
+impl Drop for WorldDraft {
+    fn drop(self) {
+        let_go!(self: WorldDraft { rules, terrains, items, skills, kinds, regions });
+    }
+}
+
+/// What a table says, before its names are looked up.
+pub(crate) trait Draft: Drop {
+    type Record: Drop;
+
+    ghost is_draft: { Self → Type 0 };
+    // Where its names stand for nothing, what it is else, and what is true of that at its place.
+    ghost unknown: { WorldDraft → ℕ → Self → Conditions };
+
+    ghost record_of: { WorldDraft → Self → Self.Record };
+
+    ghost is_sound: { WorldDraft → ℕ → Self.Record → Type 0 };
+
+    /// What it stands for as the i-th of its array, with the numbers of what its names name, or UnknownName at the first
+    /// name that names nothing. `Memory` may come at any point.
+    fn resolve(&self, alloc: Global, all: &WorldDraft, i: usize) -> Result<Self::Record, WorldFault>
+        requires all { IsWorldDraft all.now }
+        requires draft { is_draft self.now }
+        ensures value { Gives (λ x. x) result (first_fault (unknown all.now i self.now))
+            (record_of all.now self.now) }
+        ensures sound { IfOk result (λ x. is_sound all.now i x) };
+}
+
+/// What tables in an array stand for.
+pub(crate) fn resolve_all<D: Draft>(
+    alloc: Global,
+    all: &WorldDraft,
+    drafts: &[D],
+) -> Result<Sequence<D::Record>, WorldFault>
+    requires all { IsWorldDraft all.now }
+    requires drafts { All D.is_draft drafts.now }
+    ensures value { Gives (λ v. v) result (first_fault (each (D.unknown all.now) 0 drafts.now))
+        (map (D.record_of all.now) drafts.now) }
+    ensures sound { IfOk result (λ v. EachIndex (D.is_sound all.now) v) }
+{
+    let mut records = Sequence::new(alloc);
+    for i in 0..drafts.len() {
+        let record = drafts[i].resolve(alloc, all, i)?;
+        records.push(record)?;
+    }
+    Ok(records)
+}
