@@ -37,8 +37,9 @@ use Rattle.atl_instant.specs.Month.{MonthValue}
 use Rattle.atl_instant.specs.Inside.{inside}
 use Rattle.atl_instant.specs.Outcomes.{first_fault, unless}
 use Rattle.atl_instant.specs.PhaseOrders.{Task, orders_of}
-use Rattle.atl_instant.specs.OrderEffects.{IsOrderly, IsUnaffected, IsUnaffectedRelation, StepsWell, effect_on, faction_effect, meaning_by_orders, of_faction, one_order, order_result, spares_others}
-use Rattle.atl_instant.specs.Unbooked.{books_nothing, moves_nothing}
+use Rattle.atl_instant.specs.OrderEffects.{IsUnaffected, effect_on, faction_effect, meaning_by_orders, of_faction, one_order, order_result, spares_others}
+use Rattle.atl_instant.specs.Bounds.{IsOrderly, IsUnaffectedRelation, StepsWell, books_nothing}
+use Rattle.atl_instant.specs.Unbooked.{moves_nothing}
 use Rattle.atl_instant.proofs.MeaningLaws.{same_month_by}
 use Rattle.atl_instant.proofs.OutcomeLaws.{false_true, none_fits}
 use Rattle.atl_instant.proofs.RefitLaws.{under}

@@ -26,7 +26,8 @@ use Rattle.atl_instant.specs.Month.{MonthValue}
 use Rattle.atl_instant.specs.Outcomes.{unless}
 use Rattle.atl_instant.specs.PhaseOrders.{Task, orders_of}
 use Rattle.atl_instant.specs.StandOnce.{are_of_slot, share_slot}
-use Rattle.atl_instant.specs.OrderEffects.{IsUnitOf, OrderEffect, effect_on, faction_effect, meaning_by_orders, of_faction, one_order, order_result}
+use Rattle.atl_instant.specs.OrderEffects.{OrderEffect, effect_on, faction_effect, meaning_by_orders, of_faction, one_order, order_result}
+use Rattle.atl_instant.specs.Bounds.{IsUnitOf}
 use Rattle.atl_instant.specs.declared.phase_order.Arrangement.TheVariants.{ByUnit}
 use Rattle.atl_instant.proofs.StandOnceLaws.{one_order_stands}
 use Rattle.atl_instant.proofs.OrderEffectLaws.{ordered_cases}

@@ -33,9 +33,10 @@ use Rattle.atl_records.proofs.EveryLaws.{get-insert_other}
 use Rattle.atl_state.proofs.HavingLaws.{may_have}
 use Rattle.atl_state.proofs.HoldingLaws.{MayHold, steady-unit_amount, total-unit_amount}
 use Rattle.atl_state.proofs.RegionLaws.{steady-amount, total-amount}
-use Rattle.atl_instant.specs.Meaning.{HasRoom, HaveRoom, moves_only}
+use Rattle.atl_instant.specs.Meaning.{moves_only}
+use Rattle.atl_instant.specs.Bounds.{HasRoom, HaveRoom, IsOrderly, IsUnaffectedRelation, StepsWell, UsesBound}
 use Rattle.atl_instant.specs.Outcomes.{unless}
-use Rattle.atl_instant.specs.OrderEffects.{IsOrderly, IsOwnOrder, IsUnaffected, IsUnaffectedRelation, StepsWell, UsesBound}
+use Rattle.atl_instant.specs.OrderEffects.{IsOwnOrder, IsUnaffected}
 use Rattle.atl_records.proofs.HoldingLaws.{every_amount}
 use Rattle.atl_instant.proofs.MeaningLaws.{same_month_by}
 use Rattle.atl_instant.proofs.BookingLaws.{booked-near, within-neg}
@@ -44,7 +45,8 @@ use Rattle.atl_instant.proofs.QuitLaws.{quit_orderly}
 use Rattle.atl_instant.proofs.OrderEffectLaws.{drawn_near, well_same}
 use Rattle.atl_instant.proofs.UnbookedLaws.{other_unit}
 use Rattle.atl_instant.specs.NoWorse.{IsUnchanged}
-use Rattle.atl_action.specs.Study.{after_study, days_after, is_helpful, study, study_effect, study_fault, study_moves, study_reserve, study_step, with_study}
+use Rattle.atl_action.specs.Study.{after_study, days_after, is_helpful, study, study_effect, study_fault, study_moves, study_step, with_study}
+use Rattle.atl_action.specs.Bounds.{study_reserve}
 use Rattle.atl_action.specs.Teach.{TaughtMen}
 
 -- ---- a unit that pays, and reaches so many days

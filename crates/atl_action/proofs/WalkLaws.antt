@@ -27,8 +27,9 @@ use Rattle.atl_records.proofs.EveryLaws.{none_some, other_number}
 use Rattle.atl_state.proofs.LeavingLaws.{owned_by}
 use Rattle.atl_instant.specs.Outcomes.{unless}
 use Rattle.atl_instant.specs.NoWorse.{IsNoWorse}
-use Rattle.atl_instant.specs.OrderEffects.{IsOrderly, IsOwnOrder, StepsWell}
-use Rattle.atl_instant.specs.Unbooked.{books_nothing, moves_nothing}
+use Rattle.atl_instant.specs.OrderEffects.{IsOwnOrder}
+use Rattle.atl_instant.specs.Bounds.{IsOrderly, StepsWell, books_nothing}
+use Rattle.atl_instant.specs.Unbooked.{moves_nothing}
 use Rattle.atl_instant.proofs.MeaningLaws.{same_month_by}
 use Rattle.atl_instant.proofs.OutcomeLaws.{false_true, none_fits}
 use Rattle.atl_instant.proofs.OwnerLaws.{heir_owns, owner_stays}

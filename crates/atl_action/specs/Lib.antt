@@ -6,3 +6,4 @@ pub mod Learners
 pub mod Teach
 pub mod Study
 pub mod StudyAlone
+pub mod Bounds

@@ -5,7 +5,6 @@ use Rattle.std.specs.Option.{option_map_or}
 use Rattle.std.specs.FinMap.{get}
 use Rattle.atl_tables.specs.Worlds.{WorldValue}
 use Rattle.atl_tables.specs.declared.world.Kind.{Kind}
-use Rattle.atl_tables.specs.Sums.{sum_over}
 use Rattle.atl_tables.specs.ByNumber.{fee_of, size_of}
 use Rattle.atl_orders.specs.declared.order.Operands.TheVariants as operands
 use Rattle.atl_orders.specs.Orders.{OperandsValue}
@@ -22,7 +21,7 @@ use Rattle.atl_records.specs.Limits.{most_days}
 use Rattle.atl_state.specs.Campaign.{CampaignValue, with_amount}
 use Rattle.atl_instant.specs.Meaning.{BookBound, Frame, Meaning, most_moved, moves_only}
 use Rattle.atl_instant.specs.Outcomes.{first_fault, unless}
-use Rattle.atl_instant.specs.OrderEffects.{IsOwnOrder, OrderEffect, OrderMeaning, RemainingBound, meaning_by_orders, spares_others}
+use Rattle.atl_instant.specs.OrderEffects.{IsOwnOrder, OrderEffect, OrderMeaning, meaning_by_orders, spares_others}
 use Rattle.atl_instant.specs.NoWorse.{IsUnchanged}
 use Rattle.atl_action.specs.Learners.{is_studying, learners}
 use Rattle.atl_action.specs.Limits.{helped_days, month_days, taught_days}
@@ -86,10 +85,6 @@ abbrev pub learn_keeps : Frame
 learn_keeps = spares_others IsOwnOrder IsUnchanged is_studying
 
 -- ---- how far it moves the books
-
--- no more than the money of all units is spent
-abbrev pub study_reserve : RemainingBound
-study_reserve c = moves_only (sum_over (λ u. u.holding.money) c.units) Study Money
 
 abbrev pub study_moves : BookBound
 study_moves = moves_only most_moved Study Money

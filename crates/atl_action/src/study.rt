@@ -10,11 +10,12 @@ ghost use Rattle.atl_state.specs.Good.{IsSteady};
 ghost use Rattle.atl_records.specs.Holdings.{amount_of};
 ghost use Rattle.atl_records.specs.Limits.{men_limit};
 ghost use Rattle.atl_instant.specs.Holdings.{ChangesHolding};
-ghost use Rattle.atl_instant.specs.Meaning.{HaveRoom};
+ghost use Rattle.atl_instant.specs.Bounds.{HaveRoom};
 ghost use Rattle.atl_instant.specs.OrderEffects.{faction_effect};
 ghost use Rattle.atl_instant.specs.NoWorse.{IsUnchanged};
 ghost use Rattle.atl_action.specs.Learners.{is_studying};
-ghost use Rattle.atl_action.specs.Study.{after_study, days_after, is_helpful, study, study_fault, study_moves, study_reserve, study_step, with_study};
+ghost use Rattle.atl_action.specs.Study.{after_study, days_after, is_helpful, study, study_fault, study_moves, study_step, with_study};
+ghost use Rattle.atl_action.specs.Bounds.{study_reserve};
 
 use crate::learners::cost_of;
 use crate::limits::{HELPED_DAYS, MONTH_DAYS, TAUGHT_DAYS};

@@ -10,7 +10,8 @@ use Rattle.atl_records.specs.declared.books.Thing.{Thing}
 use Rattle.atl_records.specs.Books.{IsGrid, IsWithin, amount_in, thing_index, after_booking, amount_number}
 use Rattle.atl_records.proofs.BookLaws.{amount-after_booking}
 use Rattle.atl_state.proofs.RegionLaws.{amount-other}
-use Rattle.atl_instant.specs.Meaning.{BookBound, HasRoom, IsNear, amount_limit, moves_only}
+use Rattle.atl_instant.specs.Meaning.{BookBound, IsNear, moves_only}
+use Rattle.atl_instant.specs.Bounds.{HasRoom, amount_limit}
 use Rattle.atl_instant.proofs.MeaningLaws.{near_room}
 
 near_by : (x y z : ℤ) (n : ℕ) → IsWithin n z → (y ≡ x +ℤ z) ⊎ (y ≡ x) → IsNear n x y

@@ -18,8 +18,8 @@ use Rattle.atl_instant.specs.Forming.{form_apart, forming_of}
 use Rattle.atl_instant.specs.Inside.{inside, region_of}
 use Rattle.atl_instant.specs.Outcomes.{first_fault, unless}
 use Rattle.atl_instant.specs.PhaseOrders.{Task, orders_of}
-use Rattle.atl_instant.specs.OrderEffects.{StepsWell, is_of_faction}
-use Rattle.atl_instant.specs.Unbooked.{books_nothing}
+use Rattle.atl_instant.specs.OrderEffects.{is_of_faction}
+use Rattle.atl_instant.specs.Bounds.{StepsWell, books_nothing}
 use Rattle.atl_instant.specs.declared.phase_order.Arrangement.TheVariants.{ByFaction}
 use Rattle.atl_instant.specs.declared.form.Forming.{Forming}
 use Rattle.atl_instant.proofs.FormingLaws.{begun_stays, begun_well, room}

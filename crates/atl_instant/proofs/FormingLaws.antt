@@ -27,8 +27,7 @@ use Rattle.atl_records.proofs.EveryLaws.{every-empty, every-insert, get-insert_o
 use Rattle.atl_state.proofs.NumberListLaws.{none_passing}
 use Rattle.atl_state.proofs.TotalLaws.{total-with_unit}
 use Rattle.atl_instant.specs.Form.{is_unit_limit, new_unit}
-use Rattle.atl_instant.specs.OrderEffects.{StepsWell}
-use Rattle.atl_instant.specs.Unbooked.{books_nothing}
+use Rattle.atl_instant.specs.Bounds.{StepsWell, books_nothing}
 use Rattle.atl_instant.proofs.MeaningLaws.{same_month_by}
 use Rattle.atl_instant.proofs.UnbookedLaws.{unbooked_well}
 use Rattle.atl_state.proofs.NumberedNameLaws.{unit_name_ok}

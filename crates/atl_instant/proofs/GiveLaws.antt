@@ -25,7 +25,8 @@ use Rattle.atl_instant.specs.Month.{Aliases}
 use Rattle.atl_instant.specs.Outcomes.{unless}
 use Rattle.atl_instant.specs.NoWorse.{IsNoWorse}
 use Rattle.atl_instant.specs.PhaseOrders.{Task, unit_of}
-use Rattle.atl_instant.specs.OrderEffects.{IsOrderly, IsOwnOrder, IsUnaffected, IsUnitOf, StepsWell}
+use Rattle.atl_instant.specs.OrderEffects.{IsOwnOrder, IsUnaffected}
+use Rattle.atl_instant.specs.Bounds.{IsOrderly, IsUnitOf, StepsWell}
 use Rattle.atl_instant.specs.declared.give.Gift.{Gift}
 use Rattle.atl_instant.specs.declared.give.Gift.TheVariants.{Item, Money}
 use Rattle.atl_records.proofs.HoldingLaws.{alike, amount_within, every_amount, set_amount}

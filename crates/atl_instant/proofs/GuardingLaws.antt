@@ -29,7 +29,8 @@ use Rattle.atl_instant.specs.Guard.{guard, guard_concerns, guard_effect, guard_f
 use Rattle.atl_instant.specs.Outcomes.{unless}
 use Rattle.atl_instant.specs.NoWorse.{IsNoWorse}
 use Rattle.atl_instant.specs.PhaseOrders.{Task}
-use Rattle.atl_instant.specs.OrderEffects.{IsOrderly, IsUnaffected, IsUnitOf, StepsWell}
+use Rattle.atl_instant.specs.OrderEffects.{IsUnaffected}
+use Rattle.atl_instant.specs.Bounds.{IsOrderly, IsUnitOf, StepsWell}
 use Rattle.atl_state.proofs.HavingLaws.{may_have, steady-having}
 use Rattle.atl_instant.proofs.MeaningLaws.{same_month_by}
 use Rattle.atl_instant.proofs.OutcomeLaws.{none_fits, not_apart}

@@ -14,7 +14,8 @@ use Rattle.atl_records.specs.declared.records.Faction.{Faction}
 use Rattle.atl_records.specs.Every.{IsThere}
 use Rattle.atl_state.specs.Good.{IsSound, amount_bound}
 use Rattle.atl_instant.specs.Month.{MonthValue}
-use Rattle.atl_instant.specs.Meaning.{BookBound, Condition, Frame, HasRoom, HaveRoom, IsNear, IsSameMonth, LeavesWell, Meaning, both_keep, both_move, moved_times}
+use Rattle.atl_instant.specs.Meaning.{BookBound, Condition, Frame, IsNear, IsSameMonth, LeavesWell, Meaning, both_keep, both_move}
+use Rattle.atl_instant.specs.Bounds.{HasRoom, HaveRoom, moved_times}
 
 pub near_twice : (j k : ℕ) (a b c : ℤ) → IsNear j a b → IsNear k b c → IsNear (j + k) a c
 near_twice j k a b c g h = record { above = omega (arith, ints, g.above, h.above); below = omega (arith, ints, g.below, h.below) }

@@ -28,8 +28,9 @@ use Rattle.atl_instant.specs.Name.{name_concerns, name_effect, name_result, name
 use Rattle.atl_instant.specs.Outcomes.{unless}
 use Rattle.atl_instant.specs.PhaseOrders.{Task}
 use Rattle.atl_instant.specs.NoWorse.{IsNoWorse}
-use Rattle.atl_instant.specs.OrderEffects.{IsOrderly, IsOwnOrder, IsUnaffected, IsUnitOf, StepsWell}
-use Rattle.atl_instant.specs.Unbooked.{books_nothing, moves_nothing}
+use Rattle.atl_instant.specs.OrderEffects.{IsOwnOrder, IsUnaffected}
+use Rattle.atl_instant.specs.Bounds.{IsOrderly, IsUnitOf, StepsWell, books_nothing}
+use Rattle.atl_instant.specs.Unbooked.{moves_nothing}
 use Rattle.atl_instant.proofs.MeaningLaws.{same_month_among, same_month_by}
 use Rattle.atl_instant.proofs.FactionLaws.{count-faction_name, known-faction_name, steady-faction_name}
 use Rattle.atl_instant.proofs.OutcomeLaws.{false_true}

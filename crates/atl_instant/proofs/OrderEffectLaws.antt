@@ -21,10 +21,11 @@ use Rattle.atl_records.specs.Books.{amount_in}
 use Rattle.atl_state.specs.Campaign.{CampaignValue}
 use Rattle.atl_instant.specs.Month.{Aliases, MonthValue}
 use Rattle.atl_instant.specs.Fit.{AreFit}
-use Rattle.atl_instant.specs.Meaning.{BookBound, Condition, HasRoom, HaveRoom, IsNear, LeavesWell}
+use Rattle.atl_instant.specs.Meaning.{BookBound, Condition, IsNear, LeavesWell}
+use Rattle.atl_instant.specs.Bounds.{HasRoom, HaveRoom, IsOrderly, IsUnaffectedRelation, IsUnitOf, RemainingBound, StepsWell, UsesBound}
 use Rattle.atl_instant.specs.PhaseOrders.{IsInMailing, Task, orders_of}
 use Rattle.atl_instant.specs.NoWorse.{IsNoWorse}
-use Rattle.atl_instant.specs.OrderEffects.{AreUnaffected, Affects, UsesBound, IsOrderly, IsUnaffected, IsUnaffectedRelation, IsUnitOf, OrderEffect, RemainingBound, Unaffected, OrderMeaning, StepsWell, faction_effect, effect_on, of_faction, one_order, order_result, with_event_of}
+use Rattle.atl_instant.specs.OrderEffects.{AreUnaffected, Affects, IsUnaffected, OrderEffect, Unaffected, OrderMeaning, faction_effect, effect_on, of_faction, one_order, order_result, with_event_of}
 use Rattle.atl_instant.specs.declared.phase_order.Arrangement.TheVariants.{ByUnit}
 use Rattle.atl_instant.proofs.MeaningLaws.{less_room, same_month}
 use Rattle.atl_instant.proofs.NoWorseLaws.{no_worse, no_worse_twice}

@@ -27,8 +27,9 @@ use Rattle.atl_instant.specs.Outcomes.{first_fault, unless}
 use Rattle.atl_instant.specs.Place.{enter, with_unit_inside, is_in, leave, leave_fault, enter_fault, place_effect, place_step, promote_fault, promote}
 use Rattle.atl_instant.specs.PhaseOrders.{unit_of}
 use Rattle.atl_instant.specs.NoWorse.{IsNoWorse}
-use Rattle.atl_instant.specs.OrderEffects.{IsOrderly, IsOwnOrder, StepsWell}
-use Rattle.atl_instant.specs.Unbooked.{books_nothing, moves_nothing}
+use Rattle.atl_instant.specs.OrderEffects.{IsOwnOrder}
+use Rattle.atl_instant.specs.Bounds.{IsOrderly, StepsWell, books_nothing}
+use Rattle.atl_instant.specs.Unbooked.{moves_nothing}
 use Rattle.atl_instant.proofs.MeaningLaws.{same_month_by}
 use Rattle.atl_instant.proofs.PlacingLaws.{place_stays, place_well}
 use Rattle.atl_instant.proofs.RefitLaws.{IsRelabelled, early-relabelled}

@@ -19,8 +19,7 @@ use Rattle.atl_records.proofs.EveryLaws.{get-insert_other, other_number}
 use Rattle.atl_state.proofs.InsideLaws.{is_no_zero}
 use Rattle.atl_state.proofs.LeavingLaws.{owned_by}
 use Rattle.atl_state.proofs.RegionLaws.{changed-known, get-insert_same}
-use Rattle.atl_instant.specs.OrderEffects.{StepsWell}
-use Rattle.atl_instant.specs.Unbooked.{books_nothing}
+use Rattle.atl_instant.specs.Bounds.{StepsWell, books_nothing}
 use Rattle.atl_instant.proofs.MeaningLaws.{same_month_by}
 use Rattle.atl_instant.proofs.OwnerLaws.{heir_owns, owner_stays}
 use Rattle.atl_instant.proofs.RefitLaws.{IsRefit, IsRelabelled, early-refitted, refitted, steady-refitted, total-refitted}

@@ -44,12 +44,13 @@ use Rattle.atl_state.proofs.LeavingLaws.{only_reduced, steady-without, total-wit
 use Rattle.atl_state.proofs.RegionLaws.{steady-amount}
 use Rattle.atl_records.proofs.RemovedLaws.{get-remove_other, sum_over-remove}
 use Rattle.atl_state.proofs.NumberListLaws.{IsListed, listed_passing}
-use Rattle.atl_instant.specs.Meaning.{BookBound, HasRoom, HaveRoom, IsNear, both_move, most_moved, moves_only}
+use Rattle.atl_instant.specs.Meaning.{BookBound, IsNear, both_move, most_moved, moves_only}
+use Rattle.atl_instant.specs.Bounds.{HasRoom, HaveRoom, IsOrderly, IsUnitOf, StepsWell, UsesBound, loss_under, moving_items, quit_reserve}
 use Rattle.atl_instant.specs.Outcomes.{unless}
 use Rattle.atl_instant.specs.PhaseOrders.{Task}
-use Rattle.atl_instant.specs.Quit.{after_leaving, loss_entry, loss_under, quit, quit_concerns, quit_effect, quit_fault, quit_moves, quit_reserve, quit_step, with_all_losses, with_item_loss, with_loss, without_leaver}
+use Rattle.atl_instant.specs.Quit.{after_leaving, loss_entry, quit, quit_concerns, quit_effect, quit_fault, quit_moves, quit_step, with_all_losses, with_item_loss, with_loss, without_leaver}
 use Rattle.atl_instant.specs.NoWorse.{IsNoWorse}
-use Rattle.atl_instant.specs.OrderEffects.{IsOrderly, IsUnaffected, IsUnitOf, StepsWell, UsesBound}
+use Rattle.atl_instant.specs.OrderEffects.{IsUnaffected}
 use Rattle.atl_records.proofs.HoldingLaws.{amount_within}
 use Rattle.atl_instant.proofs.BookingLaws.{booked-near, booked-room, within-neg}
 use Rattle.atl_instant.proofs.MeaningLaws.{less_room, near_more, near_same, near_twice, room_less}
@@ -57,7 +58,6 @@ use Rattle.atl_instant.proofs.OutcomeLaws.{none_fits, not_apart}
 use Rattle.atl_instant.proofs.NoWorseLaws.{no_worse}
 use Rattle.atl_instant.proofs.OrderEffectLaws.{drawn_near, no_worse_spares, well_same, well_twice}
 use Rattle.atl_instant.proofs.StructureLaws.{handed_is}
-use Rattle.atl_instant.specs.LostItems.{moving_items}
 
 -- ---- things and entries
 

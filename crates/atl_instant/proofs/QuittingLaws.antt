@@ -15,9 +15,10 @@ use Rattle.atl_instant.specs.Month.{MonthValue}
 use Rattle.atl_instant.specs.Fit.{AreFit}
 use Rattle.atl_instant.specs.Meaning.{Condition}
 use Rattle.atl_instant.specs.PhaseOrders.{Task, orders_of}
-use Rattle.atl_instant.specs.Quit.{QuitsFrom, after_leaving, is_quitting, quit, quit_effect, quit_keeps, quit_meaning, quit_moves, quit_reserve, quit_step, without_leaver}
+use Rattle.atl_instant.specs.Quit.{QuitsFrom, after_leaving, is_quitting, quit, quit_effect, quit_keeps, quit_meaning, quit_moves, quit_step, without_leaver}
+use Rattle.atl_instant.specs.Bounds.{IsOrderly, IsUnitOf, StepsWell, quit_reserve}
 use Rattle.atl_instant.specs.NoWorse.{IsNoWorse}
-use Rattle.atl_instant.specs.OrderEffects.{IsOrderly, IsUnitOf, StepsWell, is_of_faction, is_own, meaning_by_orders}
+use Rattle.atl_instant.specs.OrderEffects.{is_of_faction, is_own, meaning_by_orders}
 use Rattle.atl_instant.specs.declared.phase_order.Arrangement.TheVariants.{ByUnit}
 use Rattle.atl_instant.proofs.QuitLaws.{left_well, quit_cases, quit_orderly, quit_well, units_behind}
 use Rattle.atl_instant.proofs.StructureLaws.{equal}

@@ -3,7 +3,8 @@ use Rattle.std.proofs.Common.{ℕ, ◌≤◌, arith}
 use Rattle.std.specs.Prelude.{ℤ}
 use Rattle.std.proofs.lemmas.Int.{ints}
 use Rattle.atl_records.specs.Books.{IsWithin, amount_in}
-use Rattle.atl_instant.specs.Meaning.{HasRoom, most_moved}
+use Rattle.atl_instant.specs.Meaning.{most_moved}
+use Rattle.atl_instant.specs.Bounds.{HasRoom}
 use Rattle.atl_instant.specs.Room.{OnePhaseHasRoom, roomy_amount}
 
 room : (moved : ℕ) (amount : ℤ) → moved ≤ most_moved → IsWithin roomy_amount amount → HasRoom moved amount

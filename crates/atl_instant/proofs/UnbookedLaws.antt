@@ -16,8 +16,8 @@ use Rattle.atl_state.specs.Totals.{total}
 use Rattle.atl_instant.specs.Meaning.{Condition, IsSameMonth}
 use Rattle.atl_instant.specs.PhaseOrders.{Task}
 use Rattle.atl_instant.specs.NoWorse.{IsNoWorse}
-use Rattle.atl_instant.specs.OrderEffects.{IsOwnOrder, IsUnaffected, IsUnitOf, OrderEffect, StepsWell}
-use Rattle.atl_instant.specs.Unbooked.{books_nothing}
+use Rattle.atl_instant.specs.OrderEffects.{IsOwnOrder, IsUnaffected, OrderEffect}
+use Rattle.atl_instant.specs.Bounds.{IsUnitOf, StepsWell, books_nothing}
 use Rattle.atl_instant.proofs.NoWorseLaws.{no_worse}
 use Rattle.atl_instant.proofs.OrderEffectLaws.{not_drawn}
 

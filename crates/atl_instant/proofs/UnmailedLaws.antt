@@ -26,7 +26,8 @@ use Rattle.atl_instant.specs.Meaning.{Frame, Meaning, both_keep, then_also}
 use Rattle.atl_instant.specs.Outcomes.{unless}
 use Rattle.atl_instant.specs.PhaseOrders.{Task, orders_of}
 use Rattle.atl_instant.specs.NoWorse.{IsNoWorse}
-use Rattle.atl_instant.specs.OrderEffects.{Affects, IsOwnOrder, IsUnaffected, IsUnitOf, OrderMeaning, Unaffected, event_for, meaning_by_orders, one_order, order_result, spares_others, with_event_of}
+use Rattle.atl_instant.specs.OrderEffects.{Affects, IsOwnOrder, IsUnaffected, OrderMeaning, Unaffected, event_for, meaning_by_orders, one_order, order_result, spares_others, with_event_of}
+use Rattle.atl_instant.specs.Bounds.{IsUnitOf}
 use Rattle.atl_instant.specs.Unmailed.{IsLeft, IsLessBy, men_starved_by, starved_in}
 use Rattle.atl_instant.specs.declared.phase_order.Arrangement.{Arrangement}
 use Rattle.atl_instant.specs.declared.phase_order.Arrangement.TheVariants.{ByUnit}

@@ -26,7 +26,8 @@ use Rattle.atl_instant.specs.Outcomes.{unless}
 use Rattle.atl_instant.specs.Place.{enter, enter_fault, is_placing, leave, leave_fault, place_effect, place_spec, place_step, promote, promote_fault, with_unit_inside}
 use Rattle.atl_instant.specs.PhaseOrders.{Task, orders_of, unit_of}
 use Rattle.atl_instant.specs.Quit.{QuitsFrom, after_leaving, is_quitting, quit, quit_effect, quit_fault, quit_keeps, quit_meaning, quit_step}
-use Rattle.atl_instant.specs.OrderEffects.{IsUnaffected, IsUnitOf}
+use Rattle.atl_instant.specs.OrderEffects.{IsUnaffected}
+use Rattle.atl_instant.specs.Bounds.{IsUnitOf}
 use Rattle.atl_instant.specs.Transfer.{is_transferring, transfer, transfer_effect, transfer_spec, transfer_step, with_fewer, with_more}
 use Rattle.atl_instant.specs.Unmailed.{starved_in}
 use Rattle.atl_instant.specs.declared.give.Gift.{Gift}

@@ -25,5 +25,5 @@ pub mod Place
 pub mod Form
 pub mod Forming
 pub mod Quit
-pub mod LostItems
 pub mod Unmailed
+pub mod Bounds

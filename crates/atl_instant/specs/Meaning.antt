@@ -1,5 +1,5 @@
 -- What a phase of the month is: its effect, by how much it may change the books, and what it leaves unchanged.
-use Rattle.std.specs.Prelude.{◌≡◌, ℕ, ℤ, pos, ◌+ℤ◌, ◌≤ℤ◌, ◌+◌, ◌*◌, ◌==◌, if◌then◌else◌}
+use Rattle.std.specs.Prelude.{◌≡◌, ℕ, ℤ, pos, ◌+ℤ◌, ◌≤ℤ◌, ◌+◌, ◌==◌, if◌then◌else◌}
 use Rattle.std.specs.FinMap.{len}
 use Rattle.atl_tables.specs.Worlds.{WorldValue}
 use Rattle.atl_records.specs.declared.books.Entry.{Entry}
@@ -51,10 +51,6 @@ BookBound = Entry → Thing → ℕ
 abbrev pub both_move : BookBound → BookBound → BookBound
 both_move first second e t = first e t + second e t
 
--- so many steps, each of which may move the amounts so far
-abbrev pub moved_times : ℕ → BookBound → BookBound
-moved_times steps moving e t = steps * moving e t
-
 -- one amount alone
 abbrev pub moves_only : ℕ → Entry → Thing → BookBound
 moves_only most e t f u = if amount_number f u == amount_number e t then most else 0
@@ -67,19 +63,6 @@ most_moved = 99999999999999
 pub record IsNear (most : ℕ) (before after : ℤ) : Type 0 where
   pub above : after ≤ℤ (before +ℤ pos most)
   pub below : before ≤ℤ (after +ℤ pos most)
-
--- no amount ever passes this in size
-abbrev pub amount_limit : ℕ
-amount_limit = 9000000000000000000 + most_moved
-
--- an amount that may still be moved so far
-pub record HasRoom (most : ℕ) (amount : ℤ) : Type 0 where
-  pub above : (amount +ℤ pos most) ≤ℤ pos amount_limit
-  pub below : pos most ≤ℤ (amount +ℤ pos amount_limit)
-
--- each amount of the books may: so it is where none passes 9*10^18 in size
-abbrev pub HaveRoom : BookBound → CampaignValue → Type 0
-HaveRoom moving c = (e : Entry) (t : Thing) → HasRoom (moving e t) (amount_in c.books e t)
 
 -- Within a month the month isn't counted, no report is made, and no faction joins; one that is gone is still there.
 pub record IsSameMonth (before after : CampaignValue) : Type 0 where

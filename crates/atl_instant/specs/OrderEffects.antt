@@ -1,24 +1,19 @@
 -- A phase that carries its orders out one by one: each sees what the one before left. See docs/RULES.md, "Orders of a month".
-use Rattle.std.specs.Prelude.{ℕ, ℤ, pos, ◌≡◌, ◌≤◌, ◌+ℤ◌, ◌≤ℤ◌, ◌==◌, ◌++◌, Bool, false, List, [], ◌∷◌, Option, Some, None, IfSome, fold, if◌then◌else◌}
+use Rattle.std.specs.Prelude.{ℕ, ◌≡◌, ◌==◌, ◌++◌, Bool, false, List, [], ◌∷◌, Option, Some, None, fold, if◌then◌else◌}
 use Rattle.std.specs.List.{All}
 use Rattle.std.specs.FinMap.{get}
 use Rattle.atl_tables.specs.Worlds.{WorldValue}
 use Rattle.atl_orders.specs.declared.verb.Verb.{Verb}
-use Rattle.atl_records.specs.declared.books.Entry.{Entry}
-use Rattle.atl_records.specs.declared.books.Thing.{Thing}
 use Rattle.atl_records.specs.declared.event.Event.{Event}
 use Rattle.atl_records.specs.declared.event.EventFault.TheVariants.{NotYours}
 use Rattle.atl_records.specs.declared.event.EventVerb.TheVariants.{Order}
 use Rattle.atl_records.specs.declared.event.Outcome.{Outcome}
 use Rattle.atl_records.specs.declared.event.Outcome.TheVariants.{Fault}
 use Rattle.atl_records.specs.declared.records.Unit.{Unit}
-use Rattle.atl_records.specs.Books.{amount_in}
 use Rattle.atl_records.specs.Events.{event_fault_number}
 use Rattle.atl_state.specs.Campaign.{CampaignValue}
-use Rattle.atl_state.specs.Totals.{Balances}
 use Rattle.atl_instant.specs.Month.{Aliases, MonthValue}
-use Rattle.atl_orders.specs.Bounds.{IsOrderOf}
-use Rattle.atl_instant.specs.Meaning.{BookBound, Condition, Frame, IsSameMonth, Meaning}
+use Rattle.atl_instant.specs.Meaning.{Frame, Meaning}
 use Rattle.atl_instant.specs.PhaseOrders.{Task, orders_by_unit}
 
 -- ---- the orders in turn
@@ -61,6 +56,7 @@ order_result (Some deed) c faction n = let after = faction_effect deed c faction
 abbrev pub event_for : Task → Outcome → Event
 event_for t outcome = record { faction = t.faction; unit = t.unit; line = t.line; verb = Order t.order_value.verb; outcome = outcome }
 
+-- the month with the event of an order; an order that the phase passes over adds none
 abbrev pub with_event_of : MonthValue → Task → Option Outcome → MonthValue
 with_event_of m t None = m
 with_event_of m t (Some outcome) = record m { events = m.events ++ event_for t outcome ∷ [] }
@@ -72,25 +68,6 @@ one_order step w (c, m) t = let after = order_result (step w m.aliases t) c t.fa
 -- all of them
 unfoldable pub meaning_by_orders : OrderMeaning → (Verb → Bool) → Meaning
 meaning_by_orders step is_of w c m = fold (one_order step w) (c, m) (orders_by_unit is_of m)
-
--- ---- what a step leaves
-
--- by how much the amounts of the books may still be moved, from a campaign on
-abbrev pub RemainingBound : Type 0
-RemainingBound = CampaignValue → BookBound
-
--- an amount moves by what its reserve shrinks, at most
-pub record UsesBound (reserve left : ℕ) (before after : ℤ) : Type 0 where
-  pub above : (after +ℤ pos left) ≤ℤ (before +ℤ pos reserve)
-  pub below : (before +ℤ pos left) ≤ℤ (after +ℤ pos reserve)
-
--- The campaign holds what it held and is of the same month, the books balance where they did before, and no amount of them moves further
--- than its reserve shrinks.
-pub record StepsWell (holds : Condition) (reserve : RemainingBound) (w : WorldValue) (before after : CampaignValue) : Type 0 where
-  pub holds_still : holds w after
-  pub same_month : IsSameMonth before after
-  pub balances : Balances before → Balances after
-  pub drawn : (e : Entry) (t : Thing) → UsesBound (reserve before e t) (reserve after e t) (amount_in before.books e t) (amount_in after.books e t)
 
 -- ---- what stays
 
@@ -121,24 +98,3 @@ AreUnaffected concerns spares ts before after =
 -- each unit that no order of a phase concerns
 abbrev pub spares_others : Affects → Unaffected → (Verb → Bool) → Frame
 spares_others concerns spares is_of w m before after = AreUnaffected concerns spares (orders_by_unit is_of m) before after
-
--- ---- what a phase has to show of its step
-
--- it stays as it is, or comes of two changes, and the unit's faction stays
-pub record IsUnaffectedRelation (spares : Unaffected) : Type 0 where
-  pub same : (u : Unit) → spares u u
-  pub again : (u v x : Unit) → spares u v → spares v x → spares u x
-  pub faction : (u v : Unit) → spares u v → v.faction ≡ u.faction
-
--- the unit that an order is for, of the faction that wrote it
-pub record IsUnitOf (c : CampaignValue) (t : Task) (u : Unit) : Type 0 where
-  pub there : get c.units t.unit ≡ Some u
-  pub faction : u.faction ≡ t.faction
-
-pub record IsOrderly (step : OrderMeaning) (holds : Condition) (reserve : RemainingBound) (moving : BookBound) (concerns : Affects) (spares : Unaffected) : Type 0 where
-  pub well : (w : WorldValue) (a : Aliases) (c : CampaignValue) (t : Task) (x : Unit) → holds w c → IsOrderOf w t.order_value → IsUnitOf c t x →
-      IfSome (step w a t) (λ deed. StepsWell holds reserve w c (deed c x).0)
-  pub sparing : IsUnaffectedRelation spares
-  pub spared : (w : WorldValue) (a : Aliases) (c : CampaignValue) (t : Task) (x : Unit) → holds w c → IsUnitOf c t x →
-      (n : ℕ) (u : Unit) → get c.units n ≡ Some u → (concerns t n u.faction → ⊥) → IfSome (step w a t) (λ deed. IsUnaffected spares (deed c x).0 n u)
-  pub bounded : (w : WorldValue) (c : CampaignValue) → holds w c → (e : Entry) (t : Thing) → reserve c e t ≤ moving e t

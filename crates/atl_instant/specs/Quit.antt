@@ -5,7 +5,6 @@ use Rattle.atl_orders.specs.declared.order.Operands.TheVariants as operands
 use Rattle.atl_orders.specs.declared.verb.Verb.{Verb}
 use Rattle.atl_orders.specs.declared.verb.Verb.TheVariants as verbs
 use Rattle.atl_orders.specs.Orders.{OperandsValue}
-use Rattle.atl_tables.specs.Sums.{sum_over}
 use Rattle.atl_records.specs.Books.{entry_index}
 use Rattle.atl_records.specs.declared.books.Entry.{Entry}
 use Rattle.atl_records.specs.declared.books.Entry.TheVariants.{Left, Lost}
@@ -18,12 +17,11 @@ use Rattle.atl_records.specs.declared.records.Unit.{Unit}
 use Rattle.atl_records.specs.Holdings.{HoldingValue}
 use Rattle.atl_state.specs.Owners.{without_unit}
 use Rattle.atl_state.specs.Campaign.{CampaignValue, numbers_of, with_amount}
-use Rattle.atl_records.specs.Amounts.{unit_amount}
 use Rattle.atl_instant.specs.Meaning.{BookBound, Frame, Meaning, most_moved}
 use Rattle.atl_instant.specs.Outcomes.{first_fault, unless}
 use Rattle.atl_instant.specs.PhaseOrders.{Task}
 use Rattle.atl_instant.specs.NoWorse.{IsNoWorse}
-use Rattle.atl_instant.specs.OrderEffects.{Affects, OrderEffect, OrderMeaning, RemainingBound, is_own, meaning_by_orders, spares_others}
+use Rattle.atl_instant.specs.OrderEffects.{Affects, OrderEffect, OrderMeaning, is_own, meaning_by_orders, spares_others}
 use Rattle.atl_instant.specs.PhaseSpecs.{PhaseSpec}
 
 abbrev pub is_quitting : Verb → Bool
@@ -93,14 +91,6 @@ abbrev pub quit_keeps : Frame
 quit_keeps w m before after = spares_others (QuitsFrom before) IsNoWorse is_quitting w m before after
 
 -- ---- how far it moves the books
-
--- what is booked of a thing under an entry as all that is held goes
-abbrev pub loss_under : Entry → Thing → HoldingValue → ℕ
-loss_under e t h = if entry_index e == entry_index (loss_entry t) then unit_amount t h else 0
-
--- no more than all units hold
-abbrev pub quit_reserve : RemainingBound
-quit_reserve c e t = sum_over (λ u. loss_under e t u.holding) c.units
 
 abbrev pub quit_moves : BookBound
 quit_moves e t = if entry_index e == entry_index (loss_entry t) then most_moved else 0

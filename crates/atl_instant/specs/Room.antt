@@ -4,7 +4,8 @@ use Rattle.atl_records.specs.declared.books.Entry.{Entry}
 use Rattle.atl_records.specs.declared.books.Thing.{Thing}
 use Rattle.atl_records.specs.Books.{IsWithin, amount_in}
 use Rattle.atl_state.specs.Campaign.{CampaignValue}
-use Rattle.atl_instant.specs.Meaning.{BookBound, HaveRoom, amount_limit, most_moved}
+use Rattle.atl_instant.specs.Meaning.{BookBound, most_moved}
+use Rattle.atl_instant.specs.Bounds.{HaveRoom, amount_limit}
 
 -- 9*10^18
 abbrev pub roomy_amount : ℕ
@@ -14,6 +15,7 @@ roomy_amount = amount_limit - most_moved
 abbrev pub AreRoomy : CampaignValue → Type 0
 AreRoomy c = (e : Entry) (t : Thing) → IsWithin roomy_amount (amount_in c.books e t)
 
--- Such books have room for one phase that moves each amount by less than 10^14; two such phases may move one by more together.
+-- Where no amount passes 9*10^18 the books have room for one phase that moves each amount by less than 10^14. This is said of one phase: two of
+-- them may move an amount further.
 abbrev pub OnePhaseHasRoom : Type 0
 OnePhaseHasRoom = (moving : BookBound) (c : CampaignValue) → ((e : Entry) (t : Thing) → moving e t ≤ most_moved) → AreRoomy c → HaveRoom moving c

@@ -3,7 +3,7 @@ ghost use Rattle.std.specs.Prelude.{pos, neg_ℤ, length, ◌≡◌, ◌<◌};
 ghost use Rattle.atl_records.specs.Books.{amount_in, thing_index};
 ghost use Rattle.atl_state.specs.Marking.{mark_amount};
 ghost use Rattle.atl_state.specs.Campaign.{with_amount};
-ghost use Rattle.atl_instant.specs.Meaning.{HasRoom};
+ghost use Rattle.atl_instant.specs.Bounds.{HasRoom};
 
 use atl_state::{Campaign, Entry, Thing};
 

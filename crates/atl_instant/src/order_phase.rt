@@ -5,10 +5,11 @@ ghost use Rattle.std.specs.Option.{option_copied};
 ghost use Rattle.atl_state.specs.Covers.{MarksChanges};
 ghost use Rattle.atl_orders.specs.Bounds.{IsOrderOf};
 ghost use Rattle.atl_instant.specs.Fit.{AreFit};
-ghost use Rattle.atl_instant.specs.Meaning.{BookBound, Condition, HaveRoom, LeavesWell};
+ghost use Rattle.atl_instant.specs.Meaning.{BookBound, Condition, LeavesWell};
+ghost use Rattle.atl_instant.specs.Bounds.{HaveRoom, IsOrderly, RemainingBound, books_nothing};
 ghost use Rattle.atl_instant.specs.NoWorse.{IsNoWorse};
-ghost use Rattle.atl_instant.specs.Unbooked.{books_nothing, moves_nothing};
-ghost use Rattle.atl_instant.specs.OrderEffects.{Affects, IsOrderly, IsOwnOrder, OrderMeaning, RemainingBound, Unaffected, is_of_faction, meaning_by_orders, of_faction, one_order, order_result, spares_others};
+ghost use Rattle.atl_instant.specs.Unbooked.{moves_nothing};
+ghost use Rattle.atl_instant.specs.OrderEffects.{Affects, IsOwnOrder, OrderMeaning, Unaffected, is_of_faction, meaning_by_orders, of_faction, one_order, order_result, spares_others};
 ghost use Rattle.atl_instant.specs.Month.{with_events};
 ghost use Rattle.atl_instant.specs.PhaseOrders.{task_of};
 

@@ -3,7 +3,8 @@ ghost use Rattle.std.specs.Prelude.{◌≡◌, IfOk};
 ghost use Rattle.atl_state.specs.Covers.{MarksChanges};
 ghost use Rattle.atl_state.specs.Good.{IsSteady};
 ghost use Rattle.atl_instant.specs.Fit.{AreFit};
-ghost use Rattle.atl_instant.specs.Meaning.{Meaning, Condition, Frame, BookBound, LeavesWell, HaveRoom, then_also, both_need, both_keep, both_move};
+ghost use Rattle.atl_instant.specs.Meaning.{Meaning, Condition, Frame, BookBound, LeavesWell, then_also, both_need, both_keep, both_move};
+ghost use Rattle.atl_instant.specs.Bounds.{HaveRoom};
 ghost use Rattle.atl_instant.specs.Unbooked.{moves_nothing};
 
 use crate::month::Month;

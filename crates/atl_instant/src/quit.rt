@@ -8,9 +8,9 @@ ghost use Rattle.atl_state.specs.Good.{IsSteady};
 ghost use Rattle.atl_state.specs.Marking.{mark_amount};
 ghost use Rattle.atl_records.specs.declared.books.Entry.TheVariants.{Left, Lost};
 ghost use Rattle.atl_records.specs.declared.books.Thing.TheVariants.{Money, People};
-ghost use Rattle.atl_instant.specs.Meaning.{HasRoom, HaveRoom, both_move, moves_only};
-ghost use Rattle.atl_instant.specs.Quit.{after_leaving, is_quitting, loss_entry, quit, quit_concerns, quit_fault, quit_keeps, quit_meaning, quit_moves, quit_reserve, quit_step, with_item_loss, with_loss};
-ghost use Rattle.atl_instant.specs.LostItems.{moving_items};
+ghost use Rattle.atl_instant.specs.Meaning.{both_move, moves_only};
+ghost use Rattle.atl_instant.specs.Bounds.{HasRoom, HaveRoom, moving_items, quit_reserve};
+ghost use Rattle.atl_instant.specs.Quit.{after_leaving, is_quitting, loss_entry, quit, quit_concerns, quit_fault, quit_keeps, quit_meaning, quit_moves, quit_step, with_item_loss, with_loss};
 ghost use Rattle.atl_instant.specs.OrderEffects.{faction_effect};
 
 use crate::booking::book_taken;

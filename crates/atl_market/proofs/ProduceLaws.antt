@@ -26,12 +26,14 @@ use Rattle.atl_state.specs.Campaign.{CampaignValue}
 use Rattle.atl_state.proofs.BackLaws.{Rise, entries_rise}
 use Rattle.atl_records.proofs.EveryLaws.{each-from_every, none_some, same_number}
 use Rattle.atl_instant.specs.Outcomes.{first_fault}
-use Rattle.atl_instant.specs.Meaning.{BookBound, HasRoom, HaveRoom, LeavesWell, both_move, most_moved, moved_times, moves_only}
+use Rattle.atl_instant.specs.Meaning.{BookBound, LeavesWell, both_move, most_moved, moves_only}
+use Rattle.atl_instant.specs.Bounds.{HasRoom, HaveRoom, moved_times}
 use Rattle.atl_instant.specs.PhaseOrders.{Task}
 use Rattle.atl_records.proofs.HoldingLaws.{amount_within}
 use Rattle.atl_instant.proofs.MeaningLaws.{MovesLess, both_leave_well, less_room, room_behind, room_less, well_unchanged, well_within}
 use Rattle.atl_market.specs.Making.{CanMake, CanMakeOf, CanProduce, CanUse, Fits}
-use Rattle.atl_market.specs.PotPhase.{CanInTurn, after_sharing, given_by, item_in, items_by}
+use Rattle.atl_market.specs.PotPhase.{after_sharing, given_by, item_in, items_by}
+use Rattle.atl_market.specs.Bounds.{CanInTurn}
 use Rattle.atl_market.specs.Produce.{after_production, can_make, can_make_of, item_of, make_fault, produce_moves, produce_pots, up_to_raw, with_raw_used}
 use Rattle.atl_market.specs.Goods.{with_made, with_used}
 use Rattle.atl_market.specs.Unordered.{OthersAreNoWorse}

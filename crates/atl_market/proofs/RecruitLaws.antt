@@ -30,12 +30,14 @@ use Rattle.atl_state.proofs.CoverLaws.{marks-amount, marks-region, marks-trans}
 use Rattle.atl_records.proofs.EveryLaws.{each-from_every, get-insert_other}
 use Rattle.atl_state.proofs.HoldingLaws.{marks-unit_row}
 use Rattle.atl_state.proofs.RegionLaws.{IsRegion-peasants, get-insert_same, steady-region}
-use Rattle.atl_instant.specs.Meaning.{HaveRoom, LeavesWell, BookBound, moved_times, most_moved}
+use Rattle.atl_instant.specs.Meaning.{LeavesWell, BookBound, most_moved}
+use Rattle.atl_instant.specs.Bounds.{HaveRoom, moved_times}
 use Rattle.atl_instant.specs.PhaseOrders.{Task}
 use Rattle.atl_instant.proofs.BookingLaws.{within-neg}
 use Rattle.atl_instant.proofs.MarkLaws.{marks_by}
 use Rattle.atl_instant.proofs.MeaningLaws.{room_less, well_within}
-use Rattle.atl_market.specs.PotPhase.{CanInTurn, after_sharing, given_by}
+use Rattle.atl_market.specs.PotPhase.{after_sharing, given_by}
+use Rattle.atl_market.specs.Bounds.{CanInTurn}
 use Rattle.atl_market.specs.Recruit.{after_recruiting, recruit_moves, recruit_pots, recruits_at, with_men}
 use Rattle.atl_market.specs.Unordered.{OthersAreNoWorse}
 use Rattle.atl_market.proofs.DrawLaws.{AreReady, Drains, DrawnPots, HaveEnough, all_pairs, drawn, one_drains, one_draws, pot_is_enough, ready_behind, region_pots, untouched, who_stand}
@@ -109,7 +111,7 @@ pub leaving_marks : (things : ℕ) (c d e : MarkedCampaign) (region peasants : �
 leaving_marks things c d e region peasants z d_is d_marks e_is e_marks grid two =
     let books : d.value.books ≡ c.value.books = ap (λ (s : CampaignValue). s.books) d_is in
     let d_grid : IsGrid things d.value.books = rw books grid in
-    marks-trans c d e (marks_by c d _ d_is d_marks (marks-region (λ r. record r { peasants = peasants }) c region))
+    marks-trans c d e (marks_by c d _ d_is d_marks (marks-region (λ r. record r { peasants = peasants }) (λ r. refl) c region))
     (marks_by d e _ e_is e_marks (marks-amount things d Recruiting Money z d_grid (omega arith)))
 
 -- a unit that is there has another holding

@@ -24,14 +24,16 @@ use Rattle.atl_state.proofs.CoverLaws.{marks-region, marks-trans}
 use Rattle.atl_records.proofs.EveryLaws.{each-from_every}
 use Rattle.atl_state.proofs.HoldingLaws.{marks-unit_row, may_hold_money, of_one_faction_kept, steady-unit_amount, total-unit_amount}
 use Rattle.atl_state.proofs.RegionLaws.{IsRegion-money, steady-region, total-region}
-use Rattle.atl_instant.specs.Meaning.{LeavesWell, moved_times}
+use Rattle.atl_instant.specs.Meaning.{LeavesWell}
+use Rattle.atl_instant.specs.Bounds.{moved_times}
 use Rattle.atl_instant.specs.NoWorse.{AreNoWorse}
 use Rattle.atl_instant.specs.Unbooked.{moves_nothing}
 use Rattle.atl_instant.specs.PhaseOrders.{Task}
 use Rattle.atl_instant.proofs.MarkLaws.{marks_by}
 use Rattle.atl_instant.proofs.MeaningLaws.{near_same, same_month_by, well_within}
 use Rattle.atl_instant.proofs.NoWorseLaws.{are_no_worse, are_no_worse_twice}
-use Rattle.atl_market.specs.PotPhase.{CanInTurn, after_sharing, given_by}
+use Rattle.atl_market.specs.PotPhase.{after_sharing, given_by}
+use Rattle.atl_market.specs.Bounds.{CanInTurn}
 use Rattle.atl_market.specs.Tax.{after_tax, money_at, tax_pots}
 use Rattle.atl_market.proofs.DrawLaws.{AreReady, Drains, DrawnPots, HaveEnough, all_pairs, drawn, one_drains, one_draws, pot_is_enough, ready_behind, region_pots, untouched, who_stand}
 use Rattle.atl_market.proofs.MoneyInTurnLaws.{others_stay, paid, richer, richer_is, richer_no_worse}
@@ -90,7 +92,7 @@ pub tax_marks : (c d e : MarkedCampaign) (n money region left : ℕ) → d.value
     → e.value ≡ with_region_money d.value region left → e.marks ≡ mark_region d region → MarksChanges c e
 tax_marks c d e n money region left d_is d_marks e_is e_marks =
     marks-trans c d e (marks_by c d _ d_is d_marks (marks-unit_row (λ u. record u { holding = record u.holding { money = money } }) (λ u. refl) c n))
-    (marks_by d e _ e_is e_marks (marks-region (λ r. record r { money = left }) d region))
+    (marks_by d e _ e_is e_marks (marks-region (λ r. record r { money = left }) (λ r. refl) d region))
 
 -- ---- one step
 

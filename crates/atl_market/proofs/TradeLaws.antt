@@ -29,16 +29,17 @@ use Rattle.atl_state.specs.Good.{IsEarly}
 use Rattle.atl_records.specs.Holdings.{HoldingValue, IsHolding, amount_of, with_amount_of}
 use Rattle.atl_state.specs.Lending.{with_held, with_holding}
 use Rattle.atl_records.specs.Limits.{holding_limit, most_units}
-use Rattle.atl_state.specs.Marking.{mark_region}
+use Rattle.atl_state.specs.Marking.{mark_stock}
 use Rattle.atl_state.specs.Stocks.{stock_limit, stock_of}
 use Rattle.atl_state.specs.Campaign.{MarkedCampaign, CampaignValue, region_changed, with_amount, with_stock}
 use Rattle.atl_state.proofs.BackLaws.{entries_rise}
-use Rattle.atl_state.proofs.CoverLaws.{marks-region, marks-trans}
+use Rattle.atl_state.proofs.CoverLaws.{marks-stock, marks-trans}
 use Rattle.atl_records.proofs.EveryLaws.{each-from_every, get-insert_other, none_some, other_number, same_number}
 use Rattle.atl_state.proofs.HavingLaws.{MayHave, may_have}
 use Rattle.atl_records.proofs.HoldingLaws.{alike, amount_within, every_amount, set_amount}
 use Rattle.atl_state.proofs.StockLaws.{restocked, steady-stock}
-use Rattle.atl_instant.specs.Meaning.{HasRoom, HaveRoom, LeavesWell, BookBound, moved_times, moves_only, most_moved}
+use Rattle.atl_instant.specs.Meaning.{LeavesWell, BookBound, moves_only, most_moved}
+use Rattle.atl_instant.specs.Bounds.{HasRoom, HaveRoom, moved_times}
 use Rattle.atl_instant.specs.Holdings.{ChangesHolding}
 use Rattle.atl_instant.specs.PhaseOrders.{Task}
 use Rattle.atl_instant.proofs.BookingLaws.{within-neg, within-pos}
@@ -47,7 +48,8 @@ use Rattle.atl_instant.proofs.MarkLaws.{marks_by}
 use Rattle.atl_instant.proofs.MeaningLaws.{room_less, well_unchanged, well_within}
 use Rattle.atl_market.specs.AtOnce.{stands_in}
 use Rattle.atl_market.specs.ItemPots.{is_for, wants_for}
-use Rattle.atl_market.specs.PotPhase.{CanInTurn, after_sharing, count_in, given_by, item_in, items_by, wants_by}
+use Rattle.atl_market.specs.PotPhase.{after_sharing, count_in, given_by, item_in, items_by, wants_by}
+use Rattle.atl_market.specs.Bounds.{CanInTurn}
 use Rattle.atl_market.specs.Trade.{after_trade, limit_of, market_for, pot_by, trade_entry, trade_fault, trade_moves, trade_pot, trade_pots, trade_result_of, trade_want, with_result, with_trade_result}
 use Rattle.atl_market.specs.Trading.{CanAfford, CanBookTrade, CanTrade, HasPot}
 use Rattle.atl_market.specs.Unordered.{OthersAreNoWorse}
@@ -506,8 +508,8 @@ module _ (c d e : MarkedCampaign) (n region item stock : ℕ) (f : HoldingValue 
   pub settled_books : e.value.books ≡ c.value.books
   settled_books = ap (λ (s : CampaignValue). s.books) put ∙ ap (λ (s : CampaignValue). s.books) set.value
 
-  pub settled_marks : e.marks ≡ mark_region d region → MarksChanges c e
-  settled_marks put_marks = marks-trans c d e set.marks (marks_by d e _ put put_marks (marks-region (λ r. restocked r item stock) d region))
+  pub settled_marks : e.marks ≡ mark_stock d region item stock → MarksChanges c e
+  settled_marks put_marks = marks-trans c d e set.marks (marks_by d e _ put put_marks (marks-stock d region item stock))
 
   pub settled_what : (u : Unit) → get c.value.units n ≡ Some u → e.value ≡ with_stock (with_holding c.value n (f u.holding)) region item stock
   settled_what u is = put ∙ ap (λ s. with_stock s region item stock) (changed_held f c.value d.value n set.value u is ∙ sym (ap (with_held c.value n (f u.holding)) is))

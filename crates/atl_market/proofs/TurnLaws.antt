@@ -8,9 +8,10 @@ use Rattle.atl_records.specs.declared.books.Thing.{Thing}
 use Rattle.atl_records.specs.Limits.{holding_limit, most_units}
 use Rattle.atl_records.specs.Books.{amount_number}
 use Rattle.atl_state.specs.Campaign.{CampaignValue}
-use Rattle.atl_instant.specs.Meaning.{BookBound, Condition, HaveRoom, LeavesWell, both_move, most_moved, moved_times, moves_only}
+use Rattle.atl_instant.specs.Meaning.{BookBound, Condition, LeavesWell, both_move, most_moved, moves_only}
+use Rattle.atl_instant.specs.Bounds.{HaveRoom, moved_times}
 use Rattle.atl_instant.proofs.MeaningLaws.{MovesLess, both_leave_well, room_behind, room_less, well_unchanged, well_within}
-use Rattle.atl_market.specs.PotPhase.{CanInTurn}
+use Rattle.atl_market.specs.Bounds.{CanInTurn}
 
 -- what each unit moves of one amount by a holding at most, all units together move as far as a phase may
 pub few_holdings : (k : ℕ) → k ≤ most_units → (a : Entry) (b : Thing) (e : Entry) (t : Thing) → moved_times k (moves_only holding_limit a b) e t ≤ moves_only most_moved a b e t

@@ -1,10 +1,9 @@
 -- BUILD: units begin structures, and go on with those that they are inside. See docs/RULES.md, "Building".
-use Rattle.std.specs.Prelude.{◌≡◌, length, ◌++◌, ℕ, ◌+◌, ◌-◌, ◌*◌, ◌==◌, min, nat_le, nat_lt, not, Bool, true, false, List, [], ◌∷◌, codes, Option, Some, None, option_and_then, option_map, if◌then◌else◌}
+use Rattle.std.specs.Prelude.{◌++◌, ℕ, ◌+◌, ◌-◌, ◌*◌, ◌==◌, min, nat_le, nat_lt, not, Bool, true, false, List, [], ◌∷◌, codes, Option, Some, None, option_and_then, option_map, if◌then◌else◌}
 use Rattle.std.specs.Fmt.{decimal}
 use Rattle.std.specs.List.{slice_get}
 use Rattle.std.specs.FinMap.{get, len}
-use Rattle.atl_tables.specs.Worlds.{IsKind, WorldValue}
-use Rattle.atl_tables.specs.Sums.{sum_over}
+use Rattle.atl_tables.specs.Worlds.{WorldValue}
 use Rattle.atl_tables.specs.declared.world.Kind.{Kind}
 use Rattle.atl_tables.specs.ByNumber.{is_land_at}
 use Rattle.atl_orders.specs.declared.order.Operands.TheVariants as operands
@@ -12,9 +11,7 @@ use Rattle.atl_orders.specs.declared.verb.Verb.{Verb}
 use Rattle.atl_orders.specs.declared.verb.Verb.TheVariants as verbs
 use Rattle.atl_orders.specs.Orders.{OperandsValue}
 use Rattle.atl_records.specs.Books.{entry_index}
-use Rattle.atl_records.specs.declared.books.Entry.{Entry}
 use Rattle.atl_records.specs.declared.books.Entry.TheVariants.{Used}
-use Rattle.atl_records.specs.declared.books.Thing.{Thing}
 use Rattle.atl_records.specs.declared.books.Thing.TheVariants.{Item}
 use Rattle.atl_records.specs.declared.event.EventFault.{EventFault}
 use Rattle.atl_records.specs.declared.event.EventFault.TheVariants.{AtSea, Complete, NoMaterial, NoMen, NoSkill, NotInside, StructureLimit}
@@ -22,7 +19,6 @@ use Rattle.atl_records.specs.declared.event.Outcome.{Outcome}
 use Rattle.atl_records.specs.declared.event.Outcome.TheVariants.{Done}
 use Rattle.atl_records.specs.declared.records.Structure.{Structure}
 use Rattle.atl_records.specs.declared.records.Unit.{Unit}
-use Rattle.atl_state.specs.Good.{IsSteady}
 use Rattle.atl_records.specs.Holdings.{HoldingValue, amount_of}
 use Rattle.atl_records.specs.Levels.{level_in}
 use Rattle.atl_records.specs.Limits.{most_structures}
@@ -31,7 +27,7 @@ use Rattle.atl_state.specs.Campaign.{CampaignValue, with_done, with_structure_be
 use Rattle.atl_instant.specs.Meaning.{BookBound, most_moved}
 use Rattle.atl_instant.specs.Outcomes.{first_fault, unless}
 use Rattle.atl_instant.specs.NoWorse.{IsNoWorse}
-use Rattle.atl_instant.specs.OrderEffects.{IsOwnOrder, OrderEffect, OrderMeaning, RemainingBound}
+use Rattle.atl_instant.specs.OrderEffects.{IsOwnOrder, OrderEffect, OrderMeaning}
 use Rattle.atl_instant.specs.PhaseSpecs.{PhaseSpec, goes_by_orders}
 use Rattle.atl_market.specs.Goods.{with_used}
 
@@ -133,25 +129,11 @@ build_step w aliases t = build_effect w t.unit t.order_value.operands
 
 -- ---- how far it moves the books
 
--- what of a thing a unit may use: all that it holds of an item
-abbrev pub usable : Entry → Thing → HoldingValue → ℕ
-usable e (Item i) h = if entry_index e == entry_index Used then amount_of h.items i else 0
-usable e t h = 0
-
--- no more than all units hold
-abbrev pub build_reserve : RemainingBound
-build_reserve c e t = sum_over (λ u. usable e t u.holding) c.units
-
 abbrev pub build_moves : BookBound
 build_moves e (Item i) = if entry_index e == entry_index Used then most_moved else 0
 build_moves e t = 0
 
 -- ---- the phase
-
--- a steady campaign, in a world whose kinds are of its items and skills
-pub record CanBuild (w : WorldValue) (c : CampaignValue) : Type 0 where
-  pub steady : IsSteady w c
-  pub kinds : (i : ℕ) (k : Kind) → slice_get w.kinds i ≡ Some k → IsKind (length w.items) (length w.skills) k
 
 -- a unit for which its own faction wrote no such order is no worse off; the items that are used are booked
 abbrev pub build_spec : PhaseSpec

@@ -19,3 +19,4 @@ pub mod Making
 pub mod AfterPots
 pub mod Trade
 pub mod Trading
+pub mod Bounds

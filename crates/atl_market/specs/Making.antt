@@ -13,7 +13,7 @@ use Rattle.atl_state.specs.Good.{IsSteady}
 use Rattle.atl_records.specs.Holdings.{amount_of}
 use Rattle.atl_records.specs.Limits.{holding_limit}
 use Rattle.atl_state.specs.Campaign.{CampaignValue}
-use Rattle.atl_instant.specs.Meaning.{HasRoom, HaveRoom}
+use Rattle.atl_instant.specs.Bounds.{HasRoom, HaveRoom}
 use Rattle.atl_market.specs.Produce.{produce_moves, with_raw_used}
 
 -- ---- a unit, by its number, can use and make so much of an item: it is there, holds enough or has room, and so have the books

@@ -1,6 +1,6 @@
 -- A phase in which the units of each region share a pot. Who takes part and what there is to share is read from the campaign as the phase
 -- began, and all pots and all units change at once. See docs/RULES.md, "Pots".
-use Rattle.std.specs.Prelude.{⊤, ℕ, Bool, List, [], ◌∷◌, map, reverse, Option, Some, None, option_map, unwrap_or, Result, Ok, Err, if◌then◌else◌}
+use Rattle.std.specs.Prelude.{ℕ, Bool, List, map, reverse, Option, Some, None, option_map, unwrap_or, Result, Ok, Err, if◌then◌else◌}
 use Rattle.std.specs.List.{filter_map, fold}
 use Rattle.std.specs.Option.{option_map_or}
 use Rattle.std.specs.Result.{is_ok, result_ok}
@@ -113,8 +113,3 @@ pots_meaning p orders w c m = (after_sharing p w c (orders c m), with_events m (
 -- with the orders of its verbs
 abbrev pub pots_by_orders : PotMeaning → (Verb → Bool) → Meaning
 pots_by_orders p is_of = pots_meaning p (λ c m. orders_by_unit is_of m)
-
--- ---- steps in turn, each of which can be taken when its turn comes
-abbrev pub CanInTurn : {X : Type 0} → (CampaignValue → X → Type 0) → (CampaignValue → X → CampaignValue) → CampaignValue → List X → Type 0
-CanInTurn can step c [] = ⊤
-CanInTurn can step c (x ∷ xs) = can c x × CanInTurn can step (step c x) xs

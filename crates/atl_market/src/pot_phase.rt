@@ -8,7 +8,8 @@ ghost use Rattle.atl_state.specs.Covers.{MarksChanges};
 ghost use Rattle.atl_state.specs.Campaign.{CampaignValue};
 ghost use Rattle.std.specs.Ordering.{nat_cmp};
 ghost use Rattle.atl_instant.specs.PhaseOrders.{task_of};
-ghost use Rattle.atl_market.specs.PotPhase.{CanInTurn, PotMeaning, after_sharing, count_in, event_of, events_by, given_by, item_by, item_in, items_by, unit_for, want_by, wants_by};
+ghost use Rattle.atl_market.specs.PotPhase.{PotMeaning, after_sharing, count_in, event_of, events_by, given_by, item_by, item_in, items_by, unit_for, want_by, wants_by};
+ghost use Rattle.atl_market.specs.Bounds.{CanInTurn};
 ghost use Rattle.atl_market.specs.Pots.{AreWants};
 ghost use Rattle.atl_market.specs.Puts.{with_any};
 

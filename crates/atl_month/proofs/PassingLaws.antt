@@ -35,7 +35,7 @@ use Rattle.atl_records.proofs.HoldingLaws.{amount_within, every_amount, set_amou
 use Rattle.atl_instant.proofs.BookingLaws.{booked-near, within-neg}
 use Rattle.atl_instant.proofs.QuitLaws.{owing_items, part_of}
 use Rattle.atl_instant.proofs.NoWorseLaws.{no_worse, no_worse_twice}
-use Rattle.atl_instant.specs.LostItems.{moving_items}
+use Rattle.atl_instant.specs.Bounds.{moving_items}
 use Rattle.atl_month.specs.Sweep.{IsKept, accepted_of, after_passing_item, after_passing_money, with_lost}
 
 -- ---- more than is booked

@@ -26,17 +26,18 @@ use Rattle.atl_state.specs.Covers.{MarksChanges}
 use Rattle.atl_records.specs.Every.{EachOf, IsThere}
 use Rattle.atl_state.specs.Founding.{things_of}
 use Rattle.atl_state.specs.Good.{IsSteady}
-use Rattle.atl_records.specs.Holdings.{amount_of, with_amount_of}
-use Rattle.atl_state.specs.Marking.{mark_amount, mark_region}
+use Rattle.atl_records.specs.Holdings.{amount_of}
+use Rattle.atl_state.specs.Marking.{mark_amount, mark_stock}
 use Rattle.atl_state.specs.Stocks.{stock_limit, stock_of}
 use Rattle.atl_state.specs.Totals.{Balances, total}
 use Rattle.atl_records.proofs.BookLaws.{at_place, booked-after_booking}
-use Rattle.atl_state.proofs.CoverLaws.{marks-amount, marks-region, marks-trans}
+use Rattle.atl_state.proofs.CoverLaws.{marks-amount, marks-stock, marks-trans}
 use Rattle.atl_records.proofs.EveryEntryLaws.{entry_small}
 use Rattle.atl_records.proofs.EveryLaws.{each-from_every, sorted}
 use Rattle.atl_state.proofs.RegionLaws.{steady-amount, total-amount}
 use Rattle.atl_state.proofs.StockLaws.{steady-stock, total-stock, total-stock_other}
-use Rattle.atl_instant.specs.Meaning.{BookBound, HasRoom, HaveRoom, LeavesWell, moves_only}
+use Rattle.atl_instant.specs.Meaning.{BookBound, LeavesWell, moves_only}
+use Rattle.atl_instant.specs.Bounds.{HasRoom, HaveRoom}
 use Rattle.atl_instant.proofs.BookingLaws.{booked-near, within-pos}
 use Rattle.atl_instant.proofs.MarkLaws.{marks_by}
 use Rattle.atl_instant.proofs.MeaningLaws.{both_leave_well, room_behind, room_less, same_month_by, well_unchanged, well_within}
@@ -292,10 +293,10 @@ room_for_market x xs c room = room_less (moves_only most_amount Stocked (Item x.
 pub room_behind_market : (w : WorldValue) (n : ℕ) → IsThere w.regions n → (x : ℕ × Market) (xs : List (ℕ × Market)) (c : CampaignValue) → IsOf w n x.0 x.1 → IsSteady w c → HaveRoom (stocking (x ∷ xs)) c → HaveRoom (stocking xs) (after_market_restock n c x)
 room_behind_market w n there x xs c of steady room = room_behind (moves_only most_amount Stocked (Item x.0)) (stocking xs) w c (after_market_restock n c x) (one_leaves_well w n there c x of steady) room
 
-pub market_marks : (things stock more n i : ℕ) (c d e : MarkedCampaign) → d.value ≡ with_stock c.value n i (stock + more) → d.marks ≡ mark_region c n
+pub market_marks : (things stock more n i : ℕ) (c d e : MarkedCampaign) → d.value ≡ with_stock c.value n i (stock + more) → d.marks ≡ mark_stock c n i (stock + more)
     → e.value ≡ with_amount d.value Stocked (Item i) (pos more) → e.marks ≡ mark_amount d Stocked (Item i)
     → IsGrid things c.value.books → 2 + i < things → MarksChanges c e
 market_marks things stock more n i c d e d_is d_marks e_is e_marks grid inside =
     let books : d.value.books ≡ c.value.books = ap (λ (s : CampaignValue). s.books) d_is in
-    marks-trans c d e (marks_by c d _ d_is d_marks (marks-region (λ r. record r { stocks = with_amount_of r.stocks i (stock + more) }) c n))
+    marks-trans c d e (marks_by c d _ d_is d_marks (marks-stock c n i (stock + more)))
     (marks_by d e _ e_is e_marks (marks-amount things d Stocked (Item i) (pos more) (rw books grid) inside))

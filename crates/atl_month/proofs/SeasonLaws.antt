@@ -30,7 +30,8 @@ use Rattle.atl_records.proofs.BookLaws.{IsGrid-after_booking, booked-after_booki
 use Rattle.atl_state.proofs.CoverLaws.{marks-amount, marks-region, marks-trans}
 use Rattle.atl_state.proofs.RegionLaws.{IsRegion-money, IsRegion-peasants, region-changed, steady-amount, steady-region, total-amount, total-region}
 use Rattle.atl_records.proofs.EveryLaws.{none_some}
-use Rattle.atl_instant.specs.Meaning.{HaveRoom, IsNear, LeavesWell, both_move, most_moved, moved_times, moves_only}
+use Rattle.atl_instant.specs.Meaning.{IsNear, LeavesWell, both_move, most_moved, moves_only}
+use Rattle.atl_instant.specs.Bounds.{HaveRoom, moved_times}
 use Rattle.atl_instant.specs.There.{at_region}
 use Rattle.atl_instant.proofs.MarkLaws.{marks_by}
 use Rattle.atl_instant.proofs.MeaningLaws.{both_leave_well, fold_leaves_well, near_more, near_twice, room_behind_one, room_for_one, room_less, same_month_by, well_unchanged, well_within}
@@ -150,8 +151,8 @@ growth_marks things c d e f g n peasants money born earned d_is d_marks e_is e_m
     let f_books : f.value.books ≡ after_booking e.value.books Births People (pos born) = ap (λ (s : CampaignValue). s.books) f_is in
     let e_grid : IsGrid things e.value.books = rw e_books grid in
     let f_grid : IsGrid things f.value.books = rw f_books (IsGrid-after_booking things e.value.books Births People (pos born) e_grid) in
-    marks-trans c d g (marks_by c d _ d_is d_marks (marks-region (λ r. record r { peasants = peasants }) c n))
-    (marks-trans d e g (marks_by d e _ e_is e_marks (marks-region (λ r. record r { money = money }) d n))
+    marks-trans c d g (marks_by c d _ d_is d_marks (marks-region (λ r. record r { peasants = peasants }) (λ r. refl) c n))
+    (marks-trans d e g (marks_by d e _ e_is e_marks (marks-region (λ r. record r { money = money }) (λ r. refl) d n))
     (marks-trans e f g (marks_by e f _ f_is f_marks (marks-amount things e Births People (pos born) e_grid (omega arith)))
     (marks_by f g _ g_is g_marks (marks-amount things f Income Money (pos earned) f_grid (omega arith)))))
 

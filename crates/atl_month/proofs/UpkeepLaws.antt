@@ -39,7 +39,8 @@ use Rattle.atl_state.proofs.CoverLaws.{marks-amount, marks-trans}
 use Rattle.atl_records.proofs.EveryLaws.{each-from_every, every-empty, get-insert_other}
 use Rattle.atl_state.proofs.HoldingLaws.{MayHold, steady-unit_amount, total-unit_amount}
 use Rattle.atl_state.proofs.RegionLaws.{steady-amount, total-amount}
-use Rattle.atl_instant.specs.Meaning.{HaveRoom, IsNear, LeavesWell, BookBound, moved_times, moves_only, most_moved}
+use Rattle.atl_instant.specs.Meaning.{IsNear, LeavesWell, BookBound, moves_only, most_moved}
+use Rattle.atl_instant.specs.Bounds.{HaveRoom, moved_times}
 use Rattle.atl_instant.specs.Amounts.{amounts_for}
 use Rattle.atl_instant.specs.Holdings.{with_days}
 use Rattle.atl_instant.specs.Transfer.{going_of}
@@ -49,7 +50,7 @@ use Rattle.atl_instant.proofs.MarkLaws.{marks_by}
 use Rattle.atl_instant.proofs.MeaningLaws.{MovesLess, near_twice, room_less, same_month_by, well_within}
 use Rattle.atl_records.proofs.HoldingLaws.{every_amount}
 use Rattle.atl_instant.proofs.BookingLaws.{booked-near, within-neg}
-use Rattle.atl_market.specs.PotPhase.{CanInTurn}
+use Rattle.atl_market.specs.Bounds.{CanInTurn}
 use Rattle.atl_market.proofs.TurnLaws.{first_room, later_room, turns_leave_well}
 use Rattle.atl_month.specs.declared.upkeep_sharing.UpkeepInput.{UpkeepInput}
 use Rattle.atl_month.specs.declared.upkeep_sharing.UpkeepResult.{UpkeepResult}

@@ -5,7 +5,8 @@ ghost use Rattle.atl_tables.specs.Limits.{most_amount, most_growth};
 ghost use Rattle.atl_records.specs.Books.{IsGrid};
 ghost use Rattle.atl_state.specs.Covers.{MarksChanges};
 ghost use Rattle.atl_state.specs.Good.{IsSteady};
-ghost use Rattle.atl_instant.specs.Meaning.{HaveRoom, most_moved};
+ghost use Rattle.atl_instant.specs.Meaning.{most_moved};
+ghost use Rattle.atl_instant.specs.Bounds.{HaveRoom};
 ghost use Rattle.atl_month.specs.Season.{births, grows_by, income, season, season_at, season_keeps, season_meaning, season_moves, with_growth};
 
 use crate::limits::PER_HUNDRED;

@@ -4,7 +4,7 @@ ghost use Rattle.atl_tables.specs.Worlds.{WorldValue};
 ghost use Rattle.atl_state.specs.Covers.{MarksChanges};
 ghost use Rattle.atl_instant.specs.Holdings.{MarksNoGoods, MarksNoItems};
 ghost use Rattle.atl_instant.specs.Meaning.{most_moved};
-ghost use Rattle.atl_market.specs.PotPhase.{CanInTurn};
+ghost use Rattle.atl_market.specs.Bounds.{CanInTurn};
 ghost use Rattle.atl_month.specs.UpkeepSharing.{IsUpkeepInput};
 ghost use Rattle.atl_month.specs.UpkeepTaken.{CanPayUpkeep, IsAfterUpkeep, staying_list};
 ghost use Rattle.atl_month.specs.Upkeep.{starved_event, starves, takes_up_to, upkeep, upkeep_at, upkeep_inputs_of, upkeep_keeps, upkeep_meaning};

@@ -1,7 +1,7 @@
 -- Campaigns whose books have room for any phases.
 use Rattle.std.specs.Prelude.{ℕ}
 use Rattle.atl_state.specs.Campaign.{CampaignValue}
-use Rattle.atl_instant.specs.Meaning.{HaveRoom}
+use Rattle.atl_instant.specs.Bounds.{HaveRoom}
 
 -- far more than a month moves
 abbrev pub much : ℕ

@@ -5,7 +5,7 @@ pub mod ListLaws
 pub mod OpenLaws
 pub mod UpgradeLaws
 pub mod RunLaws
-pub mod StepLaws
+pub mod JoinStepLaws
 pub mod CloseLaws
 pub mod PostingLaws
 pub mod SortLaws

@@ -12,7 +12,7 @@ use Rattle.atl_service.specs.declared.command.Cause.{Cause}
 use Rattle.atl_service.specs.declared.command.Cause.TheVariants.{World, NotACampaign, NotOld, Damaged, Differs, Store, Memory}
 use Rattle.atl_service.specs.Service.{ServiceValue, text_in}
 
--- The service is open, with the world of the new text and the good campaign that the tables held, which has nothing in stock; the tables hold the rows of both.
+-- The service is open, with the world of the new text and the good campaign that the tables held, which has nothing in stock; the tables hold the rows of both. No failure of the disk is forgotten (`later`).
 pub record UpgradesTo {S : Type 0} (g : Ghosts S) (old : Held S) (text : List ℕ) (made : ServiceValue S) : Type 0 where
   pub campaign : MarkedCampaign
   pub is_open : made.campaign ≡ Some campaign.value

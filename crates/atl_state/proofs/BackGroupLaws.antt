@@ -58,16 +58,16 @@ module _ {R : Type 0} (none : R → Bool) (row : ℕ → ℕ → R) (m : FinMap 
 
 -- ---- the amounts of a group
 
-module _ {R : Type 0} (thing amount : R → ℕ) (mine : R → Bool) (m : FinMap nat_cmp ℕ) (numbers_under rows : List R) (same : IsPermutation numbers_under rows) where
+module _ {R : Type 0} (thing amount : R → ℕ) (mine : R → Bool) (m : FinMap nat_cmp ℕ) (listed rows : List R) (same : IsPermutation listed rows) where
   abbrev IsIn : FinMap nat_cmp ℕ → R → Type 0
   IsIn k r = get k (thing r) ≡ Some (amount r)
 
   -- where each row of the group is of the map, and each amount of the map has a row of the group, the rows say the map
-  pub amounts_back : Apart thing (filter mine rows) → AllByRecursion (λ r. mine r ≡ true → IsIn m r) numbers_under
-      → ((P : R → Type 0) → AllByRecursion (λ r. mine r ≡ true → P r) numbers_under → Every (λ i a. (r : R) × (thing r ≡ i) × (amount r ≡ a) × P r) m) → by_number thing amount (filter mine rows) ≡ m
+  pub amounts_back : Apart thing (filter mine rows) → AllByRecursion (λ r. mine r ≡ true → IsIn m r) listed
+      → ((P : R → Type 0) → AllByRecursion (λ r. mine r ≡ true → P r) listed → Every (λ i a. (r : R) × (thing r ≡ i) × (amount r ≡ a) × P r) m) → by_number thing amount (filter mine rows) ≡ m
   amounts_back apart of there =
       let said = by_number thing amount (filter mine rows) in
-      let found = each_back (λ r. mine r ≡ true → IsIn said r) numbers_under rows same (unkept mine (IsIn said) rows (rows_found thing amount (filter mine rows) apart)) in
-      by_number_is thing amount m (filter mine rows) (kept mine (IsIn m) rows (each_permuted (λ r. mine r ≡ true → IsIn m r) numbers_under rows same of)) (λ i a is.
+      let found = each_back (λ r. mine r ≡ true → IsIn said r) listed rows same (unkept mine (IsIn said) rows (rows_found thing amount (filter mine rows) apart)) in
+      by_number_is thing amount m (filter mine rows) (kept mine (IsIn m) rows (each_permuted (λ r. mine r ≡ true → IsIn m r) listed rows same of)) (λ i a is.
       let (r, it, number, shown) = there (IsIn said) found i a is in
       ap (get said) (sym it) ∙ shown ∙ ap (λ x. Some x) number)

@@ -63,11 +63,11 @@ late_entry n l small h =
 
 -- books whose rows are of the first format have nothing under a later entry
 no_amount : (books : List (List ℤ)) → AllByRecursion (λ (r : StoredBooks). is_entry_in First (as_u32 r.entry) ≡ true) (books_rows books) → (e : Entry) (t : Thing) → first_entry_count ≤ entry_index e → amount_in books e t ≡ pos 0
-no_amount books numbers_under e t l = elim (cases_lt (thing_index t) (length books)) [
+no_amount books listed e t l = elim (cases_lt (thing_index t) (length books)) [
   | inr past ↦ ap (λ (row : List ℤ). get_or row (entry_index e) (pos 0)) (get_or_past books (thing_index t) [] past) ∙ get_or_past [] (entry_index e) (pos 0) (omega arith)
   | inl inside ↦ elim (cases_Bool (is_zero (amount_in books e t))) [
     | inl none ↦ nothing_at (amount_in books e t) none
-    | inr some ↦ absurd (late_entry (entry_index e) l (entry_small e) (line_at books (λ r. is_entry_in First (as_u32 r.entry) ≡ true) numbers_under (entry_index e) (thing_index t) (entry_small e) inside some))
+    | inr some ↦ absurd (late_entry (entry_index e) l (entry_small e) (line_at books (λ r. is_entry_in First (as_u32 r.entry) ≡ true) listed (entry_index e) (thing_index t) (entry_small e) inside some))
   ]
 ]
 

@@ -1,5 +1,5 @@
 -- Changes one after the other, each of which is marked.
-use Rattle.std.proofs.Common.{◌≡◌, ◌≢◌, ◌==◌, ◌||◌, ℕ, ◌<◌, Bool, true, false, Option, Some, None, refl, sym, ap, ◌∙◌, arith, true≢false}
+use Rattle.std.proofs.Common.{◌≡◌, ◌≢◌, ◌==◌, ◌||◌, ℕ, ◌<◌, Bool, true, false, if◌then◌else◌, Option, Some, None, refl, sym, ap, ◌∙◌, arith, true≢false}
 use Rattle.std.specs.Prelude.{ℤ, List, cond, is_some, option_map, unwrap_or}
 use Rattle.std.proofs.lemmas.Bool.Decides.{nat_tests}
 use Rattle.std.specs.Cmp.{nat_cmp_total, unsigned_ties}
@@ -7,6 +7,7 @@ use Rattle.std.specs.Ordering.{nat_cmp, eq_by_cmp}
 use Rattle.std.specs.FinMap.{FinMap, get, get-insert}
 use Rattle.std.specs.FinMap as map
 use Rattle.std.specs.FinSet.{FinSet, contains, insert, contains-insert}
+use Rattle.std.specs.Option.{option_map_or}
 use Rattle.atl_tables.specs.Groups.{group_of}
 use Rattle.atl_tables.specs.Sums.{changed, changed_at}
 use Rattle.atl_tables.specs.Tracking.{marked_with}
@@ -18,11 +19,14 @@ use Rattle.atl_records.specs.declared.records.Region.{Region}
 use Rattle.atl_records.specs.declared.records.Structure.{Structure}
 use Rattle.atl_records.specs.declared.records.Unit.{Unit}
 use Rattle.atl_records.specs.Books.{IsGrid, amount_in, thing_index, amount_number}
-use Rattle.atl_state.specs.Covers.{Covers, ThingsStayMarked, StaysMarked, StayMarked, MarksChanges, bare, days_under, items_under, own_row}
-use Rattle.atl_state.specs.Marking.{mark_amount, mark_faction, mark_region, mark_unit_added}
+use Rattle.atl_records.specs.Holdings.{amount_of, with_amount_of}
+use Rattle.atl_state.specs.Covers.{Covers, ThingsStayMarked, StaysMarked, StayMarked, MarksChanges, bare, days_under, items_under, own_row, unstocked}
+use Rattle.atl_state.specs.Marking.{mark_amount, mark_faction, mark_region, mark_stock, mark_unit_added}
 use Rattle.atl_state.specs.Marks.{Marks, Things, is_thing_marked, with_thing}
-use Rattle.atl_state.specs.Campaign.{CampaignValue, MarkedCampaign, faction_changed, region_changed, with_amount}
+use Rattle.atl_state.specs.Stocks.{stock_of}
+use Rattle.atl_state.specs.Campaign.{CampaignValue, MarkedCampaign, faction_changed, region_changed, with_amount, with_stock}
 use Rattle.atl_records.proofs.EveryLaws.{get-insert_other}
+use Rattle.atl_records.proofs.HoldingLaws.{set_amount}
 use Rattle.atl_state.proofs.RegionLaws.{amount-other}
 
 without_marks : (a b : Bool) → (a ≡ true → b ≡ true) → b ≡ false → a ≡ false
@@ -37,6 +41,7 @@ pub stay-trans : {a b c : Marks} → StayMarked a b → StayMarked b c → StayM
 stay-trans one two = record {
   factions = λ n h. two.factions n (one.factions n h);
   regions = λ n h. two.regions n (one.regions n h);
+  stocks = λ n h. two.stocks n (one.stocks n h);
   structures = λ n h. two.structures n (one.structures n h);
   mail = λ n h. two.mail n (one.mail n h);
   reports = λ n h. two.reports n (one.reports n h);
@@ -54,6 +59,7 @@ pub covers-trans : {m n : Marks} (a b c : CampaignValue) → StayMarked m n → 
 covers-trans {m} {n} a b c stay one two = record {
   factions = λ k free. two.factions k free ∙ one.factions k (was_unmarked m.factions n.factions stay.factions k free);
   regions = λ k free. two.regions k free ∙ one.regions k (was_unmarked m.regions n.regions stay.regions k free);
+  stocks = λ k item free. two.stocks k item free ∙ one.stocks k item (was_unmarked m.stocks n.stocks stay.stocks k free);
   structures = λ k free. two.structures k free ∙ one.structures k (was_unmarked m.structures n.structures stay.structures k free);
   mail = λ k free. two.mail k free ∙ one.mail k (was_unmarked m.mail n.mail stay.mail k free);
   reports = λ k free. two.reports k free ∙ one.reports k (was_unmarked m.reports n.reports stay.reports k free);
@@ -139,6 +145,7 @@ module _ (goods : FinSet nat_cmp) (things : Things) (n thing : ℕ) where
 pub data Part : Type 0 where
   Factions : Part
   Regions : Part
+  Stocks : Part
   Structures : Part
   Mail : Part
   Reports : Part
@@ -160,6 +167,7 @@ Mark _ = ℕ
 abbrev pub is_marked : (p : Part) → Marks → Mark p → Bool
 is_marked Factions m k = contains m.factions k
 is_marked Regions m k = contains m.regions k
+is_marked Stocks m k = contains m.stocks k
 is_marked Structures m k = contains m.structures k
 is_marked Mail m k = contains m.mail k
 is_marked Reports m k = contains m.reports k
@@ -173,6 +181,7 @@ is_marked Row m k = m.row
 
 -- where something of a part stands, and the mark of it
 abbrev pub IndexEntry : Part → Type 0
+IndexEntry Stocks = ℕ × ℕ
 IndexEntry Items = ℕ × ℕ
 IndexEntry Skills = ℕ × ℕ
 IndexEntry Books = Entry × Thing
@@ -180,13 +189,15 @@ IndexEntry Row = Prim.Unit {0}
 IndexEntry _ = ℕ
 
 abbrev pub mark_at : (p : Part) → IndexEntry p → Mark p
+mark_at Stocks k = k.0
 mark_at Books k = amount_number k.0 k.1
 mark_at _ k = k
 
--- what is shown of one; of a unit and of all its goods nothing, as its row, its items and its skills are parts of their own
+-- what is shown of one; of a unit and of all its goods nothing, as its row, its items and its skills are parts of their own, as are a region's stocks
 abbrev pub Shown : Part → Type 0
 Shown Factions = Option Faction
 Shown Regions = Option Region
+Shown Stocks = ℕ
 Shown Structures = Option Structure
 Shown Mail = Option (List ℕ)
 Shown Reports = Option (List ℕ)
@@ -200,7 +211,8 @@ Shown Row = ℕ × (List ℕ × (ℕ × (ℕ × ℕ)))
 
 abbrev pub shown : (p : Part) → CampaignValue → IndexEntry p → Shown p
 shown Factions c k = get c.factions k
-shown Regions c k = get c.regions k
+shown Regions c k = option_map unstocked (get c.regions k)
+shown Stocks c k = stock_of c k.0 k.1
 shown Structures c k = get c.structures k
 shown Mail c k = get c.mail k
 shown Reports c k = get c.reports k
@@ -224,6 +236,7 @@ part_by_part a b stays tells = record {
   stay = record {
     factions = stays Factions;
     regions = stays Regions;
+    stocks = stays Stocks;
     structures = stays Structures;
     mail = stays Mail;
     reports = stays Reports;
@@ -238,6 +251,7 @@ part_by_part a b stays tells = record {
   covers = record {
     factions = tells Factions;
     regions = tells Regions;
+    stocks = λ n item. tells Stocks (n, item);
     structures = tells Structures;
     mail = tells Mail;
     reports = tells Reports;
@@ -271,15 +285,80 @@ marks-faction f c n =
     (λ p. elim p as (Stays c.marks next.marks) [ Factions ↦ put_stays c.marks.factions n | _ ↦ λ k h. h ])
     (λ p. elim p as (Tells next.marks c.value next.value) [ Factions ↦ λ k free. get-insert_other c.value.factions n k (f v) (apart_by c.marks.factions n k free) | _ ↦ λ k free. refl ]))
 
--- a region that is changed and marked
-pub marks-region : (f : Region → Region) (c : MarkedCampaign) (n : ℕ) → MarksChanges c (record { value = region_changed f c.value n; marks = mark_region c n })
-marks-region f c n =
+-- what a map shows under each number is as it was, where a value is put that shows the same as the one before it
+pub shown_still : {V X : Type 0} (shows : Option V → X) (values : FinMap nat_cmp V) (n k : ℕ) (v w : V) → get values n ≡ Some v → (k ≡ n → shows (Some w) ≡ shows (Some v)) → shows (get (map.insert values n w) k) ≡ shows (get values k)
+shown_still shows values n k v w is same = ap shows (get-insert nat_cmp_total values n w k) ∙ by_number (eq_by_cmp nat_cmp k n) refl
+  where
+    by_number : (b : Bool) → eq_by_cmp nat_cmp k n ≡ b → shows (cond b (Some w) (get values k)) ≡ shows (get values k)
+    by_number true e = let here = same_key k n e in same here ∙ sym (ap shows (ap (get values) here ∙ is))
+    by_number false e = refl
+
+-- how much of an item a region has in stock, if it is there
+abbrev in_stock : ℕ → Option Region → ℕ
+in_stock item o = option_map_or (λ r. amount_of r.stocks item) o 0
+
+-- a region whose row is changed and marked, and whose stocks stay
+pub marks-region : (f : Region → Region) → ((r : Region) → (f r).stocks ≡ r.stocks) → (c : MarkedCampaign) (n : ℕ) → MarksChanges c (record { value = region_changed f c.value n; marks = mark_region c n })
+marks-region f same c n =
     let after : FinMap nat_cmp Region → Option Region → MarkedCampaign = λ m o. record { value = record c.value { regions = m }; marks = record c.marks { regions = marked_with c.marks.regions n o } } in
     changed_there (λ m o. MarksChanges c (after m o)) f c.value.regions n (marks-refl c) (λ v is.
     let next = after (map.insert c.value.regions n (f v)) (Some v) in
     part_by_part c next
     (λ p. elim p as (Stays c.marks next.marks) [ Regions ↦ put_stays c.marks.regions n | _ ↦ λ k h. h ])
-    (λ p. elim p as (Tells next.marks c.value next.value) [ Regions ↦ λ k free. get-insert_other c.value.regions n k (f v) (apart_by c.marks.regions n k free) | _ ↦ λ k free. refl ]))
+    (λ p. elim p as (Tells next.marks c.value next.value) [
+      | Regions ↦ λ k free. ap (option_map unstocked) (get-insert_other c.value.regions n k (f v) (apart_by c.marks.regions n k free))
+      | Stocks ↦ λ k free. shown_still (in_stock k.1) c.value.regions n k.0 v (f v) is (λ _. ap (λ s. amount_of s k.1) (same v))
+      | _ ↦ λ k free. refl
+    ]))
+
+-- the stock of an item that is set in a region, whose stocks are marked if it was another amount
+module _ (c : MarkedCampaign) (n item amount : ℕ) where
+  abbrev stocked : Region → Region
+  stocked r = record r { stocks = with_amount_of r.stocks item amount }
+
+  abbrev after_stock : (was_same : Bool) → FinMap nat_cmp Region → Option Region → MarkedCampaign
+  after_stock was_same m o = record { value = record c.value { regions = m }; marks = record c.marks { stocks = if was_same then c.marks.stocks else marked_with c.marks.stocks n o } }
+
+  abbrev there_after : Bool → Region → MarkedCampaign
+  there_after was_same v = after_stock was_same (map.insert c.value.regions n (stocked v)) (Some v)
+
+  -- an amount that is set again changes no stock
+  set_again : (stocks : FinMap nat_cmp ℕ) (i : ℕ) → amount_of stocks item ≡ amount → amount_of (with_amount_of stocks item amount) i ≡ amount_of stocks i
+  set_again stocks i was = set_amount stocks item amount i ∙ by_item (eq_by_cmp nat_cmp i item) refl
+    where
+      by_item : (b : Bool) → eq_by_cmp nat_cmp i item ≡ b → cond b amount (amount_of stocks i) ≡ amount_of stocks i
+      by_item true e = sym was ∙ ap (amount_of stocks) (sym (same_key i item e))
+      by_item false e = refl
+
+  stock_stays : (v : Region) → get c.value.regions n ≡ Some v → amount_of v.stocks item ≡ amount → MarksChanges c (there_after true v)
+  stock_stays v is was = part_by_part c (there_after true v) (λ p k h. h)
+      (λ p. elim p as (Tells (there_after true v).marks c.value (there_after true v).value) [
+        | Regions ↦ λ k free. shown_still (option_map unstocked) c.value.regions n k v (stocked v) is (λ _. refl)
+        | Stocks ↦ λ k free. shown_still (in_stock k.1) c.value.regions n k.0 v (stocked v) is (λ _. set_again v.stocks k.1 was)
+        | _ ↦ λ k free. refl
+      ])
+
+  stock_changes : (v : Region) → get c.value.regions n ≡ Some v → MarksChanges c (there_after false v)
+  stock_changes v is = part_by_part c (there_after false v)
+      (λ p. elim p as (Stays c.marks (there_after false v).marks) [ Stocks ↦ put_stays c.marks.stocks n | _ ↦ λ k h. h ])
+      (λ p. elim p as (Tells (there_after false v).marks c.value (there_after false v).value) [
+        | Regions ↦ λ k free. shown_still (option_map unstocked) c.value.regions n k v (stocked v) is (λ _. refl)
+        | Stocks ↦ λ k free. ap (in_stock k.1) (get-insert_other c.value.regions n k.0 (stocked v) (apart_by c.marks.stocks n k.0 free))
+        | _ ↦ λ k free. refl
+      ])
+
+  pub marks-stock : MarksChanges c (record { value = with_stock c.value n item amount; marks = mark_stock c n item amount })
+  marks-stock = by_amount (stock_of c.value n item == amount) refl
+    where
+      equal : (a b : ℕ) → (a == b) ≡ true → a ≡ b
+      equal a b same = grind (arith, nat_tests)
+
+      was : (v : Region) → get c.value.regions n ≡ Some v → (stock_of c.value n item == amount) ≡ true → amount_of v.stocks item ≡ amount
+      was v is same = sym (ap (in_stock item) is) ∙ equal (stock_of c.value n item) amount same
+
+      by_amount : (b : Bool) → (stock_of c.value n item == amount) ≡ b → MarksChanges c (after_stock b (changed stocked c.value.regions n) (get c.value.regions n))
+      by_amount true same = changed_there (λ m o. MarksChanges c (after_stock true m o)) stocked c.value.regions n (marks-refl c) (λ v is. stock_stays v is (was v is same))
+      by_amount false other = changed_there (λ m o. MarksChanges c (after_stock false m o)) stocked c.value.regions n (marks-refl c) stock_changes
 
 -- units that are as they were but for one number, which is marked with its goods
 pub marks-unit : (c : MarkedCampaign) (units : FinMap nat_cmp Unit) (n : ℕ) → ((k : ℕ) → k ≢ n → get units k ≡ get c.value.units k)

@@ -43,8 +43,8 @@ use Rattle.atl_records.proofs.BookLaws.{booked-after_booking, booked-no_amounts,
 
 -- what is kept beside units, with books for so many things of which nothing is marked
 pub AreKept-without_marks : (things : ℕ) (units : FinMap nat_cmp Unit) (lists : UnitLists) (books : List (List ℤ)) → AreUnitLists units lists → IsGrid things books → AreKept units lists books (record { numbers = set.empty; room = entry_count * things })
-AreKept-without_marks things units lists books numbers_under grid = record {
-  numbers_under = numbers_under;
+AreKept-without_marks things units lists books listed grid = record {
+  unit_lists = listed;
   amounts = none_marked (length books) (entry_count * things) (omega (arith, grid.rows));
 }
 

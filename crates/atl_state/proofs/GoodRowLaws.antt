@@ -301,8 +301,8 @@ module _ (w : WorldValue) (world : IsWorld w) (c : CampaignValue) (good : IsGood
     -- what is so of all that is in stock is so of each row of a market
     pub each_market : (P : StoredMarket → Type 0) → Every (λ n r. Every (λ i a. P (market_row n i a)) r.stocks) c.regions → AllByRecursion P p.markets
     each_market P h = elim f as (λ g. IsPermutation (market_rows g (entries c.regions)) p.markets → AllByRecursion P p.markets) [
-      | First ↦ λ numbers_under. subst (AllByRecursion P) (sym (none_listed p.markets numbers_under)) tt
-      | Second ↦ λ numbers_under. each_permuted P (market_rows Second (entries c.regions)) p.markets numbers_under (stocks_each c.regions P (λ n r there i a is some. h n r there i a is))
+      | First ↦ λ listed. subst (AllByRecursion P) (sym (none_listed p.markets listed)) tt
+      | Second ↦ λ listed. each_permuted P (market_rows Second (entries c.regions)) p.markets listed (stocks_each c.regions P (λ n r there i a is some. h n r there i a is))
     ] markets_listed
 
     no_keys : HaveKeys market_key []
@@ -311,14 +311,14 @@ module _ (w : WorldValue) (world : IsWorld w) (c : CampaignValue) (good : IsGood
 
     pub markets_keyed : HaveKeys market_key p.markets
     markets_keyed = elim f as (λ g. IsPermutation (market_rows g (entries c.regions)) p.markets → HaveKeys market_key p.markets) [
-      | First ↦ λ numbers_under. subst (HaveKeys market_key) (sym (none_listed p.markets numbers_under)) no_keys
-      | Second ↦ λ numbers_under. market_keys c.regions stocked p.markets numbers_under
+      | First ↦ λ listed. subst (HaveKeys market_key) (sym (none_listed p.markets listed)) no_keys
+      | Second ↦ λ listed. market_keys c.regions stocked p.markets listed
     ] markets_listed
 
     stocks_said : Every (λ n r. stocks_of n p.markets ≡ r.stocks) c.regions
     stocks_said n r is = elim f as (λ g. Fits g c → IsPermutation (market_rows g (entries c.regions)) p.markets → stocks_of n p.markets ≡ r.stocks) [
-      | First ↦ λ bare numbers_under. ap (stocks_of n) (none_listed p.markets numbers_under) ∙ sym (bare.stocks n r is)
-      | Second ↦ λ _ numbers_under. stocks_back c.regions stocked p.markets numbers_under n r is
+      | First ↦ λ bare listed. ap (stocks_of n) (none_listed p.markets listed) ∙ sym (bare.stocks n r is)
+      | Second ↦ λ _ listed. stocks_back c.regions stocked p.markets listed n r is
     ] fits markets_listed
 
     regions_said : by_number (λ r. as_u32 r.number) (region_of p.markets) p.regions ≡ c.regions

@@ -112,8 +112,8 @@ module _ (f : Format) (w : WorldValue) (world : IsWorld w) (c : CampaignValue) (
 
   of_format : are_of_format f p.markets ≡ true
   of_format = elim f as (λ g. IsPermutation (market_rows g (entries c.regions)) p.markets → are_of_format g p.markets ≡ true) [
-    | First ↦ λ numbers_under. ap (are_of_format First) (row.none_listed p.markets numbers_under)
-    | Second ↦ λ numbers_under. refl
+    | First ↦ λ listed. ap (are_of_format First) (row.none_listed p.markets listed)
+    | Second ↦ λ listed. refl
   ] (row.markets_listed w world c good f fits p rows)
 
   -- ---- ranges

@@ -44,8 +44,8 @@ module _ {V : Type 0} (p : V → Bool) where
         | Greater ↦ λ _ is. behind (p e.1) n e.0 (chosen es) (chosen_in es n v is h)
       ] refl is)
 
-  numbers_under : (m : FinMap nat_cmp V) (n : ℕ) (v : V) → get m n ≡ Some v → p v ≡ true → In n (numbers_where p m)
-  numbers_under m n v is h = chosen_in (entries m) n v (sym (get-entries m n) ∙ is) h
+  listed : (m : FinMap nat_cmp V) (n : ℕ) (v : V) → get m n ≡ Some v → p v ≡ true → In n (numbers_where p m)
+  listed m n v is h = chosen_in (entries m) n v (sym (get-entries m n) ∙ is) h
 
   of_listed : (m : FinMap nat_cmp V) (n : ℕ) → In n (numbers_where p m) → (v : V) × (get m n ≡ Some v) × (p v ≡ true)
   of_listed m n h = let (i, l, is) = position_of n (numbers_where p m) h in subst (λ k. (v : V) × (get m k ≡ Some v) × (p v ≡ true)) is (passes-listed p m i 0 l)
@@ -120,7 +120,7 @@ of_one_faction c placed held n u is m v there on also same =
     let (x, known) = placed n u is in
     let here = Decides-eqb r r in
     let beside = Decides-eqb v.region r in
-    alike (guard_of c) (numbers_in r c.units) (held r x known) n m u.faction v.faction (numbers_under (λ (w : Unit). w.region == r) c.units n u is (here.1 refl)) (numbers_under (λ (w : Unit). w.region == r) c.units m v there (beside.1 (sym same)))
+    alike (guard_of c) (numbers_in r c.units) (held r x known) n m u.faction v.faction (listed (λ (w : Unit). w.region == r) c.units n u is (here.1 refl)) (listed (λ (w : Unit). w.region == r) c.units m v there (beside.1 (sym same)))
     (guard_is c n u is on) (guard_is c m v there also)
 
 pub held_by_one : (c : CampaignValue) → AreOfOneFaction guards c → Every (λ r x. IsHeldByOne c r) c.regions

@@ -117,7 +117,7 @@ pub has_order : (has : List StoredHas) (units : List StoredUnit) → Apart (λ r
 has_order has units apart of all d =
     let lines = λ (r : StoredUnit). unit_lines (as_u32 r.number, unit_of has r) in
     let said = flat_map lines units in
-    let numbers_under = has_rows (entries (by_number (λ r. as_u32 r.number) (unit_of has) units)) in
+    let listed = has_rows (entries (by_number (λ r. as_u32 r.number) (unit_of has) units)) in
     let sorts = each_so (IsOfUnits units) (λ h. (as_u32 h.sort ≡ 0) ⊎ (as_u32 h.sort ≡ 1)) (λ h one. one.1) has of in
-    IsPermutation-trans numbers_under said has (IsPermutation-sym said numbers_under (flat_order (λ r. as_u32 r.number) (unit_of has) unit_lines units apart))
+    IsPermutation-trans listed said has (IsPermutation-sym said listed (flat_order (λ r. as_u32 r.number) (unit_of has) unit_lines units apart))
     (gathered (λ h. as_u32 h.unit) (λ r. as_u32 r.number) lines units has (λ r. unit_order (as_u32 r.number) has sorts all d) apart (each_so (IsOfUnits units) (λ h. HasNumber (λ r. as_u32 r.number) units (as_u32 h.unit)) (λ h one. one.0) has of))

@@ -1,15 +1,14 @@
 -- How a campaign changes with what one unit holds.
-use Rattle.std.proofs.Common.{◌≡◌, ◌≢◌, ◌==◌, ℕ, ◌+◌, ◌*◌, ◌≤◌, ◌<◌, Bool, true, false, cond, Option, Some, None, length, refl, sym, ap, ◌∙◌, arith}
+use Rattle.std.proofs.Common.{◌≡◌, ◌≢◌, ◌==◌, ℕ, ◌+◌, ◌*◌, ◌≤◌, ◌<◌, Bool, true, Option, Some, None, length, refl, sym, ap, ◌∙◌, arith}
 use Rattle.std.specs.Prelude.{IsTrue, option_map}
-use Rattle.std.specs.Ordering.{nat_cmp, eq_by_cmp}
-use Rattle.std.specs.Cmp.{nat_cmp_total, ranked}
+use Rattle.std.specs.Ordering.{nat_cmp}
+use Rattle.std.specs.Cmp.{ranked}
 use Rattle.std.specs.declared.cmp.Ordering.TheVariants.{Less, Equal, Greater}
-use Rattle.std.specs.FinMap.{FinMap, get, insert, get-insert, nat_cmp-IsAntisymmetric}
+use Rattle.std.specs.FinMap.{FinMap, get, insert, nat_cmp-IsAntisymmetric}
 use Rattle.atl_tables.specs.Names.{name_ok}
 use Rattle.atl_tables.specs.Worlds.{WorldValue}
 use Rattle.atl_tables.specs.Sums.{sum_over}
 use Rattle.atl_tables.specs.Tracking.{marked_with}
-use Rattle.atl_tables.proofs.GeneralLaws.{same_key}
 use Rattle.atl_tables.proofs.SumLaws.{numbers_where-insert_known, sum_over-insert_known}
 use Rattle.atl_state.specs.Covers.{MarksChanges, bare, days_under, items_under}
 use Rattle.atl_records.specs.Limits.{holding_limit, most_days}
@@ -25,7 +24,7 @@ use Rattle.atl_state.specs.Marks.{thing_marked}
 use Rattle.atl_state.specs.Campaign.{MarkedCampaign, CampaignValue, unit_changed, with_item, with_skill}
 use Rattle.atl_records.specs.Amounts.{region_amount, unit_amount}
 use Rattle.atl_state.specs.Totals.{total}
-use Rattle.atl_state.proofs.CoverLaws.{Items, Rows, Skills, Stays, Tells, Units, apart_by, apart_by_thing, changed_there, marks-refl, marks-unit, part_by_part, put_stays, thing_stays}
+use Rattle.atl_state.proofs.CoverLaws.{Items, Rows, Skills, Stays, Tells, Units, apart_by, apart_by_thing, changed_there, marks-refl, marks-unit, part_by_part, put_stays, shown_still, thing_stays}
 use Rattle.atl_records.proofs.EveryLaws.{every-insert, get-insert_other, none_some, there-insert}
 use Rattle.atl_records.proofs.HoldingLaws.{get-set_other}
 use Rattle.atl_state.proofs.RegionLaws.{get-insert_same, same_len}
@@ -173,14 +172,6 @@ module _ (w : WorldValue) (c : CampaignValue) (n : ℕ) (u : Unit) (h : HoldingV
       (sum_over-insert_known there c.units n u new_unit is)
 
 -- ---- what is marked
-
--- what is shown of a unit, where another shows the same or is under another number
-shown_still : {X : Type 0} (shown : Option Unit → X) (units : FinMap nat_cmp Unit) (n k : ℕ) (u v : Unit) → get units n ≡ Some u → (k ≡ n → shown (Some v) ≡ shown (Some u)) → shown (get (insert units n v) k) ≡ shown (get units k)
-shown_still shown units n k u v is same = ap shown (get-insert nat_cmp_total units n v k) ∙ by_number (eq_by_cmp nat_cmp k n) refl
-  where
-    by_number : (b : Bool) → eq_by_cmp nat_cmp k n ≡ b → shown (cond b (Some v) (get units k)) ≡ shown (get units k)
-    by_number true e = let here = same_key k n e in same here ∙ sym (ap shown (ap (get units) here ∙ is))
-    by_number false e = refl
 
 abbrev goods_of : Unit → FinMap nat_cmp ℕ × FinMap nat_cmp ℕ
 goods_of u = (u.holding.items, u.holding.days)

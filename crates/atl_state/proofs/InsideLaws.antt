@@ -13,11 +13,11 @@ use Rattle.atl_state.proofs.NumberListLaws.{IsListed, listed_passing, passing_li
 
 -- whoever is listed is inside
 pub listed_is_inside : (s : ℕ) (units : FinMap nat_cmp Unit) (k : ℕ) → IsListed k (numbers_inside s units) → (v : Unit) × (get units k ≡ Some v) × (v.structure ≡ s)
-listed_is_inside s units k numbers_under =
+listed_is_inside s units k listed =
     elim (s == 0) as (λ b. IsListed k (cond b [] (numbers_where (λ u. u.structure == s) units)) → (v : Unit) × (get units k ≡ Some v) × (v.structure ≡ s)) [
       | true ↦ λ h. absurd h
       | false ↦ λ h. let (v, is, t) = listed_passing (λ u. u.structure == s) units k h in (v, is, is_equal v.structure s t)
-    ] numbers_under
+    ] listed
 
 -- whoever is inside is listed
 pub inside_is_listed : (s : ℕ) (units : FinMap nat_cmp Unit) → s ≢ 0 → Every (λ k v. v.structure ≡ s → IsListed k (numbers_inside s units)) units

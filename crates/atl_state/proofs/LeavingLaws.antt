@@ -220,8 +220,8 @@ module _ (w : WorldValue) (c : CampaignValue) (n : ℕ) (u : Unit) (is : get c.u
           let first = first_of (λ k. not (k == n)) among listed_low in
           record {
             owned = λ some.
-                let (numbers_under, other) = first.0 some in
-                let (v, at, inside) = listed_is_inside u.structure c.units next numbers_under in
+                let (listed, other) = first.0 some in
+                let (v, at, inside) = listed_is_inside u.structure c.units next listed in
                 (v, get-remove_other c.units n next (is_other next other) ∙ at, inside);
             ownerless = λ none k v there within.
                 let (apart, at) = still c.units n k v there in

@@ -33,6 +33,7 @@ pub mod RowLaws
 pub mod SaidLaws
 pub mod CheckLaws
 pub mod UnitLaws
+pub mod MarkedRegionLaws
 pub mod GoodLaws
 pub mod RuleLaws
 pub mod GuardLaws

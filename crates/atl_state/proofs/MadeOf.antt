@@ -1,16 +1,10 @@
--- Values with marks: as they are made, and as they were before an insertion that is taken out again.
+-- Values with marks, as they were before an insertion that is taken out again.
 use Rattle.std.proofs.Common.{◌≡◌, ℕ, Bool, None, ap, ◌∙◌}
-use Rattle.std.specs.Prelude.{Result, Ok, Err, IfOk}
-use Rattle.std.specs.Ordering.{nat_cmp}
-use Rattle.std.specs.FinMap.{FinMap, get}
+use Rattle.std.specs.FinMap.{get}
 use Rattle.std.specs.FinSet as set
 use Rattle.atl_tables.specs.MarkedMaps.{MarkedMapValue}
 use Rattle.atl_tables.specs.Tracking.{with_value, taken_out}
 use Rattle.atl_tables.proofs.TrackLaws.{taken_out-undone}
-
-pub IfOk-made : {V E : Type 0} (r : Result (MarkedMapValue V) E) (v w : FinMap nat_cmp V) → v ≡ w → IfOk r (λ m. m ≡ record { values = v; marks = set.empty }) → IfOk r (λ m. m ≡ record { values = w; marks = set.empty })
-IfOk-made (Ok m) v w e h = h ∙ ap (λ (q : FinMap nat_cmp _). record { values = q; marks = set.empty }) e
-IfOk-made (Err x) v w e h = tt
 
 pub undone : {V : Type 0} (old mid new : MarkedMapValue V) (n : ℕ) (x : V) (was_marked : Bool) → get old.values n ≡ None → was_marked ≡ set.contains old.marks n → mid ≡ with_value old n x → new ≡ taken_out mid n was_marked → new ≡ old
 undone old mid new n x was_marked fresh is put taken =

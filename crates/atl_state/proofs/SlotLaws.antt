@@ -201,23 +201,23 @@ module _ {V : Type 0} where
   IsArena-added i s t n k x u vacant more fresh held =
       let same = held.none_idle in
       let size : len (insert i n k) ≡ len i + 1 = len-insert nat_cmp_total i n k ∙ ap (λ o. cond (is_some o) (len i) (len i + 1)) fresh in
-      record { slot_entries = AreLodged-added i s t n k x u vacant held.slot_entries; none_idle = omega (arith, same, size, more) }
+      record { slots_used = AreLodged-added i s t n k x u vacant held.slots_used; none_idle = omega (arith, same, size, more) }
 
   pub IsArena-removed : (i : FinMap nat_cmp ℕ) (s t : slab.Slab V) (n k : ℕ) → slab.Updates s t k None → slab.slab_len t + 1 ≡ slab.slab_len s → get i n ≡ Some k → IsArena i s → IsArena (remove i n) t
   IsArena-removed i s t n k u less is held =
       let same = held.none_idle in
       let size : len (remove i n) ≡ len i - 1 = len-remove nat_cmp_total i n ∙ ap (λ o. cond (is_some o) (len i - 1) (len i)) is in
-      record { slot_entries = AreLodged-removed i s t n k u is held.slot_entries; none_idle = omega (arith, same, size, less) }
+      record { slots_used = AreLodged-removed i s t n k u is held.slots_used; none_idle = omega (arith, same, size, less) }
 
   pub IsArena-changed : (i : FinMap nat_cmp ℕ) (s : slab.Slab V) (k : ℕ) (w : V) → is_some (slab.get s k) ≡ true → IsArena i s → IsArena i (slab.with_value s k w)
-  IsArena-changed i s k w used held = record { slot_entries = AreLodged-changed i s (slab.with_value s k w) k w (written s k w used) held.slot_entries; none_idle = len_written s k w used ∙ held.none_idle }
+  IsArena-changed i s k w used held = record { slots_used = AreLodged-changed i s (slab.with_value s k w) k w (written s k w used) held.slots_used; none_idle = len_written s k w used ∙ held.none_idle }
 
   -- what was put in and taken out again
   pub IsArena-same : (i : FinMap nat_cmp ℕ) (s t : slab.Slab V) → slab.SameValues s t → slab.slab_len t ≡ slab.slab_len s → IsArena i s → IsArena i t
-  IsArena-same i s t same as_many held = record { slot_entries = AreLodged-same i s t same held.slot_entries; none_idle = as_many ∙ held.none_idle }
+  IsArena-same i s t same as_many held = record { slots_used = AreLodged-same i s t same held.slots_used; none_idle = as_many ∙ held.none_idle }
 
   pub IsArena-empty : (s : slab.Slab V) → s.slots ≡ [] → IsArena empty s
-  IsArena-empty s none = record { slot_entries = AreLodged-empty s; none_idle = ap (count_by is_some) none ∙ sym (len-empty nat_cmp ℕ) }
+  IsArena-empty s none = record { slots_used = AreLodged-empty s; none_idle = ap (count_by is_some) none ∙ sym (len-empty nat_cmp ℕ) }
 
 pub on_err : {A E P : Type 0} (r : Result A E) → P → OnErr r P
 on_err (Ok a) p = tt

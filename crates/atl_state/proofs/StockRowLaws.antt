@@ -71,6 +71,6 @@ pub market_order : (markets : List StoredMarket) (regions : List StoredRegion) �
 market_order markets regions apart of all d =
     let lines = λ (r : StoredRegion). region_lines (as_u32 r.number, region_of markets r) in
     let said = flat_map lines regions in
-    let numbers_under = market_rows Second (entries (by_number (λ r. as_u32 r.number) (region_of markets) regions)) in
-    IsPermutation-trans numbers_under said markets (IsPermutation-sym said numbers_under (flat_order (λ r. as_u32 r.number) (region_of markets) region_lines regions apart))
+    let listed = market_rows Second (entries (by_number (λ r. as_u32 r.number) (region_of markets) regions)) in
+    IsPermutation-trans listed said markets (IsPermutation-sym said listed (flat_order (λ r. as_u32 r.number) (region_of markets) region_lines regions apart))
     (gathered (λ m. as_u32 m.region) (λ r. as_u32 r.number) lines regions markets (λ r. stock_order (as_u32 r.number) markets all d) apart of)

@@ -14,6 +14,7 @@ use Rattle.atl_state.specs.declared.parts.StoredUnit.{StoredUnit}
 use Rattle.atl_records.specs.declared.records.Region.{Region}
 use Rattle.atl_records.specs.declared.records.Unit.{Unit}
 use Rattle.atl_state.specs.FromRows.{as_u32, by_number, faction_of, region_of, region_with, structure_of, unit_with}
+use Rattle.atl_state.specs.Regions.{unmarked_regions}
 
 abbrev pub without_marks : {V : Type 0} → FinMap nat_cmp V → MarkedMapValue V
 without_marks m = record { values = m; marks = set.empty }
@@ -21,7 +22,7 @@ without_marks m = record { values = m; marks = set.empty }
 abbrev pub campaign_maps_of : Parts → CampaignMaps
 campaign_maps_of p = record {
   factions = without_marks (by_number (λ r. as_u32 r.number) faction_of p.factions);
-  regions = without_marks (by_number (λ r. as_u32 r.number) (region_of p.markets) p.regions);
+  regions = unmarked_regions (by_number (λ r. as_u32 r.number) (region_of p.markets) p.regions);
   structures = without_marks (by_number (λ r. as_u32 r.number) structure_of p.structures);
   mail = without_marks (by_number (λ r. as_u32 r.faction) (λ r. r.text) p.mail);
   reports = without_marks (by_number (λ r. as_u32 r.faction) (λ r. r.text) p.reports);

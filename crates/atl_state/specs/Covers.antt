@@ -5,14 +5,20 @@ use Rattle.std.specs.FinMap.{FinMap, get, empty}
 use Rattle.std.specs.FinSet.{FinSet, contains}
 use Rattle.atl_records.specs.declared.books.Entry.{Entry}
 use Rattle.atl_records.specs.declared.books.Thing.{Thing}
+use Rattle.atl_records.specs.declared.records.Region.{Region}
 use Rattle.atl_records.specs.declared.records.Unit.{Unit}
 use Rattle.atl_records.specs.Books.{amount_in, amount_number}
 use Rattle.atl_state.specs.Marks.{Marks, Things, is_thing_marked}
 use Rattle.atl_state.specs.Campaign.{CampaignValue, MarkedCampaign}
+use Rattle.atl_state.specs.Stocks.{stock_of}
 
 -- under a number that is not marked stands the same in both
 abbrev pub SameBut : {V : Type 0} → FinSet nat_cmp → FinMap nat_cmp V → FinMap nat_cmp V → Type 0
 SameBut marks before after = (n : ℕ) → contains marks n ≡ false → get after n ≡ get before n
+
+-- a region with its stocks taken off
+abbrev pub unstocked : Region → Region
+unstocked r = record r { stocks = empty }
 
 -- a unit with its goods taken off
 abbrev pub bare : Unit → Unit
@@ -37,7 +43,10 @@ own_row c = (c.month, (c.pass, (c.next_faction, (c.next_unit, c.next_structure))
 
 pub record Covers (m : Marks) (before after : CampaignValue) : Type 0 where
   pub factions : SameBut m.factions before.factions after.factions
-  pub regions : SameBut m.regions before.regions after.regions
+  -- Of a region whose row is not marked all but its stocks is the same, and there is none where there was none.
+  pub regions : (n : ℕ) → contains m.regions n ≡ false → option_map unstocked (get after.regions n) ≡ option_map unstocked (get before.regions n)
+  -- Where the stocks of a region are not marked each of them is the same.
+  pub stocks : (n item : ℕ) → contains m.stocks n ≡ false → stock_of after n item ≡ stock_of before n item
   pub structures : SameBut m.structures before.structures after.structures
   pub mail : SameBut m.mail before.mail after.mail
   pub reports : SameBut m.reports before.reports after.reports
@@ -59,6 +68,7 @@ ThingsStayMarked goods things goods_after things_after = (n thing : ℕ) → is_
 pub record StayMarked (before after : Marks) : Type 0 where
   pub factions : StaysMarked before.factions after.factions
   pub regions : StaysMarked before.regions after.regions
+  pub stocks : StaysMarked before.stocks after.stocks
   pub structures : StaysMarked before.structures after.structures
   pub mail : StaysMarked before.mail after.mail
   pub reports : StaysMarked before.reports after.reports

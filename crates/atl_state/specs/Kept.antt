@@ -78,5 +78,5 @@ pub record MarksAmounts (things : ℕ) (marks : RoomySet) : Type 0 where
 
 -- the lists of the units, and the marks of amounts
 pub record AreKept (units : FinMap nat_cmp Unit) (lists : UnitLists) (books : List (List ℤ)) (marks : RoomySet) : Type 0 where
-  pub numbers_under : AreUnitLists units lists
+  pub unit_lists : AreUnitLists units lists
   pub amounts : MarksAmounts (length books) marks

@@ -12,6 +12,8 @@ pub mod Lending
 pub mod Marking
 pub mod Marks
 pub mod Ordered
+pub mod Regions
+pub mod RegionLending
 pub mod Rows
 pub mod RowRules
 pub mod Owners

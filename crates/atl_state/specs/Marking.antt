@@ -11,6 +11,7 @@ use Rattle.atl_records.specs.declared.records.Unit.{Unit}
 use Rattle.atl_state.specs.Marks.{Marks, amount_marked, thing_marked}
 use Rattle.atl_state.specs.Owners.{heir, is_owned_by, placed}
 use Rattle.atl_state.specs.Campaign.{MarkedCampaign, with_owner}
+use Rattle.atl_state.specs.Stocks.{stock_of}
 
 -- the marks with those of a unit that is there, of its row and of all its goods
 abbrev pub whole_marked : Marks → ℕ → Option Unit → Marks
@@ -50,8 +51,13 @@ skill_marked c n skill = record c { marks = mark_skill c n skill }
 abbrev pub mark_faction : MarkedCampaign → ℕ → Marks
 mark_faction c n = record c.marks { factions = marked_with c.marks.factions n (get c.value.factions n) }
 
+-- a region's row, and none of its stocks
 abbrev pub mark_region : MarkedCampaign → ℕ → Marks
 mark_region c n = record c.marks { regions = marked_with c.marks.regions n (get c.value.regions n) }
+
+-- the stocks of a region that is there, where one of them becomes another amount
+abbrev pub mark_stock : MarkedCampaign → (region item : ℕ) → ℕ → Marks
+mark_stock c n item amount = record c.marks { stocks = if stock_of c.value n item == amount then c.marks.stocks else marked_with c.marks.stocks n (get c.value.regions n) }
 
 abbrev pub mark_structure : MarkedCampaign → ℕ → Marks
 mark_structure c n = record c.marks { structures = marked_with c.marks.structures n (get c.value.structures n) }

@@ -24,10 +24,11 @@ abbrev pub thing_marked : {V : Type 0} → Things → ℕ → ℕ → Option V �
 thing_marked things n thing None = things
 thing_marked things n thing (Some v) = with_thing things n thing
 
--- The numbers that are marked of factions, regions, structures, and of the factions of mail and reports; those of the units of which something is marked; of those, the units whose rows are, those all of whose goods are (their items and days), and single items and skills of units; those of the amounts of the books; and whether the campaign's own row is marked.
+-- The numbers that are marked of factions, regions, structures, and of the factions of mail and reports; the regions whose stocks are marked, apart from their rows; those of the units of which something is marked; of those, the units whose rows are, those all of whose goods are (their items and days), and single items and skills of units; those of the amounts of the books; and whether the campaign's own row is marked.
 pub record Marks : Type 0 where
   pub factions : FinSet nat_cmp
   pub regions : FinSet nat_cmp
+  pub stocks : FinSet nat_cmp
   pub units : FinSet nat_cmp
   pub rows : FinSet nat_cmp
   pub goods : FinSet nat_cmp
@@ -45,22 +46,23 @@ things_code = map.code coded_ℕ (map.code coded_ℕ coded_unit)
 abbrev pub marks_code : Coded Marks
 marks_code =
     let numbers = code coded_ℕ in
-    code_by (FinSet nat_cmp × (FinSet nat_cmp × (FinSet nat_cmp × (FinSet nat_cmp × (FinSet nat_cmp × (Things × (Things × (FinSet nat_cmp × (FinSet nat_cmp × (FinSet nat_cmp × (FinSet nat_cmp × Bool)))))))))))
-    (coded× numbers (coded× numbers (coded× numbers (coded× numbers (coded× numbers (coded× things_code (coded× things_code (coded× numbers (coded× numbers (coded× numbers (coded× numbers coded_bool)))))))))))
-    (λ m. (m.factions, (m.regions, (m.units, (m.rows, (m.goods, (m.items, (m.skills, (m.structures, (m.mail, (m.reports, (m.books, m.row))))))))))))
+    code_by (FinSet nat_cmp × (FinSet nat_cmp × (FinSet nat_cmp × (FinSet nat_cmp × (FinSet nat_cmp × (FinSet nat_cmp × (Things × (Things × (FinSet nat_cmp × (FinSet nat_cmp × (FinSet nat_cmp × (FinSet nat_cmp × Bool))))))))))))
+    (coded× numbers (coded× numbers (coded× numbers (coded× numbers (coded× numbers (coded× numbers (coded× things_code (coded× things_code (coded× numbers (coded× numbers (coded× numbers (coded× numbers coded_bool))))))))))))
+    (λ m. (m.factions, (m.regions, (m.stocks, (m.units, (m.rows, (m.goods, (m.items, (m.skills, (m.structures, (m.mail, (m.reports, (m.books, m.row)))))))))))))
     (λ p. record {
       factions = p.0;
       regions = p.1.0;
-      units = p.1.1.0;
-      rows = p.1.1.1.0;
-      goods = p.1.1.1.1.0;
-      items = p.1.1.1.1.1.0;
-      skills = p.1.1.1.1.1.1.0;
-      structures = p.1.1.1.1.1.1.1.0;
-      mail = p.1.1.1.1.1.1.1.1.0;
-      reports = p.1.1.1.1.1.1.1.1.1.0;
-      books = p.1.1.1.1.1.1.1.1.1.1.0;
-      row = p.1.1.1.1.1.1.1.1.1.1.1;
+      stocks = p.1.1.0;
+      units = p.1.1.1.0;
+      rows = p.1.1.1.1.0;
+      goods = p.1.1.1.1.1.0;
+      items = p.1.1.1.1.1.1.0;
+      skills = p.1.1.1.1.1.1.1.0;
+      structures = p.1.1.1.1.1.1.1.1.0;
+      mail = p.1.1.1.1.1.1.1.1.1.0;
+      reports = p.1.1.1.1.1.1.1.1.1.1.0;
+      books = p.1.1.1.1.1.1.1.1.1.1.1.0;
+      row = p.1.1.1.1.1.1.1.1.1.1.1.1;
     })
     (λ _. refl)
 
@@ -80,6 +82,7 @@ abbrev pub no_marks : Marks
 no_marks = record {
   factions = empty;
   regions = empty;
+  stocks = empty;
   units = empty;
   rows = empty;
   goods = empty;
@@ -92,9 +95,9 @@ no_marks = record {
   row = false;
 }
 
--- how many things are marked; the campaign's row is one, and so is a unit, whatever of it is marked
+-- how many things are marked; the campaign's row is one, so is a unit, whatever of it is marked, and so are the stocks of a region
 abbrev pub marks_in : Marks → ℕ
-marks_in m = len m.factions + len m.regions + len m.units + len m.structures + len m.mail + len m.reports + len m.books + (if m.row then 1 else 0)
+marks_in m = len m.factions + len m.regions + len m.stocks + len m.units + len m.structures + len m.mail + len m.reports + len m.books + (if m.row then 1 else 0)
 
 abbrev pub amount_marked : FinSet nat_cmp → Entry → Thing → FinSet nat_cmp
 amount_marked marks e t = insert marks (amount_number e t)

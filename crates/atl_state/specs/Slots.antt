@@ -29,5 +29,5 @@ module _ {V : Type 0} where
 
   -- and no slot is in use to which no number leads
   pub record IsArena (i : FinMap nat_cmp ℕ) (s : slab.Slab V) : Type 0 where
-    pub slot_entries : AreLodged i s
+    pub slots_used : AreLodged i s
     pub none_idle : slab.slab_len s ≡ len i

@@ -1,16 +1,22 @@
 -- The stocks of the regions' markets. See docs/RULES.md, "Markets".
 use Rattle.std.specs.Prelude.{ℕ}
-use Rattle.std.specs.FinMap.{get}
+use Rattle.std.specs.Ordering.{nat_cmp}
+use Rattle.std.specs.FinMap.{FinMap, get}
 use Rattle.std.specs.Option.{option_map_or}
 use Rattle.atl_tables.specs.ByNumber.{market_of}
 use Rattle.atl_tables.specs.Limits.{most_amount}
 use Rattle.atl_tables.specs.Worlds.{WorldValue}
+use Rattle.atl_records.specs.declared.records.Region.{Region}
 use Rattle.atl_records.specs.Holdings.{amount_of}
 use Rattle.atl_state.specs.Campaign.{CampaignValue}
 
+-- how much of an item a region of these has in stock
+abbrev pub stock_in : FinMap nat_cmp Region → (region item : ℕ) → ℕ
+stock_in regions region item = option_map_or (λ r. amount_of r.stocks item) (get regions region) 0
+
 -- how much of an item a region has in stock
 abbrev pub stock_of : CampaignValue → (region item : ℕ) → ℕ
-stock_of c region item = option_map_or (λ r. amount_of r.stocks item) (get c.regions region) 0
+stock_of c region item = stock_in c.regions region item
 
 -- the largest stock of an item in a region, which is that of any amount where there is no market
 abbrev pub stock_limit : WorldValue → (region item : ℕ) → ℕ

@@ -20,6 +20,7 @@ mod setting;
 
 use crate::arena::SlotEntries;
 use crate::lists::{UnitLists, numbers_under};
+use crate::regions::Regions;
 use crate::totals::{regions_total, units_total};
 use crate::units::Units;
 pub(crate) use assembling::assemble;
@@ -39,7 +40,7 @@ pub struct Campaign {
     next_unit: u32,
     next_structure: u32,
     factions: MarkedMap<Faction>,
-    regions: MarkedMap<Region>,
+    regions: Regions,
     units: Units,
     structures: MarkedMap<Structure>,
     mail: MarkedMap<Sequence<u8>>,
@@ -87,7 +88,8 @@ impl Model for Campaign {
       };
       marks = record {
         factions = a.factions.marks;
-        regions = a.regions.marks;
+        regions = a.regions.rows;
+        stocks = a.regions.stocks;
         units = a.units.marks;
         rows = a.units.rows;
         goods = a.units.goods;
@@ -204,10 +206,7 @@ impl Campaign {
     pub fn stock(&self, region: u32, item: u32) -> u32
         ensures { result ≡ stock_of self.now.value region item }
     {
-        match self.region(region) {
-            Some(found) => found.stock(item),
-            None => 0,
-        }
+        self.regions.stock(region, item)
     }
 
     /// The unit of this number; None where none has it yet, or it was removed.

@@ -11,6 +11,7 @@ mod index;
 mod lists;
 mod numbers;
 pub mod parts;
+mod regions;
 mod row_rules;
 mod rows;
 mod rules;

@@ -5,9 +5,9 @@ ghost use Rattle.atl_tables.specs.Sums.{sum_over};
 ghost use Rattle.atl_records.specs.Limits.{most_u32};
 ghost use Rattle.atl_records.specs.Amounts.{region_amount, unit_amount};
 
+use crate::regions::Regions;
 use crate::units::Units;
-use atl_records::{Region, Thing, region_amount, unit_amount};
-use atl_tables::MarkedMap;
+use atl_records::{Thing, region_amount, unit_amount};
 
 /// What the units hold of a thing.
 pub(crate) fn units_total(units: &Units, thing: Thing) -> u64
@@ -24,7 +24,7 @@ pub(crate) fn units_total(units: &Units, thing: Thing) -> u64
 }
 
 /// What the regions hold of a thing.
-pub(crate) fn regions_total(regions: &MarkedMap<Region>, thing: Thing) -> u64
+pub(crate) fn regions_total(regions: &Regions, thing: Thing) -> u64
     requires { length (map.entries regions.now.values) ≤ 1000000 }
     ensures value { result ≡ sum_over (λ r. region_amount thing r) regions.now.values }
     ensures fits { result ≤ length (map.entries regions.now.values) * most_u32 }

@@ -10,10 +10,11 @@ use Rattle.sqlite.specs.Effect.{Database}
 use Rattle.sqlite.specs.Order.{Row}
 use Rattle.sqlite_trees.specs.Tree.{Trees}
 use Rattle.sqlite_rules.specs.Lists.{Has}
-use Rattle.atl_state.specs.Covers.{SameBut, SameThings, Covers, bare, own_row}
+use Rattle.atl_state.specs.Covers.{SameBut, SameThings, Covers, bare, own_row, unstocked}
 use Rattle.atl_records.specs.Books.{amount_in, entry_index, thing_index, amount_number}
 use Rattle.atl_state.specs.Marks.{Marks, is_thing_marked}
 use Rattle.atl_state.specs.Campaign.{CampaignValue, MarkedCampaign}
+use Rattle.atl_state.specs.Stocks.{stock_in}
 use Rattle.atl_records.specs.declared.books.Entry.{Entry}
 use Rattle.atl_records.specs.Limits.{entry_count}
 use Rattle.atl_records.proofs.EveryEntryLaws.{entry_small}
@@ -30,6 +31,7 @@ use Rattle.atl_store.specs.Rows.{RowsOf, HasRowsOf, BooksRowsOf, MarketRowsOf, r
 use Rattle.atl_store.specs.Changing.{begins_marked, has_thing, goods_marked, amount_marked, is_marked, Chosen, rows_after_rewrite, campaign_row_after, HasUnmarked, WritesChanges, HoldsUnmarked}
 use Rattle.atl_store.specs.Rewriting.{marked_things}
 use Rattle.atl_store.proofs.GoodsLaws.{had_of, of_had}
+use Rattle.atl_store.proofs.MarketLaws.{stock_had, had_stock}
 
 -- ---- a table whose unmarked rows are the campaign's
 
@@ -75,6 +77,12 @@ module _ {V : Type 0} (line : ℕ → V → Row) (marks : FinSet nat_cmp) (heads
   rest_same : (before after : FinMap nat_cmp V) (old : List Row) → SameBut marks before after → Is old (RowsOf line before) → (r : Row) → begins_marked marks r ≡ false → Has old r ↔ RowsOf line after r
   rest_same before after old same = rest_numbered before after old (same_follows before after same) (same_followed before after same)
 
+-- ---- regions, whose stocks stand elsewhere
+
+unstocked_same : (n : ℕ) (o p : Option Region) (v : Region) → option_map unstocked p ≡ option_map unstocked o → o ≡ Some v → (w : Region) × (p ≡ Some w) × (region_line n w ≡ region_line n v)
+unstocked_same n o None v same there = absurd (let e = same ∙ ap (option_map unstocked) there in cc)
+unstocked_same n o (Some w) v same there = (w, refl, let e : unstocked w ≡ unstocked v = (let s = same ∙ ap (option_map unstocked) there in cc) in ap (region_line n) e)
+
 -- ---- units, whose goods stand elsewhere
 
 bare_same : (n : ℕ) (o p : Option Unit) (v : Unit) → option_map bare p ≡ option_map bare o → o ≡ Some v → (w : Unit) × (p ≡ Some w) × (unit_line n w ≡ unit_line n v)
@@ -100,8 +108,11 @@ goods_follow one other marks r same not_marked of =
 
 -- ---- stocks
 
-stocks_follow : (one other : FinMap nat_cmp Region) (marks : FinSet nat_cmp) (r : Row) → SameBut marks one other → begins_marked marks r ≡ false → MarketRowsOf one r → MarketRowsOf other r
-stocks_follow one other marks r same not_marked of = (of.0, of.1, same of.0 (ap (begins_marked marks) (sym of.7) ∙ not_marked) ∙ of.2, of.3, of.4, of.5, of.6, of.7)
+stocks_follow : (one other : FinMap nat_cmp Region) (marks : FinSet nat_cmp) (r : Row) → ((n item : ℕ) → contains marks n ≡ false → stock_in other n item ≡ stock_in one n item) → begins_marked marks r ≡ false → MarketRowsOf one r → MarketRowsOf other r
+stocks_follow one other marks r same not_marked of =
+    let had = stock_had one r of in
+    let is = same had.0 had.1 (ap (begins_marked marks) (sym had.3) ∙ not_marked) in
+    subst (MarketRowsOf other) (sym had.3) (had_stock other had.0 had.1 (stock_in one had.0 had.1) (sym is) had.2)
 
 -- ---- amounts
 
@@ -147,7 +158,10 @@ covers_unmarked c db text before covers held = record { before = campaign_row_of
     rest : (part : Part) → HasUnmarked (table_of part) (is_marked c.marks part) (rows_for (campaign_line text c.value) c.value part) db
     rest Own = λ r is. absurd (true≢false is)
     rest Factions = rest_same faction_line c.marks.factions (λ n v. refl) before.factions c.value.factions _ covers.factions (held.rows Factions)
-    rest Regions = rest_same region_line c.marks.regions (λ n v. refl) before.regions c.value.regions _ covers.regions (held.rows Regions)
+    rest Regions =
+        rest_numbered region_line c.marks.regions (λ n v. refl) before.regions c.value.regions _
+        (λ n v not_marked there. unstocked_same n (get before.regions n) (get c.value.regions n) v (covers.regions n not_marked) there)
+        (λ n v not_marked there. unstocked_same n (get c.value.regions n) (get before.regions n) v (sym (covers.regions n not_marked)) there) (held.rows Regions)
     rest Units =
         rest_numbered unit_line c.marks.rows (λ n v. refl) before.units c.value.units _
         (λ n v not_marked there. bare_same n (get before.units n) (get c.value.units n) v (covers.units n not_marked) there) (λ n v not_marked there. bare_same n (get c.value.units n) (get before.units n) v (sym (covers.units n not_marked)) there) (held.rows Units)
@@ -161,7 +175,8 @@ covers_unmarked c db text before covers held = record { before = campaign_row_of
     rest Books =
         rest_of (amount_marked c.marks.books) (BooksRowsOf before.books) (BooksRowsOf c.value.books) _ (λ r is. amounts_follow before.books c.value.books c.marks.books r covers.books is) (λ r is. amounts_follow c.value.books before.books c.marks.books r (λ e t not_marked. sym (covers.books e t not_marked)) is) (held.rows Books)
     rest Markets =
-        rest_of (begins_marked c.marks.regions) (MarketRowsOf before.regions) (MarketRowsOf c.value.regions) _ (λ r is. stocks_follow before.regions c.value.regions c.marks.regions r covers.regions is) (λ r is. stocks_follow c.value.regions before.regions c.marks.regions r (λ n not_marked. sym (covers.regions n not_marked)) is) (held.rows Markets)
+        rest_of (begins_marked c.marks.stocks) (MarketRowsOf before.regions) (MarketRowsOf c.value.regions) _ (λ r is. stocks_follow before.regions c.value.regions c.marks.stocks r covers.stocks is)
+        (λ r is. stocks_follow c.value.regions before.regions c.marks.stocks r (λ n item not_marked. sym (covers.stocks n item not_marked)) is) (held.rows Markets)
 
 pub changes_held : (c : MarkedCampaign) (old new : Database) → WritesChanges c old new → (text : List ℕ) (before : CampaignValue) → Covers c.marks before c.value → Holds old.trees text before → Holds new.trees text c.value
 changes_held c old new changes text before covers held = unmarked_held c old new changes text (covers_unmarked c old.trees text before covers held)

@@ -86,7 +86,7 @@ is_marked marks Structures = begins_marked marks.structures
 is_marked marks Mail = begins_marked marks.mail
 is_marked marks Reports = begins_marked marks.reports
 is_marked marks Books = amount_marked marks.books
-is_marked marks Markets = begins_marked marks.regions
+is_marked marks Markets = begins_marked marks.stocks
 
 -- Tables whose own row of a campaign said this, with this world text, have what is marked written.
 pub record WritesMarked (c : MarkedCampaign) (before : CampaignRowValue) (text : List ℕ) (old new : Database) : Type 0 where

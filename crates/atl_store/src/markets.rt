@@ -75,12 +75,12 @@ impl Grouped for Region {
 
     ghost wanted = { λ c. MarketRowsOf c.regions };
 
-    ghost marks = { λ m. m.regions };
+    ghost marks = { λ m. m.stocks };
 
     ghost are_rows = { λ own c r is. is };
 
     fn marked_groups(campaign: &Campaign) -> MarkedNumbers<'_> {
-        campaign.marked_regions()
+        campaign.marked_stocks()
     }
 
     fn put_rows<S: Alter>(&self, tx: &mut Transaction<'_, S>, number: u32) -> Result<(), Error> {

@@ -3,10 +3,10 @@ ghost use Rattle.atl_state.specs.Good.{IsGood};
 ghost use Rattle.atl_instant.specs.Fit.{AreFit};
 
 use super::crowd::{crowd, crowd_month, crowd_world};
-use super::former::plain::Plain;
-use super::former::sharing::Sharing;
-use super::former::trade::Trade;
-use super::former::{shares, sharing, upkeep};
+use super::reference::plain::Plain;
+use super::reference::sharing::Sharing;
+use super::reference::trade::Trade;
+use super::reference::{shares, sharing, upkeep};
 use super::shares::{are_small, is_shared};
 use atl_instant::{Month, Phase};
 use atl_market::{BuyPhase, ProducePhase, RecruitPhase, SellPhase, TaxPhase, WorkPhase, share};

@@ -1,5 +1,5 @@
-//! A campaign of 300 units of four factions in twelve regions, and a month of their orders. What each unit is, has and is told to do
-//! is dealt out by its number, from tables whose lengths have no common factor.
+//! The campaign that `agreeing` plays: 300 units of four factions in twelve regions, and a month of their orders. What each
+//! unit is, has and is told to do is dealt out by its number, from tables whose lengths have no common factor.
 ghost use Rattle.std.specs.Prelude.{◌≤◌, IfOk, length};
 ghost use Rattle.atl_state.specs.Good.{IsGood};
 ghost use Rattle.atl_instant.specs.Fit.{AreFit};

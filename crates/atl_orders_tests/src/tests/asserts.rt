@@ -1,4 +1,4 @@
-//! The assertions. Each stands here once, since its message writes out both values.
+//! Assertions of these tests, a function for each type. An `assert_eq!` costs much to prove, so each is written once.
 use std::alloc::Global;
 use std::fmt::Debug;
 use std::process::Abort;

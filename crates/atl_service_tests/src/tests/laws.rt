@@ -1,4 +1,4 @@
-//! Calls that only state a law. Nothing is asserted here: their clauses are proved.
+//! Calls each law of the crates under test once. A law does nothing and its clause is proved, so nothing is asserted.
 use atl_service::only_the_last_mail_counts;
 
 #[test]

@@ -4,6 +4,7 @@ ghost use Rattle.std.specs.List.{list_all};
 ghost use Rattle.atl_tables.specs.Names.{name_ok};
 ghost use Rattle.atl_state.specs.Assembling.{without_marks, bare_region, campaign_maps_of};
 ghost use Rattle.atl_state.specs.FromRows.{as_u32, faction_of, region_of, structure_of, by_number};
+ghost use Rattle.atl_state.specs.Regions.{unmarked_regions};
 ghost use Rattle.atl_state.specs.RowRules.{faction_named};
 
 use super::goods::put_stocks;
@@ -11,6 +12,7 @@ use super::records::{bare_region, faction_of, structure_of};
 use crate::parts::{
     Parts, StoredFaction, StoredMail, StoredMarket, StoredRegion, StoredReport, StoredStructure,
 };
+use crate::regions::Regions;
 use crate::row_rules::as_u32;
 use atl_records::{Faction, Region, Structure};
 use atl_tables::{MarkedMap, Numbered, Sequence, Text};
@@ -107,7 +109,7 @@ pub(crate) fn reports_of(alloc: Global, rows: &[StoredReport]) -> Result<Numbere
 /// The maps of a campaign but for its units, with nothing marked.
 pub(crate) struct CampaignMaps {
     pub(crate) factions: MarkedMap<Faction>,
-    pub(crate) regions: MarkedMap<Region>,
+    pub(crate) regions: Regions,
     pub(crate) structures: MarkedMap<Structure>,
     pub(crate) mail: MarkedMap<Sequence<u8>>,
     pub(crate) reports: MarkedMap<Text>,
@@ -125,16 +127,16 @@ fn marked_map_of_factions(
     MarkedMap::of(alloc, factions)
 }
 
-fn marked_map_of_regions(
+fn marked_regions(
     alloc: Global,
     rows: &[StoredRegion],
     markets: &[StoredMarket],
-) -> Result<MarkedMap<Region>, AllocError>
+) -> Result<Regions, AllocError>
     ensures { IfOk result (λ t. t
-        ≡ without_marks (by_number (λ r. as_u32 r.number) (region_of markets.now) rows.now)) }
+        ≡ unmarked_regions (by_number (λ r. as_u32 r.number) (region_of markets.now) rows.now)) }
 {
     let regions = regions_of(alloc, rows, markets)?;
-    MarkedMap::of(alloc, regions)
+    Regions::of(alloc, regions)
 }
 
 fn marked_map_of_structures(
@@ -178,7 +180,7 @@ pub(crate) fn campaign_maps_of(alloc: Global, parts: &Parts) -> Result<CampaignM
     ensures { IfOk result (λ tables. tables ≡ campaign_maps_of parts.now) }
 {
     let factions = marked_map_of_factions(alloc, parts.factions.as_slice())?;
-    let regions = marked_map_of_regions(alloc, parts.regions.as_slice(), parts.markets.as_slice())?;
+    let regions = marked_regions(alloc, parts.regions.as_slice(), parts.markets.as_slice())?;
     let structures = marked_map_of_structures(alloc, parts.structures.as_slice())?;
     let mail = marked_map_of_mail(alloc, parts.mail.as_slice())?;
     let reports = marked_map_of_reports(alloc, parts.reports.as_slice())?;

@@ -4,6 +4,7 @@ ghost use Rattle.atl_state.specs.Campaign.{blank};
 
 use super::Campaign;
 use crate::lists::UnitLists;
+use crate::regions::Regions;
 use crate::units::Units;
 use atl_records::Books;
 use atl_tables::{MarkedMap, Marks, Text};
@@ -23,7 +24,7 @@ impl Campaign {
             next_unit: 1,
             next_structure: 1,
             factions: MarkedMap::new(alloc),
-            regions: MarkedMap::new(alloc),
+            regions: Regions::new(alloc),
             units: Units::new(alloc),
             structures: MarkedMap::new(alloc),
             mail: MarkedMap::new(alloc),

@@ -1,7 +1,6 @@
 //! Founds a campaign of a world. See docs/RULES.md, "Founding".
 ghost use Rattle.std.specs.Prelude.{◌≡◌, ◌≤◌, ◌+◌, IsTrue, IfOk, length, pos};
 ghost use Rattle.std.specs.FinMap as map;
-ghost use Rattle.std.specs.FinSet as set;
 ghost use Rattle.atl_tables.specs.Limits.{most_regions};
 ghost use Rattle.atl_tables.specs.Names.{pass_ok};
 ghost use Rattle.atl_tables.specs.Sums.{sum_over, mapped};
@@ -13,20 +12,19 @@ ghost use Rattle.atl_records.specs.Amounts.{region_amount};
 ghost use Rattle.atl_state.specs.Marks.{no_marks};
 ghost use Rattle.atl_state.specs.Founding.{founded_of, founded_region};
 ghost use Rattle.atl_state.specs.Good.{IsGood};
+ghost use Rattle.atl_state.specs.Regions.{unmarked_regions};
 
 use super::Campaign;
+use crate::regions::Regions;
 use crate::totals::regions_total;
 use atl_records::{Books, ENTRY_COUNT, Entry, FIRST_ITEM, Region, Thing};
-use atl_tables::{MarkedMap, Marks, Numbered, RegionPlan, Text, World};
+use atl_tables::{Marks, Numbered, RegionPlan, Text, World};
 use std::alloc::{AllocError, Global};
 
 /// The regions as they are founded.
-fn make_regions(
-    alloc: Global,
-    plans: &Numbered<RegionPlan>,
-) -> Result<MarkedMap<Region>, AllocError>
+fn make_regions(alloc: Global, plans: &Numbered<RegionPlan>) -> Result<Regions, AllocError>
     ensures { IfOk result (λ regions. regions
-        ≡ record { values = mapped founded_region plans.now; marks = set.empty }) }
+        ≡ unmarked_regions (mapped founded_region plans.now)) }
 {
     let mut regions = Numbered::new(alloc);
     for (number, plan) in plans.iter() {
@@ -37,15 +35,11 @@ fn make_regions(
         };
         regions.insert(number, region)?;
     }
-    MarkedMap::of(alloc, regions)
+    Regions::of(alloc, regions)
 }
 
 /// What the books say at founding, for so many things.
-fn founding_books(
-    alloc: Global,
-    things: usize,
-    regions: &MarkedMap<Region>,
-) -> Result<Books, AllocError>
+fn founding_books(alloc: Global, things: usize, regions: &Regions) -> Result<Books, AllocError>
     requires few { length (map.entries regions.now.values) ≤ most_regions }
     requires some { 2 ≤ things }
     requires possible { things ≤ possible_things }

@@ -11,8 +11,8 @@ use atl_records::{Entry, Thing, amount_number};
 use atl_tables::{Entries, MarkedNumbers, Numbered};
 
 impl Campaign {
-    /// How many things are marked. The campaign's own row is one, and so is a unit, whatever of it is marked. It takes no
-    /// memory.
+    /// How many things are marked. The campaign's own row is one, so is a unit, whatever of it is marked, and so are the
+    /// stocks of a region. It takes no memory.
     pub fn marks(&self) -> usize
         ensures value { result ≡ marks_in self.now.marks }
         ensures units { AreWithin self.now.marks.units self.now.marks.rows self.now.marks.goods
@@ -31,11 +31,18 @@ impl Campaign {
         self.factions.marked_numbers()
     }
 
-    /// The numbers of the marked regions, in rising order. It takes no memory.
+    /// The numbers of the regions whose rows are marked, in rising order. It takes no memory.
     pub fn marked_regions(&self) -> MarkedNumbers<'_>
         ensures { Lists self.now.marks.regions result }
     {
-        self.regions.marked_numbers()
+        self.regions.marked_rows()
+    }
+
+    /// The numbers of the regions whose stocks are marked, in rising order. It takes no memory.
+    pub fn marked_stocks(&self) -> MarkedNumbers<'_>
+        ensures { Lists self.now.marks.stocks result }
+    {
+        self.regions.marked_stocks()
     }
 
     /// The numbers of the units of which something is marked, of those too that are gone, in rising order. It takes no memory.

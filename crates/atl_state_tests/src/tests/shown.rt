@@ -178,9 +178,10 @@ fn text_of(alloc: Global, campaign: &Campaign, ask: Ask) -> Result<String, Fail>
 }
 
 /// The lists of marked numbers, each at its place in `marked`.
-static LISTS: [&str; 8] = [
+static LISTS: [&str; 9] = [
     "factions",
     "regions",
+    "stocks",
     "units",
     "rows",
     "goods",
@@ -194,11 +195,12 @@ fn marked(campaign: &Campaign, place: usize) -> MarkedNumbers<'_> {
     match place {
         0 => campaign.marked_factions(),
         1 => campaign.marked_regions(),
-        2 => campaign.marked_units(),
-        3 => campaign.marked_rows(),
-        4 => campaign.marked_goods(),
-        5 => campaign.marked_structures(),
-        6 => campaign.marked_mail(),
+        2 => campaign.marked_stocks(),
+        3 => campaign.marked_units(),
+        4 => campaign.marked_rows(),
+        5 => campaign.marked_goods(),
+        6 => campaign.marked_structures(),
+        7 => campaign.marked_mail(),
         _ => campaign.marked_reports(),
     }
 }

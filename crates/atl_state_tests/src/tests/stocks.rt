@@ -12,9 +12,9 @@ const ALL_WOOD: Ask = Ask::Total(Thing::Item(0));
 /// What region 1 has in stock of wood.
 const STOCK: Ask = Ask::Stock(1, 0);
 
-/// The unit has three wood, and the market 25 of its own. Another amount stands in the place of the first, and none is listed no
-/// more. Where there is no region nothing changes.
-static WOOD: [Row; 10] = [
+/// The unit has three wood, and the market 25 of its own. Another amount stands in the place of the first; the same amount marks
+/// nothing, and none is listed no more. Where there is no region nothing changes.
+static WOOD: [Row; 11] = [
     (Step::Unmark, ALL_WOOD, "0", "0"),
     (
         Step::Unit(1, OfUnit::LentItem(0, 3)),
@@ -26,21 +26,27 @@ static WOOD: [Row; 10] = [
         Step::Region(1, OfRegion::Stock(0, 25)),
         ALL_WOOD,
         "28",
-        "2, regions [1], units [1], rows [1], goods [1]",
+        "2, stocks [1], units [1], rows [1], goods [1]",
     ),
     (Step::Unmark, STOCK, "25 of 1", "0"),
     (
         Step::Region(1, OfRegion::Stock(0, 30)),
         STOCK,
         "30 of 1",
-        "1, regions [1]",
+        "1, stocks [1]",
     ),
     (Step::Unmark, STOCK, "30 of 1", "0"),
+    (
+        Step::Region(1, OfRegion::Stock(0, 30)),
+        STOCK,
+        "30 of 1",
+        "0",
+    ),
     (
         Step::Region(1, OfRegion::Stock(0, 0)),
         STOCK,
         "0 of 0",
-        "1, regions [1]",
+        "1, stocks [1]",
     ),
     (Step::Unmark, STOCK, "0 of 0", "0"),
     (

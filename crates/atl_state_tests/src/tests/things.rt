@@ -8,7 +8,8 @@ use std::test::Fail;
 /// What unit 1 has of item 7, and its days of skill 3.
 const GOODS: Ask = Ask::Goods(1, 7, 3);
 
-/// A unit is counted once, whatever of it is marked. What it has no more is marked like what it has.
+/// A step, what is asked then, the answer, and how many things are marked. A unit counts once, however many of its items
+/// and skills are marked; one that is set to 0 is marked as well.
 static ONE_BY_ONE: [Row; 11] = [
     (Step::Unmark, GOODS, "0, 0 days", "0"),
     (

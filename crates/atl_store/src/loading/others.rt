@@ -1,4 +1,4 @@
-//! Reads all tables but the campaign row.
+//! Reads all tables except `campaign`.
 ghost use Rattle.std.specs.Prelude.{◌≡◌, false, IfOk, IfErr};
 ghost use Rattle.sqlite.specs.Held.{state};
 ghost use Rattle.atl_store.specs.Gathering.{IsSettled, AreOfFormat, ReadsSome, Lacks, AreAllApart, IsMadeOf};

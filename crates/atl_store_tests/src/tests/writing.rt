@@ -176,7 +176,8 @@ load";
     play_new(&rt, rt.alloc(), script)
 }
 
-/// One stock is sold out, and another is less. Of a region that isn't marked the row stays as it was changed by hand.
+/// One stock is sold out, and another is less. In region 3 the peasants change and a stock is set to what it is: its row of the market
+/// stays as it was changed by hand.
 #[test]
 fn stocks_of_marked_regions_are_written(rt: HostRuntime) -> Result<(), Fail> {
     let script = "create isle with markets
@@ -193,7 +194,10 @@ SELECT stock FROM market WHERE region = 3 AND item = 1 -> 4
 sql UPDATE market SET stock = 2 WHERE region = 3
 set stock 1 0 0
 set stock 1 1 3
+set peasants 3 77
+set stock 3 1 4
 write
+SELECT peasants FROM region WHERE number = 3 -> 77
 SELECT count(*) FROM market -> 2
 SELECT stock FROM market WHERE region = 1 AND item = 1 -> 3
 SELECT stock FROM market WHERE region = 3 AND item = 1 -> 2";

@@ -7,7 +7,8 @@ use Rattle.atl_state.specs.Campaign.{CampaignValue}
 use Rattle.atl_instant.specs.Month.{MonthValue, with_events}
 use Rattle.atl_instant.specs.PhaseOrders.{orders_by_unit, task_of}
 use Rattle.atl_instant.specs.declared.phase_order.PhaseOrder.{PhaseOrder}
-use Rattle.atl_instant.specs.OrderEffects.{AreUnaffected, StepsWell, meaning_by_orders, one_order}
+use Rattle.atl_instant.specs.OrderEffects.{AreUnaffected, meaning_by_orders, one_order}
+use Rattle.atl_instant.specs.Bounds.{StepsWell}
 use Rattle.atl_instant.proofs.FoldLaws.{each_mapped, fold_behind, fold_ended, fold_mapped}
 use Rattle.atl_instant.proofs.OrderEffectLaws.{leaves_well, order_well, orders_fit, orders_spare, room_left, room_reserved, well_same, well_twice}
 use Rattle.atl_instant.proofs.order_phase.carry_out_orders.Goals as goal

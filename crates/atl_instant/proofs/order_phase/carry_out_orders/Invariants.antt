@@ -3,7 +3,8 @@ use Rattle.std.specs.Prelude.{fold}
 use Rattle.atl_state.specs.Covers.{MarksChanges}
 use Rattle.atl_instant.specs.Month.{with_events}
 use Rattle.atl_instant.specs.PhaseOrders.{task_of}
-use Rattle.atl_instant.specs.OrderEffects.{StepsWell, one_order}
+use Rattle.atl_instant.specs.OrderEffects.{one_order}
+use Rattle.atl_instant.specs.Bounds.{StepsWell}
 use Rattle.atl_instant.proofs.order_phase.carry_out_orders.Given as goal
 
 abbrev pub invariant-loop-order : goal.invariant-loop-order

@@ -4,10 +4,9 @@ use Rattle.atl_records.specs.Books.{IsGrid}
 use Rattle.atl_state.specs.Covers.{MarksChanges}
 use Rattle.atl_records.specs.Every.{EachOf}
 use Rattle.atl_state.specs.Founding.{things_of}
-use Rattle.atl_instant.specs.Meaning.{HaveRoom}
+use Rattle.atl_instant.specs.Bounds.{HaveRoom, moving_items}
 use Rattle.atl_instant.specs.Quit.{with_item_loss}
 use Rattle.atl_instant.proofs.quit.book_items.Given as goal
-use Rattle.atl_instant.specs.LostItems.{moving_items}
 
 abbrev pub invariant-loop-item : goal.invariant-loop-item
 invariant-loop-item l = record {

@@ -7,7 +7,7 @@ use Rattle.atl_instant.specs.Meaning.{both_move, moves_only}
 use Rattle.atl_instant.specs.Quit.{with_loss}
 use Rattle.atl_instant.proofs.QuitLaws.{first_room, gone_grid, gone_marks, rest_room}
 use Rattle.atl_instant.proofs.quit.book_off.Goals as goal
-use Rattle.atl_instant.specs.LostItems.{moving_items}
+use Rattle.atl_instant.specs.Bounds.{moving_items}
 
 pub book_loss-requires-clause-room : goal.book_loss-requires-clause-room
 book_loss-requires-clause-room c =

@@ -2,7 +2,8 @@ use Rattle.std.proofs.Common.{◌≡◌}
 use Rattle.std.specs.Prelude.{fold}
 use Rattle.std.specs.FinMap.{entries}
 use Rattle.atl_state.specs.Covers.{MarksChanges}
-use Rattle.atl_market.specs.PotPhase.{CanInTurn, PotMeaning}
+use Rattle.atl_market.specs.PotPhase.{PotMeaning}
+use Rattle.atl_market.specs.Bounds.{CanInTurn}
 use Rattle.atl_market.proofs.pot_phase.pay_all.Given as goal
 
 abbrev pub invariant-loop-unit : goal.invariant-loop-unit

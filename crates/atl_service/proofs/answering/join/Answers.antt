@@ -14,7 +14,7 @@ use Rattle.atl_service.proofs.CauseLaws.{ended_by}
 use Rattle.atl_service.specs.Answering.{GivesUp}
 use Rattle.atl_service.proofs.AnswerLaws.{is_refused}
 use Rattle.atl_state.proofs.GoodLaws.{IsGood-joined}
-use Rattle.atl_service.proofs.StepLaws.{bad_name, bad_pass, is_taken, is_too_full, steps_on, joining_is, arrives}
+use Rattle.atl_service.proofs.JoinStepLaws.{bad_name, bad_pass, is_taken, is_too_full, steps_on, joining_is, arrives}
 use Rattle.atl_service.proofs.answering.join.Goals as goal
 
 pub returns-then-not-name_ok-clause-ok : goal.returns-then-not-name_ok-clause-ok

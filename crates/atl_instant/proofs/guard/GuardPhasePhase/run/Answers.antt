@@ -11,8 +11,8 @@ use Rattle.atl_instant.specs.RegionGuards.{AreRegionGuards}
 use Rattle.atl_instant.specs.PhaseOrders.{orders_by_unit, task_of}
 use Rattle.atl_instant.specs.NoWorse.{IsNoWorse}
 use Rattle.atl_instant.specs.declared.phase_order.PhaseOrder.{PhaseOrder}
-use Rattle.atl_instant.specs.OrderEffects.{AreUnaffected, StepsWell, meaning_by_orders, one_order}
-use Rattle.atl_instant.specs.Unbooked.{books_nothing}
+use Rattle.atl_instant.specs.OrderEffects.{AreUnaffected, meaning_by_orders, one_order}
+use Rattle.atl_instant.specs.Bounds.{StepsWell, books_nothing}
 use Rattle.atl_instant.proofs.FoldLaws.{each_mapped, fold_behind, fold_ended, fold_mapped}
 use Rattle.atl_instant.proofs.GuardingLaws.{guard_orderly}
 use Rattle.atl_instant.proofs.RegionGuardLaws.{holders_are}

@@ -6,8 +6,8 @@ use Rattle.atl_instant.specs.Guard.{guard_step}
 use Rattle.atl_instant.specs.RegionGuards.{AreRegionGuards}
 use Rattle.atl_instant.specs.Month.{with_events}
 use Rattle.atl_instant.specs.PhaseOrders.{task_of}
-use Rattle.atl_instant.specs.OrderEffects.{StepsWell, one_order}
-use Rattle.atl_instant.specs.Unbooked.{books_nothing}
+use Rattle.atl_instant.specs.OrderEffects.{one_order}
+use Rattle.atl_instant.specs.Bounds.{StepsWell, books_nothing}
 use Rattle.atl_instant.proofs.guard.GuardPhasePhase.run.Given as goal
 
 abbrev pub invariant-loop-order : goal.invariant-loop-order

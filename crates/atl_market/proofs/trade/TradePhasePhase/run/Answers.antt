@@ -1,6 +1,7 @@
 use Rattle.std.proofs.Common.{◌≡◌, map, subst, sym, rules}
 use Rattle.atl_state.specs.Good.{IsEarly}
-use Rattle.atl_instant.specs.Meaning.{HaveRoom, LeavesWell, most_moved}
+use Rattle.atl_instant.specs.Meaning.{LeavesWell, most_moved}
+use Rattle.atl_instant.specs.Bounds.{HaveRoom}
 use Rattle.atl_instant.specs.PhaseOrders.{orders_by_unit, task_of}
 use Rattle.atl_market.specs.Trade.{is_trade, trade_moves}
 use Rattle.atl_market.specs.Unordered.{OthersAreNoWorse}

@@ -18,10 +18,10 @@ returns-in-Some g c =
     let i = c.self.inside.index in
     let s = c.self.inside.slots in
     let n = c.args.number in
-    let there = sym c.remove-in-Some.ensures.value ∙ value_under i s c.args.self.now n (Some c.in-Some.slot) c.self.invariant.slot_entries c.self.view_is c.in-Some.ensures.slot in
+    let there = sym c.remove-in-Some.ensures.value ∙ value_under i s c.args.self.now n (Some c.in-Some.slot) c.self.invariant.slots_used c.self.view_is c.in-Some.ensures.slot in
     record {
       there = ap is_some there;
-      taken = rw c.in-Some.ensures.taken (values_removed i s c.remove-in-Some.new.self n c.in-Some.slot c.remove-in-Some.ensures.updates (sym c.in-Some.ensures.slot) c.self.invariant.slot_entries ∙ ap (λ m. remove m n) c.self.view_is);
+      taken = rw c.in-Some.ensures.taken (values_removed i s c.remove-in-Some.new.self n c.in-Some.slot c.remove-in-Some.ensures.updates (sym c.in-Some.ensures.slot) c.self.invariant.slots_used ∙ ap (λ m. remove m n) c.self.view_is);
     }
 
 pub returns-in-None : goal.returns-in-None
@@ -29,7 +29,7 @@ returns-in-None g c =
     let i = c.self.inside.index in
     let s = c.self.inside.slots in
     let n = c.args.number in
-    let none : get c.args.self.now n ≡ None = sym (value_under i s c.args.self.now n None c.self.invariant.slot_entries c.self.view_is c.in-None.ensures.slot) in
+    let none : get c.args.self.now n ≡ None = sym (value_under i s c.args.self.now n None c.self.invariant.slots_used c.self.view_is c.in-None.ensures.slot) in
     record {
       there = ap is_some (sym none);
       taken = ap (λ j. values_of j s) (c.in-None.ensures.taken ∙ remove_none i n (sym c.in-None.ensures.slot)) ∙ c.self.view_is ∙ sym (remove_none c.args.self.now n none);

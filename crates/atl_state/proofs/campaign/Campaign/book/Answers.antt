@@ -14,6 +14,6 @@ invariant_of-self c =
     let there : thing_index c.args.thing < length c.self.inside.books = rw (← c.self.view_is) at c.requires.there in
     let same : length c.book.new.self ≡ length c.self.inside.books = ap length c.book.ensures ∙ length-set _ _ _ in
     record {
-      numbers_under = c.self.invariant.numbers_under;
+      unit_lists = c.self.invariant.unit_lists;
       amounts = rw (same, c.add.ensures, c.amount_number.ensures) (more_marked (length c.self.inside.books) c.self.inside.amounts_marked c.args.entry c.args.thing there c.self.invariant.amounts);
     }

@@ -56,7 +56,7 @@ invariant_of-self-3 c =
     let marks = c.self-2.inside.amounts_marked in
     let same : length c.book_joining.new.books ≡ things = ap length c.book_joining.ensures ∙ length-set _ _ _ ∙ length-set _ _ _ in
     record {
-      numbers_under = c.self-2.invariant.numbers_under;
+      unit_lists = c.self-2.invariant.unit_lists;
       amounts = rw (same, c.add-2.ensures, c.add.ensures, c.amount_number.ensures, c.amount_number-2.ensures)
           (more_marked things (record marks { numbers = amount_marked marks.numbers Joining Money }) Joining People (omega (arith, rows)) (more_marked things marks Joining Money (omega (arith, rows)) c.self-2.invariant.amounts));
     }

@@ -13,9 +13,9 @@ same_values r s n skill (inr e) = ap (λ (t : Roster). t.values) e
 
 pub invariant_of-self : goal.invariant_of-self
 invariant_of-self c = record {
-  numbers_under =
+  unit_lists =
       AreUnitLists-set c.set_days.result (λ (u : Unit). record u { holding = record u.holding { days = with_amount_of u.holding.days c.args.skill c.args.days } }) (λ u. refl) c.self.inside.units.values c.set_days.new.self.values c.self.inside.lists c.args.unit
-      (on_ok_weaker c.set_days.result (ap (λ (r : Roster). r.values)) c.set_days.ensures.ok) (on_err_weaker c.set_days.result (same_values c.self.inside.units c.set_days.new.self c.args.unit c.args.skill) c.set_days.ensures.err) c.self.invariant.numbers_under;
+      (on_ok_weaker c.set_days.result (ap (λ (r : Roster). r.values)) c.set_days.ensures.ok) (on_err_weaker c.set_days.result (same_values c.self.inside.units c.set_days.new.self c.args.unit c.args.skill) c.set_days.ensures.err) c.self.invariant.unit_lists;
   amounts = c.self.invariant.amounts;
 }
 

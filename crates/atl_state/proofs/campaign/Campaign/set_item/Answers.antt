@@ -13,9 +13,9 @@ same_values r s n item (inr e) = ap (λ (t : Roster). t.values) e
 
 pub invariant_of-self : goal.invariant_of-self
 invariant_of-self c = record {
-  numbers_under =
+  unit_lists =
       AreUnitLists-set c.set_item.result (λ (u : Unit). record u { holding = record u.holding { items = with_amount_of u.holding.items c.args.item c.args.amount } }) (λ u. refl) c.self.inside.units.values c.set_item.new.self.values c.self.inside.lists c.args.unit
-      (on_ok_weaker c.set_item.result (ap (λ (r : Roster). r.values)) c.set_item.ensures.ok) (on_err_weaker c.set_item.result (same_values c.self.inside.units c.set_item.new.self c.args.unit c.args.item) c.set_item.ensures.err) c.self.invariant.numbers_under;
+      (on_ok_weaker c.set_item.result (ap (λ (r : Roster). r.values)) c.set_item.ensures.ok) (on_err_weaker c.set_item.result (same_values c.self.inside.units c.set_item.new.self c.args.unit c.args.item) c.set_item.ensures.err) c.self.invariant.unit_lists;
   amounts = c.self.invariant.amounts;
 }
 

@@ -6,6 +6,6 @@ use Rattle.atl_state.proofs.campaign.Campaign.set_men.Goals as goal
 pub invariant_of-self : goal.invariant_of-self
 invariant_of-self c =
     rw c.set_men.ensures record {
-      numbers_under = AreUnitLists-changed (λ (u : Unit). record u { holding = record u.holding { men = c.args.men } }) (λ u. refl) c.self.inside.units.values c.self.inside.lists c.args.unit c.self.invariant.numbers_under;
+      unit_lists = AreUnitLists-changed (λ (u : Unit). record u { holding = record u.holding { men = c.args.men } }) (λ u. refl) c.self.inside.units.values c.self.inside.lists c.args.unit c.self.invariant.unit_lists;
       amounts = c.self.invariant.amounts;
     }

@@ -5,7 +5,7 @@ use Rattle.atl_state.proofs.campaign.Campaign.unmark.Goals as goal
 pub invariant_of-self : goal.invariant_of-self
 invariant_of-self c =
     record {
-      numbers_under = rw c.unmark-3.ensures c.self.invariant.numbers_under;
+      unit_lists = rw c.unmark-3.ensures c.self.invariant.unit_lists;
       amounts = rw c.clear.ensures (none_marked (length c.self.inside.books) c.self.inside.amounts_marked.room c.self.invariant.amounts.room);
     }
 

@@ -13,7 +13,7 @@ invariant_of-result c =
     let grid = put-grid things c.args.parts.now.books (no_amounts things) (IsGrid-no_amounts things) in
     let rows : length c.in_ok-books.books ≡ things = ap length c.in_ok-books.ensures ∙ ap (λ rows. length (put_amounts rows (no_amounts things))) c.as_slice.ensures ∙ grid.rows in
     record {
-      numbers_under = c.in_ok-lists.ensures;
+      unit_lists = c.in_ok-lists.ensures;
       amounts = rw (c.in_ok-amounts_marked.ensures) (none_marked (length c.in_ok-books.books) (entry_count * things) (omega (arith, rows)));
     }
 

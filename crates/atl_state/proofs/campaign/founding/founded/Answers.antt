@@ -1,14 +1,13 @@
 use Rattle.std.proofs.Common.{◌≡◌, ◌+◌, length, sym, ap, subst, refl, ◌∙◌, arith}
 use Rattle.std.specs.FinMap.{len-entries}
 use Rattle.std.proofs.lemmas.List.{length-map}
-use Rattle.atl_tables.specs.MarkedMaps.{MarkedMapValue}
 use Rattle.atl_tables.specs.Sums.{mapped}
 use Rattle.atl_tables.proofs.MadeLaws.{entries-mapped}
 use Rattle.atl_tables.proofs.NameLaws.{pass_ok-IsUtf8}
-use Rattle.atl_records.specs.declared.records.Region.{Region}
 use Rattle.atl_state.specs.Campaign.{CampaignValue, MarkedCampaign}
 use Rattle.atl_state.specs.Founding.{founded_region, founded_of}
 use Rattle.atl_state.specs.Good.{IsGood}
+use Rattle.atl_state.specs.Regions.{MarkedRegions}
 use Rattle.atl_state.proofs.FoundingLaws.{AreKept-without_marks, IsGrid-founding, founded-good}
 use Rattle.atl_state.proofs.campaign.founding.founded.Goals as goal
 
@@ -19,12 +18,12 @@ founding_books-requires-clause-few c =
 pub invariant_of-campaign : goal.invariant_of-campaign
 invariant_of-campaign c =
     let things = 2 + length c.items.result.now in
-    rw (c.in_ok-amounts_marked.ensures, c.in_ok-books.ensures.value) (AreKept-without_marks things c.campaign.inside.units.values c.campaign.inside.lists _ c.campaign.invariant.numbers_under (IsGrid-founding things _ _))
+    rw (c.in_ok-amounts_marked.ensures, c.in_ok-books.ensures.value) (AreKept-without_marks things c.campaign.inside.units.values c.campaign.inside.lists _ c.campaign.invariant.unit_lists (IsGrid-founding things _ _))
 
 is_founded : goal.returns-clause-definition
 unfolding founded_of
 is_founded c =
-    let made : c.in_ok-regions.regions.values ≡ mapped founded_region c.regions.result.now = ap (λ (t : MarkedMapValue Region). t.values) c.in_ok-regions.ensures in
+    let made : c.in_ok-regions.regions.values ≡ mapped founded_region c.regions.result.now = ap (λ (t : MarkedRegions). t.values) c.in_ok-regions.ensures in
     ap (λ (m : MarkedCampaign). record m.value { pass = c.in_ok-pass.pass; regions = c.in_ok-regions.regions.values; books = c.in_ok-books.books }) (c.campaign.view_is ∙ c.blank-campaign.ensures)
     ∙ rw (c.in_ok-pass.ensures (pass_ok-IsUtf8 c.args.pass.now c.requires.pass), c.in_ok-books.ensures.value, made, c.regions.ensures.value, c.items.ensures.value) refl
 
@@ -33,5 +32,5 @@ returns-clause-definition c = is_founded c
 
 pub returns-clause-good : goal.returns-clause-good
 returns-clause-good c =
-    let made : c.in_ok-regions.regions.values ≡ mapped founded_region c.regions.result.now = ap (λ (t : MarkedMapValue Region). t.values) c.in_ok-regions.ensures in
+    let made : c.in_ok-regions.regions.values ≡ mapped founded_region c.regions.result.now = ap (λ (t : MarkedRegions). t.values) c.in_ok-regions.ensures in
     subst (λ (s : CampaignValue). IsGood c.args.world.now s) (sym (is_founded c)) (founded-good c.args.world.now c.args.pass.now c.regions.ensures.world c.requires.pass (rw (← c.regions.ensures.value, ← made) c.in_ok-books.ensures.money) (rw (← c.regions.ensures.value, ← made) c.in_ok-books.ensures.people))

@@ -1,10 +1,11 @@
-use Rattle.std.proofs.Common.{◌≡◌, ◌∷◌, [], map, sym, ◌∙◌, refl, rules}
+use Rattle.std.proofs.Common.{◌≡◌, ◌∷◌, [], map, sym, ap, ◌∙◌, refl, rules}
 use Rattle.std.proofs.lemmas.List.{append-nil, append_assoc}
+use Rattle.std.proofs.lemmas.Result.{IfOk-weaker}
 use Rattle.std.specs.FinMap.{entries, same_entries_map}
 use Rattle.atl_tables.specs.Sums.{mapped}
 use Rattle.atl_tables.proofs.Maps.{entries-empty}
 use Rattle.atl_tables.proofs.MadeLaws.{entries-mapped, insert_last}
-use Rattle.atl_state.proofs.MadeOf.{IfOk-made}
+use Rattle.atl_state.specs.Regions.{unmarked_regions}
 use Rattle.atl_state.specs.Founding.{founded_region}
 use Rattle.atl_records.specs.declared.records.Region.{Region}
 use Rattle.atl_state.proofs.campaign.founding.make_regions.Goals as goal
@@ -25,4 +26,4 @@ pub returns : goal.returns
 returns c =
     let none : c.loop-number.number-iterator ≡ [] = search rules in
     let made = same_entries_map c.loop-number.regions (mapped founded_region c.args.plans.now) (sym (append-nil (entries c.loop-number.regions)) ∙ (rw none at c.loop-number.invariant)) in
-    IfOk-made c.of.result c.loop-number.regions _ made c.of.ensures
+    IfOk-weaker c.of.result (λ r. r ≡ unmarked_regions c.loop-number.regions) (λ r. r ≡ unmarked_regions (mapped founded_region c.args.plans.now)) (λ r is. is ∙ ap unmarked_regions made) c.of.ensures

@@ -1,4 +1,4 @@
-//! PRODUCE: units make items, of raw items or of what the terrain gives.
+//! The reference's PRODUCE: units make items, of raw items or of what the terrain gives.
 use super::plain::{Good, Person, Plain};
 use super::pots::{Claim, Given, Pot, own};
 use super::tax::MOST_MONEY;
@@ -75,7 +75,7 @@ fn fault(plain: &Plain, person: Person, item: &Item) -> Option<EventFault> {
     }
 }
 
-/// What an order comes to.
+/// What an order asks of its pot, or its fault.
 pub(crate) fn claim(world: &World, plain: &Plain, order: PhaseOrder<'_>) -> Claim {
     let number = item_of(order);
     let (Some(person), Some(item)) = (own(plain, order), world.items().get(number as usize)) else {

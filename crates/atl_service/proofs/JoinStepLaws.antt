@@ -1,4 +1,4 @@
--- The step of a command Join, by what `join` answered, and what the store is to write of it.
+-- What the step makes of a command Join, for each result of `join`, and what the store is to write of it.
 use Rattle.std.proofs.Common.{◌≡◌, ◌+◌, ◌-◌, ℕ, pos, List, [], Bool, true, false, cond, not, Option, Some, is_some, IsSome, Ok, Err, refl, sym, ap, ◌∙◌, subst, arith}
 use Rattle.std.specs.FinMap.{get, insert}
 use Rattle.atl_tables.specs.Names.{name_ok, pass_ok}

@@ -1,4 +1,4 @@
-//! WORK: units share the places of their region.
+//! The reference's WORK: units share the places of their region.
 use super::plain::{Person, Plain};
 use super::pots::{Claim, Given, Pot, given_to, own};
 use super::tax::MOST_MONEY;
@@ -27,7 +27,7 @@ fn places(world: &World, region: u32) -> u64 {
     }
 }
 
-/// What an order comes to.
+/// What an order asks of its pot, or its fault.
 pub(crate) fn claim(world: &World, plain: &Plain, order: PhaseOrder<'_>) -> Claim {
     let Some(person) = own(plain, order) else {
         return Claim::Fault(EventFault::NotYours);

@@ -1,4 +1,4 @@
-//! TAX: who guards shares the money of the region.
+//! The reference's TAX: who guards shares the money of the region.
 use super::plain::{Land, Plain};
 use super::pots::{Claim, Given, Pot, own};
 use atl_instant::PhaseOrder;
@@ -11,7 +11,7 @@ pub(crate) const MOST_MONEY: u64 = 999_999_999;
 /// Money is the one thing to share.
 const MONEY: u32 = 0;
 
-/// What an order comes to.
+/// What an order asks of its pot, or its fault.
 pub(crate) fn claim(world: &World, plain: &Plain, order: PhaseOrder<'_>) -> Claim {
     let Some(person) = own(plain, order) else {
         return Claim::Fault(EventFault::NotYours);

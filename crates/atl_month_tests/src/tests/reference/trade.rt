@@ -1,4 +1,4 @@
-//! SELL and BUY: units sell to the markets of their regions, and buy of them.
+//! The reference's SELL and BUY: units sell to the markets of their regions, and buy of them.
 use super::plain::{Good, Person, Plain, Stock};
 use super::pots::{Claim, Given, Pot, own};
 use super::tax::MOST_MONEY;
@@ -50,7 +50,7 @@ fn is_short(trade: Trade, plain: &Plain, person: Person, market: &Market) -> boo
     }
 }
 
-/// What an order comes to.
+/// What an order asks of its pot, or its fault.
 pub(crate) fn claim(trade: Trade, world: &World, plain: &Plain, order: PhaseOrder<'_>) -> Claim {
     let Some(person) = own(plain, order) else {
         return Claim::Fault(EventFault::NotYours);

@@ -1,4 +1,4 @@
-//! The phases that share pots.
+//! The reference's phases that share pots.
 use super::plain::{Land, Plain};
 use super::pots::{Claim, Claimed, Given, Pot, given_to, outcome, shared};
 use super::trade::Trade;

@@ -1,4 +1,4 @@
-//! Shares by prefix sums.
+//! The reference's shares, by prefix sums.
 use std::alloc::{AllocError, Global};
 
 /// The sum of wants.

@@ -1,4 +1,4 @@
-//! RECRUIT: peasants join, at a price.
+//! The reference's RECRUIT: peasants join, at a price.
 use super::plain::{Land, Person, Plain};
 use super::pots::{Claim, Given, Pot, own};
 use atl_instant::PhaseOrder;
@@ -31,7 +31,7 @@ fn want(world: &World, person: Person, order: PhaseOrder<'_>) -> u64 {
     asked(order).min(payable).min(room)
 }
 
-/// What an order comes to.
+/// What an order asks of its pot, or its fault.
 pub(crate) fn claim(world: &World, plain: &Plain, order: PhaseOrder<'_>) -> Claim {
     let Some(person) = own(plain, order) else {
         return Claim::Fault(EventFault::NotYours);

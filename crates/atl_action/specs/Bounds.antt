@@ -1,0 +1,10 @@
+-- For proofs alone: how far STUDY may still move the books.
+use Rattle.atl_tables.specs.Sums.{sum_over}
+use Rattle.atl_records.specs.declared.books.Entry.TheVariants.{Study}
+use Rattle.atl_records.specs.declared.books.Thing.TheVariants.{Money}
+use Rattle.atl_instant.specs.Bounds.{RemainingBound}
+use Rattle.atl_instant.specs.Meaning.{moves_only}
+
+-- no more than the money of all units is spent
+abbrev pub study_reserve : RemainingBound
+study_reserve c = moves_only (sum_over (λ u. u.holding.money) c.units) Study Money

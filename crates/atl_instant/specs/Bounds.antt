@@ -1,0 +1,99 @@
+-- For proofs alone: bounds on the amounts of the books, and what a phase has to show of the step that carries out one order.
+use Rattle.std.specs.Prelude.{ℕ, ℤ, pos, ◌≡◌, ◌≤◌, ◌+◌, ◌*◌, ◌+ℤ◌, ◌≤ℤ◌, ◌==◌, List, [], ◌∷◌, Some, IfSome, if◌then◌else◌}
+use Rattle.std.specs.FinMap.{get}
+use Rattle.atl_tables.specs.Worlds.{WorldValue}
+use Rattle.atl_orders.specs.Bounds.{IsOrderOf}
+use Rattle.atl_records.specs.declared.books.Entry.{Entry}
+use Rattle.atl_records.specs.declared.books.Entry.TheVariants.{Lost}
+use Rattle.atl_records.specs.declared.books.Thing.{Thing}
+use Rattle.atl_records.specs.declared.books.Thing.TheVariants.{Item}
+use Rattle.atl_records.specs.declared.records.Unit.{Unit}
+use Rattle.atl_records.specs.Amounts.{unit_amount}
+use Rattle.atl_records.specs.Books.{amount_in, entry_index}
+use Rattle.atl_records.specs.Holdings.{HoldingValue}
+use Rattle.atl_state.specs.Campaign.{CampaignValue}
+use Rattle.atl_state.specs.Totals.{Balances}
+use Rattle.atl_tables.specs.Sums.{sum_over}
+use Rattle.atl_instant.specs.Meaning.{BookBound, Condition, IsSameMonth, most_moved, moves_only}
+use Rattle.atl_instant.specs.Month.{Aliases}
+use Rattle.atl_instant.specs.OrderEffects.{Affects, IsUnaffected, OrderMeaning, Unaffected}
+use Rattle.atl_instant.specs.PhaseOrders.{Task}
+use Rattle.atl_instant.specs.Quit.{loss_entry}
+use Rattle.atl_instant.specs.Unbooked.{moves_nothing}
+
+-- ---- how far the books may be moved
+
+-- so many steps, each of which may move the amounts so far
+abbrev pub moved_times : ℕ → BookBound → BookBound
+moved_times steps moving e t = steps * moving e t
+
+-- no amount ever passes this in size
+abbrev pub amount_limit : ℕ
+amount_limit = 9000000000000000000 + most_moved
+
+-- an amount that may still be moved so far
+pub record HasRoom (most : ℕ) (amount : ℤ) : Type 0 where
+  pub above : (amount +ℤ pos most) ≤ℤ pos amount_limit
+  pub below : pos most ≤ℤ (amount +ℤ pos amount_limit)
+
+-- each amount of the books may: so it is where none passes 9*10^18 in size
+abbrev pub HaveRoom : BookBound → CampaignValue → Type 0
+HaveRoom moving c = (e : Entry) (t : Thing) → HasRoom (moving e t) (amount_in c.books e t)
+
+-- by how much the amounts of the books may still be moved, from a campaign on
+abbrev pub RemainingBound : Type 0
+RemainingBound = CampaignValue → BookBound
+
+-- an amount moves by what its reserve shrinks, at most
+pub record UsesBound (reserve left : ℕ) (before after : ℤ) : Type 0 where
+  pub above : (after +ℤ pos left) ≤ℤ (before +ℤ pos reserve)
+  pub below : (before +ℤ pos left) ≤ℤ (after +ℤ pos reserve)
+
+-- ---- the step of one order
+
+-- The campaign holds what it held and is of the same month, the books balance where they did before, and no amount of them moves further
+-- than its reserve shrinks.
+pub record StepsWell (holds : Condition) (reserve : RemainingBound) (w : WorldValue) (before after : CampaignValue) : Type 0 where
+  pub holds_still : holds w after
+  pub same_month : IsSameMonth before after
+  pub balances : Balances before → Balances after
+  pub drawn : (e : Entry) (t : Thing) → UsesBound (reserve before e t) (reserve after e t) (amount_in before.books e t) (amount_in after.books e t)
+
+-- it stays as it is, or comes of two changes, and the unit's faction stays
+pub record IsUnaffectedRelation (spares : Unaffected) : Type 0 where
+  pub same : (u : Unit) → spares u u
+  pub again : (u v x : Unit) → spares u v → spares v x → spares u x
+  pub faction : (u v : Unit) → spares u v → v.faction ≡ u.faction
+
+-- the unit that an order is for, of the faction that wrote it
+pub record IsUnitOf (c : CampaignValue) (t : Task) (u : Unit) : Type 0 where
+  pub there : get c.units t.unit ≡ Some u
+  pub faction : u.faction ≡ t.faction
+
+-- a phase that carries its orders out one by one: what has to be shown of its step
+pub record IsOrderly (step : OrderMeaning) (holds : Condition) (reserve : RemainingBound) (moving : BookBound) (concerns : Affects) (spares : Unaffected) : Type 0 where
+  pub well : (w : WorldValue) (a : Aliases) (c : CampaignValue) (t : Task) (x : Unit) → holds w c → IsOrderOf w t.order_value → IsUnitOf c t x →
+      IfSome (step w a t) (λ deed. StepsWell holds reserve w c (deed c x).0)
+  pub sparing : IsUnaffectedRelation spares
+  pub spared : (w : WorldValue) (a : Aliases) (c : CampaignValue) (t : Task) (x : Unit) → holds w c → IsUnitOf c t x →
+      (n : ℕ) (u : Unit) → get c.units n ≡ Some u → (concerns t n u.faction → ⊥) → IfSome (step w a t) (λ deed. IsUnaffected spares (deed c x).0 n u)
+  pub bounded : (w : WorldValue) (c : CampaignValue) → holds w c → (e : Entry) (t : Thing) → reserve c e t ≤ moving e t
+
+-- ---- what is left of the bounds of single phases
+
+-- nothing may be moved
+abbrev pub books_nothing : RemainingBound
+books_nothing c = moves_nothing
+
+-- so much of some items
+abbrev pub moving_items : List (ℕ × ℕ) → BookBound
+moving_items [] e t = 0
+moving_items (x ∷ xs) e t = moves_only x.1 Lost (Item x.0) e t + moving_items xs e t
+
+-- what is booked of a thing under an entry as all that is held goes
+abbrev pub loss_under : Entry → Thing → HoldingValue → ℕ
+loss_under e t h = if entry_index e == entry_index (loss_entry t) then unit_amount t h else 0
+
+-- no more than all units hold
+abbrev pub quit_reserve : RemainingBound
+quit_reserve c e t = sum_over (λ u. loss_under e t u.holding) c.units

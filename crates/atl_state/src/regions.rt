@@ -1,0 +1,220 @@
+//! The regions of a campaign.
+ghost use Rattle.std.specs.Prelude.{◌≡◌, ◌≤◌, ◌+◌, ◌*◌, IfOk, IsOk, OnOk, OnErr, option_copied};
+ghost use Rattle.std.specs.FinMap as map;
+ghost use Rattle.std.specs.FinSet as set;
+ghost use Rattle.atl_tables.specs.Limits.{number_count};
+ghost use Rattle.atl_tables.specs.Tracking.{Lists, marked_with};
+ghost use Rattle.atl_state.specs.Regions.{unmarked_regions, with_region_row, with_stock_at, stock_marked};
+ghost use Rattle.atl_state.specs.Stocks.{stock_in};
+
+use atl_records::{Region, put_amount};
+use atl_tables::{Entries, MarkedNumbers, Marks, Numbered, let_go};
+use std::alloc::{AllocError, Global};
+use std::marker::Model;
+
+/// The regions by their numbers. Of each its row and its stocks can be marked, each for itself.
+pub(crate) struct Regions {
+    values: Numbered<Region>,
+    // The regions whose rows are marked, and those whose stocks are, each with room for every region.
+    rows: Marks,
+    stocks: Marks,
+}
+
+impl Drop for Regions {
+    fn drop(self) {
+        let_go!(self: Regions { values, rows, stocks });
+    }
+}
+
+impl Model for Regions {
+    ghost use Rattle.atl_state.specs.Regions.{AreRegions, MarkedRegions, regions_code};
+
+    ghost Value = { MarkedRegions };
+
+    ghost coded = { regions_code };
+
+    ghost view = { λ a. record { values = a.values; rows = a.rows.numbers; stocks = a.stocks.numbers } };
+
+    ghost invariant = { λ a. AreRegions a.values a.rows a.stocks };
+}
+
+impl Regions {
+    ghost use Rattle.std.specs.Option.{option_copied_mut};
+    ghost use Rattle.std.specs.Borrow.{sem};
+    ghost use Rattle.atl_state.specs.RegionLending.{LendsRegion};
+
+    /// No region. It takes no memory.
+    pub(crate) fn new(alloc: Global) -> Regions
+        ensures { result ≡ unmarked_regions map.empty }
+    {
+        Regions {
+            values: Numbered::new(alloc),
+            rows: Marks::new(alloc),
+            stocks: Marks::new(alloc),
+        }
+    }
+
+    /// These regions, with nothing marked.
+    pub(crate) fn of(alloc: Global, values: Numbered<Region>) -> Result<Regions, AllocError>
+        ensures { IfOk result (λ regions. regions ≡ unmarked_regions values) }
+    {
+        let rows = Marks::with_room(alloc, values.len())?;
+        let stocks = Marks::with_room(alloc, values.len())?;
+        Ok(Regions {
+            values,
+            rows,
+            stocks,
+        })
+    }
+
+    pub(crate) fn get(&self, number: u32) -> Option<&Region>
+        ensures { option_copied result ≡ map.get self.now.values number }
+    {
+        self.values.get(number)
+    }
+
+    /// The regions with their numbers, in rising order.
+    pub(crate) fn iter(&self) -> Entries<'_, Region>
+        ensures { result ≡ map.entries self.now.values }
+    {
+        self.values.iter()
+    }
+
+    pub(crate) fn len(&self) -> usize
+        ensures { result ≡ map.len self.now.values }
+    {
+        self.values.len()
+    }
+
+    /// How many pieces of an item a region has in stock; 0 where the region isn't there.
+    pub(crate) fn stock(&self, number: u32, item: u32) -> u32
+        ensures { result ≡ stock_in self.now.values number item }
+    {
+        match self.values.get(number) {
+            Some(region) => region.stock(item),
+            None => 0,
+        }
+    }
+
+    /// How many rows are marked, and how many regions' stocks, in one sum.
+    pub(crate) fn marked(&self) -> usize
+        ensures value { result ≡ set.len self.now.rows + set.len self.now.stocks }
+        ensures small { result ≤ 2 * number_count }
+    {
+        self.rows.len() + self.stocks.len()
+    }
+
+    /// The numbers of the regions whose rows are marked, in rising order.
+    pub(crate) fn marked_rows(&self) -> MarkedNumbers<'_>
+        ensures { Lists self.now.rows result }
+    {
+        self.rows.iter()
+    }
+
+    /// The numbers of the regions whose stocks are marked, in rising order.
+    pub(crate) fn marked_stocks(&self) -> MarkedNumbers<'_>
+        ensures { Lists self.now.stocks result }
+    {
+        self.stocks.iter()
+    }
+
+    /// Lends a region, and marks nothing.
+    fn lend(&mut self, number: u32) -> Option<&mut Region>
+        ensures* writes_back { sem 𝓛 (LendsRegion self.entry number result) }
+        ensures value { option_copied_mut result ≡ map.get self.old.values number }
+    {
+        match self.values.get_mut(number) {
+            Some(region) => Some(region),
+            None => None,
+        }
+    }
+
+    /// Marks a region's row. It takes no memory.
+    fn mark_row(&mut self, number: u32)
+        ensures { self.new ≡ record self.old
+            { rows = marked_with self.old.rows number (map.get self.old.values number) } }
+    {
+        self.rows.mark_present(&self.values, number);
+    }
+
+    /// Marks a region's stocks. It takes no memory.
+    fn mark_stocks(&mut self, number: u32)
+        ensures { self.new ≡ record self.old
+            { stocks = marked_with self.old.stocks number (map.get self.old.values number) } }
+    {
+        self.stocks.mark_present(&self.values, number);
+    }
+
+    /// Marks a region's stocks, if it has another amount of an item than this. It takes no memory.
+    fn mark_stock(&mut self, number: u32, item: u32, amount: u32)
+        ensures { self.new ≡ record self.old { stocks = stock_marked self.old number item amount } }
+    {
+        if self.stock(number, item) != amount {
+            self.mark_stocks(number);
+        }
+    }
+
+    /// Sets how many peasants a region has, and marks its row. It takes no memory.
+    pub(crate) fn set_peasants(&mut self, number: u32, peasants: u32)
+        ensures { self.new ≡ with_region_row (λ r. record r { peasants = peasants }) self.old
+            number }
+    {
+        self.mark_row(number);
+        if let Some(region) = self.lend(number) {
+            region.peasants = peasants;
+        }
+    }
+
+    /// Sets how much money a region has, and marks its row. It takes no memory.
+    pub(crate) fn set_money(&mut self, number: u32, money: u32)
+        ensures { self.new ≡ with_region_row (λ r. record r { money = money }) self.old number }
+    {
+        self.mark_row(number);
+        if let Some(region) = self.lend(number) {
+            region.money = money;
+        }
+    }
+
+    /// Sets how many pieces of an item a region has in stock, and marks nothing. An amount of 0 takes no memory. Without
+    /// memory nothing changes.
+    fn put_stock(&mut self, number: u32, item: u32, amount: u32) -> Result<(), AllocError>
+        ensures ok { OnOk result
+            (self.new.values ≡ with_stock_at self.old.values number item amount) }
+        ensures err { OnErr result (self.new.values ≡ self.old.values) }
+        ensures none { amount ≡ 0 → IsOk result }
+        ensures rows { self.new.rows ≡ self.old.rows }
+        ensures stocks { self.new.stocks ≡ self.old.stocks }
+    {
+        let Some(region) = self.lend(number) else {
+            return Ok(());
+        };
+        put_amount(&mut region.stocks, item, amount)
+    }
+
+    /// Sets how many pieces of an item a region has in stock, and marks its stocks if it had another amount. An amount of 0
+    /// takes no memory. Without memory the regions are as they were, but for that mark.
+    pub(crate) fn set_stock(
+        &mut self,
+        number: u32,
+        item: u32,
+        amount: u32,
+    ) -> Result<(), AllocError>
+        ensures ok { OnOk result
+            (self.new.values ≡ with_stock_at self.old.values number item amount) }
+        ensures err { OnErr result (self.new.values ≡ self.old.values) }
+        ensures none { amount ≡ 0 → IsOk result }
+        ensures rows { self.new.rows ≡ self.old.rows }
+        ensures stocks { self.new.stocks ≡ stock_marked self.old number item amount }
+    {
+        self.mark_stock(number, item, amount);
+        self.put_stock(number, item, amount)
+    }
+
+    /// Leaves nothing marked. It takes no memory.
+    pub(crate) fn unmark(&mut self)
+        ensures { self.new ≡ unmarked_regions self.old.values }
+    {
+        self.rows.clear();
+        self.stocks.clear();
+    }
+}
