@@ -1,4 +1,5 @@
--- For proofs alone: what has to hold so that a phase with pots can pay in turn, and so that BUILD can be carried out.
+-- What BUILD needs of a campaign and its world (`CanBuild`). The rest is for proofs alone: when a phase with pots can pay in turn, and how far BUILD
+-- may still move the books.
 use Rattle.std.specs.Prelude.{⊤, ℕ, ◌≡◌, ◌==◌, length, List, [], ◌∷◌, Some, if◌then◌else◌}
 use Rattle.std.specs.List.{slice_get}
 use Rattle.atl_tables.specs.Worlds.{IsKind, WorldValue}
