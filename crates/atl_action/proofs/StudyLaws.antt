@@ -20,7 +20,6 @@ use Rattle.atl_records.specs.declared.event.EventFault.{EventFault}
 use Rattle.atl_records.specs.declared.event.EventFault.TheVariants.{NoFee, NoMen}
 use Rattle.atl_records.specs.declared.event.Outcome.TheVariants.{Done}
 use Rattle.atl_records.specs.declared.records.Unit.{Unit}
-use Rattle.atl_state.specs.Founding.{things_of}
 use Rattle.atl_state.specs.Good.{IsSteady}
 use Rattle.atl_records.specs.Holdings.{HoldingValue, amount_of}
 use Rattle.atl_state.specs.Lending.{with_held}
@@ -74,7 +73,7 @@ module _ (w : WorldValue) (c : CampaignValue) (n : ℕ) (u : Unit) (s cost days 
       }
 
   steady_behind : s < length w.skills → days ≤ most_days * u.holding.men → IsSteady w behind
-  steady_behind known most = steady-amount w paid Study Money (neg_ℤ (pos cost)) (steady-unit_amount w c n u learned is (may known most) steady)
+  steady_behind known most = steady-amount w paid Study Money (neg_ℤ (pos cost)) (omega arith) (steady-unit_amount w c n u learned is (may known most) steady)
 
   -- what is booked is what all have less
   owed : (t : Thing) (a b : ℕ) → a + unit_amount t u.holding ≡ b + unit_amount t learned → pos a ≡ pos b +ℤ cond (thing_index t == 0) (neg_ℤ (pos cost)) (pos 0)
@@ -91,7 +90,7 @@ module _ (w : WorldValue) (c : CampaignValue) (n : ℕ) (u : Unit) (s cost days 
       let sum : total behind t + unit_amount t u.holding ≡ total c t + unit_amount t learned =
       ap (λ k. k + unit_amount t u.holding) (total-amount paid Study Money t (neg_ℤ (pos cost))) ∙ total-unit_amount w c n u learned is t in
       owed t (total behind t) (total c t) sum ∙ ap (λ z. z +ℤ cond (thing_index t == 0) (neg_ℤ (pos cost)) (pos 0)) (old t)
-      ∙ sym (booked-after_booking (things_of w) c.books Study Money (neg_ℤ (pos cost)) steady.numbers.books (omega arith) t)
+      ∙ sym (booked-after_booking c.books Study Money (neg_ℤ (pos cost)) t)
 
   -- the money of all units is less by what is paid
   less : sum_over (λ (x : Unit). x.holding.money) behind.units + cost ≡ sum_over (λ (x : Unit). x.holding.money) c.units
@@ -112,7 +111,7 @@ module _ (w : WorldValue) (c : CampaignValue) (n : ℕ) (u : Unit) (s cost days 
   drawn e t =
       drawn_near (moves_only cost Study Money e t) (study_reserve c e t) (study_reserve behind e t) (amount_in c.books e t) (amount_in behind.books e t)
       (by_amount (amount_number e t == amount_number Study Money) _ _ less)
-      (booked-near (things_of w) c.books Study Money (neg_ℤ (pos cost)) cost steady.numbers.books (omega arith) (within-neg cost cost (omega arith)) e t)
+      (booked-near c.books Study Money (neg_ℤ (pos cost)) cost (within-neg cost cost (omega arith)) e t)
     where
       by_amount : (q : Bool) (a b : ℕ) → a + cost ≡ b → (if q then a else 0) + (if q then cost else 0) ≡ (if q then b else 0)
       by_amount true a b e = e

@@ -1,5 +1,5 @@
 -- What is booked moves one amount of the books, and no other.
-use Rattle.std.proofs.Common.{◌≡◌, ◌==◌, ℕ, ◌+◌, ◌≤◌, ◌<◌, Bool, true, false, List, inl, inr, ◌⊎◌, refl, arith}
+use Rattle.std.proofs.Common.{◌≡◌, ◌==◌, ℕ, ◌+◌, ◌≤◌, Bool, true, false, inl, inr, ◌⊎◌, refl, arith}
 use Rattle.std.specs.Prelude.{ℤ, neg_ℤ, pos, negsuc, ◌+ℤ◌, ◌≤ℤ◌, if◌then◌else◌}
 use Rattle.std.specs.Int.{w64}
 use Rattle.std.specs.Int.RustNames.{FitsSigned}
@@ -7,7 +7,7 @@ use Rattle.std.proofs.lemmas.Int.{ints}
 use Rattle.atl_tables.proofs.GeneralLaws.{is_unequal}
 use Rattle.atl_records.specs.declared.books.Entry.{Entry}
 use Rattle.atl_records.specs.declared.books.Thing.{Thing}
-use Rattle.atl_records.specs.Books.{IsGrid, IsWithin, amount_in, thing_index, after_booking, amount_number}
+use Rattle.atl_records.specs.Books.{BooksValue, IsWithin, amount_in, after_booking, amount_number}
 use Rattle.atl_records.proofs.BookLaws.{amount-after_booking}
 use Rattle.atl_state.proofs.RegionLaws.{amount-other}
 use Rattle.atl_instant.specs.Meaning.{BookBound, IsNear, moves_only}
@@ -23,13 +23,13 @@ near_by x y z n small h = elim h [
 near_same : (x y : ℤ) → y ≡ x → IsNear 0 x y
 near_same x y is = record { above = omega (arith, ints, is); below = omega (arith, ints, is) }
 
-module _ (things : ℕ) (books : List (List ℤ)) (e : Entry) (t : Thing) (z : ℤ) (n : ℕ) (grid : IsGrid things books) (inside : thing_index t < things) (small : IsWithin n z) where
+module _ (books : BooksValue) (e : Entry) (t : Thing) (z : ℤ) (n : ℕ) (small : IsWithin n z) where
   pub booked-near : (f : Entry) (u : Thing) → IsNear (moves_only n e t f u) (amount_in books f u) (amount_in (after_booking books e t z) f u)
   booked-near f u = by_number (amount_number f u == amount_number e t) refl
     where
       by_number : (b : Bool) → (amount_number f u == amount_number e t) ≡ b → IsNear (if b then n else 0) (amount_in books f u) (amount_in (after_booking books e t z) f u)
-      by_number true is = near_by _ _ z n small (amount-after_booking things books e t z grid inside f u)
-      by_number false is = near_same _ _ (amount-other things books f e u t z grid inside (is_unequal _ _ is))
+      by_number true is = near_by _ _ z n small (amount-after_booking books e t z f u)
+      by_number false is = near_same _ _ (amount-other books f e u t z (is_unequal _ _ is))
 
   -- behind it there is room for what else is to be booked
   pub booked-room : (next : BookBound) → ((f : Entry) (u : Thing) → HasRoom (moves_only n e t f u + next f u) (amount_in books f u)) → (f : Entry) (u : Thing) → HasRoom (next f u) (amount_in (after_booking books e t z) f u)

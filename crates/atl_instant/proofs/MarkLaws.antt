@@ -1,8 +1,7 @@
 -- Changes of a campaign that are marked.
-use Rattle.std.proofs.Common.{◌≡◌, ◌==◌, ◌<◌, ℕ, Bool, true, false, Option, Some, None, refl, sym, ◌∙◌}
+use Rattle.std.proofs.Common.{◌≡◌, ◌==◌, ℕ, Bool, true, false, Option, Some, None, refl, sym, ◌∙◌}
 use Rattle.std.specs.Prelude.{ℤ, Result, Ok, Err, OnOk, if◌then◌else◌}
 use Rattle.std.specs.FinMap.{get}
-use Rattle.atl_records.specs.Books.{IsGrid, thing_index}
 use Rattle.atl_state.specs.Covers.{MarksChanges}
 use Rattle.atl_records.specs.declared.books.Entry.{Entry}
 use Rattle.atl_records.specs.declared.books.Thing.{Thing}
@@ -20,10 +19,9 @@ pub marks_by : (a b m : MarkedCampaign) → b.value ≡ m.value → b.marks ≡ 
 marks_by a b m what marks h = rw (what, marks) (record { stay = h.stay; covers = h.covers })
 
 -- what is booked behind a change
-pub booked_marks : (things : ℕ) (a b d : MarkedCampaign) (e : Entry) (t : Thing) (z : ℤ) → MarksChanges a b → IsGrid things b.value.books → thing_index t < things
-    → d.value ≡ with_amount b.value e t z → d.marks ≡ mark_amount b e t → MarksChanges a d
-booked_marks things a b d e t z before grid inside what marks =
-    marks-trans a b d before (marks_by b d (record { value = with_amount b.value e t z; marks = mark_amount b e t }) what marks (marks-amount things b e t z grid inside))
+pub booked_marks : (a b d : MarkedCampaign) (e : Entry) (t : Thing) (z : ℤ) → MarksChanges a b → d.value ≡ with_amount b.value e t z → d.marks ≡ mark_amount b e t → MarksChanges a d
+booked_marks a b d e t z before what marks =
+    marks-trans a b d before (marks_by b d (record { value = with_amount b.value e t z; marks = mark_amount b e t }) what marks (marks-amount b e t z))
 
 -- a campaign that stays as it is
 pub marks_same : (a b : MarkedCampaign) → b ≡ a → MarksChanges a b

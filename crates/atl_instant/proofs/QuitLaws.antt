@@ -15,7 +15,7 @@ use Rattle.atl_tables.specs.Worlds.{WorldValue}
 use Rattle.atl_tables.specs.Sums.{sum_over}
 use Rattle.atl_orders.specs.declared.order.Operands.TheVariants as operands
 use Rattle.atl_orders.specs.Orders.{OperandsValue}
-use Rattle.atl_records.specs.Books.{IsGrid, amount_in, booked, entry_index, thing_index, amount_number}
+use Rattle.atl_records.specs.Books.{BooksValue, amount_in, booked, entry_index, thing_index, amount_number}
 use Rattle.atl_state.specs.Covers.{MarksChanges}
 use Rattle.atl_state.specs.Marking.{mark_amount}
 use Rattle.atl_records.specs.declared.books.Entry.{Entry}
@@ -36,7 +36,7 @@ use Rattle.atl_state.specs.Owners.{heir, without_unit, without_unit_at}
 use Rattle.atl_state.specs.Campaign.{MarkedCampaign, CampaignValue, numbers_of}
 use Rattle.atl_records.specs.Amounts.{unit_amount}
 use Rattle.atl_state.specs.Totals.{Balances, total}
-use Rattle.atl_records.proofs.BookLaws.{IsGrid-after_booking, booked-after_booking}
+use Rattle.atl_records.proofs.BookLaws.{booked-after_booking}
 use Rattle.atl_records.proofs.EveryEntryLaws.{entry_small}
 use Rattle.atl_state.proofs.CoverLaws.{marks-amount}
 use Rattle.atl_records.proofs.EveryLaws.{same_number, each-from_every, not_below, sorted}
@@ -198,11 +198,11 @@ off_twice {o} {p} {i} {j} w a b c one two = record {
 
 pub off_one : (w : WorldValue) (c : CampaignValue) (t : Thing) (amount : ℕ) → thing_index t < things_of w → IsSteady w c → BooksOff w (λ s. part_of s t amount) (moves_only amount (loss_entry t) t) c (with_loss c t amount)
 off_one w c t amount inside steady = record {
-  steady = steady-amount w c (loss_entry t) t (neg_ℤ (pos amount)) steady;
+  steady = steady-amount w c (loss_entry t) t (neg_ℤ (pos amount)) inside steady;
   owed = λ s.
       less (booked c.books s) (thing_index s == thing_index t) amount
-      ∙ ap (λ z. z +ℤ pos (part_of s t amount)) (sym (booked-after_booking (things_of w) c.books (loss_entry t) t (neg_ℤ (pos amount)) steady.numbers.books inside s));
-  near = booked-near (things_of w) c.books (loss_entry t) t (neg_ℤ (pos amount)) amount steady.numbers.books inside (within-neg amount amount (omega arith));
+      ∙ ap (λ z. z +ℤ pos (part_of s t amount)) (sym (booked-after_booking c.books (loss_entry t) t (neg_ℤ (pos amount)) s));
+  near = booked-near c.books (loss_entry t) t (neg_ℤ (pos amount)) amount (within-neg amount amount (omega arith));
   same = refl;
 }
   where
@@ -235,12 +235,9 @@ off_all w c h known steady =
 
 -- ---- what the code books, and marks
 
-pub gone_grid : (things : ℕ) (c : CampaignValue) (t : Thing) (amount : ℕ) → IsGrid things c.books → IsGrid things (with_loss c t amount).books
-gone_grid things c t amount grid = IsGrid-after_booking things c.books (loss_entry t) t (neg_ℤ (pos amount)) grid
-
-pub gone_marks : (things : ℕ) (c d : MarkedCampaign) (t : Thing) (amount : ℕ) → IsGrid things c.value.books → thing_index t < things → d.value ≡ with_loss c.value t amount → d.marks ≡ mark_amount c (loss_entry t) t → MarksChanges c d
-gone_marks things c d t amount grid inside what marks =
-    let all = marks-amount things c (loss_entry t) t (neg_ℤ (pos amount)) grid inside in
+pub gone_marks : (c d : MarkedCampaign) (t : Thing) (amount : ℕ) → d.value ≡ with_loss c.value t amount → d.marks ≡ mark_amount c (loss_entry t) t → MarksChanges c d
+gone_marks c d t amount what marks =
+    let all = marks-amount c (loss_entry t) t (neg_ℤ (pos amount)) in
     rw (what, marks) (record { stay = all.stay; covers = all.covers })
 
 pub first_room : (t : Thing) (amount : ℕ) (next : BookBound) (c : CampaignValue) → HaveRoom (both_move (moves_only amount (loss_entry t) t) next) c → HasRoom amount (amount_in c.books (loss_entry t) t)
@@ -252,8 +249,8 @@ first_room t amount next c room =
     at_least true m t = omega arith
     at_least false m t = cc
 
-pub rest_room : (things : ℕ) (t : Thing) (amount : ℕ) (next : BookBound) (c : CampaignValue) → IsGrid things c.books → thing_index t < things → HaveRoom (both_move (moves_only amount (loss_entry t) t) next) c → HaveRoom next (with_loss c t amount)
-rest_room things t amount next c grid inside room = booked-room things c.books (loss_entry t) t (neg_ℤ (pos amount)) amount grid inside (within-neg amount amount (omega arith)) next room
+pub rest_room : (t : Thing) (amount : ℕ) (next : BookBound) (c : CampaignValue) → HaveRoom (both_move (moves_only amount (loss_entry t) t) next) c → HaveRoom next (with_loss c t amount)
+rest_room t amount next c room = booked-room c.books (loss_entry t) t (neg_ℤ (pos amount)) amount (within-neg amount amount (omega arith)) next room
 
 -- there is room for the items ahead, while the code goes through them
 pub room_ahead : (xs : List (ℕ × ℕ)) (i : ℕ) (c : CampaignValue) → i < length xs → HaveRoom (moving_items (drop i xs)) c
@@ -283,7 +280,7 @@ held_room c n u is room = room_less (held_moves u.holding) (quit_reserve c) c (�
 
 -- ---- a unit that leaves
 
-total_books : (c : CampaignValue) (books : List (List ℤ)) (t : Thing) → total (record c { books = books }) t ≡ total c t
+total_books : (c : CampaignValue) (books : BooksValue) (t : Thing) → total (record c { books = books }) t ≡ total c t
 unfolding total
 total_books c books t = refl
 
@@ -308,7 +305,7 @@ module _ (w : WorldValue) (c : CampaignValue) (n : ℕ) (u : Unit) (is : get c.u
       let only = only_reduced w off n u there in
       let totals : total off t ≡ total c t = ap (λ s. total s t) off_is.same ∙ total_books c off.books t in
       rest (total behind t) (unit_amount t u.holding) (total off t) (total c t) (owing u.holding t) (booked c.books t) (booked off.books t) (total-without w off n u there t) totals (all_owed u.holding t) (old t) (off_is.owed t)
-      ∙ ap (λ (books : List (List ℤ)). booked books t) (sym only.books)
+      ∙ ap (λ (books : BooksValue). booked books t) (sym only.books)
     where
       rest : (a h b d o : ℕ) (z y : ℤ) → a + h ≡ b → b ≡ d → o ≡ h → pos d ≡ z → z ≡ y +ℤ pos o → pos a ≡ y
       rest a h b d o z y e f g k l = omega (arith, ints, e, f, g, k, l)
@@ -318,7 +315,7 @@ module _ (w : WorldValue) (c : CampaignValue) (n : ℕ) (u : Unit) (is : get c.u
       let only = only_reduced w off n u there in
       let reserves : quit_reserve behind e t + loss_under e t u.holding ≡ quit_reserve c e t =
       ap (λ (m : FinMap nat_cmp Unit). sum_over (λ (x : Unit). loss_under e t x.holding) m + loss_under e t u.holding) units_behind ∙ sum_over-remove c.units n (λ (x : Unit). loss_under e t x.holding) u is in
-      subst (λ (books : List (List ℤ)). UsesBound (quit_reserve c e t) (quit_reserve behind e t) (amount_in c.books e t) (amount_in books e t)) (sym only.books)
+      subst (λ (books : BooksValue). UsesBound (quit_reserve c e t) (quit_reserve behind e t) (amount_in c.books e t) (amount_in books e t)) (sym only.books)
       (drawn_near (loss_under e t u.holding) (quit_reserve c e t) (quit_reserve behind e t) (amount_in c.books e t) (amount_in off.books e t) reserves
       (near_more (held_moves u.holding e t) (loss_under e t u.holding) (amount_in c.books e t) (amount_in off.books e t) (moves_what_leaves u.holding e t) (off_is.near e t)))
 

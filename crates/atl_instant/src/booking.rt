@@ -1,5 +1,5 @@
 //! Books an amount that a phase takes out of the campaign.
-ghost use Rattle.std.specs.Prelude.{pos, neg_ℤ, length, ◌≡◌, ◌<◌};
+ghost use Rattle.std.specs.Prelude.{pos, neg_ℤ, ◌≡◌, ◌<◌};
 ghost use Rattle.atl_records.specs.Books.{amount_in, thing_index};
 ghost use Rattle.atl_state.specs.Marking.{mark_amount};
 ghost use Rattle.atl_state.specs.Campaign.{with_amount};
@@ -9,7 +9,7 @@ use atl_state::{Campaign, Entry, Thing};
 
 /// Books that so much of a thing is taken away, under an entry of the books. It takes no memory.
 pub fn book_taken(campaign: &mut Campaign, entry: Entry, thing: Thing, amount: u32)
-    requires there { thing_index thing < length campaign.old.value.books }
+    requires there { thing_index thing < campaign.old.value.books.things }
     requires room { HasRoom amount (amount_in campaign.old.value.books entry thing) }
     ensures what { campaign.new.value
         ≡ with_amount campaign.old.value entry thing (neg_ℤ (pos amount)) }

@@ -1,6 +1,6 @@
 //! QUIT: a faction leaves the campaign with all its units. See docs/RULES.md, "Quitting".
 ghost use Rattle.std.specs.Prelude.{◌≡◌, ◌<◌, IfOk, OnOk, fold, length, true};
-ghost use Rattle.atl_records.specs.Books.{IsGrid, amount_in, thing_index};
+ghost use Rattle.atl_records.specs.Books.{amount_in, thing_index};
 ghost use Rattle.atl_state.specs.Covers.{MarksChanges};
 ghost use Rattle.atl_records.specs.Every.{EachOf};
 ghost use Rattle.atl_state.specs.Founding.{things_of};
@@ -42,7 +42,7 @@ fn loss_entry(thing: Thing) -> Entry
 
 /// Books that so much of a thing is gone.
 fn book_loss(campaign: &mut Campaign, thing: Thing, amount: u32)
-    requires there { thing_index thing < length campaign.old.value.books }
+    requires there { thing_index thing < campaign.old.value.books.things }
     requires room { HasRoom amount (amount_in campaign.old.value.books (loss_entry thing) thing) }
     ensures what { campaign.new.value ≡ with_loss campaign.old.value thing amount }
     ensures marks { campaign.new.marks ≡ mark_amount campaign.old (loss_entry thing) thing }
@@ -52,7 +52,7 @@ fn book_loss(campaign: &mut Campaign, thing: Thing, amount: u32)
 
 /// Books that items are gone.
 fn book_items(world: &World, campaign: &mut Campaign, items: &[(u16, u32)])
-    requires grid { IsGrid (things_of world.now) campaign.old.value.books }
+    requires things { campaign.old.value.books.things ≡ things_of world.now }
     requires known { EachOf (λ i amount. i < length world.now.items) items.now }
     requires room { HaveRoom (moving_items items.now) campaign.old.value }
     ensures what { campaign.new.value ≡ fold with_item_loss campaign.old.value items.now }
@@ -65,7 +65,7 @@ fn book_items(world: &World, campaign: &mut Campaign, items: &[(u16, u32)])
 
 /// Books that all that a unit has is gone.
 fn book_off(world: &World, campaign: &mut Campaign, men: u32, money: u32, items: &[(u16, u32)])
-    requires grid { IsGrid (things_of world.now) campaign.old.value.books }
+    requires things { campaign.old.value.books.things ≡ things_of world.now }
     requires known { EachOf (λ i amount. i < length world.now.items) items.now }
     requires room { HaveRoom
         (both_move (moves_only men Left People)

@@ -11,7 +11,6 @@ use Rattle.atl_records.specs.declared.books.Thing.TheVariants.{Money, People, It
 use Rattle.atl_records.specs.declared.records.Region.{Region}
 use Rattle.atl_records.specs.declared.records.Unit.{Unit}
 use Rattle.atl_records.specs.Books.{IsWithin}
-use Rattle.atl_state.specs.Founding.{things_of}
 use Rattle.atl_state.specs.Good.{IsEarly, IsSteady}
 use Rattle.atl_records.specs.Holdings.{HoldingValue, amount_of}
 use Rattle.atl_state.specs.Campaign.{CampaignValue, region_changed, with_amount}
@@ -67,10 +66,9 @@ module _ (w : WorldValue) (c : CampaignValue) (n : ℕ) (u : Unit) (q : Region) 
   pub exchange_well : (limit : ℕ) → MayHave w more → (more.guard ≡ true → u.holding.guard ≡ true) → (IsSteady w supplied → IsSteady w left) → KeepsTogether u q f more z → IsWithin limit z → IsEarly w c → LeavesWell IsEarly (moves_only limit entry Money) w c exchanged
   exchange_well limit may flag region keeps small early =
       let before = early-having w c n u more is may flag early in
-      let grid = early.steady.numbers.books in
       record {
-        leaves_it = record { steady = steady-amount w left entry Money z (region before.steady); flags = before.flags };
+        leaves_it = record { steady = steady-amount w left entry Money z (omega arith) (region before.steady); flags = before.flags };
         same_month = same_month_by refl;
-        balances = λ old t. total_of keeps t ∙ ap (λ y. y +ℤ share_of t Money z) (old t) ∙ sym (booked-after_booking (things_of w) c.books entry Money z grid (omega arith) t);
-        near = booked-near (things_of w) c.books entry Money z limit grid (omega arith) small;
+        balances = λ old t. total_of keeps t ∙ ap (λ y. y +ℤ share_of t Money z) (old t) ∙ sym (booked-after_booking c.books entry Money z t);
+        near = booked-near c.books entry Money z limit small;
       }

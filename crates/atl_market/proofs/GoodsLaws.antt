@@ -13,7 +13,6 @@ use Rattle.atl_records.specs.declared.books.Thing.{Thing}
 use Rattle.atl_records.specs.declared.books.Thing.TheVariants.{Item, Money, People}
 use Rattle.atl_records.specs.declared.records.Unit.{Unit}
 use Rattle.atl_records.specs.Books.{IsWithin}
-use Rattle.atl_state.specs.Founding.{things_of}
 use Rattle.atl_state.specs.Good.{IsSteady}
 use Rattle.atl_records.specs.Holdings.{HoldingValue, amount_of, with_amount_of}
 use Rattle.atl_state.specs.Lending.{with_held}
@@ -95,16 +94,15 @@ module _ (w : WorldValue) (c : CampaignValue) (n : ℕ) (u : Unit) (i amount : �
       pub set_well : (limit : ℕ) → i < length w.items → amount ≤ holding_limit → IsWithin limit z → IsSteady w c → LeavesWell IsSteady (moves_only limit e (Item i)) w c after
       set_well limit known most small steady =
           let has = may known most (may_have w c n u is steady) in
-          let grid = steady.numbers.books in
           record {
             leaves_it =
-                steady-amount w with_set e (Item i) z
+                steady-amount w with_set e (Item i) z (omega (arith, known))
                 (steady-unit_amount w c n u more is (record { limits = has.limits; name = has.name; items = has.items; skills = has.skills; days = has.days; guard = λ g. g }) steady);
             same_month = same_month_by refl;
             balances = λ old t.
                 total_of t (total-amount with_set e (Item i) t z) (total-unit_amount w c n u more is t)
-                ∙ ap (λ y. y +ℤ share_of t (Item i) z) (old t) ∙ sym (booked-after_booking (things_of w) c.books e (Item i) z grid (omega (arith, known)) t);
-            near = booked-near (things_of w) c.books e (Item i) z limit grid (omega (arith, known)) small;
+                ∙ ap (λ y. y +ℤ share_of t (Item i) z) (old t) ∙ sym (booked-after_booking c.books e (Item i) z t);
+            near = booked-near c.books e (Item i) z limit small;
           }
 
 -- ---- what is used

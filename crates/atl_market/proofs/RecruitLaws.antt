@@ -15,7 +15,6 @@ use Rattle.atl_records.specs.declared.books.Thing.{Thing}
 use Rattle.atl_records.specs.declared.books.Thing.TheVariants.{Money}
 use Rattle.atl_records.specs.declared.records.Region.{Region}
 use Rattle.atl_records.specs.declared.records.Unit.{Unit}
-use Rattle.atl_records.specs.Books.{IsGrid}
 use Rattle.atl_state.specs.Covers.{MarksChanges}
 use Rattle.atl_records.specs.Every.{Every}
 use Rattle.atl_state.specs.Good.{IsEarly}
@@ -106,13 +105,11 @@ module _ (w : WorldValue) (c : CampaignValue) (n : ℕ) (u : Unit) (q : Region) 
 -- ---- what is marked
 
 -- as the region and the books change
-pub leaving_marks : (things : ℕ) (c d e : MarkedCampaign) (region peasants : ℕ) (z : ℤ) → d.value ≡ with_peasants c.value region peasants → d.marks ≡ mark_region c region
-    → e.value ≡ with_amount d.value Recruiting Money z → e.marks ≡ mark_amount d Recruiting Money → IsGrid things c.value.books → 2 ≤ things → MarksChanges c e
-leaving_marks things c d e region peasants z d_is d_marks e_is e_marks grid two =
-    let books : d.value.books ≡ c.value.books = ap (λ (s : CampaignValue). s.books) d_is in
-    let d_grid : IsGrid things d.value.books = rw books grid in
+pub leaving_marks : (c d e : MarkedCampaign) (region peasants : ℕ) (z : ℤ) → d.value ≡ with_peasants c.value region peasants → d.marks ≡ mark_region c region
+    → e.value ≡ with_amount d.value Recruiting Money z → e.marks ≡ mark_amount d Recruiting Money → MarksChanges c e
+leaving_marks c d e region peasants z d_is d_marks e_is e_marks =
     marks-trans c d e (marks_by c d _ d_is d_marks (marks-region (λ r. record r { peasants = peasants }) (λ r. refl) c region))
-    (marks_by d e _ e_is e_marks (marks-amount things d Recruiting Money z d_grid (omega arith)))
+    (marks_by d e _ e_is e_marks (marks-amount d Recruiting Money z))
 
 -- a unit that is there has another holding
 pub held_is : (c d : CampaignValue) (n : ℕ) (u : Unit) (h : HoldingValue) → get c.units n ≡ Some u → d ≡ with_holding c n h → d ≡ record c { units = insert c.units n (record u { holding = h }) }

@@ -23,7 +23,6 @@ use Rattle.atl_records.specs.declared.records.Region.{Region}
 use Rattle.atl_records.specs.declared.records.Unit.{Unit}
 use Rattle.atl_records.specs.Books.{IsWithin, amount_in}
 use Rattle.atl_state.specs.Covers.{MarksChanges}
-use Rattle.atl_state.specs.Founding.{things_of}
 use Rattle.atl_records.specs.Every.{Every}
 use Rattle.atl_state.specs.Good.{IsEarly}
 use Rattle.atl_records.specs.Holdings.{HoldingValue, IsHolding, amount_of, with_amount_of}
@@ -477,9 +476,7 @@ can_settle trade items w c n share can u m stock entry d there at stock_at entry
       there = there;
       money = subst (λ (x : TradeResult). x.money ≤ holding_limit) is fit.money;
       amount = subst (λ (x : TradeResult). x.amount ≤ holding_limit) is fit.amount;
-      things = things_of w;
-      some = omega arith;
-      grid = can.early.steady.numbers.books;
+      things = omega (arith, can.early.steady.numbers.books.count);
       small = subst (λ (x : TradeResult). IsWithin holding_limit x.booked) is fit.small;
       room = subst (λ f. HasRoom holding_limit (amount_in c.books f Money)) (sym entry_at) (only_room (trade_entry trade) Money (amount_in c.books (trade_entry trade) Money) (can.room (trade_entry trade) Money));
     }

@@ -15,9 +15,7 @@ use Rattle.atl_records.specs.declared.books.Entry.TheVariants.{Wages}
 use Rattle.atl_records.specs.declared.books.Thing.{Thing}
 use Rattle.atl_records.specs.declared.books.Thing.TheVariants.{Money, People, Item}
 use Rattle.atl_records.specs.declared.records.Unit.{Unit}
-use Rattle.atl_records.specs.Books.{IsGrid}
 use Rattle.atl_state.specs.Covers.{MarksChanges}
-use Rattle.atl_state.specs.Founding.{things_of}
 use Rattle.atl_records.specs.Every.{Every}
 use Rattle.atl_state.specs.Good.{IsSteady}
 use Rattle.atl_records.specs.Holdings.{HoldingValue, amount_of}
@@ -85,12 +83,12 @@ module _ (w : WorldValue) (c : CampaignValue) (n : ℕ) (u : Unit) (money : ℕ)
 
   pub wages_leave_well : u.holding.money + money ≤ holding_limit → IsSteady w c → LeavesWell IsSteady (work_moves holding_limit) w c wages_paid
   wages_leave_well fits steady = record {
-    leaves_it = steady-amount w given Wages Money (pos money) (steady-unit_amount w c n u more is (may_hold_money w c n (u.holding.money + money) u is fits steady) steady);
+    leaves_it = steady-amount w given Wages Money (pos money) (omega arith) (steady-unit_amount w c n u more is (may_hold_money w c n (u.holding.money + money) u is fits steady) steady);
     same_month = same_month_by refl;
     balances = λ old t.
         total_paid t ∙ ap (λ z. z +ℤ share_of t Money (pos money)) (old t)
-        ∙ sym (booked-after_booking (things_of w) c.books Wages Money (pos money) steady.numbers.books (omega arith) t);
-    near = booked-near (things_of w) c.books Wages Money (pos money) holding_limit steady.numbers.books (omega arith) (within-pos money holding_limit (omega (arith, fits)));
+        ∙ sym (booked-after_booking c.books Wages Money (pos money) t);
+    near = booked-near c.books Wages Money (pos money) holding_limit (within-pos money holding_limit (omega (arith, fits)));
   }
 
   -- nothing else changes
@@ -102,13 +100,11 @@ module _ (w : WorldValue) (c : CampaignValue) (n : ℕ) (u : Unit) (money : ℕ)
 
 -- ---- what is marked
 
-pub wages_marks : (things : ℕ) (c d e : MarkedCampaign) (n money unit_amount : ℕ) → d.value ≡ with_money c.value n unit_amount → d.marks ≡ mark_unit_row c n
-    → e.value ≡ with_amount d.value Wages Money (pos money) → e.marks ≡ mark_amount d Wages Money → IsGrid things c.value.books → 2 ≤ things → MarksChanges c e
-wages_marks things c d e n money unit_amount d_is d_marks e_is e_marks grid two =
-    let books : d.value.books ≡ c.value.books = ap (λ (s : CampaignValue). s.books) d_is in
-    let d_grid : IsGrid things d.value.books = rw books grid in
+pub wages_marks : (c d e : MarkedCampaign) (n money unit_amount : ℕ) → d.value ≡ with_money c.value n unit_amount → d.marks ≡ mark_unit_row c n
+    → e.value ≡ with_amount d.value Wages Money (pos money) → e.marks ≡ mark_amount d Wages Money → MarksChanges c e
+wages_marks c d e n money unit_amount d_is d_marks e_is e_marks =
     marks-trans c d e (marks_by c d _ d_is d_marks (marks-unit_row (λ u. record u { holding = record u.holding { money = unit_amount } }) (λ u. refl) c n))
-    (marks_by d e _ e_is e_marks (marks-amount things d Wages Money (pos money) d_grid (omega arith)))
+    (marks_by d e _ e_is e_marks (marks-amount d Wages Money (pos money)))
 
 -- ---- one step
 

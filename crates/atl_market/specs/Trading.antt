@@ -8,7 +8,7 @@ use Rattle.atl_tables.specs.declared.world.Market.{Market}
 use Rattle.atl_records.specs.declared.books.Entry.{Entry}
 use Rattle.atl_records.specs.declared.books.Thing.TheVariants.{Money}
 use Rattle.atl_records.specs.declared.records.Unit.{Unit}
-use Rattle.atl_records.specs.Books.{IsGrid, IsWithin, amount_in}
+use Rattle.atl_records.specs.Books.{IsWithin, amount_in}
 use Rattle.atl_state.specs.Good.{IsEarly}
 use Rattle.atl_records.specs.Holdings.{HoldingValue, amount_of}
 use Rattle.atl_records.specs.Limits.{holding_limit}
@@ -53,8 +53,6 @@ pub record CanBookTrade (c : CampaignValue) (n : ℕ) (entry : Entry) (d : Trade
   pub there : get c.units n ≡ Some unit
   pub money : d.money ≤ holding_limit
   pub amount : d.amount ≤ holding_limit
-  pub things : ℕ
-  pub some : 2 ≤ things
-  pub grid : IsGrid things c.books
+  pub things : 2 ≤ c.books.things
   pub small : IsWithin holding_limit d.booked
   pub room : HasRoom holding_limit (amount_in c.books entry Money)

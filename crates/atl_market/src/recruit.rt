@@ -1,9 +1,8 @@
 //! RECRUIT: peasants of a region join its units, at a price. See docs/RULES.md, "Recruiting".
-ghost use Rattle.std.specs.Prelude.{ℕ, pos, neg_ℤ, ◌≡◌, ◌≤◌, ◌+◌, ◌*◌, Some};
+ghost use Rattle.std.specs.Prelude.{pos, neg_ℤ, ◌≡◌, ◌≤◌, ◌+◌, ◌*◌, Some};
 ghost use Rattle.std.specs.FinMap as finmap;
 ghost use Rattle.atl_records.specs.declared.books.Entry.TheVariants.{Recruiting};
 ghost use Rattle.atl_records.specs.declared.books.Thing.TheVariants.{Money};
-ghost use Rattle.atl_records.specs.Books.{IsGrid};
 ghost use Rattle.atl_state.specs.Covers.{MarksChanges};
 ghost use Rattle.atl_state.specs.Good.{IsEarly};
 ghost use Rattle.atl_state.specs.Lending.{with_holding};
@@ -81,7 +80,7 @@ fn join_unit(campaign: &mut Campaign, unit: u32, recruits: u32, cost: u32)
 /// A region has so many peasants left, and what was paid for recruits is booked.
 fn leave_region(campaign: &mut Campaign, region: u32, peasants: u32, cost: u32)
     requires little { cost ≤ holding_limit }
-    requires grid { (things : ℕ) × (2 ≤ things) × IsGrid things campaign.old.value.books }
+    requires things { 2 ≤ campaign.old.value.books.things }
     requires room { HaveRoom (recruit_moves holding_limit) campaign.old.value }
     ensures what { campaign.new.value
         ≡ with_amount (with_peasants campaign.old.value region peasants) Recruiting Money

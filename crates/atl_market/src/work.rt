@@ -1,12 +1,11 @@
 //! WORK: units share the places of their region's terrain, each of which pays the wage. See
 //! docs/RULES.md, "Work".
-ghost use Rattle.std.specs.Prelude.{⊤, ℕ, pos, ◌≡◌, ◌≤◌, ◌+◌, ◌++◌, map, IfOk, OnOk};
+ghost use Rattle.std.specs.Prelude.{⊤, pos, ◌≡◌, ◌≤◌, ◌+◌, ◌++◌, map, IfOk, OnOk};
 ghost use Rattle.std.specs.List.Sorted.{IsPermutation, IsSortedByKey};
 ghost use Rattle.std.specs.Cmp.Lexicographic.{slice_cmp};
 ghost use Rattle.std.specs.Ordering.{nat_cmp};
 ghost use Rattle.atl_records.specs.declared.books.Entry.TheVariants.{Wages};
 ghost use Rattle.atl_records.specs.declared.books.Thing.TheVariants.{Money};
-ghost use Rattle.atl_records.specs.Books.{IsGrid};
 ghost use Rattle.atl_state.specs.Covers.{MarksChanges};
 ghost use Rattle.atl_state.specs.Good.{IsSteady};
 ghost use Rattle.atl_records.specs.Limits.{holding_limit};
@@ -196,7 +195,7 @@ fn wages_for(world: &World, region: u32, places: u32) -> u64
 /// A unit that held so much gets its wages, which are booked.
 fn pay_wages(campaign: &mut Campaign, number: u32, held: u32, money: u32)
     requires fits { held + money ≤ holding_limit }
-    requires grid { (things : ℕ) × (2 ≤ things) × IsGrid things campaign.old.value.books }
+    requires things { 2 ≤ campaign.old.value.books.things }
     requires room { HaveRoom (work_moves holding_limit) campaign.old.value }
     ensures what { campaign.new.value
         ≡ with_amount (with_money campaign.old.value number (held + money)) Wages Money

@@ -117,13 +117,13 @@ module _ (w : WorldValue) (c : CampaignValue) (n : ℕ) (t : Thing) (inside : th
   -- an amount that nobody takes
   pub all_lost : (amount : ℕ) → PassesOn w n (λ s. part_of s t amount) (moves_only amount Lost t) c (with_lost c t amount)
   all_lost amount = record {
-    steady = steady-amount w c Lost t (neg_ℤ (pos amount)) steady;
+    steady = steady-amount w c Lost t (neg_ℤ (pos amount)) inside steady;
     owes = λ s x h.
         ap pos (total-amount c Lost t s (neg_ℤ (pos amount)))
         ∙ owed_all (thing_index s == thing_index t) amount x (total c s) (booked c.books s) h
         ∙ ap (λ z. z +ℤ pos (x + part_of s t amount))
-        (sym (booked-after_booking (things_of w) c.books Lost t (neg_ℤ (pos amount)) steady.numbers.books inside s));
-    near = booked-near (things_of w) c.books Lost t (neg_ℤ (pos amount)) amount steady.numbers.books inside (within-neg amount amount (omega arith));
+        (sym (booked-after_booking c.books Lost t (neg_ℤ (pos amount)) s));
+    near = booked-near c.books Lost t (neg_ℤ (pos amount)) amount (within-neg amount amount (omega arith));
     same = same_month_by refl;
     unit = refl;
     forth = λ m u is. (u, is, kept-refl u);
@@ -145,14 +145,14 @@ module _ (w : WorldValue) (c : CampaignValue) (n : ℕ) (t : Thing) (inside : th
 
     pub part_lost : PassesOn w n (λ s. part_of s t (taken + lost)) (moves_only (taken + lost) Lost t) c (with_lost given t lost)
     part_lost = record {
-      steady = steady-amount w given Lost t (neg_ℤ (pos lost)) (steady-unit_amount w c k v h is may steady);
+      steady = steady-amount w given Lost t (neg_ℤ (pos lost)) inside (steady-unit_amount w c k v h is may steady);
       owes = λ s x e.
           ap pos (total-amount given Lost t s (neg_ℤ (pos lost)))
           ∙ owed (thing_index s == thing_index t) taken lost x (total c s) (total given s) (booked c.books s) (grown s) e
           ∙ ap (λ z. z +ℤ pos (x + part_of s t (taken + lost)))
-          (sym (booked-after_booking (things_of w) c.books Lost t (neg_ℤ (pos lost)) steady.numbers.books inside s));
+          (sym (booked-after_booking c.books Lost t (neg_ℤ (pos lost)) s));
       near =
-          booked-near (things_of w) c.books Lost t (neg_ℤ (pos lost)) (taken + lost) steady.numbers.books inside
+          booked-near c.books Lost t (neg_ℤ (pos lost)) (taken + lost)
           (within-neg lost (taken + lost) (omega arith));
       same = same_month_by refl;
       unit = get-insert_other c.units k n (record v { holding = h }) apart;

@@ -20,7 +20,7 @@ use Rattle.atl_records.specs.declared.books.Thing.{Thing}
 use Rattle.atl_records.specs.declared.books.Thing.TheVariants.{Money, People, Item}
 use Rattle.atl_records.specs.declared.records.Region.{Region}
 use Rattle.atl_records.specs.Limits.{entry_count}
-use Rattle.atl_records.specs.Books.{IsGrid, amount_in, booked, entry_index, thing_at, thing_index, amount_number}
+use Rattle.atl_records.specs.Books.{amount_in, booked, entry_index, thing_at, thing_index, amount_number}
 use Rattle.atl_state.specs.Campaign.{MarkedCampaign, CampaignValue, with_amount, with_stock}
 use Rattle.atl_state.specs.Covers.{MarksChanges}
 use Rattle.atl_records.specs.Every.{EachOf, IsThere}
@@ -30,7 +30,8 @@ use Rattle.atl_records.specs.Holdings.{amount_of}
 use Rattle.atl_state.specs.Marking.{mark_amount, mark_stock}
 use Rattle.atl_state.specs.Stocks.{stock_limit, stock_of}
 use Rattle.atl_state.specs.Totals.{Balances, total}
-use Rattle.atl_records.proofs.BookLaws.{at_place, booked-after_booking}
+use Rattle.atl_records.proofs.AccountLaws.{at_place}
+use Rattle.atl_records.proofs.BookLaws.{booked-after_booking}
 use Rattle.atl_state.proofs.CoverLaws.{marks-amount, marks-stock, marks-trans}
 use Rattle.atl_records.proofs.EveryEntryLaws.{entry_small}
 use Rattle.atl_records.proofs.EveryLaws.{each-from_every, sorted}
@@ -203,7 +204,7 @@ module _ (w : WorldValue) (c : CampaignValue) (n i : ℕ) (m : Market) (r : Regi
   balanced : Balances c → Balances (with_amount filled Stocked (Item i) (pos more))
   balanced old t =
       ap pos (total-amount filled Stocked (Item i) t (pos more)) ∙ ap pos (filled_total t) ∙ added (thing_index t == 2 + i) (total c t) (booked c.books t) (old t)
-      ∙ sym (booked-after_booking (things_of w) c.books Stocked (Item i) (pos more) steady.numbers.books inside t)
+      ∙ sym (booked-after_booking c.books Stocked (Item i) (pos more) t)
     where
       added : (b : Bool) (x : ℕ) (z : ℤ) → pos x ≡ z → pos (x + cond b more 0) ≡ z +ℤ cond b (pos more) (pos 0)
       added true x z e = omega (arith, ints, e)
@@ -214,10 +215,10 @@ module _ (w : WorldValue) (c : CampaignValue) (n i : ℕ) (m : Market) (r : Regi
   market_leaves_well =
       subst (λ s. LeavesWell IsSteady (moves_only most_amount Stocked (Item i)) w c (with_amount (with_stock c n i (s + restock m s)) Stocked (Item i) (pos (restock m s)))) (sym stock_is)
       (record {
-        leaves_it = steady-amount w filled Stocked (Item i) (pos more) filled_steady;
+        leaves_it = steady-amount w filled Stocked (Item i) (pos more) inside filled_steady;
         same_month = same_month_by refl;
         balances = balanced;
-        near = booked-near (things_of w) c.books Stocked (Item i) (pos more) most_amount steady.numbers.books inside (within-pos more most_amount (omega (arith, stock_fits, known.limit)));
+        near = booked-near c.books Stocked (Item i) (pos more) most_amount (within-pos more most_amount (omega (arith, stock_fits, known.limit)));
       })
 
 -- ---- all markets of a region
@@ -293,10 +294,8 @@ room_for_market x xs c room = room_less (moves_only most_amount Stocked (Item x.
 pub room_behind_market : (w : WorldValue) (n : ℕ) → IsThere w.regions n → (x : ℕ × Market) (xs : List (ℕ × Market)) (c : CampaignValue) → IsOf w n x.0 x.1 → IsSteady w c → HaveRoom (stocking (x ∷ xs)) c → HaveRoom (stocking xs) (after_market_restock n c x)
 room_behind_market w n there x xs c of steady room = room_behind (moves_only most_amount Stocked (Item x.0)) (stocking xs) w c (after_market_restock n c x) (one_leaves_well w n there c x of steady) room
 
-pub market_marks : (things stock more n i : ℕ) (c d e : MarkedCampaign) → d.value ≡ with_stock c.value n i (stock + more) → d.marks ≡ mark_stock c n i (stock + more)
-    → e.value ≡ with_amount d.value Stocked (Item i) (pos more) → e.marks ≡ mark_amount d Stocked (Item i)
-    → IsGrid things c.value.books → 2 + i < things → MarksChanges c e
-market_marks things stock more n i c d e d_is d_marks e_is e_marks grid inside =
-    let books : d.value.books ≡ c.value.books = ap (λ (s : CampaignValue). s.books) d_is in
+pub market_marks : (stock more n i : ℕ) (c d e : MarkedCampaign) → d.value ≡ with_stock c.value n i (stock + more) → d.marks ≡ mark_stock c n i (stock + more)
+    → e.value ≡ with_amount d.value Stocked (Item i) (pos more) → e.marks ≡ mark_amount d Stocked (Item i) → MarksChanges c e
+market_marks stock more n i c d e d_is d_marks e_is e_marks =
     marks-trans c d e (marks_by c d _ d_is d_marks (marks-stock c n i (stock + more)))
-    (marks_by d e _ e_is e_marks (marks-amount things d Stocked (Item i) (pos more) (rw books grid) inside))
+    (marks_by d e _ e_is e_marks (marks-amount d Stocked (Item i) (pos more)))

@@ -1,6 +1,6 @@
 -- The season leaves a campaign well.
 use Rattle.std.proofs.Common.{◌≡◌, ◌==◌, ◌&&◌, ℕ, ◌+◌, ◌-◌, ◌*◌, ◌/◌, ◌%◌, ◌≤◌, min, Bool, true, false, cond, Option, Some, None, List, [], ◌∷◌, length, map, refl, sym, ap, subst, ◌∙◌, arith}
-use Rattle.std.specs.Prelude.{ℤ, pos, ◌+ℤ◌, fold, zip, option_and_then, if◌then◌else◌}
+use Rattle.std.specs.Prelude.{pos, ◌+ℤ◌, fold, zip, option_and_then, if◌then◌else◌}
 use Rattle.std.specs.List.{slice_get}
 use Rattle.std.specs.FinMap.{entries, get, len-entries}
 use Rattle.std.specs.Option.{option_map_or}
@@ -17,8 +17,7 @@ use Rattle.atl_records.specs.declared.books.Entry.TheVariants.{Births, Income, S
 use Rattle.atl_records.specs.declared.books.Thing.{Thing}
 use Rattle.atl_records.specs.declared.books.Thing.TheVariants.{Money, People, Item}
 use Rattle.atl_records.specs.declared.records.Region.{Region}
-use Rattle.atl_records.specs.Books.{IsGrid, amount_in, entry_index, after_booking, amount_number}
-use Rattle.atl_state.specs.Founding.{things_of}
+use Rattle.atl_records.specs.Books.{BooksValue, amount_in, entry_index, after_booking, amount_number}
 use Rattle.atl_state.specs.Good.{IsSteady}
 use Rattle.atl_records.specs.Holdings.{amount_of}
 use Rattle.atl_state.specs.Covers.{MarksChanges}
@@ -26,7 +25,7 @@ use Rattle.atl_state.specs.Marking.{mark_amount, mark_region}
 use Rattle.atl_state.specs.Campaign.{MarkedCampaign, CampaignValue, with_amount, with_peasants, with_region_money}
 use Rattle.atl_records.specs.Amounts.{region_amount}
 use Rattle.atl_state.specs.Totals.{Balances, total}
-use Rattle.atl_records.proofs.BookLaws.{IsGrid-after_booking, booked-after_booking, share_of}
+use Rattle.atl_records.proofs.BookLaws.{booked-after_booking, share_of}
 use Rattle.atl_state.proofs.CoverLaws.{marks-amount, marks-region, marks-trans}
 use Rattle.atl_state.proofs.RegionLaws.{IsRegion-money, IsRegion-peasants, region-changed, steady-amount, steady-region, total-amount, total-region}
 use Rattle.atl_records.proofs.EveryLaws.{none_some}
@@ -76,7 +75,7 @@ module _ (w : WorldValue) (c : CampaignValue) (n : ℕ) (r : Region) (born earne
   growth_steady p m old =
       let grown = IsRegion-peasants r (r.peasants + born) p (old.numbers.regions n r is) in
       let stocks = old.known.markets n r is in
-      steady-amount w counted Income Money (pos earned) (steady-amount w paid Births People (pos born)
+      steady-amount w counted Income Money (pos earned) (omega arith) (steady-amount w paid Births People (pos born) (omega arith)
       (steady-region more_money peopled n (more_people r) peopled_there w (IsRegion-money (more_people r) (r.money + earned) m grown) stocks (steady-region more_people c n r is w grown stocks old)))
 
   total_grown : (t : Thing) → pos (total (with_growth c n r.peasants r.money born earned) t) ≡ (pos (total c t) +ℤ share_of t People (pos born)) +ℤ share_of t Money (pos earned)
@@ -102,35 +101,31 @@ module _ (w : WorldValue) (c : CampaignValue) (n : ℕ) (r : Region) (born earne
           zeros : (x : ℕ) → (pos x +ℤ pos 0) +ℤ pos 0 ≡ pos x
           zeros x = omega (arith, ints)
 
-  module _ (grid : IsGrid (things_of w) c.books) where
-    abbrev one_booked : List (List ℤ)
-    one_booked = after_booking c.books Births People (pos born)
+  abbrev one_booked : BooksValue
+  one_booked = after_booking c.books Births People (pos born)
 
-    grid_one : IsGrid (things_of w) one_booked
-    grid_one = IsGrid-after_booking (things_of w) c.books Births People (pos born) grid
+  growth_balances : Balances c → Balances (with_growth c n r.peasants r.money born earned)
+  growth_balances old t =
+      total_grown t
+      ∙ ap (λ z. (z +ℤ share_of t People (pos born)) +ℤ share_of t Money (pos earned)) (old t)
+      ∙ ap (λ z. z +ℤ share_of t Money (pos earned)) (sym (booked-after_booking c.books Births People (pos born) t))
+      ∙ sym (booked-after_booking one_booked Income Money (pos earned) t)
 
-    growth_balances : Balances c → Balances (with_growth c n r.peasants r.money born earned)
-    growth_balances old t =
-        total_grown t
-        ∙ ap (λ z. (z +ℤ share_of t People (pos born)) +ℤ share_of t Money (pos earned)) (old t)
-        ∙ ap (λ z. z +ℤ share_of t Money (pos earned)) (sym (booked-after_booking (things_of w) c.books Births People (pos born) grid (omega arith) t))
-        ∙ sym (booked-after_booking (things_of w) one_booked Income Money (pos earned) grid_one (omega arith) t)
-
-    growth_near : born ≤ most_amount → earned ≤ most_amount → (e : Entry) (t : Thing) → IsNear (grows_by most_amount e t) (amount_in c.books e t) (amount_in (with_growth c n r.peasants r.money born earned).books e t)
-    growth_near b m e t =
-        let people = moves_only most_amount Births People e t in
-        let money = moves_only most_amount Income Money e t in
-        near_more (people + money) (money + people) _ _ (omega arith)
-        (near_twice people money _ _ _
-        (booked-near (things_of w) c.books Births People (pos born) most_amount grid (omega arith) (within-pos born most_amount b) e t)
-        (booked-near (things_of w) one_booked Income Money (pos earned) most_amount grid_one (omega arith) (within-pos earned most_amount m) e t))
+  growth_near : born ≤ most_amount → earned ≤ most_amount → (e : Entry) (t : Thing) → IsNear (grows_by most_amount e t) (amount_in c.books e t) (amount_in (with_growth c n r.peasants r.money born earned).books e t)
+  growth_near b m e t =
+      let people = moves_only most_amount Births People e t in
+      let money = moves_only most_amount Income Money e t in
+      near_more (people + money) (money + people) _ _ (omega arith)
+      (near_twice people money _ _ _
+      (booked-near c.books Births People (pos born) most_amount (within-pos born most_amount b) e t)
+      (booked-near one_booked Income Money (pos earned) most_amount (within-pos earned most_amount m) e t))
 
   pub growth_leaves_well : r.peasants + born ≤ most_amount → r.money + earned ≤ most_amount → IsSteady w c → LeavesWell IsSteady (grows_by most_amount) w c (with_growth c n r.peasants r.money born earned)
   growth_leaves_well p m steady = record {
     leaves_it = growth_steady p m steady;
     same_month = same_month_by refl;
-    balances = growth_balances steady.numbers.books;
-    near = growth_near steady.numbers.books (omega arith) (omega arith);
+    balances = growth_balances;
+    near = growth_near (omega arith) (omega arith);
   }
 
 -- there is room for the births first as well
@@ -139,22 +134,16 @@ births_first c room = room_less (both_move (moves_only most_amount Births People
 
 -- ---- what the growth of a region marks
 
-pub growth_marks : (things : ℕ) (c d e f g : MarkedCampaign) (n peasants money born earned : ℕ)
+pub growth_marks : (c d e f g : MarkedCampaign) (n peasants money born earned : ℕ)
     → d.value ≡ with_peasants c.value n peasants → d.marks ≡ mark_region c n
     → e.value ≡ with_region_money d.value n money → e.marks ≡ mark_region d n
     → f.value ≡ with_amount e.value Births People (pos born) → f.marks ≡ mark_amount e Births People
-    → g.value ≡ with_amount f.value Income Money (pos earned) → g.marks ≡ mark_amount f Income Money
-    → IsGrid things c.value.books → 2 ≤ things → MarksChanges c g
-growth_marks things c d e f g n peasants money born earned d_is d_marks e_is e_marks f_is f_marks g_is g_marks grid two =
-    let d_books : d.value.books ≡ c.value.books = ap (λ (s : CampaignValue). s.books) d_is in
-    let e_books : e.value.books ≡ c.value.books = ap (λ (s : CampaignValue). s.books) e_is ∙ d_books in
-    let f_books : f.value.books ≡ after_booking e.value.books Births People (pos born) = ap (λ (s : CampaignValue). s.books) f_is in
-    let e_grid : IsGrid things e.value.books = rw e_books grid in
-    let f_grid : IsGrid things f.value.books = rw f_books (IsGrid-after_booking things e.value.books Births People (pos born) e_grid) in
+    → g.value ≡ with_amount f.value Income Money (pos earned) → g.marks ≡ mark_amount f Income Money → MarksChanges c g
+growth_marks c d e f g n peasants money born earned d_is d_marks e_is e_marks f_is f_marks g_is g_marks =
     marks-trans c d g (marks_by c d _ d_is d_marks (marks-region (λ r. record r { peasants = peasants }) (λ r. refl) c n))
     (marks-trans d e g (marks_by d e _ e_is e_marks (marks-region (λ r. record r { money = money }) (λ r. refl) d n))
-    (marks-trans e f g (marks_by e f _ f_is f_marks (marks-amount things e Births People (pos born) e_grid (omega arith)))
-    (marks_by f g _ g_is g_marks (marks-amount things f Income Money (pos earned) f_grid (omega arith)))))
+    (marks-trans e f g (marks_by e f _ f_is f_marks (marks-amount e Births People (pos born)))
+    (marks_by f g _ g_is g_marks (marks-amount f Income Money (pos earned)))))
 
 -- ---- the terrains of a world
 

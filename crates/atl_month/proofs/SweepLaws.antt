@@ -10,7 +10,7 @@ use Rattle.std.specs.FinMap.{FinMap, entries, get, get-entries, len}
 use Rattle.atl_tables.specs.Worlds.{WorldValue}
 use Rattle.atl_tables.specs.Limits.{most_amount}
 use Rattle.atl_tables.specs.Sums.{numbers_where}
-use Rattle.atl_records.specs.Books.{amount_in, booked, entry_index, thing_index, amount_number}
+use Rattle.atl_records.specs.Books.{BooksValue, amount_in, booked, entry_index, thing_index, amount_number}
 use Rattle.atl_records.specs.declared.books.Entry.{Entry}
 use Rattle.atl_records.specs.declared.books.Entry.TheVariants.{Lost}
 use Rattle.atl_records.specs.declared.books.Thing.{Thing}
@@ -180,7 +180,7 @@ module _ (w : WorldValue) (c : CampaignValue) (n : ℕ) (u : Unit) (is : get c.u
       let only = only_reduced w passed n u there_still in
       rest (total swept s) (unit_amount s u.holding) (total passed s) (owing_all u.holding s) (booked passed.books s) total_is
       (all_owed u.holding none s) before
-      ∙ ap (λ (books : List (List ℤ)). booked books s) (sym only.books)
+      ∙ ap (λ (books : BooksValue). booked books s) (sym only.books)
     where
       plain : (z : ℤ) → z ≡ z +ℤ pos 0
       plain z = omega (arith, ints)
@@ -209,7 +209,7 @@ module _ (w : WorldValue) (c : CampaignValue) (n : ℕ) (u : Unit) (is : get c.u
         };
         balances = balanced;
         near = λ e s.
-            subst (λ (books : List (List ℤ)). IsNear (loses_by most_amount e s) (amount_in c.books e s) (amount_in books e s)) (sym only.books)
+            subst (λ (books : BooksValue). IsNear (loses_by most_amount e s) (amount_in c.books e s) (amount_in books e s)) (sym only.books)
             (near_more (moving_all u.holding e s) (loses_by most_amount e s) (amount_in c.books e s) (amount_in passed.books e s)
             (moves_little e s)
             (passing.near e s));

@@ -1,11 +1,11 @@
 -- What the code of the sweep marks, and how far it may book.
-use Rattle.std.proofs.Common.{◌≡◌, ◌≢◌, ℕ, suc, ◌+◌, ◌-◌, ◌≤◌, ◌<◌, List, ◌∷◌, length, Option, Some, refl, sym, ap, arith}
+use Rattle.std.proofs.Common.{◌≡◌, ◌≢◌, ℕ, suc, ◌+◌, ◌-◌, ◌<◌, List, ◌∷◌, length, Option, Some, refl, sym, ap, arith}
 use Rattle.std.specs.Prelude.{pos, neg_ℤ}
 use Rattle.std.specs.FinMap.{entries, get}
 use Rattle.std.specs.Option.{option_map_or}
 use Rattle.atl_tables.specs.Worlds.{WorldValue}
 use Rattle.atl_tables.specs.Limits.{most_amount}
-use Rattle.atl_records.specs.Books.{IsGrid, amount_in, thing_index}
+use Rattle.atl_records.specs.Books.{amount_in}
 use Rattle.atl_state.specs.Covers.{MarksChanges}
 use Rattle.atl_records.specs.declared.books.Entry.{Entry}
 use Rattle.atl_records.specs.declared.books.Entry.TheVariants.{Lost}
@@ -30,21 +30,18 @@ use Rattle.atl_month.proofs.SweepLaws.{moves_little, moving_all}
 
 -- ---- marks
 
-pub lost_marks : (things amount : ℕ) (c d : MarkedCampaign) (t : Thing) → IsGrid things c.value.books → thing_index t < things
-    → d.value ≡ with_lost c.value t amount → d.marks ≡ mark_amount c Lost t → MarksChanges c d
-lost_marks things amount c d t grid inside what marks =
+pub lost_marks : (amount : ℕ) (c d : MarkedCampaign) (t : Thing) → d.value ≡ with_lost c.value t amount → d.marks ≡ mark_amount c Lost t → MarksChanges c d
+lost_marks amount c d t what marks =
     marks_by c d (record { value = with_lost c.value t amount; marks = mark_amount c Lost t }) what marks
-    (marks-amount things c Lost t (neg_ℤ (pos amount)) grid inside)
+    (marks-amount c Lost t (neg_ℤ (pos amount)))
 
-pub money_marks : (things money lost to : ℕ) (c d e : MarkedCampaign) → d.value ≡ with_money c.value to money → d.marks ≡ mark_unit_row c to
-    → e.value ≡ with_lost d.value Money lost → e.marks ≡ mark_amount d Lost Money
-    → IsGrid things c.value.books → 2 ≤ things → MarksChanges c e
-money_marks things money lost to c d e d_is d_marks e_is e_marks grid two =
-    let books : d.value.books ≡ c.value.books = ap (λ (s : CampaignValue). s.books) d_is in
+pub money_marks : (money lost to : ℕ) (c d e : MarkedCampaign) → d.value ≡ with_money c.value to money → d.marks ≡ mark_unit_row c to
+    → e.value ≡ with_lost d.value Money lost → e.marks ≡ mark_amount d Lost Money → MarksChanges c e
+money_marks money lost to c d e d_is d_marks e_is e_marks =
     marks-trans c d e
     (marks_by c d (record { value = with_money c.value to money; marks = mark_unit_row c to }) d_is d_marks
     (marks-unit_row (λ u. record u { holding = record u.holding { money = money } }) (λ u. refl) c to))
-    (lost_marks things lost d e Money (rw books grid) (omega (arith, two)) e_is e_marks)
+    (lost_marks lost d e Money e_is e_marks)
 
 pub gone_marks : (c d : MarkedCampaign) (n : ℕ) → d.value ≡ with_gone c.value n → d.marks ≡ mark_faction c n → MarksChanges c d
 gone_marks c d n what marks = marks_by c d (record { value = with_gone c.value n; marks = mark_faction c n }) what marks (marks-gone_faction c n)

@@ -21,9 +21,8 @@ use Rattle.atl_records.specs.declared.books.Entry.TheVariants.{Starved, Upkeep}
 use Rattle.atl_records.specs.declared.books.Thing.{Thing}
 use Rattle.atl_records.specs.declared.books.Thing.TheVariants.{Money, People, Item}
 use Rattle.atl_records.specs.declared.records.Unit.{Unit}
-use Rattle.atl_records.specs.Books.{IsGrid, amount_in, after_booking, amount_number}
+use Rattle.atl_records.specs.Books.{BooksValue, amount_in, after_booking, amount_number}
 use Rattle.atl_state.specs.Covers.{MarksChanges}
-use Rattle.atl_state.specs.Founding.{things_of}
 use Rattle.atl_records.specs.Every.{EachOf, Every}
 use Rattle.atl_state.specs.Good.{IsSteady, guards}
 use Rattle.atl_records.specs.Holdings.{AreAmounts, HoldingValue, amount_of, with_amount_of}
@@ -34,7 +33,7 @@ use Rattle.atl_state.specs.Campaign.{MarkedCampaign, CampaignValue, with_amount,
 use Rattle.atl_records.specs.Amounts.{unit_amount}
 use Rattle.atl_state.specs.Totals.{Balances, total}
 use Rattle.atl_state.proofs.BackLaws.{Rise, entries_rise}
-use Rattle.atl_records.proofs.BookLaws.{IsGrid-after_booking, booked-after_booking, share_of}
+use Rattle.atl_records.proofs.BookLaws.{booked-after_booking, share_of}
 use Rattle.atl_state.proofs.CoverLaws.{marks-amount, marks-trans}
 use Rattle.atl_records.proofs.EveryLaws.{each-from_every, every-empty, get-insert_other}
 use Rattle.atl_state.proofs.HoldingLaws.{MayHold, steady-unit_amount, total-unit_amount}
@@ -177,8 +176,8 @@ module _ (w : WorldValue) (c : CampaignValue) (s : UpkeepResult) (u : Unit) (is 
 
   after_steady : IsSteady w after
   after_steady =
-      steady-amount w paid_off Starved People (neg_ℤ (pos s.starved))
-      (steady-amount w held_back Upkeep Money (neg_ℤ (pos s.paid)) (steady-unit_amount w c s.unit u now is may_hold steady))
+      steady-amount w paid_off Starved People (neg_ℤ (pos s.starved)) (omega arith)
+      (steady-amount w held_back Upkeep Money (neg_ℤ (pos s.paid)) (omega arith) (steady-unit_amount w c s.unit u now is may_hold steady))
 
   total_after : (t : Thing)
       → pos (total after t) ≡ (pos (total c t) +ℤ share_of t Money (neg_ℤ (pos s.paid))) +ℤ share_of t People (neg_ℤ (pos s.starved))
@@ -212,22 +211,16 @@ module _ (w : WorldValue) (c : CampaignValue) (s : UpkeepResult) (u : Unit) (is 
           zeros : (x : ℕ) → (pos x +ℤ pos 0) +ℤ pos 0 ≡ pos x
           zeros x = omega (arith, ints)
 
-  abbrev one_booked : List (List ℤ)
+  abbrev one_booked : BooksValue
   one_booked = after_booking c.books Upkeep Money (neg_ℤ (pos s.paid))
-
-  grid : IsGrid (things_of w) c.books
-  grid = steady.numbers.books
-
-  grid_one : IsGrid (things_of w) one_booked
-  grid_one = IsGrid-after_booking (things_of w) c.books Upkeep Money (neg_ℤ (pos s.paid)) grid
 
   upkeep_balances : Balances c → Balances after
   upkeep_balances before t =
       total_after t
       ∙ ap (λ z. (z +ℤ share_of t Money (neg_ℤ (pos s.paid))) +ℤ share_of t People (neg_ℤ (pos s.starved))) (before t)
       ∙ ap (λ z. z +ℤ share_of t People (neg_ℤ (pos s.starved)))
-      (sym (booked-after_booking (things_of w) c.books Upkeep Money (neg_ℤ (pos s.paid)) grid (omega arith) t))
-      ∙ sym (booked-after_booking (things_of w) one_booked Starved People (neg_ℤ (pos s.starved)) grid_one (omega arith) t)
+      (sym (booked-after_booking c.books Upkeep Money (neg_ℤ (pos s.paid)) t))
+      ∙ sym (booked-after_booking one_booked Starved People (neg_ℤ (pos s.starved)) t)
 
   pub few_paid : s.paid ≤ most_amount
   few_paid = omega (arith, spare.paid, (steady.numbers.units s.unit u is).1.money)
@@ -238,9 +231,9 @@ module _ (w : WorldValue) (c : CampaignValue) (s : UpkeepResult) (u : Unit) (is 
   upkeep_near : (e : Entry) (t : Thing) → IsNear (takes_up_to most_amount e t) (amount_in c.books e t) (amount_in after.books e t)
   upkeep_near e t =
       near_twice (moves_only most_amount Upkeep Money e t) (moves_only most_amount Starved People e t) _ _ _
-      (booked-near (things_of w) c.books Upkeep Money (neg_ℤ (pos s.paid)) most_amount grid (omega arith)
+      (booked-near c.books Upkeep Money (neg_ℤ (pos s.paid)) most_amount
       (within-neg s.paid most_amount few_paid) e t)
-      (booked-near (things_of w) one_booked Starved People (neg_ℤ (pos s.starved)) most_amount grid_one (omega arith)
+      (booked-near one_booked Starved People (neg_ℤ (pos s.starved)) most_amount
       (within-neg s.starved most_amount few_starved) e t)
 
   unit_leaves_well : LeavesWell IsSteady (takes_up_to most_amount) w c after
@@ -424,13 +417,10 @@ starved_supplied s h some fewer listed = by_men ((h.men - s.starved) == h.men) r
 
 -- ---- what is marked
 
-pub upkeep_marks : (things : ℕ) (c d e f : MarkedCampaign) (s : UpkeepResult) (x y : ℤ)
+pub upkeep_marks : (c d e f : MarkedCampaign) (s : UpkeepResult) (x y : ℤ)
     → MarksChanges c d → e.value ≡ with_amount d.value Upkeep Money x → e.marks ≡ mark_amount d Upkeep Money
-    → f.value ≡ with_amount e.value Starved People y → f.marks ≡ mark_amount e Starved People
-    → IsGrid things d.value.books → 2 ≤ things → MarksChanges c f
-upkeep_marks things c d e f s x y d_marks e_is e_marks f_is f_marks grid two =
-    let e_books : e.value.books ≡ after_booking d.value.books Upkeep Money x = ap (λ (s : CampaignValue). s.books) e_is in
-    let e_grid : IsGrid things e.value.books = rw e_books (IsGrid-after_booking things d.value.books Upkeep Money x grid) in
+    → f.value ≡ with_amount e.value Starved People y → f.marks ≡ mark_amount e Starved People → MarksChanges c f
+upkeep_marks c d e f s x y d_marks e_is e_marks f_is f_marks =
     marks-trans c d f d_marks
-    (marks-trans d e f (marks_by d e _ e_is e_marks (marks-amount things d Upkeep Money x grid (omega arith)))
-    (marks_by e f _ f_is f_marks (marks-amount things e Starved People y e_grid (omega arith))))
+    (marks-trans d e f (marks_by d e _ e_is e_marks (marks-amount d Upkeep Money x))
+    (marks_by e f _ f_is f_marks (marks-amount e Starved People y)))

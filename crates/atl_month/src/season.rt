@@ -1,8 +1,7 @@
 //! The season of a month: births, income and new goods of markets. See docs/RULES.md, "Season".
-ghost use Rattle.std.specs.Prelude.{ℕ, ◌≡◌, ◌≤◌, ◌<◌, ◌+◌, OnOk};
+ghost use Rattle.std.specs.Prelude.{◌≡◌, ◌≤◌, ◌<◌, ◌+◌, OnOk};
 ghost use Rattle.atl_tables.specs.Worlds.{IsWorld};
 ghost use Rattle.atl_tables.specs.Limits.{most_amount, most_growth};
-ghost use Rattle.atl_records.specs.Books.{IsGrid};
 ghost use Rattle.atl_state.specs.Covers.{MarksChanges};
 ghost use Rattle.atl_state.specs.Good.{IsSteady};
 ghost use Rattle.atl_instant.specs.Meaning.{most_moved};
@@ -41,7 +40,7 @@ fn income(per_peasant: u32, limit: u32, peasants: u32, money: u32) -> u32
 
 /// A region with so many peasants and so much money grows by births and income, which are booked.
 fn grow(campaign: &mut Campaign, number: u32, peasants: u32, money: u32, born: u32, earned: u32)
-    requires grid { (things : ℕ) × (2 ≤ things) × IsGrid things campaign.old.value.books }
+    requires things { 2 ≤ campaign.old.value.books.things }
     requires room { HaveRoom (grows_by most_amount) campaign.old.value }
     requires peasants { peasants + born ≤ most_amount }
     requires money { money + earned ≤ most_amount }

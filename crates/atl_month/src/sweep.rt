@@ -1,8 +1,8 @@
 //! The sweep of a month: removes units without men, and factions without units. See docs/RULES.md,
 //! "Sweep".
-ghost use Rattle.std.specs.Prelude.{ℕ, ◌≡◌, ◌≤◌, ◌<◌, ◌+◌, IfOk, OnOk, fold, length};
+ghost use Rattle.std.specs.Prelude.{◌≡◌, ◌≤◌, ◌<◌, ◌+◌, IfOk, OnOk, fold, length};
 ghost use Rattle.atl_tables.specs.Limits.{most_amount};
-ghost use Rattle.atl_records.specs.Books.{IsGrid, amount_in, thing_index};
+ghost use Rattle.atl_records.specs.Books.{amount_in, thing_index};
 ghost use Rattle.atl_state.specs.Covers.{MarksChanges};
 ghost use Rattle.atl_records.specs.Every.{EachOf};
 ghost use Rattle.atl_state.specs.Good.{IsSteady};
@@ -35,7 +35,7 @@ fn accepted_of(amount: u32, have: u32) -> u32
 
 /// An amount is lost.
 fn lose(campaign: &mut Campaign, thing: Thing, amount: u32)
-    requires there { thing_index thing < length campaign.old.value.books }
+    requires there { thing_index thing < campaign.old.value.books.things }
     requires room { HasRoom amount (amount_in campaign.old.value.books Lost thing) }
     ensures what { campaign.new.value ≡ with_lost campaign.old.value thing amount }
     ensures marks { campaign.new.marks ≡ mark_amount campaign.old Lost thing }
@@ -46,7 +46,7 @@ fn lose(campaign: &mut Campaign, thing: Thing, amount: u32)
 /// Money goes to a unit, up to its room, and the rest is lost.
 #[tactic(auto, unfolding(crate::specs::Sweep::after_passing_money))]
 fn pass_money(campaign: &mut Campaign, to: u32, amount: u32)
-    requires grid { (things : ℕ) × (2 ≤ things) × IsGrid things campaign.old.value.books }
+    requires things { 2 ≤ campaign.old.value.books.things }
     requires room { HasRoom amount (amount_in campaign.old.value.books Lost Money) }
     ensures what { campaign.new.value ≡ after_passing_money campaign.old.value to amount }
     ensures marks { MarksChanges campaign.old campaign.new }

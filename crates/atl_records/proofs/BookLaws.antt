@@ -1,136 +1,198 @@
 -- How the books change as an amount is booked.
-use Rattle.std.proofs.Common.{◌≡◌, ◌==◌, ℕ, zero, suc, ◌≤◌, ◌<◌, true, false, cond, List, [], ◌∷◌, length, get_or, set, refl, sym, ap, ◌∙◌, arith, inl, inr, ◌⊎◌, ◌+◌}
-use Rattle.std.specs.Prelude.{ℤ, pos, ◌+ℤ◌, replicate}
+use Rattle.std.proofs.Common.{◌≡◌, ◌≢◌, ◌==◌, ℕ, zero, suc, ◌≤◌, ◌<◌, ◌+◌, true, false, cond, List, [], ◌∷◌, map, Option, Some, None, refl, sym, ap, ◌∙◌, arith, inl, inr, ◌⊎◌}
+use Rattle.std.specs.Prelude.{ℤ, pos, negsuc, ◌+ℤ◌, unwrap_or}
+use Rattle.std.specs.Ordering.{eq_by_cmp}
+use Rattle.std.specs.FinMap.{get, get-empty, get-insert, get-remove, insert, remove, same_map}
 use Rattle.std.proofs.lemmas.Int.{ints}
-use Rattle.std.proofs.lemmas.List.{get_or-set_same, get_or-set_other, get_or_past, get_or-replicate, length-set, length-replicate}
-use Rattle.std.proofs.lemmas.List.Elements.{All-replicate}
-use Rattle.std.proofs.lemmas.Bool.{cases_eq, cases_lt}
+use Rattle.std.proofs.lemmas.Bool.{cases_eq, false≢true}
 use Rattle.std.proofs.lemmas.Bool.Decides.{nat_tests}
-use Rattle.atl_records.specs.Limits.{entry_count}
 use Rattle.atl_records.specs.declared.books.Entry.{Entry}
+use Rattle.atl_records.specs.declared.books.Entry.TheVariants.{Founding}
 use Rattle.atl_records.specs.declared.books.Thing.{Thing}
-use Rattle.atl_records.specs.declared.books.Thing.TheVariants.{Money, People, Item}
-use Rattle.atl_records.specs.Books.{entry_index, thing_index, thing_at, row_of, amount_in, after_booking, row_sum, booked, no_amounts, IsGrid, IsWithin, IsSmall}
-use Rattle.atl_records.proofs.EveryEntryLaws.{entry_small}
+use Rattle.atl_records.specs.Books.{Account, BooksValue, account_cmp, all_entries, entry_index, is_zero, thing_index, amount_in, with_amount, after_booking, sum_of, booked, no_amounts, AreBooks, IsWithin, IsSmall}
+use Rattle.atl_records.proofs.AccountLaws.{account_total, account_same, account_itself, cases_account, apart_entries, apart_things, same_account}
+use Rattle.atl_records.proofs.EveryLaws.{none_some}
 
-pub place_at : (i : ℕ) → thing_index (thing_at i) ≡ i
-place_at zero = refl
-place_at (suc zero) = refl
-place_at (suc (suc i)) = omega arith
+-- ---- amounts of 0
 
-pub at_place : (t : Thing) → thing_at (thing_index t) ≡ t
-at_place Money = refl
-at_place People = refl
-at_place (Item i) = item_at (2 + i) i (omega arith)
-  where
-    item_at : (n i : ℕ) → n ≡ suc (suc i) → thing_at n ≡ Item i
-    item_at n i is = ap thing_at is
+pub zero_is : (z : ℤ) → is_zero z ≡ true → z ≡ pos 0
+zero_is (pos zero) h = refl
+zero_is (pos (suc n)) h = let none : (suc n == 0) ≡ false = grind (arith, nat_tests) in absurd (false≢true (sym none ∙ h))
+zero_is (negsuc n) h = absurd (false≢true h)
 
-regroup : (x y n : ℤ) → x +ℤ (y +ℤ n) ≡ (x +ℤ y) +ℤ n
-regroup x y n = omega (arith, ints)
+pub zero_not : (z : ℤ) → z ≢ pos 0 → is_zero z ≡ false
+zero_not z h = elim (is_zero z) as (λ b. is_zero z ≡ b → b ≡ false) [ true ↦ λ is. absurd (h (zero_is z is)) | false ↦ λ _. refl ] refl
 
-in_front : (x y n : ℤ) → (x +ℤ n) +ℤ y ≡ (x +ℤ y) +ℤ n
-in_front x y n = omega (arith, ints)
+pub not_zero : (z : ℤ) → is_zero z ≡ false → z ≢ pos 0
+not_zero z h is = false≢true (sym h ∙ ap is_zero is)
 
--- one amount more adds to the sum
-row_sum-set : (row : List ℤ) (i : ℕ) (n : ℤ) → i < length row → row_sum (set row i (get_or row i (pos 0) +ℤ n)) ≡ row_sum row +ℤ n
-row_sum-set [] i n h = absurd (omega arith)
-row_sum-set (x ∷ xs) zero n h = in_front x (row_sum xs) n
-row_sum-set (x ∷ xs) (suc i) n h = ap (λ z. x +ℤ z) (row_sum-set xs i n (omega arith)) ∙ regroup x (row_sum xs) n
+-- what is listed of an amount
+abbrev pub listed : ℤ → Option ℤ
+listed z = cond (is_zero z) None (Some z)
+
+pub amount_listed : (z : ℤ) → unwrap_or (listed z) (pos 0) ≡ z
+amount_listed z = elim (is_zero z) as (λ b. is_zero z ≡ b → unwrap_or (cond b None (Some z)) (pos 0) ≡ z) [ true ↦ λ is. sym (zero_is z is) | false ↦ λ _. refl ] refl
+
+pub listed_some : (z x : ℤ) → listed z ≡ Some x → (z ≡ x) × (x ≢ pos 0)
+listed_some z x is =
+    elim (is_zero z) as (λ b. is_zero z ≡ b → cond b None (Some z) ≡ Some x → (z ≡ x) × (x ≢ pos 0)) [
+      | true ↦ λ _ e. none_some x e
+      | false ↦ λ some e. let same : z ≡ x = cc in (same, λ none. not_zero z some (same ∙ none))
+    ] refl is
+
+-- ---- an amount in the place of another
+
+module _ (books : BooksValue) (e : Entry) (t : Thing) (z : ℤ) where
+  pub get-with_amount : (a : Account) → get (with_amount books e t z).amounts a ≡ cond (eq_by_cmp account_cmp a (e, t)) (listed z) (get books.amounts a)
+  get-with_amount a =
+      elim (is_zero z) as (λ b. get (cond b (remove books.amounts (e, t)) (insert books.amounts (e, t) z)) a ≡ cond (eq_by_cmp account_cmp a (e, t)) (cond b None (Some z)) (get books.amounts a)) [
+        | true ↦ get-remove account_total books.amounts (e, t) a
+        | false ↦ get-insert account_total books.amounts (e, t) z a
+      ]
+
+  pub amount-with_amount : (f : Entry) (u : Thing) → amount_in (with_amount books e t z) f u ≡ cond (eq_by_cmp account_cmp (f, u) (e, t)) z (amount_in books f u)
+  amount-with_amount f u =
+      ap (λ o. unwrap_or o (pos 0)) (get-with_amount (f, u)) ∙ elim (eq_by_cmp account_cmp (f, u) (e, t)) as (λ b. unwrap_or (cond b (listed z) (get books.amounts (f, u))) (pos 0) ≡ cond b z (amount_in books f u)) [
+        | true ↦ amount_listed z
+        | false ↦ refl
+      ]
+
+  pub its_amount : amount_in (with_amount books e t z) e t ≡ z
+  its_amount = amount-with_amount e t ∙ ap (λ b. cond b z (amount_in books e t)) (account_itself (e, t))
+
+  pub other_amount : (f : Entry) (u : Thing) → eq_by_cmp account_cmp (f, u) (e, t) ≡ false → amount_in (with_amount books e t z) f u ≡ amount_in books f u
+  other_amount f u apart = amount-with_amount f u ∙ ap (λ b. cond b z (amount_in books f u)) apart
+
+  pub AreBooks-with_amount : (things : ℕ) → AreBooks things books → thing_index t < things → AreBooks things (with_amount books e t z)
+  AreBooks-with_amount things old there =
+      record {
+        count = old.count;
+        listed = λ f u x is. elim (cases_account (f, u) (e, t)) [
+          | inl same ↦
+              let new = sym (ap (λ b. cond b (listed z) (get books.amounts (f, u))) (ap (λ a. eq_by_cmp account_cmp a (e, t)) same ∙ account_itself (e, t))) ∙ sym (get-with_amount (f, u)) ∙ is in
+              let its : thing_index u ≡ thing_index t = ap (λ (a : Account). thing_index a.1) same in
+              (omega (arith, there, its), (listed_some z x new).1)
+          | inr apart ↦ old.listed f u x (sym (ap (λ b. cond b (listed z) (get books.amounts (f, u))) apart) ∙ sym (get-with_amount (f, u)) ∙ is)
+        ];
+      }
+
+pub AreBooks-after_booking : (things : ℕ) (books : BooksValue) (e : Entry) (t : Thing) (n : ℤ) → AreBooks things books → thing_index t < things → AreBooks things (after_booking books e t n)
+AreBooks-after_booking things books e t n old there = AreBooks-with_amount books e t (amount_in books e t +ℤ n) things old there
+
+-- ---- what is booked of a thing
 
 -- what a booking adds to what is booked of a thing
 abbrev pub share_of : Thing → Thing → ℤ → ℤ
 share_of t u n = cond (thing_index t == thing_index u) n (pos 0)
 
+-- and to an amount of that thing
+abbrev under : Entry → ℤ → Entry → ℤ
+under e n f = cond (entry_index f == entry_index e) n (pos 0)
+
 nothing : (z : ℤ) → z ≡ z +ℤ pos 0
 nothing z = omega (arith, ints)
 
-pub booked-after_booking : (things : ℕ) (books : List (List ℤ)) (e : Entry) (u : Thing) (n : ℤ) → IsGrid things books → thing_index u < things → (t : Thing) → booked (after_booking books e u n) t ≡ booked books t +ℤ share_of t u n
-booked-after_booking things books e u n g h t =
-    let i = thing_index t in
-    let j = thing_index u in
-    let l = length books in
-    let inside : j < length books = omega (arith, g.rows) in
-    let wide : length (row_of books u) ≡ entry_count = g.wide j [] inside in
-    let new = set (row_of books u) (entry_index e) (amount_in books e u +ℤ n) in
-    elim (cases_eq i j) [
-      | inl same ↦
-          let there : get_or (set books j new) i [] ≡ new = ap (λ k. get_or (set books j new) k []) same ∙ get_or-set_same books j new [] inside in
-          let tested : (i == j) ≡ true = grind (arith, nat_tests) in
-          ap row_sum there ∙ row_sum-set (row_of books u) (entry_index e) n (omega (arith, wide, entry_small e))
-          ∙ ap (λ k. row_sum (get_or books k []) +ℤ n) (sym same) ∙ ap (λ b. booked books t +ℤ cond b n (pos 0)) (sym tested)
-      | inr apart ↦
-          let there : get_or (set books j new) i [] ≡ get_or books i [] = get_or-set_other books j i new [] apart in
-          let tested : (i == j) ≡ false = grind (arith, nat_tests) in
-          ap row_sum there ∙ nothing (booked books t) ∙ ap (λ b. booked books t +ℤ cond b n (pos 0)) (sym tested)
-    ]
+regroup : (x y z w : ℤ) → (x +ℤ y) +ℤ (z +ℤ w) ≡ (x +ℤ z) +ℤ (y +ℤ w)
+regroup x y z w = omega (arith, ints)
 
-pub IsGrid-after_booking : (things : ℕ) (books : List (List ℤ)) (e : Entry) (u : Thing) (n : ℤ) → IsGrid things books → IsGrid things (after_booking books e u n)
-IsGrid-after_booking things books e u n g =
-    record {
-      rows = length-set books (thing_index u) (set (row_of books u) (entry_index e) (amount_in books e u +ℤ n)) ∙ g.rows;
-      wide = λ k d h.
-          let j = thing_index u in
-          let new = set (row_of books u) (entry_index e) (amount_in books e u +ℤ n) in
-          let lt : k < length books = omega (arith, h, length-set books j new) in
-          elim (cases_eq k j) [
-            | inl same ↦
-                let inside : j < length books = omega arith in
-                ap (λ i. length (get_or (set books j new) i d)) same ∙ ap length (get_or-set_same books j new d inside) ∙ length-set (row_of books u) (entry_index e) (amount_in books e u +ℤ n) ∙ g.wide j [] inside
-            | inr apart ↦ ap length (get_or-set_other books j k new d apart) ∙ g.wide k d lt
-          ];
-    }
+sum_of-raised : (a b : Entry → ℤ) (es : List Entry) → sum_of (map (λ e. a e +ℤ b e) es) ≡ sum_of (map a es) +ℤ sum_of (map b es)
+sum_of-raised a b [] = nothing (pos 0)
+sum_of-raised a b (e ∷ es) = ap (λ z. (a e +ℤ b e) +ℤ z) (sum_of-raised a b es) ∙ regroup (a e) (b e) (sum_of (map a es)) (sum_of (map b es))
+
+once : (e : Entry) (n : ℤ) → sum_of (map (under e n) all_entries) ≡ n
+once Founding n = omega (arith, ints)
+once _ n = omega (arith, ints)
+
+module _ (books : BooksValue) (e : Entry) (u : Thing) (n : ℤ) where
+  raised : (f : Entry) → amount_in (after_booking books e u n) f u ≡ amount_in books f u +ℤ under e n f
+  raised f =
+      elim (cases_eq (entry_index f) (entry_index e)) [
+        | inl same ↦
+            let tested : (entry_index f == entry_index e) ≡ true = grind (arith, nat_tests) in
+            let at = same_account f e u u same refl in
+            ap (λ (a : Account). amount_in (after_booking books e u n) a.0 a.1) at ∙ its_amount books e u (amount_in books e u +ℤ n)
+            ∙ ap (λ (a : Account). amount_in books a.0 a.1 +ℤ n) (sym at) ∙ ap (λ b. amount_in books f u +ℤ cond b n (pos 0)) (sym tested)
+        | inr apart ↦
+            let tested : (entry_index f == entry_index e) ≡ false = grind (arith, nat_tests) in
+            other_amount books e u (amount_in books e u +ℤ n) f u (apart_entries (f, u) (e, u) apart) ∙ nothing (amount_in books f u)
+            ∙ ap (λ b. amount_in books f u +ℤ cond b n (pos 0)) (sym tested)
+      ]
+
+  raised_sum : booked (after_booking books e u n) u ≡ booked books u +ℤ n
+  unfolding booked
+  raised_sum =
+      let each : (f : Entry) → amount_in (after_booking books e u n) f u ≡ amount_in books f u +ℤ under e n f = raised in
+      (λ i. sum_of (map (λ f. each f i) all_entries)) ∙ sum_of-raised (λ f. amount_in books f u) (under e n) all_entries ∙ ap (λ z. booked books u +ℤ z) (once e n)
+
+  pub booked-after_booking : (t : Thing) → booked (after_booking books e u n) t ≡ booked books t +ℤ share_of t u n
+  unfolding booked
+  booked-after_booking t =
+      elim (cases_eq (thing_index t) (thing_index u)) [
+        | inl same ↦
+            let tested : (thing_index t == thing_index u) ≡ true = grind (arith, nat_tests) in
+            let at = same_account e e t u refl same in
+            ap (λ (a : Account). booked (after_booking books e u n) a.1) at ∙ raised_sum ∙ ap (λ (a : Account). booked books a.1 +ℤ n) (sym at) ∙ ap (λ b. booked books t +ℤ cond b n (pos 0)) (sym tested)
+        | inr apart ↦
+            let tested : (thing_index t == thing_index u) ≡ false = grind (arith, nat_tests) in
+            let each : (f : Entry) → amount_in (after_booking books e u n) f t ≡ amount_in books f t = λ f. other_amount books e u (amount_in books e u +ℤ n) f t (apart_things (f, t) (e, u) apart) in
+            (λ i. sum_of (map (λ f. each f i) all_entries)) ∙ nothing (booked books t) ∙ ap (λ b. booked books t +ℤ cond b n (pos 0)) (sym tested)
+      ]
+
+  -- a booking changes an amount by what is booked, or not at all
+  pub amount-after_booking : (f : Entry) (t : Thing) → (amount_in (after_booking books e u n) f t ≡ amount_in books f t +ℤ n) ⊎ (amount_in (after_booking books e u n) f t ≡ amount_in books f t)
+  amount-after_booking f t =
+      elim (cases_account (f, t) (e, u)) [
+        | inl same ↦
+            inl (ap (λ (a : Account). amount_in (after_booking books e u n) a.0 a.1) same ∙ its_amount books e u (amount_in books e u +ℤ n) ∙ ap (λ (a : Account). amount_in books a.0 a.1 +ℤ n) (sym same))
+        | inr apart ↦ inr (other_amount books e u (amount_in books e u +ℤ n) f t apart)
+      ]
 
 -- ---- books with nothing in them
 
-get_or-replicate_same : {A : Type 0} (n i : ℕ) (a : A) → get_or (replicate n a) i a ≡ a
-get_or-replicate_same n i a = elim (cases_lt i n) [ inl h ↦ get_or-replicate n i a a h | inr h ↦ get_or_past (replicate n a) i a (rw length-replicate h) ]
-
-pub no_row : (i : ℕ) → get_or (replicate entry_count (pos 0)) i (pos 0) ≡ pos 0
-no_row i = get_or-replicate_same entry_count i (pos 0)
-
-pub nothing_in : (P : List ℤ → Type 0) (things i : ℕ) → P (replicate entry_count (pos 0)) → P [] → P (get_or (no_amounts things) i [])
-nothing_in P things i full empty =
-    elim (cases_lt i things) [
-      | inl h ↦ rw (get_or-replicate things i (replicate entry_count (pos 0)) [] h) full
-      | inr h ↦ let past : things ≤ i = h in rw (get_or_past (no_amounts things) i [] (rw length-replicate past)) empty
-    ]
-
 pub amount-no_amounts : (things : ℕ) (e : Entry) (t : Thing) → amount_in (no_amounts things) e t ≡ pos 0
-amount-no_amounts things e t = nothing_in (λ row. get_or row (entry_index e) (pos 0) ≡ pos 0) things (thing_index t) (no_row (entry_index e)) refl
+amount-no_amounts things e t = ap (λ o. unwrap_or o (pos 0)) (get-empty {X = ℤ} account_cmp (e, t))
+
+none_booked : (books : BooksValue) (t : Thing) → ((e : Entry) → amount_in books e t ≡ pos 0) → booked books t ≡ pos 0
+unfolding booked
+none_booked books t none i = sum_of (map (λ e. none e i) all_entries)
 
 pub booked-no_amounts : (things : ℕ) (t : Thing) → booked (no_amounts things) t ≡ pos 0
-booked-no_amounts things t = nothing_in (λ row. row_sum row ≡ pos 0) things (thing_index t) refl refl
+booked-no_amounts things t = none_booked (no_amounts things) t (λ e. amount-no_amounts things e t)
 
-pub IsGrid-no_amounts : (things : ℕ) → IsGrid things (no_amounts things)
-IsGrid-no_amounts things = record { rows = length-replicate things (replicate entry_count (pos 0)); wide = All-replicate (λ (row : List ℤ). length row ≡ entry_count) things (replicate entry_count (pos 0)) refl }
+pub AreBooks-no_amounts : (things : ℕ) → AreBooks things (no_amounts things)
+AreBooks-no_amounts things = record { count = refl; listed = λ e t amount is. none_some amount (sym (get-empty {X = ℤ} account_cmp (e, t)) ∙ is) }
+
+-- ---- what books list
+
+module _ (things : ℕ) (books : BooksValue) (are : AreBooks things books) where
+  pub get-listed : (e : Entry) (t : Thing) → get books.amounts (e, t) ≡ listed (amount_in books e t)
+  get-listed e t =
+      elim (get books.amounts (e, t)) as (λ o. get books.amounts (e, t) ≡ o → o ≡ listed (unwrap_or o (pos 0))) [
+        | None ↦ λ _. refl
+        | Some z ↦ λ is. ap (λ b. cond b None (Some z)) (sym (zero_not z (are.listed e t z is).1))
+      ] refl
+
+  -- nothing is booked of what is not there
+  pub none_past : (e : Entry) (t : Thing) → things ≤ thing_index t → amount_in books e t ≡ pos 0
+  none_past e t past =
+      elim (get books.amounts (e, t)) as (λ o. get books.amounts (e, t) ≡ o → unwrap_or o (pos 0) ≡ pos 0) [
+        | None ↦ λ _. refl
+        | Some z ↦ λ is. let there = (are.listed e t z is).0 in absurd (omega arith)
+      ] refl
+
+  pub booked_past : (t : Thing) → things ≤ thing_index t → booked books t ≡ pos 0
+  booked_past t past = none_booked books t (λ e. none_past e t past)
+
+pub same_value : (a b : BooksValue) → a.things ≡ b.things → a.amounts ≡ b.amounts → a ≡ b
+same_value a b things amounts i = record { things = things i; amounts = amounts i }
+
+-- books with the same amounts are the same
+pub same_books : (things : ℕ) (a b : BooksValue) → AreBooks things a → AreBooks things b → ((e : Entry) (t : Thing) → amount_in a e t ≡ amount_in b e t) → a ≡ b
+same_books things a b are also same =
+    same_value a b (are.count ∙ sym also.count) (same_map account_total account_same a.amounts b.amounts (λ c.
+    get-listed things a are c.0 c.1 ∙ ap listed (same c.0 c.1) ∙ sym (get-listed things b also c.0 c.1)))
 
 -- ---- how great the amounts are
-
-either_at : {A : Type 0} (xs : List A) (j i : ℕ) (v d : A) → j < length xs → ((get_or (set xs j v) i d ≡ v) × (i ≡ j)) ⊎ (get_or (set xs j v) i d ≡ get_or xs i d)
-either_at xs j i v d h =
-    elim (cases_eq i j) [
-      | inl same ↦ inl (ap (λ k. get_or (set xs j v) k d) same ∙ get_or-set_same xs j v d h, same)
-      | inr apart ↦ inr (get_or-set_other xs j i v d apart)
-    ]
-
--- a booking changes an amount by what is booked, or not at all
-pub amount-after_booking : (things : ℕ) (books : List (List ℤ)) (e : Entry) (u : Thing) (n : ℤ) → IsGrid things books → thing_index u < things → (f : Entry) (t : Thing)
-    → (amount_in (after_booking books e u n) f t ≡ amount_in books f t +ℤ n) ⊎ (amount_in (after_booking books e u n) f t ≡ amount_in books f t)
-amount-after_booking things books e u n g h f t =
-    let inside : thing_index u < length books = omega (arith, g.rows) in
-    let wide : length (row_of books u) ≡ entry_count = g.wide (thing_index u) [] inside in
-    let new = amount_in books e u +ℤ n in
-    elim (either_at books (thing_index u) (thing_index t) (set (row_of books u) (entry_index e) new) [] inside) [
-      | inl row ↦
-          let here : amount_in (after_booking books e u n) f t ≡ get_or (set (row_of books u) (entry_index e) new) (entry_index f) (pos 0) = ap (λ r. get_or r (entry_index f) (pos 0)) row.0 in
-          let old : row_of books t ≡ row_of books u = ap (λ k. get_or books k []) row.1 in
-          elim (either_at (row_of books u) (entry_index e) (entry_index f) new (pos 0) (omega (arith, wide, entry_small e))) [
-            | inl there ↦ inl (here ∙ there.0 ∙ ap (λ z. z +ℤ n) (sym (ap (λ k. get_or (row_of books t) k (pos 0)) there.1 ∙ ap (λ r. get_or r (entry_index e) (pos 0)) old)))
-            | inr there ↦ inr (here ∙ there ∙ sym (ap (λ r. get_or r (entry_index f) (pos 0)) old))
-          ]
-      | inr row ↦ inr (ap (λ r. get_or r (entry_index f) (pos 0)) row)
-    ]
 
 grows : (z y : ℤ) (bound n more : ℕ) → y ≡ z +ℤ pos n → IsWithin bound z → bound + n ≤ more → IsWithin more y
 grows z y bound n more e h l = record { most = omega (arith, ints, h.most); least = omega (arith, ints, h.least) }
@@ -138,10 +200,10 @@ grows z y bound n more e h l = record { most = omega (arith, ints, h.most); leas
 stays : (z y : ℤ) (bound n more : ℕ) → y ≡ z → IsWithin bound z → bound + n ≤ more → IsWithin more y
 stays z y bound n more e h l = record { most = omega (arith, ints, h.most); least = omega (arith, ints, h.least) }
 
-pub IsWithin-after_booking : (things : ℕ) (books : List (List ℤ)) (e : Entry) (u : Thing) (n bound more : ℕ) → IsGrid things books → thing_index u < things → ((f : Entry) (t : Thing) → IsWithin bound (amount_in books f t)) → bound + n ≤ more
-    → (f : Entry) (t : Thing) → IsWithin more (amount_in (after_booking books e u (pos n)) f t)
-IsWithin-after_booking things books e u n bound more g h old l f t =
-    elim (amount-after_booking things books e u (pos n) g h f t) [
+pub IsWithin-after_booking : (books : BooksValue) (e : Entry) (u : Thing) (n bound more : ℕ) → ((f : Entry) (t : Thing) → IsWithin bound (amount_in books f t)) → bound + n ≤ more → (f : Entry) (t : Thing)
+    → IsWithin more (amount_in (after_booking books e u (pos n)) f t)
+IsWithin-after_booking books e u n bound more old l f t =
+    elim (amount-after_booking books e u (pos n) f t) [
       | inl is ↦ grows _ _ bound n more is (old f t) l
       | inr is ↦ stays _ _ bound n more is (old f t) l
     ]

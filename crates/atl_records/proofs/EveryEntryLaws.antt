@@ -6,7 +6,7 @@ use Rattle.std.proofs.lemmas.List.{get_or-map}
 use Rattle.std.proofs.lemmas.List.Folds.{list_all_at}
 use Rattle.std.proofs.lemmas.List.FromFn.{get_or-range_with_len}
 use Rattle.std.proofs.lemmas.Option.{get_or_from_slice_get, slice_get_within}
-use Rattle.atl_records.specs.Books.{all_entries, entry_index}
+use Rattle.atl_records.specs.Books.{all_entries, entry_index, entry_numbered}
 use Rattle.atl_records.specs.Limits.{entry_count}
 use Rattle.atl_records.specs.declared.books.Entry.{Entry}
 use Rattle.atl_records.specs.declared.books.Entry.TheVariants.{Founding}
@@ -15,15 +15,22 @@ pub entry_there : (e : Entry) → slice_get all_entries (entry_index e) ≡ Some
 entry_there Founding = refl
 entry_there _ = refl
 
+pub numbered_entry : (e : Entry) → entry_numbered (entry_index e + 1) ≡ Some e
+numbered_entry Founding = refl
+numbered_entry _ = refl
+
 -- there is a place for each
 pub entry_small : (e : Entry) → entry_index e < entry_count
 entry_small e = slice_get_within all_entries (entry_index e) e (entry_there e)
 
 -- and at each place stands one
-pub entry_at : (n : ℕ) → n < entry_count → (e : Entry) × (entry_index e ≡ n)
-entry_at n l =
+pub entry_in_place : (n : ℕ) → n < entry_count → entry_index (get_or all_entries n Founding) ≡ n
+entry_in_place n l =
     let place : entry_index (get_or all_entries n Founding) ≡ 0 + n = sym (get_or-map entry_index all_entries n Founding 0 l) ∙ get_or-range_with_len 0 entry_count n 0 l in
-    (get_or all_entries n Founding, omega (arith, place))
+    omega (arith, place)
+
+pub entry_at : (n : ℕ) → n < entry_count → (e : Entry) × (entry_index e ≡ n)
+entry_at n l = (get_or all_entries n Founding, entry_in_place n l)
 
 -- what a test finds of all of them is so of each
 pub each_entry : (test : Entry → Bool) → list_all test all_entries ≡ true → (e : Entry) → test e ≡ true

@@ -1,6 +1,9 @@
+pub mod AccountLaws
 pub mod BookLaws
 pub mod EveryEntryLaws
 pub mod EveryLaws
+pub mod GridLaws
 pub mod HoldingLaws
 pub mod LevelLaws
+pub mod ListedLaws
 pub mod RemovedLaws

@@ -1,6 +1,12 @@
--- The books: signed amounts, a row for each thing and an index in it for each entry. See docs/RULES.md, "Books".
-use Rattle.std.specs.Prelude.{◌≡◌, length, All, ℕ, zero, suc, ℤ, pos, negsuc, ◌+ℤ◌, ◌≤ℤ◌, ◌+◌, ◌*◌, ◌^◌, List, [], ◌∷◌, slice_index_or, slice_set, replicate}
+-- The books: of each thing a signed amount under each entry. See docs/RULES.md, "Books".
+use Rattle.std.specs.Prelude.{◌≡◌, ◌≢◌, ◌<◌, ◌==◌, ℕ, zero, suc, ℤ, pos, negsuc, ◌+ℤ◌, ◌≤ℤ◌, ◌+◌, ◌*◌, ◌^◌, Bool, false, List, [], ◌∷◌, find, map, refl, Option, Some, unwrap_or, if◌then◌else◌}
+use Rattle.std.specs.declared.cmp.Ordering.{Ordering}
+use Rattle.std.specs.Ordering.{nat_cmp, ordering_then}
+use Rattle.std.specs.Coded.{Coded, code_by, coded×, coded_ℕ, coded_ℤ}
+use Rattle.std.specs.FinMap.{FinMap, code, empty, get, insert, remove}
 use Rattle.atl_records.specs.Limits.{entry_count}
+use Rattle.atl_records.specs.contracts.books.Entry as entry
+use Rattle.atl_records.specs.contracts.books.Thing as thing
 use Rattle.atl_records.specs.declared.books.Entry.{Entry}
 use Rattle.atl_records.specs.declared.books.Entry.TheVariants.{Founding, Joining, Income, Wages, Recruiting, Study, Upkeep, Lost, Births, Starved, Left, Made, Used, Bought, Sold, Stocked}
 use Rattle.atl_records.specs.declared.books.Thing.{Thing}
@@ -24,49 +30,79 @@ entry_index Bought = 13
 entry_index Sold = 14
 entry_index Stocked = 15
 
--- in the order of their places
+-- in the order of their numbers
 abbrev pub all_entries : List Entry
 all_entries = Founding ∷ Joining ∷ Income ∷ Wages ∷ Recruiting ∷ Study ∷ Upkeep ∷ Lost ∷ Births ∷ Starved ∷ Left ∷ Made ∷ Used ∷ Bought ∷ Sold ∷ Stocked ∷ []
+
+-- the entry of this number; entries are counted from 1
+abbrev pub entry_numbered : ℕ → Option Entry
+entry_numbered n = find (λ e. entry_index e + 1 == n) all_entries
 
 abbrev pub thing_index : Thing → ℕ
 thing_index Money = 0
 thing_index People = 1
 thing_index (Item i) = 2 + i
 
--- the thing whose row stands at this place
+-- the thing of this number
 abbrev pub thing_at : ℕ → Thing
 thing_at zero = Money
 thing_at (suc zero) = People
 thing_at (suc (suc i)) = Item i
 
--- what is booked of a thing, by entry
-abbrev pub row_of : List (List ℤ) → Thing → List ℤ
-row_of books t = slice_index_or books (thing_index t) []
+-- ---- the amounts
+
+-- what an amount is booked to
+abbrev pub Account : Type 0
+Account = Entry × Thing
+
+-- by entries, and under each by things
+abbrev pub account_cmp : Account → Account → Ordering
+account_cmp a b = ordering_then (nat_cmp (entry_index a.0) (entry_index b.0)) (nat_cmp (thing_index a.1) (thing_index b.1))
+
+-- How many things there are: money, people, and the items of the world. And the amount of each account, where it is not 0.
+pub record BooksValue : Type 0 where
+  pub things : ℕ
+  pub amounts : FinMap account_cmp ℤ
+
+abbrev pub books_code : Coded BooksValue
+books_code =
+    code_by (ℕ × FinMap account_cmp ℤ) (coded× coded_ℕ (code (coded× entry.the_row.coded thing.the_row.coded) coded_ℤ))
+    (λ b. (b.things, b.amounts))
+    (λ p. record { things = p.0; amounts = p.1 })
+    (λ _. refl)
 
 -- what is booked of a thing under an entry, 0 where nothing is
-abbrev pub amount_in : List (List ℤ) → Entry → Thing → ℤ
-amount_in books e t = slice_index_or (row_of books t) (entry_index e) (pos 0)
+abbrev pub amount_in : BooksValue → Entry → Thing → ℤ
+amount_in books e t = unwrap_or (get books.amounts (e, t)) (pos 0)
+
+abbrev pub is_zero : ℤ → Bool
+is_zero (pos n) = n == 0
+is_zero (negsuc n) = false
+
+-- the books with another amount of a thing under an entry; an amount of 0 is not listed
+abbrev pub with_amount : BooksValue → Entry → Thing → ℤ → BooksValue
+with_amount books e t amount = record books { amounts = if is_zero amount then remove books.amounts (e, t) else insert books.amounts (e, t) amount }
 
 -- the books with so much more of a thing under an entry
-abbrev pub after_booking : List (List ℤ) → Entry → Thing → ℤ → List (List ℤ)
-after_booking books e t n = slice_set books (thing_index t) (slice_set (row_of books t) (entry_index e) (amount_in books e t +ℤ n))
+abbrev pub after_booking : BooksValue → Entry → Thing → ℤ → BooksValue
+after_booking books e t n = with_amount books e t (amount_in books e t +ℤ n)
 
 -- books of so many things with nothing in them
-abbrev pub no_amounts : ℕ → List (List ℤ)
-no_amounts things = replicate things (replicate entry_count (pos 0))
+abbrev pub no_amounts : ℕ → BooksValue
+no_amounts things = record { things = things; amounts = empty }
+
+abbrev pub sum_of : List ℤ → ℤ
+sum_of [] = pos 0
+sum_of (x ∷ xs) = x +ℤ sum_of xs
 
 -- all that is booked of a thing
-abbrev pub row_sum : List ℤ → ℤ
-row_sum [] = pos 0
-row_sum (x ∷ xs) = x +ℤ row_sum xs
+unfoldable pub booked : BooksValue → Thing → ℤ
+booked books t = sum_of (map (λ e. amount_in books e t) all_entries)
 
-abbrev pub booked : List (List ℤ) → Thing → ℤ
-booked books t = row_sum (row_of books t)
-
--- books of so many things, with a place for each entry
-pub record IsGrid (things : ℕ) (books : List (List ℤ)) : Type 0 where
-  pub rows : length books ≡ things
-  pub wide : All (λ row. length row ≡ entry_count) books
+-- books of so many things: an amount that is listed is of one of them, and not 0
+pub record AreBooks (things : ℕ) (books : BooksValue) : Type 0 where
+  pub count : books.things ≡ things
+  pub listed : (e : Entry) (t : Thing) (amount : ℤ) → get books.amounts (e, t) ≡ Some amount → (thing_index t < things) × (amount ≢ pos 0)
 
 -- an amount with room for another
 abbrev pub IsSmall : ℤ → Type 0
@@ -76,16 +112,6 @@ IsSmall z = (z ≤ℤ pos (2 ^ 62)) × (negsuc (2 ^ 62) ≤ℤ z)
 pub record IsWithin (bound : ℕ) (amount : ℤ) : Type 0 where
   pub most : amount ≤ℤ pos bound
   pub least : pos 0 ≤ℤ (amount +ℤ pos bound)
-
--- ---- by places
-
--- the amount of the books at these places, 0 where nothing is
-abbrev pub amount_at : List (List ℤ) → ℕ → ℕ → ℤ
-amount_at books entry thing = slice_index_or (slice_index_or books thing []) entry (pos 0)
-
--- the books with an amount at its places; where there is no such thing they stay
-abbrev pub with_amount : List (List ℤ) → ℕ → ℕ → ℤ → List (List ℤ)
-with_amount books entry thing amount = slice_set books thing (slice_set (slice_index_or books thing []) entry amount)
 
 -- the number of an amount: thing by thing, and of each thing entry by entry
 abbrev pub amount_number : Entry → Thing → ℕ

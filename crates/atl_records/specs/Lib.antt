@@ -2,6 +2,7 @@ pub mod Amounts
 pub mod Books
 pub mod Events
 pub mod Every
+pub mod Grids
 pub mod Holdings
 pub mod Levels
 pub mod Limits

@@ -1,9 +1,9 @@
 //! The books: signed amounts by entry and thing. See docs/RULES.md, "Books".
-ghost use Rattle.std.specs.Prelude.{◌≡◌, ◌<◌, ◌≤◌, ◌+◌, ◌+ℤ◌, [], All, IfOk, length};
+ghost use Rattle.std.specs.Prelude.{◌≡◌, ◌<◌, ◌≤◌, ◌+◌, ◌+ℤ◌, IfOk};
 ghost use Rattle.std.specs.Int.{w64};
 ghost use Rattle.std.specs.Int.RustNames.{FitsSigned};
-ghost use Rattle.atl_records.specs.Limits.{entry_count, most_things, possible_things};
-ghost use Rattle.atl_records.specs.Books.{entry_index, thing_index, thing_at, row_sum, amount_in, booked, after_booking, no_amounts, amount_number, with_amount, amount_at};
+ghost use Rattle.atl_records.specs.Limits.{entry_count, possible_things};
+ghost use Rattle.atl_records.specs.Books.{AreBooks, entry_index, entry_numbered, thing_index, thing_at, sum_of, amount_in, booked, after_booking, no_amounts, amount_number, with_amount};
 
 use crate::limits::{ENTRY_COUNT, FIRST_ITEM};
 use atl_tables::variants;
@@ -73,6 +73,16 @@ impl Entry {
         self as u32
     }
 
+    /// The entry of a number; None where there is none.
+    pub fn of_number(number: u32) -> Option<Entry>
+        ensures { result ≡ entry_numbered number }
+    {
+        Entry::ALL
+            .iter()
+            .copied()
+            .find(|entry| entry.number() == number)
+    }
+
     /// The place of the entry in a row.
     fn place(self) -> usize
         ensures place { result ≡ entry_index self }
@@ -97,7 +107,7 @@ impl Thing {
 
     /// The thing of a number.
     pub fn of_number(number: usize) -> Thing
-        requires { number < most_things }
+        requires { number < possible_things }
         ensures { result ≡ thing_at number }
     {
         match number {
@@ -125,7 +135,7 @@ pub fn amount_number(entry: Entry, thing: Thing) -> u32
 
 /// The sum of a row of amounts.
 fn row_sum(row: &[i64; ENTRY_COUNT]) -> i128
-    ensures { result ≡ row_sum row.now }
+    ensures { result ≡ sum_of row.now }
 {
     let mut sum = 0i128;
     for amount in row {
@@ -142,14 +152,17 @@ pub struct Books {
 }
 
 impl Model for Books {
-    ghost use Rattle.std.specs.Prelude.{◌≤◌, List, ℤ, length};
-    ghost use Rattle.atl_records.specs.Limits.{possible_things};
+    ghost use Rattle.atl_records.specs.Books.{BooksValue, books_code};
 
-    ghost Value = { List (List ℤ) };
+    ghost Value = { BooksValue };
 
-    ghost view = { λ a. a.rows.items };
+    ghost coded = { books_code };
 
-    ghost invariant = { λ a. length a.rows.items ≤ possible_things };
+    ghost use Rattle.atl_records.specs.Grids.{as_books, IsGrid};
+
+    ghost view = { λ a. as_books a.rows.items };
+
+    ghost invariant = { λ a. IsGrid a.rows.items };
 }
 
 impl Books {
@@ -168,7 +181,7 @@ impl Books {
 
     /// Books of nothing. It takes no memory.
     pub fn blank(alloc: Global) -> Books
-        ensures { result ≡ [] }
+        ensures { result ≡ no_amounts 0 }
     {
         Books {
             rows: Vec::new(alloc),
@@ -177,41 +190,34 @@ impl Books {
 
     /// How many things there are: money, people, and the items of the world.
     pub fn len(&self) -> usize
-        ensures value { result ≡ length self.now }
-        ensures few { length self.now ≤ possible_things }
+        ensures value { result ≡ self.now.things }
+        ensures few { result ≤ possible_things }
+        ensures books { AreBooks result self.now }
     {
         self.rows.len()
     }
 
     /// What came in of a thing under an entry so far, less what went: money, men and peasants, or pieces of an item.
     pub fn amount(&self, entry: Entry, thing: Thing) -> i64
-        requires { thing_index thing < length self.now }
+        requires { thing_index thing < self.now.things }
         ensures { result ≡ amount_in self.now entry thing }
     {
         self.rows[thing.place()][entry.place()]
     }
 
-    /// The amount at the places of an entry and a thing.
-    pub fn amount_at(&self, entry: usize, thing: usize) -> i64
-        requires entry { entry < entry_count }
-        requires thing { thing < length self.now }
-        ensures { result ≡ amount_at self.now entry thing }
-    {
-        self.rows[thing][entry]
-    }
-
-    /// Puts an amount at the places of an entry and a thing. It takes no memory.
-    pub fn put_at(&mut self, entry: usize, thing: usize, amount: i64)
-        requires entry { entry < entry_count }
-        requires thing { thing < length self.old }
+    /// Puts another amount of a thing under an entry. It takes no memory.
+    pub fn put(&mut self, entry: Entry, thing: Thing, amount: i64)
+        requires { thing_index thing < self.old.things }
         ensures { self.new ≡ with_amount self.old entry thing amount }
     {
-        self.rows[thing][entry] = amount;
+        let row = thing.place();
+        let place = entry.place();
+        self.rows[row][place] = amount;
     }
 
     /// All that is booked of a thing.
     pub fn sum(&self, thing: Thing) -> i128
-        requires { thing_index thing < length self.now }
+        requires { thing_index thing < self.now.things }
         ensures { result ≡ booked self.now thing }
     {
         row_sum(&self.rows[thing.place()])
@@ -219,12 +225,11 @@ impl Books {
 
     /// Adds an amount of a thing, of either sign, under an entry. It takes no memory.
     pub fn book(&mut self, entry: Entry, thing: Thing, amount: i64)
-        requires there { thing_index thing < length self.old }
+        requires there { thing_index thing < self.old.things }
         requires fits { FitsSigned w64 (amount_in self.old entry thing +ℤ amount) }
         ensures { self.new ≡ after_booking self.old entry thing amount }
     {
-        let row = thing.place();
-        let place = entry.place();
-        self.rows[row][place] += amount;
+        let booked = self.amount(entry, thing) + amount;
+        self.put(entry, thing, booked);
     }
 }

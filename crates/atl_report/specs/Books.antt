@@ -11,7 +11,7 @@ use Rattle.atl_records.specs.declared.books.Entry.{Entry}
 use Rattle.atl_records.specs.declared.books.Entry.TheVariants.{Founding, Joining, Income, Wages, Recruiting, Study, Upkeep, Lost, Births, Starved, Left, Made, Used, Bought, Sold, Stocked}
 use Rattle.atl_records.specs.declared.books.Thing.{Thing}
 use Rattle.atl_records.specs.declared.books.Thing.TheVariants.{Money, People, Item}
-use Rattle.atl_records.specs.Books.{all_entries, amount_in, thing_index}
+use Rattle.atl_records.specs.Books.{BooksValue, all_entries, amount_in, thing_index}
 use Rattle.atl_state.specs.Campaign.{CampaignValue}
 use Rattle.atl_state.specs.Totals.{total}
 use Rattle.atl_report.specs.Each.{each_text}
@@ -51,7 +51,7 @@ amount_text e amount = codes " " ▸ entry_name e ▸ codes " " ▸ signed_decim
 unfoldable pub amount_line : WorldValue → Thing → Entry → ℤ → List ℕ
 amount_line w t e amount = if int_eq amount (pos 0) then [] else thing_name w t ▸ amount_text e amount
 
-abbrev pub amount_lines : WorldValue → List (List ℤ) → Thing → List Entry → List ℕ
+abbrev pub amount_lines : WorldValue → BooksValue → Thing → List Entry → List ℕ
 amount_lines w books t = each_text (λ e. amount_line w t e (amount_in books e t))
 
 -- the line of how much all units and regions hold
@@ -73,4 +73,4 @@ books_of w c = thing_part w c Money ▸ thing_part w c People ▸ item_parts w c
 
 -- a thing of which there are books
 abbrev pub IsThing : CampaignValue → Thing → Type 0
-IsThing c t = thing_index t < length c.books
+IsThing c t = thing_index t < c.books.things

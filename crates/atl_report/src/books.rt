@@ -133,7 +133,7 @@ fn write_part(
 
 /// The parts of the items, in the order of the world.
 fn write_items(out: &mut String, world: &World, campaign: &Campaign) -> Result<(), AllocError>
-    requires things { length campaign.now.value.books ≡ things_of world.now }
+    requires things { campaign.now.value.books.things ≡ things_of world.now }
     requires countable { IsCountable campaign.now.value }
     ensures { OnOk result (string_bytes out.new
         ≡ string_bytes out.old ++ item_parts world.now campaign.now.value
@@ -150,7 +150,7 @@ fn write_items(out: &mut String, world: &World, campaign: &Campaign) -> Result<(
 /// memory. See docs/FORMATS.md, "Books".
 #[tactic(auto, unfolding(crate::specs::Books::books_of))]
 pub fn books_text(alloc: Global, world: &World, campaign: &Campaign) -> Result<String, AllocError>
-    requires things { length campaign.now.value.books ≡ things_of world.now }
+    requires things { campaign.now.value.books.things ≡ things_of world.now }
     requires countable { IsCountable campaign.now.value }
     ensures definition { IfOk result
         (λ text. string_bytes text ≡ books_of world.now campaign.now.value) }

@@ -2,7 +2,6 @@
 use Rattle.std.proofs.Common.{◌≡◌, ◌≢◌, Bool, true, false, cond, Result, Ok, Err, IfErr, refl, sym, subst, inl, inr}
 use Rattle.std.specs.Prelude.{IsErrAnd}
 use Rattle.sqlite_trees.specs.declared.store.Store.{Ghosts}
-use Rattle.sqlite.specs.declared.error.Error.{Error}
 use Rattle.sqlite.specs.Held.{Held, state}
 use Rattle.sqlite.specs.State.{HasCleanDisk}
 use Rattle.atl_store.specs.OwnStatements.{Statements}
@@ -53,7 +52,7 @@ module _ {S : Type 0} (g : Ghosts S) (own : Statements) (old new : Held S) where
   ended_by fault (Ok a) is told = tt
   ended_by fault (Err f) is told = subst (λ x. HasCause g own old new (of_write x)) (sym is) (writing_told fault told)
 
--- want of memory that ends a command before the database is asked to write
+-- lack of memory that ends a command before the database is asked to write
 pub ended_unasked : {S A : Type 0} (g : Ghosts S) (own : Statements) (conn : Held S) (r : Result A WriteFault) → IsErrAnd r (λ f. f ≡ write.Memory) → IfErr r (λ f. HasCause g own conn conn (of_write f))
 ended_unasked g own conn (Ok a) is = tt
 ended_unasked g own conn (Err f) is = subst (λ x. HasCause g own conn conn (of_write x)) (sym is) (inl refl)

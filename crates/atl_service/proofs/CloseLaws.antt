@@ -67,7 +67,7 @@ module _ (w : WorldValue) (n : ℕ) (text : List ℕ) where
       apart : (r : Reading) (fault : MailFault) → ◌≡◌ {A = Result Reading MailFault} (Ok r) (Err fault) → ⊥
       apart r fault is = cc
 
-  -- so it is refused for want of memory alone
+  -- so it is refused for lack of memory alone
   pub only_memory : (fault : MailFault) → IsMailingOf n text → Reads reading_of (Err fault) (reading w text) → fault ≡ Memory
   only_memory TooLong sent unread = absurd (not_unread TooLong sent unread)
   only_memory NoHeader sent unread = absurd (not_unread NoHeader sent unread)
@@ -221,8 +221,8 @@ sites_stay w faults events c d n is sites listed =
 
 -- ---- what the store asks for, and what is written
 
-pub few_things : (w : WorldValue) (c : CampaignValue) → IsWorld w → IsGood w c → length c.books ≤ most_things
-few_things w c world good = omega (arith, good.sound.steady.numbers.books.rows, world.few_items)
+pub few_things : (w : WorldValue) (c : CampaignValue) → IsWorld w → IsGood w c → c.books.things ≤ most_things
+few_things w c world good = omega (arith, good.sound.steady.numbers.books.count, world.few_items)
 
 -- the campaign behind the reports of a month
 pub told_is : (w : WorldValue) (c turned after : CampaignValue) (words : List ℕ) (outcome : MonthResult) → reported_to_all w turned outcome ≡ closed w c words → after ≡ reported_to_all w turned outcome → AreThere turned outcome.factions.items → IsGood w turned → (after ≡ closed w c words) × IsGood w after

@@ -7,11 +7,6 @@ use Rattle.atl_records.specs.declared.records.JoinFault.TheVariants.{NameTaken, 
 use Rattle.atl_state.specs.Campaign.{CampaignValue, with_report}
 use Rattle.atl_state.specs.Good.{IsGood}
 use Rattle.atl_state.specs.Joining.{join_of, joined, name_taken, is_full, new_faction, first_unit}
-use Rattle.atl_state.specs.Founding.{things_of}
-use Rattle.atl_records.specs.Books.{after_booking}
-use Rattle.atl_records.specs.declared.books.Entry.TheVariants.{Joining}
-use Rattle.atl_records.specs.declared.books.Thing.TheVariants.{Money, People}
-use Rattle.atl_records.proofs.BookLaws.{IsGrid-after_booking}
 use Rattle.atl_report.specs.Report.{report_of}
 use Rattle.atl_report.specs.Sight.{view_of}
 use Rattle.atl_store.specs.Keeps.{IsJoining}
@@ -59,13 +54,11 @@ arrival w name pass word c good =
     let member = new_faction c.next_faction name pass in
     let band = first_unit w word c in
     let start = pos w.rules.start_money in
-    let things = things_of w in
-    let grid = IsGrid-after_booking things (after_booking c.books Joining Money start) Joining People (pos 1) (IsGrid-after_booking things c.books Joining Money start good.sound.steady.numbers.books) in
     let back : c.next_unit + 1 - 1 ≡ c.next_unit = omega arith in
     let report = report_of w (view_of w (joined w name pass word c) c.next_faction) [] [] in
     record {
       next = omega arith;
-      things = omega (arith, grid.rows);
+      things = omega (arith, good.sound.steady.numbers.books.count);
       faction = is_there _ member (get_inserted c.factions c.next_faction member);
       unit = is_there _ band (ap (get (insert c.units c.next_unit band)) back ∙ get_inserted c.units c.next_unit band);
       report = is_there _ report (get_inserted c.reports c.next_faction report);

@@ -58,7 +58,7 @@ abbrev pub of_write : WriteFault → Failure
 of_write write.Memory = fault.Memory
 of_write write.Store = fault.Store
 
--- a mailing that is not kept is refused by the step, but for want of memory
+-- a mailing that is not kept is refused by the step, but for lack of memory
 abbrev pub Denies : WorldValue → CampaignValue → Command → MailError → Type 0
 Denies w c command (unkept.Refused why) = step w c command ≡ (c, Refused why)
 Denies w c command unkept.Memory = ⊤

@@ -33,13 +33,13 @@ FoundsBy text pass sql params = (w : WorldValue) × (world_of text ≡ Ok w) × 
 
 -- ---- causes
 
--- A call of the transaction that runs these statements gave an error, which is want of memory or isn't.
+-- A call of the transaction that runs these statements gave an error, which is lack of memory or isn't.
 pub record GivesError {S : Type 0} (g : Ghosts S) (own : Statements) (memory : Bool) (old new : Held S) : Type 0 where
   pub error : Error
   pub memory_is : is_memory error ≡ memory
   pub given : Gives g own error old new
 
--- The database wasn't asked to write, or a call of the writing gave want of memory.
+-- The database wasn't asked to write, or a call of the writing gave lack of memory.
 abbrev pub LacksMemory : {S : Type 0} → Ghosts S → Statements → Held S → Held S → Type 0
 LacksMemory g own old new = (new ≡ old) ⊎ (HasCleanDisk (state g new) → GivesError g own true old new)
 

@@ -53,7 +53,7 @@ pub record FailsToFound {S : Type 0} (g : Ghosts S) (old : Held S) (text pass : 
   pub unfounded : (¬ IsWorldText text) ⊎ (pass_ok pass ≡ false) → new ≡ old
   pub crash : HasCleanDisk (state g new) → (w : WorldValue) → world_of text ≡ Ok w → MayFound (state g old) text (founded_of w pass) (state g new)
 
--- The database has a table, an index or a view, or the connection is in a transaction, and nothing is changed; or neither is so, and a call of the writing gave another error than want of memory.
+-- The database has a table, an index or a view, or the connection is in a transaction, and nothing is changed; or neither is so, and a call of the writing gave another error than lack of memory.
 abbrev pub RefusesToWrite : {S : Type 0} → Ghosts S → Statements → Held S → Held S → Type 0
 RefusesToWrite g own old new = ((¬ IsReady (state g old)) × (new ≡ old)) ⊎ (IsReady (state g old) × FailsToWrite g own old new)
 

@@ -1,5 +1,5 @@
 //! Reads the world and makes the first campaign. See docs/RULES.md, "Founding".
-ghost use Rattle.std.specs.Prelude.{◌≤◌, Bool, IfOk, IfErr, length};
+ghost use Rattle.std.specs.Prelude.{◌≤◌, Bool, IfOk, IfErr};
 ghost use Rattle.atl_records.specs.Limits.{most_things};
 ghost use Rattle.atl_state.specs.Good.{IsGood};
 ghost use Rattle.atl_service.specs.Found.{Prepares, IsCause};
@@ -17,7 +17,7 @@ pub(crate) fn world_and_campaign(
 ) -> Result<(World, Campaign), Cause>
     ensures ok { IfOk result (λ made. Prepares world_text.now pass.now made.0 made.1.value) }
     ensures good { IfOk result (λ made. IsGood made.0 made.1.value) }
-    ensures things { IfOk result (λ made. length made.1.value.books ≤ most_things) }
+    ensures things { IfOk result (λ made. made.1.value.books.things ≤ most_things) }
     ensures err { IfErr result
         (λ why. (is_there : Bool) → IsCause world_text.now pass.now is_there why) }
 {

@@ -2,7 +2,6 @@
 use Rattle.std.proofs.Common.{◌≡◌, ℕ, ◌+◌, ◌<◌, ◌≤◌, List, [], ◌∷◌, length, sum_by, refl, sym, ap, ◌∙◌, inl, inr, arith}
 use Rattle.std.specs.Prelude.{pos, unwrap_or}
 use Rattle.std.proofs.lemmas.Bool.{cases_lt}
-use Rattle.std.proofs.lemmas.List.{get_or_past}
 use Rattle.std.proofs.lemmas.List.Sums.{sum_by-cons}
 use Rattle.std.specs.Ordering.{nat_cmp}
 use Rattle.std.specs.FinMap.{FinMap, entries}
@@ -16,9 +15,10 @@ use Rattle.atl_records.specs.Holdings.{amount_of}
 use Rattle.atl_state.specs.Founding.{things_of}
 use Rattle.atl_records.specs.Amounts.{region_amount, unit_amount}
 use Rattle.atl_state.specs.Totals.{total, Balances}
-use Rattle.atl_records.specs.Books.{row_sum, booked, IsGrid}
+use Rattle.atl_records.specs.Books.{booked, AreBooks}
 use Rattle.atl_records.specs.Every.{EachOf, Every}
 use Rattle.atl_state.specs.Good.{AreOfMarkets}
+use Rattle.atl_records.proofs.BookLaws.{booked_past}
 use Rattle.atl_records.proofs.EveryLaws.{each-from_every}
 use Rattle.atl_state.proofs.RuleLaws.{free_from}
 use Rattle.atl_state.proofs.MarketLaws.{market_known}
@@ -32,7 +32,7 @@ none_weighed {V} f (e ∷ es) each = let more = sum_by-cons (λ (e : ℕ × V). 
 unheld : (items : FinMap nat_cmp ℕ) (count i : ℕ) → Every (λ k amount. k < count) items → count ≤ i → amount_of items i ≡ 0
 unheld items count i known l = ap (λ o. unwrap_or o 0) (free_from items i (λ there. let few = known i there.0 there.1 in omega (arith, few)))
 
-module _ (w : WorldValue) (c : CampaignValue) (world : IsWorld w) (grid : IsGrid (things_of w) c.books) (known : Every (λ n u. Every (λ i amount. i < length w.items) u.holding.items) c.units)
+module _ (w : WorldValue) (c : CampaignValue) (world : IsWorld w) (are : AreBooks (things_of w) c.books) (known : Every (λ n u. Every (λ i amount. i < length w.items) u.holding.items) c.units)
     (stocks : Every (λ n r. AreOfMarkets w n r.stocks) c.regions) where
   none_kept : (i : ℕ) → length w.items ≤ i → EachOf (λ _ r. region_amount (Item i) r ≡ 0) (entries c.regions)
   none_kept i l = each-from_every (λ _ r. region_amount (Item i) r ≡ 0) c.regions (λ n r is. unheld r.stocks (length w.items) i (λ k amount at. market_known w world n k (stocks n r is k amount at)) l)
@@ -45,7 +45,7 @@ module _ (w : WorldValue) (c : CampaignValue) (world : IsWorld w) (grid : IsGrid
       ap (λ n. n + sum_over (λ (r : Region). region_amount (Item i) r) c.regions) units ∙ ap (λ n. 0 + n) regions
 
   unknown_booked : (i : ℕ) → length w.items ≤ i → booked c.books (Item i) ≡ pos 0
-  unknown_booked i l = ap row_sum (get_or_past c.books (2 + i) [] (omega (arith, grid.rows)))
+  unknown_booked i l = booked_past (things_of w) c.books are (Item i) (omega arith)
 
   pub all_balance : (pos (total c Money) ≡ booked c.books Money) × (pos (total c People) ≡ booked c.books People) → ((i : ℕ) → i < length w.items → pos (total c (Item i)) ≡ booked c.books (Item i)) → Balances c
   all_balance both items Money = both.0

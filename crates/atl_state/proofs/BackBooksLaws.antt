@@ -1,147 +1,123 @@
 -- The rows of books in any order, and the books that they say.
-use Rattle.std.proofs.Common.{◌≡◌, ◌==◌, ℕ, zero, suc, ◌+◌, ◌≤◌, ◌<◌, ◌&&◌, inl, inr, List, [], ◌∷◌, true, false, not, filter, length, get_or, nat_le, refl, sym, ap, subst, ◌∙◌, arith}
-use Rattle.std.specs.Prelude.{pos, negsuc, ℤ}
-use Rattle.std.specs.List.{flat_map, range_with_len, AllByRecursion, IsDistinct}
+use Rattle.std.proofs.Common.{◌≡◌, ℕ, ◌+◌, ◌≤◌, List, [], ◌∷◌, true, false, Some, None, refl, sym, ap, ◌∙◌, arith}
+use Rattle.std.specs.Prelude.{pos, ℤ, unwrap_or}
+use Rattle.std.specs.List.{AllByRecursion, IsDistinct}
 use Rattle.std.specs.List.Sorted.{IsPermutation}
-use Rattle.std.proofs.lemmas.Bool.{cases_eq, false≢true, not-true, not_from_false}
-use Rattle.std.proofs.lemmas.Bool.Decides.{nat_tests}
-use Rattle.std.proofs.lemmas.List.{ext_get_or}
+use Rattle.std.specs.Ordering.{is_lt}
+use Rattle.std.specs.Cmp.{tied_itself}
+use Rattle.std.specs.FinMap.{entries, get, is_sorted}
+use Rattle.std.specs.FinMap.Entries.{below_all}
+use Rattle.std.proofs.lemmas.Bool.{and_parts, false≢true}
 use Rattle.std.proofs.lemmas.List.Sorted.{IsPermutation-sym, IsPermutation-trans}
 use Rattle.atl_state.specs.declared.parts.StoredBooks.{StoredBooks}
-use Rattle.atl_records.specs.Books.{no_amounts, IsGrid, amount_at}
-use Rattle.atl_state.specs.FromRows.{is_entry, put_amounts}
-use Rattle.atl_records.specs.Limits.{entry_count}
+use Rattle.atl_records.specs.declared.books.Entry.{Entry}
+use Rattle.atl_records.specs.declared.books.Thing.{Thing}
+use Rattle.atl_records.specs.Books.{Account, BooksValue, account_cmp, amount_in, AreBooks, entry_index, entry_numbered, no_amounts, thing_at, thing_index}
+use Rattle.atl_state.specs.FromRows.{put_amounts}
 use Rattle.atl_state.specs.RowRules.{books_key, HaveKeys}
-use Rattle.atl_state.specs.Rows.{is_zero, books_row, entry_rows, books_rows}
-use Rattle.atl_state.proofs.BackGroupLaws.{flat_each, each_flat}
-use Rattle.atl_state.proofs.BackLaws.{each_permuted, each_back, read_whole, written_whole, apart_keys, InOrder, flat_apart, keys_permuted, same_size}
-use Rattle.atl_records.proofs.BookLaws.{IsGrid-no_amounts}
-use Rattle.atl_state.proofs.BooksRowLaws.{IsBooked, books_order, cell, cells}
-use Rattle.atl_state.proofs.FromRowLaws.{put-grid}
-use Rattle.atl_state.proofs.GroupLaws.{filter_apart, kept, unkept}
+use Rattle.atl_state.specs.Rows.{amounts_rows, books_row, books_rows}
+use Rattle.atl_state.proofs.BackLaws.{each_permuted, each_back, read_whole, apart_keys, keys_permuted, same_size}
+use Rattle.atl_records.proofs.AccountLaws.{account_total, at_place, same_account}
+use Rattle.atl_records.proofs.BookLaws.{AreBooks-no_amounts, same_books}
+use Rattle.atl_records.proofs.EveryEntryLaws.{entry_small, numbered_entry}
+use Rattle.atl_records.proofs.ListedLaws.{amounts_sorted, each_amount, amount_of_each}
+use Rattle.atl_state.proofs.BooksRowLaws.{IsBooked, books_order}
+use Rattle.atl_state.proofs.FromRowLaws.{put-books}
 use Rattle.atl_state.proofs.HasLaws.{same}
 
--- ---- ranges of numbers, and single rows
+-- ---- each row
 
-range_each : (P : ℕ → Type 0) (a n : ℕ) → ((k : ℕ) → a ≤ k → k < a + n → P k) → AllByRecursion P (range_with_len a n)
-range_each P a zero h = tt
-range_each P a (suc n) h = (h a (omega arith) (omega arith), range_each P (a + 1) n (λ k le l. h k (omega arith) (omega arith)))
+rows_each : (P : StoredBooks → Type 0) (es : List (Account × ℤ)) → AllByRecursion (λ x. P (books_row x.0.0 x.0.1 x.1)) es → AllByRecursion P (amounts_rows es)
+rows_each P [] h = tt
+rows_each P (x ∷ es) h = (h.0, rows_each P es h.1)
 
-each_range : (P : ℕ → Type 0) (a n k : ℕ) → a ≤ k → k < a + n → AllByRecursion P (range_with_len a n) → P k
-each_range P a zero k le l h = absurd (omega arith)
-each_range P a (suc n) k le l h =
-    elim (cases_eq a k) [ inl same ↦ subst P same h.0 | inr apart ↦ each_range P (a + 1) n k (omega arith) (omega arith) h.1 ]
+each_row : (P : StoredBooks → Type 0) (es : List (Account × ℤ)) → AllByRecursion P (amounts_rows es) → AllByRecursion (λ x. P (books_row x.0.0 x.0.1 x.1)) es
+each_row P [] h = tt
+each_row P (x ∷ es) h = (h.0, each_row P es h.1)
 
-range_order : (a n : ℕ) → InOrder (λ j k. j < k) (range_with_len a n)
-range_order a zero = tt
-range_order a (suc n) = (range_each (λ k. a < k) (a + 1) n (λ k le l. omega arith), range_order (a + 1) n)
+module _ (books : BooksValue) where
+  -- what is so of every amount that is listed is so of each row
+  pub lines_each : (P : StoredBooks → Type 0) → ((e : Entry) (t : Thing) (z : ℤ) → get books.amounts (e, t) ≡ Some z → P (books_row e t z)) → AllByRecursion P (books_rows books)
+  lines_each P h = rows_each P (entries books.amounts) (each_amount (λ a z. P (books_row a.0 a.1 z)) books.amounts (λ a z is. h a.0 a.1 z is))
 
-nonzero_line : (P : StoredBooks → Type 0) (r : StoredBooks) → (is_zero r.amount ≡ false → P r) → AllByRecursion P (filter (λ r. not (is_zero r.amount)) (r ∷ []))
-nonzero_line P r h = kept (λ r. not (is_zero r.amount)) P (r ∷ []) ((λ some. h (not-true (is_zero r.amount) some)), tt)
-
-line_nonzero : (P : StoredBooks → Type 0) (r : StoredBooks) → is_zero r.amount ≡ false → AllByRecursion P (filter (λ r. not (is_zero r.amount)) (r ∷ [])) → P r
-line_nonzero P r some h = (unkept (λ r. not (is_zero r.amount)) P (r ∷ []) h).0 (not_from_false (is_zero r.amount) some)
-
-module _ (books : List (List ℤ)) where
-  entry_cells : (n e : ℕ) → flat_map (cell books e) (range_with_len 0 n) ≡ entry_rows books n e
-  entry_cells n e = cells books e (range_with_len 0 n)
-
-  -- what is so of every amount that is not 0 is so of each row
-  pub lines_each : (P : StoredBooks → Type 0) → ((e t : ℕ) → e < entry_count → t < length books → is_zero (amount_at books e t) ≡ false → P (books_row e t (amount_at books e t))) → AllByRecursion P (books_rows books)
-  lines_each P h =
-      flat_each P (entry_rows books (length books)) (range_with_len 0 entry_count) (range_each (λ e. AllByRecursion P (entry_rows books (length books) e)) 0 entry_count (λ e _ el.
-      subst (AllByRecursion P) (entry_cells (length books) e) (flat_each P (cell books e) (range_with_len 0 (length books)) (range_each (λ t. AllByRecursion P (cell books e t)) 0 (length books) (λ t _ tl.
-      nonzero_line P (books_row e t (amount_at books e t)) (h e t (omega arith) (omega arith)))))))
-
-  pub line_at : (P : StoredBooks → Type 0) → AllByRecursion P (books_rows books) → (e t : ℕ) → e < entry_count → t < length books → is_zero (amount_at books e t) ≡ false → P (books_row e t (amount_at books e t))
-  line_at P h e t el tl some =
-      let entry = each_range (λ e. AllByRecursion P (entry_rows books (length books) e)) 0 entry_count e (omega arith) (omega arith) (each_flat P (entry_rows books (length books)) (range_with_len 0 entry_count) h) in
-      let thing = each_range (λ t. AllByRecursion P (cell books e t)) 0 (length books) t (omega arith) (omega arith) (each_flat P (cell books e) (range_with_len 0 (length books)) (subst (AllByRecursion P) (sym (entry_cells (length books) e)) entry)) in
-      line_nonzero P (books_row e t (amount_at books e t)) some thing
+  pub line_at : (P : StoredBooks → Type 0) → AllByRecursion P (books_rows books) → (e : Entry) (t : Thing) (z : ℤ) → get books.amounts (e, t) ≡ Some z → P (books_row e t z)
+  line_at P h e t z is = amount_of_each (λ a y. P (books_row a.0 a.1 y)) books.amounts (each_row P (entries books.amounts) h) (e, t) z is
 
 -- ---- books whose rows are the same are the same
 
-abbrev Says : List (List ℤ) → StoredBooks → Type 0
-Says books r = (e t : ℕ) → r.entry ≡ pos (e + 1) → r.thing ≡ pos t → amount_at books e t ≡ r.amount
+pub amount_is : (books : BooksValue) (e : Entry) (t : Thing) (z : ℤ) → get books.amounts (e, t) ≡ Some z → amount_in books e t ≡ z
+amount_is books e t z is = ap (λ o. unwrap_or o (pos 0)) is
 
-says_itself : (books : List (List ℤ)) → AllByRecursion (Says books) (books_rows books)
+abbrev Says : BooksValue → StoredBooks → Type 0
+Says books r = (e : Entry) (t : Thing) → r.entry ≡ pos (entry_index e + 1) → r.thing ≡ pos (thing_index t) → amount_in books e t ≡ r.amount
+
+says_itself : (books : BooksValue) → AllByRecursion (Says books) (books_rows books)
 says_itself books =
-    lines_each books (Says books) (λ e t el tl some f u entry thing.
-    let next = same_size (e + 1) (f + 1) entry in
-    let one : e ≡ f = omega arith in
-    sym (ap (λ k. amount_at books k t) one ∙ ap (amount_at books f) (same_size t u thing)))
+    lines_each books (Says books) (λ e t z is f u entry thing.
+    let next = same_size (entry_index e + 1) (entry_index f + 1) entry in
+    let one = same_account e f t u (omega arith) (same_size (thing_index t) (thing_index u) thing) in
+    sym (ap (λ (a : Account). amount_in books a.0 a.1) one) ∙ amount_is books e t z is)
 
-pub nothing_at : (z : ℤ) → is_zero z ≡ true → z ≡ pos 0
-nothing_at (pos zero) h = refl
-nothing_at (pos (suc n)) h = let none : (suc n == 0) ≡ false = grind (arith, nat_tests) in absurd (false≢true (sym none ∙ h))
-nothing_at (negsuc n) h = absurd (false≢true h)
+some_said : (a b : BooksValue) → IsPermutation (books_rows a) (books_rows b) → (e : Entry) (t : Thing) (z : ℤ) → get a.amounts (e, t) ≡ Some z → amount_in b e t ≡ z
+some_said a b h e t z is = line_at a (Says b) (each_back (Says b) (books_rows a) (books_rows b) h (says_itself b)) e t z is e t refl refl
 
-module _ (things : ℕ) where
-  some_said : (a b : List (List ℤ)) → IsGrid things a → IsGrid things b → IsPermutation (books_rows a) (books_rows b) → (e t : ℕ) → e < entry_count → t < things → is_zero (amount_at a e t) ≡ false → amount_at b e t ≡ amount_at a e t
-  some_said a b g k h e t el tl some = line_at a (Says b) (each_back (Says b) (books_rows a) (books_rows b) h (says_itself b)) e t el (omega (arith, g.rows)) some e t refl refl
-
-  same_amounts : (a b : List (List ℤ)) → IsGrid things a → IsGrid things b → IsPermutation (books_rows a) (books_rows b) → (e t : ℕ) → e < entry_count → t < things → amount_at a e t ≡ amount_at b e t
-  same_amounts a b g k h e t el tl =
-      elim (is_zero (amount_at a e t)) as (λ z. is_zero (amount_at a e t) ≡ z → amount_at a e t ≡ amount_at b e t) [
-        | false ↦ λ some. sym (some_said a b g k h e t el tl some)
-        | true ↦ λ none. elim (is_zero (amount_at b e t)) as (λ z. is_zero (amount_at b e t) ≡ z → amount_at a e t ≡ amount_at b e t) [
-          | false ↦ λ some. some_said b a k g (IsPermutation-sym (books_rows a) (books_rows b) h) e t el tl some
-          | true ↦ λ also. nothing_at (amount_at a e t) none ∙ sym (nothing_at (amount_at b e t) also)
-        ] refl
+same_amounts : (a b : BooksValue) → IsPermutation (books_rows a) (books_rows b) → (e : Entry) (t : Thing) → amount_in a e t ≡ amount_in b e t
+same_amounts a b h e t =
+    elim (get a.amounts (e, t)) as (λ o. get a.amounts (e, t) ≡ o → unwrap_or o (pos 0) ≡ amount_in b e t) [
+      | Some z ↦ λ is. sym (some_said a b h e t z is)
+      | None ↦ λ none. elim (get b.amounts (e, t)) as (λ o. get b.amounts (e, t) ≡ o → pos 0 ≡ unwrap_or o (pos 0)) [
+        | Some z ↦ λ is. sym (ap (λ o. unwrap_or o (pos 0)) none) ∙ some_said b a (IsPermutation-sym (books_rows a) (books_rows b) h) e t z is
+        | None ↦ λ _. refl
       ] refl
+    ] refl
 
-  same_books : (a b : List (List ℤ)) → IsGrid things a → IsGrid things b → IsPermutation (books_rows a) (books_rows b) → a ≡ b
-  same_books a b g k h =
-      ext_get_or [] a b (g.rows ∙ sym k.rows) (λ t tl.
-      let at : t < length b = omega (arith, g.rows, k.rows) in
-      let wide = g.wide t [] tl in
-      ext_get_or (pos 0) (get_or a t []) (get_or b t []) (wide ∙ sym (k.wide t [] at)) (λ e el. same_amounts a b g k h e t (omega (arith, wide)) (omega (arith, g.rows))))
+-- ---- the rows of books in any order
 
-  -- ---- the rows of books in any order
+less_itself : (a : Account) → is_lt (account_cmp a a) ≡ false
+less_itself a = ap is_lt (tied_itself account_total a)
 
-  module _ (few : things ≤ 4294967294) (books : List (List ℤ)) (g : IsGrid things books) where
-    entry_named : (e : ℕ) → e < entry_count → is_entry (e + 1) ≡ true
-    entry_named e h = let least : nat_le 1 (e + 1) ≡ true = grind (arith, nat_tests) in let most : nat_le (e + 1) entry_count ≡ true = grind (arith, nat_tests) in ap (λ b. b && nat_le (e + 1) entry_count) least ∙ most
+others_apart : (x : Account × ℤ) (es : List (Account × ℤ)) → below_all account_cmp x.0 es ≡ true → AllByRecursion (λ r. same (books_key (books_row x.0.0 x.0.1 x.1)) (books_key r) ≡ false) (amounts_rows es)
+others_apart x [] h = tt
+others_apart x (y ∷ es) h =
+    let parts = and_parts (is_lt (account_cmp x.0 y.0)) (below_all account_cmp x.0 es) h in (
+      apart_keys (books_key (books_row x.0.0 x.0.1 x.1)) (books_key (books_row y.0.0 y.0.1 y.1)) (λ k.
+          let next = same_size (entry_index x.0.0 + 1) (entry_index y.0.0 + 1) k.first in
+          let one = same_account x.0.0 y.0.0 x.0.1 y.0.1 (omega arith) (same_size (thing_index x.0.1) (thing_index y.0.1) k.second) in
+          false≢true (sym (less_itself x.0) ∙ ap (λ a. is_lt (account_cmp x.0 a)) one ∙ parts.0)),
+      others_apart x es parts.1,
+    )
 
-    pub lines_booked : AllByRecursion (IsBooked things) (books_rows books)
-    lines_booked =
-        lines_each books (IsBooked things) (λ e t el tl some. record {
-          entry = written_whole (e + 1) (omega arith);
-          thing = written_whole t (omega (arith, g.rows));
-          named = ap is_entry (read_whole (e + 1) (omega arith)) ∙ entry_named e el;
-          there = let read = read_whole t (omega (arith, g.rows)) in omega (arith, read, g.rows);
-          some = some;
-        })
+entries_apart : (es : List (Account × ℤ)) → is_sorted account_cmp es ≡ true → IsDistinct (λ a b. same (books_key a) (books_key b)) (amounts_rows es)
+unfolding IsDistinct
+entries_apart [] h = tt
+entries_apart (x ∷ es) h = let parts = and_parts (below_all account_cmp x.0 es) (is_sorted account_cmp es) h in (others_apart x es parts.0, entries_apart es parts.1)
 
-    one_line : (r : StoredBooks) → IsDistinct (λ a b. same (books_key a) (books_key b)) (r ∷ [])
-    unfolding IsDistinct
-    one_line r = (tt, tt)
+module _ (things : ℕ) (few : things ≤ 4294967294) (books : BooksValue) (are : AreBooks things books) where
+  pub lines_booked : AllByRecursion (IsBooked things) (books_rows books)
+  lines_booked =
+      lines_each books (IsBooked things) (λ e t z is.
+      let entry = read_whole (entry_index e + 1) (omega (arith, entry_small e)) in
+      let (inside, some) = are.listed e t z is in
+      let thing = read_whole (thing_index t) (omega arith) in
+      record {
+        account = (e, t);
+        row = refl;
+        named = ap entry_numbered entry ∙ numbered_entry e;
+        numbered = ap thing_at thing ∙ at_place t;
+        there = omega (arith, thing, inside);
+        some = some;
+      })
 
-    pub lines_apart : IsDistinct (λ a b. same (books_key a) (books_key b)) (books_rows books)
-    lines_apart =
-        flat_apart (λ a b. same (books_key a) (books_key b)) (entry_rows books (length books)) (λ j k. j < k) (λ e r. r.entry ≡ pos (e + 1))
-        (λ x y a b l mine yours. apart_keys (books_key a) (books_key b) (λ k. let next = same_size (x + 1) (y + 1) (sym mine ∙ k.first ∙ yours) in omega arith))
-        (λ e. subst (AllByRecursion (λ r. r.entry ≡ pos (e + 1))) (entry_cells books (length books) e) (flat_each (λ r. r.entry ≡ pos (e + 1)) (cell books e) (range_with_len 0 (length books)) (range_each (λ t. AllByRecursion (λ r. r.entry ≡ pos (e + 1)) (cell books e t)) 0 (length books) (λ t _ _. nonzero_line (λ r. r.entry ≡ pos (e + 1)) (books_row e t (amount_at books e t)) (λ _. refl)))))
-        things_apart (range_with_len 0 entry_count) (range_order 0 entry_count)
-      where
-        things_apart : (e : ℕ) → IsDistinct (λ a b. same (books_key a) (books_key b)) (entry_rows books (length books) e)
-        things_apart e =
-            subst (IsDistinct (λ a b. same (books_key a) (books_key b))) (entry_cells books (length books) e)
-            (flat_apart (λ a b. same (books_key a) (books_key b)) (cell books e) (λ j k. j < k) (λ t r. r.thing ≡ pos t)
-            (λ x y a b l mine yours. apart_keys (books_key a) (books_key b) (λ k. let one = same_size x y (sym mine ∙ k.second ∙ yours) in omega arith))
-            (λ t. nonzero_line (λ r. r.thing ≡ pos t) (books_row e t (amount_at books e t)) (λ _. refl))
-            (λ t. filter_apart (λ r. not (is_zero r.amount)) (λ a b. same (books_key a) (books_key b)) (books_row e t (amount_at books e t) ∷ []) (one_line (books_row e t (amount_at books e t)))) (range_with_len 0 (length books)) (range_order 0 (length books)))
+  module _ (rows : List StoredBooks) (h : IsPermutation (books_rows books) rows) where
+    pub books_keys : HaveKeys books_key rows
+    books_keys = keys_permuted books_key (books_rows books) rows h (entries_apart (entries books.amounts) (amounts_sorted books.amounts))
 
-    module _ (rows : List StoredBooks) (h : IsPermutation (books_rows books) rows) where
-      pub books_keys : HaveKeys books_key rows
-      books_keys = keys_permuted books_key (books_rows books) rows h lines_apart
+    pub all_booked : AllByRecursion (IsBooked things) rows
+    all_booked = each_permuted (IsBooked things) (books_rows books) rows h lines_booked
 
-      pub all_booked : AllByRecursion (IsBooked things) rows
-      all_booked = each_permuted (IsBooked things) (books_rows books) rows h lines_booked
-
-      -- the rows say the books
-      pub books_back : put_amounts rows (no_amounts things) ≡ books
-      books_back =
-          let said = put_amounts rows (no_amounts things) in
-          same_books said books (put-grid things rows (no_amounts things) (IsGrid-no_amounts things)) g
-          (IsPermutation-trans (books_rows said) rows (books_rows books) (books_order things rows all_booked books_keys) (IsPermutation-sym (books_rows books) rows h))
+    -- the rows say the books
+    pub books_back : put_amounts rows (no_amounts things) ≡ books
+    books_back =
+        let said = put_amounts rows (no_amounts things) in
+        same_books things said books (put-books things rows (no_amounts things) (AreBooks-no_amounts things)) are
+        (same_amounts said books (IsPermutation-trans (books_rows said) rows (books_rows books) (books_order things rows all_booked books_keys) (IsPermutation-sym (books_rows books) rows h)))

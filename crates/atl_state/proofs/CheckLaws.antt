@@ -1,10 +1,9 @@
 -- Rows that keep all rules are those of a good campaign; and the first rule that is broken.
-use Rattle.std.proofs.Common.{◌≡◌, ◌==◌, ℕ, ◌≤◌, ◌<◌, ◌+◌, ◌&&◌, List, [], ◌∷◌, length, get_or, nat_le, nat_lt, Bool, true, false, cond, refl, sym, ap, subst, ◌∙◌, arith, inl, inr}
-use Rattle.std.specs.Prelude.{ℤ, pos}
+use Rattle.std.proofs.Common.{◌≡◌, ◌==◌, ℕ, ◌≤◌, ◌<◌, ◌+◌, ◌&&◌, List, [], ◌∷◌, length, nat_le, nat_lt, Bool, true, false, cond, refl, sym, ap, subst, ◌∙◌, arith, inl, inr}
+use Rattle.std.specs.Prelude.{pos, unwrap_or, Some, None}
 use Rattle.std.specs.Bool.{Decides}
-use Rattle.std.proofs.lemmas.Bool.{and_parts, cases_Bool, cases_eq, cases_lt, false≢true}
-use Rattle.std.proofs.lemmas.List.{get_or_past}
-use Rattle.std.specs.FinMap.{empty}
+use Rattle.std.proofs.lemmas.Bool.{and_parts, cases_eq, false≢true}
+use Rattle.std.specs.FinMap.{empty, get}
 use Rattle.atl_tables.specs.declared.format.Format.{Format}
 use Rattle.atl_tables.specs.declared.format.Format.TheVariants.{First, Second}
 use Rattle.atl_tables.specs.Worlds.{WorldValue, IsWorld}
@@ -17,7 +16,7 @@ use Rattle.atl_state.specs.declared.parts.StoredBooks.{StoredBooks}
 use Rattle.atl_state.specs.declared.parts.StoredCampaignRow.{StoredCampaignRow}
 use Rattle.atl_state.specs.Checking.{rule_number, Keeps, KeepsBelow, IsFirstBroken, Fits}
 use Rattle.std.specs.List.{list_all, AllByRecursion}
-use Rattle.atl_records.specs.Books.{amount_in, entry_index, thing_index, no_amounts, IsGrid}
+use Rattle.atl_records.specs.Books.{BooksValue, amount_in, AreBooks, entry_index, no_amounts}
 use Rattle.atl_state.specs.Founding.{things_of}
 use Rattle.atl_state.specs.FromRows.{as_u32, stocks_of, region_of, put_amounts, campaign_row_of, campaign_of}
 use Rattle.atl_records.specs.Every.{Every, IsThere}
@@ -25,8 +24,8 @@ use Rattle.atl_state.specs.Good.{AreOfMarkets, HasNoStocks, IsGood}
 use Rattle.atl_state.specs.RowRules.{is_one_campaign_row, is_entry_in, is_booked, campaign_row_in_range, people_in_range, region_in_range, structure_in_range, books_in_range, books_bound, market_in_range}
 use Rattle.atl_state.specs.Totals.{IsCountable}
 use Rattle.atl_records.specs.Limits.{first_entry_count}
-use Rattle.atl_state.specs.Rows.{is_zero, books_rows, AreRowsOf}
-use Rattle.atl_state.proofs.BackBooksLaws.{line_at, nothing_at}
+use Rattle.atl_state.specs.Rows.{books_rows, AreRowsOf}
+use Rattle.atl_state.proofs.BackBooksLaws.{line_at}
 use Rattle.atl_state.proofs.BackLaws.{each_back, read_whole}
 use Rattle.atl_records.proofs.EveryEntryLaws.{entry_small}
 use Rattle.atl_state.proofs.FromRowLaws.{by_number-every, from_le, AreInRange-said, HaveMen-said}
@@ -62,14 +61,12 @@ late_entry n l small h =
     absurd (omega (arith, read, most))
 
 -- books whose rows are of the first format have nothing under a later entry
-no_amount : (books : List (List ℤ)) → AllByRecursion (λ (r : StoredBooks). is_entry_in First (as_u32 r.entry) ≡ true) (books_rows books) → (e : Entry) (t : Thing) → first_entry_count ≤ entry_index e → amount_in books e t ≡ pos 0
-no_amount books listed e t l = elim (cases_lt (thing_index t) (length books)) [
-  | inr past ↦ ap (λ (row : List ℤ). get_or row (entry_index e) (pos 0)) (get_or_past books (thing_index t) [] past) ∙ get_or_past [] (entry_index e) (pos 0) (omega arith)
-  | inl inside ↦ elim (cases_Bool (is_zero (amount_in books e t))) [
-    | inl none ↦ nothing_at (amount_in books e t) none
-    | inr some ↦ absurd (late_entry (entry_index e) l (entry_small e) (line_at books (λ r. is_entry_in First (as_u32 r.entry) ≡ true) listed (entry_index e) (thing_index t) (entry_small e) inside some))
-  ]
-]
+no_amount : (books : BooksValue) → AllByRecursion (λ (r : StoredBooks). is_entry_in First (as_u32 r.entry) ≡ true) (books_rows books) → (e : Entry) (t : Thing) → first_entry_count ≤ entry_index e → amount_in books e t ≡ pos 0
+no_amount books listed e t l =
+    elim (get books.amounts (e, t)) as (λ o. get books.amounts (e, t) ≡ o → unwrap_or o (pos 0) ≡ pos 0) [
+      | None ↦ λ _. refl
+      | Some z ↦ λ is. absurd (late_entry (entry_index e) l (entry_small e) (line_at books (λ r. is_entry_in First (as_u32 r.entry) ≡ true) listed e t z is))
+    ] refl
 
 module _ (f : Format) (w : WorldValue) (p : Parts) where
   pub below_first : KeepsBelow f w p 1
@@ -156,8 +153,8 @@ module _ (f : Format) (w : WorldValue) (p : Parts) where
   pub few-said : KeepsBelow f w p 11 → IsCountable (campaign_of w p)
   few-said k = let range = AreInRange-said w p (k Ranges (omega arith)) in omega (arith, range.few_units, range.few_regions)
 
-  pub grid-said : KeepsBelow f w p 11 → IsGrid (things_of w) (campaign_of w p).books
-  grid-said k = (AreInRange-said w p (k Ranges (omega arith))).books
+  pub books-said : KeepsBelow f w p 11 → AreBooks (things_of w) (campaign_of w p).books
+  books-said k = (AreInRange-said w p (k Ranges (omega arith))).books
 
   pub items-said : KeepsBelow f w p 11 → Every (λ n u. Every (λ i amount. i < length w.items) u.holding.items) (campaign_of w p).units
   items-said k n u is = ((k Known (omega arith)).0.units n u is).items

@@ -1,5 +1,5 @@
 -- Changes one after the other, each of which is marked.
-use Rattle.std.proofs.Common.{◌≡◌, ◌≢◌, ◌==◌, ◌||◌, ℕ, ◌<◌, Bool, true, false, if◌then◌else◌, Option, Some, None, refl, sym, ap, ◌∙◌, arith, true≢false}
+use Rattle.std.proofs.Common.{◌≡◌, ◌≢◌, ◌==◌, ◌||◌, ℕ, Bool, true, false, if◌then◌else◌, Option, Some, None, refl, sym, ap, ◌∙◌, arith, true≢false}
 use Rattle.std.specs.Prelude.{ℤ, List, cond, is_some, option_map, unwrap_or}
 use Rattle.std.proofs.lemmas.Bool.Decides.{nat_tests}
 use Rattle.std.specs.Cmp.{nat_cmp_total, unsigned_ties}
@@ -18,7 +18,7 @@ use Rattle.atl_records.specs.declared.records.Faction.{Faction}
 use Rattle.atl_records.specs.declared.records.Region.{Region}
 use Rattle.atl_records.specs.declared.records.Structure.{Structure}
 use Rattle.atl_records.specs.declared.records.Unit.{Unit}
-use Rattle.atl_records.specs.Books.{IsGrid, amount_in, thing_index, amount_number}
+use Rattle.atl_records.specs.Books.{amount_in, amount_number}
 use Rattle.atl_records.specs.Holdings.{amount_of, with_amount_of}
 use Rattle.atl_state.specs.Covers.{Covers, ThingsStayMarked, StaysMarked, StayMarked, MarksChanges, bare, days_under, items_under, own_row, unstocked}
 use Rattle.atl_state.specs.Marking.{mark_amount, mark_faction, mark_region, mark_stock, mark_unit_added}
@@ -382,9 +382,9 @@ marks-unit c units n others =
     ])
 
 -- an amount that is booked and marked
-pub marks-amount : (things : ℕ) (c : MarkedCampaign) (f : Entry) (u : Thing) (z : ℤ) → IsGrid things c.value.books → thing_index u < things → MarksChanges c (record { value = with_amount c.value f u z; marks = mark_amount c f u })
-marks-amount things c f u z g h =
+pub marks-amount : (c : MarkedCampaign) (f : Entry) (u : Thing) (z : ℤ) → MarksChanges c (record { value = with_amount c.value f u z; marks = mark_amount c f u })
+marks-amount c f u z =
     let next : MarkedCampaign = record { value = with_amount c.value f u z; marks = mark_amount c f u } in
     part_by_part c next
     (λ p. elim p as (Stays c.marks next.marks) [ Books ↦ put_stays c.marks.books (amount_number f u) | _ ↦ λ k h. h ])
-    (λ p. elim p as (Tells next.marks c.value next.value) [ Books ↦ λ k free. amount-other things c.value.books k.0 f k.1 u z g h (apart_by c.marks.books (amount_number f u) (amount_number k.0 k.1) free) | _ ↦ λ k free. refl ])
+    (λ p. elim p as (Tells next.marks c.value next.value) [ Books ↦ λ k free. amount-other c.value.books k.0 f k.1 u z (apart_by c.marks.books (amount_number f u) (amount_number k.0 k.1) free) | _ ↦ λ k free. refl ])

@@ -20,7 +20,7 @@ use Rattle.atl_records.specs.declared.records.Faction.{Faction}
 use Rattle.atl_records.specs.declared.records.Region.{Region}
 use Rattle.atl_records.specs.declared.records.Structure.{Structure}
 use Rattle.atl_records.specs.declared.records.Unit.{Unit}
-use Rattle.atl_records.specs.Books.{amount_in, booked, no_amounts, after_booking, IsGrid, IsWithin}
+use Rattle.atl_records.specs.Books.{amount_in, booked, no_amounts, after_booking, AreBooks, IsWithin}
 use Rattle.atl_state.specs.Kept.{AreUnitLists, AreKept}
 use Rattle.atl_tables.specs.Names.{name_ok, pass_ok}
 use Rattle.atl_tables.specs.declared.world.RegionPlan.{RegionPlan}
@@ -39,18 +39,16 @@ use Rattle.atl_state.specs.Good.{IsActive, IsRegion, AreInRange, AreAmountsWithi
 use Rattle.atl_records.proofs.EveryLaws.{each-from_every, every-empty, every-mapped, there-mapped}
 use Rattle.atl_state.proofs.AmountLaws.{none_weighed}
 use Rattle.atl_state.proofs.AmountMarkLaws.{none_marked}
-use Rattle.atl_records.proofs.BookLaws.{booked-after_booking, booked-no_amounts, amount-no_amounts, IsGrid-no_amounts, IsGrid-after_booking, IsWithin-after_booking, share_of}
+use Rattle.atl_records.proofs.BookLaws.{booked-after_booking, booked-no_amounts, amount-no_amounts, AreBooks-no_amounts, AreBooks-after_booking, IsWithin-after_booking, share_of}
 
--- what is kept beside units, with books for so many things of which nothing is marked
-pub AreKept-without_marks : (things : ℕ) (units : FinMap nat_cmp Unit) (lists : UnitLists) (books : List (List ℤ)) → AreUnitLists units lists → IsGrid things books → AreKept units lists books (record { numbers = set.empty; room = entry_count * things })
-AreKept-without_marks things units lists books listed grid = record {
-  unit_lists = listed;
-  amounts = none_marked (length books) (entry_count * things) (omega (arith, grid.rows));
-}
+-- what is kept beside units, with room to mark the amounts of so many things, of which none is marked
+pub AreKept-without_marks : (things : ℕ) (units : FinMap nat_cmp Unit) (lists : UnitLists) → AreUnitLists units lists → AreKept units lists things (record { numbers = set.empty; room = entry_count * things })
+AreKept-without_marks things units lists listed = record { unit_lists = listed; amounts = none_marked things (entry_count * things) (omega arith) }
 
 -- the books are made for so many things
-pub IsGrid-founding : (things money people : ℕ) → IsGrid things (after_booking (after_booking (no_amounts things) Founding Money (pos money)) Founding People (pos people))
-IsGrid-founding things money people = IsGrid-after_booking things (after_booking (no_amounts things) Founding Money (pos money)) Founding People (pos people) (IsGrid-after_booking things (no_amounts things) Founding Money (pos money) (IsGrid-no_amounts things))
+AreBooks-founding : (things money people : ℕ) → 2 ≤ things → AreBooks things (after_booking (after_booking (no_amounts things) Founding Money (pos money)) Founding People (pos people))
+AreBooks-founding things money people l =
+    AreBooks-after_booking things (after_booking (no_amounts things) Founding Money (pos money)) Founding People (pos people) (AreBooks-after_booking things (no_amounts things) Founding Money (pos money) (AreBooks-no_amounts things) (omega arith)) (omega arith)
 
 nobody : (t : Thing) → sum_over (λ (u : Unit). unit_amount t u.holding) (empty {X = Unit} {R = nat_cmp}) ≡ 0
 nobody t = rw (entries-empty {X = Unit}) refl
@@ -62,11 +60,10 @@ no_items w i =
     none_weighed (λ (r : Region). region_amount (Item i) r) (entries founded) (each-from_every (λ n r. region_amount (Item i) r ≡ 0) founded nothing)
 
 -- what is booked of a thing at founding
-founding_booked : (things money people : ℕ) → 2 ≤ things → (t : Thing) → booked (after_booking (after_booking (no_amounts things) Founding Money (pos money)) Founding People (pos people)) t ≡ share_of t Money (pos money) +ℤ share_of t People (pos people)
-founding_booked things money people l t =
-    let g = IsGrid-no_amounts things in
-    booked-after_booking things (after_booking (no_amounts things) Founding Money (pos money)) Founding People (pos people) (IsGrid-after_booking things (no_amounts things) Founding Money (pos money) g) (omega arith) t
-    ∙ ap (λ z. z +ℤ share_of t People (pos people)) (booked-after_booking things (no_amounts things) Founding Money (pos money) g (omega arith) t ∙ ap (λ z. z +ℤ share_of t Money (pos money)) (booked-no_amounts things t) ∙ from_nothing (share_of t Money (pos money)))
+founding_booked : (things money people : ℕ) (t : Thing) → booked (after_booking (after_booking (no_amounts things) Founding Money (pos money)) Founding People (pos people)) t ≡ share_of t Money (pos money) +ℤ share_of t People (pos people)
+founding_booked things money people t =
+    booked-after_booking (after_booking (no_amounts things) Founding Money (pos money)) Founding People (pos people) t
+    ∙ ap (λ z. z +ℤ share_of t People (pos people)) (booked-after_booking (no_amounts things) Founding Money (pos money) t ∙ ap (λ z. z +ℤ share_of t Money (pos money)) (booked-no_amounts things t) ∙ from_nothing (share_of t Money (pos money)))
   where
     from_nothing : (z : ℤ) → pos 0 +ℤ z ≡ z
     from_nothing z = omega (arith, ints)
@@ -82,12 +79,12 @@ held_items a b i m p h g e f = ap (λ n. pos (n + b)) h ∙ ap (λ n. pos (0 + n
 
 pub founded-balances : (w : WorldValue) (pass : List ℕ) → Balances (founded_of w pass)
 unfolding founded_of total
-founded-balances w pass Money = held_money _ _ (nobody Money) ∙ sym (founding_booked (things_of w) _ _ (omega arith) Money)
-founded-balances w pass People = held_people _ _ (nobody People) ∙ sym (founding_booked (things_of w) _ _ (omega arith) People)
+founded-balances w pass Money = held_money _ _ (nobody Money) ∙ sym (founding_booked (things_of w) _ _ Money)
+founded-balances w pass People = held_people _ _ (nobody People) ∙ sym (founding_booked (things_of w) _ _ People)
 founded-balances w pass (Item i) =
     held_items _ _ i (sum_over (λ (r : Region). region_amount Money r) (mapped founded_region w.regions)) (sum_over (λ (r : Region). region_amount People r) (mapped founded_region w.regions))
     (nobody (Item i)) (no_items w i) (grind (arith, nat_tests)) (grind (arith, nat_tests))
-    ∙ sym (founding_booked (things_of w) _ _ (omega arith) (Item i))
+    ∙ sym (founding_booked (things_of w) _ _ (Item i))
 
 none_within : (things : ℕ) (e : Entry) (t : Thing) → IsWithin 0 (amount_in (no_amounts things) e t)
 none_within things e t = rw (amount-no_amounts things e t) record { most = omega (arith, ints); least = omega (arith, ints) }
@@ -122,7 +119,7 @@ module _ (w : WorldValue) (pass : List ℕ) (world : IsWorld w) where
     regions = every-mapped founded_region (λ n r. IsRegion w n r) w.regions (λ n p is. in_range w p (length w.terrains) (length w.items) n (world.regions n p is));
     units = every-empty (λ n u. (1 ≤ n) × IsHolding u.holding);
     structures = every-empty (λ n s. (1 ≤ s.done) × (s.done ≤ size_of w s.kind));
-    books = IsGrid-founding (things_of w) money people;
+    books = AreBooks-founding (things_of w) money people (omega arith);
   }
 
   founded-names : IsTrue (pass_ok pass) → AreNamed (founded_of w pass)
@@ -166,10 +163,8 @@ module _ (w : WorldValue) (pass : List ℕ) (world : IsWorld w) where
   unfolding founded_of
   founded-amounts few_money few_people =
       let things = things_of w in
-      let g = IsGrid-no_amounts things in
       let one = after_booking (no_amounts things) Founding Money (pos money) in
-      let g2 = IsGrid-after_booking things (no_amounts things) Founding Money (pos money) g in
-      IsWithin-after_booking things one Founding People people money _ g2 (omega arith) (IsWithin-after_booking things (no_amounts things) Founding Money money 0 money g (omega arith) (none_within things) (omega arith)) (omega arith)
+      IsWithin-after_booking one Founding People people money _ (IsWithin-after_booking (no_amounts things) Founding Money money 0 money (none_within things) (omega arith)) (omega arith)
 
   pub founded-good : IsTrue (pass_ok pass) → money ≤ 100000000000000 → people ≤ 100000000000000 → IsGood w (founded_of w pass)
   unfolding founded_of

@@ -1,13 +1,13 @@
 -- What is so of the campaign that rows say.
-use Rattle.std.proofs.Common.{◌≡◌, ◌==◌, ℕ, ◌≤◌, ◌<◌, ◌+◌, ◌-◌, ◌&&◌, List, [], ◌∷◌, Bool, true, false, cond, filter, length, get_or, set, nat_le, refl, ap, subst, ◌∙◌, arith, inl, inr}
-use Rattle.std.specs.Prelude.{ℤ, pos, negsuc, min}
+use Rattle.std.proofs.Common.{◌≡◌, ◌==◌, ℕ, ◌≤◌, ◌<◌, ◌+◌, ◌&&◌, List, [], ◌∷◌, Bool, true, false, cond, filter, length, nat_le, refl, ap, subst, arith}
+use Rattle.std.specs.Prelude.{ℤ, pos, negsuc, min, nat_lt, Some, None}
 use Rattle.std.specs.List.{list_all}
 use Rattle.std.specs.Ordering.{nat_cmp}
 use Rattle.std.specs.Cmp.{nat_cmp_total}
 use Rattle.std.specs.FinMap.{FinMap, insert, empty, len, len-insert, len-empty, contains_key}
-use Rattle.std.proofs.lemmas.Bool.{cases_eq, and_parts, false≢true}
+use Rattle.std.proofs.lemmas.Bool.{and_parts, false≢true}
 use Rattle.std.proofs.lemmas.Bool.Decides.{nat_tests}
-use Rattle.std.proofs.lemmas.List.{get_or-set_same, get_or-set_other, length-set}
+use Rattle.std.specs.Option.{option_map_or}
 use Rattle.atl_tables.specs.Limits.{most_amount, most_regions}
 use Rattle.atl_tables.specs.Worlds.{WorldValue}
 use Rattle.atl_tables.specs.ByNumber.{size_of}
@@ -21,18 +21,20 @@ use Rattle.atl_state.specs.declared.parts.StoredHas.{StoredHas}
 use Rattle.atl_state.specs.declared.parts.StoredStructure.{StoredStructure}
 use Rattle.atl_state.specs.declared.parts.StoredBooks.{StoredBooks}
 use Rattle.atl_state.specs.declared.parts.StoredMarket.{StoredMarket}
-use Rattle.atl_records.specs.Books.{no_amounts, IsGrid, with_amount}
+use Rattle.atl_records.specs.declared.books.Entry.{Entry}
+use Rattle.atl_records.specs.Books.{AreBooks, BooksValue, entry_numbered, no_amounts, thing_at, with_amount}
 use Rattle.atl_state.specs.Founding.{things_of}
-use Rattle.atl_state.specs.FromRows.{clamp, as_u32, as_u16, is_entry, put_rows, by_number, faction_of, stocks_of, region_of, structure_of, unit_of, with_row, put_amounts, campaign_row_of, campaign_of}
+use Rattle.atl_state.specs.FromRows.{clamp, as_u32, as_u16, put_rows, by_number, faction_of, stocks_of, region_of, structure_of, unit_of, with_row, put_amounts, campaign_row_of, campaign_of}
 use Rattle.atl_records.specs.Every.{Every}
 use Rattle.atl_state.specs.Good.{IsRegion, AreInRange, HaveMen}
 use Rattle.atl_records.specs.Holdings.{IsHolding}
-use Rattle.atl_records.specs.Limits.{last_month, most_units, last_unit, men_limit, holding_limit, most_structures, entry_count, most_u32}
+use Rattle.atl_records.specs.Limits.{last_month, most_units, last_unit, men_limit, holding_limit, most_structures, most_u32}
 use Rattle.atl_state.specs.RowRules.{is_from, campaign_row_in_range, faction_in_range, region_in_range, unit_in_range, has_in_range, structure_in_range, books_in_range, books_bound, market_in_range, are_few, people_in_range, numbers_in_range, AreRowsInRange}
 use Rattle.atl_state.specs.Stocks.{stock_limit}
 use Rattle.atl_state.proofs.AssemblyLaws.{is_same, AreAmounts-had}
 use Rattle.atl_state.proofs.BackLaws.{every_by}
-use Rattle.atl_records.proofs.BookLaws.{IsGrid-no_amounts}
+use Rattle.atl_records.proofs.AccountLaws.{place_at}
+use Rattle.atl_records.proofs.BookLaws.{AreBooks-no_amounts, AreBooks-with_amount}
 use Rattle.atl_records.proofs.EveryLaws.{every-empty, every-insert}
 use Rattle.atl_state.proofs.GroupLaws.{kept}
 use Rattle.atl_state.proofs.OrderLaws.{each_passes}
@@ -86,32 +88,28 @@ from_le m n h = grind (arith, nat_tests)
 
 -- ---- the books
 
-row_kept : (xs : List ℤ) (i : ℕ) (z : ℤ) (n : ℕ) → length xs ≡ n → length (set xs i z) ≡ n
-row_kept xs i z n h = length-set xs i z ∙ h
+row_put : (things : ℕ) (books : BooksValue) (e : Entry) (r : StoredBooks) (b : Bool) → nat_lt (as_u32 r.thing) books.things ≡ b → AreBooks things books → AreBooks things (cond b (with_amount books e (thing_at (as_u32 r.thing)) r.amount) books)
+row_put things books e r true inside are =
+    let few : as_u32 r.thing < books.things = grind (arith, nat_tests) in
+    let place = place_at (as_u32 r.thing) in
+    AreBooks-with_amount books e (thing_at (as_u32 r.thing)) r.amount things are (omega (arith, few, place, are.count))
+row_put things books e r false inside are = are
 
-pub IsGrid-with_amount : (things : ℕ) (books : List (List ℤ)) (entry thing : ℕ) (z : ℤ) → IsGrid things books → IsGrid things (with_amount books entry thing z)
-IsGrid-with_amount things books entry thing z g =
-    record {
-      rows = length-set books thing (set (get_or books thing []) entry z) ∙ g.rows;
-      wide = λ k d h.
-          let new = set (get_or books thing []) entry z in
-          let lt : k < length books = omega (arith, h, length-set books thing new) in
-          elim (cases_eq k thing) [
-            | inl same ↦
-                let inside : thing < length books = omega arith in
-                ap (λ i. length (get_or (set books thing new) i d)) same ∙ ap length (get_or-set_same books thing new d inside) ∙ row_kept (get_or books thing []) entry z entry_count (g.wide thing [] inside)
-            | inr apart ↦ ap length (get_or-set_other books thing k new d apart) ∙ g.wide k d lt
-          ];
-    }
+row_read : (things : ℕ) (books : BooksValue) (r : StoredBooks) → AreBooks things books → AreBooks things (with_row books r)
+row_read things books r are =
+    let put = λ (e : Entry). cond (nat_lt (as_u32 r.thing) books.things) (with_amount books e (thing_at (as_u32 r.thing)) r.amount) books in
+    elim (entry_numbered (as_u32 r.entry)) as (λ o. AreBooks things (option_map_or put o books)) [ None ↦ are | Some e ↦ row_put things books e r (nat_lt (as_u32 r.thing) books.things) refl are ]
 
-either_grid : (things : ℕ) (b : Bool) (some other : List (List ℤ)) → IsGrid things some → IsGrid things other → IsGrid things (cond b some other)
-either_grid things true some other h k = h
-either_grid things false some other h k = k
+-- a row of a thing that is not there says nothing
+pub row_unread : (books : BooksValue) (r : StoredBooks) → books.things ≤ as_u32 r.thing → with_row books r ≡ books
+row_unread books r past =
+    let none : nat_lt (as_u32 r.thing) books.things ≡ false = grind (arith, nat_tests) in
+    let put = λ (e : Entry). with_amount books e (thing_at (as_u32 r.thing)) r.amount in
+    elim (entry_numbered (as_u32 r.entry)) as (λ o. option_map_or (λ e. cond (nat_lt (as_u32 r.thing) books.things) (put e) books) o books ≡ books) [ None ↦ refl | Some e ↦ ap (λ b. cond b (put e) books) none ]
 
-pub put-grid : (things : ℕ) (rows : List StoredBooks) (books : List (List ℤ)) → IsGrid things books → IsGrid things (put_amounts rows books)
-put-grid things [] books g = g
-put-grid things (r ∷ rows) books g =
-    put-grid things rows (with_row books r) (either_grid things (is_entry (as_u32 r.entry)) (with_amount books (as_u32 r.entry - 1) (as_u32 r.thing) r.amount) books (IsGrid-with_amount things books (as_u32 r.entry - 1) (as_u32 r.thing) r.amount g) g)
+pub put-books : (things : ℕ) (rows : List StoredBooks) (books : BooksValue) → AreBooks things books → AreBooks things (put_amounts rows books)
+put-books things [] books are = are
+put-books things (r ∷ rows) books are = put-books things rows (with_row books r) (row_read things books r are)
 
 -- ---- the ranges
 
@@ -260,5 +258,5 @@ module _ (w : WorldValue) (p : Parts) (h : AreRowsInRange w p) where
         regions = by_number-every (λ r. as_u32 r.number) (region_of p.markets) (λ n r. IsRegion w n r) region_in_range (λ r good. region_good w p.markets r ranges.markets good) p.regions ranges.regions;
         units = by_number-every (λ r. as_u32 r.number) (unit_of p.has) (λ n u. (1 ≤ n) × IsHolding u.holding) unit_in_range (λ r good. unit_good p.has r ranges.has good) p.units ranges.units;
         structures = by_number-every (λ r. as_u32 r.number) structure_of (λ n s. (1 ≤ s.done) × (s.done ≤ size_of w s.kind)) (structure_in_range w) (λ r good. structure_good w r good) p.structures ranges.structures;
-        books = put-grid (things_of w) p.books (no_amounts (things_of w)) (IsGrid-no_amounts (things_of w));
+        books = put-books (things_of w) p.books (no_amounts (things_of w)) (AreBooks-no_amounts (things_of w));
       }

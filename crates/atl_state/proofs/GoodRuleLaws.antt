@@ -7,7 +7,7 @@ use Rattle.std.specs.Ordering.{nat_cmp, eq_by_cmp}
 use Rattle.std.specs.Cmp.{eq_by_cmp_equiv}
 use Rattle.std.specs.Cmp.Lexicographic.{slice_cmp, nat_list_cmp_total}
 use Rattle.std.specs.FinMap.{get, entries, len}
-use Rattle.std.proofs.lemmas.Bool.{cases_lt, false≢true, not_from_false}
+use Rattle.std.proofs.lemmas.Bool.{cases_lt, not_from_false}
 use Rattle.std.proofs.lemmas.Bool.Decides.{nat_tests}
 use Rattle.std.proofs.lemmas.Int.{ints}
 use Rattle.std.proofs.lemmas.Map.Keys.{IsDistinct-IsPermutation}
@@ -28,23 +28,25 @@ use Rattle.atl_state.specs.declared.parts.Parts.{Parts}
 use Rattle.atl_state.specs.declared.parts.StoredCampaignRow.{StoredCampaignRow}
 use Rattle.atl_state.specs.declared.parts.StoredFaction.{StoredFaction}
 use Rattle.atl_records.specs.declared.records.Faction.{Faction}
-use Rattle.atl_records.specs.Books.{entry_index, thing_at, IsWithin, amount_at}
+use Rattle.atl_records.specs.Books.{amount_in, entry_index, thing_index, IsWithin}
 use Rattle.atl_state.specs.Checking.{Keeps, IsWithoutMarkets, Fits, Checks, GivesBack}
 use Rattle.atl_records.specs.Every.{EachOf}
 use Rattle.atl_state.specs.Deciding.{Differ}
 use Rattle.atl_state.specs.Founding.{things_of}
 use Rattle.atl_state.specs.FromRows.{as_u32, faction_of, region_of, structure_of, unit_of, campaign_row_of, campaign_of}
-use Rattle.atl_state.specs.Good.{AreAmountsWithin, AreKnown, AreNumbered, AreDays, GoneHaveNone, NoneAreGone, AreOwned, AreAfloat, AreOfOneFaction, guards, IsMail, AreReported, amount_bound, IsGood}
+use Rattle.atl_state.specs.Good.{AreKnown, AreNumbered, AreDays, GoneHaveNone, NoneAreGone, AreOwned, AreAfloat, AreOfOneFaction, guards, IsMail, AreReported, amount_bound, IsGood}
 use Rattle.atl_records.specs.Limits.{entry_count, first_entry_count, entries_in, holding_limit, last_month, last_unit, men_limit, most_in_joining, most_in_month, most_structures, most_units}
 use Rattle.atl_state.specs.RowRules.{is_from, is_one_campaign_row, are_of_format, is_within, campaign_row_in_range, faction_in_range, region_in_range, unit_in_range, has_in_range, structure_in_range, books_in_range, books_bound, market_in_range, are_few, AreKeyed, AreRowsInRange, faction_named, AreRowsNamed, is_of_unit, is_of_market, is_entry_in, is_booked}
 use Rattle.atl_state.specs.Rows.{flag, rows_by, campaign_row, faction_row, region_row, unit_row, structure_row, mail_row, report_row, has_row, has_rows, books_rows, market_rows, is_zero, AreRowsOf}
 use Rattle.atl_state.specs.Stocks.{stock_limit}
 use Rattle.atl_state.specs.Campaign.{CampaignValue, MarkedCampaign}
 use Rattle.atl_state.specs.Totals.{Balances}
-use Rattle.atl_records.proofs.BookLaws.{place_at}
-use Rattle.atl_records.proofs.EveryEntryLaws.{entry_at}
+use Rattle.atl_records.specs.declared.books.Entry.{Entry}
+use Rattle.atl_records.specs.declared.books.Thing.{Thing}
+use Rattle.atl_records.proofs.BookLaws.{zero_not}
+use Rattle.atl_records.proofs.EveryEntryLaws.{entry_small}
 use Rattle.atl_state.proofs.BackLaws.{each_permuted, all_pass, read_whole, rows_pass, count_rows}
-use Rattle.atl_state.proofs.BackBooksLaws.{lines_each, books_keys}
+use Rattle.atl_state.proofs.BackBooksLaws.{amount_is, lines_each, books_keys}
 use Rattle.atl_state.proofs.BackHasLaws.{has_each, has_keys, goods_of}
 use Rattle.atl_state.proofs.DifferLaws.{entries_differ}
 use Rattle.atl_state.proofs.GoodRowLaws as row
@@ -71,13 +73,6 @@ flag_in_range false = refl
 within_true : (bound : ℕ) (z : ℤ) → IsWithin bound z → is_within bound z ≡ true
 within_true bound (pos n) h = let most : n ≤ bound = omega (arith, ints, h.most) in le_true n bound most
 within_true bound (negsuc n) h = let most : suc n ≤ bound = omega (arith, ints, h.least) in le_true (suc n) bound most
-
--- ---- amounts
-
-amounts_within : (c : CampaignValue) → AreAmountsWithin c → (e t : ℕ) → e < entry_count → IsWithin (amount_bound c) (amount_at c.books e t)
-amounts_within c within e t l =
-    let entry = entry_at e l in
-    subst (λ k. IsWithin (amount_bound c) (amount_at c.books k t)) entry.1 (subst (λ k. IsWithin (amount_bound c) (amount_at c.books (entry_index entry.0) k)) (place_at t) (within entry.0 (thing_at t)))
 
 -- ---- names that differ
 
@@ -202,8 +197,9 @@ module _ (f : Format) (w : WorldValue) (world : IsWorld w) (c : CampaignValue) (
   amounts_in_range =
       all_pass (books_in_range (amount_bound c)) (λ r. books_in_range (amount_bound c) r ≡ true) (λ r e. e) p.books
       (each_permuted (λ r. books_in_range (amount_bound c) r ≡ true) (books_rows c.books) p.books (row.books_listed w world c good f fits p rows)
-      (lines_each c.books (λ r. books_in_range (amount_bound c) r ≡ true) (λ e t el tl some.
-      and_true _ _ (not_from_false (is_zero (amount_at c.books e t)) some) (within_true (amount_bound c) (amount_at c.books e t) (amounts_within c good.sound.amounts e t el)))))
+      (lines_each c.books (λ r. books_in_range (amount_bound c) r ≡ true) (λ e t z is.
+      let some = zero_not z (good.sound.steady.numbers.books.listed e t z is).1 in
+      and_true _ _ (not_from_false (is_zero z) some) (within_true (amount_bound c) z (subst (IsWithin (amount_bound c)) (amount_is c.books e t z is) (good.sound.amounts e t))))))
 
   book_ranges : list_all (books_in_range (books_bound p)) p.books ≡ true
   book_ranges = ap (λ bound. list_all (books_in_range bound) p.books) bound_said ∙ amounts_in_range
@@ -248,33 +244,30 @@ module _ (f : Format) (w : WorldValue) (world : IsWorld w) (c : CampaignValue) (
       ap (λ k. is_some (market_of w k (as_u32 (pos i)))) (read_whole n (small.numbers n r there)) ∙ ap (λ k. is_some (market_of w n k)) (read_whole i (small.stocks n r there i a is).0) ∙ good.sound.steady.known.markets n r there i a is))
 
   -- the entries whose amounts are not 0 are those of the format
-  entry_few : (e t : ℕ) → e < entry_count → is_zero (amount_at c.books e t) ≡ false → e < entries_in f
-  entry_few e t l some = elim f as (λ g. Fits g c → e < entries_in g) [ First ↦ λ bare. early bare | Second ↦ λ _. l ] fits
+  entry_few : (e : Entry) (t : Thing) → amount_in c.books e t ≢ pos 0 → entry_index e < entries_in f
+  entry_few e t some = elim f as (λ g. Fits g c → entry_index e < entries_in g) [ First ↦ λ bare. early bare | Second ↦ λ _. entry_small e ] fits
     where
-      none_under : IsWithoutMarkets c → first_entry_count ≤ e → amount_at c.books e t ≡ pos 0
-      none_under bare late =
-          let entry = entry_at e l in
-          subst (λ k. amount_at c.books k t ≡ pos 0) entry.1 (subst (λ k. amount_at c.books (entry_index entry.0) k ≡ pos 0) (place_at t) (bare.entries entry.0 (thing_at t) (omega (arith, late, entry.1))))
-
-      early : IsWithoutMarkets c → e < first_entry_count
-      early bare = elim (cases_lt e first_entry_count) [ inl few ↦ few | inr late ↦ absurd (false≢true (sym some ∙ ap is_zero (none_under bare late))) ]
+      early : IsWithoutMarkets c → entry_index e < first_entry_count
+      early bare = elim (cases_lt (entry_index e) first_entry_count) [ inl few ↦ few | inr late ↦ absurd (some (bare.entries e t late)) ]
 
   entry_true : (e : ℕ) → e < entries_in f → e < entry_count → is_entry_in f (as_u32 (pos (e + 1))) ≡ true
   entry_true e few small =
       let least : nat_le 1 (e + 1) ≡ true = le_true 1 (e + 1) (omega arith) in
       ap (is_entry_in f) (read_whole (e + 1) (omega arith)) ∙ and_true _ _ least (le_true (e + 1) (entries_in f) (omega (arith, few)))
 
-  thing_true : (t : ℕ) → t < length c.books → nat_lt (as_u32 (pos t)) (things_of w) ≡ true
+  thing_true : (t : ℕ) → t < things_of w → nat_lt (as_u32 (pos t)) (things_of w) ≡ true
   thing_true t inside =
-      let size = good.sound.steady.numbers.books.rows in
       let few = row.few_things w world c good f fits p rows in
-      let read = read_whole t (omega (arith, size, few)) in
-      lt_true (as_u32 (pos t)) (things_of w) (omega (arith, read, size))
+      let read = read_whole t (omega (arith, few)) in
+      lt_true (as_u32 (pos t)) (things_of w) (omega (arith, read))
 
   of_books : list_all (is_booked f w) p.books ≡ true
   of_books =
       all_pass (is_booked f w) (λ r. is_booked f w r ≡ true) (λ r e. e) p.books (each_permuted (λ r. is_booked f w r ≡ true) (books_rows c.books) p.books (row.books_listed w world c good f fits p rows)
-      (lines_each c.books (λ r. is_booked f w r ≡ true) (λ e t el tl some. and_true _ _ (entry_true e (entry_few e t el some) el) (thing_true t tl))))
+      (lines_each c.books (λ r. is_booked f w r ≡ true) (λ e t z is.
+      let (inside, some) = good.sound.steady.numbers.books.listed e t z is in
+      let few = entry_few e t (λ none. some (sym (amount_is c.books e t z is) ∙ none)) in
+      and_true _ _ (entry_true (entry_index e) few (entry_small e)) (thing_true (thing_index t) inside))))
 
   said : (P : CampaignValue → Type 0) → P c → P (campaign_of w p)
   said P h = subst P (sym back) h

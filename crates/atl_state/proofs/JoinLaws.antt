@@ -24,7 +24,7 @@ use Rattle.atl_records.specs.declared.records.Faction.{Faction}
 use Rattle.atl_records.specs.declared.records.Unit.{Unit}
 use Rattle.atl_records.specs.Holdings.{IsHolding}
 use Rattle.atl_state.specs.Campaign.{CampaignValue, numbers_of}
-use Rattle.atl_records.specs.Books.{booked, after_booking, amount_in, IsGrid, IsSmall}
+use Rattle.atl_records.specs.Books.{booked, after_booking, amount_in, IsSmall}
 use Rattle.atl_records.specs.Amounts.{unit_amount}
 use Rattle.atl_state.specs.Totals.{total, Balances}
 use Rattle.atl_state.specs.Founding.{things_of}
@@ -33,7 +33,7 @@ use Rattle.atl_state.proofs.GoodLaws.{posted-there}
 use Rattle.atl_state.specs.Good.{AreInRange, AreAmountsWithin, HaveMen, AreNamed, IsPlaced, AreKnown, IsNumbered, AreNumbered, AreDays, GoneHaveNone, NoneAreGone, AreOwned, IsAboard, AreAfloat, guards, AreOfOneFaction, IsMail, IsSteady, IsSound, amount_bound}
 use Rattle.atl_state.specs.Joining.{joined, new_faction, first_unit, home_of, is_full, name_taken}
 use Rattle.atl_state.specs.Ordered.{put_number, first_above}
-use Rattle.atl_records.proofs.BookLaws.{booked-after_booking, IsGrid-after_booking, IsWithin-after_booking, IsSmall-within, share_of}
+use Rattle.atl_records.proofs.BookLaws.{booked-after_booking, AreBooks-after_booking, IsWithin-after_booking, IsSmall-within, share_of}
 use Rattle.atl_records.proofs.EveryLaws.{every-empty, every-insert, every-from_none, get-insert_other, there-new, there-insert, passes-listed, none_some}
 use Rattle.atl_state.proofs.NumberedNameLaws.{unit_name_ok}
 use Rattle.atl_state.proofs.OrderedLaws.{numbers_where-insert_new}
@@ -54,14 +54,14 @@ held_booked w word c Money = omega (arith, ints)
 held_booked w word c People = refl
 held_booked w word c (Item i) = none w word c i (grind (arith, nat_tests)) (grind (arith, nat_tests))
 
-pub joined-balances : (w : WorldValue) (name pass : List ℕ) (word : ℕ) (c : CampaignValue) → IsGrid (things_of w) c.books → get c.units c.next_unit ≡ None → Balances c → Balances (joined w name pass word c)
+pub joined-balances : (w : WorldValue) (name pass : List ℕ) (word : ℕ) (c : CampaignValue) → get c.units c.next_unit ≡ None → Balances c → Balances (joined w name pass word c)
 unfolding joined total
-joined-balances w name pass word c grid free h t =
+joined-balances w name pass word c free h t =
     let one = after_booking c.books Joining Money (pos w.rules.start_money) in
     ap pos (total-with_unit c c.next_unit (first_unit w word c) t free)
     ∙ two (total c t) (unit_amount t (first_unit w word c).holding) (booked c.books t) (share_of t Money (pos w.rules.start_money)) (share_of t People (pos 1)) (h t) (held_booked w word c t)
-    ∙ ap (λ z. z +ℤ share_of t People (pos 1)) (sym (booked-after_booking (things_of w) c.books Joining Money (pos w.rules.start_money) grid (omega arith) t))
-    ∙ sym (booked-after_booking (things_of w) one Joining People (pos 1) (IsGrid-after_booking (things_of w) c.books Joining Money (pos w.rules.start_money) grid) (omega arith) t)
+    ∙ ap (λ z. z +ℤ share_of t People (pos 1)) (sym (booked-after_booking c.books Joining Money (pos w.rules.start_money) t))
+    ∙ sym (booked-after_booking one Joining People (pos 1) t)
 
 amounts_small : (w : WorldValue) (c : CampaignValue) → AreInRange w c → amount_bound c ≤ 4000000000000000000
 amounts_small w c numbers = omega (arith, numbers.month, numbers.few_factions)
@@ -143,7 +143,7 @@ module _ (w : WorldValue) (name pass : List ℕ) (word : ℕ) (c : CampaignValue
         regions = old.regions;
         units = every-insert (λ n u. (1 ≤ n) × IsHolding u.holding) c.units c.next_unit unit (old.next_unit_least, record { men = omega arith; money = world.rules.start_money; items = every-empty (λ item amount. (1 ≤ amount) × (amount ≤ holding_limit)) }) old.units;
         structures = old.structures;
-        books = IsGrid-after_booking (things_of w) one Joining People (pos 1) (IsGrid-after_booking (things_of w) c.books Joining Money (pos w.rules.start_money) old.books);
+        books = AreBooks-after_booking (things_of w) one Joining People (pos 1) (AreBooks-after_booking (things_of w) c.books Joining Money (pos w.rules.start_money) old.books (omega arith)) (omega arith);
       }
 
   joined-names : is_full c ≡ false → name_taken c name ≡ false → IsTrue (name_ok name) → IsTrue (pass_ok pass) → AreNamed c → AreNamed (joined w name pass word c)
@@ -253,14 +253,13 @@ module _ (w : WorldValue) (name pass : List ℕ) (word : ℕ) (c : CampaignValue
   unfolding joined
   joined-men old = every-insert (λ n u. 1 ≤ u.holding.men) c.units c.next_unit unit (omega arith) old
 
-  joined-amounts : IsWorld w → AreNumbered c → IsGrid (things_of w) c.books → AreAmountsWithin c → AreAmountsWithin (joined w name pass word c)
+  joined-amounts : IsWorld w → AreNumbered c → AreAmountsWithin c → AreAmountsWithin (joined w name pass word c)
   unfolding joined
-  joined-amounts world next grid old =
+  joined-amounts world next old =
       let more = len_new c.factions c.next_faction member (next.factions.free c.next_faction (omega arith)) in
       let one = after_booking c.books Joining Money (pos w.rules.start_money) in
-      let g = IsGrid-after_booking (things_of w) c.books Joining Money (pos w.rules.start_money) grid in
-      IsWithin-after_booking (things_of w) one Joining People 1 (amount_bound c + w.rules.start_money) _ g (omega arith)
-      (IsWithin-after_booking (things_of w) c.books Joining Money w.rules.start_money (amount_bound c) (amount_bound c + w.rules.start_money) grid (omega arith) old (omega arith)) (omega (arith, more, world.rules.start_money))
+      IsWithin-after_booking one Joining People 1 (amount_bound c + w.rules.start_money) _
+      (IsWithin-after_booking c.books Joining Money w.rules.start_money (amount_bound c) (amount_bound c + w.rules.start_money) old (omega arith)) (omega (arith, more, world.rules.start_money))
 
   module _ (full : is_full c ≡ false) (free : name_taken c name ≡ false) (named : IsTrue (name_ok name)) (passes : IsTrue (pass_ok pass)) (world : IsWorld w) where
     joined-steady : IsSteady w c → IsSteady w (joined w name pass word c)
@@ -280,8 +279,8 @@ module _ (w : WorldValue) (name pass : List ℕ) (word : ℕ) (c : CampaignValue
     joined-sound old = let next = old.steady.next in record {
       steady = joined-steady old.steady;
       men = joined-men old.men;
-      amounts = joined-amounts world next old.steady.numbers.books old.amounts;
+      amounts = joined-amounts world next old.amounts;
       gone = joined-none next old.gone;
-      balances = joined-balances w name pass word c old.steady.numbers.books (next.units c.next_unit (omega arith)) old.balances;
+      balances = joined-balances w name pass word c (next.units c.next_unit (omega arith)) old.balances;
       mail = joined-mail next old.mail;
     }

@@ -14,6 +14,7 @@ pub mod GoodRuleLaws
 pub mod TotalLaws
 pub mod MadeOf
 pub mod AmountMarkLaws
+mod FitLaws
 pub mod FoundingLaws
 pub mod NumberedNameLaws
 pub mod JoinLaws

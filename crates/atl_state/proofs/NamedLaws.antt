@@ -1,12 +1,12 @@
 -- The campaign that rows say has good names where they have, and amounts within their bound.
-use Rattle.std.proofs.Common.{◌≡◌, ℕ, suc, ◌≤◌, ◌+◌, ◌*◌, ◌&&◌, List, [], ◌∷◌, Bool, true, false, not, map, Some, refl, sym, ap, subst, ◌∙◌, arith, inl, inr}
+use Rattle.std.proofs.Common.{◌≡◌, ℕ, suc, ◌≤◌, ◌+◌, ◌*◌, ◌&&◌, List, [], ◌∷◌, Bool, true, false, cond, not, map, Some, sym, ap, subst, ◌∙◌, arith, inl, inr}
 use Rattle.std.specs.Prelude.{ℤ, pos, negsuc}
 use Rattle.std.specs.List.{list_all, AllByRecursion, IsDistinct}
 use Rattle.std.specs.Ordering.{nat_cmp, eq_by_cmp}
 use Rattle.std.specs.Cmp.{eq_by_cmp_equiv}
 use Rattle.std.specs.Cmp.Lexicographic.{slice_cmp, nat_list_cmp_total}
 use Rattle.std.specs.FinMap.{FinMap, get}
-use Rattle.std.proofs.lemmas.Bool.{and_parts, cases_eq, false≢true}
+use Rattle.std.proofs.lemmas.Bool.{and_parts, false≢true}
 use Rattle.std.proofs.lemmas.Int.{ints}
 use Rattle.atl_tables.specs.Names.{name_ok, pass_ok}
 use Rattle.atl_tables.specs.Worlds.{WorldValue}
@@ -18,15 +18,17 @@ use Rattle.atl_state.specs.declared.parts.StoredUnit.{StoredUnit}
 use Rattle.atl_state.specs.declared.parts.StoredStructure.{StoredStructure}
 use Rattle.atl_state.specs.declared.parts.StoredBooks.{StoredBooks}
 use Rattle.atl_records.specs.declared.records.Faction.{Faction}
-use Rattle.atl_records.specs.Books.{no_amounts, IsGrid, IsWithin, entry_index, thing_index, with_amount, amount_at}
+use Rattle.atl_records.specs.declared.books.Entry.{Entry}
+use Rattle.atl_records.specs.declared.books.Thing.{Thing}
+use Rattle.atl_records.specs.Books.{account_cmp, amount_in, AreBooks, BooksValue, IsWithin, no_amounts, with_amount}
 use Rattle.atl_state.specs.Founding.{things_of}
 use Rattle.atl_state.specs.FromRows.{as_u32, faction_of, structure_of, unit_of, by_number, put_amounts, campaign_row_of, campaign_of}
 use Rattle.atl_state.specs.Good.{AreNamed, AreAmountsWithin, amount_bound}
 use Rattle.atl_state.specs.RowRules.{faction_named, books_in_range, books_bound, is_within, HaveJoined, AreRowsNamed}
 use Rattle.atl_state.specs.Rows.{is_zero}
-use Rattle.atl_records.proofs.BookLaws.{IsGrid-no_amounts, no_row, nothing_in}
-use Rattle.atl_state.proofs.BooksRowLaws.{IsBooked, its_amount, other_thing, other_entry, with_booked_row, entry_small, entry_of, thing_of}
-use Rattle.atl_state.proofs.FromRowLaws.{by_number-every, from_le, IsGrid-with_amount}
+use Rattle.atl_records.proofs.BookLaws.{amount-no_amounts, amount-with_amount, AreBooks-no_amounts, AreBooks-with_amount}
+use Rattle.atl_state.proofs.BooksRowLaws.{IsBooked, account_there, with_booked_row}
+use Rattle.atl_state.proofs.FromRowLaws.{by_number-every, from_le}
 use Rattle.atl_state.proofs.OrderLaws.{HasNumber, row_of, rows_found, same_count, each_passes}
 use Rattle.atl_state.proofs.SaidLaws.{RowsKeep, factions_apart, all_booked, ranges}
 
@@ -74,32 +76,22 @@ is_in : (bound : ℕ) (z : ℤ) → is_within bound z ≡ true → IsWithin boun
 is_in bound (pos n) h = let most : n ≤ bound = from_le n bound h in record { most = omega (arith, ints); least = omega (arith, ints) }
 is_in bound (negsuc n) h = let most : suc n ≤ bound = from_le (suc n) bound h in record { most = omega (arith, ints); least = omega (arith, ints) }
 
-abbrev AreCells : ℕ → List (List ℤ) → Type 0
-AreCells bound books = (entry thing : ℕ) → IsWithin bound (amount_at books entry thing)
+abbrev AreBelow : ℕ → BooksValue → Type 0
+AreBelow bound books = (e : Entry) (t : Thing) → IsWithin bound (amount_in books e t)
 
-cells-with : (things bound : ℕ) (books : List (List ℤ)) (r : StoredBooks) → IsGrid things books → IsBooked things r → IsWithin bound r.amount → AreCells bound books → AreCells bound (with_amount books (entry_of r) (thing_of r) r.amount)
-cells-with things bound books r g booked here old f u =
-    let small = entry_small things r booked in
-    elim (cases_eq u (thing_of r)) [
-      | inl t ↦
-          elim (cases_eq f (entry_of r)) [
-            | inl e ↦
-                subst (IsWithin bound) (sym (ap (λ k. amount_at (with_amount books (entry_of r) (thing_of r) r.amount) f k) t ∙ ap (λ k. amount_at (with_amount books (entry_of r) (thing_of r) r.amount) k (thing_of r)) e ∙ its_amount things books g (entry_of r) (thing_of r) r.amount small booked.there)) here
-            | inr apart ↦ subst (IsWithin bound) (sym (other_entry things books g (entry_of r) (thing_of r) r.amount small booked.there f u apart)) (old f u)
-          ]
-      | inr apart ↦ subst (IsWithin bound) (sym (other_thing things books g (entry_of r) (thing_of r) r.amount small booked.there f u apart)) (old f u)
-    ]
+below-with : (bound : ℕ) (books : BooksValue) (e : Entry) (t : Thing) (z : ℤ) → IsWithin bound z → AreBelow bound books → AreBelow bound (with_amount books e t z)
+below-with bound books e t z here old f u =
+    subst (IsWithin bound) (sym (amount-with_amount books e t z f u)) (elim (eq_by_cmp account_cmp (f, u) (e, t)) as (λ b. IsWithin bound (cond b z (amount_in books f u))) [ true ↦ here | false ↦ old f u ])
 
-cells-put : (things bound : ℕ) (rows : List StoredBooks) (books : List (List ℤ)) → IsGrid things books → AllByRecursion (IsBooked things) rows → AllByRecursion (λ r. IsWithin bound r.amount) rows → AreCells bound books → AreCells bound (put_amounts rows books)
-cells-put things bound [] books g booked here old = old
-cells-put things bound (r ∷ rows) books g booked here old =
-    subst (λ b. AreCells bound (put_amounts rows b)) (sym (with_booked_row things books r booked.0))
-    (cells-put things bound rows (with_amount books (entry_of r) (thing_of r) r.amount) (IsGrid-with_amount things books (entry_of r) (thing_of r) r.amount g) booked.1 here.1 (cells-with things bound books r g booked.0 here.0 old))
+below-put : (things bound : ℕ) (rows : List StoredBooks) (books : BooksValue) → AreBooks things books → AllByRecursion (IsBooked things) rows → AllByRecursion (λ r. IsWithin bound r.amount) rows → AreBelow bound books → AreBelow bound (put_amounts rows books)
+below-put things bound [] books are booked here old = old
+below-put things bound (r ∷ rows) books are booked here old =
+    let a = booked.0.account in
+    subst (λ b. AreBelow bound (put_amounts rows b)) (sym (with_booked_row things books r are booked.0))
+    (below-put things bound rows (with_amount books a.0 a.1 r.amount) (AreBooks-with_amount books a.0 a.1 r.amount things are (account_there things r booked.0)) booked.1 here.1 (below-with bound books a.0 a.1 r.amount here.0 old))
 
-no_cells : (things bound : ℕ) → AreCells bound (no_amounts things)
-no_cells things bound f u =
-    let none : amount_at (no_amounts things) f u ≡ pos 0 = nothing_in (λ row. amount_at (row ∷ []) f 0 ≡ pos 0) things u (no_row f) refl in
-    subst (IsWithin bound) (sym none) (record { most = omega (arith, ints); least = omega (arith, ints) })
+below-none : (things bound : ℕ) → AreBelow bound (no_amounts things)
+below-none things bound e t = subst (IsWithin bound) (sym (amount-no_amounts things e t)) (record { most = omega (arith, ints); least = omega (arith, ints) })
 
 module _ (f : Format) (w : WorldValue) (p : Parts) (k : RowsKeep f w p) where
   factions : FinMap nat_cmp Faction
@@ -130,13 +122,12 @@ module _ (f : Format) (w : WorldValue) (p : Parts) (k : RowsKeep f w p) where
   unfolding campaign_of
   same_bound = ap (λ n. most_in_month * (as_u32 (campaign_row_of p).month + 1) + most_in_joining * n) (same_count (λ r. as_u32 r.number) faction_of p.factions (factions_apart f w p k))
 
-  cells : AreCells (books_bound p) (put_amounts p.books (no_amounts (things_of w)))
-  cells =
-      cells-put (things_of w) (books_bound p) p.books (no_amounts (things_of w)) (IsGrid-no_amounts (things_of w)) (all_booked f w p k)
+  below : AreBelow (books_bound p) (put_amounts p.books (no_amounts (things_of w)))
+  below =
+      below-put (things_of w) (books_bound p) p.books (no_amounts (things_of w)) (AreBooks-no_amounts (things_of w)) (all_booked f w p k)
       (each_passes (books_in_range (books_bound p)) (λ r. IsWithin (books_bound p) r.amount) (λ r h. is_in (books_bound p) r.amount (and_parts (not (is_zero r.amount)) (is_within (books_bound p) r.amount) h).1) p.books (ranges f w p k).books)
-      (no_cells (things_of w) (books_bound p))
+      (below-none (things_of w) (books_bound p))
 
   pub AreAmountsWithin-said : AreAmountsWithin (campaign_of w p)
   unfolding campaign_of
-  AreAmountsWithin-said e t =
-      subst (λ bound. IsWithin bound (amount_at (put_amounts p.books (no_amounts (things_of w))) (entry_index e) (thing_index t))) (sym same_bound) (cells (entry_index e) (thing_index t))
+  AreAmountsWithin-said e t = subst (λ bound. IsWithin bound (amount_in (put_amounts p.books (no_amounts (things_of w))) e t)) (sym same_bound) (below e t)

@@ -1,39 +1,37 @@
 -- How a campaign changes with a region, and with what is booked.
-use Rattle.std.proofs.Common.{◌≡◌, ◌≢◌, ◌↔◌, List, [], get_or, set, ℕ, ◌+◌, ◌*◌, ◌≤◌, ◌<◌, cond, Some, length, refl, sym, ap, subst, ◌∙◌, inl, inr, arith}
-use Rattle.std.specs.Prelude.{ℤ, pos, ◌+ℤ◌, is_some}
+use Rattle.std.proofs.Common.{◌≡◌, ◌≢◌, ◌↔◌, ℕ, ◌+◌, ◌≤◌, ◌<◌, cond, Some, refl, sym, ap, subst, ◌∙◌, inl, inr, arith}
+use Rattle.std.specs.Prelude.{ℤ, ◌+ℤ◌, is_some}
 use Rattle.std.specs.Ordering.{nat_cmp, is_eq}
 use Rattle.std.specs.Cmp.{nat_cmp_total, ranked}
 use Rattle.std.specs.declared.cmp.Ordering.TheVariants.{Less, Equal, Greater}
 use Rattle.std.specs.FinMap.{FinMap, get, insert, len, get-insert, len-insert, nat_cmp-IsAntisymmetric}
-use Rattle.std.proofs.lemmas.List.{get_or-set_other, get_or-set_same}
-use Rattle.std.proofs.lemmas.Bool.{cases_eq}
 use Rattle.atl_tables.specs.Worlds.{WorldValue}
 use Rattle.atl_tables.specs.Limits.{most_amount}
 use Rattle.atl_tables.specs.Sums.{sum_over, changed, changed_at}
 use Rattle.atl_tables.proofs.SumLaws.{sum_over-insert_known}
-use Rattle.atl_records.specs.Limits.{entry_count}
 use Rattle.atl_records.specs.declared.books.Entry.{Entry}
 use Rattle.atl_records.specs.declared.books.Thing.{Thing}
 use Rattle.atl_records.specs.declared.records.Region.{Region}
 use Rattle.atl_records.specs.declared.records.Unit.{Unit}
-use Rattle.atl_records.specs.Books.{IsGrid, amount_in, entry_index, row_of, thing_index, after_booking, amount_number}
+use Rattle.atl_records.specs.Books.{Account, AreBooks, BooksValue, amount_in, thing_index, after_booking, amount_number}
 use Rattle.atl_state.specs.Founding.{things_of}
 use Rattle.atl_records.specs.Every.{Every, IsThere}
 use Rattle.atl_state.specs.Good.{IsRegion, AreInRange, AreKnown, AreOfMarkets, IsSteady}
 use Rattle.atl_state.specs.Campaign.{CampaignValue, region_changed, with_amount}
 use Rattle.atl_records.specs.Amounts.{region_amount, unit_amount}
 use Rattle.atl_state.specs.Totals.{total}
-use Rattle.atl_records.proofs.BookLaws.{IsGrid-after_booking}
+use Rattle.atl_records.proofs.AccountLaws.{cases_account}
+use Rattle.atl_records.proofs.BookLaws.{AreBooks-after_booking, other_amount}
 use Rattle.atl_records.proofs.EveryLaws.{every-insert, there-insert}
 
 -- ---- other regions, other books
 
-module _ (w : WorldValue) (c : CampaignValue) (regions : FinMap nat_cmp Region) (books : List (List ℤ)) where
+module _ (w : WorldValue) (c : CampaignValue) (regions : FinMap nat_cmp Region) (books : BooksValue) where
   abbrev stocked : CampaignValue
   stocked = record c { regions = regions; books = books }
 
   module _ (few : len regions ≡ len c.regions) (there : (n : ℕ) → IsThere c.regions n ↔ IsThere regions n)
-      (within : Every (λ n r. IsRegion w n r) regions) (marketed : Every (λ n r. AreOfMarkets w n r.stocks) regions) (grid : IsGrid (things_of w) books) where
+      (within : Every (λ n r. IsRegion w n r) regions) (marketed : Every (λ n r. AreOfMarkets w n r.stocks) regions) (booked : AreBooks (things_of w) books) where
     stocked-numbers : AreInRange w c → AreInRange w stocked
     stocked-numbers old = record {
       month = old.month;
@@ -47,7 +45,7 @@ module _ (w : WorldValue) (c : CampaignValue) (regions : FinMap nat_cmp Region) 
       regions = within;
       units = old.units;
       structures = old.structures;
-      books = grid;
+      books = booked;
     }
 
     stocked-known : AreKnown w c → AreKnown w stocked
@@ -129,31 +127,18 @@ module _ (f : Region → Region) (c : CampaignValue) (n : ℕ) (r : Region) (is 
 
 -- ---- the books
 
-pub steady-amount : (w : WorldValue) (c : CampaignValue) (e : Entry) (t : Thing) (n : ℤ) → IsSteady w c → IsSteady w (with_amount c e t n)
-steady-amount w c e t n old =
-    stocked-steady w c c.regions (after_booking c.books e t n) refl (λ k. (λ h. h, λ h. h)) old.numbers.regions old.known.markets (IsGrid-after_booking (things_of w) c.books e t n old.numbers.books) old
+pub steady-amount : (w : WorldValue) (c : CampaignValue) (e : Entry) (t : Thing) (n : ℤ) → thing_index t < things_of w → IsSteady w c → IsSteady w (with_amount c e t n)
+steady-amount w c e t n there old =
+    stocked-steady w c c.regions (after_booking c.books e t n) refl (λ k. (λ h. h, λ h. h)) old.numbers.regions old.known.markets (AreBooks-after_booking (things_of w) c.books e t n old.numbers.books there) old
 
 pub total-amount : (c : CampaignValue) (e : Entry) (u t : Thing) (n : ℤ) → total (with_amount c e u n) t ≡ total c t
 unfolding total
 total-amount c e u t n = refl
 
 -- no other amount changes
-pub amount-other : (things : ℕ) (books : List (List ℤ)) (e f : Entry) (t u : Thing) (n : ℤ) → IsGrid things books → thing_index u < things → amount_number e t ≢ amount_number f u → amount_in (after_booking books f u n) e t ≡ amount_in books e t
-amount-other things books e f t u n g h apart =
-    let i = thing_index t in
-    let j = thing_index u in
-    let inside : j < length books = omega (arith, g.rows) in
-    let wide : length (row_of books u) ≡ entry_count = g.wide j [] inside in
-    let row = set (row_of books u) (entry_index f) (amount_in books f u +ℤ n) in
-    elim (cases_eq i j) [
-      | inl same ↦
-          let other : entry_index e ≢ entry_index f = λ one. apart (both i j (entry_index e) (entry_index f) same one) in
-          ap (λ k. get_or (get_or (set books j row) k []) (entry_index e) (pos 0)) same
-          ∙ ap (λ x. get_or x (entry_index e) (pos 0)) (get_or-set_same books j row [] inside)
-          ∙ get_or-set_other (row_of books u) (entry_index f) (entry_index e) (amount_in books f u +ℤ n) (pos 0) other
-          ∙ ap (λ k. get_or (get_or books k []) (entry_index e) (pos 0)) (sym same)
-      | inr other ↦ ap (λ x. get_or x (entry_index e) (pos 0)) (get_or-set_other books j i row [] other)
+pub amount-other : (books : BooksValue) (e f : Entry) (t u : Thing) (n : ℤ) → amount_number e t ≢ amount_number f u → amount_in (after_booking books f u n) e t ≡ amount_in books e t
+amount-other books e f t u n apart =
+    elim (cases_account (e, t) (f, u)) [
+      | inl same ↦ absurd (apart (ap (λ (a : Account). amount_number a.0 a.1) same))
+      | inr other ↦ other_amount books f u (amount_in books f u +ℤ n) e t other
     ]
-  where
-    both : (i j p q : ℕ) → i ≡ j → p ≡ q → entry_count * i + p ≡ entry_count * j + q
-    both i j p q a b = omega arith

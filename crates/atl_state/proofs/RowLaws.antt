@@ -1,19 +1,15 @@
 -- How the rows of a campaign are listed one after another.
-use Rattle.std.proofs.Common.{◌≡◌, ◌≢◌, ℕ, zero, suc, ◌+◌, ◌++◌, List, [], ◌∷◌, false, not, cond, map, refl, sym, ap, ◌∙◌, arith}
-use Rattle.std.specs.Prelude.{ℤ, pos, negsuc}
-use Rattle.std.specs.List.{range_with_len, flat_map}
-use Rattle.std.proofs.lemmas.List.{append-nil}
-use Rattle.std.proofs.lemmas.List.Concat.{flat_map-append}
-use Rattle.std.proofs.lemmas.List.FromFn.{map-range_with_len_more, filter_of_map_range_with_len_more}
-use Rattle.std.proofs.lemmas.Bool.Decides.{nat_tests}
+use Rattle.std.proofs.Common.{◌≡◌, ◌≢◌, ℕ, ◌+◌, ◌++◌, List, [], ◌∷◌, true, false, not, cond, refl, sym, ap, ◌∙◌, arith}
+use Rattle.std.specs.Prelude.{ℤ, pos}
+use Rattle.std.specs.List.{flat_map}
+use Rattle.std.proofs.lemmas.List.{append-nil, append_assoc}
+use Rattle.std.proofs.lemmas.List.FromFn.{map-range_with_len_more}
 use Rattle.atl_state.specs.declared.parts.StoredBooks.{StoredBooks}
-use Rattle.atl_records.specs.Books.{amount_at}
-use Rattle.atl_state.specs.Rows.{has_row, books_row, is_zero, amount_rows, kind_rows, entry_rows}
-
-pub is_zero_not : (z : ℤ) → z ≢ pos 0 → is_zero z ≡ false
-is_zero_not (pos zero) h = absurd (h refl)
-is_zero_not (pos (suc n)) h = grind (arith, nat_tests)
-is_zero_not (negsuc n) h = refl
+use Rattle.atl_records.specs.declared.books.Entry.{Entry}
+use Rattle.atl_records.specs.Books.{Account, BooksValue, amount_in, is_zero, thing_at}
+use Rattle.atl_records.specs.Grids.{accounts_under, listed_of}
+use Rattle.atl_records.proofs.BookLaws.{zero_not}
+use Rattle.atl_state.specs.Rows.{has_row, amounts_rows, books_row, amount_rows, kind_rows, rows_under}
 
 same_size : {m n : ℕ} → pos m ≡ pos n → m ≡ n
 same_size e = cc
@@ -23,7 +19,7 @@ module _ {R : Type 0} (shown : R → ℤ) (row : ℕ → ℕ → R) (shows : (th
   -- a row more, where the amount isn't 0
   pub amount_rows_one : (thing amount : ℕ) (es : List (ℕ × ℕ)) → amount ≢ 0 → amount_rows shown row ((thing, amount) ∷ es) ≡ row thing amount ∷ amount_rows shown row es
   amount_rows_one thing amount es h =
-      ap (λ b. cond (not b) (row thing amount ∷ amount_rows shown row es) (amount_rows shown row es)) (ap is_zero (shows thing amount) ∙ is_zero_not (pos amount) (λ e. h (same_size e)))
+      ap (λ b. cond (not b) (row thing amount ∷ amount_rows shown row es) (amount_rows shown row es)) (ap is_zero (shows thing amount) ∙ zero_not (pos amount) (λ e. h (same_size e)))
 
 -- of what a unit has
 pub sort_rows_one : (n sort thing amount : ℕ) (es : List (ℕ × ℕ)) → amount ≢ 0 → kind_rows n sort ((thing, amount) ∷ es) ≡ has_row n sort thing amount ∷ kind_rows n sort es
@@ -32,22 +28,39 @@ sort_rows_one n sort = amount_rows_one (λ r. r.amount) (has_row n sort) (λ i a
 pub sort_rows_none : (n sort thing amount : ℕ) (es : List (ℕ × ℕ)) → amount ≡ 0 → kind_rows n sort ((thing, amount) ∷ es) ≡ kind_rows n sort es
 sort_rows_none n sort thing amount es h = ap (λ k. cond (not (is_zero (pos k))) (has_row n sort thing amount ∷ kind_rows n sort es) (kind_rows n sort es)) h
 
-entry_rows_more : (books : List (List ℤ)) (entry n : ℕ) → entry_rows books (n + 1) entry ≡ entry_rows books n entry ++ cond (not (is_zero (amount_at books entry n))) (books_row entry n (amount_at books entry n) ∷ []) []
-entry_rows_more books entry n = filter_of_map_range_with_len_more (λ (r : StoredBooks). not (is_zero r.amount)) (λ thing. books_row entry thing (amount_at books entry thing)) 0 n n (omega arith)
+-- ---- rows of the books
 
-pub entry_rows_one : (books : List (List ℤ)) (entry n : ℕ) → amount_at books entry n ≢ pos 0 → entry_rows books (n + 1) entry ≡ entry_rows books n entry ++ books_row entry n (amount_at books entry n) ∷ []
-entry_rows_one books entry n h = entry_rows_more books entry n ∙ ap (λ b. entry_rows books n entry ++ cond (not b) (books_row entry n (amount_at books entry n) ∷ []) []) (is_zero_not (amount_at books entry n) h)
+-- the lists of rows of accounts that stand one after another
+pub rows_under-append : (books : BooksValue) (some others : List Account) → rows_under books (some ++ others) ≡ rows_under books some ++ rows_under books others
+rows_under-append books [] others = refl
+rows_under-append books (a ∷ some) others =
+    let z = amount_in books a.0 a.1 in
+    let rest = rows_under books some in
+    elim (is_zero z) as (λ b. amounts_rows (cond (not b) ((a, z) ∷ listed_of (λ c. amount_in books c.0 c.1) (some ++ others)) (listed_of (λ c. amount_in books c.0 c.1) (some ++ others)))
+    ≡ amounts_rows (cond (not b) ((a, z) ∷ listed_of (λ c. amount_in books c.0 c.1) some) (listed_of (λ c. amount_in books c.0 c.1) some)) ++ rows_under books others) [
+      | true ↦ rows_under-append books some others
+      | false ↦ ap (λ rows. books_row a.0 a.1 z ∷ rows) (rows_under-append books some others)
+    ]
 
-pub entry_rows_none : (books : List (List ℤ)) (entry n : ℕ) → amount_at books entry n ≡ pos 0 → entry_rows books (n + 1) entry ≡ entry_rows books n entry
-entry_rows_none books entry n h =
-    entry_rows_more books entry n ∙ ap (λ z. entry_rows books n entry ++ cond (not (is_zero z)) (books_row entry n z ∷ []) []) h ∙ append-nil (entry_rows books n entry)
+rows_under_one : (books : BooksValue) (a : Account) → rows_under books (a ∷ []) ≡ cond (not (is_zero (amount_in books a.0 a.1))) (books_row a.0 a.1 (amount_in books a.0 a.1) ∷ []) []
+rows_under_one books a = elim (is_zero (amount_in books a.0 a.1)) as (λ b. amounts_rows (cond (not b) ((a, amount_in books a.0 a.1) ∷ []) []) ≡ cond (not b) (books_row a.0 a.1 (amount_in books a.0 a.1) ∷ []) []) [ true ↦ refl | false ↦ refl ]
 
-same : (xs : List ℕ) → map (λ x. x) xs ≡ xs
-same [] = refl
-same (x ∷ xs) = ap (λ ys. x ∷ ys) (same xs)
+more_under : (books : BooksValue) (entry : Entry) (n : ℕ) → rows_under books (accounts_under (n + 1) entry) ≡ rows_under books (accounts_under n entry) ++ rows_under books ((entry, thing_at n) ∷ [])
+more_under books entry n = ap (rows_under books) (map-range_with_len_more (λ i. (entry, thing_at i)) 0 n n (omega arith)) ∙ rows_under-append books (accounts_under n entry) ((entry, thing_at n) ∷ [])
 
-range_more : (n : ℕ) → range_with_len 0 (n + 1) ≡ range_with_len 0 n ++ n ∷ []
-range_more n = sym (same (range_with_len 0 (n + 1))) ∙ map-range_with_len_more (λ x. x) 0 n n (omega arith) ∙ ap (λ xs. xs ++ n ∷ []) (same (range_with_len 0 n))
+pub rows_under-some : (books : BooksValue) (entry : Entry) (n : ℕ) → amount_in books entry (thing_at n) ≢ pos 0 → rows_under books (accounts_under (n + 1) entry) ≡ rows_under books (accounts_under n entry) ++ books_row entry (thing_at n) (amount_in books entry (thing_at n)) ∷ []
+rows_under-some books entry n h =
+    let z = amount_in books entry (thing_at n) in
+    more_under books entry n ∙ ap (λ rows. rows_under books (accounts_under n entry) ++ rows) (rows_under_one books (entry, thing_at n) ∙ ap (λ b. cond (not b) (books_row entry (thing_at n) z ∷ []) []) (zero_not z h))
 
-pub flat_map_more : {X : Type 0} (f : ℕ → List X) (n : ℕ) → flat_map f (range_with_len 0 (n + 1)) ≡ flat_map f (range_with_len 0 n) ++ f n
-flat_map_more f n = ap (flat_map f) (range_more n) ∙ flat_map-append f (range_with_len 0 n) (n ∷ []) ∙ ap (λ xs. flat_map f (range_with_len 0 n) ++ xs) (append-nil (f n))
+pub rows_under-none : (books : BooksValue) (entry : Entry) (n : ℕ) → amount_in books entry (thing_at n) ≡ pos 0 → rows_under books (accounts_under (n + 1) entry) ≡ rows_under books (accounts_under n entry)
+rows_under-none books entry n h =
+    more_under books entry n ∙ ap (λ rows. rows_under books (accounts_under n entry) ++ rows) (rows_under_one books (entry, thing_at n) ∙ ap (λ z. cond (not (is_zero z)) (books_row entry (thing_at n) z ∷ []) []) h) ∙ append-nil (rows_under books (accounts_under n entry))
+
+-- the rows of one entry more
+pub entry_added : (books : BooksValue) (things : ℕ) (x : Entry) (now rest : List Entry) (before after all : List StoredBooks) → now ≡ x ∷ rest → after ≡ before ++ rows_under books (accounts_under things x)
+    → before ++ rows_under books (flat_map (accounts_under things) now) ≡ all → after ++ rows_under books (flat_map (accounts_under things) rest) ≡ all
+entry_added books things x now rest before after all next is so_far =
+    let of = λ (es : List Entry). rows_under books (flat_map (accounts_under things) es) in
+    ap (λ rows. rows ++ of rest) is ∙ append_assoc before (rows_under books (accounts_under things x)) (of rest) ∙ ap (λ rows. before ++ rows) (sym (rows_under-append books (accounts_under things x) (flat_map (accounts_under things) rest)))
+    ∙ ap (λ es. before ++ of es) (sym next) ∙ so_far

@@ -32,7 +32,7 @@ use Rattle.atl_records.specs.declared.records.Region.{Region}
 use Rattle.atl_records.specs.declared.records.Unit.{Unit}
 use Rattle.atl_records.specs.Books.{no_amounts}
 use Rattle.atl_state.specs.Founding.{things_of}
-use Rattle.atl_state.specs.FromRows.{as_u32, as_u16, is_set, is_of, is_entry, faction_of, region_of, structure_of, unit_of, things_had, by_number, put_amounts, no_campaign_row, campaign_row_of, campaign_of}
+use Rattle.atl_state.specs.FromRows.{as_u32, as_u16, is_set, is_of, faction_of, region_of, structure_of, unit_of, things_had, by_number, put_amounts, no_campaign_row, campaign_row_of, campaign_of}
 use Rattle.atl_records.specs.Every.{Every, IsThere}
 use Rattle.atl_state.specs.Good.{IsPlaced, IsBuilt, AreKnown, AreDays}
 use Rattle.atl_records.specs.Limits.{last_month, last_unit, men_limit, holding_limit, most_structures, entry_count, entries_in, most_u16, most_u32}
@@ -40,7 +40,8 @@ use Rattle.atl_state.specs.RowRules.{one_key, is_from, is_one_campaign_row, are_
 use Rattle.atl_state.specs.Rows.{flag, is_zero, rows_by, faction_row, region_row, unit_row, structure_row, mail_row, report_row, has_rows, books_rows, market_rows, AreRowsOf, rows_of}
 use Rattle.atl_state.specs.Stocks.{stock_limit}
 use Rattle.atl_state.proofs.AssemblyLaws.{from_range}
-use Rattle.atl_state.proofs.BooksRowLaws.{IsBooked, books_order}
+use Rattle.atl_records.proofs.BookLaws.{not_zero}
+use Rattle.atl_state.proofs.BooksRowLaws.{IsBooked, booked_row, books_order}
 use Rattle.atl_state.proofs.FromRowLaws.{in_range, from_le, by_number-every, unit_ranges, number_ranges, head_ranges, NumberRanges}
 use Rattle.atl_state.proofs.GroupLaws.{unkept}
 use Rattle.atl_state.proofs.HasLaws.{IsWhole, IsKeyed, IsExact, IsOfUnits, same, ties_itself, things_apart, has_order}
@@ -133,9 +134,9 @@ or_cases : (b c : Bool) → (b || c) ≡ true → (b ≡ true) ⊎ (c ≡ true)
 or_cases true c h = inl refl
 or_cases false c h = inr h
 
-not_zero : (z : ℤ) → IsWhole z → 1 ≤ as_u32 z → is_zero z ≡ false
-not_zero (pos n) whole h = let apart : n ≢ 0 = λ e. let zero_read : as_u32 (pos n) ≡ 0 = ap (λ m. as_u32 (pos m)) e in omega arith in grind (arith, nat_tests)
-not_zero (negsuc n) whole h = refl
+whole_not_zero : (z : ℤ) → IsWhole z → 1 ≤ as_u32 z → is_zero z ≡ false
+whole_not_zero (pos n) whole h = let apart : n ≢ 0 = λ e. let zero_read : as_u32 (pos n) ≡ 0 = ap (λ m. as_u32 (pos m)) e in omega arith in grind (arith, nat_tests)
+whole_not_zero (negsuc n) whole h = refl
 
 is_of_itself : (h : StoredHas) → is_of (as_u32 h.unit) (as_u32 h.sort) h ≡ true
 is_of_itself h =
@@ -412,10 +413,10 @@ module _ (f : Format) (w : WorldValue) (p : Parts) (k : RowsKeep f w p) where
       let at = ap (λ (m : FinMap nat_cmp ℕ). get m (as_u32 h.thing)) (their_days n there.0 there.1) ∙ ap (λ s. get (things_had n s p.has) (as_u32 h.thing)) (sym skill) ∙ found n (as_u32 h.sort) (is_of_itself h) in
       let range = k.days n there.0 there.1 (as_u32 h.thing) (as_u32 h.amount) at in
       let whole = whole_below h.amount (omega (arith, range.0, range.1, men)) in
-      (whole, not_zero h.amount whole range.0)
+      (whole, whole_not_zero h.amount whole range.0)
   exact_of h there (inr item) found =
       let range = from_range 1 holding_limit h.amount (omega arith) item.1 in
-      (range.0, not_zero h.amount range.0 range.1)
+      (range.0, whole_not_zero h.amount range.0 range.1)
 
   abbrev KeyedPlaced : StoredHas → Type 0
   KeyedPlaced h = IsKeyed h × Placed h
@@ -449,7 +450,7 @@ module _ (f : Format) (w : WorldValue) (p : Parts) (k : RowsKeep f w p) where
       let few = k.world.few_items in
       let limit_few = small_limit w k.world (as_u32 m.region) (as_u32 m.item) in
       let stock = from_range 1 (stock_limit w (as_u32 m.region) (as_u32 m.item)) m.stock (omega (arith, limit_few)) range in
-      record { keys = record { region = whole_below m.region (omega arith); item = whole_below m.item (omega arith) }; stock = stock.0; some = not_zero m.stock stock.0 stock.1 }
+      record { keys = record { region = whole_below m.region (omega arith); item = whole_below m.item (omega arith) }; stock = stock.0; some = whole_not_zero m.stock stock.0 stock.1 }
 
   exact_markets : AllByRecursion market.IsExact p.markets
   exact_markets =
@@ -483,33 +484,26 @@ module _ (f : Format) (w : WorldValue) (p : Parts) (k : RowsKeep f w p) where
   few_entries Second = omega arith
 
   -- an entry of the format is one of all
-  an_entry : (n : ℕ) → is_entry_in f n ≡ true → (n ≤ entry_count) × (is_entry n ≡ true)
+  an_entry : (n : ℕ) → is_entry_in f n ≡ true → (1 ≤ n) × (n ≤ entry_count)
   an_entry n h =
       let parts = and_parts (nat_le 1 n) (nat_le n (entries_in f)) h in
       let few = from_le n (entries_in f) parts.1 in
       let most = few_entries f in
-      let all : n ≤ entry_count = omega (arith, few, most) in
-      let passes : nat_le n entry_count ≡ true = grind (arith, nat_tests) in
-      (all, ap (λ b. b && nat_le n entry_count) parts.0 ∙ passes)
+      (from_le 1 n parts.0, omega (arith, few, most))
 
-  booked_row : (r : StoredBooks) → is_booked f w r ≡ true → books_in_range (books_bound p) r ≡ true → IsBooked (things_of w) r
-  booked_row r h range =
+  its_account : (r : StoredBooks) → is_booked f w r ≡ true → books_in_range (books_bound p) r ≡ true → IsBooked (things_of w) r
+  its_account r h range =
       let parts = and_parts (is_entry_in f (as_u32 r.entry)) (nat_lt (as_u32 r.thing) (things_of w)) h in
       let entry = an_entry (as_u32 r.entry) parts.0 in
-      let entry_few = entry.0 in
+      let entry_few = entry.1 in
       let there = below_of (as_u32 r.thing) (things_of w) parts.1 in
       let few = k.world.few_items in
-      record {
-        entry = whole_below r.entry (omega arith);
-        thing = whole_below r.thing (omega arith);
-        named = entry.1;
-        there = there;
-        some = not-true (is_zero r.amount) (and_parts (not (is_zero r.amount)) (is_within (books_bound p) r.amount) range).0;
-      }
+      let some = not_zero r.amount (not-true (is_zero r.amount) (and_parts (not (is_zero r.amount)) (is_within (books_bound p) r.amount) range).0) in
+      booked_row (things_of w) r (whole_below r.entry (omega arith)) (whole_below r.thing (omega arith)) entry.0 entry.1 there some
 
   pub all_booked : AllByRecursion (IsBooked (things_of w)) p.books
   all_booked =
-      each_with (λ r. is_booked f w r ≡ true) (λ r. books_in_range (books_bound p) r ≡ true) (IsBooked (things_of w)) booked_row p.books (each_passes (is_booked f w) (λ r. is_booked f w r ≡ true) (λ r h. h) p.books k.booked)
+      each_with (λ r. is_booked f w r ≡ true) (λ r. books_in_range (books_bound p) r ≡ true) (IsBooked (things_of w)) its_account p.books (each_passes (is_booked f w) (λ r. is_booked f w r ≡ true) (λ r h. h) p.books k.booked)
       (each_passes (books_in_range (books_bound p)) (λ r. books_in_range (books_bound p) r ≡ true) (λ r h. h) p.books ranges.books)
 
   pub books_said : IsPermutation (books_rows (put_amounts p.books (no_amounts (things_of w)))) p.books

@@ -1,7 +1,7 @@
 -- The value of a campaign in contracts.
 use Rattle.std.specs.Prelude.{◌==◌, ◌+◌, not, if◌then◌else◌, List, [], ℕ, ℤ, Bool, true, refl}
 use Rattle.std.specs.Ordering.{nat_cmp}
-use Rattle.std.specs.Coded.{Coded, code_by, coded×, coded_ℕ, coded_ℤ, coded_list}
+use Rattle.std.specs.Coded.{Coded, code_by, coded×, coded_ℕ, coded_list}
 use Rattle.std.specs.FinMap.{FinMap, code, empty, insert}
 use Rattle.atl_tables.specs.Sums.{changed, numbers_where}
 use Rattle.atl_records.specs.declared.records.Faction.{Faction}
@@ -14,7 +14,7 @@ use Rattle.atl_records.specs.contracts.records.Structure as structure
 use Rattle.atl_records.specs.contracts.records.Unit as unit
 use Rattle.atl_records.specs.declared.books.Entry.{Entry}
 use Rattle.atl_records.specs.declared.books.Thing.{Thing}
-use Rattle.atl_records.specs.Books.{after_booking}
+use Rattle.atl_records.specs.Books.{BooksValue, after_booking, books_code, no_amounts}
 use Rattle.atl_records.specs.Holdings.{with_amount_of}
 use Rattle.atl_state.specs.Marks.{Marks, marks_code, no_marks}
 
@@ -31,7 +31,7 @@ pub record CampaignValue : Type 0 where
   pub structures : FinMap nat_cmp Structure
   pub mail : FinMap nat_cmp (List ℕ)
   pub reports : FinMap nat_cmp (List ℕ)
-  pub books : List (List ℤ)
+  pub books : BooksValue
 
 -- what the campaign is, and what of it has changed since it was last written
 pub record MarkedCampaign : Type 0 where
@@ -40,10 +40,10 @@ pub record MarkedCampaign : Type 0 where
 
 abbrev pub campaign_code : Coded CampaignValue
 campaign_code =
-    code_by (ℕ × (List ℕ × (ℕ × (ℕ × (ℕ × (FinMap nat_cmp Faction × (FinMap nat_cmp Region × (FinMap nat_cmp Unit × (FinMap nat_cmp Structure × (FinMap nat_cmp (List ℕ) × (FinMap nat_cmp (List ℕ) × List (List ℤ))))))))))))
+    code_by (ℕ × (List ℕ × (ℕ × (ℕ × (ℕ × (FinMap nat_cmp Faction × (FinMap nat_cmp Region × (FinMap nat_cmp Unit × (FinMap nat_cmp Structure × (FinMap nat_cmp (List ℕ) × (FinMap nat_cmp (List ℕ) × BooksValue)))))))))))
     (coded× coded_ℕ (coded× (coded_list coded_ℕ) (coded× coded_ℕ (coded× coded_ℕ (coded× coded_ℕ
     (coded× (code coded_ℕ faction.the_row.coded) (coded× (code coded_ℕ region.the_row.coded) (coded× (code coded_ℕ unit.the_row.coded) (coded× (code coded_ℕ structure.the_row.coded)
-    (coded× (code coded_ℕ (coded_list coded_ℕ)) (coded× (code coded_ℕ (coded_list coded_ℕ)) (coded_list (coded_list coded_ℤ)))))))))))))
+    (coded× (code coded_ℕ (coded_list coded_ℕ)) (coded× (code coded_ℕ (coded_list coded_ℕ)) books_code)))))))))))
     (λ s. (s.month, (s.pass, (s.next_faction, (s.next_unit, (s.next_structure, (s.factions, (s.regions, (s.units, (s.structures, (s.mail, (s.reports, s.books))))))))))))
     (λ p. record {
       month = p.0;
@@ -78,7 +78,7 @@ nothing = record {
   structures = empty;
   mail = empty;
   reports = empty;
-  books = [];
+  books = no_amounts 0;
 }
 
 abbrev pub blank : MarkedCampaign

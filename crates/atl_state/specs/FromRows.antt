@@ -1,9 +1,10 @@
 -- The campaign that rows stand for, whether or not they keep the rules.
-use Rattle.std.specs.Prelude.{◌-◌, ℕ, ℤ, pos, negsuc, Bool, not, ◌==◌, ◌&&◌, nat_le, min, List, [], ◌∷◌, filter, slice_index_or, if◌then◌else◌}
+use Rattle.std.specs.Prelude.{ℕ, ℤ, pos, negsuc, Bool, not, ◌==◌, ◌&&◌, nat_lt, min, List, [], ◌∷◌, filter, slice_index_or, if◌then◌else◌}
+use Rattle.std.specs.Option.{option_map_or}
 use Rattle.std.specs.Ordering.{nat_cmp}
 use Rattle.std.specs.FinMap.{FinMap, empty, insert}
 use Rattle.atl_tables.specs.Worlds.{WorldValue}
-use Rattle.atl_records.specs.Limits.{entry_count, most_u16, most_u32}
+use Rattle.atl_records.specs.Limits.{most_u16, most_u32}
 use Rattle.atl_state.specs.declared.parts.Parts.{Parts}
 use Rattle.atl_state.specs.declared.parts.StoredCampaignRow.{StoredCampaignRow}
 use Rattle.atl_state.specs.declared.parts.StoredFaction.{StoredFaction}
@@ -17,7 +18,7 @@ use Rattle.atl_records.specs.declared.records.Faction.{Faction}
 use Rattle.atl_records.specs.declared.records.Region.{Region}
 use Rattle.atl_records.specs.declared.records.Structure.{Structure}
 use Rattle.atl_records.specs.declared.records.Unit.{Unit}
-use Rattle.atl_records.specs.Books.{no_amounts, with_amount}
+use Rattle.atl_records.specs.Books.{BooksValue, entry_numbered, no_amounts, thing_at, with_amount}
 use Rattle.atl_state.specs.Founding.{things_of}
 use Rattle.atl_state.specs.Rows.{is_zero}
 use Rattle.atl_state.specs.Campaign.{CampaignValue}
@@ -87,15 +88,14 @@ region_with r stocks = record { peasants = as_u32 r.peasants; money = as_u32 r.m
 abbrev pub region_of : List StoredMarket → StoredRegion → Region
 region_of markets r = region_with r (stocks_of (as_u32 r.number) markets)
 
--- entries are counted from 1
-abbrev pub is_entry : ℕ → Bool
-is_entry n = nat_le 1 n && nat_le n entry_count
-
-abbrev pub with_row : List (List ℤ) → StoredBooks → List (List ℤ)
-with_row books r = if is_entry (as_u32 r.entry) then with_amount books (as_u32 r.entry - 1) (as_u32 r.thing) r.amount else books
+-- the books with the amount of a row, where its entry and its thing are there
+abbrev pub with_row : BooksValue → StoredBooks → BooksValue
+with_row books r =
+    option_map_or (λ e. if nat_lt (as_u32 r.thing) books.things then with_amount books e (thing_at (as_u32 r.thing)) r.amount else books)
+    (entry_numbered (as_u32 r.entry)) books
 
 -- the books with the amount of each row, one after another
-abbrev pub put_amounts : List StoredBooks → List (List ℤ) → List (List ℤ)
+abbrev pub put_amounts : List StoredBooks → BooksValue → BooksValue
 put_amounts [] books = books
 put_amounts (r ∷ rs) books = put_amounts rs (with_row books r)
 

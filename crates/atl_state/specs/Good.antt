@@ -16,7 +16,7 @@ use Rattle.atl_records.specs.declared.records.Faction.{Faction}
 use Rattle.atl_records.specs.declared.records.Region.{Region}
 use Rattle.atl_records.specs.declared.records.Structure.{Structure}
 use Rattle.atl_records.specs.declared.records.Unit.{Unit}
-use Rattle.atl_records.specs.Books.{amount_in, IsGrid, IsWithin}
+use Rattle.atl_records.specs.Books.{amount_in, AreBooks, IsWithin}
 use Rattle.atl_state.specs.Founding.{things_of}
 use Rattle.atl_records.specs.Holdings.{IsHolding}
 use Rattle.atl_state.specs.Campaign.{CampaignValue, numbers_of}
@@ -56,7 +56,7 @@ pub record AreInRange (w : WorldValue) (c : CampaignValue) : Type 0 where
   pub regions : Every (λ n r. IsRegion w n r) c.regions
   pub units : Every (λ n u. (1 ≤ n) × IsHolding u.holding) c.units
   pub structures : Every (λ n s. (1 ≤ s.done) × (s.done ≤ size_of w s.kind)) c.structures
-  pub books : IsGrid (things_of w) c.books
+  pub books : AreBooks (things_of w) c.books
 
 abbrev pub AreAmountsWithin : CampaignValue → Type 0
 AreAmountsWithin c = (e : Entry) (t : Thing) → IsWithin (amount_bound c) (amount_in c.books e t)

@@ -1,6 +1,6 @@
 -- For proofs alone: lists of units that a campaign keeps, so that a look-up need not go over all units, and room for
 -- marks.
-use Rattle.std.specs.Prelude.{◌≡◌, ◌==◌, ◌≤◌, ◌*◌, ℕ, ℤ, List, [], length, unwrap_or, Some, None, if◌then◌else◌}
+use Rattle.std.specs.Prelude.{◌≡◌, ◌==◌, ◌≤◌, ◌*◌, ℕ, List, [], unwrap_or, Some, None, if◌then◌else◌}
 use Rattle.std.specs.Ordering.{nat_cmp}
 use Rattle.std.specs.FinMap.{FinMap, get, insert, remove}
 use Rattle.atl_tables.specs.RoomySets.{RoomySet}
@@ -76,7 +76,7 @@ pub record MarksAmounts (things : ℕ) (marks : RoomySet) : Type 0 where
   pub room : entry_count * things ≤ marks.room
   pub numbers : AreOfThings things marks.numbers
 
--- the lists of the units, and the marks of amounts
-pub record AreKept (units : FinMap nat_cmp Unit) (lists : UnitLists) (books : List (List ℤ)) (marks : RoomySet) : Type 0 where
+-- the lists of the units, and the marks of the amounts of so many things
+pub record AreKept (units : FinMap nat_cmp Unit) (lists : UnitLists) (things : ℕ) (marks : RoomySet) : Type 0 where
   pub unit_lists : AreUnitLists units lists
-  pub amounts : MarksAmounts (length books) marks
+  pub amounts : MarksAmounts things marks

@@ -1,12 +1,11 @@
 -- The rows that a campaign has in each table of a format, in the order of their keys.
-use Rattle.std.specs.Prelude.{◌+◌, ◌++◌, ℕ, ℤ, pos, negsuc, Bool, true, false, not, ◌==◌, List, [], ◌∷◌, length, map, filter}
-use Rattle.std.specs.List.{range_with_len, flat_map}
+use Rattle.std.specs.Prelude.{◌+◌, ◌++◌, ℕ, ℤ, pos, Bool, true, false, not, List, [], ◌∷◌, map, filter}
+use Rattle.std.specs.List.{flat_map}
 use Rattle.std.specs.List.Sorted.{IsPermutation}
 use Rattle.std.specs.FinMap.{entries}
 use Rattle.atl_tables.specs.Formats.{format_number}
 use Rattle.atl_tables.specs.declared.format.Format.{Format}
 use Rattle.atl_tables.specs.declared.format.Format.TheVariants.{First, Second}
-use Rattle.atl_records.specs.Limits.{entry_count}
 use Rattle.atl_state.specs.declared.parts.Parts.{Parts}
 use Rattle.atl_state.specs.declared.parts.StoredCampaignRow.{StoredCampaignRow}
 use Rattle.atl_state.specs.declared.parts.StoredFaction.{StoredFaction}
@@ -24,7 +23,11 @@ use Rattle.atl_records.specs.declared.records.Structure.{Structure}
 use Rattle.atl_records.specs.declared.records.Unit.{Unit}
 use Rattle.atl_records.specs.Holdings.{HoldingValue}
 use Rattle.atl_state.specs.Campaign.{CampaignValue}
-use Rattle.atl_records.specs.Books.{amount_at}
+pub use Rattle.atl_records.specs.Books.{is_zero}
+use Rattle.atl_records.specs.Books.{Account, BooksValue, amount_in, entry_index, thing_index}
+use Rattle.atl_records.specs.Grids.{listed_of}
+use Rattle.atl_records.specs.declared.books.Entry.{Entry}
+use Rattle.atl_records.specs.declared.books.Thing.{Thing}
 
 -- 1 where a flag is set
 abbrev pub flag : Bool → ℤ
@@ -59,9 +62,9 @@ report_row n text = record { faction = pos n; text = text }
 abbrev pub has_row : ℕ → ℕ → ℕ → ℕ → StoredHas
 has_row n sort thing amount = record { unit = pos n; sort = pos sort; thing = pos thing; amount = pos amount }
 
--- of an entry and a thing by their places, entries being counted from 1
-abbrev pub books_row : ℕ → ℕ → ℤ → StoredBooks
-books_row entry thing amount = record { entry = pos (entry + 1); thing = pos thing; amount = amount }
+-- entries are counted from 1
+abbrev pub books_row : Entry → Thing → ℤ → StoredBooks
+books_row entry thing amount = record { entry = pos (entry_index entry + 1); thing = pos (thing_index thing); amount = amount }
 
 -- of a region and an item
 abbrev pub market_row : ℕ → ℕ → ℕ → StoredMarket
@@ -72,10 +75,6 @@ market_row region item stock = record { region = pos region; item = pos item; st
 -- a row for each entry of a map
 abbrev pub rows_by : {V R : Type 0} → (ℕ → V → R) → List (ℕ × V) → List R
 rows_by row es = map (λ e. row e.0 e.1) es
-
-abbrev pub is_zero : ℤ → Bool
-is_zero (pos n) = n == 0
-is_zero (negsuc n) = false
 
 -- a row for each amount, where it is not 0
 abbrev pub amount_rows : {R : Type 0} → (R → ℤ) → (ℕ → ℕ → R) → List (ℕ × ℕ) → List R
@@ -92,12 +91,13 @@ held_rows n h = kind_rows n 0 (entries h.items) ++ kind_rows n 1 (entries h.days
 abbrev pub has_rows : List (ℕ × Unit) → List StoredHas
 has_rows es = flat_map (λ e. held_rows e.0 e.1.holding) es
 
--- the amounts of an entry for so many things, where they are not 0
-abbrev pub entry_rows : List (List ℤ) → ℕ → ℕ → List StoredBooks
-entry_rows books things entry = filter (λ r. not (is_zero r.amount)) (map (λ thing. books_row entry thing (amount_at books entry thing)) (range_with_len 0 things))
+-- a row for each account with its amount
+abbrev pub amounts_rows : List (Account × ℤ) → List StoredBooks
+amounts_rows xs = map (λ x. books_row x.0.0 x.0.1 x.1) xs
 
-abbrev pub books_rows : List (List ℤ) → List StoredBooks
-books_rows books = flat_map (entry_rows books (length books)) (range_with_len 0 entry_count)
+-- a row for each amount of the books
+abbrev pub books_rows : BooksValue → List StoredBooks
+books_rows books = amounts_rows (entries books.amounts)
 
 -- the stocks of a region, where they are not 0
 abbrev pub stock_rows : ℕ → List (ℕ × ℕ) → List StoredMarket
@@ -141,3 +141,7 @@ pub record AreSameRows (some others : Parts) : Type 0 where
 -- the rows of a campaign, each once, in any order
 abbrev pub AreRowsOf : Format → CampaignValue → Parts → Type 0
 AreRowsOf f c parts = AreSameRows (rows_of f c) parts
+
+-- For proofs alone: a row for each of these accounts that has an amount.
+abbrev pub rows_under : BooksValue → List Account → List StoredBooks
+rows_under books accounts = amounts_rows (listed_of (λ a. amount_in books a.0 a.1) accounts)

@@ -1,9 +1,10 @@
 //! The campaign, and the calls that read it.
-ghost use Rattle.std.specs.Prelude.{◌≡◌, ◌<◌, IfOk, OnOk, OnErr, length};
+ghost use Rattle.std.specs.Prelude.{◌≡◌, ◌<◌, ◌≤◌, IfOk, OnOk, OnErr};
 ghost use Rattle.std.specs.Option.{option_copied};
 ghost use Rattle.std.specs.FinMap as map;
 ghost use Rattle.atl_state.specs.Campaign.{active, numbers_in, numbers_of, numbers_inside, with_mail, with_report};
-ghost use Rattle.atl_records.specs.Books.{amount_in, thing_index};
+ghost use Rattle.atl_records.specs.Books.{amount_in, thing_index, AreBooks};
+ghost use Rattle.atl_records.specs.Limits.{possible_things};
 ghost use Rattle.atl_state.specs.Stocks.{stock_of};
 ghost use Rattle.atl_state.specs.Totals.{total, IsCountable};
 ghost use Rattle.atl_state.specs.Marking.{mark_mail, mark_report};
@@ -103,7 +104,7 @@ impl Model for Campaign {
       };
     } };
 
-    ghost invariant = { λ a. AreKept a.units.values a.lists a.books a.amounts_marked };
+    ghost invariant = { λ a. AreKept a.units.values a.lists a.books.things a.amounts_marked };
 }
 
 impl Campaign {
@@ -281,7 +282,9 @@ impl Campaign {
 
     /// How many things are booked: money, people, and each item of the world. No amount of another thing is marked.
     pub fn things(&self) -> usize
-        ensures count { result ≡ length self.now.value.books }
+        ensures count { result ≡ self.now.value.books.things }
+        ensures few { result ≤ possible_things }
+        ensures books { AreBooks result self.now.value.books }
         ensures marks { AreOfThings result self.now.marks.books }
     {
         self.books.len()
@@ -296,7 +299,7 @@ impl Campaign {
 
     /// What came in of a thing under an entry so far, less what went: money, men and peasants, or pieces of an item.
     pub fn booked(&self, entry: Entry, thing: Thing) -> i64
-        requires { thing_index thing < length self.now.value.books }
+        requires { thing_index thing < self.now.value.books.things }
         ensures { result ≡ amount_in self.now.value.books entry thing }
     {
         self.books.amount(entry, thing)

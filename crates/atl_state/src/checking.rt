@@ -41,7 +41,7 @@ pub enum Rule {
     Known = 4,
     /// The numbers that come next are those after the last.
     Next = 5,
-    /// Days of study are from 1 to MOST_DAYS for each man.
+    /// A unit has at least 1 day in each skill that it studied, and at most MOST_DAYS for each man.
     Days = 6,
     /// The factions that are gone are those without units.
     Gone = 7,

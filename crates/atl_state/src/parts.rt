@@ -181,8 +181,8 @@ pub struct StoredHas {
     pub sort: i64,
     /// The place of the item, or of the skill, in the world's list of them.
     pub thing: i64,
-    /// How many pieces of the item, from 1 to HOLDING_LIMIT; or the days of the skill over all men, from 1 to MOST_DAYS for
-    /// each man.
+    /// How many pieces of the item, from 1 to HOLDING_LIMIT; or the days of the skill over all men, at least 1 and at most
+    /// MOST_DAYS for each man.
     pub amount: i64,
 }
 

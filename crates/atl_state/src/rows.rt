@@ -1,17 +1,18 @@
 //! The rows of a campaign in a format.
-ghost use Rattle.std.specs.Prelude.{◌≡◌, ◌≤◌, ◌<◌, ◌++◌, ◌∷◌, [], IfOk, OnOk, length};
+ghost use Rattle.std.specs.Prelude.{◌≡◌, ◌≤◌, ◌<◌, ◌++◌, ◌∷◌, [], IfOk, OnOk};
 ghost use Rattle.std.specs.FinMap as map;
+ghost use Rattle.std.specs.List.{flat_map};
 ghost use Rattle.atl_tables.specs.declared.format.Format.TheVariants.{First, Second};
-ghost use Rattle.atl_records.specs.Limits.{entry_count, possible_things};
-ghost use Rattle.atl_records.specs.Books.{amount_at};
-ghost use Rattle.atl_state.specs.Rows.{flag, rows_by, campaign_row, faction_row, region_row, unit_row, structure_row, mail_row, report_row, has_row, books_row, market_row, kind_rows, held_rows, has_rows, stock_rows, market_rows, entry_rows, books_rows, rows_of};
+ghost use Rattle.atl_records.specs.Limits.{possible_things};
+ghost use Rattle.atl_records.specs.Grids.{accounts_under};
+ghost use Rattle.atl_state.specs.Rows.{flag, rows_by, campaign_row, faction_row, region_row, unit_row, structure_row, mail_row, report_row, has_row, books_row, market_row, kind_rows, held_rows, has_rows, stock_rows, market_rows, rows_under, books_rows, rows_of};
 
 use crate::campaign::Campaign;
 use crate::parts::{
     Parts, StoredBooks, StoredCampaignRow, StoredFaction, StoredHas, StoredMail, StoredMarket,
     StoredRegion, StoredReport, StoredStructure, StoredUnit,
 };
-use atl_records::{Books, ENTRY_COUNT, Faction, Holding, Structure, Unit};
+use atl_records::{Books, Entry, Faction, Holding, Structure, Thing, Unit};
 use atl_tables::{Entries, Format, Sequence, Text};
 use std::alloc::{AllocError, Global};
 
@@ -293,29 +294,31 @@ fn market_rows(
     }
 }
 
-fn books_row(entry: usize, thing: usize, amount: i64) -> StoredBooks
-    requires entry { entry < entry_count }
-    requires thing { thing < possible_things }
+fn books_row(entry: Entry, thing: Thing, amount: i64) -> StoredBooks
     ensures { result ≡ books_row entry thing amount }
 {
     StoredBooks {
-        entry: entry as i64 + 1,
-        thing: thing as i64,
+        entry: i64::from(entry.number()),
+        thing: i64::from(thing.number()),
         amount,
     }
 }
 
-/// Adds the amounts of an entry.
+/// Adds the amounts of an entry, for so many things.
 fn add_entry(
     rows: &mut Sequence<StoredBooks>,
     books: &Books,
-    entry: usize,
+    things: usize,
+    entry: Entry,
 ) -> Result<(), AllocError>
-    requires { entry < entry_count }
-    ensures { OnOk result (rows.new ≡ rows.old ++ entry_rows books.now (length books.now) entry) }
+    requires things { things ≡ books.now.things }
+    requires few { things ≤ possible_things }
+    ensures { OnOk result
+        (rows.new ≡ rows.old ++ rows_under books.now (accounts_under things entry)) }
 {
-    for thing in 0..books.len() {
-        let amount = books.amount_at(entry, thing);
+    for number in 0..things {
+        let thing = Thing::of_number(number);
+        let amount = books.amount(entry, thing);
         if amount != 0 {
             rows.push(books_row(entry, thing, amount))?;
         }
@@ -323,13 +326,30 @@ fn add_entry(
     Ok(())
 }
 
+/// Adds the amounts of these entries, one entry after another.
+fn add_entries(
+    rows: &mut Sequence<StoredBooks>,
+    books: &Books,
+    things: usize,
+    entries: &[Entry],
+) -> Result<(), AllocError>
+    requires things { things ≡ books.now.things }
+    requires few { things ≤ possible_things }
+    ensures { OnOk result (rows.new
+        ≡ rows.old ++ rows_under books.now (flat_map (accounts_under things) entries.now)) }
+{
+    for entry in entries {
+        add_entry(rows, books, things, *entry)?;
+    }
+    Ok(())
+}
+
 fn books_rows(alloc: Global, books: &Books) -> Result<Sequence<StoredBooks>, AllocError>
     ensures { IfOk result (λ rows. rows ≡ books_rows books.now) }
 {
+    let things = books.len();
     let mut rows = Sequence::new(alloc);
-    for entry in 0..ENTRY_COUNT {
-        add_entry(&mut rows, books, entry)?;
-    }
+    add_entries(&mut rows, books, things, &Entry::ALL)?;
     Ok(rows)
 }
 

@@ -1,14 +1,13 @@
 -- Two good campaigns whose rows one database holds are one campaign.
-use Rattle.std.proofs.Common.{◌≡◌, ◌≢◌, ◌+◌, ◌<◌, ◌∙◌, ℕ, ℤ, zero, suc, pos, negsuc, Bool, true, false, List, [], get_or, length, Some, inl, inr, refl, sym, ap, arith}
-use Rattle.std.specs.Prelude.{◌⊎◌, slice_index_or}
+use Rattle.std.proofs.Common.{◌≡◌, ◌≢◌, ◌+◌, ◌∙◌, ℕ, ℤ, zero, suc, pos, negsuc, Bool, true, false, List, Some, inl, inr, refl, sym, ap, arith}
+use Rattle.std.specs.Prelude.{◌⊎◌}
 use Rattle.std.specs.Ordering.{nat_cmp}
 use Rattle.std.specs.FinMap.{FinMap, get}
-use Rattle.std.proofs.lemmas.List.{ext_get_or}
 use Rattle.std.proofs.lemmas.Option.{same_Some}
 use Rattle.sqlite.specs.Order.{Row}
 use Rattle.sqlite_trees.specs.Tree.{Trees}
 use Rattle.atl_tables.specs.Worlds.{WorldValue}
-use Rattle.atl_records.specs.Books.{amount_in, entry_index, thing_at, thing_index, IsGrid}
+use Rattle.atl_records.specs.Books.{Account, amount_in, AreBooks, BooksValue, entry_index, thing_index}
 use Rattle.atl_state.specs.Founding as founding
 use Rattle.atl_records.specs.Every.{Every}
 use Rattle.atl_state.specs.Good.{IsGood}
@@ -20,8 +19,8 @@ use Rattle.atl_records.specs.declared.records.Region.{Region}
 use Rattle.atl_records.specs.declared.records.Structure.{Structure}
 use Rattle.atl_records.specs.declared.records.Unit.{Unit}
 use Rattle.atl_state.proofs.BackLaws.{agree}
-use Rattle.atl_records.proofs.BookLaws.{place_at}
-use Rattle.atl_records.proofs.EveryEntryLaws.{entry_at}
+use Rattle.atl_records.proofs.AccountLaws.{same_account}
+use Rattle.atl_records.proofs.BookLaws.{same_books}
 use Rattle.atl_store.specs.OneCampaign.{HoldsOne}
 use Rattle.atl_store.specs.Rows.{RowsOf, HasRowsOf, BooksRowsOf, MarketRowsOf, Holds, campaign_line, faction_line, region_line, unit_line, structure_line, things_of}
 use Rattle.atl_store.specs.Sets.{Is}
@@ -173,7 +172,7 @@ none_or_some (pos zero) = inl refl
 none_or_some (pos (suc n)) = inr (λ is. cc)
 none_or_some (negsuc n) = inr (λ is. cc)
 
-module _ (rows : List Row) (m k : List (List ℤ)) (a : Is rows (BooksRowsOf m)) (b : Is rows (BooksRowsOf k)) where
+module _ (rows : List Row) (m k : BooksValue) (a : Is rows (BooksRowsOf m)) (b : Is rows (BooksRowsOf k)) where
   amount_there : (e : Entry) (t : Thing) → amount_in m e t ≢ pos 0 → amount_in m e t ≡ amount_in k e t
   amount_there e t some =
       let (f, u, apart, same) = (b (books_row (entry_index e + 1) (thing_index t) (amount_in m e t))).0 ((a _).1 (e, t, some, refl)) in
@@ -181,10 +180,10 @@ module _ (rows : List Row) (m k : List (List ℤ)) (a : Is rows (BooksRowsOf m))
       let entry : entry_index e ≡ entry_index f = omega (arith, next) in
       let thing : thing_index t ≡ thing_index u = cc in
       let amount : amount_in m e t ≡ amount_in k f u = cc in
-      let there : amount_in k e t ≡ amount_in k f u = λ i. slice_index_or (slice_index_or k (thing i) []) (entry i) (pos 0) in
+      let there : amount_in k e t ≡ amount_in k f u = ap (λ (x : Account). amount_in k x.0 x.1) (same_account e f t u entry thing) in
       amount ∙ sym there
 
-module _ (things : ℕ) (rows : List Row) (m k : List (List ℤ)) (g : IsGrid things m) (h : IsGrid things k) (a : Is rows (BooksRowsOf m)) (b : Is rows (BooksRowsOf k)) where
+module _ (things : ℕ) (rows : List Row) (m k : BooksValue) (g : AreBooks things m) (h : AreBooks things k) (a : Is rows (BooksRowsOf m)) (b : Is rows (BooksRowsOf k)) where
   same_amount : (e : Entry) (t : Thing) → amount_in m e t ≡ amount_in k e t
   same_amount e t =
       elim (none_or_some (amount_in m e t)) [
@@ -195,20 +194,8 @@ module _ (things : ℕ) (rows : List Row) (m k : List (List ℤ)) (g : IsGrid th
         ]
       ]
 
-  amount_at_place : (books : List (List ℤ)) (e : Entry) (n t : ℕ) → entry_index e ≡ n → get_or (get_or books t []) n (pos 0) ≡ amount_in books e (thing_at t)
-  amount_at_place books e n t is =
-      let place = sym (place_at t) in
-      let entry = sym is in
-      λ i. get_or (get_or books (place i) []) (entry i) (pos 0)
-
-  same_books : m ≡ k
-  same_books =
-      ext_get_or [] m k (g.rows ∙ sym h.rows) (λ t tl.
-      let at : t < length k = omega (arith, g.rows, h.rows) in
-      let wide = g.wide t [] tl in
-      ext_get_or (pos 0) (get_or m t []) (get_or k t []) (wide ∙ sym (h.wide t [] at)) (λ n nl.
-      let (e, is) = entry_at n (omega (arith, wide)) in
-      amount_at_place m e n t is ∙ same_amount e (thing_at t) ∙ sym (amount_at_place k e n t is)))
+  one_books : m ≡ k
+  one_books = same_books things m k g h same_amount
 
 -- ---- the whole
 
@@ -241,7 +228,7 @@ holds_one w db one other c d good sound h j =
     let some = have_some w c good in
     let more = have_some w d sound in
     let units = agree c.units d.units (units_there _ _ c.units d.units (h.rows Units) (j.rows Units) (h.rows Goods) (j.rows Goods) some more) (units_there _ _ d.units c.units (j.rows Units) (h.rows Units) (j.rows Goods) (h.rows Goods) more some) in
-    let books = same_books (founding.things_of w) _ c.books d.books numbers.books others.books (h.rows Books) (j.rows Books) in (
+    let books = one_books (founding.things_of w) _ c.books d.books numbers.books others.books (h.rows Books) (j.rows Books) in (
       text,
       same_state c d month pass next_faction next_unit next_structure factions regions units structures mail reports books,
     )

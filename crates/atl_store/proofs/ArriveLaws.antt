@@ -1,5 +1,5 @@
 -- From what the statements did to what the tables hold: one entry of a map, one amount of the books.
-use Rattle.std.proofs.Common.{◌≡◌, ◌≢◌, ◌⊎◌, ◌+◌, ℕ, ℤ, pos, false, cond, List, [], ◌∷◌, take, get_or, Some, None, Less, Equal, Greater, refl, sym, ap, ◌∙◌, subst, inl, inr, arith}
+use Rattle.std.proofs.Common.{◌≡◌, ◌≢◌, ◌⊎◌, ◌+◌, ℕ, ℤ, pos, false, cond, List, [], ◌∷◌, take, Some, None, Less, Equal, Greater, refl, sym, ap, ◌∙◌, subst, inl, inr, arith}
 use Rattle.std.specs.Prelude.{◌↔◌}
 use Rattle.std.specs.Ordering.{nat_cmp, is_eq, int_eq}
 use Rattle.std.specs.Cmp.{nat_cmp_total}
@@ -10,10 +10,11 @@ use Rattle.sqlite.specs.Order.{Row}
 use Rattle.sqlite.specs.Effect.{Database}
 use Rattle.sqlite_rules.specs.Lists.{Has}
 use Rattle.atl_state.specs.Campaign.{CampaignValue}
-use Rattle.atl_records.specs.Books.{amount_at, amount_in, entry_index, thing_index}
+use Rattle.atl_records.specs.Books.{Account, BooksValue, amount_in, entry_index, thing_index}
 use Rattle.atl_records.specs.declared.books.Entry.{Entry}
 use Rattle.atl_records.specs.declared.books.Thing.{Thing}
 use Rattle.atl_records.specs.declared.records.Unit.{Unit}
+use Rattle.atl_records.proofs.AccountLaws.{same_account}
 use Rattle.atl_store.specs.declared.rows.has.ThingKind.{ThingKind}
 use Rattle.atl_store.specs.Sets.{Set, Is, put}
 use Rattle.atl_store.specs.Tables.{Books, books_table}
@@ -93,7 +94,7 @@ module _ (c : CampaignValue) (e : Entry) (t : Thing) where
   row = books_row (entry_index e + 1) (thing_index t) (amount_in c.books e t)
 
   -- the rows of the books A, with this amount settled, are those of the books B, which differ in it alone
-  pub settled_rows : (A B : List (List ℤ)) (S : Set) → amount_in B e t ≡ amount_in c.books e t
+  pub settled_rows : (A B : BooksValue) (S : Set) → amount_in B e t ≡ amount_in c.books e t
       → ((f : Entry) (u : Thing) → (entry_index f ≢ entry_index e) ⊎ (thing_index u ≢ thing_index t) → amount_in B f u ≡ amount_in A f u)
       → ((r : Row) → S r ↔ BooksRowsOf A r) → (r : Row) → settled c e t S r ↔ BooksRowsOf B r
   settled_rows A B S here beside was r = (
@@ -109,7 +110,7 @@ module _ (c : CampaignValue) (e : Entry) (t : Thing) where
     λ of. elim (cases_eq (entry_index of.0) (entry_index e)) [
       | inl entries ↦ elim (cases_eq (thing_index of.1) (thing_index t)) [
         | inl things ↦
-            let same : amount_in B of.0 of.1 ≡ amount_in c.books e t = ap (λ k. get_or (get_or B k []) (entry_index of.0) (pos 0)) things ∙ ap (λ k. get_or (get_or B (thing_index t) []) k (pos 0)) entries ∙ here in
+            let same : amount_in B of.0 of.1 ≡ amount_in c.books e t = ap (λ (a : Account). amount_in B a.0 a.1) (same_account of.0 e of.1 t entries things) ∙ here in
             let row_is : r ≡ row = of.3 ∙ ap (λ k. books_row (k + 1) (thing_index of.1) (amount_in B of.0 of.1)) entries ∙ ap (λ k. books_row (entry_index e + 1) k (amount_in B of.0 of.1)) things ∙ ap (books_row (entry_index e + 1) (thing_index t)) same in
             inl (subst (Has (amount_lines c e t)) (sym row_is) (has_optional (int_eq (amount_in c.books e t) (pos 0)) row (is_differing (amount_in c.books e t) (λ none. of.2 (same ∙ none)))))
         | inr things ↦ inr (kept_row of.0 of.1 of.2 of.3 (inr things))
@@ -148,7 +149,7 @@ amount_changes c e t sql params (drops_amount zero) = drops_row Books (
   λ own row of key.
       let keys = two_same (entry_index of.0 + 1) (thing_index of.1) (entry_index e + 1) (thing_index t) (ap (take 2) (sym of.3) ∙ key) in
       let entry : entry_index of.0 ≡ entry_index e = omega (arith, keys.0) in
-      of.2 (ap (λ n. amount_at c.books n (thing_index of.1)) entry ∙ ap (amount_at c.books (entry_index e)) keys.1 ∙ zero),
+      of.2 (ap (λ (a : Account). amount_in c.books a.0 a.1) (same_account of.0 e of.1 t entry keys.1) ∙ zero),
 )
 
 -- the row of an amount is put, or taken out where the amount is 0

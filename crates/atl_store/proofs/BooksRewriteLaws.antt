@@ -1,5 +1,5 @@
 -- The rows of amounts of the books that are marked, one after another.
-use Rattle.std.proofs.Common.{◌≡◌, ◌≢◌, ◌+◌, ◌*◌, ◌<◌, ◌≤◌, ◌&&◌, ◌||◌, nat_le, ℕ, zero, suc, pos, Bool, true, false, List, [], ◌∷◌, map, take, get_or, refl, sym, ap, ◌∙◌, subst, inl, inr, true≢false, arith}
+use Rattle.std.proofs.Common.{◌≡◌, ◌≢◌, ◌+◌, ◌*◌, ◌<◌, ◌≤◌, ◌&&◌, ◌||◌, nat_le, ℕ, zero, suc, pos, Bool, true, false, List, [], ◌∷◌, map, take, refl, sym, ap, ◌∙◌, subst, inl, inr, true≢false, arith}
 use Rattle.std.specs.List.{range_with_len}
 use Rattle.std.specs.Ordering.{nat_cmp, int_eq, eq_by_cmp}
 use Rattle.std.specs.FinSet.{FinSet, contains}
@@ -12,11 +12,12 @@ use Rattle.sqlite.specs.State.{State}
 use Rattle.sqlite_rules.specs.Lists.{Has}
 use Rattle.sqlite_value.specs.declared.value.Value.TheVariants.{Int}
 use Rattle.atl_records.specs.Limits.{entry_count}
-use Rattle.atl_records.specs.Books.{all_entries, amount_in, entry_index, thing_index, amount_number}
+use Rattle.atl_records.specs.Books.{Account, all_entries, amount_in, entry_index, thing_index, amount_number}
 use Rattle.atl_state.specs.Marks.{AreOfThings}
 use Rattle.atl_state.specs.Campaign.{MarkedCampaign}
 use Rattle.atl_records.specs.declared.books.Entry.{Entry}
 use Rattle.atl_records.specs.declared.books.Thing.{Thing}
+use Rattle.atl_records.proofs.AccountLaws.{same_account}
 use Rattle.atl_store.specs.Tables.{books_table}
 use Rattle.atl_store.specs.Shown.{int, books_key, books_row}
 use Rattle.atl_store.specs.Rows.{BooksRowsOf}
@@ -136,7 +137,7 @@ module _ (c : MarkedCampaign) (e : Entry) (t : Thing) where
       → (r : Row) → r ≡ books_row (entry_index f + 1) (thing_index u) (amount_in c.value.books f u) → Has (amount_lines c.value e t) r
   same_place f u some entries things r is =
       let books = c.value.books in
-      let same : amount_in books f u ≡ amount_in books e t = ap (λ k. get_or (get_or books k []) (entry_index f) (pos 0)) things ∙ ap (λ k. get_or (get_or books (thing_index t) []) k (pos 0)) entries in
+      let same : amount_in books f u ≡ amount_in books e t = ap (λ (a : Account). amount_in books a.0 a.1) (same_account f e u t entries things) in
       let row_is : r ≡ row = is ∙ ap (λ k. books_row (k + 1) (thing_index u) (amount_in books f u)) entries ∙ ap (λ k. books_row (entry_index e + 1) k (amount_in books f u)) things ∙ ap (books_row (entry_index e + 1) (thing_index t)) same in
       subst (Has (amount_lines c.value e t)) (sym row_is) (has_optional (int_eq (amount_in books e t) (pos 0)) row (is_differing (amount_in books e t) (λ none. some (same ∙ none))))
 

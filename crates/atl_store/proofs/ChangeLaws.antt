@@ -11,7 +11,7 @@ use Rattle.sqlite.specs.Order.{Row}
 use Rattle.sqlite_trees.specs.Tree.{Trees}
 use Rattle.sqlite_rules.specs.Lists.{Has}
 use Rattle.atl_state.specs.Covers.{SameBut, SameThings, Covers, bare, own_row, unstocked}
-use Rattle.atl_records.specs.Books.{amount_in, entry_index, thing_index, amount_number}
+use Rattle.atl_records.specs.Books.{BooksValue, amount_in, entry_index, thing_index, amount_number}
 use Rattle.atl_state.specs.Marks.{Marks, is_thing_marked}
 use Rattle.atl_state.specs.Campaign.{CampaignValue, MarkedCampaign}
 use Rattle.atl_state.specs.Stocks.{stock_in}
@@ -126,7 +126,7 @@ amount_heads marks e t amount =
     there : (n : ℕ) → n < entry_count → nat_le (suc n) entry_count ≡ true
     there n small = grind (arith, nat_tests, small)
 
-amounts_follow : (one other : List (List ℤ)) (marks : FinSet nat_cmp) (r : Row) → ((e : Entry) (t : Thing) → contains marks (amount_number e t) ≡ false → amount_in other e t ≡ amount_in one e t) → amount_marked marks r ≡ false → BooksRowsOf one r → BooksRowsOf other r
+amounts_follow : (one other : BooksValue) (marks : FinSet nat_cmp) (r : Row) → ((e : Entry) (t : Thing) → contains marks (amount_number e t) ≡ false → amount_in other e t ≡ amount_in one e t) → amount_marked marks r ≡ false → BooksRowsOf one r → BooksRowsOf other r
 amounts_follow one other marks r same not_marked of =
     let is = same of.0 of.1 (sym (amount_heads marks of.0 of.1 (amount_in one of.0 of.1)) ∙ ap (amount_marked marks) (sym of.3) ∙ not_marked) in
     (of.0, of.1, λ none. of.2 (sym is ∙ none), of.3 ∙ ap (books_row (entry_index of.0 + 1) (thing_index of.1)) (sym is))

@@ -3,7 +3,6 @@ use Rattle.std.proofs.Common.{◌≡◌, ◌++◌, ℕ, suc, true, List, [], ◌
 use Rattle.std.specs.List.{list_all, range_with_len}
 use Rattle.std.specs.Ordering.{nat_cmp}
 use Rattle.std.specs.FinMap.{FinMap, entries}
-use Rattle.std.specs.Prelude.{length}
 use Rattle.sqlite.specs.Order.{Row}
 use Rattle.sqlite.specs.Effect.{Database}
 use Rattle.sqlite.specs.State.{State}
@@ -21,6 +20,7 @@ use Rattle.atl_store.specs.Filling.{Fills, FillsParts, FillsWithOwn, WritesFound
 use Rattle.atl_store.proofs.PartLaws.{is_among, are_apart, all_among, listed, one_changed, both_changed}
 use Rattle.atl_store.proofs.EntryLaws.{rows_filled}
 use Rattle.atl_store.proofs.GroupRowLaws.{groups_filled}
+use Rattle.atl_records.specs.Books.{AreBooks}
 use Rattle.atl_store.proofs.LedgerLaws.{books_filled}
 use Rattle.atl_store.proofs.WholeLaws.{inside_then, inside_weaker}
 
@@ -53,8 +53,8 @@ module _ (c : CampaignValue) where
       let now = rows_in (table_of part) new.trees in
       groups_filled lines more m (rows_for own c part) (are own) now was none (subst (λ (l : List (ℕ × V)). Is now (puts (suc more) (groups_of lines l) (Has was))) same made))
 
-  pub books_fill : (old new : Database) → PutsRows books_table 2 (things_lines c (range_with_len 0 (length c.books))) old new → FillsParts c (Books ∷ []) old new
-  books_fill old new did own = one_changed (Fills c own) Books _ old new did (λ made none. books_filled c (rows_in books_table new.trees) (rows_in books_table old.trees) none made)
+  pub books_fill : AreBooks c.books.things c.books → (old new : Database) → PutsRows books_table 2 (things_lines c (range_with_len 0 c.books.things)) old new → FillsParts c (Books ∷ []) old new
+  books_fill are old new did own = one_changed (Fills c own) Books _ old new did (λ made none. books_filled c are (rows_in books_table new.trees) (rows_in books_table old.trees) none made)
 
   -- ---- one after the other
 

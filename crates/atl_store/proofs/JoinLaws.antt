@@ -1,19 +1,18 @@
 -- A joining is written, and a mail: what the tables hold then.
-use Rattle.std.proofs.Common.{◌≡◌, ◌≢◌, ◌⊎◌, ◌+◌, ◌<◌, ℕ, ℤ, pos, List, [], ◌∷◌, length, map, get_or, set, Some, None, false, refl, sym, ap, ◌∙◌, subst, inl, inr, take, arith}
+use Rattle.std.proofs.Common.{◌≡◌, ◌≢◌, ◌⊎◌, ◌+◌, ℕ, ℤ, pos, List, [], ◌∷◌, map, Some, None, false, refl, sym, ap, ◌∙◌, subst, inl, inr, take, arith}
 use Rattle.std.specs.Prelude.{◌+ℤ◌}
 use Rattle.std.specs.Ordering.{nat_cmp}
 use Rattle.std.specs.FinMap.{FinMap, get, insert, empty}
 use Rattle.std.proofs.lemmas.Option.{same_Some}
-use Rattle.std.proofs.lemmas.Bool.{cases_eq}
-use Rattle.std.proofs.lemmas.List.{get_or-set_same, get_or-set_other}
 use Rattle.sqlite.specs.Order.{Row}
 use Rattle.sqlite.specs.Table.{Table}
 use Rattle.sqlite.specs.Effect.{Database}
 use Rattle.sqlite.specs.State.{State}
 use Rattle.sqlite_rules.specs.Lists.{Has}
 use Rattle.atl_state.specs.Campaign.{CampaignValue, with_mail}
-use Rattle.atl_records.specs.Books.{amount_in, row_of, after_booking, entry_index, thing_index, IsGrid}
-use Rattle.atl_state.specs.Founding.{things_of as count_of}
+use Rattle.atl_records.specs.Books.{BooksValue, amount_in, after_booking, entry_index, thing_index}
+use Rattle.atl_records.proofs.AccountLaws.{apart_entries, apart_things}
+use Rattle.atl_records.proofs.BookLaws.{other_amount}
 use Rattle.atl_state.specs.Joining.{joined, new_faction, first_unit}
 use Rattle.atl_records.specs.declared.books.Entry.{Entry}
 use Rattle.atl_records.specs.declared.books.Entry.TheVariants.{Joining}
@@ -21,7 +20,6 @@ use Rattle.atl_records.specs.declared.books.Thing.{Thing}
 use Rattle.atl_records.specs.declared.books.Thing.TheVariants.{Money, People}
 use Rattle.atl_records.specs.declared.records.Faction.{Faction}
 use Rattle.atl_records.specs.declared.records.Unit.{Unit}
-use Rattle.atl_records.proofs.BookLaws.{IsGrid-after_booking}
 use Rattle.atl_store.specs.declared.rows.has.ThingKind.{ThingKind}
 use Rattle.atl_store.specs.declared.rows.has.ThingKind.TheVariants.{Item, Skill}
 use Rattle.atl_store.specs.Sets.{Is, Set, put, visible, rows_in}
@@ -38,21 +36,8 @@ use Rattle.atl_store.proofs.WholeLaws.{inside_then, inside_weaker}
 
 -- ---- one booking changes one amount
 
-beside_booked : (things : ℕ) (books : List (List ℤ)) (e : Entry) (t : Thing) (n : ℤ) → IsGrid things books → thing_index t < things → (f : Entry) (u : Thing) → (entry_index f ≢ entry_index e) ⊎ (thing_index u ≢ thing_index t)
-    → amount_in (after_booking books e t n) f u ≡ amount_in books f u
-beside_booked things books e t n grid small f u far =
-    let j = thing_index t in
-    let new = set (row_of books t) (entry_index e) (amount_in books e t +ℤ n) in
-    elim (cases_eq (thing_index u) j) [
-      | inl same ↦ elim far [
-        | inl entries ↦
-            let inside : j < length books = omega (arith, small, grid.rows) in
-            let row : get_or (set books j new) (thing_index u) [] ≡ new = ap (λ k. get_or (set books j new) k []) same ∙ get_or-set_same books j new [] inside in
-            ap (λ (r : List ℤ). get_or r (entry_index f) (pos 0)) row ∙ get_or-set_other (row_of books t) (entry_index e) (entry_index f) (amount_in books e t +ℤ n) (pos 0) entries ∙ ap (λ k. get_or (get_or books k []) (entry_index f) (pos 0)) (sym same)
-        | inr things_differ ↦ absurd (things_differ same)
-      ]
-      | inr apart ↦ ap (λ (r : List ℤ). get_or r (entry_index f) (pos 0)) (get_or-set_other books j (thing_index u) new [] apart)
-    ]
+beside_booked : (books : BooksValue) (e : Entry) (t : Thing) (n : ℤ) (f : Entry) (u : Thing) → (entry_index f ≢ entry_index e) ⊎ (thing_index u ≢ thing_index t) → amount_in (after_booking books e t n) f u ≡ amount_in books f u
+beside_booked books e t n f u far = other_amount books e t (amount_in books e t +ℤ n) f u (elim far [ inl entries ↦ apart_entries (f, u) (e, t) entries | inr things ↦ apart_things (f, u) (e, t) things ])
 
 -- ---- how the campaign after a joining differs
 
@@ -63,7 +48,7 @@ record IsArrival (n : ℕ) (f : Faction) (m : ℕ) (u : Unit) (report : List ℕ
   fresh : get before.units m ≡ None
   bare : (sort : ThingKind) → things_of sort u.holding ≡ empty
   -- the books once the money is booked
-  half : List (List ℤ)
+  half : BooksValue
   money : amount_in half Joining Money ≡ amount_in after.books Joining Money
   first : (e : Entry) (t : Thing) → (entry_index e ≢ 1) ⊎ (thing_index t ≢ 0) → amount_in half e t ≡ amount_in before.books e t
   second : (e : Entry) (t : Thing) → (entry_index e ≢ 1) ⊎ (thing_index t ≢ 1) → amount_in after.books e t ≡ amount_in half e t
@@ -82,7 +67,6 @@ arrives n f m u report before after found joining =
     let band = first_unit w joining.3 before in
     let start = pos w.rules.start_money in
     let half = after_booking before.books Joining Money start in
-    let things = count_of w in
     let number : n ≡ before.next_faction = joining.6 in
     let next : after.next_unit ≡ before.next_unit + 1 = ap (λ (c : CampaignValue). c.next_unit) is in
     let place : m ≡ before.next_unit = omega (arith, next, found.place_is) in
@@ -93,7 +77,6 @@ arrives n f m u report before after found joining =
     let member_is : member ≡ f = found_is before.factions after.factions before.next_faction n member f factions number found.faction_is in
     let band_is : band ≡ u = found_is before.units after.units before.next_unit m band u units place found.unit_is in
     let report_is : joining.4 ≡ report = found_is before.reports after.reports n n joining.4 report reports refl found.report_is in
-    let half_grid = IsGrid-after_booking things before.books Joining Money start good.sound.steady.numbers.books in
     record {
       factions = factions ∙ ap (λ k. insert before.factions k member) (sym number) ∙ ap (insert before.factions n) member_is;
       units = units ∙ ap (λ k. insert before.units k band) (sym place) ∙ ap (insert before.units m) band_is;
@@ -101,9 +84,9 @@ arrives n f m u report before after found joining =
       fresh = good.sound.steady.next.units m (omega (arith, place));
       bare = λ sort. subst (λ (x : Unit). things_of sort x.holding ≡ empty) band_is (nothing sort);
       half = half;
-      money = sym (ap (λ (b : List (List ℤ)). amount_in b Joining Money) books ∙ beside_booked things half Joining People (pos 1) half_grid (omega arith) Joining Money (inr (λ e. absurd (omega (arith, e)))));
-      first = λ e t far. beside_booked things before.books Joining Money start good.sound.steady.numbers.books (omega arith) e t far;
-      second = λ e t far. ap (λ (b : List (List ℤ)). amount_in b e t) books ∙ beside_booked things half Joining People (pos 1) half_grid (omega arith) e t far;
+      money = sym (ap (λ (b : BooksValue). amount_in b Joining Money) books ∙ beside_booked half Joining People (pos 1) Joining Money (inr (λ e. absurd (omega (arith, e)))));
+      first = λ e t far. beside_booked before.books Joining Money start e t far;
+      second = λ e t far. ap (λ (b : BooksValue). amount_in b e t) books ∙ beside_booked half Joining People (pos 1) e t far;
     }
   where
     nothing : (sort : ThingKind) → things_of sort (first_unit joining.0 joining.3 before).holding ≡ empty

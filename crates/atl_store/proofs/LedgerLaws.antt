@@ -1,20 +1,20 @@
 -- The rows of the books.
-use Rattle.std.proofs.Common.{◌≡◌, ◌≢◌, ◌+◌, ◌<◌, ◌≤◌, ◌&&◌, ℕ, zero, suc, ℤ, pos, Bool, true, false, if◌then◌else◌, nat_lt, List, [], ◌∷◌, length, take, get_or, Some, refl, sym, ap, ◌∙◌, subst, inl, inr, arith}
+use Rattle.std.proofs.Common.{◌≡◌, ◌≢◌, ◌+◌, ◌<◌, ◌≤◌, ◌&&◌, ℕ, zero, suc, ℤ, pos, Bool, true, false, if◌then◌else◌, nat_lt, List, [], ◌∷◌, take, Some, refl, sym, ap, ◌∙◌, subst, inl, inr, arith}
 use Rattle.std.specs.List.{list_all, range_with_len, slice_get}
 use Rattle.std.specs.Ordering.{int_eq}
 use Rattle.std.proofs.lemmas.Bool.{cases_Bool, cases_lt, and_parts}
 use Rattle.std.proofs.lemmas.Bool.Decides.{nat_tests}
 use Rattle.std.proofs.lemmas.Int.{ints}
-use Rattle.std.proofs.lemmas.List.{get_or_past}
 use Rattle.std.proofs.lemmas.Option.{none-some, same_Some}
 use Rattle.sqlite.specs.Order.{Row}
 use Rattle.sqlite_rules.specs.Lists.{Has}
 use Rattle.sqlite_rules.proofs.ListLemmas.{test_has}
 use Rattle.atl_state.specs.Campaign.{CampaignValue}
-use Rattle.atl_records.specs.Books.{all_entries, amount_in, entry_index, thing_at, thing_index}
+use Rattle.atl_records.specs.Books.{AreBooks, BooksValue, all_entries, amount_in, entry_index, thing_at, thing_index}
 use Rattle.atl_records.specs.declared.books.Entry.{Entry}
 use Rattle.atl_records.specs.declared.books.Thing.{Thing}
-use Rattle.atl_records.proofs.BookLaws.{place_at, at_place}
+use Rattle.atl_records.proofs.AccountLaws.{place_at, at_place}
+use Rattle.atl_records.proofs.BookLaws.{none_past}
 use Rattle.atl_records.proofs.EveryEntryLaws.{entry_there}
 use Rattle.atl_store.specs.Sets.{Is, puts}
 use Rattle.atl_store.specs.Shown.{books_key, books_row}
@@ -71,11 +71,11 @@ has_range from (suc count) i least most = elim (cases_lt from i) [
   | inr here ↦ inl (omega (arith, least, here))
 ]
 
--- an amount that is not 0 has a place
-pub within : (books : List (List ℤ)) (e : Entry) (t : Thing) → amount_in books e t ≢ pos 0 → thing_index t < length books
-within books e t some = elim (cases_lt (thing_index t) (length books)) [
+-- an amount that is not 0 is of a thing that is there
+within : (books : BooksValue) → AreBooks books.things books → (e : Entry) (t : Thing) → amount_in books e t ≢ pos 0 → thing_index t < books.things
+within books are e t some = elim (cases_lt (thing_index t) books.things) [
   | inl inside ↦ inside
-  | inr past ↦ absurd (some (ap (λ (row : List ℤ). get_or row (entry_index e) (pos 0)) (get_or_past books (thing_index t) [] (omega (arith, past))) ∙ get_or_past [] (entry_index e) (pos 0) (omega arith)))
+  | inr past ↦ absurd (some (none_past books.things books are e t past))
 ]
 
 -- ---- the rows of all amounts
@@ -124,13 +124,13 @@ module _ (c : CampaignValue) where
       let row = entries_has (thing_at found.0) all_entries r found.2 in
       (row.0, thing_at found.0, row.2, row.3)
 
-  pub books_filled : (rows old : List Row) → old ≡ [] → Is rows (puts 2 (things_lines c (range_with_len 0 (length c.books))) (Has old)) → Is rows (BooksRowsOf c.books)
-  books_filled rows old none made r =
-      let places = range_with_len 0 (length c.books) in
-      let is = filled 2 rows (things_lines c places) old none (things_apart 0 (length c.books)) made r in (
+  pub books_filled : AreBooks c.books.things c.books → (rows old : List Row) → old ≡ [] → Is rows (puts 2 (things_lines c (range_with_len 0 c.books.things)) (Has old)) → Is rows (BooksRowsOf c.books)
+  books_filled are rows old none made r =
+      let places = range_with_len 0 c.books.things in
+      let is = filled 2 rows (things_lines c places) old none (things_apart 0 c.books.things) made r in (
         λ there. things_rows places r (is.0 there),
         λ of.
-            let inside = has_range 0 (length c.books) (thing_index of.1) (omega arith) (omega (arith, within c.books of.0 of.1 of.2)) in
+            let inside = has_range 0 c.books.things (thing_index of.1) (omega arith) (omega (arith, within c.books are of.0 of.1 of.2)) in
             let here : Has (entries_lines c (thing_at (thing_index of.1)) all_entries) (row_at of.0 of.1) = subst (λ t. Has (entries_lines c t all_entries) (row_at of.0 of.1)) (sym (at_place of.1)) (has_entries of.1 all_entries of.0 (every_entry of.0) of.2) in
             is.1 (subst (Has (things_lines c places)) (sym of.3) (has_flat (λ place. entries_lines c (thing_at place) all_entries) places (thing_index of.1) (row_at of.0 of.1) inside here)),
       )

@@ -296,8 +296,8 @@ module _ (f : Format) {S : Type 0} (g : Ghosts S) (old new : Held S) (w : WorldV
         settled = same.1 ∙ sym back ∙ sym same.0;
         begins = subst (λ (d : Database). HasTablesOf f d.schema) (sym same.0) confirmed.begins;
         listed = subst (λ (d : Database). IsSound d.schema d.trees) (sym same.0) confirmed.sound;
-        keyed = λ table there. subst (λ (d : Database). IsKeyed (d.trees table.tree)) (sym same.0) (rows_keyed f db all.text loaded.parts c.value rows loaded.checked.rows (all.keyed confirmed.begins) table there);
-        rows = subst (λ (d : Database). HoldsIn f d.trees all.text c.value) (sym same.0) (rows_hold f db all.text loaded.parts c.value rows loaded.checked.rows);
+        keyed = λ table there. subst (λ (d : Database). IsKeyed (d.trees table.tree)) (sym same.0) (rows_keyed f db all.text loaded.parts c.value rows loaded.checked.rows _ loaded.checked.good.sound.steady.numbers.books (all.keyed confirmed.begins) table there);
+        rows = subst (λ (d : Database). HoldsIn f d.trees all.text c.value) (sym same.0) (rows_hold f db all.text loaded.parts c.value rows loaded.checked.rows _ loaded.checked.good.sound.steady.numbers.books);
       }
 
   pub loads_in : LoadsIn f g old new w c

@@ -1,9 +1,9 @@
 -- From the rows that the tables have to the campaign that they hold, table by table.
-use Rattle.std.proofs.Common.{◌≡◌, ◌≢◌, ◌==◌, ℕ, ℤ, pos, negsuc, Bool, true, false, not, List, [], ◌∷◌, length, filter, map, refl, sym, ap, ◌∙◌, subst, inl, inr, true≢false, IsTrue, arith}
-use Rattle.std.specs.List.{range_with_len}
+use Rattle.std.proofs.Common.{◌≡◌, ◌≢◌, ◌==◌, ℕ, ℤ, pos, Bool, true, false, cond, not, unwrap_or, Some, None, List, [], ◌∷◌, filter, map, refl, sym, ap, ◌∙◌, subst, inl, inr, true≢false, IsTrue}
+use Rattle.std.specs.List.{AllByRecursion}
 use Rattle.std.specs.List.Sorted.{IsPermutation}
 use Rattle.std.specs.Ordering.{nat_cmp}
-use Rattle.std.specs.FinMap.{FinMap, entries}
+use Rattle.std.specs.FinMap.{FinMap, entries, get}
 use Rattle.std.proofs.lemmas.Bool.{cases_Bool}
 use Rattle.std.proofs.lemmas.List.Sorted.{IsPermutation-map, IsPermutation-sym, IsPermutation-trans}
 use Rattle.sqlite.specs.declared.types.Value.TheVariants.{Int, Text}
@@ -14,9 +14,8 @@ use Rattle.sqlite_rules.specs.Lists.{Has}
 use Rattle.sqlite_rules.proofs.ListLemmas.{has_either, has_left, has_right, has_filtered, has_kept}
 use Rattle.atl_tables.specs.declared.format.Format.{Format}
 use Rattle.atl_tables.specs.declared.format.Format.TheVariants.{First, Second}
-use Rattle.atl_records.specs.Books.{all_entries, entry_index, thing_at, thing_index, amount_at}
+use Rattle.atl_records.specs.Books.{Account, AreBooks, BooksValue, amount_in}
 use Rattle.atl_records.specs.Holdings.{HoldingValue}
-use Rattle.atl_records.specs.Limits.{entry_count}
 use Rattle.atl_tables.specs.Formats.{format_number}
 use Rattle.atl_tables.specs.Worlds.{WorldValue}
 use Rattle.atl_state.specs.Checking.{Keeps}
@@ -25,8 +24,6 @@ use Rattle.atl_state.specs.declared.checking.Rule.TheVariants.{OneRow}
 use Rattle.atl_state.specs.Rows.{rows_by, rows_of, amount_rows, is_zero, AreRowsOf}
 use Rattle.atl_state.specs.Rows as made
 use Rattle.atl_state.specs.Campaign.{CampaignValue}
-use Rattle.atl_records.specs.declared.books.Entry.{Entry}
-use Rattle.atl_records.specs.declared.books.Thing.{Thing}
 use Rattle.atl_state.specs.declared.parts.Parts.{Parts}
 use Rattle.atl_state.specs.declared.parts.StoredBooks.{StoredBooks}
 use Rattle.atl_state.specs.declared.parts.StoredHas.{StoredHas}
@@ -35,7 +32,8 @@ use Rattle.atl_state.specs.declared.parts.StoredMarket.{StoredMarket}
 use Rattle.atl_records.specs.declared.records.Faction.{Faction}
 use Rattle.atl_records.specs.declared.records.Region.{Region}
 use Rattle.atl_records.specs.declared.records.Unit.{Unit}
-use Rattle.atl_records.proofs.BookLaws.{place_at}
+use Rattle.atl_records.proofs.BookLaws.{get-listed, zero_not}
+use Rattle.atl_records.proofs.ListedLaws.{each_amount, amount_of_each}
 use Rattle.atl_store.specs.declared.rows.has.ThingKind.{ThingKind}
 use Rattle.atl_store.specs.declared.rows.has.ThingKind.TheVariants.{Item, Skill}
 use Rattle.atl_store.specs.Gathering.{HaveKeys}
@@ -48,7 +46,6 @@ use Rattle.atl_store.specs.Written.{sort_number}
 use Rattle.atl_store.proofs.EditLaws.{has_permuted}
 use Rattle.atl_store.proofs.EntryLaws.{got_entry, entry_got, flat_has, has_flat}
 use Rattle.atl_store.proofs.GoodsLaws.{is_not_zero}
-use Rattle.atl_store.proofs.LedgerLaws.{every_entry, has_range, within}
 use Rattle.atl_store.proofs.KeyedLaws.{mapped_twice, lines_keys, one_keys, numbers_keyed}
 use Rattle.atl_store.proofs.ListLaws.{has_map, map_has}
 use Rattle.atl_store.proofs.PartLaws.{all_among, is_among, not_among}
@@ -189,50 +186,36 @@ stocks_held rows read regions in_table of_them r =
 
 -- ---- the books
 
-some_amount : (z : ℤ) → z ≢ pos 0 → not (is_zero z) ≡ true
-some_amount (pos n) some = ap not (is_not_zero n (λ zero. some (ap pos zero)))
-some_amount (negsuc n) some = refl
+each_of : {A : Type 0} (P : A → Type 0) (xs : List A) (x : A) → AllByRecursion P xs → Has xs x → P x
+each_of P [] x all there = absurd there
+each_of P (y ∷ xs) x all (inl same) = subst P (sym same) all.0
+each_of P (y ∷ xs) x all (inr later) = each_of P xs x all.1 later
 
-module _ (books : List (List ℤ)) where
-  abbrev cell : ℕ → ℕ → StoredBooks
-  cell entry thing = made.books_row entry thing (amount_at books entry thing)
+all_has : {A : Type 0} (xs ys : List A) → ((x : A) → Has ys x → Has xs x) → AllByRecursion (Has xs) ys
+all_has xs [] within = tt
+all_has xs (y ∷ ys) within = (within y (inl refl), all_has xs ys (λ x there. within x (inr there)))
 
-  cell_made : (things entry : ℕ) (s : StoredBooks) → Has (made.entry_rows books things entry) s → (thing : ℕ) × (amount_at books entry thing ≢ pos 0) × (s ≡ cell entry thing)
-  cell_made things entry s there =
-      let kept = has_filtered (λ (r : StoredBooks). not (is_zero r.amount)) (map (cell entry) (range_with_len 0 things)) s there in
-      let thing = map_has (cell entry) (range_with_len 0 things) s kept.0 in
-      (thing.0, λ zero. true≢false (sym kept.1 ∙ ap (λ (r : StoredBooks). not (is_zero r.amount)) thing.2 ∙ ap (λ z. not (is_zero z)) zero), thing.2)
+abbrev made_line : Account × ℤ → StoredBooks
+made_line x = made.books_row x.0.0 x.0.1 x.1
 
-  made_cell : (things entry thing : ℕ) → Has (range_with_len 0 things) thing → amount_at books entry thing ≢ pos 0 → Has (made.entry_rows books things entry) (cell entry thing)
-  made_cell things entry thing there some =
-      has_kept (λ (r : StoredBooks). not (is_zero r.amount)) (map (cell entry) (range_with_len 0 things)) (cell entry thing) (has_map (cell entry) (range_with_len 0 things) thing there) (some_amount (amount_at books entry thing) some)
-
-  -- a row by its places
-  booked : (e : Entry) (t : Thing) (entry thing : ℕ) → entry ≡ entry_index e → thing ≡ thing_index t → (r : Row) → amount_at books entry thing ≢ pos 0 → r ≡ books_values (cell entry thing) → BooksRowsOf books r
-  booked e t entry thing entry_is thing_is r some is = (
-    e,
-    t,
-    λ zero. some (ap (λ n. amount_at books n thing) entry_is ∙ ap (λ n. amount_at books (entry_index e) n) thing_is ∙ zero),
-    is ∙ ap (λ n. books_values (cell n thing)) entry_is ∙ ap (λ n. books_values (cell (entry_index e) n)) thing_is,
-  )
-
-  books_held : (rows : List Row) (read : List StoredBooks) → IsPermutation rows (map books_values read) → IsPermutation (made.books_rows books) read → Is rows (BooksRowsOf books)
-  books_held rows read in_table of_them r =
-      let is = are_made books_values rows read (made.books_rows books) in_table of_them r in (
-        λ there.
-            let a = is.0 there in
-            let found = flat_has (made.entry_rows books (length books)) (range_with_len 0 entry_count) a.0 a.1 in
-            let e = map_has entry_index all_entries found.0 found.1 in
-            let t = cell_made (length books) found.0 a.0 found.2 in
-            booked e.0 (thing_at t.0) found.0 t.0 e.2 (sym (place_at t.0)) r t.1 (a.2 ∙ ap books_values t.2),
-        λ of.
-            let inside = has_range 0 (length books) (thing_index of.1) (omega arith) (omega (arith, within books of.0 of.1 of.2)) in
-            is.1 (
-              cell (entry_index of.0) (thing_index of.1),
-              has_flat (made.entry_rows books (length books)) (range_with_len 0 entry_count) (entry_index of.0) _ (has_map entry_index all_entries of.0 (every_entry of.0)) (made_cell (length books) (entry_index of.0) (thing_index of.1) inside of.2),
-              of.3,
-            ),
-      )
+-- the table has the rows of books of so many things
+books_held : (things : ℕ) (books : BooksValue) → AreBooks things books → (rows : List Row) (read : List StoredBooks) → IsPermutation rows (map books_values read) → IsPermutation (made.books_rows books) read → Is rows (BooksRowsOf books)
+books_held things books are rows read in_table of_them r =
+    let m = books.amounts in
+    let is = are_made books_values rows read (made.books_rows books) in_table of_them r in (
+      λ there.
+          let a = is.0 there in
+          let x = map_has made_line (entries m) a.0 a.1 in
+          let got = each_of (λ y. get m y.0 ≡ Some y.1) (entries m) x.0 (each_amount (λ c z. get m c ≡ Some z) m (λ c z h. h)) x.1 in
+          let amount : amount_in books x.0.0.0 x.0.0.1 ≡ x.0.1 = ap (λ o. unwrap_or o (pos 0)) got in
+          let some = (are.listed x.0.0.0 x.0.0.1 x.0.1 got).1 in
+          (x.0.0.0, x.0.0.1, λ none. some (sym amount ∙ none), a.2 ∙ ap books_values x.2 ∙ ap (λ z. books_values (made.books_row x.0.0.0 x.0.0.1 z)) (sym amount)),
+      λ of.
+          let z = amount_in books of.0 of.1 in
+          let got : get m (of.0, of.1) ≡ Some z = get-listed things books are of.0 of.1 ∙ ap (λ b. cond b None (Some z)) (zero_not z of.2) in
+          let there = amount_of_each (λ c y. Has (entries m) (c, y)) m (all_has (entries m) (entries m) (λ x h. h)) (of.0, of.1) z got in
+          is.1 (made.books_row of.0 of.1 z, has_map made_line (entries m) ((of.0, of.1), z) there, of.3),
+    )
 
 -- ---- all tables
 
@@ -245,7 +228,7 @@ only_second First part late there = absurd (not_among (parts_in First) part late
 only_second Second part late there = refl
 
 -- tables that have the rows of a campaign
-module _ (f : Format) (db : Trees) (text : List ℕ) (p : Parts) (c : CampaignValue) (have : HaveRows f db text p) (are : AreRowsOf f c p) where
+module _ (f : Format) (db : Trees) (text : List ℕ) (p : Parts) (c : CampaignValue) (have : HaveRows f db text p) (are : AreRowsOf f c p) (things : ℕ) (books : AreBooks things c.books) where
   -- Each part's table has exactly the rows that stand for the part, and they differ in the first column where that is the row's number.
   by_part : (part : Part) → Has (parts_in f) part → Is (rows_in (table_of part) db) (rows_for (campaign_row_in f (campaign_row_of c) text) c part) × (has_places part ≡ false → HasKeys (rows_in (table_of part) db))
   unfolding rows_of
@@ -257,7 +240,7 @@ module _ (f : Format) (db : Trees) (text : List ℕ) (p : Parts) (c : CampaignVa
   by_part Structures there = by_number structure_stored made.structure_row structure_line (λ n v. refl) (λ n v. refl) _ p.structures c.structures (have.rows Structures there) are.structures
   by_part Mail there = by_number mail_stored made.mail_row mail_row (λ n v. refl) (λ n v. refl) _ p.mail c.mail (have.rows Mail there) are.mail
   by_part Reports there = by_number report_stored made.report_row report_row (λ n v. refl) (λ n v. refl) _ p.reports c.reports (have.rows Reports there) are.reports
-  by_part Books there = (books_held c.books _ p.books (have.rows Books there) are.books, λ number. absurd (true≢false number))
+  by_part Books there = (books_held things c.books books _ p.books (have.rows Books there) are.books, λ number. absurd (true≢false number))
   by_part Markets there = (stocks_held _ p.markets c.regions (have.rows Markets there) (subst (λ f. IsPermutation (made.market_rows f (entries c.regions)) p.markets) (only_second f Markets refl there) are.markets), λ number. absurd (true≢false number))
 
   -- so they hold it

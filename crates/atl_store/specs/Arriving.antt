@@ -1,5 +1,5 @@
 -- What writing a join, or a mail, changes in the tables.
-use Rattle.std.specs.Prelude.{◌≡◌, ◌≢◌, ◌⊎◌, ◌+◌, ◌-◌, ◌≤◌, ℕ, List, [], ◌∷◌, Some, IsSome, length, take}
+use Rattle.std.specs.Prelude.{◌≡◌, ◌≢◌, ◌⊎◌, ◌+◌, ◌-◌, ◌≤◌, ℕ, List, [], ◌∷◌, Some, IsSome, take}
 use Rattle.std.specs.FinMap.{get}
 use Rattle.sqlite.specs.Effect.{Database}
 use Rattle.sqlite.specs.Order.{Row}
@@ -23,7 +23,7 @@ use Rattle.atl_store.specs.Rows.{campaign_line, faction_line, unit_line}
 -- a faction is there with its report, a unit came last, and the books have places for money and people
 pub record HasArrival (c : CampaignValue) (number : ℕ) : Type 0 where
   pub next : 1 ≤ c.next_unit
-  pub things : 2 ≤ length c.books
+  pub things : 2 ≤ c.books.things
   pub faction : IsSome (get c.factions number)
   pub unit : IsSome (get c.units (c.next_unit - 1))
   pub report : IsSome (get c.reports number)
@@ -34,7 +34,7 @@ pub record IsFound (c : CampaignValue) (number : ℕ) (faction : Faction) (place
   pub faction_is : get c.factions number ≡ Some faction
   pub unit_is : get c.units place ≡ Some unit
   pub report_is : get c.reports number ≡ Some report
-  pub things : 2 ≤ length c.books
+  pub things : 2 ≤ c.books.things
 
 -- the amount of a thing under an entry has its row, or none where it is 0, and every other row of the books is as it was
 abbrev pub settled : CampaignValue → Entry → Thing → Set → Set

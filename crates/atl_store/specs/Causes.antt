@@ -36,7 +36,7 @@ IsBroken old new = MoreFaults old.faults new.faults ⊎ (old.is_open ≡ false)
 abbrev pub IsRefused : Error → State → State → Type 0
 IsRefused e before after = (e ≡ SqliteFailure TooBig) ⊎ IsUnchanged before after
 
--- A call of a transaction that runs these statements on this connection gave this error. Of want of memory the database tells no cause; any other error has one.
+-- A call of a transaction that runs these statements on this connection gave this error. Of lack of memory the database tells no cause; any other error has one.
 pub record Gives {S : Type 0} (g : Ghosts S) (own : Statements) (e : Error) (old new : Held S) : Type 0 where
   -- the connection as the call found it, and as it left it
   pub before : Held S

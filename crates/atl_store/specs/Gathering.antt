@@ -61,7 +61,7 @@ kept_of (Err read.Refused) = Err Store
 kept_of (Err read.Memory) = Err Memory
 kept_of (Err read.OtherType) = Ok None
 
--- of a step that is made where this is so: Store where it isn't, and want of memory
+-- of a step that is made where this is so: Store where it isn't, and lack of memory
 abbrev pub Lacks : Type 0 → LoadFault → Type 0
 Lacks P Store = ¬ P
 Lacks P (Damaged rule) = ⊥
@@ -160,7 +160,7 @@ module _ {S : Type 0} (g : Ghosts S) (old : Held S) where
     pub rows : List Row
     pub answered : Selects g select.0 before rows
 
-  -- Store where one of them is refused for another cause than memory, Memory where one is refused for want of it, or answered
+  -- Store where one of them is refused for another cause than memory, Memory where one is refused for lack of it, or answered
   abbrev pub FailsToRead : List (List ℕ × List Form) → LoadFault → Type 0
   FailsToRead selects Store = RefusesOne g old selects read.Store ⊎ RefusesOne g old selects read.Refused
   FailsToRead selects (Damaged rule) = ⊥
@@ -176,7 +176,7 @@ module _ {S : Type 0} (g : Ghosts S) (old : Held S) where
 
   -- ---- the schema
 
-  -- the campaign's own row is asked for once more, and refused for want of memory or not
+  -- the campaign's own row is asked for once more, and refused for lack of memory or not
   abbrev pub IsRefusedAgain : Bool → Type 0
   IsRefusedAgain memory = (during : Held S) × (e : Error) × FailsToQuery (selection campaign_table 1) [] (state g old) (state g during) e × (is_memory e ≡ memory)
 

@@ -177,7 +177,7 @@ module _ {S : Type 0} (g : Ghosts S) (old : Held S) where
     pub leaves : Leaves g old after
     pub failed : MoreFaults (state g old).faults (state g after).faults
 
-  -- the campaign's own row, asked for once more after other readings, is refused for want of memory or not
+  -- the campaign's own row, asked for once more after other readings, is refused for lack of memory or not
   pub record RefusesAgain (memory : Bool) : Type 0 where
     pub before : Held S
     pub leaves : Leaves g old before
@@ -186,7 +186,7 @@ module _ {S : Type 0} (g : Ghosts S) (old : Held S) where
     pub refused : FailsToQuery (selection campaign_table 1) [] (state g before) (state g during) error
     pub memory_is : is_memory error ≡ memory
 
-  -- Memory is told in no transaction, where the SELECT of the campaign's own row is refused for want of memory or is answered: what is behind it may want memory anywhere.
+  -- Memory is told in no transaction, where the SELECT of the campaign's own row is refused for lack of memory or is answered: what is behind it may want memory anywhere.
   abbrev pub WantsMemory : Type 0
   WantsMemory = (old.in_transaction ≡ false) × (RefusesToSelect g (selection campaign_table 1) old read.Memory ⊎ ((rows : List Row) × Selects g (selection campaign_table 1) old rows))
 

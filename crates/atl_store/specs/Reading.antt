@@ -53,10 +53,10 @@ module _ {S : Type 0} (g : Ghosts S) (sql : List ℕ) (old : Held S) where
   pub record ReadsRows {A Z : Type 0} (forms : List Form) (shown : A → Row) (result : Result (Vec A Z) ReadFault) (new : Held S) : Type 0 where
     -- With Ok it gives these rows, on a disk that is clean, and each value is of its column's form.
     pub rows : HasCleanDisk (state g new) → IfOk result (λ all. (rows : List Row) × Selects rows × (map shown all.items ≡ map (first_columns (length forms)) rows) × AreTyped forms rows)
-    -- A value of another form is told as OtherType; all else but want of memory is the SELECT's refusal.
+    -- A value of another form is told as OtherType; all else but lack of memory is the SELECT's refusal.
     pub other : HasCleanDisk (state g new) → IfErr result (λ fault. fault ≡ OtherType → (rows : List Row) × Selects rows × ¬ AreTyped forms rows)
     pub refused : HasCleanDisk (state g new) → IfErr result (λ fault. fault ≢ OtherType → fault ≢ Memory → RefusesToSelect fault)
-    -- Memory: the SELECT is refused for want of it, or is answered and its rows find no room.
+    -- Memory: the SELECT is refused for lack of it, or is answered and its rows find no room.
     pub memory : HasCleanDisk (state g new) → IfErr result (λ fault. fault ≡ Memory → RefusesToSelect Memory ⊎ ((rows : List Row) × Selects rows))
     pub rests : HasCleanDisk (state g new) → Rests (state g old) (state g new)
     pub survives : Survives (state g old) (state g new) (λ _. ⊥)

@@ -1,5 +1,5 @@
 -- The rows that stand for a world text and a campaign: of each table the set of its rows, told from the whole campaign.
-use Rattle.std.specs.Prelude.{◌≡◌, ◌≢◌, ◌+◌, ℕ, ℤ, pos, List, map, Option, Some}
+use Rattle.std.specs.Prelude.{◌≡◌, ◌≢◌, ◌+◌, ℕ, pos, List, map, Option, Some}
 use Rattle.std.specs.Ordering.{nat_cmp}
 use Rattle.std.specs.FinMap.{FinMap, get}
 use Rattle.sqlite.specs.Order.{Row}
@@ -7,7 +7,7 @@ use Rattle.sqlite_trees.specs.Tree.{Trees}
 use Rattle.atl_state.specs.Campaign.{CampaignValue}
 use Rattle.atl_state.specs.Covers.{items_under, days_under}
 use Rattle.atl_records.specs.Holdings.{HoldingValue, amount_of}
-use Rattle.atl_records.specs.Books.{amount_in, entry_index, thing_index}
+use Rattle.atl_records.specs.Books.{BooksValue, amount_in, entry_index, thing_index}
 use Rattle.atl_records.specs.declared.books.Entry.{Entry}
 use Rattle.atl_records.specs.declared.books.Thing.{Thing}
 use Rattle.atl_records.specs.declared.records.Faction.{Faction}
@@ -69,7 +69,7 @@ HasRowsOf units r =
     (n : ℕ) × (u : Unit) × (get units n ≡ Some u) × (sort : ThingKind) × (thing : ℕ) × (amount : ℕ) × (get (things_of sort u.holding) thing ≡ Some amount) × (amount ≢ 0) × (r ≡ has_row n (sort_number sort) thing amount)
 
 -- one row for each entry and thing where the amount is not 0
-abbrev pub BooksRowsOf : List (List ℤ) → Row → Type 0
+abbrev pub BooksRowsOf : BooksValue → Row → Type 0
 BooksRowsOf books r = (e : Entry) × (t : Thing) × (amount_in books e t ≢ pos 0) × (r ≡ books_row (entry_index e + 1) (thing_index t) (amount_in books e t))
 
 -- one row for each item of a region whose stock is not 0

@@ -51,7 +51,7 @@ module _ {S : Type 0} (g : Ghosts S) (text : List ℕ) (old new : Held S) where
     pub unmarked : c.marks ≡ no_marks
     pub idle : new.in_transaction ≡ false
 
-  -- A call of the transaction, on the connection as the readings left it, gave an error, which is want of memory or not.
+  -- A call of the transaction, on the connection as the readings left it, gave an error, which is lack of memory or not.
   pub record BreaksOff (memory : Bool) : Type 0 where
     pub world : WorldValue
     pub campaign : CampaignValue

@@ -1,5 +1,5 @@
 //! Writes the changes of a campaign into its tables.
-ghost use Rattle.std.specs.Prelude.{◌≡◌, ◌≤◌, false, List, ℕ, IfErr, OnOk, OnErr, length};
+ghost use Rattle.std.specs.Prelude.{◌≡◌, ◌≤◌, false, List, ℕ, IfErr, OnOk, OnErr};
 ghost use Rattle.sqlite.specs.Held.{state};
 ghost use Rattle.sqlite.specs.State.{HasCleanDisk};
 ghost use Rattle.atl_state.specs.Covers.{Covers};
@@ -22,7 +22,7 @@ use sqlite::{Alter, Connection, Error, Transaction};
 
 /// All that is marked.
 fn rewrite_all<S: Alter>(tx: &mut Transaction<'_, S>, campaign: &Campaign) -> Result<(), Error>
-    requires { length campaign.now.value.books ≤ most_things }
+    requires { campaign.now.value.books.things ≤ most_things }
     ensures { Writes S.Store (OfChange campaign.now.value)
         (Inside HasTables (WritesChanges campaign.now)) result tx.old.conn tx.new.conn }
 {
@@ -33,7 +33,7 @@ fn rewrite_all<S: Alter>(tx: &mut Transaction<'_, S>, campaign: &Campaign) -> Re
 /// The transaction of a change.
 fn write_marked<S: Alter>(conn: &mut Connection<S>, campaign: &Campaign) -> Result<(), Error>
     requires idle { conn.old.in_transaction ≡ false }
-    requires things { length campaign.now.value.books ≤ most_things }
+    requires things { campaign.now.value.books.things ≤ most_things }
     ensures { Transacts S.Store (OfChange campaign.now.value) HasTables (WritesChanges campaign.now)
         result conn.old conn.new }
 {
@@ -52,7 +52,7 @@ pub fn write_changes<S: Alter>(
     campaign: &mut Campaign,
 ) -> Result<(), WriteFault>
     requires idle { conn.old.in_transaction ≡ false }
-    requires things { length campaign.old.value.books ≤ most_things }
+    requires things { campaign.old.value.books.things ≤ most_things }
     ensures ok { HasCleanDisk (state S.Store conn.new)
         → OnOk result ((text : List ℕ) (before : CampaignValue)
         → Keeps (state S.Store conn.old) text before

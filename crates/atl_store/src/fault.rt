@@ -147,7 +147,7 @@ impl fmt::Display for UpgradeFault {
 
 impl std::error::Error for UpgradeFault {}
 
-/// Of two faults the one for want of memory, or the one for any other cause.
+/// Of two faults the one for lack of memory, or the one for any other cause.
 fn by_cause<F: Drop>(error: Error, memory: F, other: F) -> F
     ensures { result ≡ (if is_memory error then memory else other) }
 {

@@ -1,5 +1,5 @@
 //! Creates the tables and writes a whole campaign into them.
-ghost use Rattle.std.specs.Prelude.{◌≡◌, ◌≤◌, false, IsTrue, OnOk, OnErr, IfErr, length, ◌↔◌};
+ghost use Rattle.std.specs.Prelude.{◌≡◌, ◌≤◌, false, IsTrue, OnOk, OnErr, IfErr, ◌↔◌};
 ghost use Rattle.sqlite.specs.Held.{state};
 ghost use Rattle.atl_store.specs.Tables.{no_tables};
 ghost use Rattle.atl_records.specs.Limits.{most_things};
@@ -25,7 +25,7 @@ fn put_founding<S: Alter>(
     text: &str,
     campaign: &Campaign,
 ) -> Result<(), Error>
-    requires { length campaign.now.value.books ≤ most_things }
+    requires { campaign.now.value.books.things ≤ most_things }
     ensures { Writes S.Store (OfFounding text.now campaign.now.value)
         (Inside IsBlank (WritesFounding text.now campaign.now.value)) result tx.old.conn
         tx.new.conn }
@@ -42,7 +42,7 @@ fn write_founding<S: Alter>(
     campaign: &Campaign,
 ) -> Result<(), Error>
     requires idle { conn.old.in_transaction ≡ false }
-    requires things { length campaign.now.value.books ≤ most_things }
+    requires things { campaign.now.value.books.things ≤ most_things }
     ensures { Transacts S.Store (OfFounding text.now campaign.now.value) IsBlank
         (WritesFounding text.now campaign.now.value) result conn.old conn.new }
 {
@@ -80,7 +80,7 @@ fn is_ready<S: Alter>(conn: &Connection<S>) -> bool
 /// Makes the tables and writes the whole campaign with its world text, in one transaction. With Ok the connection
 /// holds the campaign, of which nothing is marked any more, and no table `campaign` was there. NotEmpty: a table
 /// `campaign` is there, and nothing is changed. Store: the connection is in a transaction or the database has other
-/// tables, and nothing is changed; or the database gives an error that is not want of memory. Memory: it says that it
+/// tables, and nothing is changed; or the database gives an error that is not lack of memory. Memory: it says that it
 /// has none. After both the tables are as they were while the connection is open, and a crash leaves what it left
 /// before or the campaign. After any fault the marks are as they were. See docs/FORMATS.md, "Tables".
 pub fn create<S: Alter>(
@@ -88,7 +88,7 @@ pub fn create<S: Alter>(
     world_text: &str,
     campaign: &mut Campaign,
 ) -> Result<(), CreateFault>
-    requires { length campaign.old.value.books ≤ most_things }
+    requires { campaign.old.value.books.things ≤ most_things }
     ensures ok { OnOk result (Creates S.Store world_text.now campaign.old.value conn.old conn.new) }
     ensures err { IfErr result
         (RefusesToCreate S.Store world_text.now campaign.old.value conn.old conn.new) }

@@ -1,8 +1,8 @@
 //! Writes the books, row by row.
-ghost use Rattle.std.specs.Prelude.{◌<◌, ◌≤◌, length, map};
+ghost use Rattle.std.specs.Prelude.{◌<◌, ◌≤◌, map};
 ghost use Rattle.std.specs.List.{range_with_len};
 ghost use Rattle.atl_records.specs.Limits.{most_things};
-ghost use Rattle.atl_records.specs.Books.{entry_index, thing_index};
+ghost use Rattle.atl_records.specs.Books.{AreBooks, entry_index, thing_index};
 ghost use Rattle.atl_store.specs.Tables.{books_table};
 ghost use Rattle.atl_store.specs.Lines.{amount_lines, entries_lines, things_lines};
 ghost use Rattle.atl_store.specs.OwnStatements.{OfAmount, OfChange};
@@ -22,7 +22,7 @@ fn put_amount<S: Alter>(
     entry: Entry,
     thing: Thing,
 ) -> Result<(), Error>
-    requires { thing_index thing < length campaign.now.value.books }
+    requires { thing_index thing < campaign.now.value.books.things }
     ensures { WritesRows S.Store books_table 2 (amount_lines campaign.now.value entry thing) result
         tx.old.conn tx.new.conn }
 {
@@ -45,7 +45,7 @@ pub(crate) fn settle_amount<S: Alter>(
     entry: Entry,
     thing: Thing,
 ) -> Result<(), Error>
-    requires { thing_index thing < length campaign.now.value.books }
+    requires { thing_index thing < campaign.now.value.books.things }
     ensures { Writes S.Store (OfAmount campaign.now.value entry thing)
         (Inside HasTables (Settles campaign.now.value entry thing)) result tx.old.conn tx.new.conn }
 {
@@ -68,7 +68,7 @@ fn put_entries<S: Alter>(
     thing: Thing,
     entries: &[Entry],
 ) -> Result<(), Error>
-    requires { thing_index thing < length campaign.now.value.books }
+    requires { thing_index thing < campaign.now.value.books.things }
     ensures { WritesRows S.Store books_table 2 (entries_lines campaign.now.value thing entries.now)
         result tx.old.conn tx.new.conn }
 {
@@ -83,10 +83,11 @@ pub(crate) fn put_all_books<S: Alter>(
     tx: &mut Transaction<'_, S>,
     campaign: &Campaign,
 ) -> Result<(), Error>
-    requires { length campaign.now.value.books ≤ most_things }
-    ensures { WritesRows S.Store books_table 2
-        (things_lines campaign.now.value (range_with_len 0 (length campaign.now.value.books)))
+    requires { campaign.now.value.books.things ≤ most_things }
+    ensures rows { WritesRows S.Store books_table 2
+        (things_lines campaign.now.value (range_with_len 0 campaign.now.value.books.things))
         result tx.old.conn tx.new.conn }
+    ensures books { AreBooks campaign.now.value.books.things campaign.now.value.books }
 {
     for number in 0..campaign.things() {
         put_entries(tx, campaign, Thing::of_number(number), &Entry::ALL)?;
@@ -101,7 +102,7 @@ fn rewrite_amount<S: Alter>(
     entry: Entry,
     thing: Thing,
 ) -> Result<(), Error>
-    requires { thing_index thing < length campaign.now.value.books }
+    requires { thing_index thing < campaign.now.value.books.things }
     ensures { Writes S.Store (OfChange campaign.now.value)
         (Inside HasTables (RewritesAmounts campaign.now (is_number (entry_index entry))
         (is_number (thing_index thing)))) result tx.old.conn tx.new.conn }
@@ -119,7 +120,7 @@ fn rewrite_entries<S: Alter>(
     thing: Thing,
     entries: &[Entry],
 ) -> Result<(), Error>
-    requires { thing_index thing < length campaign.now.value.books }
+    requires { thing_index thing < campaign.now.value.books.things }
     ensures { Writes S.Store (OfChange campaign.now.value)
         (Inside HasTables (RewritesAmounts campaign.now (is_among (map entry_index entries.now))
         (is_number (thing_index thing)))) result tx.old.conn tx.new.conn }
@@ -135,7 +136,7 @@ pub(crate) fn rewrite_books<S: Alter>(
     tx: &mut Transaction<'_, S>,
     campaign: &Campaign,
 ) -> Result<(), Error>
-    requires { length campaign.now.value.books ≤ most_things }
+    requires { campaign.now.value.books.things ≤ most_things }
     ensures { Writes S.Store (OfChange campaign.now.value)
         (Inside HasTables (RewritesBooks campaign.now)) result tx.old.conn tx.new.conn }
 {

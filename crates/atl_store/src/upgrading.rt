@@ -79,7 +79,7 @@ fn world_and_campaign<S: Alter>(
 /// NotOld: the campaign's own rows are one, whose format is the second, whatever else it says. World: the new text is
 /// no world. Differs: its world differs from that of the old text in more than markets. Store is told as by `load`,
 /// too; or there are more tables or indexes than those of the first format; or the database gives an error that is not
-/// want of memory. Memory: there is none. After a fault the tables are as they were while the connection is open, and a
+/// lack of memory. Memory: there is none. After a fault the tables are as they were while the connection is open, and a
 /// crash leaves what it left before or, where the transaction was begun, the upgraded campaign. See docs/FORMATS.md,
 /// "Upgrading a file".
 pub fn upgrade<S: Alter>(

@@ -1,5 +1,5 @@
 //! The tables of a campaign's parts, written one after another.
-ghost use Rattle.std.specs.Prelude.{◌≤◌, ◌++◌, List, [], ◌∷◌, length};
+ghost use Rattle.std.specs.Prelude.{◌≤◌, ◌++◌, List, [], ◌∷◌};
 ghost use Rattle.atl_records.specs.Limits.{most_things};
 ghost use Rattle.atl_store.specs.Tables.{Part, Units, Goods, Books, Markets};
 ghost use Rattle.atl_store.specs.OwnStatements.{OfRow, OfChange};
@@ -55,14 +55,14 @@ pub(crate) trait WrittenPart {
 
     /// Puts all their rows.
     fn fill<S: Alter>(tx: &mut Transaction<'_, S>, campaign: &Campaign) -> Result<(), Error>
-        requires { length campaign.now.value.books ≤ most_things }
+        requires { campaign.now.value.books.things ≤ most_things }
         ensures { Writes S.Store (OfRow campaign.now.value)
             (Inside HasTables (InTurn (FillsPart campaign.now.value) parts)) result tx.old.conn
             tx.new.conn };
 
     /// Puts the rows of all that is marked of them, and deletes those of what is gone.
     fn rewrite<S: Alter>(tx: &mut Transaction<'_, S>, campaign: &Campaign) -> Result<(), Error>
-        requires { length campaign.now.value.books ≤ most_things }
+        requires { campaign.now.value.books.things ≤ most_things }
         ensures { Writes S.Store (OfChange campaign.now.value)
             (Inside HasTables (InTurn (RewritesPart campaign.now) parts)) result tx.old.conn
             tx.new.conn };

@@ -6,17 +6,19 @@ ghost use Rattle.atl_records.specs.Books.{no_amounts};
 
 use crate::parts::StoredBooks;
 use crate::row_rules::as_u32;
-use atl_records::{Books, ENTRY_COUNT};
+use atl_records::{Books, Entry, Thing};
 use std::alloc::{AllocError, Global};
 
-/// Puts the amount of a row at its places, where there is such an entry and such a thing.
+/// Puts the amount of a row, where there is such an entry and such a thing.
 fn put_row(books: &mut Books, row: &StoredBooks)
     ensures { books.new ≡ with_row books.old row.now }
 {
-    let entry = as_u32(row.entry) as usize;
+    let Some(entry) = Entry::of_number(as_u32(row.entry)) else {
+        return;
+    };
     let thing = as_u32(row.thing) as usize;
-    if 1 <= entry && entry <= ENTRY_COUNT && thing < books.len() {
-        books.put_at(entry - 1, thing, row.amount);
+    if thing < books.len() {
+        books.put(entry, Thing::of_number(thing), row.amount);
     }
 }
 

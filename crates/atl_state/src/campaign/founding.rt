@@ -67,7 +67,7 @@ pub fn founded(alloc: Global, world: &World, pass: &[u8]) -> Result<Campaign, Al
     requires pass { IsTrue (pass_ok pass.now) }
     ensures definition { IfOk result (λ c. c.value ≡ founded_of world.now pass.now) }
     ensures good { IfOk result (λ c. IsGood world.now c.value) }
-    ensures things { IfOk result (λ c. length c.value.books ≤ most_things) }
+    ensures things { IfOk result (λ c. c.value.books.things ≤ most_things) }
     ensures marks { IfOk result (λ c. c.marks ≡ no_marks) }
 {
     let pass = Text::from_utf8(alloc, pass)?;

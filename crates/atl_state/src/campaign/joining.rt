@@ -1,5 +1,5 @@
 //! Lets a faction join. See docs/RULES.md, "Joining".
-ghost use Rattle.std.specs.Prelude.{◌≡◌, ◌≤◌, ◌<◌, ◌++◌, IsTrue, IfOk, OnOk, OnErr, codes, false, length, nat_eq, pos};
+ghost use Rattle.std.specs.Prelude.{◌≡◌, ◌≤◌, ◌<◌, ◌++◌, IsTrue, IfOk, OnOk, OnErr, codes, false, nat_eq, pos};
 ghost use Rattle.std.specs.Cmp.Lexicographic.{pointwise};
 ghost use Rattle.std.specs.FinMap as map;
 ghost use Rattle.std.specs.Fmt.{decimal};
@@ -92,7 +92,7 @@ fn make_faction(alloc: Global, number: u32, name: &[u8], pass: &[u8]) -> Result<
 
 /// Books what a faction brings.
 fn book_joining(books: &mut Books, money: u32)
-    requires rows { 2 ≤ length books.old }
+    requires things { 2 ≤ books.old.things }
     requires money { IsSmall (amount_in books.old Joining Money) }
     requires people { IsSmall (amount_in books.old Joining People) }
     ensures { books.new ≡ after_booking (after_booking books.old Joining Money (pos money)) Joining

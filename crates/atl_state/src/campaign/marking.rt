@@ -1,5 +1,5 @@
 //! Reads and clears the change marks of a campaign.
-ghost use Rattle.std.specs.Prelude.{◌≡◌, ◌<◌, length};
+ghost use Rattle.std.specs.Prelude.{◌≡◌, ◌<◌};
 ghost use Rattle.std.specs.FinMap as map;
 ghost use Rattle.std.specs.FinSet as set;
 ghost use Rattle.atl_tables.specs.Tracking.{Lists};
@@ -105,7 +105,7 @@ impl Campaign {
 
     /// Whether an amount of the books is marked.
     pub fn is_amount_marked(&self, entry: Entry, thing: Thing) -> bool
-        requires { thing_index thing < length self.now.value.books }
+        requires { thing_index thing < self.now.value.books.things }
         ensures { result ≡ set.contains self.now.marks.books (amount_number entry thing) }
     {
         self.amounts_marked.contains(amount_number(entry, thing))

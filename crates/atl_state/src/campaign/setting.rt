@@ -1,6 +1,6 @@
 //! Calls that set one entry of a campaign. Where nothing stands under the number, nothing changes. Only `set_stock`,
 //! `set_item` and `set_days` take memory.
-ghost use Rattle.std.specs.Prelude.{◌≡◌, ◌≤◌, ◌<◌, ◌⊎◌, ◌+ℤ◌, IsOk, OnErr, OnOk, length};
+ghost use Rattle.std.specs.Prelude.{◌≡◌, ◌≤◌, ◌<◌, ◌⊎◌, ◌+ℤ◌, IsOk, OnErr, OnOk};
 ghost use Rattle.std.specs.Int.{w64};
 ghost use Rattle.std.specs.Int.RustNames.{FitsSigned};
 ghost use Rattle.atl_records.specs.Books.{amount_in, thing_index};
@@ -174,7 +174,7 @@ impl Campaign {
     /// Books so much more of a thing under an entry (money, men and peasants, or pieces of an item), or less where it is
     /// negative, and marks that amount. See docs/RULES.md, "Books".
     pub fn book(&mut self, entry: Entry, thing: Thing, amount: i64)
-        requires there { thing_index thing < length self.old.value.books }
+        requires there { thing_index thing < self.old.value.books.things }
         requires fits { FitsSigned w64 (amount_in self.old.value.books entry thing +ℤ amount) }
         ensures what { self.new.value ≡ with_amount self.old.value entry thing amount }
         ensures marks { self.new.marks ≡ mark_amount self.old entry thing }

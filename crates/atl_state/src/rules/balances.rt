@@ -1,7 +1,7 @@
 //! Whether the books say what units and regions hold.
 ghost use Rattle.std.specs.Prelude.{◌≡◌, ◌<◌, ℕ, length, pos, ◌↔◌, IsTrue};
 ghost use Rattle.atl_tables.specs.Worlds.{IsWorld};
-ghost use Rattle.atl_records.specs.Books.{booked, thing_index, IsGrid};
+ghost use Rattle.atl_records.specs.Books.{booked, thing_index, AreBooks};
 ghost use Rattle.atl_state.specs.Founding.{things_of};
 ghost use Rattle.atl_records.specs.Every.{Every};
 ghost use Rattle.atl_state.specs.Good.{AreOfMarkets};
@@ -15,7 +15,7 @@ use atl_tables::World;
 /// Whether the total of a thing is the sum of its entries.
 fn is_balanced(campaign: &Campaign, thing: Thing) -> bool
     requires few { IsCountable campaign.now.value }
-    requires there { thing_index thing < length campaign.now.value.books }
+    requires there { thing_index thing < campaign.now.value.books.things }
     ensures { IsTrue result ↔
         (pos (total campaign.now.value thing) ≡ booked campaign.now.value.books thing) }
 {
@@ -25,7 +25,7 @@ fn is_balanced(campaign: &Campaign, thing: Thing) -> bool
 /// Whether the total of each item of the world is the sum of its entries.
 fn are_items_balanced(world: &World, campaign: &Campaign) -> bool
     requires few { IsCountable campaign.now.value }
-    requires grid { IsGrid (things_of world.now) campaign.now.value.books }
+    requires things { campaign.now.value.books.things ≡ things_of world.now }
     ensures decision { IsTrue result ↔
         ((i : ℕ) → i < length world.now.items
         → pos (total campaign.now.value (Item i)) ≡ booked campaign.now.value.books (Item i)) }
@@ -42,7 +42,7 @@ fn are_items_balanced(world: &World, campaign: &Campaign) -> bool
 /// Whether the total of money, and that of people, is the sum of its entries.
 fn are_people_balanced(campaign: &Campaign) -> bool
     requires few { IsCountable campaign.now.value }
-    requires there { 1 < length campaign.now.value.books }
+    requires there { 1 < campaign.now.value.books.things }
     ensures { IsTrue result ↔
         ((pos (total campaign.now.value Money) ≡ booked campaign.now.value.books Money)
         × (pos (total campaign.now.value People) ≡ booked campaign.now.value.books People)) }
@@ -54,7 +54,7 @@ fn are_people_balanced(campaign: &Campaign) -> bool
 /// world's, and all stocks those of its markets. It takes no memory.
 pub(crate) fn are_balanced(world: &World, campaign: &Campaign) -> bool
     requires few { IsCountable campaign.now.value }
-    requires grid { IsGrid (things_of world.now) campaign.now.value.books }
+    requires books { AreBooks (things_of world.now) campaign.now.value.books }
     requires items { Every (λ n u. Every (λ i amount. i < length world.now.items) u.holding.items)
         campaign.now.value.units }
     requires stocks { Every (λ n r. AreOfMarkets world.now n r.stocks) campaign.now.value.regions }

@@ -7,7 +7,7 @@ ghost use Rattle.atl_records.specs.Limits.{most_days};
 use crate::campaign::Campaign;
 use atl_records::{Holding, MOST_DAYS};
 
-/// Whether the days of each skill that is studied are from 1 to MOST_DAYS for each man.
+/// Whether there is at least 1 day in each skill that is studied, and at most MOST_DAYS for each man.
 fn has_days(holding: &Holding) -> bool
     ensures { IsTrue result ↔
         (Every (λ s days. (1 ≤ days) × (days ≤ most_days * holding.now.men)) holding.now.days) }
@@ -16,7 +16,8 @@ fn has_days(holding: &Holding) -> bool
     holding.days().all(|(_, days)| 1 <= *days && *days <= most)
 }
 
-/// Whether each unit has 1 to MOST_DAYS days for each man in each skill that it studied. It takes no memory.
+/// Whether each unit has at least 1 day in each skill that it studied, and at most MOST_DAYS for each man. It takes no
+/// memory.
 pub(crate) fn are_days(campaign: &Campaign) -> bool
     ensures { IsTrue result ↔ (AreDays campaign.now.value) }
 {

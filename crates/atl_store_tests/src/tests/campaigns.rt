@@ -1,5 +1,5 @@
 //! Worlds by their names, and campaigns of them.
-ghost use Rattle.std.specs.Prelude.{◌≤◌, length, IsTrue, IfOk};
+ghost use Rattle.std.specs.Prelude.{◌≤◌, IsTrue, IfOk};
 ghost use Rattle.atl_state.specs.Good.{IsGood};
 ghost use Rattle.atl_records.specs.Limits.{most_things};
 ghost use Rattle.atl_store.specs.Arriving.{HasArrival};
@@ -58,7 +58,7 @@ pub(crate) fn joined(alloc: Global) -> Result<Campaign, Fail> {
 
 /// Whether the books have no more things than a world can have, as a creation and a write ask.
 pub(crate) fn has_few_things(campaign: &Campaign) -> bool
-    ensures { IsTrue result → length campaign.now.value.books ≤ most_things }
+    ensures { IsTrue result → campaign.now.value.books.things ≤ most_things }
 {
     campaign.things() <= 202
 }

@@ -2,7 +2,6 @@ use Rattle.std.proofs.Common.{ap, ◌∙◌, arith}
 use Rattle.std.specs.Prelude.{neg_ℤ, pos}
 use Rattle.atl_records.specs.declared.books.Entry.TheVariants.{Study}
 use Rattle.atl_records.specs.declared.books.Thing.TheVariants.{Money}
-use Rattle.atl_state.specs.Founding.{things_of}
 use Rattle.atl_state.specs.Campaign.{CampaignValue, with_amount}
 use Rattle.atl_instant.proofs.ChangeLaws.{changed_held}
 use Rattle.atl_instant.proofs.MarkLaws.{booked_marks}
@@ -12,8 +11,7 @@ use Rattle.atl_action.proofs.study.put_study.Goals as goal
 
 pub book_taken-requires-clause-there : goal.book_taken-requires-clause-there
 book_taken-requires-clause-there c =
-    let grid = c.requires.steady.numbers.books in
-    rw (ap (λ (d : CampaignValue). d.books) c.in_ok-learn.ensures.value) (omega (arith, grid.rows))
+    rw (ap (λ (d : CampaignValue). d.books) c.in_ok-learn.ensures.value) (omega (arith, c.requires.steady.numbers.books.count))
 
 pub book_taken-requires-clause-room : goal.book_taken-requires-clause-room
 book_taken-requires-clause-room c =
@@ -30,5 +28,5 @@ returns-clause-what c = λ u is.
 pub returns-clause-marks : goal.returns-clause-marks
 returns-clause-marks c =
     let learned = c.in_ok-learn.ensures in
-    booked_marks (things_of c.args.world.now) c.args.campaign.now c.learn.new.campaign c.book_taken.new.campaign Study Money (neg_ℤ (pos c.args.cost)) learned.marks
-    (rw (ap (λ (d : CampaignValue). d.books) learned.value) c.requires.steady.numbers.books) (omega arith) c.book_taken.ensures.what c.book_taken.ensures.marks
+    booked_marks c.args.campaign.now c.learn.new.campaign c.book_taken.new.campaign Study Money (neg_ℤ (pos c.args.cost)) learned.marks
+    c.book_taken.ensures.what c.book_taken.ensures.marks

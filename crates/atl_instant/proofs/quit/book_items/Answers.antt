@@ -1,10 +1,9 @@
-use Rattle.std.proofs.Common.{◌≡◌, ◌+◌, ℕ, drop, get_or, arith}
+use Rattle.std.proofs.Common.{◌≡◌, ◌+◌, ℕ, drop, get_or}
 use Rattle.atl_records.specs.declared.books.Thing.TheVariants.{Item}
-use Rattle.atl_state.specs.Founding.{things_of}
 use Rattle.atl_state.proofs.CoverLaws.{marks-trans}
 use Rattle.atl_instant.specs.Quit.{with_item_loss}
 use Rattle.atl_instant.proofs.FoldLaws.{fold_behind}
-use Rattle.atl_instant.proofs.QuitLaws.{gone_grid, gone_marks, known_ahead, next_room, rest_room, room_ahead}
+use Rattle.atl_instant.proofs.QuitLaws.{gone_marks, known_ahead, next_room, rest_room, room_ahead}
 use Rattle.atl_instant.proofs.quit.book_items.Goals as goal
 use Rattle.atl_instant.specs.Bounds.{moving_items}
 
@@ -23,11 +22,11 @@ loop-item-preserved c =
     let is : c.book_loss.new.campaign.value ≡ with_item_loss before x = c.book_loss.ensures.what in
     record {
       rest = fold_behind with_item_loss list i (0, 0) before c.loop-item-test.true is old.rest;
-      grid = rw is (gone_grid (things_of w) before (Item x.0) x.1 old.grid);
+      things = rw is old.things;
       known = known.1;
       room =
-          rw is (rest_room (things_of w) (Item x.0) x.1 (moving_items (drop (i + 1) list)) before old.grid (omega (arith, known.0))
+          rw is (rest_room (Item x.0) x.1 (moving_items (drop (i + 1) list)) before
           (room_ahead list i before c.loop-item-test.true old.room));
       marks = marks-trans c.args.campaign.now c.loop-item.campaign c.book_loss.new.campaign old.marks
-          (gone_marks (things_of w) c.loop-item.campaign c.book_loss.new.campaign (Item x.0) x.1 old.grid (omega (arith, known.0)) c.book_loss.ensures.what c.book_loss.ensures.marks);
+          (gone_marks c.loop-item.campaign c.book_loss.new.campaign (Item x.0) x.1 c.book_loss.ensures.what c.book_loss.ensures.marks);
     }

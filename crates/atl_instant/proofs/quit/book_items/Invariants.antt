@@ -1,6 +1,5 @@
 use Rattle.std.proofs.Common.{◌≡◌, ◌<◌, length, drop}
 use Rattle.std.specs.Prelude.{fold}
-use Rattle.atl_records.specs.Books.{IsGrid}
 use Rattle.atl_state.specs.Covers.{MarksChanges}
 use Rattle.atl_records.specs.Every.{EachOf}
 use Rattle.atl_state.specs.Founding.{things_of}
@@ -11,7 +10,7 @@ use Rattle.atl_instant.proofs.quit.book_items.Given as goal
 abbrev pub invariant-loop-item : goal.invariant-loop-item
 invariant-loop-item l = record {
   rest : fold with_item_loss l.campaign.value (drop l.item-index l.items) ≡ fold with_item_loss l.initial.campaign.value l.items;
-  grid : IsGrid (things_of l.world) l.campaign.value.books;
+  things : l.campaign.value.books.things ≡ things_of l.world;
   known : EachOf (λ i amount. i < length l.world.items) (drop l.item-index l.items);
   room : HaveRoom (moving_items (drop l.item-index l.items)) l.campaign.value;
   marks : MarksChanges l.initial.campaign l.campaign;

@@ -1,11 +1,9 @@
-use Rattle.std.proofs.Common.{arith}
 use Rattle.atl_records.specs.declared.books.Entry.TheVariants.{Lost}
 use Rattle.atl_records.specs.declared.books.Thing.TheVariants.{Money, People}
-use Rattle.atl_state.specs.Founding.{things_of}
 use Rattle.atl_state.proofs.CoverLaws.{marks-trans}
 use Rattle.atl_instant.specs.Meaning.{both_move, moves_only}
 use Rattle.atl_instant.specs.Quit.{with_loss}
-use Rattle.atl_instant.proofs.QuitLaws.{first_room, gone_grid, gone_marks, rest_room}
+use Rattle.atl_instant.proofs.QuitLaws.{first_room, gone_marks, rest_room}
 use Rattle.atl_instant.proofs.quit.book_off.Goals as goal
 use Rattle.atl_instant.specs.Bounds.{moving_items}
 
@@ -15,28 +13,25 @@ book_loss-requires-clause-room c =
 
 pub book_loss-requires-2-clause-room : goal.book_loss-requires-2-clause-room
 book_loss-requires-2-clause-room c =
-    let w = c.args.world.now in
     let before = c.args.campaign.now.value in
     let rest = both_move (moves_only c.args.money Lost Money) (moving_items c.args.items.now) in
-    rw c.book_loss.ensures.what (first_room Money c.args.money (moving_items c.args.items.now) (with_loss before People c.args.men) (rest_room (things_of w) People c.args.men rest before c.requires.grid (omega arith) c.requires.room))
+    rw c.book_loss.ensures.what (first_room Money c.args.money (moving_items c.args.items.now) (with_loss before People c.args.men) (rest_room People c.args.men rest before c.requires.room))
 
 pub book_items-requires-clause-room : goal.book_items-requires-clause-room
 book_items-requires-clause-room c =
-    let w = c.args.world.now in
     let before = c.args.campaign.now.value in
     let rest = both_move (moves_only c.args.money Lost Money) (moving_items c.args.items.now) in
     let between = with_loss before People c.args.men in
     rw (c.book_loss-2.ensures.what, c.book_loss.ensures.what)
-    (rest_room (things_of w) Money c.args.money (moving_items c.args.items.now) between (gone_grid (things_of w) before People c.args.men c.requires.grid) (omega arith)
-    (rest_room (things_of w) People c.args.men rest before c.requires.grid (omega arith) c.requires.room))
+    (rest_room Money c.args.money (moving_items c.args.items.now) between
+    (rest_room People c.args.men rest before c.requires.room))
 
 pub returns-clause-marks : goal.returns-clause-marks
 returns-clause-marks c =
-    let w = c.args.world.now in
     let one = c.book_loss.new.campaign in
     let two = c.book_loss-2.new.campaign in
     marks-trans c.args.campaign.now one c.book_items.new.campaign
-    (gone_marks (things_of w) c.args.campaign.now one People c.args.men c.requires.grid (omega arith) c.book_loss.ensures.what c.book_loss.ensures.marks)
+    (gone_marks c.args.campaign.now one People c.args.men c.book_loss.ensures.what c.book_loss.ensures.marks)
     (marks-trans one two c.book_items.new.campaign
-    (gone_marks (things_of w) one two Money c.args.money (rw c.book_loss.ensures.what (gone_grid (things_of w) c.args.campaign.now.value People c.args.men c.requires.grid)) (omega arith) c.book_loss-2.ensures.what c.book_loss-2.ensures.marks)
+    (gone_marks one two Money c.args.money c.book_loss-2.ensures.what c.book_loss-2.ensures.marks)
     c.book_items.ensures.marks)

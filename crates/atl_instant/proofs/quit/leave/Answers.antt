@@ -12,7 +12,7 @@ book_off-requires c =
     let there = sym c.in-Some.ensures in
     let list : c.deref.result.now ≡ entries u.holding.items = search rules in
     record {
-      grid = search rules;
+      things = c.requires.steady.numbers.books.count;
       known = rw list (known_held c.args.world.now before c.args.number u there c.requires.steady);
       room = rw (list, c.men-men.ensures.value, c.money-money.ensures.value) (held_room before c.args.number u there c.requires.room);
     }

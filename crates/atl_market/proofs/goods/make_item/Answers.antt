@@ -1,7 +1,6 @@
 use Rattle.std.proofs.Common.{◌≡◌, sym, ap, ◌∙◌, ◌+◌, arith, rules, pos, to_z, of_z, w64}
 use Rattle.std.proofs.lemmas.Int.{to_z-of_z}
 use Rattle.atl_records.specs.Books.{amount_in}
-use Rattle.atl_state.specs.Founding.{things_of}
 use Rattle.atl_state.specs.Campaign.{CampaignValue, with_amount, with_item}
 use Rattle.atl_records.specs.declared.books.Entry.TheVariants.{Made}
 use Rattle.atl_records.specs.declared.books.Thing.TheVariants.{Item}
@@ -14,7 +13,7 @@ use Rattle.atl_market.proofs.goods.make_item.Goals as goal
 pub book-requires-clause-there : goal.book-requires-clause-there
 book-requires-clause-there c =
     let can = c.requires.can in
-    rw (ap (λ (d : CampaignValue). d.books) c.in_ok-set_item.ensures.ok) (omega (arith, can.steady.numbers.books.rows, can.known))
+    rw (ap (λ (d : CampaignValue). d.books) c.in_ok-set_item.ensures.ok) (omega (arith, can.steady.numbers.books.count, can.known))
 
 pub book-requires-clause-fits : goal.book-requires-clause-fits
 book-requires-clause-fits c =
@@ -38,5 +37,5 @@ returns-clause-marks c =
     let can = c.requires.can in
     let same : to_z w64 (of_z w64 c.from-2.result) ≡ pos c.args.amount = search (rules, c.from-2.ensures) in
     let set = item_changes c.args.campaign.now c.set_item.new.self c.args.number c.from.result (c.held_of.result + c.args.amount) c.in_ok-set_item.ensures.ok c.in_ok-set_item.ensures.marks in
-    booked_marks (things_of c.args.world.now) c.args.campaign.now c.set_item.new.self c.book.new.self Made (Item c.args.item) (pos c.args.amount) set.marks
-    (rw (ap (λ (d : CampaignValue). d.books) set.value) can.steady.numbers.books) (omega (arith, can.known)) (rw same at c.book.ensures.what) c.book.ensures.marks
+    booked_marks c.args.campaign.now c.set_item.new.self c.book.new.self Made (Item c.args.item) (pos c.args.amount) set.marks
+    (rw same at c.book.ensures.what) c.book.ensures.marks

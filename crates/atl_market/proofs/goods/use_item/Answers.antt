@@ -1,6 +1,5 @@
 use Rattle.std.proofs.Common.{sym, ap, ◌∙◌, ◌-◌, arith}
 use Rattle.std.specs.Prelude.{neg_ℤ, pos}
-use Rattle.atl_state.specs.Founding.{things_of}
 use Rattle.atl_state.specs.Campaign.{CampaignValue, with_amount, with_item}
 use Rattle.atl_records.specs.declared.books.Entry.TheVariants.{Used}
 use Rattle.atl_records.specs.declared.books.Thing.TheVariants.{Item}
@@ -12,7 +11,7 @@ use Rattle.atl_market.proofs.goods.use_item.Goals as goal
 pub book_taken-requires-clause-there : goal.book_taken-requires-clause-there
 book_taken-requires-clause-there c =
     let can = c.requires.can in
-    rw (ap (λ (d : CampaignValue). d.books) c.in_ok-set_item.ensures.ok) (omega (arith, can.steady.numbers.books.rows, can.known))
+    rw (ap (λ (d : CampaignValue). d.books) c.in_ok-set_item.ensures.ok) (omega (arith, can.steady.numbers.books.count, can.known))
 
 pub book_taken-requires-clause-room : goal.book_taken-requires-clause-room
 book_taken-requires-clause-room c = rw (ap (λ (d : CampaignValue). d.books) c.in_ok-set_item.ensures.ok) c.requires.can.room
@@ -31,5 +30,5 @@ pub returns-clause-marks : goal.returns-clause-marks
 returns-clause-marks c =
     let can = c.requires.can in
     let set = item_changes c.args.campaign.now c.set_item.new.self c.args.number c.from.result (c.held_of.result - c.args.amount) c.in_ok-set_item.ensures.ok c.in_ok-set_item.ensures.marks in
-    booked_marks (things_of c.args.world.now) c.args.campaign.now c.set_item.new.self c.book_taken.new.campaign Used (Item c.args.item) (neg_ℤ (pos c.args.amount)) set.marks
-    (rw (ap (λ (d : CampaignValue). d.books) set.value) can.steady.numbers.books) (omega (arith, can.known)) c.book_taken.ensures.what c.book_taken.ensures.marks
+    booked_marks c.args.campaign.now c.set_item.new.self c.book_taken.new.campaign Used (Item c.args.item) (neg_ℤ (pos c.args.amount)) set.marks
+    c.book_taken.ensures.what c.book_taken.ensures.marks

@@ -11,14 +11,12 @@ use Rattle.atl_records.specs.Books.{amount_in}
 
 pub book_taken-requires-clause-there : goal.book_taken-requires-clause-there
 book_taken-requires-clause-there c =
-    let (things, two, grid) = c.requires.grid in
-    rw (ap (λ (s : CampaignValue). s.books) c.set_peasants.ensures.what) (omega (arith, grid.rows, two))
+    rw (ap (λ (s : CampaignValue). s.books) c.set_peasants.ensures.what) (omega (arith, c.requires.things))
 
 pub book_taken-requires-clause-room : goal.book_taken-requires-clause-room
 book_taken-requires-clause-room c = rw (ap (λ (s : CampaignValue). s.books) c.set_peasants.ensures.what) (less_room c.args.cost holding_limit (amount_in c.args.campaign.now.value.books Recruiting Money) c.requires.little (c.requires.room Recruiting Money))
 
 pub returns-clause-marks : goal.returns-clause-marks
 returns-clause-marks c =
-    let (things, two, grid) = c.requires.grid in
-    leaving_marks things c.args.campaign.now c.set_peasants.new.self c.book_taken.new.campaign c.args.region c.args.peasants (neg_ℤ (pos c.args.cost))
-    c.set_peasants.ensures.what c.set_peasants.ensures.marks c.book_taken.ensures.what c.book_taken.ensures.marks grid two
+    leaving_marks c.args.campaign.now c.set_peasants.new.self c.book_taken.new.campaign c.args.region c.args.peasants (neg_ℤ (pos c.args.cost))
+    c.set_peasants.ensures.what c.set_peasants.ensures.marks c.book_taken.ensures.what c.book_taken.ensures.marks

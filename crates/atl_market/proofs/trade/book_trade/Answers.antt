@@ -15,7 +15,7 @@ pub book-requires-clause-there : goal.book-requires-clause-there
 book-requires-clause-there c =
     let can = c.requires in
     let books = settled_books c.args.campaign.now c.set_goods.new.campaign c.set_stock.new.self c.args.number c.args.region c.args.item c.args.deal.stock _ c.in_ok-set_goods.ensures c.in_ok-set_stock.ensures.ok in
-    rw books (omega (arith, can.grid.rows, can.some))
+    rw books (omega (arith, can.things))
 
 pub book-requires-clause-fits : goal.book-requires-clause-fits
 book-requires-clause-fits c =
@@ -40,6 +40,6 @@ returns-clause-marks c =
     let mid = c.set_stock.new.self in
     let same : to_z w64 (of_z w64 c.args.deal.booked) ≡ c.args.deal.booked = search (rules, to_z-of_z) in
     let books = settled_books old c.set_goods.new.campaign mid c.args.number c.args.region c.args.item c.args.deal.stock _ c.in_ok-set_goods.ensures c.in_ok-set_stock.ensures.ok in
-    booked_marks can.things old mid c.book.new.self c.args.entry Money c.args.deal.booked
+    booked_marks old mid c.book.new.self c.args.entry Money c.args.deal.booked
     (settled_marks old c.set_goods.new.campaign mid c.args.number c.args.region c.args.item c.args.deal.stock _ c.in_ok-set_goods.ensures c.in_ok-set_stock.ensures.ok c.set_stock.ensures.marks)
-    (rw books can.grid) (omega (arith, can.some)) (rw same at c.book.ensures.what) c.book.ensures.marks
+    (rw same at c.book.ensures.what) c.book.ensures.marks

@@ -17,6 +17,5 @@ book-requires-clause-fits c =
 pub returns-clause-marks : goal.returns-clause-marks
 returns-clause-marks c =
     let same : to_z w64 (of_z w64 c.from.result) ≡ pos c.args.money = search (rules, c.from.ensures) in
-    let (things, two, grid) = c.requires.grid in
-    wages_marks things c.args.campaign.now c.set_money.new.self c.book.new.self c.args.number c.args.money (c.args.held + c.args.money)
-    c.set_money.ensures.what c.set_money.ensures.marks (rw same at c.book.ensures.what) c.book.ensures.marks grid two
+    wages_marks c.args.campaign.now c.set_money.new.self c.book.new.self c.args.number c.args.money (c.args.held + c.args.money)
+    c.set_money.ensures.what c.set_money.ensures.marks (rw same at c.book.ensures.what) c.book.ensures.marks

@@ -1,10 +1,9 @@
-use Rattle.std.proofs.Common.{◌≡◌, arith, rules, pos, to_z, of_z, w64}
+use Rattle.std.proofs.Common.{◌≡◌, rules, pos, to_z, of_z, w64}
 use Rattle.std.proofs.lemmas.Int.{to_z-of_z}
 use Rattle.atl_tables.specs.Limits.{most_amount}
 use Rattle.atl_records.specs.declared.books.Entry.TheVariants.{Stocked}
 use Rattle.atl_records.specs.declared.books.Thing.TheVariants.{Item}
 use Rattle.atl_records.specs.Books.{amount_in}
-use Rattle.atl_state.specs.Founding.{things_of}
 use Rattle.atl_instant.proofs.BookingLaws.{booking_fits, within-pos}
 use Rattle.atl_month.proofs.RestockLaws.{market_marks, restock_small, room_alone}
 use Rattle.atl_month.proofs.restock.restock_market.Goals as goal
@@ -21,6 +20,5 @@ book-requires-clause-fits c =
 pub returns-clause-marks : goal.returns-clause-marks
 returns-clause-marks c =
     let more : to_z w64 (of_z w64 c.from.result) ≡ pos c.restock-more.result = search (rules, to_z-of_z, c.from.ensures) in
-    market_marks (things_of c.args.world.now) c.stock-stock.result c.restock-more.result c.args.region c.args.item c.args.campaign.now c.set_stock.new.self c.book.new.self
+    market_marks c.stock-stock.result c.restock-more.result c.args.region c.args.item c.args.campaign.now c.set_stock.new.self c.book.new.self
     c.in_ok-set_stock.ensures.ok c.in_ok-set_stock.ensures.marks (rw (more, c.requires.known.number_is) at c.book.ensures.what) (rw c.requires.known.number_is at c.book.ensures.marks)
-    c.requires.steady.numbers.books (omega (arith, c.requires.known.item, c.requires.known.number_is))

@@ -21,16 +21,14 @@ book-requires-2-clause-fits c =
     let one : to_z w64 (of_z w64 c.from.result) ≡ c.from.result = search (rules, to_z-of_z) in
     let same : to_z w64 (of_z w64 c.from-2.result) ≡ c.from-2.result = search (rules, to_z-of_z) in
     let books = c.args.campaign.now.value.books in
-    let (things, two, grid) = c.requires.grid in
     rw (same, c.from-2.ensures, c.book.ensures.what, one, c.from.ensures, c.set_region_money.ensures.what, c.set_peasants.ensures.what)
     (booking_fits _ (pos c.args.earned) most_amount (within-pos c.args.earned most_amount (omega (arith, c.requires.money)))
-    (booked-room things books Births People (pos c.args.born) most_amount grid (omega arith) (within-pos c.args.born most_amount (omega (arith, c.requires.peasants))) (moves_only most_amount Income Money) (births_first c.args.campaign.now.value c.requires.room) Income Money))
+    (booked-room books Births People (pos c.args.born) most_amount (within-pos c.args.born most_amount (omega (arith, c.requires.peasants))) (moves_only most_amount Income Money) (births_first c.args.campaign.now.value c.requires.room) Income Money))
 
 pub returns-clause-marks : goal.returns-clause-marks
 returns-clause-marks c =
     let one : to_z w64 (of_z w64 c.from.result) ≡ pos c.args.born = search (rules, c.from.ensures) in
     let second : to_z w64 (of_z w64 c.from-2.result) ≡ pos c.args.earned = search (rules, c.from-2.ensures) in
-    let (things, two, grid) = c.requires.grid in
-    growth_marks things c.args.campaign.now c.set_peasants.new.self c.set_region_money.new.self c.book.new.self c.book-2.new.self c.args.number (c.args.peasants + c.args.born) (c.args.money + c.args.earned) c.args.born c.args.earned
+    growth_marks c.args.campaign.now c.set_peasants.new.self c.set_region_money.new.self c.book.new.self c.book-2.new.self c.args.number (c.args.peasants + c.args.born) (c.args.money + c.args.earned) c.args.born c.args.earned
     c.set_peasants.ensures.what c.set_peasants.ensures.marks c.set_region_money.ensures.what c.set_region_money.ensures.marks
-    (rw one at c.book.ensures.what) c.book.ensures.marks (rw second at c.book-2.ensures.what) c.book-2.ensures.marks grid two
+    (rw one at c.book.ensures.what) c.book.ensures.marks (rw second at c.book-2.ensures.what) c.book-2.ensures.marks

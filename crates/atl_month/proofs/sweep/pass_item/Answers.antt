@@ -3,7 +3,6 @@ use Rattle.std.specs.Prelude.{neg_ℤ, pos}
 use Rattle.atl_records.specs.declared.books.Entry.TheVariants.{Lost}
 use Rattle.atl_records.specs.declared.books.Thing.TheVariants.{Item}
 use Rattle.atl_records.specs.Books.{amount_in}
-use Rattle.atl_state.specs.Founding.{things_of}
 use Rattle.atl_state.specs.Campaign.{CampaignValue}
 use Rattle.atl_instant.proofs.ChangeLaws.{item_changes}
 use Rattle.atl_instant.proofs.MarkLaws.{booked_marks}
@@ -15,7 +14,7 @@ pub lose-requires : goal.lose-requires
 lose-requires c =
     let books = ap (λ (s : CampaignValue). s.books) c.in_ok-set_item-in-Some.ensures.ok in
     record {
-      there = rw books (omega (arith, c.requires.steady.numbers.books.rows, c.requires.known));
+      there = rw books (omega (arith, c.requires.steady.numbers.books.count, c.requires.known));
       room =
           rw books
           (less_room (c.args.amount - c.accepted_of-taken.result) c.args.amount (amount_in c.args.campaign.now.value.books Lost (Item c.args.item))
@@ -35,11 +34,11 @@ returns-in_ok-set_item-in-Some c =
           rw (c.lose.ensures.what, c.in_ok-set_item-in-Some.ensures.ok, c.accepted_of-taken.ensures, c.amount-have.ensures, c.from-number.ensures)
           (passed_item_is old.value c.args.to c.args.item c.args.amount u there);
       marks =
-          booked_marks (things_of c.args.world.now) old mid c.lose.new.campaign Lost (Item c.args.item) (neg_ℤ (pos (c.args.amount - c.accepted_of-taken.result))) set.marks
-          (rw (ap (λ (s : CampaignValue). s.books) set.value) c.requires.steady.numbers.books) (omega (arith, c.requires.known)) c.lose.ensures.what c.lose.ensures.marks;
+          booked_marks old mid c.lose.new.campaign Lost (Item c.args.item) (neg_ℤ (pos (c.args.amount - c.accepted_of-taken.result))) set.marks
+          c.lose.ensures.what c.lose.ensures.marks;
     }
 
 pub returns-in-None-clause-marks : goal.returns-in-None-clause-marks
 returns-in-None-clause-marks c =
-    lost_marks (things_of c.args.world.now) c.args.amount c.args.campaign.now c.lose-in-None.new.campaign (Item c.args.item)
-    c.requires.steady.numbers.books (omega (arith, c.requires.known)) c.lose-in-None.ensures.what c.lose-in-None.ensures.marks
+    lost_marks c.args.amount c.args.campaign.now c.lose-in-None.new.campaign (Item c.args.item)
+    c.lose-in-None.ensures.what c.lose-in-None.ensures.marks

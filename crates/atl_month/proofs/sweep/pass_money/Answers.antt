@@ -1,16 +1,14 @@
-use Rattle.std.proofs.Common.{◌-◌, arith}
+use Rattle.std.proofs.Common.{◌-◌}
 use Rattle.atl_records.specs.declared.books.Thing.TheVariants.{Money}
 use Rattle.atl_month.proofs.SweepRunLaws.{lost_marks, money_marks}
 use Rattle.atl_month.proofs.sweep.pass_money.Goals as goal
 
 pub returns-in-Some-clause-marks : goal.returns-in-Some-clause-marks
 returns-in-Some-clause-marks c =
-    let (things, two, grid) = c.requires.grid in
-    money_marks things _ (c.args.amount - c.accepted_of-taken.result) c.args.to c.args.campaign.now c.set_money.new.self c.lose.new.campaign
-    c.set_money.ensures.what c.set_money.ensures.marks c.lose.ensures.what c.lose.ensures.marks grid two
+    money_marks _ (c.args.amount - c.accepted_of-taken.result) c.args.to c.args.campaign.now c.set_money.new.self c.lose.new.campaign
+    c.set_money.ensures.what c.set_money.ensures.marks c.lose.ensures.what c.lose.ensures.marks
 
 pub returns-in-None-clause-marks : goal.returns-in-None-clause-marks
 returns-in-None-clause-marks c =
-    let (things, two, grid) = c.requires.grid in
-    lost_marks things c.args.amount c.args.campaign.now c.lose-in-None.new.campaign Money grid (omega (arith, two))
+    lost_marks c.args.amount c.args.campaign.now c.lose-in-None.new.campaign Money
     c.lose-in-None.ensures.what c.lose-in-None.ensures.marks

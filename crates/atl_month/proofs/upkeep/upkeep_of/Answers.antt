@@ -2,11 +2,9 @@ use Rattle.std.proofs.Common.{ap, sym, arith}
 use Rattle.std.specs.Prelude.{neg_ℤ, pos}
 use Rattle.atl_tables.specs.Limits.{most_amount}
 use Rattle.atl_records.specs.Books.{after_booking, amount_in}
-use Rattle.atl_state.specs.Founding.{things_of}
 use Rattle.atl_records.specs.declared.books.Entry.TheVariants.{Starved, Upkeep}
 use Rattle.atl_records.specs.declared.books.Thing.TheVariants.{Money, People}
 use Rattle.atl_state.specs.Campaign.{CampaignValue}
-use Rattle.atl_records.proofs.BookLaws.{IsGrid-after_booking}
 use Rattle.atl_instant.specs.Meaning.{moves_only}
 use Rattle.atl_instant.proofs.BookingLaws.{booked-room, within-neg}
 use Rattle.atl_instant.proofs.MeaningLaws.{less_room}
@@ -22,7 +20,7 @@ book_taken-requires c =
     let what = c.in_ok-take_upkeep.ensures.what u can.there in
     let few = few_paid w before s u can.there can.spare can.steady in
     record {
-      there = rw (ap (λ (s : CampaignValue). s.books) what) (omega (arith, can.steady.numbers.books.rows));
+      there = rw (ap (λ (s : CampaignValue). s.books) what) (omega (arith, can.steady.numbers.books.count));
       room = rw (ap (λ (s : CampaignValue). s.books) what) (less_room s.paid most_amount (amount_in before.books Upkeep Money) few (can.room Upkeep Money));
     }
 
@@ -34,15 +32,14 @@ book_taken-requires-2 c =
     let paid = few_paid w before s can.unit can.there can.spare can.steady in
     let starved = few_starved w before s can.unit can.there can.spare can.steady in
     let behind = after_booking before.books Upkeep Money (neg_ℤ (pos s.paid)) in
-    let grid = IsGrid-after_booking (things_of w) before.books Upkeep Money (neg_ℤ (pos s.paid)) can.steady.numbers.books in
     let booked = ap (λ (s : CampaignValue). s.books) c.book_taken.ensures.what in
     let fed = ap (λ (s : CampaignValue). s.books) (c.in_ok-take_upkeep.ensures.what can.unit can.there) in
     record {
-      there = rw (booked, fed) (omega (arith, grid.rows));
+      there = rw (booked, fed) (omega (arith, can.steady.numbers.books.count));
       room =
           rw (booked, fed)
           (less_room s.starved most_amount (amount_in behind Starved People) starved
-          (booked-room (things_of w) before.books Upkeep Money (neg_ℤ (pos s.paid)) most_amount can.steady.numbers.books (omega arith)
+          (booked-room before.books Upkeep Money (neg_ℤ (pos s.paid)) most_amount
           (within-neg s.paid most_amount paid) (moves_only most_amount Starved People) can.room Starved People));
     }
 
@@ -57,7 +54,6 @@ returns-clause-marks c =
     let (w, can) = c.requires in
     let s = c.args.settled.now in
     let what = c.in_ok-take_upkeep.ensures.what can.unit can.there in
-    upkeep_marks (things_of w) c.args.campaign.now c.take_upkeep.new.campaign c.book_taken.new.campaign c.book_taken-2.new.campaign s
+    upkeep_marks c.args.campaign.now c.take_upkeep.new.campaign c.book_taken.new.campaign c.book_taken-2.new.campaign s
     (neg_ℤ (pos s.paid)) (neg_ℤ (pos s.starved))
     c.in_ok-take_upkeep.ensures.marks c.book_taken.ensures.what c.book_taken.ensures.marks c.book_taken-2.ensures.what c.book_taken-2.ensures.marks
-    (rw (ap (λ (d : CampaignValue). d.books) what) can.steady.numbers.books) (omega arith)

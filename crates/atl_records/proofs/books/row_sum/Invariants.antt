@@ -1,11 +1,11 @@
 use Rattle.std.proofs.Common.{◌≡◌, ◌*◌, ◌^◌, drop, pos}
 use Rattle.std.specs.Prelude.{◌+ℤ◌, ◌≤ℤ◌}
-use Rattle.atl_records.specs.Books.{row_sum}
+use Rattle.atl_records.specs.Books.{sum_of}
 use Rattle.atl_records.proofs.books.row_sum.Given as goal
 
 abbrev pub invariant-loop-amount : goal.invariant-loop-amount
 invariant-loop-amount l = record {
-  so_far : l.sum +ℤ row_sum (drop l.amount-index l.row) ≡ row_sum l.row;
+  so_far : l.sum +ℤ sum_of (drop l.amount-index l.row) ≡ sum_of l.row;
   most : l.sum ≤ℤ pos (l.amount-index * 2 ^ 63);
   least : pos 0 ≤ℤ (l.sum +ℤ pos (l.amount-index * 2 ^ 63));
 }

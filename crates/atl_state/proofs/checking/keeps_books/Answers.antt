@@ -1,18 +1,18 @@
 use Rattle.std.proofs.Common.{◌<◌, length, sym, subst}
-use Rattle.atl_records.specs.Books.{IsGrid}
+use Rattle.atl_records.specs.Books.{AreBooks}
 use Rattle.atl_state.specs.Founding.{things_of}
 use Rattle.atl_records.specs.Every.{Every}
 use Rattle.atl_state.specs.Good.{AreOfMarkets}
 use Rattle.atl_state.specs.Campaign.{CampaignValue}
 use Rattle.atl_state.specs.Totals.{IsCountable}
-use Rattle.atl_state.proofs.CheckLaws.{few-said, grid-said, items-said, stocks-said}
+use Rattle.atl_state.proofs.CheckLaws.{few-said, books-said, items-said, stocks-said}
 use Rattle.atl_state.proofs.checking.keeps_books.Goals as goal
 
 pub are_balanced-requires-clause-few : goal.are_balanced-requires-clause-few
 are_balanced-requires-clause-few c = subst IsCountable (sym c.requires.what) (few-said c.args.format c.args.world.now c.args.parts.now c.requires.before)
 
-pub are_balanced-requires-clause-grid : goal.are_balanced-requires-clause-grid
-are_balanced-requires-clause-grid c = subst (λ (s : CampaignValue). IsGrid (things_of c.args.world.now) s.books) (sym c.requires.what) (grid-said c.args.format c.args.world.now c.args.parts.now c.requires.before)
+pub are_balanced-requires-clause-books : goal.are_balanced-requires-clause-books
+are_balanced-requires-clause-books c = subst (λ (s : CampaignValue). AreBooks (things_of c.args.world.now) s.books) (sym c.requires.what) (books-said c.args.format c.args.world.now c.args.parts.now c.requires.before)
 
 pub are_balanced-requires-clause-items : goal.are_balanced-requires-clause-items
 are_balanced-requires-clause-items c =

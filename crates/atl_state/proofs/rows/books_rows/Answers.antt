@@ -1,9 +1,11 @@
-use Rattle.std.proofs.Common.{◌++◌, length, sym, ap, ◌∙◌}
-use Rattle.atl_state.specs.Rows.{entry_rows}
-use Rattle.atl_state.proofs.RowLaws.{flat_map_more}
+use Rattle.std.proofs.Common.{◌++◌, ap, sym, ◌∙◌}
+use Rattle.atl_records.specs.Grids.{accounts}
+use Rattle.atl_records.proofs.ListedLaws.{entries-amounts}
+use Rattle.atl_state.specs.Rows.{amounts_rows, rows_under}
 use Rattle.atl_state.proofs.rows.books_rows.Goals as goal
 
-pub loop-entry-preserved : goal.loop-entry-preserved
-loop-entry-preserved c =
-    c.in_ok-add_entry.ensures ∙ ap (λ rows. rows ++ entry_rows c.args.books.now (length c.args.books.now) c.loop-entry.entry) c.loop-entry.invariant
-    ∙ sym (flat_map_more (entry_rows c.args.books.now (length c.args.books.now)) c.loop-entry.entry)
+pub returns : goal.returns
+returns c =
+    let books = c.args.books.now in
+    let things = c.len-things.result in
+    c.in_ok-add_entries.ensures ∙ ap (λ rows. rows ++ rows_under books (accounts things)) c.new-rows.ensures ∙ ap amounts_rows (sym (entries-amounts things books c.len-things.ensures.books))

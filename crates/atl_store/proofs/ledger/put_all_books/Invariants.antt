@@ -1,4 +1,4 @@
-use Rattle.std.proofs.Common.{◌-◌, length}
+use Rattle.std.proofs.Common.{◌-◌}
 use Rattle.std.specs.List.{range_with_len}
 use Rattle.atl_store.specs.Tables.{books_table}
 use Rattle.atl_store.specs.Lines.{things_lines}
@@ -6,4 +6,4 @@ use Rattle.atl_store.proofs.PuttingLaws.{Putting}
 use Rattle.atl_store.proofs.ledger.put_all_books.Given as goal
 
 abbrev pub invariant-loop-number : goal.invariant-loop-number
-invariant-loop-number g l = Putting g.S.Store books_table 2 (things_lines l.campaign.value (range_with_len l.number (length l.campaign.value.books - l.number))) (things_lines l.campaign.value (range_with_len 0 (length l.campaign.value.books))) l.fn.tx.conn l.tx.conn
+invariant-loop-number g l = Putting g.S.Store books_table 2 (things_lines l.campaign.value (range_with_len l.number (l.campaign.value.books.things - l.number))) (things_lines l.campaign.value (range_with_len 0 l.campaign.value.books.things)) l.fn.tx.conn l.tx.conn

@@ -1,8 +1,8 @@
-use Rattle.std.proofs.Common.{◌≡◌, ◌+◌, ◌-◌, suc, map, length, ap, subst, ◌∙◌, arith}
+use Rattle.std.proofs.Common.{◌≡◌, ◌+◌, ◌-◌, suc, map, ap, subst, ◌∙◌, arith}
 use Rattle.std.specs.List.{range_with_len}
 use Rattle.atl_records.specs.Books.{all_entries, entry_index, thing_index}
 use Rattle.atl_state.specs.Marks.{AreOfThings}
-use Rattle.atl_records.proofs.BookLaws.{place_at}
+use Rattle.atl_records.proofs.AccountLaws.{place_at}
 use Rattle.atl_store.specs.Tables.{books_table}
 use Rattle.atl_store.specs.Inside.{Inside, HasTables}
 use Rattle.atl_store.specs.Rewriting.{RewritesAmounts, is_number, is_among, of_amounts}
@@ -13,7 +13,7 @@ use Rattle.atl_store.proofs.ledger.rewrite_books.Goals as goal
 
 pub loop-number-init : goal.loop-number-init
 loop-number-init g c =
-    let count = length c.args.campaign.now.value.books in
+    let count = c.args.campaign.now.value.books.things in
     let whole : count - 0 ≡ count = omega arith in
     begins g.S.Store (none_nearer books_table _ _ _ (λ r. ap (λ n. of_amounts c.args.campaign.now.marks.books (is_among (map entry_index all_entries)) (is_among (range_with_len 0 n)) r) whole))
 
@@ -21,7 +21,7 @@ pub loop-number-preserved : goal.loop-number-preserved
 loop-number-preserved g c =
     let campaign = c.args.campaign.now in
     let i = c.loop-number.number in
-    let count = length campaign.value.books in
+    let count = campaign.value.books.things in
     let left : count - i ≡ suc (count - (i + 1)) = omega (arith, c.loop-number-test.true, c.things-number-end.ensures.count) in
     let place : thing_index c.of_number.result ≡ i = ap thing_index c.of_number.ensures ∙ place_at i in
     goes_on g.S.Store (λ old mid new so_far more. thing_nearer campaign i (range_with_len i (count - i)) (range_with_len (i + 1) (count - (i + 1))) (range_with_len 0 count) (ap (range_with_len i) left) old mid new so_far
@@ -34,6 +34,6 @@ returns-in_err-rewrite_entries g c = stops_second g.S.Store c.loop-number.invari
 pub returns : goal.returns
 returns g c =
     let campaign = c.args.campaign.now in
-    let count = length campaign.value.books in
+    let count = campaign.value.books.things in
     let none : count - c.loop-number.number ≡ 0 = omega (arith, c.loop-number-test.false, c.things-number-end.ensures.count) in
     weaker g.S.Store (things_rewritten campaign (range_with_len c.loop-number.number (count - c.loop-number.number)) count (subst (λ n. AreOfThings n campaign.marks.books) c.things-number-end.ensures.count c.things-number-end.ensures.marks) (ap (range_with_len c.loop-number.number) none)) c.loop-number.invariant

@@ -1,4 +1,4 @@
-use Rattle.std.proofs.Common.{◌-◌, length}
+use Rattle.std.proofs.Common.{◌-◌}
 use Rattle.std.specs.List.{range_with_len}
 use Rattle.atl_store.specs.OwnStatements.{OfChange}
 use Rattle.atl_store.specs.Inside.{Inside, HasTables}
@@ -8,4 +8,4 @@ use Rattle.atl_store.proofs.ledger.rewrite_books.Given as goal
 
 abbrev pub invariant-loop-number : goal.invariant-loop-number
 invariant-loop-number g l =
-    SoFar g.S.Store (OfChange l.fn.campaign.value) (Inside HasTables (NearingThings l.fn.campaign (range_with_len l.number (length l.fn.campaign.value.books - l.number)) (range_with_len 0 (length l.fn.campaign.value.books)))) l.fn.tx.conn l.tx.conn
+    SoFar g.S.Store (OfChange l.fn.campaign.value) (Inside HasTables (NearingThings l.fn.campaign (range_with_len l.number (l.fn.campaign.value.books.things - l.number)) (range_with_len 0 l.fn.campaign.value.books.things))) l.fn.tx.conn l.tx.conn

@@ -1,15 +1,14 @@
 use Rattle.std.proofs.Common.{ap, arith}
-use Rattle.atl_state.specs.Founding.{things_of}
 use Rattle.atl_state.specs.Campaign.{CampaignValue}
 use Rattle.atl_state.proofs.CoverLaws.{marks-trans}
 use Rattle.atl_market.proofs.RecruitLaws.{held_is}
 use Rattle.atl_market.proofs.recruit.RecruitPhasePotPhase.pay.Goals as goal
 
-pub leave_region-requires-clause-grid : goal.leave_region-requires-clause-grid
-leave_region-requires-clause-grid c =
+pub leave_region-requires-clause-things : goal.leave_region-requires-clause-things
+leave_region-requires-clause-things c =
     let can = c.requires.can in
     let what = held_is c.args.campaign.now.value c.join_unit.new.campaign.value c.args.number can.at.unit _ can.at.there (c.join_unit.ensures.what can.at.unit can.at.there) in
-    (things_of c.args.world.now, omega arith, rw (ap (λ (s : CampaignValue). s.books) what) can.early.steady.numbers.books)
+    rw (ap (λ (s : CampaignValue). s.books) what) (omega (arith, can.early.steady.numbers.books.count))
 
 pub leave_region-requires-clause-room : goal.leave_region-requires-clause-room
 leave_region-requires-clause-room c =

@@ -1,6 +1,7 @@
-use Rattle.std.proofs.Common.{◌≡◌}
-use Rattle.atl_records.specs.Books.{no_amounts}
+use Rattle.std.proofs.Common.{◌≡◌, pos}
+use Rattle.std.specs.Prelude.{replicate}
+use Rattle.atl_records.specs.Limits.{entry_count}
 use Rattle.atl_records.proofs.books.Books.new.Given as goal
 
 abbrev pub invariant-loop-made : goal.invariant-loop-made
-invariant-loop-made l = l.rows.items ≡ no_amounts l._made
+invariant-loop-made l = l.rows.items ≡ replicate l._made (replicate entry_count (pos 0))

@@ -1,7 +1,6 @@
-use Rattle.std.proofs.Common.{◌≡◌, ◌+◌, None, List, length, ap, ◌∙◌, refl, arith}
-use Rattle.std.specs.Prelude.{ℤ}
-use Rattle.std.proofs.lemmas.List.{length-set}
+use Rattle.std.proofs.Common.{◌≡◌, ◌+◌, None, ap, ◌∙◌, refl, arith}
 use Rattle.std.specs.FinMap.{get}
+use Rattle.atl_records.specs.Books.{BooksValue}
 use Rattle.atl_records.specs.declared.books.Entry.TheVariants.{Joining}
 use Rattle.atl_records.specs.declared.books.Thing.TheVariants.{Money, People}
 use Rattle.atl_state.specs.Marks.{amount_marked}
@@ -17,7 +16,7 @@ book_joining-requires c =
     let books : c.self-2.inside.books ≡ c.args.self.now.value.books = ap (λ (m : MarkedCampaign). m.value.books) c.self-2.view_is ∙ ap (λ (s : CampaignValue). s.books) c.in-Ok.ensures.ok ∙ ap (λ (m : MarkedCampaign). m.value.books) c.self.view_is in
     let small = joining_small c.args.world.now c.args.self.now.value c.requires.sound in
     rw books record {
-      rows = omega (arith, c.requires.sound.steady.numbers.books.rows);
+      things = omega (arith, c.requires.sound.steady.numbers.books.count);
       money = small.0;
       people = small.1;
     }
@@ -36,14 +35,14 @@ returns-in-Err-clause-err c =
 pub add-requires : goal.add-requires
 add-requires c =
     let books : c.self-2.inside.books ≡ c.args.self.now.value.books = ap (λ (m : MarkedCampaign). m.value.books) c.self-2.view_is ∙ ap (λ (s : CampaignValue). s.books) c.in-Ok.ensures.ok ∙ ap (λ (m : MarkedCampaign). m.value.books) c.self.view_is in
-    let rows = ap (λ (b : List (List ℤ)). length b) books ∙ c.requires.sound.steady.numbers.books.rows in
-    rw c.amount_number.ensures (fits_amount (length c.self-2.inside.books) c.self-2.inside.amounts_marked Joining Money (omega (arith, rows)) c.self-2.invariant.amounts)
+    let rows = ap (λ (b : BooksValue). b.things) books ∙ c.requires.sound.steady.numbers.books.count in
+    rw c.amount_number.ensures (fits_amount c.self-2.inside.books.things c.self-2.inside.amounts_marked Joining Money (omega (arith, rows)) c.self-2.invariant.amounts)
 
 pub add-requires-2 : goal.add-requires-2
 add-requires-2 c =
     let books : c.self-2.inside.books ≡ c.args.self.now.value.books = ap (λ (m : MarkedCampaign). m.value.books) c.self-2.view_is ∙ ap (λ (s : CampaignValue). s.books) c.in-Ok.ensures.ok ∙ ap (λ (m : MarkedCampaign). m.value.books) c.self.view_is in
-    let rows = ap (λ (b : List (List ℤ)). length b) books ∙ c.requires.sound.steady.numbers.books.rows in
-    let things = length c.self-2.inside.books in
+    let rows = ap (λ (b : BooksValue). b.things) books ∙ c.requires.sound.steady.numbers.books.count in
+    let things = c.self-2.inside.books.things in
     let marks = c.self-2.inside.amounts_marked in
     rw (c.add.ensures, c.amount_number.ensures, c.amount_number-2.ensures)
     (fits_amount things (record marks { numbers = amount_marked marks.numbers Joining Money }) Joining People (omega (arith, rows)) (more_marked things marks Joining Money (omega (arith, rows)) c.self-2.invariant.amounts))
@@ -51,10 +50,10 @@ add-requires-2 c =
 pub invariant_of-self-3 : goal.invariant_of-self-3
 invariant_of-self-3 c =
     let books : c.self-2.inside.books ≡ c.args.self.now.value.books = ap (λ (m : MarkedCampaign). m.value.books) c.self-2.view_is ∙ ap (λ (s : CampaignValue). s.books) c.in-Ok.ensures.ok ∙ ap (λ (m : MarkedCampaign). m.value.books) c.self.view_is in
-    let rows = ap (λ (b : List (List ℤ)). length b) books ∙ c.requires.sound.steady.numbers.books.rows in
-    let things = length c.self-2.inside.books in
+    let rows = ap (λ (b : BooksValue). b.things) books ∙ c.requires.sound.steady.numbers.books.count in
+    let things = c.self-2.inside.books.things in
     let marks = c.self-2.inside.amounts_marked in
-    let same : length c.book_joining.new.books ≡ things = ap length c.book_joining.ensures ∙ length-set _ _ _ ∙ length-set _ _ _ in
+    let same : c.book_joining.new.books.things ≡ things = ap (λ (b : BooksValue). b.things) c.book_joining.ensures in
     record {
       unit_lists = c.self-2.invariant.unit_lists;
       amounts = rw (same, c.add-2.ensures, c.add.ensures, c.amount_number.ensures, c.amount_number-2.ensures)

@@ -1,4 +1,4 @@
-use Rattle.std.proofs.Common.{length, refl}
+use Rattle.std.proofs.Common.{refl}
 use Rattle.atl_state.proofs.AmountMarkLaws.{none_marked}
 use Rattle.atl_state.proofs.campaign.Campaign.unmark.Goals as goal
 
@@ -6,7 +6,7 @@ pub invariant_of-self : goal.invariant_of-self
 invariant_of-self c =
     record {
       unit_lists = rw c.unmark-3.ensures c.self.invariant.unit_lists;
-      amounts = rw c.clear.ensures (none_marked (length c.self.inside.books) c.self.inside.amounts_marked.room c.self.invariant.amounts.room);
+      amounts = rw c.clear.ensures (none_marked c.self.inside.books.things c.self.inside.amounts_marked.room c.self.invariant.amounts.room);
     }
 
 pub returns : goal.returns

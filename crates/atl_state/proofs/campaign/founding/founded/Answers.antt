@@ -8,7 +8,7 @@ use Rattle.atl_state.specs.Campaign.{CampaignValue, MarkedCampaign}
 use Rattle.atl_state.specs.Founding.{founded_region, founded_of}
 use Rattle.atl_state.specs.Good.{IsGood}
 use Rattle.atl_state.specs.Regions.{MarkedRegions}
-use Rattle.atl_state.proofs.FoundingLaws.{AreKept-without_marks, IsGrid-founding, founded-good}
+use Rattle.atl_state.proofs.FoundingLaws.{AreKept-without_marks, founded-good}
 use Rattle.atl_state.proofs.campaign.founding.founded.Goals as goal
 
 pub founding_books-requires-clause-few : goal.founding_books-requires-clause-few
@@ -18,7 +18,7 @@ founding_books-requires-clause-few c =
 pub invariant_of-campaign : goal.invariant_of-campaign
 invariant_of-campaign c =
     let things = 2 + length c.items.result.now in
-    rw (c.in_ok-amounts_marked.ensures, c.in_ok-books.ensures.value) (AreKept-without_marks things c.campaign.inside.units.values c.campaign.inside.lists _ c.campaign.invariant.unit_lists (IsGrid-founding things _ _))
+    rw (c.in_ok-amounts_marked.ensures, c.in_ok-books.ensures.value) (AreKept-without_marks things c.campaign.inside.units.values c.campaign.inside.lists c.campaign.invariant.unit_lists)
 
 is_founded : goal.returns-clause-definition
 unfolding founded_of

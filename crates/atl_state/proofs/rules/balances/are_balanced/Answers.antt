@@ -5,6 +5,6 @@ use Rattle.atl_state.proofs.rules.balances.are_balanced.Goals as goal
 
 pub returns-then-are_people_balanced : goal.returns-then-are_people_balanced
 returns-then-are_people_balanced c = (
-  λ r. all_balance c.args.world.now c.args.campaign.now.value c.are_items_balanced.ensures.world c.requires.grid c.requires.items c.requires.stocks (c.are_people_balanced.ensures.0 (search rules)) (c.are_items_balanced.ensures.decision.0 r),
+  λ r. all_balance c.args.world.now c.args.campaign.now.value c.are_items_balanced.ensures.world c.requires.books c.requires.items c.requires.stocks (c.are_people_balanced.ensures.0 (search rules)) (c.are_items_balanced.ensures.decision.0 r),
   λ balances. c.are_items_balanced.ensures.decision.1 (λ i _. balances (Item i)),
 )

@@ -11,4 +11,4 @@ use Rattle.atl_store.proofs.write_parts.LedgerWrittenPart.fill.Goals as goal
 pub returns : goal.returns
 returns g c =
     let campaign = c.args.campaign.now.value in
-    done_as g.S.Store (λ old new did. in_turn_one (FillsPart campaign) Books old new (books_fill campaign old new did)) (among_each g.S.Store _ _ (λ row there. puts_row Books (λ own. things_rows campaign _ row there)) c.put_all_books.ensures)
+    done_as g.S.Store (λ old new did. in_turn_one (FillsPart campaign) Books old new (books_fill campaign c.put_all_books.ensures.books old new did)) (among_each g.S.Store _ _ (λ row there. puts_row Books (λ own. things_rows campaign _ row there)) c.put_all_books.ensures.rows)

@@ -1,0 +1,195 @@
+-- The entries of the books: the accounts of all things in order, with their amounts.
+use Rattle.std.proofs.Common.{◌≡◌, ℕ, zero, suc, ◌<◌, ◌+◌, ◌&&◌, ◌||◌, T, Bool, true, false, not, cond, List, [], ◌∷◌, ◌++◌, length, map, Option, Some, None, refl, sym, ap, subst, ◌∙◌, arith, inl, inr}
+use Rattle.std.specs.Prelude.{ℤ, ⊤, nat_lt}
+use Rattle.std.specs.List.{AllByRecursion, flat_map, list_all, list_any, range_with_len}
+use Rattle.std.specs.declared.cmp.Ordering.TheVariants.{Less, Equal, Greater}
+use Rattle.std.specs.Ordering.{eq_by_cmp, is_eq, is_lt, nat_cmp, ordering_then}
+use Rattle.std.specs.Cmp.{nat_cmp_is, nat_cmp_total, tied_itself}
+use Rattle.std.specs.FinMap.{FinMap, empty, entries, entries_sorted, find, get, get-entries, is_sorted, len-empty, len-entries}
+use Rattle.std.specs.FinMap.Entries.{below_all, same_entries}
+use Rattle.std.proofs.lemmas.Bool.{and_parts, cases_lt, false≢true}
+use Rattle.std.proofs.lemmas.Bool.Decides.{nat_tests}
+use Rattle.atl_records.specs.declared.books.Entry.{Entry}
+use Rattle.atl_records.specs.Books.{Account, BooksValue, account_cmp, all_entries, amount_in, AreBooks, entry_index, is_zero, thing_at, thing_index}
+use Rattle.atl_records.specs.Grids.{accounts, accounts_under, listed_of}
+use Rattle.atl_records.proofs.AccountLaws.{account_itself, account_same, account_total, cases_account, place_at}
+use Rattle.atl_records.proofs.BookLaws.{get-listed, listed, none_past, zero_is}
+use Rattle.atl_records.proofs.EveryLaws.{is_true, none_some}
+use Rattle.atl_records.proofs.GridLaws.{any_accounts}
+
+-- ---- accounts that rise
+
+-- all of them behind one
+abbrev pub Behind : Account → List Account → Type 0
+Behind a chosen = AllByRecursion (λ c. account_cmp a c ≡ Less) chosen
+
+abbrev pub Rise : List Account → Type 0
+Rise [] = ⊤
+Rise (a ∷ others) = Behind a others × Rise others
+
+less_entry : (a b : Account) → entry_index a.0 < entry_index b.0 → account_cmp a b ≡ Less
+less_entry a b h = ap (λ o. ordering_then o (nat_cmp (thing_index a.1) (thing_index b.1))) (sym (nat_cmp_is (entry_index a.0) (entry_index b.0) Less h))
+
+less_thing : (e : Entry) (i k : ℕ) → i < k → account_cmp (e, thing_at i) (e, thing_at k) ≡ Less
+less_thing e i k h =
+    ap (λ o. ordering_then o (nat_cmp (thing_index (thing_at i)) (thing_index (thing_at k)))) (tied_itself nat_cmp_total (entry_index e)) ∙ (λ j. nat_cmp (place_at i j) (place_at k j)) ∙ sym (nat_cmp_is i k Less h)
+
+all_append : {A : Type 0} (P : A → Type 0) (xs ys : List A) → AllByRecursion P xs → AllByRecursion P ys → AllByRecursion P (xs ++ ys)
+all_append P [] ys h k = k
+all_append P (x ∷ xs) ys h k = (h.0, all_append P xs ys h.1 k)
+
+rise_append : (xs ys : List Account) → Rise xs → Rise ys → AllByRecursion (λ x. Behind x ys) xs → Rise (xs ++ ys)
+rise_append [] ys h k all = k
+rise_append (x ∷ xs) ys h k all = (all_append (λ c. account_cmp x c ≡ Less) xs ys h.0 all.0, rise_append xs ys h.1 k all.1)
+
+all_under : (P : Account → Type 0) (e : Entry) (numbers : List ℕ) → ((i : ℕ) → P (e, thing_at i)) → AllByRecursion P (map (λ i. (e, thing_at i)) numbers)
+all_under P e [] h = tt
+all_under P e (i ∷ numbers) h = (h i, all_under P e numbers h)
+
+behind_under : (e : Entry) (i a n : ℕ) → i < a → Behind (e, thing_at i) (map (λ k. (e, thing_at k)) (range_with_len a n))
+behind_under e i a zero h = tt
+behind_under e i a (suc n) h = (less_thing e i a h, behind_under e i (a + 1) n (omega arith))
+
+under_rise : (e : Entry) (a n : ℕ) → Rise (map (λ i. (e, thing_at i)) (range_with_len a n))
+under_rise e a zero = tt
+under_rise e a (suc n) = (behind_under e a (a + 1) n (omega arith), under_rise e (a + 1) n)
+
+are_rising : List Entry → Bool
+are_rising [] = true
+are_rising (e ∷ es) = list_all (λ d. nat_lt (entry_index e) (entry_index d)) es && are_rising es
+
+module _ (things : ℕ) where
+  behind_flat : (a : Account) (es : List Entry) → list_all (λ d. nat_lt (entry_index a.0) (entry_index d)) es ≡ true → Behind a (flat_map (accounts_under things) es)
+  behind_flat a [] h = tt
+  behind_flat a (d ∷ es) h =
+      let parts = and_parts (nat_lt (entry_index a.0) (entry_index d)) (list_all (λ d. nat_lt (entry_index a.0) (entry_index d)) es) h in
+      let before : entry_index a.0 < entry_index d = grind (arith, nat_tests, parts.0) in
+      all_append (λ c. account_cmp a c ≡ Less) (accounts_under things d) (flat_map (accounts_under things) es) (all_under (λ c. account_cmp a c ≡ Less) d (range_with_len 0 things) (λ i. less_entry a (d, thing_at i) before))
+      (behind_flat a es parts.1)
+
+  flat_rise : (es : List Entry) → are_rising es ≡ true → Rise (flat_map (accounts_under things) es)
+  unfolding are_rising
+  flat_rise [] h = tt
+  flat_rise (e ∷ es) h =
+      let parts = and_parts (list_all (λ d. nat_lt (entry_index e) (entry_index d)) es) (are_rising es) h in
+      rise_append (accounts_under things e) (flat_map (accounts_under things) es) (under_rise e 0 things) (flat_rise es parts.1)
+      (all_under (λ x. Behind x (flat_map (accounts_under things) es)) e (range_with_len 0 things) (λ i. behind_flat (e, thing_at i) es parts.0))
+
+  accounts_rise : Rise (accounts things)
+  unfolding are_rising
+  accounts_rise = flat_rise all_entries refl
+
+pub amounts_sorted : (m : FinMap account_cmp ℤ) → is_sorted account_cmp (entries m) ≡ true
+amounts_sorted m = is_true _ (entries_sorted m)
+
+-- ---- amounts that are listed
+
+none_either : (b : Bool) (o : Option ℤ) → o ≡ None → cond b o None ≡ None
+none_either true o h = h
+none_either false o h = refl
+
+module _ (amount : Account → ℤ) where
+  behind_listed : (a : Account) (chosen : List Account) → Behind a chosen → below_all account_cmp a (listed_of amount chosen) ≡ true
+  behind_listed a [] h = refl
+  behind_listed a (c ∷ others) h =
+      let rest = listed_of amount others in
+      elim (is_zero (amount c)) as (λ b. below_all account_cmp a (cond (not b) ((c, amount c) ∷ rest) rest) ≡ true) [
+        | true ↦ behind_listed a others h.1
+        | false ↦ ap (λ o. is_lt o && below_all account_cmp a rest) h.0 ∙ behind_listed a others h.1
+      ]
+
+  sorted_listed : (chosen : List Account) → Rise chosen → is_sorted account_cmp (listed_of amount chosen) ≡ true
+  sorted_listed [] h = refl
+  sorted_listed (c ∷ others) h =
+      let rest = listed_of amount others in
+      elim (is_zero (amount c)) as (λ b. is_sorted account_cmp (cond (not b) ((c, amount c) ∷ rest) rest) ≡ true) [
+        | true ↦ sorted_listed others h.1
+        | false ↦ ap (λ b. b && is_sorted account_cmp rest) (behind_listed c others h.0) ∙ sorted_listed others h.1
+      ]
+
+  find-listed : (a : Account) (chosen : List Account) → find account_cmp a (listed_of amount chosen) ≡ cond (list_any (eq_by_cmp account_cmp a) chosen) (listed (amount a)) None
+  find-listed a [] = refl
+  find-listed a (c ∷ others) =
+      let rest = listed_of amount others in
+      let later = list_any (eq_by_cmp account_cmp a) others in
+      let found = find-listed a others in
+      elim (cases_account a c) [
+        | inl same ↦
+            let yes : eq_by_cmp account_cmp a c ≡ true = ap (eq_by_cmp account_cmp a) (sym same) ∙ account_itself a in
+            let one : amount c ≡ amount a = ap amount (sym same) in
+            elim (is_zero (amount c)) as (λ b. is_zero (amount c) ≡ b → find account_cmp a (cond (not b) ((c, amount c) ∷ rest) rest) ≡ listed (amount a)) [
+              | true ↦ λ zero. let none : listed (amount a) ≡ None = ap listed (sym one ∙ zero_is (amount c) zero) in found ∙ none_either later (listed (amount a)) none ∙ sym none
+              | false ↦ λ some. ap (λ b. cond b (Some (amount c)) (find account_cmp a rest)) yes ∙ ap Some one ∙ ap (λ b. cond b None (Some (amount a))) (sym (ap is_zero (sym one) ∙ some))
+            ] refl ∙ sym (ap (λ b. cond (b || later) (listed (amount a)) None) yes)
+        | inr apart ↦
+            elim (is_zero (amount c)) as (λ b. find account_cmp a (cond (not b) ((c, amount c) ∷ rest) rest) ≡ cond later (listed (amount a)) None) [
+              | true ↦ found
+              | false ↦ ap (λ b. cond b (Some (amount c)) (find account_cmp a rest)) apart ∙ found
+            ] ∙ sym (ap (λ b. cond (b || later) (listed (amount a)) None) apart)
+      ]
+
+-- books list their amounts account by account
+pub entries-amounts : (things : ℕ) (books : BooksValue) → AreBooks things books → entries books.amounts ≡ listed_of (λ a. amount_in books a.0 a.1) (accounts things)
+entries-amounts things books are =
+    let amount = λ (a : Account). amount_in books a.0 a.1 in
+    let sorted = subst T (sym (sorted_listed amount (accounts things) (accounts_rise things))) tt in
+    same_entries account_cmp account_total account_same (entries books.amounts) (listed_of amount (accounts things)) (entries_sorted books.amounts) sorted (λ a.
+    sym (get-entries books.amounts a) ∙ get-listed things books are a.0 a.1 ∙ elim (cases_lt (thing_index a.1) things) [
+      | inl there ↦ sym (ap (λ b. cond b (listed (amount a)) None) (any_accounts things a.0 a.1 there))
+      | inr past ↦
+          let none : listed (amount a) ≡ None = ap listed (none_past things books are a.0 a.1 past) in
+          none ∙ sym (none_either (list_any (eq_by_cmp account_cmp a) (accounts things)) (listed (amount a)) none)
+    ] ∙ sym (find-listed amount a (accounts things)))
+
+-- ---- what is so of each amount
+
+less_apart : (a b : Account) → is_lt (account_cmp a b) ≡ true → eq_by_cmp account_cmp a b ≡ false
+less_apart a b h = elim (account_cmp a b) as (λ o. is_lt o ≡ true → is_eq o ≡ false) [ Less ↦ λ _. refl | Equal ↦ λ not. absurd (false≢true not) | Greater ↦ λ _. refl ] h
+
+none_before : (a : Account) (es : List (Account × ℤ)) → below_all account_cmp a es ≡ true → find account_cmp a es ≡ None
+none_before a [] h = refl
+none_before a (e ∷ es) h =
+    let parts = and_parts (is_lt (account_cmp a e.0)) (below_all account_cmp a es) h in
+    ap (λ b. cond b (Some e.1) (find account_cmp a es)) (less_apart a e.0 parts.0) ∙ none_before a es parts.1
+
+later_found : (e : Account × ℤ) (es : List (Account × ℤ)) (a : Account) (z : ℤ) → below_all account_cmp e.0 es ≡ true → find account_cmp a es ≡ Some z → find account_cmp a (e ∷ es) ≡ Some z
+later_found e es a z h is =
+    elim (cases_account a e.0) [
+      | inl same ↦ none_some z (sym (none_before e.0 es h) ∙ ap (λ b. find account_cmp b es) (sym same) ∙ is)
+      | inr apart ↦ ap (λ b. cond b (Some e.1) (find account_cmp a es)) apart ∙ is
+    ]
+
+module _ (P : Account → ℤ → Type 0) where
+  each_of : (es : List (Account × ℤ)) → is_sorted account_cmp es ≡ true → ((a : Account) (z : ℤ) → find account_cmp a es ≡ Some z → P a z) → AllByRecursion (λ x. P x.0 x.1) es
+  each_of [] s h = tt
+  each_of (e ∷ es) s h =
+      let parts = and_parts (below_all account_cmp e.0 es) (is_sorted account_cmp es) s in
+      (h e.0 e.1 (ap (λ b. cond b (Some e.1) (find account_cmp e.0 es)) (account_itself e.0)), each_of es parts.1 (λ a z is. h a z (later_found e es a z parts.0 is)))
+
+  found_of : (es : List (Account × ℤ)) (a : Account) (z : ℤ) → AllByRecursion (λ x. P x.0 x.1) es → find account_cmp a es ≡ Some z → P a z
+  found_of [] a z h is = none_some z is
+  found_of (e ∷ es) a z h is =
+      elim (cases_account a e.0) [
+        | inl same ↦
+            let yes : eq_by_cmp account_cmp a e.0 ≡ true = ap (eq_by_cmp account_cmp a) (sym same) ∙ account_itself a in
+            let one : Some e.1 ≡ Some z = sym (ap (λ b. cond b (Some e.1) (find account_cmp a es)) yes) ∙ is in
+            subst (λ b. P b z) (sym same) (subst (P e.0) (inside e.1 z one) h.0)
+        | inr apart ↦ found_of es a z h.1 (sym (ap (λ b. cond b (Some e.1) (find account_cmp a es)) apart) ∙ is)
+      ]
+    where
+      inside : (x y : ℤ) → Some x ≡ Some y → x ≡ y
+      inside x y e = cc
+
+  -- what is so of each amount is so of each entry
+  pub each_amount : (m : FinMap account_cmp ℤ) → ((a : Account) (z : ℤ) → get m a ≡ Some z → P a z) → AllByRecursion (λ x. P x.0 x.1) (entries m)
+  each_amount m h = each_of (entries m) (amounts_sorted m) (λ a z is. h a z (get-entries m a ∙ is))
+
+  pub amount_of_each : (m : FinMap account_cmp ℤ) → AllByRecursion (λ x. P x.0 x.1) (entries m) → (a : Account) (z : ℤ) → get m a ≡ Some z → P a z
+  amount_of_each m h a z is = found_of (entries m) a z h (sym (get-entries m a) ∙ is)
+
+no_length : {A : Type 0} (xs : List A) → length xs ≡ 0 → xs ≡ []
+no_length [] h = refl
+no_length (x ∷ xs) h = absurd (omega arith)
+
+pub entries-none : entries (empty {X = ℤ} {R = account_cmp}) ≡ []
+entries-none = no_length (entries (empty {X = ℤ} {R = account_cmp})) (sym (len-entries (empty {X = ℤ} {R = account_cmp})) ∙ len-empty account_cmp ℤ)
