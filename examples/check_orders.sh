@@ -20,7 +20,7 @@ db=$scratch/scratch.db
 # explain NAME: what a fault or a refusal means
 explain() {
   case $1 in
-    NoUnit) echo 'No UNIT line is above this order, or the FORM around it has a fault.' ;;
+    NoUnit) echo 'No UNIT line without a fault is above this order, or the FORM around it has a fault.' ;;
     UnknownOrder) echo 'The first word is no order, or is not written whole.' ;;
     BadNumber) echo 'A number is missing here, or is out of its range.' ;;
     UnknownThing) echo 'The world has no item, skill or kind of this name, or NAME is followed by a wrong word.' ;;
@@ -33,7 +33,7 @@ explain() {
     BadName) echo 'The name is empty, longer than 40 characters, or begins or ends with a space.' ;;
     TooLong) echo 'The mailing has more than 65536 bytes.' ;;
     NoHeader) echo 'No line begins with #ATLANTIS. Nothing may be in front of it but spaces.' ;;
-    BadHeader) echo 'The word after #ATLANTIS is no number from 1 to 9999.' ;;
+    BadHeader) echo 'The word after #ATLANTIS is missing, or is no number from 1 to 9999.' ;;
     WrongFaction) echo 'The number after #ATLANTIS is not the number of your faction.' ;;
   esac
 }

@@ -374,7 +374,7 @@ line 5: 6 BadByte
   script 'each other fault' 1 '1 orders, 8 faults
 line 2: 1 NoUnit
     WORK
-    No UNIT line is above this order, or the FORM around it has a fault.
+    No UNIT line without a fault is above this order, or the FORM around it has a fault.
 line 4: 2 UnknownOrder
     ATTACK 2
     The first word is no order, or is not written whole.
@@ -401,7 +401,7 @@ line 13: 11 BadName
 No line begins with #ATLANTIS. Nothing may be in front of it but spaces.' check_orders.sh "$isle" mailing
   printf '#ATLANTIS 10000\nUNIT 1\n' >mailing
   script 'a header without a faction' 1 'refused: 10 BadHeader
-The word after #ATLANTIS is no number from 1 to 9999.' check_orders.sh "$isle" mailing
+The word after #ATLANTIS is missing, or is no number from 1 to 9999.' check_orders.sh "$isle" mailing
   { printf '#ATLANTIS 1\n' && head -c 65525 /dev/zero | tr '\0' ';'; } >mailing
   script 'a mailing that is too long' 1 'refused: 8 TooLong
 The mailing has more than 65536 bytes.' check_orders.sh "$isle" mailing
