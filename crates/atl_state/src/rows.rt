@@ -367,27 +367,17 @@ impl Campaign {
         ensures { IfOk result (λ parts. parts ≡ rows_of format self.now.value) }
     {
         let alloc = self.alloc();
-        let campaign = campaign_rows(alloc, format, self)?;
-        let factions = faction_rows(alloc, self)?;
-        let regions = region_rows(alloc, self)?;
-        let units = unit_rows(alloc, self)?;
-        let has = has_rows(alloc, self)?;
-        let structures = structure_rows(alloc, self)?;
-        let mail = mail_rows(alloc, self)?;
-        let reports = report_rows(alloc, self)?;
-        let books = books_rows(alloc, self.books())?;
-        let markets = market_rows(alloc, format, self)?;
         Ok(Parts {
-            campaign,
-            factions,
-            regions,
-            units,
-            has,
-            structures,
-            mail,
-            reports,
-            books,
-            markets,
+            campaign: campaign_rows(alloc, format, self)?,
+            factions: faction_rows(alloc, self)?,
+            regions: region_rows(alloc, self)?,
+            units: unit_rows(alloc, self)?,
+            has: has_rows(alloc, self)?,
+            structures: structure_rows(alloc, self)?,
+            mail: mail_rows(alloc, self)?,
+            reports: report_rows(alloc, self)?,
+            books: books_rows(alloc, self.books())?,
+            markets: market_rows(alloc, format, self)?,
         })
     }
 }

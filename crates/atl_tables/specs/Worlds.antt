@@ -32,12 +32,17 @@ pub record WorldValue : Type 0 where
   pub kinds : List Kind
   pub regions : FinMap nat_cmp RegionPlan
 
+-- the world of its parts
+abbrev pub world_of_parts : Rules → List Terrain → List Item → List Skill → List Kind → FinMap nat_cmp RegionPlan → WorldValue
+world_of_parts rules terrains items skills kinds regions =
+    record { rules = rules; terrains = terrains; items = items; skills = skills; kinds = kinds; regions = regions }
+
 abbrev pub world_code : Coded WorldValue
 world_code =
     code_by (Rules × (List Terrain × (List Item × (List Skill × (List Kind × FinMap nat_cmp RegionPlan)))))
     (coded× rules.the_row.coded (coded× (coded_list terrain.the_row.coded) (coded× (coded_list item.the_row.coded) (coded× (coded_list skill.the_row.coded) (coded× (coded_list kind.the_row.coded) (code coded_ℕ plan.the_row.coded))))))
     (λ p. (p.rules, (p.terrains, (p.items, (p.skills, (p.kinds, p.regions))))))
-    (λ q. record { rules = q.0; terrains = q.1.0; items = q.1.1.0; skills = q.1.1.1.0; kinds = q.1.1.1.1.0; regions = q.1.1.1.1.1 })
+    (λ q. world_of_parts q.0 q.1.0 q.1.1.0 q.1.1.1.0 q.1.1.1.1.0 q.1.1.1.1.1)
     (λ _. refl)
 
 -- a region plan with land

@@ -8,7 +8,7 @@ ghost use Rattle.atl_tables.specs.Results.{Gives};
 ghost use Rattle.atl_tables.specs.Limits.{most_regions};
 ghost use Rattle.atl_tables.specs.OldWorlds.{OldWorldsAreBare};
 ghost use Rattle.atl_tables.specs.Parts.{AreWorldPartsOf, world_parts_of};
-ghost use Rattle.atl_tables.specs.Worlds.{IsWorld, is_land, land_of};
+ghost use Rattle.atl_tables.specs.Worlds.{IsWorld, is_land, land_of, world_of_parts};
 ghost use Rattle.atl_tables.specs.Sums.{numbers_where};
 ghost use Rattle.atl_tables.specs.World.{things_of, regions_in, tables_of, world_of_tables, things_are_good, regions_are_good, keys_are_good, titles_differ, names_differ, names_are_known, neighbours_are_mutual, is_some_land, table_conditions, conditions, world_by, world_of, old_world_of};
 
@@ -104,14 +104,13 @@ fn tables(alloc: Global, format: Format, document: &Table) -> Result<WorldDraft,
         skills,
         kinds,
     } = things;
-    let regions = read_regions(alloc, format, document)?;
     Ok(WorldDraft {
         rules,
         terrains,
         items,
         skills,
         kinds,
-        regions,
+        regions: read_regions(alloc, format, document)?,
     })
 }
 
@@ -196,42 +195,12 @@ fn with_land(
     regions: Numbered<RegionPlan>,
 ) -> Result<World, WorldFault>
     requires world { 0 < length
-        (land_of (record {
-          rules = rules;
-          terrains = terrains;
-          items = items;
-          skills = skills;
-          kinds
-              = kinds;
-          regions = regions;
-        }))
-        → IsWorld (record {
-          rules = rules;
-          terrains = terrains;
-          items = items;
-          skills = skills;
-          kinds = kinds;
-          regions = regions;
-        }) }
+        (land_of (world_of_parts rules terrains items skills kinds regions))
+        → IsWorld (world_of_parts rules terrains items skills kinds regions) }
     ensures { Gives (λ w. w) result
         (first_fault (is_some_land
-        (land_of (record {
-          rules = rules;
-          terrains = terrains;
-          items = items;
-          skills = skills;
-          kinds
-              = kinds;
-          regions = regions;
-        }))))
-        (record {
-          rules = rules;
-          terrains = terrains;
-          items = items;
-          skills = skills;
-          kinds = kinds;
-          regions = regions;
-        }) }
+        (land_of (world_of_parts rules terrains items skills kinds regions))))
+        (world_of_parts rules terrains items skills kinds regions) }
 {
     let land = land(alloc, terrains.as_slice(), &regions)?;
     if land.len() == 0 {

@@ -199,28 +199,21 @@ impl Drop for World {
 
 impl Model for World {
     ghost use Rattle.std.specs.Prelude.{◌≡◌};
-    ghost use Rattle.atl_tables.specs.Worlds.{WorldValue, world_code, IsWorld, land_of};
+    ghost use Rattle.atl_tables.specs.Worlds.{WorldValue, world_code, world_of_parts, IsWorld, land_of};
 
     ghost Value = { WorldValue };
 
     ghost coded = { world_code };
 
-    ghost view = { λ a. record {
-      rules = a.rules;
-      terrains = a.terrains;
-      items = a.items;
-      skills = a.skills;
-      kinds = a.kinds;
-      regions = a.regions;
-    } };
+    ghost view = { λ a. world_of_parts a.rules a.terrains a.items a.skills a.kinds a.regions };
 
     ghost invariant = { λ a.
-        IsWorld (record { rules = a.rules; terrains = a.terrains; items = a.items; skills = a.skills; kinds = a.kinds; regions = a.regions })
-        × (a.land ≡ land_of (record { rules = a.rules; terrains = a.terrains; items = a.items; skills = a.skills; kinds = a.kinds; regions = a.regions })) };
+        IsWorld (world_of_parts a.rules a.terrains a.items a.skills a.kinds a.regions)
+        × (a.land ≡ land_of (world_of_parts a.rules a.terrains a.items a.skills a.kinds a.regions)) };
 }
 
 impl World {
-    ghost use Rattle.atl_tables.specs.Worlds.{IsWorld, land_of};
+    ghost use Rattle.atl_tables.specs.Worlds.{IsWorld, land_of, world_of_parts};
 
     /// The world of these parts, and the numbers of its regions with land.
     pub(crate) fn from_parts(
@@ -232,34 +225,9 @@ impl World {
         regions: Numbered<RegionPlan>,
         land: Sequence<u32>,
     ) -> World
-        requires world { IsWorld
-            (record {
-              rules = rules;
-              terrains = terrains;
-              items = items;
-              skills = skills;
-              kinds =
-                  kinds;
-              regions = regions;
-            }) }
-        requires land { land ≡ land_of
-            (record {
-              rules = rules;
-              terrains = terrains;
-              items = items;
-              skills = skills;
-              kinds =
-                  kinds;
-              regions = regions;
-            }) }
-        ensures { result ≡ record {
-          rules = rules;
-          terrains = terrains;
-          items = items;
-          skills = skills;
-          kinds = kinds;
-          regions = regions;
-        } }
+        requires world { IsWorld (world_of_parts rules terrains items skills kinds regions) }
+        requires land { land ≡ land_of (world_of_parts rules terrains items skills kinds regions) }
+        ensures { result ≡ world_of_parts rules terrains items skills kinds regions }
     {
         World {
             rules,

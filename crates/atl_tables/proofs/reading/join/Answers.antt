@@ -4,7 +4,7 @@ use Rattle.std.specs.Ordering.{nat_cmp}
 use Rattle.atl_tables.specs.Faults.{Conditions, first_fault}
 use Rattle.atl_tables.specs.Results.{Gives}
 use Rattle.atl_tables.specs.Parts.{world_parts_of, AreWorldPartsOf}
-use Rattle.atl_tables.specs.Worlds.{WorldValue, IsWorld, land_of}
+use Rattle.atl_tables.specs.Worlds.{WorldValue, IsWorld, land_of, world_of_parts}
 use Rattle.atl_tables.specs.Sums.{by_number}
 use Rattle.atl_tables.specs.World.{neighbours_are_mutual, is_some_land, world_of_tables, regions_of}
 use Rattle.atl_tables.specs.declared.reading.WorldParts.{WorldParts}
@@ -22,7 +22,7 @@ unfolding regions_of
 regions_are all p plans e q = ap (by_number (λ r. r.number)) (q ∙ ap (λ (x : WorldParts). x.regions) e)
 
 abbrev made_of : WorldDraft → WorldParts → FinMap nat_cmp RegionPlan → WorldValue
-made_of all p regions = record { rules = p.rules; terrains = p.terrains; items = p.items; skills = all.skills; kinds = p.kinds; regions = regions }
+made_of all p regions = world_of_parts p.rules p.terrains p.items all.skills p.kinds regions
 
 planet_is : (all : WorldDraft) (p : WorldParts) (regions : FinMap nat_cmp RegionPlan) → p ≡ world_parts_of all → regions ≡ regions_of all → made_of all p regions ≡ world_of_tables all
 unfolding world_of_tables
