@@ -116,9 +116,6 @@ short_by_one input h (x ∷ more) few = absurd (omega (arith, few))
 pub lacks_one : (input front : List ℕ) → front ≡ take most_head input → length input < most_head → HasNoRequest front × MayBecomeRequest front → ComesTo input (Lacks 1)
 lacks_one input front e h unfinished_front = (omega arith, short_by_one input (judges_more input front e h unfinished_front))
 
-pub judges_too_long : (input front : List ℕ) → front ≡ take most_head input → most_head ≤ length input → HasNoRequest front × MayBecomeRequest front → Judges input (Refused BadRequest)
-judges_too_long input front e h unfinished_front = too_long (h, subst HasNoRequest e unfinished_front.0) refl
-
 pub if_ok : {T E : Type 0} {P Q : T → Type 0} (r : Result T E) → ((x : T) → P x → Q x) → IfOk r P → IfOk r Q
 if_ok (Ok x) f h = f x h
 if_ok (Err e) f h = tt

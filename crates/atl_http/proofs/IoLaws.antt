@@ -33,34 +33,11 @@ appends_more (Some xs) None after sent piece h k = absurd h
 appends_more (Some xs) (Some ys) None sent piece h k = absurd k
 appends_more (Some xs) (Some ys) (Some zs) sent piece h k = k ∙ ap (λ l. l ++ piece) h ∙ append_assoc xs sent piece
 
--- what is kept grows by nothing
-pub kept_appends : (before after : Option (List ℕ)) → Keeps before after → Appends before after []
-kept_appends None after h = tt
-kept_appends (Some xs) None h = absurd h
-kept_appends (Some xs) (Some ys) h = h ∙ sym (append-nil xs)
-
-pub appends_stop : (before between after : Option (List ℕ)) (sent : List ℕ) → Appends before between sent → Appends between after [] → Appends before after sent
-appends_stop before between after sent h k =
-    let P : List ℕ → Type 0 = λ l. Appends before after l in
-    subst P (append-nil sent) (appends_more before between after sent [] h k)
-
--- nothing was written
-pub appends_nothing : (before : Option (List ℕ)) → Appends before before []
-appends_nothing None = tt
-appends_nothing (Some xs) = sym (append-nil xs)
-
 -- so many bytes were written, and then so many more
 pub appends_next : (before between after : Option (List ℕ)) (bytes : List ℕ) (sent count : ℕ) → Appends before between (take sent bytes) → Appends between after (take count (drop sent bytes)) → Appends before after (take (sent + count) bytes)
 appends_next before between after bytes sent count h k =
     let P : List ℕ → Type 0 = λ l. Appends before after l in
     subst P (sym (take-add sent count bytes)) (appends_more before between after (take sent bytes) (take count (drop sent bytes)) h k)
-
--- all bytes were written
-pub appends_all : (before after : Option (List ℕ)) (bytes : List ℕ) (sent : ℕ) → sent ≤ length bytes → length bytes ≤ sent → Appends before after (take sent bytes) → Appends before after bytes
-appends_all before after bytes sent h k written =
-    let P : List ℕ → Type 0 = λ l. Appends before after l in
-    let e : sent ≡ length bytes = omega arith in
-    subst P (ap (λ n. take n bytes) e ∙ take-length bytes) written
 
 -- ---- reading
 
@@ -75,11 +52,6 @@ stopped before between after seen new Memory h judged done = tt
 
 pub went_on : (before between after : Option (List ℕ)) (seen new : List ℕ) (count : ℕ) → Consumes before between seen → ReadsMore between after seen new (Ok count) → Consumes before after new
 went_on before between after seen new count h (piece, is, few, more, same) = subst (λ l. Consumes before after l) (sym same) (consumes_more before between after seen piece h more)
-
--- nothing was read
-pub consumes_nothing : (before : Option (List ℕ)) (seen : List ℕ) → seen ≡ [] → Consumes before before seen
-consumes_nothing None seen e = tt
-consumes_nothing (Some xs) seen e = ap (λ l. l ++ xs) (sym e)
 
 -- what was seen is read so far, if the bytes before the last piece were no whole request
 pub read_so_far : (between after : Option (List ℕ)) (seen new : List ℕ) (count : ℕ) → Judges seen More → ReadsMore between after seen new (Ok count) → IsReadSoFar new

@@ -34,10 +34,6 @@ no_fault false b e = some_none NotYours e
 no_fault true true e = some_none UnitLimit e
 no_fault true false e = (refl, refl)
 
--- the last number isn't given
-pub number_left : (c : CampaignValue) (f n : ℕ) → form_fault c f n ≡ None → c.next_unit ≤ last_unit
-number_left c f n none = (room c (no_fault (is_of_faction f (get c.units n)) (is_unit_limit c) none).1).1
-
 module _ (w : WorldValue) (c : CampaignValue) (early : IsEarly w c) where
   pub free_number : get c.units c.next_unit ≡ None
   free_number = early.steady.next.units c.next_unit (omega arith)

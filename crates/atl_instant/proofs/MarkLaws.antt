@@ -23,10 +23,6 @@ pub booked_marks : (a b d : MarkedCampaign) (e : Entry) (t : Thing) (z : ℤ) �
 booked_marks a b d e t z before what marks =
     marks-trans a b d before (marks_by b d (record { value = with_amount b.value e t z; marks = mark_amount b e t }) what marks (marks-amount b e t z))
 
--- a campaign that stays as it is
-pub marks_same : (a b : MarkedCampaign) → b ≡ a → MarksChanges a b
-marks_same a b is = rw is (marks-refl a)
-
 -- a unit in another place
 marks_place_at : (c : MarkedCampaign) (n r s : ℕ) (o : Option Unit) → MarksChanges c (place_marked_at c n r s o)
 marks_place_at c n r s None = marks-refl c

@@ -170,7 +170,3 @@ pub order_readings : (step : OrderMeaning) (w : WorldValue) (p : CampaignValue �
 order_readings step w p t = told_readings p.1 t (order_result (step w p.1.aliases t) p.0 t.faction t.unit).1
 
 -- ---- what is so in any case is so where a call answers Ok
-
-pub where_ok : {T E P : Type 0} (r : Result T E) → P → OnOk r P
-where_ok (Ok x) p = p
-where_ok (Err e) p = tt

@@ -10,10 +10,6 @@ use Rattle.atl_market.specs.Share.{IsNearPart, SplittingKeepsOthers, share_upto,
 quotient : (pot total x : ℕ) → 0 < total → (total * share_upto pot total x ≤ pot * x) × (pot * x < total * share_upto pot total x + total)
 quotient pot total x p = (mul-div-le (pot * x) total, omega (arith, lt-mul-div-succ (pot * x) p))
 
--- no share passes the pot
-pub upto_le_pot : (pot total x : ℕ) → x ≤ total → share_upto pot total x ≤ pot
-upto_le_pot pot total x h = div-le_of_le-mul total (omega (arith, mul-le-mul_left pot h, mul_comm pot total))
-
 -- more people get no less
 pub upto_mono : (pot total x y : ℕ) → 0 < total → x ≤ y → share_upto pot total x ≤ share_upto pot total y
 upto_mono pot total x y p h =

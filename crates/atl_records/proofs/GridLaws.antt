@@ -131,9 +131,6 @@ as_books-replicate things =
     same_value (as_books rows) (no_amounts things) (things-as_books rows ∙ length-replicate things no_row)
     (same_map account_total account_same (as_books rows).amounts (no_amounts things).amounts (λ a. get-as_books rows a ∙ ap listed (cell-replicate things a) ∙ sym (get-empty {X = ℤ} account_cmp a)))
 
-pub IsGrid-replicate : (things : ℕ) → things ≤ possible_things → IsGrid (replicate things (replicate entry_count (pos 0)))
-IsGrid-replicate things few = record { few = rw length-replicate few; wide = All-replicate (λ (row : List ℤ). length row ≡ entry_count) things no_row refl }
-
 -- ---- another amount at a place
 
 module _ (rows : List (List ℤ)) (grid : IsGrid rows) (e : Entry) (t : Thing) (z : ℤ) (there : thing_index t < length rows) where

@@ -51,8 +51,3 @@ module _ {S : Type 0} (g : Ghosts S) (own : Statements) (old new : Held S) where
   pub ended_by : {A : Type 0} (fault : WriteFault) (r : Result A WriteFault) → IsErrAnd r (λ f. f ≡ fault) → (HasCleanDisk (state g new) → IsTold g own write_fault old new fault) → IfErr r (λ f. HasCause g own old new (of_write f))
   ended_by fault (Ok a) is told = tt
   ended_by fault (Err f) is told = subst (λ x. HasCause g own old new (of_write x)) (sym is) (writing_told fault told)
-
--- lack of memory that ends a command before the database is asked to write
-pub ended_unasked : {S A : Type 0} (g : Ghosts S) (own : Statements) (conn : Held S) (r : Result A WriteFault) → IsErrAnd r (λ f. f ≡ write.Memory) → IfErr r (λ f. HasCause g own conn conn (of_write f))
-ended_unasked g own conn (Ok a) is = tt
-ended_unasked g own conn (Err f) is = subst (λ x. HasCause g own conn conn (of_write x)) (sym is) (inl refl)

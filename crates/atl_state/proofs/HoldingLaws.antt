@@ -222,11 +222,3 @@ marks-skill c n skill days =
       | Skills ↦ λ k free. shown_still (λ o. get (days_under o) k.1) c.value.units n k.0 u (with_other u) is (λ here. get-set_other u.holding.days skill days k.1 (apart_by_thing c.marks.goods c.marks.skills n skill k.0 k.1 free here))
       | _ ↦ λ k free. refl
     ]))
-
--- a unit's holding that was lent
-pub marks-lent : (c : MarkedCampaign) (n : ℕ) (h : HoldingValue) → MarksChanges c (lent c n h)
-marks-lent c n h = by_unit (get c.value.units n)
-  where
-    by_unit : (o : Option Unit) → MarksChanges c (record { value = with_held c.value n h o; marks = whole_marked c.marks n o })
-    by_unit None = marks-refl c
-    by_unit (Some u) = let v = record u { holding = h } in marks-unit c (insert c.value.units n v) n (λ k apart. get-insert_other c.value.units n k v apart)

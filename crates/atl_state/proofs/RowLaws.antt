@@ -25,9 +25,6 @@ module _ {R : Type 0} (shown : R → ℤ) (row : ℕ → ℕ → R) (shows : (th
 pub sort_rows_one : (n sort thing amount : ℕ) (es : List (ℕ × ℕ)) → amount ≢ 0 → kind_rows n sort ((thing, amount) ∷ es) ≡ has_row n sort thing amount ∷ kind_rows n sort es
 sort_rows_one n sort = amount_rows_one (λ r. r.amount) (has_row n sort) (λ i a. refl)
 
-pub sort_rows_none : (n sort thing amount : ℕ) (es : List (ℕ × ℕ)) → amount ≡ 0 → kind_rows n sort ((thing, amount) ∷ es) ≡ kind_rows n sort es
-sort_rows_none n sort thing amount es h = ap (λ k. cond (not (is_zero (pos k))) (has_row n sort thing amount ∷ kind_rows n sort es) (kind_rows n sort es)) h
-
 -- ---- rows of the books
 
 -- the lists of rows of accounts that stand one after another
