@@ -25,15 +25,6 @@ use Rattle.atl_instant.specs.declared.form.Forming.{Forming}
 use Rattle.atl_instant.proofs.FormingLaws.{begun_stays, begun_well, room}
 use Rattle.atl_instant.proofs.OrderEffectLaws.{well_same}
 
-some_none : {X P : Type 0} (x : X) → Some x ≡ None → P
-some_none x e = cc
-
--- where there is no fault
-no_fault : (a b : Bool) → first_fault ((not a, NotYours) ∷ (b, UnitLimit) ∷ []) ≡ None → (a ≡ true) × (b ≡ false)
-no_fault false b e = some_none NotYours e
-no_fault true true e = some_none UnitLimit e
-no_fault true false e = (refl, refl)
-
 module _ (w : WorldValue) (c : CampaignValue) (early : IsEarly w c) where
   pub free_number : get c.units c.next_unit ≡ None
   free_number = early.steady.next.units c.next_unit (omega arith)

@@ -33,11 +33,6 @@ use Rattle.atl_instant.proofs.MonthLaws.{by_its_faction, factions_read, keys_of-
 abbrev same_key : Arrangement → Task → Task → Bool
 same_key a t u = eq_by_cmp (slice_cmp nat_cmp) (key_of a t) (key_of a u)
 
--- what of a key tells tasks apart
-faction_in : Arrangement → List ℕ → ℕ
-faction_in ByUnit key = get_or key 2 0
-faction_in ByFaction key = get_or key 0 0
-
 factions_tie : (a : Arrangement) (t u : Task) → key_of a t ≡ key_of a u → t.faction ≡ u.faction
 factions_tie ByUnit t u e = ap (λ key. get_or key 2 0) e
 factions_tie ByFaction t u e = ap (λ key. get_or key 0 0) e

@@ -356,12 +356,6 @@ men_stay h left is = by_men (left == h.men) refl
 pub paid_alone : (s : UpkeepResult) (h : HoldingValue) → s.starved ≡ 0 → after_upkeep s h ≡ record h { money = h.money - s.paid }
 paid_alone s h fed = ap (λ (k : HoldingValue). record k { money = h.money - s.paid }) (men_stay h (h.men - s.starved) (omega (arith, fed)))
 
-pub pays : (c : CampaignValue) (s : UpkeepResult) (u : Unit) → get c.units s.unit ≡ Some u → s.starved ≡ 0
-    → with_money c s.unit (u.holding.money - s.paid) ≡ with_held c s.unit (after_upkeep s u.holding) (Some u)
-pays c s u is fed =
-    ap (λ o. record c { units = changed_at (λ (v : Unit). record v { holding = record v.holding { money = u.holding.money - s.paid } }) c.units s.unit o }) is
-    ∙ ap (λ h. with_held c s.unit h (Some u)) (sym (paid_alone s u.holding fed))
-
 pub pays_nothing : (c : CampaignValue) (s : UpkeepResult) (u : Unit) → get c.units s.unit ≡ Some u → s.starved ≡ 0 → s.paid ≡ 0
     → c ≡ with_held c s.unit (after_upkeep s u.holding) (Some u)
 pays_nothing c s u is fed none =

@@ -25,18 +25,3 @@ market_known w world n i some = by_plan (get w.regions n) refl some
     by_plan : (o : Option RegionPlan) → get w.regions n ≡ o → is_some (option_and_then (λ p. get p.markets i) o) ≡ true → i < length w.items
     by_plan None there e = absurd (false≢true e)
     by_plan (Some p) there e = by_market p (get p.markets i) there refl e
-
-no_market : (w : WorldValue) → without_markets w ≡ w → (n i : ℕ) → market_of w n i ≡ None
-no_market w bare n i =
-    ap (λ (x : WorldValue). market_of x n i) (sym bare) ∙ ap (option_and_then (λ (p : RegionPlan). get p.markets i)) (get-mapped without_market w.regions n) ∙ by_plan (get w.regions n)
-  where
-    by_plan : (o : Option RegionPlan) → option_and_then (λ (p : RegionPlan). get p.markets i) (option_map without_market o) ≡ None
-    by_plan None = refl
-    by_plan (Some p) = get-empty nat_cmp i
-
-nothing_there : {V : Type 0} (m : FinMap nat_cmp V) → ((n : ℕ) (v : V) → ¬ (get m n ≡ Some v)) → m ≡ empty
-nothing_there m none = same_map nat_cmp_total nat_cmp-IsAntisymmetric m empty (λ n. free_from m n (λ there. none n there.0 there.1) ∙ sym (get-empty nat_cmp n))
-
--- in a world without markets there are no stocks
-pub no_stocks : (w : WorldValue) (c : CampaignValue) → without_markets w ≡ w → AreKnown w c → HasNoStocks c
-no_stocks w c bare known n r is = nothing_there r.stocks (λ i amount there. false≢true (sym (ap is_some (no_market w bare n i)) ∙ known.markets n r is i amount there))

@@ -29,10 +29,6 @@ HandsOn e r = IsErr r × IsErrAnd r (λ f. f ≡ e)
 abbrev pub SoFar : {S : Type 0} → Ghosts S → Statements → (State → State → Type 0) → MutBor (Held S) → MutBor (Held S) → Type 0
 SoFar g own Does old new = Writes g own Does {A = Unit {0}} (Ok (tt {0})) old new
 
-given : {A E P : Type 0} (r : Result A E) → P → OnOk r P
-given (Ok a) p = p
-given (Err e) p = tt
-
 survives_start : (s : State) → Survives s s (λ _. ⊥)
 survives_start s = record { clean = omega arith; shield = λ h. h; counts = omega arith; limit = refl; closes = λ clean up. inl up; crash = λ clean db may. inl may }
 

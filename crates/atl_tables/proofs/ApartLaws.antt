@@ -97,10 +97,6 @@ len-both_below most s t f g = len-below most (set.union s t) (λ k e. one_of _ _
 apart_empty : (s : Numbers) → AreApart s set.empty
 apart_empty s = record { apart = λ n _. set.contains-empty nat_cmp n }
 
-kept : (a b c e : Bool) → (a ≡ true → e ≡ false) → (a ≡ true → b ≡ false) → a ≡ true → (e || b) ≡ false
-kept true b c e f g h = ap (λ x. x || b) (f refl) ∙ g refl
-kept false b c e f g h = absurd (false≢true h)
-
 other_key : (s : Numbers) (n q : ℕ) → set.contains s n ≡ false → set.contains s q ≡ true → eq_by_cmp nat_cmp q n ≡ false
 other_key s n q h e = false_from_ne_true _ (λ alike. false≢true (sym (ap (set.contains s) (same_key q n alike) ∙ h) ∙ e))
 

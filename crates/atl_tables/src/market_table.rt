@@ -58,13 +58,14 @@ impl Element for MarketDraft {
         let pays = keys::number(alloc, 1, MOST_PRICE, "pays", at, table)?;
         let limit = keys::number(alloc, 0, MOST_AMOUNT, "limit", at, table)?;
         let restock = keys::number(alloc, 0, MOST_AMOUNT, "restock", at, table)?;
+        let own_path = Text::from_str(alloc, at)?;
         Ok(MarketDraft {
+            place: own_path,
             item,
             price,
             pays,
             limit,
             restock,
-            place: Text::from_str(alloc, at)?,
         })
     }
 }

@@ -99,18 +99,14 @@ fn tables(alloc: Global, format: Format, document: &Table) -> Result<WorldDraft,
     let rules = rules(alloc, document)?;
     let terrains = list::<TerrainDraft>(alloc, MOST_TERRAINS, "terrain", document)?;
     let things = read_thing_drafts(alloc, document)?;
-    let ThingDrafts {
-        items,
-        skills,
-        kinds,
-    } = things;
+    let regions = read_regions(alloc, format, document)?;
     Ok(WorldDraft {
         rules,
         terrains,
-        items,
-        skills,
-        kinds,
-        regions: read_regions(alloc, format, document)?,
+        items: things.items,
+        skills: things.skills,
+        kinds: things.kinds,
+        regions,
     })
 }
 

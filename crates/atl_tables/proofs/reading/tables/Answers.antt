@@ -45,18 +45,18 @@ returns-in_err-things-clause-value c =
     let e = c.in_err-things.field-0.0 in
     exits _ _ _ _ _ c.from_residual-in_err-things.ensures.1 (stops_after e (rules t) (terrains t ++ (things t ++ regions c.args.format t)) c.in_ok-rules.ensures.value.0 (stops_after e (terrains t) (things t ++ regions c.args.format t) c.in_ok-terrains.ensures.value.0 (stops_on e (things t) (regions c.args.format t) c.in_err-things.ensures.value)))
 
-pub returns-in_err-clause-value : goal.returns-in_err-clause-value
+pub returns-in_err-regions-clause-value : goal.returns-in_err-regions-clause-value
 unfolding keys_are_good
-returns-in_err-clause-value c =
+returns-in_err-regions-clause-value c =
     let t = table_view c.args.document.now in
-    let e = c.in_err.field-0.0 in
-    exits _ _ _ _ _ c.from_residual-in_err.ensures.1 (stops_after e (rules t) (terrains t ++ (things t ++ regions c.args.format t)) c.in_ok-rules.ensures.value.0 (stops_after e (terrains t) (things t ++ regions c.args.format t) c.in_ok-terrains.ensures.value.0 (stops_after e (things t) (regions c.args.format t) c.in_ok-things.ensures.value.0 c.in_err.ensures.value)))
+    let e = c.in_err-regions.field-0.0 in
+    exits _ _ _ _ _ c.from_residual-in_err-regions.ensures.1 (stops_after e (rules t) (terrains t ++ (things t ++ regions c.args.format t)) c.in_ok-rules.ensures.value.0 (stops_after e (terrains t) (things t ++ regions c.args.format t) c.in_ok-terrains.ensures.value.0 (stops_after e (things t) (regions c.args.format t) c.in_ok-things.ensures.value.0 c.in_err-regions.ensures.value)))
 
 pub returns-clause-value : goal.returns-clause-value
 unfolding keys_are_good tables_of
 returns-clause-value c =
     let t = table_view c.args.document.now in
-    rw (c.in_ok-rules.ensures.value.1, c.in_ok-terrains.ensures.value.1, c.in_ok-things.ensures.value.1, c.in_ok.ensures.value.1) (passes_both (rules t) (terrains t ++ (things t ++ regions c.args.format t)) c.in_ok-rules.ensures.value.0 (passes_both (terrains t) (things t ++ regions c.args.format t) c.in_ok-terrains.ensures.value.0 (passes_both (things t) (regions c.args.format t) c.in_ok-things.ensures.value.0 c.in_ok.ensures.value.0)), refl)
+    rw (c.in_ok-rules.ensures.value.1, c.in_ok-terrains.ensures.value.1, c.in_ok-things.ensures.value.1, c.in_ok-regions.ensures.value.1) (passes_both (rules t) (terrains t ++ (things t ++ regions c.args.format t)) c.in_ok-rules.ensures.value.0 (passes_both (terrains t) (things t ++ regions c.args.format t) c.in_ok-terrains.ensures.value.0 (passes_both (things t) (regions c.args.format t) c.in_ok-things.ensures.value.0 c.in_ok-regions.ensures.value.0)), refl)
 
 pub returns-clause-sound : goal.returns-clause-sound
 returns-clause-sound c = record {
@@ -65,10 +65,10 @@ returns-clause-sound c = record {
   items = c.in_ok-things.ensures.sound.items;
   skills = c.in_ok-things.ensures.sound.skills;
   kinds = c.in_ok-things.ensures.sound.kinds;
-  regions = c.in_ok.ensures.sound;
+  regions = c.in_ok-regions.ensures.sound;
   few_terrains = c.in_ok-terrains.ensures.most;
   few_items = c.in_ok-things.ensures.sound.few_items;
   few_skills = c.in_ok-things.ensures.sound.few_skills;
   few_kinds = c.in_ok-things.ensures.sound.few_kinds;
-  few_regions = c.in_ok.ensures.most;
+  few_regions = c.in_ok-regions.ensures.most;
 }

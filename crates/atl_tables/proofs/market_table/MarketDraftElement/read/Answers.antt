@@ -29,4 +29,4 @@ returns-in_err-restock-clause-value c =
 
 pub returns-clause-value : goal.returns-clause-value
 unfolding market_keys market_from
-returns-clause-value c = rw (c.in_ok-item.ensures, c.in_ok-price.ensures.value, c.in_ok-pays.ensures.value, c.in_ok-limit.ensures.value, c.in_ok-restock.ensures.value, c.in_ok.ensures) (refl, refl)
+returns-clause-value c = rw (c.in_ok-item.ensures, c.in_ok-price.ensures.value, c.in_ok-pays.ensures.value, c.in_ok-limit.ensures.value, c.in_ok-restock.ensures.value, c.in_ok-own_path.ensures) (refl, refl)
