@@ -33,7 +33,7 @@ impl Subcommand for Books {
         "Prints the books: of each thing all entries, and how much there is";
 
     fn options<'a>(alloc: Global) -> Result<Vec<Arg<'a>>, AllocError> {
-        Ok(vec![in alloc; options::file(alloc, options::DB, options::DB_HELP)]?)
+        Ok(vec![in alloc; options::db(alloc)]?)
     }
 
     fn run(rt: &HostRuntime, options: &ArgMatches<'_>) -> Result<(), Failure> {

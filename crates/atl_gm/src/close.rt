@@ -1,8 +1,8 @@
 //! The subcommand `close`: closes a month of a campaign's file.
-use crate::database::{Opening, Work, work_on};
+use crate::database::Work;
 use crate::failure::Failure;
 use crate::options;
-use crate::printing::print_answer;
+use crate::printing::print_answer_of;
 use crate::subcommand::Subcommand;
 use atl_http::{Dice, Request, run_request};
 use atl_service::{Answer, Service};
@@ -43,26 +43,24 @@ impl Subcommand for Close {
 
     fn options<'a>(alloc: Global) -> Result<Vec<Arg<'a>>, AllocError> {
         Ok(vec![in alloc;
-            options::file(alloc, options::DB, options::DB_HELP),
+            options::db(alloc),
             options::number(
                 alloc,
                 options::MONTH,
                 "The month to close, one above the last that was closed"
             ),
             options::text(alloc, options::PASS, "The moderator's pass text"),
-            options::long_number(alloc, options::SEED, options::SEED_HELP),
+            options::seed(alloc),
         ]?)
     }
 
     fn run(rt: &HostRuntime, options: &ArgMatches<'_>) -> Result<(), Failure> {
-        let path = options::text_of(options, options::DB)?;
         let closing = Closing {
             alloc: rt.alloc(),
             month: options::number_of(options, options::MONTH)?,
             pass: options::text_of(options, options::PASS)?,
             dice: options::dice_of(options)?,
         };
-        let answer = work_on(rt, path, Opening::Kept, &closing)?;
-        print_answer(rt, &answer)
+        print_answer_of(rt, options, &closing)
     }
 }

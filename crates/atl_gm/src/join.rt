@@ -1,8 +1,8 @@
 //! The subcommand `join`: a faction joins the campaign of a file.
-use crate::database::{Opening, Work, work_on};
+use crate::database::Work;
 use crate::failure::Failure;
 use crate::options;
-use crate::printing::print_answer;
+use crate::printing::print_answer_of;
 use crate::subcommand::Subcommand;
 use atl_http::{Dice, Request, run_request};
 use atl_service::{Answer, Service};
@@ -42,26 +42,24 @@ impl Subcommand for Join {
 
     fn options<'a>(alloc: Global) -> Result<Vec<Arg<'a>>, AllocError> {
         Ok(vec![in alloc;
-            options::file(alloc, options::DB, options::DB_HELP),
+            options::db(alloc),
             options::text(alloc, options::NAME, "The name of the faction"),
             options::text(
                 alloc,
                 options::PASS,
                 "The pass text that the faction will use"
             ),
-            options::long_number(alloc, options::SEED, options::SEED_HELP),
+            options::seed(alloc),
         ]?)
     }
 
     fn run(rt: &HostRuntime, options: &ArgMatches<'_>) -> Result<(), Failure> {
-        let path = options::text_of(options, options::DB)?;
         let joining = Joining {
             alloc: rt.alloc(),
             name: options::text_of(options, options::NAME)?,
             pass: options::text_of(options, options::PASS)?,
             dice: options::dice_of(options)?,
         };
-        let answer = work_on(rt, path, Opening::Kept, &joining)?;
-        print_answer(rt, &answer)
+        print_answer_of(rt, options, &joining)
     }
 }

@@ -1,9 +1,8 @@
 //! The subcommand `mail`: stores a faction's orders for the month to come.
-use crate::database::{Opening, work_on};
 use crate::failure::Failure;
 use crate::files::first_bytes_at;
 use crate::options;
-use crate::printing::print_answer;
+use crate::printing::print_answer_of;
 use crate::subcommand::Subcommand;
 use atl_orders::MOST_BYTES;
 use atl_tables::Sequence;
@@ -36,17 +35,15 @@ impl Subcommand for Mail {
 
     fn options<'a>(alloc: Global) -> Result<Vec<Arg<'a>>, AllocError> {
         Ok(vec![in alloc;
-            options::file(alloc, options::DB, options::DB_HELP),
-            options::number(alloc, options::FACTION, options::FACTION_HELP),
-            options::text(alloc, options::PASS, options::FACTION_PASS_HELP),
+            options::db(alloc),
+            options::faction(alloc),
+            options::faction_pass(alloc),
             options::file(alloc, options::FILE, "The file of the mailing"),
         ]?)
     }
 
     fn run(rt: &HostRuntime, options: &ArgMatches<'_>) -> Result<(), Failure> {
-        let path = options::text_of(options, options::DB)?;
         let mail = mailing(rt, options)?;
-        let answer = work_on(rt, path, Opening::Kept, &mail)?;
-        print_answer(rt, &answer)
+        print_answer_of(rt, options, &mail)
     }
 }

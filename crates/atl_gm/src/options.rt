@@ -34,18 +34,6 @@ pub const COUNT: &str = "count";
 /// The seed of the dice.
 pub const SEED: &str = "seed";
 
-/// What the help says of the file of a campaign that stands.
-pub const DB_HELP: &str = "The database file of the campaign";
-
-/// What the help says of the pass text of a faction that has joined.
-pub const FACTION_PASS_HELP: &str = "The pass text that the faction joined with";
-
-/// What the help says of the number of a faction.
-pub const FACTION_HELP: &str = "The number that the faction got as it joined";
-
-/// What the help says of the seed of the dice.
-pub const SEED_HELP: &str = "The number that the campaign's dice come from: keep to the same one";
-
 /// An option whose value is a text, and what the help says of it.
 pub fn text<'a>(alloc: Global, name: &'a str, help: &'a str) -> Arg<'a> {
     Arg::new(alloc, name)
@@ -75,10 +63,38 @@ pub fn port<'a>(alloc: Global, name: &'a str, help: &'a str) -> Arg<'a> {
 }
 
 /// An option whose value is a number of 64 bits.
-pub fn long_number<'a>(alloc: Global, name: &'a str, help: &'a str) -> Arg<'a> {
+fn long_number<'a>(alloc: Global, name: &'a str, help: &'a str) -> Arg<'a> {
     text(alloc, name, help)
         .value_name("N")
         .value_parser(value_parser!(u64))
+}
+
+/// The option for the file of a campaign.
+pub fn db<'a>(alloc: Global) -> Arg<'a> {
+    file(alloc, DB, "The database file of the campaign")
+}
+
+/// The option for the number of a faction.
+pub fn faction<'a>(alloc: Global) -> Arg<'a> {
+    number(
+        alloc,
+        FACTION,
+        "The number that the faction got as it joined",
+    )
+}
+
+/// The option for the pass text of a faction that has joined.
+pub fn faction_pass<'a>(alloc: Global) -> Arg<'a> {
+    text(alloc, PASS, "The pass text that the faction joined with")
+}
+
+/// The option for the seed of the dice.
+pub fn seed<'a>(alloc: Global) -> Arg<'a> {
+    long_number(
+        alloc,
+        SEED,
+        "The number that the campaign's dice come from: keep to the same one",
+    )
 }
 
 /// The text that was given.

@@ -1,7 +1,10 @@
 //! What the program prints on standard output. See docs/FORMATS.md, "The program".
+use crate::database::{Opening, Work, work_on};
 use crate::failure::Failure;
+use crate::options;
 use atl_orders::FaultyLine;
 use atl_service::{Answer, Fault};
+use clap::ArgMatches;
 use std::io;
 
 /// The failure Output if a line could not be printed.
@@ -26,6 +29,17 @@ fn print_mailing<R: Print>(rt: &R, orders: usize, faults: &[FaultyLine]) -> io::
         print_line(rt, faulty)?;
     }
     Ok(())
+}
+
+/// Does the work on the campaign of the file that the option `db` names, and prints the answer.
+pub fn print_answer_of<W: Work<Done = Answer>>(
+    rt: &HostRuntime,
+    options: &ArgMatches<'_>,
+    work: &W,
+) -> Result<(), Failure> {
+    let path = options::text_of(options, options::DB)?;
+    let answer = work_on(rt, path, Opening::Kept, work)?;
+    print_answer(rt, &answer)
 }
 
 /// Prints the answer to a command. A refusal or a fault is a failure, and nothing is printed of it here.

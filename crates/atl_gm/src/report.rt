@@ -1,8 +1,7 @@
 //! The subcommand `report`: prints a faction's stored report.
-use crate::database::{Opening, work_on};
 use crate::failure::Failure;
 use crate::options;
-use crate::printing::print_answer;
+use crate::printing::print_answer_of;
 use crate::subcommand::Subcommand;
 use atl_tables::Sequence;
 use clap::{Arg, ArgMatches};
@@ -28,16 +27,14 @@ impl Subcommand for Report {
 
     fn options<'a>(alloc: Global) -> Result<Vec<Arg<'a>>, AllocError> {
         Ok(vec![in alloc;
-            options::file(alloc, options::DB, options::DB_HELP),
-            options::number(alloc, options::FACTION, options::FACTION_HELP),
-            options::text(alloc, options::PASS, options::FACTION_PASS_HELP),
+            options::db(alloc),
+            options::faction(alloc),
+            options::faction_pass(alloc),
         ]?)
     }
 
     fn run(rt: &HostRuntime, options: &ArgMatches<'_>) -> Result<(), Failure> {
-        let path = options::text_of(options, options::DB)?;
         let request = request(rt, options)?;
-        let answer = work_on(rt, path, Opening::Kept, &request)?;
-        print_answer(rt, &answer)
+        print_answer_of(rt, options, &request)
     }
 }

@@ -58,14 +58,14 @@ impl Subcommand for Serve {
 
     fn options<'a>(alloc: Global) -> Result<Vec<Arg<'a>>, AllocError> {
         Ok(vec![in alloc;
-            options::file(alloc, options::DB, options::DB_HELP),
+            options::db(alloc),
             options::port(alloc, options::PORT, "The port at 127.0.0.1 that is served"),
             options::number(
                 alloc,
                 options::COUNT,
                 "How many connections are served before it ends"
             ),
-            options::long_number(alloc, options::SEED, options::SEED_HELP),
+            options::seed(alloc),
         ]?)
     }
 

@@ -10,7 +10,10 @@ pub trait Subcommand {
     /// What the help says of it.
     const ABOUT: &'static str;
 
-    fn options<'a>(alloc: Global) -> Result<Vec<Arg<'a>>, AllocError>;
+    /// Its options, none where nothing else is said.
+    fn options<'a>(alloc: Global) -> Result<Vec<Arg<'a>>, AllocError> {
+        Ok(Vec::new(alloc))
+    }
 
     fn run(rt: &HostRuntime, options: &ArgMatches<'_>) -> Result<(), Failure>;
 }

@@ -6,7 +6,7 @@ use crate::printing::print_answer;
 use crate::subcommand::Subcommand;
 use atl_service::{Answer, Refused, Service, found};
 use atl_tables::Sequence;
-use clap::{Arg, ArgMatches};
+use clap::ArgMatches;
 use sqlite::{Connection, MemStore};
 use std::alloc::{AllocError, Global};
 
@@ -68,10 +68,6 @@ impl Subcommand for Trial {
 
     const ABOUT: &'static str =
         "Founds a campaign in memory by the world text on standard input, and prints a first report";
-
-    fn options<'a>(alloc: Global) -> Result<Vec<Arg<'a>>, AllocError> {
-        Ok(Vec::new(alloc))
-    }
 
     fn run(rt: &HostRuntime, _options: &ArgMatches<'_>) -> Result<(), Failure> {
         let alloc = rt.alloc();

@@ -36,7 +36,7 @@ impl Subcommand for Upgrade {
 
     fn options<'a>(alloc: Global) -> Result<Vec<Arg<'a>>, AllocError> {
         Ok(vec![in alloc;
-            options::file(alloc, options::DB, options::DB_HELP),
+            options::db(alloc),
             options::file(
                 alloc,
                 options::WORLD,

@@ -3,7 +3,7 @@ ghost use Rattle.atl_http.specs.Listening.{Attends, ServesEach};
 
 use crate::dice::Dice;
 use crate::io::HttpFault;
-use crate::patience::{Patience, ReadEnd, WriteEnd};
+use crate::patience::{Patience, Peer};
 use crate::serving::serve_one;
 use atl_service::Service;
 use sqlite::Alter;
@@ -34,8 +34,8 @@ fn serve_stream<C: Clock, S: Alter>(
 {
     let patience = Patience::new(clock);
     let patience = &patience;
-    let mut reader = ReadEnd { stream, patience };
-    let mut writer = WriteEnd { stream, patience };
+    let mut reader = Peer { stream, patience };
+    let mut writer = Peer { stream, patience };
     match serve_one(alloc, &mut reader, &mut writer, service, dice) {
         Ok(_) => Ok(()),
         Err(HttpFault::Memory) => Err(ListenFault::Memory),

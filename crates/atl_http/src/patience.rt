@@ -1,4 +1,4 @@
-//! The two ends of a connection, each with a time limit for its peer.
+//! The peer of a connection, with a time limit for each call and for all of them.
 use std::cell::Cell;
 use std::io;
 use std::io::{ErrorKind, Read, Write};
@@ -50,23 +50,23 @@ impl<'a, C: Clock> Patience<'a, C> {
     }
 }
 
-/// The end that reads what the peer sends. Where the system refuses to set a time-out, the call has none, since the peer has done
-/// nothing wrong.
-pub struct ReadEnd<'a, C: Clock> {
+/// The peer of a connection: what it sends is read, and what it takes is written. Where the system refuses to set a time-out, the
+/// call has none, since the peer has done nothing wrong.
+pub struct Peer<'a, C: Clock> {
     pub stream: &'a TcpStream,
     pub patience: &'a Patience<'a, C>,
 }
 
-impl<'a, C: Clock> Drop for ReadEnd<'a, C> {
+impl<'a, C: Clock> Drop for Peer<'a, C> {
     fn drop(self) {
-        let ReadEnd {
+        let Peer {
             stream: _,
             patience: _,
         } = self;
     }
 }
 
-impl<'a, C: Clock> Read for ReadEnd<'a, C> {
+impl<'a, C: Clock> Read for Peer<'a, C> {
     fn read(&mut self, buf: &mut [u8]) -> io::Result<usize> {
         let (wait, begun) = self.patience.begin()?;
         let _ = self.stream.set_read_timeout(Some(wait));
@@ -77,22 +77,7 @@ impl<'a, C: Clock> Read for ReadEnd<'a, C> {
     }
 }
 
-/// The end that writes what the peer takes. Its calls have time-outs in the same way.
-pub struct WriteEnd<'a, C: Clock> {
-    pub stream: &'a TcpStream,
-    pub patience: &'a Patience<'a, C>,
-}
-
-impl<'a, C: Clock> Drop for WriteEnd<'a, C> {
-    fn drop(self) {
-        let WriteEnd {
-            stream: _,
-            patience: _,
-        } = self;
-    }
-}
-
-impl<'a, C: Clock> Write for WriteEnd<'a, C> {
+impl<'a, C: Clock> Write for Peer<'a, C> {
     fn write(&mut self, buf: &[u8]) -> io::Result<usize> {
         let (wait, begun) = self.patience.begin()?;
         let _ = self.stream.set_write_timeout(Some(wait));

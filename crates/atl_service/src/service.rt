@@ -55,8 +55,23 @@ impl<S: Alter> Service<S> {
     ghost use Rattle.atl_state.specs.Good.{IsGood};
     ghost use Rattle.atl_state.specs.Marks.{no_marks};
     ghost use Rattle.atl_store.specs.Keeps.{HoldsCampaign, IsLater, SparesOthers};
-    ghost use Rattle.atl_service.specs.Service.{text_in};
+    ghost use Rattle.std.specs.Prelude.{Some, true};
+    ghost use Rattle.atl_service.specs.Service.{IsService, text_in};
     ghost use Rattle.atl_service.specs.Runs.{Runs, RunsAll, HeadlineAt};
+
+    /// The service of a campaign that its connection holds, while it is open.
+    fn opened(alloc: Global, conn: Connection<S>, world: World, campaign: Campaign) -> Service<S>
+        requires { IsService S.Store conn world campaign true }
+        ensures { result ≡ record { conn = conn; world = world; campaign = Some campaign.value } }
+    {
+        Service {
+            alloc,
+            conn,
+            world,
+            campaign,
+            is_open: true,
+        }
+    }
 
     /// Runs one command. A command that is refused, or answered with a report, changes nothing. Fault Store comes only where
     /// a call of the write gave another error than running out of memory; Fault Memory where one gave that, or before the
@@ -187,13 +202,7 @@ pub fn found<S: Alter>(
         Err(why) => return Err(Refused { why, conn }),
     };
     match create(&mut conn, world_text, &mut campaign) {
-        Ok(()) => Ok(Service {
-            alloc,
-            conn,
-            world,
-            campaign,
-            is_open: true,
-        }),
+        Ok(()) => Ok(Service::opened(alloc, conn, world, campaign)),
         Err(fault) => Err(Refused {
             why: Cause::from(fault),
             conn,
@@ -219,13 +228,7 @@ pub fn open<S: Alter>(alloc: Global, mut conn: Connection<S>) -> Result<Service<
         });
     }
     match load(alloc, &mut conn) {
-        Ok((world, campaign)) => Ok(Service {
-            alloc,
-            conn,
-            world,
-            campaign,
-            is_open: true,
-        }),
+        Ok((world, campaign)) => Ok(Service::opened(alloc, conn, world, campaign)),
         Err(fault) => Err(Refused {
             why: Cause::from(fault),
             conn,
@@ -251,13 +254,7 @@ pub fn upgrade<S: Alter>(
     ensures err { IfErr result (λ r. RefusesUpgrade S.Store conn new_world.now r.why r.conn) }
 {
     match atl_store::upgrade(alloc, &mut conn, new_world) {
-        Ok((world, campaign)) => Ok(Service {
-            alloc,
-            conn,
-            world,
-            campaign,
-            is_open: true,
-        }),
+        Ok((world, campaign)) => Ok(Service::opened(alloc, conn, world, campaign)),
         Err(fault) => Err(Refused {
             why: Cause::from(fault),
             conn,

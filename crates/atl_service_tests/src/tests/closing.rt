@@ -1,7 +1,7 @@
 //! Closing months, and when that is refused.
 use super::commands::AVALON;
 use super::mailings::FAULTY;
-use super::script::{Asked, Step, plays};
+use super::script::{Asked, Course, Step, plays, plays_course};
 use super::tables::{
     BOOKED, FACTIONS, INCOME, MAIL_BYTES, MAILINGS, MONEY, MONTH, NEXT, REGION_MONEY, REPORT_BYTES,
     UNITS, UPKEEP, WAGES,
@@ -58,29 +58,41 @@ people joining 1
 people total 1001
 ";
 
-static CLOSED_ONCE: [Step; 4] = [
-    Step::Told(AVALON, "joined"),
-    Step::Closed(MONTH_ONE, 1),
-    Step::Told(Asked::Report(1, "pw"), AFTER_WORK),
-    Step::Books(BOOKS_AFTER_WORK),
+/// First months, without mail and with a faulty mailing.
+static FIRST_MONTHS: [Course; 2] = [
+    Course {
+        world: SMALL,
+        rows: "",
+        steps: &[
+            Step::Told(AVALON, "joined"),
+            Step::Closed(MONTH_ONE, 1),
+            Step::Told(Asked::Report(1, "pw"), AFTER_WORK),
+            Step::Books(BOOKS_AFTER_WORK),
+        ],
+        after: &AFTER_MONTH_ONE,
+    },
+    Course {
+        world: SMALL,
+        rows: "",
+        steps: &[
+            Step::Told(AVALON, "joined"),
+            Step::Mailed(Asked::Mail(1, "pw", FAULTY), 1, &[(5, 2)]),
+            Step::Closed(MONTH_ONE, 1),
+            Step::Keeps(None),
+            Step::Told(Asked::Report(1, "pw"), AFTER_FAULTY),
+        ],
+        after: &AFTER_MONTH_ONE,
+    },
 ];
 
 #[test]
 fn a_month_is_closed(rt: HostRuntime) -> Result<(), Fail> {
-    plays(&rt, rt.alloc(), SMALL, &CLOSED_ONCE, &AFTER_MONTH_ONE)
+    plays_course(&rt, rt.alloc(), &FIRST_MONTHS[0])
 }
-
-static ONE_FAULTY: [Step; 5] = [
-    Step::Told(AVALON, "joined"),
-    Step::Mailed(Asked::Mail(1, "pw", FAULTY), 1, &[(5, 2)]),
-    Step::Closed(MONTH_ONE, 1),
-    Step::Keeps(None),
-    Step::Told(Asked::Report(1, "pw"), AFTER_FAULTY),
-];
 
 #[test]
 fn a_faulty_line_is_told_and_the_mail_is_gone(rt: HostRuntime) -> Result<(), Fail> {
-    plays(&rt, rt.alloc(), SMALL, &ONE_FAULTY, &AFTER_MONTH_ONE)
+    plays_course(&rt, rt.alloc(), &FIRST_MONTHS[1])
 }
 
 static REFUSED: [Step; 7] = [

@@ -173,6 +173,6 @@ fn are_run(rt: &impl Abort, alloc: Global) -> Result<(), Fail> {
 
 #[test]
 fn a_list_is_run_as_one_by_one(rt: HostRuntime) -> Result<(), Fail> {
-    plays(&rt, rt.alloc(), SMALL, &CLUB, &AFTER_CLUB)?;
+    plays(&rt, rt.alloc(), SMALL, LISTS[0].steps, LISTS[0].after)?;
     are_run(&rt, rt.alloc())
 }

@@ -1,7 +1,7 @@
 //! The campaigns that are played while a disk stops: two months with one unit, and a month of two factions' units.
 use super::closing::MONTH_ONE;
 use super::commands::AVALON;
-use super::script::{Asked, Course, Step, plays, plays_course};
+use super::script::{Asked, Course, Step, plays_course};
 use super::tables::{
     BOOKED, DAYS, DONE, FACTIONS, GOODS, MAILINGS, MONEY, MONTH, NEXT, REGION_MONEY, STARVED, UNITS,
 };
@@ -49,7 +49,7 @@ const AFTER_BOTH: [(&str, Option<i64>); 8] = [
 
 #[test]
 fn both_months_are_closed(rt: HostRuntime) -> Result<(), Fail> {
-    plays(&rt, rt.alloc(), SMALL, &TWO_MONTHS, &AFTER_BOTH)
+    plays_course(&rt, rt.alloc(), &COURSES[0])
 }
 
 const CORK: Asked = Asked::Join("Cork", "pc", 0);

@@ -8,16 +8,16 @@ use Rattle.atl_service.proofs.service.found.Goals as goal
 pub returns-in-Err-clause-err : goal.returns-in-Err-clause-err
 returns-in-Err-clause-err g c = spared g.S.Store c.args.conn c.args.world_text.now c.args.pass.now c.in-Err.why c.in-Err.ensures.err
 
-pub invariant_of-result : goal.invariant_of-result
-invariant_of-result g c = record {
+pub opened-requires : goal.opened-requires
+opened-requires g c = record {
   stands = subst (λ (s : CampaignValue). Stands g.S.Store c.create.new.conn c.in-Ok.both.0 s true) (sym (ap (λ (m : MarkedCampaign). m.value) c.in-Ok-create.ensures.unmarked)) (founded_stands g.S.Store c.create.new.conn c.in-Ok.both.0 c.in-Ok.both.1.value c.args.world_text.now c.in-Ok-create.ensures.ok.idle c.in-Ok.ensures.good c.in-Ok.ensures.ok.world c.in-Ok-create.ensures.ok.tables);
   unmarked = λ up. ap (λ (m : MarkedCampaign). m.marks) c.in-Ok-create.ensures.unmarked;
 }
 
 pub returns-in-Ok-create-clause-ok : goal.returns-in-Ok-create-clause-ok
 returns-in-Ok-create-clause-ok g c =
-    subst (λ (s : CampaignValue). Founds g.S.Store c.args.conn c.args.world_text.now c.args.pass.now (record { conn = c.create.new.conn; world = c.in-Ok.both.0; campaign = Some s })) (sym (ap (λ (m : MarkedCampaign). m.value) c.in-Ok-create.ensures.unmarked))
-    (founds_on g.S.Store c.args.conn c.create.new.conn c.in-Ok.both.0 c.in-Ok.both.1.value c.args.world_text.now c.args.pass.now c.in-Ok.ensures.ok c.in-Ok-create.ensures.ok c.create.ensures.later)
+    rw c.opened.ensures (subst (λ (s : CampaignValue). Founds g.S.Store c.args.conn c.args.world_text.now c.args.pass.now (record { conn = c.create.new.conn; world = c.in-Ok.both.0; campaign = Some s })) (sym (ap (λ (m : MarkedCampaign). m.value) c.in-Ok-create.ensures.unmarked))
+    (founds_on g.S.Store c.args.conn c.create.new.conn c.in-Ok.both.0 c.in-Ok.both.1.value c.args.world_text.now c.args.pass.now c.in-Ok.ensures.ok c.in-Ok-create.ensures.ok c.create.ensures.later))
 
 pub returns-in-Err-create-clause-err : goal.returns-in-Err-create-clause-err
 returns-in-Err-create-clause-err g c =
