@@ -1,4 +1,4 @@
--- What answering one command does while the service is open. `before` and `old` are the campaign and the connection before it, `after` and `new` those behind it.
+-- What answering one command does while the service is open. `before` and `old` are the campaign and the connection before it, `after` and `new` those after it.
 use Rattle.std.specs.Prelude.{◌≡◌, ℕ, List, false, ⊤}
 use Rattle.sqlite_trees.specs.declared.store.Store.{Ghosts}
 use Rattle.sqlite.specs.Held.{Held, state}
@@ -26,7 +26,7 @@ abbrev pub IsSound : Answer → Type 0
 IsSound (Fault _) = ⊥
 IsSound _ = ⊤
 
--- what a command that was refused, or that asks for a report, leaves as it is
+-- P, if the answer is a refusal or a report
 abbrev pub IfIdle : Answer → Type 0 → Type 0
 IfIdle (Joined _ _) P = ⊤
 IfIdle (Mailed _ _) P = ⊤

@@ -39,7 +39,7 @@ pub record GivesError {S : Type 0} (g : Ghosts S) (own : Statements) (memory : B
   pub memory_is : is_memory error ≡ memory
   pub given : Gives g own error old new
 
--- The database wasn't asked to write, or a call of the writing gave lack of memory.
+-- The connection is as it was, or a call of the writing reported that memory ran out.
 abbrev pub LacksMemory : {S : Type 0} → Ghosts S → Statements → Held S → Held S → Type 0
 LacksMemory g own old new = (new ≡ old) ⊎ (HasCleanDisk (state g new) → GivesError g own true old new)
 
@@ -47,7 +47,7 @@ LacksMemory g own old new = (new ≡ old) ⊎ (HasCleanDisk (state g new) → Gi
 abbrev pub FailsToWrite : {S : Type 0} → Ghosts S → Statements → Held S → Held S → Type 0
 FailsToWrite g own old new = HasCleanDisk (state g new) → GivesError g own false old new
 
--- the connection as a command found it and as it left it, where this fault is told
+-- Why a command ended in this fault, by the connection before and after it. Closed has no cause here, since no command ran.
 abbrev pub HasCause : {S : Type 0} → Ghosts S → Statements → Held S → Held S → Fault → Type 0
 HasCause g own old new Memory = LacksMemory g own old new
 HasCause g own old new Store = FailsToWrite g own old new

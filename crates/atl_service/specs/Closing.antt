@@ -50,6 +50,6 @@ reported_to w faults events c faction = reported_with w c faction (faults factio
 abbrev pub told_after : WorldValue → CampaignValue → CampaignValue × List Event → CampaignValue
 told_after w before (after, events) = fold (reported_to w (λ n. faults_in w (get before.mail n)) events) (after_month after) (active before)
 
--- the campaign behind a month
+-- the campaign after a month
 unfoldable pub closed : WorldValue → CampaignValue → List ℕ → CampaignValue
 closed w c words = told_after w c (month_of w c (by_faction (readings w c)) words)

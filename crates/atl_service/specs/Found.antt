@@ -20,7 +20,7 @@ use Rattle.atl_store.specs.OwnStatements.{Statements}
 use Rattle.atl_service.specs.Causes.{FoundsBy, FailsToWrite, LacksMemory}
 use Rattle.atl_service.specs.Service.{ServiceValue, text_in}
 
--- where no table campaign was there, the service is open, with the world of the text and the founded campaign, and its tables hold the rows of both
+-- There was no table `campaign`. Now the service is open, with the world of the text and the founded campaign, and its tables hold the rows of both.
 pub record Founds {S : Type 0} (g : Ghosts S) (old : Held S) (text pass : List ℕ) (made : ServiceValue S) : Type 0 where
   pub fresh : has_campaign old.schema ≡ false
   pub world : world_of text ≡ Ok made.world
@@ -57,7 +57,7 @@ pub record FailsToFound {S : Type 0} (g : Ghosts S) (old : Held S) (text pass : 
 abbrev pub RefusesToWrite : {S : Type 0} → Ghosts S → Statements → Held S → Held S → Type 0
 RefusesToWrite g own old new = ((¬ IsReady (state g old)) × (new ≡ old)) ⊎ (IsReady (state g old) × FailsToWrite g own old new)
 
--- a founding that a check refuses changes nothing at all
+-- After a check that fails nothing is changed. What Store and Memory leave is in `FailsToFound`.
 abbrev pub Leaves : {S : Type 0} → Ghosts S → Held S → List ℕ → List ℕ → Held S → Cause → Type 0
 Leaves g old text pass new (BadWorld fault) = new ≡ old
 Leaves g old text pass new BadPassText = new ≡ old

@@ -25,7 +25,7 @@ AreMailed w c (Mail faction pass text ∷ more) = IsMailed (step w c (Mail facti
 AreMailed w c (Close _ _ _ ∷ more) = ⊥
 AreMailed w c (Report _ _ ∷ more) = ⊥
 
--- the text of a faction's last mailing among these commands; another one where there is none
+-- the text of a faction's last mailing among these commands, or `other` where there is none
 abbrev pub last_text : ℕ → Option (List ℕ) → List Command → Option (List ℕ)
 last_text n other [] = other
 last_text n other (Join _ _ _ ∷ more) = last_text n other more
@@ -33,7 +33,7 @@ last_text n other (Mail faction _ text ∷ more) = last_text n (if faction == n 
 last_text n other (Close _ _ _ ∷ more) = last_text n other more
 last_text n other (Report _ _ ∷ more) = last_text n other more
 
--- Two lists of mailings that are all taken, with the same last text of each faction: the same closing behind either gives one campaign and one answer.
+-- Two lists of mailings that are all taken, with the same last text of each faction: the same closing after either gives one campaign and one answer.
 abbrev pub OnlyTheLastMailCounts : Type 0
 OnlyTheLastMailCounts =
     (w : WorldValue) (c : CampaignValue) (sent others : List Command) (month : ℕ) (pass words : List ℕ)

@@ -27,7 +27,7 @@ pub record Accepts {S : Type 0} (g : Ghosts S) (c : CampaignValue) (old : Servic
 abbrev pub Refuses : {S : Type 0} → CampaignValue → ServiceValue S → Command → Answer → ServiceValue S → Type 0
 Refuses c old command answer new = (step old.world c command ≡ (c, answer)) × (new ≡ old)
 
--- the service is closed, and the tables stop at the campaign before
+-- The service is closed. While the connection is open the tables hold the campaign before; a crash leaves that one or the step's (`Stops`).
 pub record Closes {S : Type 0} (g : Ghosts S) (c : CampaignValue) (old : ServiceValue S) (command : Command) (new : ServiceValue S) : Type 0 where
   pub same : new ≡ record old { conn = new.conn; campaign = None }
   pub tables : HasCleanDisk (state g new.conn) → Stops (state g old.conn).faults (state g new.conn) (text_in g old.conn) c (step old.world c command).0
@@ -43,6 +43,7 @@ RunsOpen g c old command (Fault Memory) new = Closes g c old command new × HasC
 RunsOpen g c old command (Fault Store) new = Closes g c old command new × HasCause g (OfCommand old.world c command) old.conn new.conn Store
 RunsOpen g c old command (Fault Closed) new = ⊥
 
+-- the same of a service that may be closed: then the answer is Closed, and nothing changes
 abbrev pub RunsAt : {S : Type 0} → Ghosts S → ServiceValue S → Command → Answer → ServiceValue S → Option CampaignValue → Type 0
 RunsAt g old command answer new (Some c) = RunsOpen g c old command answer new
 RunsAt g old command answer new None = (answer ≡ Fault Closed) × (new ≡ old)
@@ -60,8 +61,8 @@ AreClosed (c ∷ cs) (a ∷ rs) = (a ≡ Fault Closed) × AreClosed cs rs
 AreClosed [] (a ∷ rs) = ⊥
 AreClosed (c ∷ cs) [] = ⊥
 
--- The answers from a campaign on are those of the definition, as far as the first fault, and Closed behind it. Without a fault the tables end with the rows of the last campaign.
--- With one they stop at the campaign of the commands before it, and the fault has its cause. `faults` counts what the disk had failed before.
+-- The answers from a campaign on are those of the definition up to the first fault, and Closed after it. Without a fault the tables end with the rows of the last campaign.
+-- With one they stay at the campaign of the commands before it (`Stops`), and the fault has its cause. `faults` is how often the disk had failed before.
 abbrev pub Follows : {S : Type 0} → Ghosts S → List ℕ → ℕ → WorldValue → CampaignValue → List Command → List Answer → ServiceValue S → Type 0
 Follows g text faults w c [] [] new = (new.campaign ≡ Some c) × HoldsCampaign g new.conn text c
 Follows g text faults w c (command ∷ cs) (Joined faction unit ∷ rs) new = ((step w c command).1 ≡ Joined faction unit) × Follows g text faults w (step w c command).0 cs rs new
@@ -74,6 +75,7 @@ Follows g text faults w c (command ∷ cs) (Fault fault ∷ rs) new =
 Follows g text faults w c [] (a ∷ rs) new = ⊥
 Follows g text faults w c (command ∷ cs) [] new = ⊥
 
+-- the same of a service that may be closed: then every answer is Closed, and nothing changes
 abbrev pub FollowsAt : {S : Type 0} → Ghosts S → ServiceValue S → List Command → List Answer → ServiceValue S → Option CampaignValue → Type 0
 FollowsAt g old commands answers new (Some c) = Follows g (text_in g old.conn) (state g old.conn).faults old.world c commands answers new × (new.world ≡ old.world)
 FollowsAt g old commands answers new None = AreClosed commands answers × (new ≡ old)
@@ -83,13 +85,13 @@ pub record RunsAll {S : Type 0} (g : Ghosts S) (old : ServiceValue S) (commands 
   pub follows : FollowsAt g old commands answers new old.campaign
   pub later : IsLater (state g old.conn) (state g new.conn)
 
--- The headline: the answers are the definition's, the campaign is the definition's, and the tables hold exactly its rows.
+-- The headline: the answers are the definition's, the campaign is the definition's, and if the disk has been clean so far, the tables hold exactly its rows.
 pub record Headline {S : Type 0} (g : Ghosts S) (text : List ℕ) (w : WorldValue) (c : CampaignValue) (commands : List Command) (answers : List Answer) (new : ServiceValue S) : Type 0 where
   pub answers_are : answers ≡ (run_of w c commands).1
   pub campaign_is : new.campaign ≡ Some (run_of w c commands).0
   pub tables : HoldsCampaign g new.conn text (run_of w c commands).0
 
--- A fault came at a command, and has its cause: the answers before it are the definition's, the tables stop at the campaign of the commands before it, and all later answers are Closed.
+-- A fault came at a command, and has its cause: the answers before it are the definition's, the tables stay at the campaign of the commands before it (`Stops`), and all later answers are Closed.
 pub record Interrupted {S : Type 0} (g : Ghosts S) (text : List ℕ) (faults : ℕ) (w : WorldValue) (c : CampaignValue) (commands : List Command) (answers : List Answer) (new : ServiceValue S) : Type 0 where
   pub count : ℕ
   pub command : Command
@@ -102,6 +104,7 @@ pub record Interrupted {S : Type 0} (g : Ghosts S) (text : List ℕ) (faults : �
   pub cause : IsFault g text w (run_of w c (take count commands)).0 command fault new.conn
   pub tables : HasCleanDisk (state g new.conn) → Stops faults (state g new.conn) text (run_of w c (take count commands)).0 (run_of w c (take (count + 1) commands)).0
 
+-- From an open service `Headline` holds, or a fault came (`Interrupted`). From a closed one every answer is Closed, and nothing changes.
 abbrev pub HeadlineAt : {S : Type 0} → Ghosts S → ServiceValue S → List Command → List Answer → ServiceValue S → Option CampaignValue → Type 0
 HeadlineAt g old commands answers new (Some c) =
     Headline g (text_in g old.conn) old.world c commands answers new ⊎ Interrupted g (text_in g old.conn) (state g old.conn).faults old.world c commands answers new

@@ -33,12 +33,12 @@ joined_with w c (Err NameTaken) = (c, Refused why.NameTaken)
 joined_with w c (Err Full) = (c, Refused why.Full)
 joined_with w c (Err Memory) = (c, Fault faults.Memory)
 
--- the faction of a number, that gives its pass text
+-- The faction that was found under a number, if the pass text is its own; else NoFaction or WrongPass.
 abbrev pub faction_with_pass : List ℕ → Option Faction → Result Faction Refusal
 faction_with_pass pass None = Err why.NoFaction
 faction_with_pass pass (Some f) = if not (pointwise nat_eq f.pass pass) then Err why.WrongPass else Ok f
 
--- a mailing that is kept in the place of an older one, with the number of its orders and its faulty lines; only that of another faction is refused
+-- A mailing that was read is kept in place of an older one, and the answer has the number of its orders and its faulty lines. One that can't be read is refused, and one that names another faction. A faulty line is no reason to refuse.
 abbrev pub mailed : CampaignValue → ℕ → List ℕ → Result Reading MailFault → CampaignValue × Answer
 mailed c faction text (Ok r) =
     if not (r.faction == faction) then (c, Refused why.WrongFaction)
@@ -60,7 +60,7 @@ abbrev pub told_of : CampaignValue → ℕ → Result Faction Refusal → Campai
 told_of c faction (Err refusal) = (c, Refused refusal)
 told_of c faction (Ok f) = (c, Text (unwrap_or (get c.reports faction) []))
 
--- the month after the one last closed, with a word of the dice for each region
+-- The month after the one last closed is closed, with a word of the dice for each region; else the first refusal.
 abbrev pub closed_by : WorldValue → CampaignValue → ℕ → List ℕ → List ℕ → CampaignValue × Answer
 closed_by w c month pass words =
     if not (pointwise nat_eq c.pass pass) then (c, Refused why.WrongPass)

@@ -30,7 +30,7 @@ of_upgrading upgrade.Differs = Differs
 of_upgrading upgrade.Store = Store
 of_upgrading upgrade.Memory = Memory
 
--- The upgrade is refused for what the store refuses, and the tables are as they were.
+-- The upgrade is refused for what the store refuses. While the connection is open the tables are as before; a crash leaves them so, or upgraded.
 pub record RefusesUpgrade {S : Type 0} (g : Ghosts S) (old : Held S) (text : List ℕ) (why : Cause) (new : Held S) : Type 0 where
   pub fault : UpgradeFault
   pub why_is : why ≡ of_upgrading fault
