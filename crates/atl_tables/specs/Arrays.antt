@@ -1,29 +1,32 @@
--- How an array of tables is read, element by element.
+-- Arrays of tables of the world file: the conditions on their elements, and the list of values that they give.
 use Rattle.std.specs.Prelude.{ℕ, ◌+◌, List, [], ◌∷◌, ◌++◌, Result}
 use Rattle.toml.specs.Data.{Data, Items, no_items, item, Members, no_members, as_table}
 use Rattle.atl_tables.specs.Faults.{Conditions, fault_of, value_or}
 use Rattle.atl_tables.specs.Keys.{typed, element_path}
 use Rattle.atl_tables.specs.declared.fault.WorldFault.{WorldFault}
 
--- the table of an element, or an empty one
+-- the table that an element of an array is, or the empty table if it is no table
 abbrev pub element_table : List ℕ → Data → Members
 element_table at d = value_or no_members (typed at (as_table d))
 
+-- the conditions on one element: it is a table (else WrongType), and its keys keep theirs
 abbrev pub element_conditions : (List ℕ → Members → Conditions) → List ℕ → Data → Conditions
 element_conditions conditions at d = fault_of (typed at (as_table d)) ∷ conditions at (element_table at d)
 
--- the conditions on all elements from the i-th on, and what these elements are
+-- the conditions on all elements of an array, of which the first has the index i
 abbrev pub elements_conditions : (List ℕ → Members → Conditions) → List ℕ → ℕ → Items → Conditions
 elements_conditions conditions key i no_items = []
 elements_conditions conditions key i (item d ds) = element_conditions conditions (element_path key i) d ++ elements_conditions conditions key (i + 1) ds
 
+-- the value of each element of an array, of which the first has the index i
 abbrev pub elements_of : {A : Type 0} → (List ℕ → Members → A) → List ℕ → ℕ → Items → List A
 elements_of record_of key i no_items = []
 elements_of record_of key i (item d ds) = record_of (element_path key i) (element_table (element_path key i) d) ∷ elements_of record_of key (i + 1) ds
 
--- an array, by what stands under its key
+-- the conditions on an array, given the result of reading its key: that result has no fault, and no element has one
 unfoldable pub list_conditions : (List ℕ → Members → Conditions) → List ℕ → Result Items WorldFault → Conditions
 list_conditions conditions key items = fault_of items ∷ elements_conditions conditions key 0 (value_or no_items items)
 
+-- the list of the values of an array's elements, empty if reading its key gave a fault
 unfoldable pub list_of : {A : Type 0} → (List ℕ → Members → A) → List ℕ → Result Items WorldFault → List A
 list_of record_of key items = elements_of record_of key 0 (value_or no_items items)

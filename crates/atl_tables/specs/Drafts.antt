@@ -1,4 +1,4 @@
--- For the proofs alone: what is true of the tables of a world file that were read, before names are looked up.
+-- For proofs alone: the bounds of a world file's tables once read, with items, skills and terrains still by name.
 use Rattle.std.specs.Prelude.{◌≡◌, ◌≤◌, true, length, map}
 use Rattle.std.specs.List.{All}
 use Rattle.atl_tables.specs.Limits.{most_terrains, most_items, most_skills, most_kinds, most_regions, last_region, most_amount, most_per_head, most_price, most_fraction, most_growth, most_weight, last_level, most_raw_count, most_size}
@@ -24,6 +24,7 @@ use Rattle.atl_tables.specs.declared.terrain_table.Economy.{Economy}
 use Rattle.atl_tables.specs.declared.terrain_table.TerrainDraft.{TerrainDraft}
 use Rattle.atl_tables.specs.declared.world.Skill.{Skill}
 
+-- each price of the table `[rules]` is in its range
 pub record ArePrices (p : Prices) : Type 0 where
   pub maintenance_least : 1 ≤ p.maintenance
   pub maintenance : p.maintenance ≤ most_per_head
@@ -31,25 +32,30 @@ pub record ArePrices (p : Prices) : Type 0 where
   pub recruit_price_least : 1 ≤ p.recruit_price
   pub recruit_price : p.recruit_price ≤ most_price
 
+-- each key on peasants of the table `[rules]` is in its range
 pub record ArePeasantRules (p : PeasantRules) : Type 0 where
   pub recruit_fraction_least : 1 ≤ p.recruit_fraction
   pub recruit_fraction : p.recruit_fraction ≤ most_fraction
   pub growth : p.growth ≤ most_growth
   pub income : p.income ≤ most_per_head
 
+-- each key on men of the table `[rules]` is in its range
 pub record AreMenRules (m : MenRules) : Type 0 where
   pub start_money : m.start_money ≤ most_amount
   pub man_weight : m.man_weight ≤ most_weight
   pub man_carry : m.man_carry ≤ most_weight
 
+-- the whole table `[rules]` has its numbers in their ranges
 pub record AreRulesDraft (r : RulesDraft) : Type 0 where
   pub prices : ArePrices r.prices
   pub peasants : ArePeasantRules r.peasants
   pub men : AreMenRules r.men
 
+-- the amount of one item in a terrain's output is in its range
 pub record IsOutput (o : Output) : Type 0 where
   pub amount : o.amount ≤ most_amount
 
+-- the wage, places and limits of a terrain are in their ranges
 pub record IsEconomy (e : Economy) : Type 0 where
   pub wage_least : 1 ≤ e.wage
   pub wage : e.wage ≤ most_price
@@ -57,38 +63,45 @@ pub record IsEconomy (e : Economy) : Type 0 where
   pub money_limit : e.money_limit ≤ most_amount
   pub peasant_limit : e.peasant_limit ≤ most_amount
 
+-- a table `[[terrain]]` has a name that keeps the rule of names, and numbers in their ranges
 pub record IsTerrainDraft (d : TerrainDraft) : Type 0 where
   pub name : name_ok d.name ≡ true
   pub economy : IsEconomy d.economy
   pub output : All IsOutput d.output
 
+-- the level and the count of raw items that an item takes are in their ranges
 pub record IsRecipe (m : Recipe) : Type 0 where
   pub level_least : 1 ≤ m.level
   pub level : m.level ≤ last_level
   pub raw_count_least : 1 ≤ m.raw_count
   pub raw_count : m.raw_count ≤ most_raw_count
 
+-- a table `[[item]]` has a name that keeps the rule of names, and numbers in their ranges
 pub record IsItemDraft (d : ItemDraft) : Type 0 where
   pub name : name_ok d.name ≡ true
   pub weight : d.weight ≤ most_weight
   pub carry : d.carry ≤ most_weight
   pub making : IsRecipe d.making
 
+-- the size and the level of a kind of structure are in their ranges
 pub record IsBuilding (b : Building) : Type 0 where
   pub size_least : 1 ≤ b.size
   pub size : b.size ≤ most_size
   pub level_least : 1 ≤ b.level
   pub level : b.level ≤ last_level
 
+-- the capacity and the crew of a kind of structure are in their ranges
 pub record IsPurpose (p : Purpose) : Type 0 where
   pub capacity : p.capacity ≤ most_amount
   pub crew : p.crew ≤ most_size
 
+-- a table `[[kind]]` has a name that keeps the rule of names, and numbers in their ranges
 pub record IsKindDraft (d : KindDraft) : Type 0 where
   pub name : name_ok d.name ≡ true
   pub building : IsBuilding d.building
   pub purpose : IsPurpose d.purpose
 
+-- a region's number, name, peasants and money are in their ranges
 pub record AreRegionBasics (p : RegionBasics) : Type 0 where
   pub number_least : 1 ≤ p.number
   pub number_most : p.number ≤ last_region
@@ -96,9 +109,11 @@ pub record AreRegionBasics (p : RegionBasics) : Type 0 where
   pub peasants : p.peasants ≤ most_amount
   pub money : p.money ≤ most_amount
 
+-- a table `[[region]]` of the first format keeps the bounds of its keys
 pub record IsOldRegion (r : OldRegion) : Type 0 where
   pub place : AreRegionBasics r.place
 
+-- a table `[[region.market]]` has its numbers in their ranges
 pub record IsMarketDraft (d : MarketDraft) : Type 0 where
   pub price_least : 1 ≤ d.price
   pub price : d.price ≤ most_price
@@ -107,10 +122,12 @@ pub record IsMarketDraft (d : MarketDraft) : Type 0 where
   pub limit : d.limit ≤ most_amount
   pub restock : d.restock ≤ most_amount
 
+-- a table `[[region]]` keeps the bounds of its keys, and so does each of its markets
 pub record IsRegionDraft (d : RegionDraft) : Type 0 where
   pub place : AreRegionBasics d.place
   pub markets : All IsMarketDraft d.markets
 
+-- the tables of items, skills and kinds keep their bounds, and there are not too many of each
 pub record AreThingDrafts (t : ThingDrafts) : Type 0 where
   pub items : All IsItemDraft t.items
   pub skills : All IsSkill t.skills
@@ -119,6 +136,7 @@ pub record AreThingDrafts (t : ThingDrafts) : Type 0 where
   pub few_skills : length t.skills ≤ most_skills
   pub few_kinds : length t.kinds ≤ most_kinds
 
+-- all tables of the file keep their bounds, and there are not too many of each
 pub record IsWorldDraft (t : WorldDraft) : Type 0 where
   pub rules : AreRulesDraft t.rules
   pub terrains : All IsTerrainDraft t.terrains
@@ -132,7 +150,7 @@ pub record IsWorldDraft (t : WorldDraft) : Type 0 where
   pub few_kinds : length t.kinds ≤ most_kinds
   pub few_regions : length t.regions ≤ most_regions
 
--- no two names of one sort are equal
+-- no two terrains, no two items, no two skills and no two kinds have the same name, ignoring ASCII case
 pub record HaveNames (t : WorldDraft) : Type 0 where
   pub terrains : NamesDiffer (map (λ (d : TerrainDraft). d.name) t.terrains)
   pub items : NamesDiffer (map (λ (d : ItemDraft). d.name) t.items)

@@ -3,7 +3,7 @@ use Rattle.std.specs.Prelude.{ℕ, List, codes, Option, Some, None}
 use Rattle.atl_tables.specs.declared.fault.WorldFault.{WorldFault}
 use Rattle.atl_tables.specs.declared.fault.WorldFault.TheVariants.{NotToml, Missing, WrongType, OutOfRange, TwoNames, UnknownName, BadNeighbour, NoLand, Memory}
 
--- each sort of fault by its number and its name; Memory is no fault of a text and has no number
+-- the number and the name of a fault; Memory has no number, since it is no fault of a text
 abbrev pub fault_kind : WorldFault → Option ℕ × List ℕ
 fault_kind NotToml = (Some 1, codes "NotToml")
 fault_kind (Missing p) = (Some 2, codes "Missing")
@@ -15,13 +15,15 @@ fault_kind (BadNeighbour p) = (Some 7, codes "BadNeighbour")
 fault_kind NoLand = (Some 8, codes "NoLand")
 fault_kind Memory = (None, codes "Memory")
 
+-- the number of a fault, from 1 to 8; Memory has none
 abbrev pub fault_number : WorldFault → Option ℕ
 fault_number fault = (fault_kind fault).0
 
+-- the name of a fault, as in `WrongType`
 abbrev pub fault_name : WorldFault → List ℕ
 fault_name fault = (fault_kind fault).1
 
--- the path of the key that a fault is about, where it is about one
+-- the path of the key that a fault is about; NotToml, NoLand and Memory have none
 abbrev pub fault_path : WorldFault → Option (List ℕ)
 fault_path (Missing p) = Some p
 fault_path (WrongType p) = Some p

@@ -1,33 +1,36 @@
--- Conditions on a document, in the order in which their faults count.
+-- Lists of conditions on a world file: the first condition that is broken is the fault of the file.
 use Rattle.std.specs.Prelude.{◌≡◌, List, [], ◌∷◌, Option, Some, None, Result, Ok, Err}
 use Rattle.atl_tables.specs.declared.fault.WorldFault.{WorldFault}
 use Rattle.atl_tables.specs.declared.fault.WorldFault.TheVariants.{Memory}
 
--- each condition by the fault that it has, if it is broken
+-- a list of conditions in the order in which their faults count, each as the fault if it is broken, or None if it
+-- holds
 abbrev pub Conditions : Type 0
 Conditions = List (Option WorldFault)
 
--- what stands at a place is the value, or it breaks a condition
+-- the fault of a result, None if it is a value
 abbrev pub fault_of : {A : Type 0} → Result A WorldFault → Option WorldFault
 fault_of (Ok x) = None
 fault_of (Err f) = Some f
 
+-- the value of a result, or the default d if it is a fault
 abbrev pub value_or : {A : Type 0} → A → Result A WorldFault → A
 value_or d (Ok x) = x
 value_or d (Err f) = d
 
--- the fault of the first condition that is broken
+-- the fault of the first condition that is broken, None if all hold
 abbrev pub first_fault : Conditions → Option WorldFault
 first_fault [] = None
 first_fault (None ∷ fs) = first_fault fs
 first_fault (Some f ∷ fs) = Some f
 
--- the value, unless there is a fault
+-- the value, or the fault if there is one
 abbrev pub unless : {A : Type 0} → Option WorldFault → A → Result A WorldFault
 unless None x = Ok x
 unless (Some f) x = Err f
 
--- A call that reads gives the value or its fault. Memory may run out wherever it is taken, and says nothing of the value.
+-- A call that reads returned exactly `read`, its value seen by `view`; or it returned Memory, which says nothing of
+-- `read`.
 abbrev pub Reads : {X Y : Type 0} → (X → Y) → Result X WorldFault → Result Y WorldFault → Type 0
 Reads view (Ok x) read = read ≡ Ok (view x)
 Reads view (Err Memory) read = Unit {0}

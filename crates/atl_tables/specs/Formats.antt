@@ -1,8 +1,9 @@
--- The formats by number.
+-- The two formats of campaigns, by number. See docs/FORMATS.md, "Tables".
 use Rattle.std.specs.Prelude.{ℕ}
 use Rattle.atl_tables.specs.declared.format.Format.{Format}
 use Rattle.atl_tables.specs.declared.format.Format.TheVariants.{First, Second}
 
+-- the number of a format: 1 without markets, 2 with them
 abbrev pub format_number : Format → ℕ
 format_number First = 1
 format_number Second = 2

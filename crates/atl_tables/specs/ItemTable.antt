@@ -1,4 +1,5 @@
--- A table `[[item]]`: its keys in order, with their ranges, and the item that they give.
+-- A table `[[item]]` of the world file: its keys in order, with their ranges, and the item that they give.
+-- See docs/FORMATS.md, "The world file".
 use Rattle.std.specs.Prelude.{ℕ, ◌==◌, if◌then◌else◌, List, [], ◌∷◌, codes, Option, Some, None, option_and_then}
 use Rattle.toml.specs.Data.{Members}
 use Rattle.atl_tables.specs.Faults.{Conditions}
@@ -11,7 +12,7 @@ use Rattle.atl_tables.specs.declared.item_table.Recipe.{Recipe}
 use Rattle.atl_tables.specs.declared.world_draft.WorldDraft.{WorldDraft}
 use Rattle.atl_tables.specs.declared.world.Item.{Item}
 
--- what making it takes
+-- the keys for what making an item takes: skill, level, raw item and its count
 unfoldable pub making_at : Table Recipe
 making_at = do
   skill ← optional_text_key (codes "skill")
@@ -20,7 +21,7 @@ making_at = do
   raw_count ← number_or_key 1 1 most_raw_count (codes "raw_count")
   says (record { skill = skill; level = level; raw = raw; raw_count = raw_count })
 
--- the whole table
+-- all keys of a table `[[item]]`, in order
 unfoldable pub item_at : Table ItemDraft
 item_at = do
   name ← name_key (codes "name")
@@ -29,24 +30,27 @@ item_at = do
   making ← part making_at
   says (record { name = name; weight = weight; carry = carry; making = making })
 
+-- the conditions on the keys of a table `[[item]]`
 abbrev pub item_keys : List ℕ → Members → Conditions
 item_keys = conditions_of item_at
 
+-- the item that a table `[[item]]` gives, with its skill and its raw item by name
 abbrev pub item_from : List ℕ → Members → ItemDraft
 item_from = value_of item_at
 
--- an item other than the i-th
+-- the number of an item, unless it is i: an item isn't made of itself
 abbrev pub other_than : ℕ → Option ℕ → Option ℕ
 other_than i None = None
 other_than i (Some n) = if n == i then None else Some n
 
--- its names stand for a skill and for another item
+-- the conditions on the names in the i-th item: `skill` names a skill, and `raw` names another item
 unfoldable pub item_known : WorldDraft → ℕ → ItemDraft → Conditions
 item_known all i d =
     known_number_or_none (path (element_path (codes "item") i) (codes "skill")) (skill_number all) d.making.skill
     ∷ known_number_or_none (path (element_path (codes "item") i) (codes "raw")) (λ name. other_than i (item_number all name)) d.making.raw
     ∷ []
 
+-- the item of a table, with its skill and its raw item by number
 unfoldable pub item_of : WorldDraft → ItemDraft → Item
 item_of all d = record {
   name = d.name;

@@ -1,25 +1,28 @@
--- A table that is read key by key.
+-- Tables of the world file that are read key by key, so that one definition gives both their conditions and their
+-- value.
 use Rattle.std.specs.Prelude.{ℕ, Bool, false, List, [], ◌∷◌, ◌++◌, Option, None}
 use Rattle.toml.specs.Data.{Members}
 use Rattle.atl_tables.specs.Faults.{Conditions, fault_of, first_fault, value_or}
 use Rattle.atl_tables.specs.Keys.{Key, number_at, name_at, text_at, flag_at, number_or_at, optional_text_at}
 
--- the conditions on its keys, in their order, and what it says where they hold
+-- what reading a table gives: the conditions on its keys in order, and the value if they hold
 pub record Says (A : Type 0) : Type 0 where
   pub conditions : Conditions
   pub value : A
 
--- by its path and its members
+-- how a table is read, by its path and its members
 abbrev pub Table : Type 0 → Type 0
 Table A = List ℕ → Members → Says A
 
+-- the conditions on the keys of the table t at a path
 abbrev pub conditions_of : {A : Type 0} → Table A → List ℕ → Members → Conditions
 conditions_of table at t = (table at t).conditions
 
+-- the value of the table t at a path
 abbrev pub value_of : {A : Type 0} → Table A → List ℕ → Members → A
 value_of table at t = (table at t).value
 
--- what comes first, and then what comes of its value
+-- reads some keys, and then further keys, which may depend on the value of the first
 infixl 10 ◌>>=◌
 abbrev pub ◌>>=◌ : {A B : Type 0} → Table A → (A → Table B) → Table B
 first >>= next = λ at t. record {
@@ -27,32 +30,39 @@ first >>= next = λ at t. record {
   value = value_of (next (value_of first at t)) at t;
 }
 
--- what all of it comes to
+-- reads no key, and gives this value
 abbrev pub says : {A : Type 0} → A → Table A
 says x = λ at t. record { conditions = []; value = x }
 
--- some of the keys, of which one condition tells
+-- reads keys as one part of a table, whose conditions are joined to one: the first of them that is broken
 abbrev pub part : {A : Type 0} → Table A → Table A
 part table = λ at t. record { conditions = first_fault (conditions_of table at t) ∷ []; value = value_of table at t }
 
--- ---- one key, with a value in place of a fault
+-- ---- tables of one key
+-- reads one key; the value is the default d if the key has a fault
 abbrev pub one_key : {A : Type 0} → A → Key A → Table A
 one_key d key = λ at t. record { conditions = fault_of (key at t) ∷ []; value = value_or d (key at t) }
 
+-- reads a key that must be a number from least to most
 abbrev pub number_key : ℕ → ℕ → List ℕ → Table ℕ
 number_key least most key = one_key 0 (number_at least most key)
 
+-- reads a key that is a number from least to most, or missing, which gives the default
 abbrev pub number_or_key : ℕ → ℕ → ℕ → List ℕ → Table ℕ
 number_or_key default least most key = one_key default (number_or_at default least most key)
 
+-- reads a key that must be a name
 abbrev pub name_key : List ℕ → Table (List ℕ)
 name_key key = one_key [] (name_at key)
 
+-- reads a key that must be a text
 abbrev pub text_key : List ℕ → Table (List ℕ)
 text_key key = one_key [] (text_at key)
 
+-- reads a key that is a text, or missing
 abbrev pub optional_text_key : List ℕ → Table (Option (List ℕ))
 optional_text_key key = one_key None (optional_text_at key)
 
+-- reads a key that must be true or false
 abbrev pub flag_key : List ℕ → Table Bool
 flag_key key = one_key false (flag_at key)

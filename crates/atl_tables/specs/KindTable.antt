@@ -1,4 +1,5 @@
--- A table `[[kind]]`: its keys in order, with their ranges, and the kind that they give.
+-- A table `[[kind]]` of the world file: its keys in order, with their ranges, and the kind of structure that they
+-- give. See docs/FORMATS.md, "The world file".
 use Rattle.std.specs.Prelude.{ℕ, List, [], ◌∷◌, codes, unwrap_or, option_and_then}
 use Rattle.toml.specs.Data.{Members}
 use Rattle.atl_tables.specs.Faults.{Conditions}
@@ -12,7 +13,7 @@ use Rattle.atl_tables.specs.declared.kind_table.Purpose.{Purpose}
 use Rattle.atl_tables.specs.declared.world_draft.WorldDraft.{WorldDraft}
 use Rattle.atl_tables.specs.declared.world.Kind.{Kind}
 
--- what building it takes
+-- the keys for what building a structure takes: material, size, skill and level
 unfoldable pub building_at : Table Building
 building_at = do
   material ← text_key (codes "material")
@@ -21,7 +22,7 @@ building_at = do
   level ← number_key 1 last_level (codes "level")
   says (record { material = material; size = size; skill = skill; level = level })
 
--- what it is good for
+-- the keys for what a structure is good for: capacity, crew and the skill that it helps
 unfoldable pub purpose_at : Table Purpose
 purpose_at = do
   capacity ← number_or_key 0 0 most_amount (codes "capacity")
@@ -29,7 +30,7 @@ purpose_at = do
   helps ← optional_text_key (codes "helps")
   says (record { capacity = capacity; crew = crew; helps = helps })
 
--- the whole table
+-- all keys of a table `[[kind]]`, in order
 unfoldable pub kind_at : Table KindDraft
 kind_at = do
   name ← name_key (codes "name")
@@ -38,13 +39,15 @@ kind_at = do
   purpose ← part purpose_at
   says (record { name = name; ship = ship; building = building; purpose = purpose })
 
+-- the conditions on the keys of a table `[[kind]]`
 abbrev pub kind_keys : List ℕ → Members → Conditions
 kind_keys = conditions_of kind_at
 
+-- the kind that a table `[[kind]]` gives, with its material and skills by name
 abbrev pub kind_from : List ℕ → Members → KindDraft
 kind_from = value_of kind_at
 
--- its names stand for an item and for skills
+-- the conditions on the names in the i-th kind: `material` names an item, and `skill` and `helps` name skills
 unfoldable pub kind_known : WorldDraft → ℕ → KindDraft → Conditions
 kind_known all i d =
     known (path (element_path (codes "kind") i) (codes "material")) (item_number all d.building.material)
@@ -52,6 +55,7 @@ kind_known all i d =
     ∷ known_number_or_none (path (element_path (codes "kind") i) (codes "helps")) (skill_number all) d.purpose.helps
     ∷ []
 
+-- the kind of a table, with its material and skills by number
 unfoldable pub kind_of : WorldDraft → KindDraft → Kind
 kind_of all d = record {
   name = d.name;

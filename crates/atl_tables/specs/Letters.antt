@@ -1,18 +1,19 @@
--- Bytes that mean something in names and in texts that name things.
+-- The bytes that names and words of orders treat specially.
 use Prim.Native.Char.{code}
 use Rattle.std.specs.Prelude.{ℕ}
 
--- what can be printed goes from the space up to the tilde
+-- the space, the first printable byte
 abbrev pub space : ℕ
 space = code " "
 
+-- the tilde, the last printable byte
 abbrev pub tilde : ℕ
 tilde = code "~"
 
--- the quotation mark
+-- the quotation mark, which no name has
 abbrev pub quote : ℕ
 quote = code "\""
 
--- what stands for a space in a bare word
+-- the underscore, which stands for a space in a word without quotes
 abbrev pub underscore : ℕ
 underscore = code "_"

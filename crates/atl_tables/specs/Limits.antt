@@ -1,4 +1,5 @@
--- The limits of worlds.
+-- The limits of worlds: how many of each thing there are at most, and the ranges of numbers. See docs/RULES.md,
+-- "Limits".
 use Rattle.std.specs.Prelude.{ℕ, ◌^◌}
 
 -- ---- how many of each a world has at most
@@ -17,15 +18,15 @@ most_kinds = 100
 abbrev pub most_regions : ℕ
 most_regions = 10000
 
--- of one region
+-- markets of one region
 abbrev pub most_markets : ℕ
 most_markets = 200
 
--- things of one sort are numbered from 0 in 16 bits, so no sort has more
+-- how many numbers of 16 bits there are: terrains, items, skills and kinds are each numbered in them from 0
 abbrev pub most_numbered : ℕ
 most_numbered = 2 ^ 16
 
--- so many numbers of 32 bits there are, under which values stand
+-- how many numbers of 32 bits there are: the keys of all maps by number
 abbrev pub number_count : ℕ
 number_count = 2 ^ 32
 
@@ -41,23 +42,24 @@ most_amount = 999999999
 abbrev pub most_name_bytes : ℕ
 most_name_bytes = 40
 
--- ---- the ranges of the world file's keys: money of a man or a peasant a month
+-- ---- the ranges of the world file's keys
+-- the largest amount of money of one man or peasant a month
 abbrev pub most_per_head : ℕ
 most_per_head = 1000
 
--- a price, a wage, a fee
+-- the largest price, wage or fee
 abbrev pub most_price : ℕ
 most_price = 1000000
 
--- of how many peasants one can be recruited
+-- the largest `recruit_fraction`: one peasant of so many can be recruited
 abbrev pub most_fraction : ℕ
 most_fraction = 1000
 
--- births in a hundred
+-- the largest `growth`: births in a hundred peasants
 abbrev pub most_growth : ℕ
 most_growth = 100
 
--- what a man or an item weighs or carries
+-- the largest weight of a man or an item, and of what one carries
 abbrev pub most_weight : ℕ
 most_weight = 10000
 
@@ -65,10 +67,10 @@ most_weight = 10000
 abbrev pub last_level : ℕ
 last_level = 5
 
--- how many raw items one item is made of
+-- the most raw items that one item is made of
 abbrev pub most_raw_count : ℕ
 most_raw_count = 1000
 
--- the size or the crew of a structure
+-- the largest size and the largest crew of a structure
 abbrev pub most_size : ℕ
 most_size = 999999

@@ -4,23 +4,26 @@ use Rattle.std.specs.Str.{str_eq_ignore_ascii_case}
 use Rattle.atl_tables.specs.Letters.{space, underscore}
 use Rattle.atl_tables.specs.Worlds.{WorldValue}
 
--- a byte of a name: `_` stands for a space where the word is bare
+-- a byte of the name that a word stands for: in a word without quotes `_` is a space
 abbrev pub letter_of : Bool → ℕ → ℕ
 letter_of quoted b = if quoted then b else if b == underscore then space else b
 
--- what a word names
+-- the name that a word stands for
 abbrev pub name_of : List ℕ → Bool → List ℕ
 name_of word quoted = map (letter_of quoted) word
 
--- the position of the first thing whose name is this word, ignoring ASCII case
+-- the index of the first thing whose title is the name that the word stands for, ignoring ASCII case
 abbrev pub index_named : {A : Type 0} → (A → List ℕ) → List A → List ℕ → Bool → Option ℕ
 index_named title things word quoted = position (λ thing. str_eq_ignore_ascii_case (title thing) (name_of word quoted)) things
 
+-- the number of the item that a word names, None if there is no such item
 abbrev pub item_named : WorldValue → List ℕ → Bool → Option ℕ
 item_named w word quoted = index_named (λ item. item.name) w.items word quoted
 
+-- the number of the skill that a word names, None if there is no such skill
 abbrev pub skill_named : WorldValue → List ℕ → Bool → Option ℕ
 skill_named w word quoted = index_named (λ skill. skill.name) w.skills word quoted
 
+-- the number of the kind of structure that a word names, None if there is no such kind
 abbrev pub kind_named : WorldValue → List ℕ → Bool → Option ℕ
 kind_named w word quoted = index_named (λ kind. kind.name) w.kinds word quoted

@@ -1,4 +1,5 @@
--- A table `[[region.market]]`: its keys in order, with their ranges, and the market that they give.
+-- A table `[[region.market]]` of the world file: its keys in order, with their ranges, and the market they give.
+-- See docs/FORMATS.md, "The world file".
 use Rattle.std.specs.Prelude.{ℕ, List, [], ◌∷◌, codes, map, unwrap_or}
 use Rattle.std.specs.FinMap.{FinMap}
 use Rattle.std.specs.Ordering.{nat_cmp}
@@ -13,18 +14,23 @@ use Rattle.atl_tables.specs.declared.market_table.MarketDraft.{MarketDraft}
 use Rattle.atl_tables.specs.declared.world_draft.WorldDraft.{WorldDraft}
 use Rattle.atl_tables.specs.declared.world.Market.{Market}
 
+-- the key `price`, from 1 to most_price
 abbrev pub price_at : Key ℕ
 price_at = number_at 1 most_price (codes "price")
 
+-- the key `pays`, from 1 to most_price
 abbrev pub pays_at : Key ℕ
 pays_at = number_at 1 most_price (codes "pays")
 
+-- the key `limit`, from 0 to most_amount
 abbrev pub limit_at : Key ℕ
 limit_at = number_at 0 most_amount (codes "limit")
 
+-- the key `restock`, from 0 to most_amount
 abbrev pub restock_at : Key ℕ
 restock_at = number_at 0 most_amount (codes "restock")
 
+-- the conditions on the keys of a table `[[region.market]]`
 unfoldable pub market_keys : List ℕ → Members → Conditions
 market_keys at t =
     fault_of (text_at (codes "item") at t)
@@ -34,6 +40,7 @@ market_keys at t =
     ∷ fault_of (restock_at at t)
     ∷ []
 
+-- the market that a table gives, with its item by name; `place` is the path of the table
 unfoldable pub market_from : List ℕ → Members → MarketDraft
 market_from at t = record {
   place = at;
@@ -44,24 +51,27 @@ market_from at t = record {
   restock = value_or 0 (restock_at at t);
 }
 
--- the markets of the region at a path, which may be missing
+-- the path of the markets of the region at a path, as `region[0].market`
 abbrev pub market_path : List ℕ → List ℕ
 market_path at = path at (codes "market")
 
+-- the conditions on the array of the markets of a region, which may be missing
 unfoldable pub markets_keys : List ℕ → Members → Conditions
 markets_keys at t = list_conditions market_keys (market_path at) (optional_array_at most_markets (market_path at) (codes "market") t)
 
+-- the markets of a region, in the order of the file
 unfoldable pub markets_from : List ℕ → Members → List MarketDraft
 markets_from at t = list_of market_from (market_path at) (optional_array_at most_markets (market_path at) (codes "market") t)
 
--- no two of them are of one item
+-- the conditions that no two markets of the region at a path are of the same item
 abbrev pub duplicate_items : List ℕ → List MarketDraft → Conditions
 duplicate_items at ds = twins (λ d. d.item) (market_path at) (codes "item") ds
 
--- the item's name stands for an item
+-- the condition that `item` names an item
 unfoldable pub market_known : WorldDraft → MarketDraft → Conditions
 market_known all d = known (path d.place (codes "item")) (item_number all d.item) ∷ []
 
+-- the market of a table, with its item by number
 unfoldable pub market_of : WorldDraft → MarketDraft → Market
 market_of all d = record {
   item = unwrap_or (item_number all d.item) 0;
@@ -71,6 +81,6 @@ market_of all d = record {
   restock = d.restock;
 }
 
--- the markets under the numbers of their items
+-- the markets of a region, each under the number of its item
 abbrev pub markets_of : WorldDraft → List MarketDraft → FinMap nat_cmp Market
 markets_of all ds = by_number (λ m. m.item) (map (market_of all) ds)

@@ -1,4 +1,5 @@
--- Neighbours are mutual: a region's neighbour is there, and has the region as its neighbour on the opposite side.
+-- Neighbours are mutual: each neighbour of a region is there, and has the region on its opposite side.
+-- See docs/FORMATS.md, "The world file".
 use Rattle.std.specs.Prelude.{ℕ, Bool, false, ◌==◌, List, [], ◌∷◌, codes, Option, Some, None, option_and_then, if◌then◌else◌}
 use Rattle.std.specs.Ordering.{nat_cmp}
 use Rattle.std.specs.FinMap.{FinMap, get}
@@ -12,15 +13,17 @@ use Rattle.atl_tables.specs.declared.region_table.RegionDraft.{RegionDraft}
 use Rattle.atl_tables.specs.declared.world.RegionPlan.{RegionPlan}
 use Rattle.atl_tables.specs.Worlds.{beside}
 
+-- whether an optional number is n
 abbrev pub is_number : ℕ → Option ℕ → Bool
 is_number n None = false
 is_number n (Some m) = m == n
 
--- a neighbour of the region with this number, which has that region on the side named
+-- the fault BadNeighbour, if a region has a neighbour that doesn't have this region's number on its opposite side
 abbrev pub neighbour : List ℕ → FinMap nat_cmp RegionPlan → Direction → ℕ → Option ℕ → Option WorldFault
 neighbour p regions opposite number None = None
 neighbour p regions opposite number (Some m) = if is_number number (option_and_then (beside opposite) (get regions m)) then None else Some (BadNeighbour p)
 
+-- the conditions on the four neighbours of the i-th region of the file
 unfoldable pub neighbours_at : FinMap nat_cmp RegionPlan → ℕ → RegionDraft → Conditions
 neighbours_at regions i d =
     neighbour (path (element_path (codes "region") i) (codes "north")) regions South d.place.number d.sides.north

@@ -1,4 +1,5 @@
--- The table `output` of a terrain: its keys, which are names of items, and the amounts under them.
+-- The table `output` of a terrain: each key is the name of an item, with the amount that a region gives in a month.
+-- See docs/FORMATS.md, "The world file".
 use Rattle.std.specs.Prelude.{ℕ, List, [], ◌∷◌, map, codes, take, if◌then◌else◌, Some, None, Result}
 use Rattle.std.specs.List.{find, list_any}
 use Rattle.std.specs.Option.{option_map_or}
@@ -16,46 +17,53 @@ use Rattle.atl_tables.specs.declared.fault.WorldFault.TheVariants.{TwoNames}
 use Rattle.atl_tables.specs.declared.output_table.Output.{Output}
 use Rattle.atl_tables.specs.declared.world_draft.WorldDraft.{WorldDraft}
 
--- ---- the keys of a table, each with what stands under it, in byte order
+-- ---- the entries of a table in byte order
+-- a list of entries, sorted by key, with one entry more at its place in the order
 abbrev pub put_key : List ℕ → Data → List (List ℕ × Data) → List (List ℕ × Data)
 put_key key d [] = (key, d) ∷ []
 put_key key d (e ∷ es) = if is_lt (slice_cmp nat_cmp key e.0) then (key, d) ∷ e ∷ es else e ∷ put_key key d es
 
+-- the entries of a table, each a key and the value under it, in the byte order of the keys
 unfoldable pub in_byte_order : Members → List (List ℕ × Data)
 in_byte_order no_members = []
 in_byte_order (member key d ms) = put_key key d (in_byte_order ms)
 
--- ---- each key with its amount, in the table of the path at
+-- ---- each key with its amount
+-- the amount under a key, from 0 to most_amount, of the table at a path; else WrongType or OutOfRange
 abbrev pub amount_at : List ℕ → List ℕ × Data → Result ℕ WorldFault
 amount_at at (key, d) = integer_in_range (path at key) 0 most_amount (as_integer d)
 
+-- the conditions on the amounts of all entries
 abbrev pub amounts_keys : List ℕ → List (List ℕ × Data) → Conditions
 amounts_keys at es = map (λ e. fault_of (amount_at at e)) es
 
+-- the amounts of all entries, with each item by its name
 abbrev pub amounts_from : List ℕ → List (List ℕ × Data) → List Output
 amounts_from at es = map (λ e. record { item = e.0; amount = value_or 0 (amount_at at e) }) es
 
--- of the terrain at a path
+-- the path of the output of the terrain at a path, as `terrain[0].output`
 abbrev pub output_path : List ℕ → List ℕ
 output_path at = path at (codes "output")
 
+-- the table `output` of a terrain, empty if it is missing
 abbrev pub output_table : List ℕ → Members → Members
 output_table at t = value_or no_members (optional_table_at (codes "output") at t)
 
+-- the conditions on the table `output` of a terrain, and the amounts that it gives
 unfoldable pub output_at : Table (List Output)
 output_at = λ at t. record {
   conditions = fault_of (optional_table_at (codes "output") at t) ∷ amounts_keys (output_path at) (in_byte_order (output_table at t));
   value = amounts_from (output_path at) (in_byte_order (output_table at t));
 }
 
--- no key before this one is equal to it, ignoring ASCII case
+-- the condition that no key before the i-th is equal to it, ignoring ASCII case; else TwoNames
 unfoldable pub twin_key_at : List ℕ → List Output → ℕ → Output → Conditions
 twin_key_at at all i o = (if list_any (λ p. same_name p.item o.item) (take i all) then Some (TwoNames (path at o.item)) else None) ∷ []
 
--- the key stands for an item
+-- the condition that a key names an item; else UnknownName
 unfoldable pub known_key_at : WorldDraft → List ℕ → ℕ → Output → Conditions
 known_key_at all at i o = known (path at o.item) (item_number all o.item) ∷ []
 
--- the amount of an item, 0 where it isn't named
+-- the amount of the item with this name, 0 if no key names it
 unfoldable pub amount_of : List Output → List ℕ → ℕ
 amount_of outputs item = option_map_or (λ o. o.amount) (find (λ o. same_name o.item item) outputs) 0

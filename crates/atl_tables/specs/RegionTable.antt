@@ -1,4 +1,5 @@
--- A table `[[region]]`: its keys in order, with their ranges, and the region that they give.
+-- A table `[[region]]` of the world file: its keys in order, with their ranges, and the region that they give.
+-- See docs/FORMATS.md, "The world file".
 use Rattle.std.specs.Prelude.{ℕ, List, [], ◌∷◌, codes, Option, None, unwrap_or}
 use Rattle.toml.specs.Data.{Members}
 use Rattle.atl_tables.specs.Each.{each}
@@ -14,16 +15,19 @@ use Rattle.atl_tables.specs.declared.region_table.Sides.{Sides}
 use Rattle.atl_tables.specs.declared.world_draft.WorldDraft.{WorldDraft}
 use Rattle.atl_tables.specs.declared.world.RegionPlan.{RegionPlan}
 
--- what the region is
+-- the key `number`, from 1 to last_region
 abbrev pub region_number_at : Key ℕ
 region_number_at = number_at 1 last_region (codes "number")
 
+-- the key `peasants`, from 0 to most_amount
 abbrev pub peasants_at : Key ℕ
 peasants_at = number_at 0 most_amount (codes "peasants")
 
+-- the key `money`, from 0 to most_amount
 abbrev pub money_at : Key ℕ
 money_at = number_at 0 most_amount (codes "money")
 
+-- the conditions on the keys of a region's basics: number, name, terrain, peasants and money
 unfoldable pub place_keys : List ℕ → Members → Conditions
 place_keys at t =
     fault_of (region_number_at at t)
@@ -33,6 +37,7 @@ place_keys at t =
     ∷ fault_of (money_at at t)
     ∷ []
 
+-- a region's basics, with its terrain by name
 unfoldable pub place_from : List ℕ → Members → RegionBasics
 place_from at t = record {
   number = value_or 0 (region_number_at at t);
@@ -42,19 +47,23 @@ place_from at t = record {
   money = value_or 0 (money_at at t);
 }
 
--- the numbers of its neighbours
+-- the key `north`, the number of a region or missing
 abbrev pub north_at : Key (Option ℕ)
 north_at = optional_number_at 1 last_region (codes "north")
 
+-- the key `south`, the number of a region or missing
 abbrev pub south_at : Key (Option ℕ)
 south_at = optional_number_at 1 last_region (codes "south")
 
+-- the key `east`, the number of a region or missing
 abbrev pub east_at : Key (Option ℕ)
 east_at = optional_number_at 1 last_region (codes "east")
 
+-- the key `west`, the number of a region or missing
 abbrev pub west_at : Key (Option ℕ)
 west_at = optional_number_at 1 last_region (codes "west")
 
+-- the conditions on the keys of the four sides
 unfoldable pub side_keys : List ℕ → Members → Conditions
 side_keys at t =
     fault_of (north_at at t)
@@ -63,6 +72,7 @@ side_keys at t =
     ∷ fault_of (west_at at t)
     ∷ []
 
+-- the numbers of the neighbours on the four sides
 unfoldable pub sides_from : List ℕ → Members → Sides
 sides_from at t = record {
   north = value_or None (north_at at t);
@@ -71,32 +81,37 @@ sides_from at t = record {
   west = value_or None (west_at at t);
 }
 
--- the whole table of the first format, where a region has no markets
+-- the conditions on a whole table of the first format, which reads no markets
 unfoldable pub old_region_keys : List ℕ → Members → Conditions
 old_region_keys at t = first_fault (place_keys at t) ∷ side_keys at t
 
+-- the region that a table gives in the first format
 unfoldable pub old_region_from : List ℕ → Members → OldRegion
 old_region_from at t = record { place = place_from at t; sides = sides_from at t }
 
+-- a region of the first format as one without markets
 abbrev pub as_draft : OldRegion → RegionDraft
 as_draft r = record { place = r.place; sides = r.sides; markets = [] }
 
--- the whole table of the second
+-- the conditions on a whole table of the second format, with its markets
 unfoldable pub region_keys : List ℕ → Members → Conditions
 region_keys at t = first_fault (old_region_keys at t) ∷ markets_keys at t
 
+-- the region that a table gives in the second format, with its terrain and its markets' items by name
 unfoldable pub region_from : List ℕ → Members → RegionDraft
 region_from at t = record { place = place_from at t; sides = sides_from at t; markets = markets_from at t }
 
--- no two of its markets are of one item, and each name stands for a terrain or an item
+-- the conditions that no two markets of the i-th region are of the same item
 unfoldable pub market_twins : ℕ → RegionDraft → Conditions
 market_twins i d = duplicate_items (element_path (codes "region") i) d.markets
 
+-- the conditions on the names in the i-th region: `terrain` names a terrain, and each market's `item` an item
 unfoldable pub region_known : WorldDraft → ℕ → RegionDraft → Conditions
 region_known all i d =
     known (path (element_path (codes "region") i) (codes "terrain")) (terrain_number all d.place.terrain)
     ∷ each (λ k m. market_known all m) 0 d.markets
 
+-- the region of a table, with its terrain and its markets' items by number
 unfoldable pub region_of : WorldDraft → RegionDraft → RegionPlan
 region_of all d = record {
   number = d.place.number;

@@ -7,12 +7,14 @@ use Rattle.atl_tables.specs.Each.{each}
 use Rattle.atl_tables.specs.Faults.{Conditions}
 use Rattle.atl_tables.specs.Keys.{path, element_path}
 
+-- whether one of these regions has the number n
 abbrev pub has_number : ℕ → List RegionDraft → Bool
 has_number n ds = list_any (λ d. n == d.place.number) ds
 
--- no region before this one has its number
+-- the condition that no region before the i-th has its number; else TwoNames
 unfoldable pub twin_number_at : List RegionDraft → ℕ → RegionDraft → Conditions
 twin_number_at all i d = (if has_number d.place.number (take i all) then Some (TwoNames (path (element_path (codes "region") i) (codes "number"))) else None) ∷ []
 
+-- the conditions that no two regions of the file have the same number
 abbrev pub duplicate_numbers : List RegionDraft → Conditions
 duplicate_numbers all = each (twin_number_at all) 0 all

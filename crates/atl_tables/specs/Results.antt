@@ -1,13 +1,14 @@
--- For the proofs alone: the result of reading a part: the first broken condition, or the value.
+-- For proofs alone: what a call that reads a part of the file returns: the first broken condition, or the value.
 use Rattle.std.specs.Prelude.{◌≡◌, Option, Some, None, Result, Ok, Err}
 use Rattle.atl_tables.specs.declared.fault.WorldFault.{WorldFault}
 use Rattle.atl_tables.specs.declared.fault.WorldFault.TheVariants.{Memory}
 
--- Memory may run out wherever it is taken, and says nothing of the conditions
+-- the error e is the fault of the conditions; or it is Memory, which says nothing of them
 abbrev pub Stops : WorldFault → Option WorldFault → Type 0
 Stops Memory fault = Unit {0}
 Stops e fault = fault ≡ Some e
 
+-- a result is the value, and no condition is broken; or it is the fault of the conditions, or Memory
 abbrev pub Gives : {X Y : Type 0} → (X → Y) → Result X WorldFault → Option WorldFault → Y → Type 0
 Gives view (Ok x) fault value = (fault ≡ None) × (value ≡ view x)
 Gives view (Err e) fault value = Stops e fault

@@ -1,22 +1,23 @@
--- Marked numbers, with room for more.
+-- For proofs alone: sets of marked numbers, with the room that they have.
 use Rattle.std.specs.Prelude.{◌≤◌, ℕ, refl}
 use Rattle.std.specs.Ordering.{nat_cmp}
 use Rattle.std.specs.Coded.{Coded, code_by, coded×, coded_ℕ}
 use Rattle.std.specs.FinMap.{FinMap, keys}
 use Rattle.std.specs.FinSet as set
 
--- which numbers are marked, and for how many there is room
+-- the numbers of a set, and how many it can hold without taking memory
 pub record RoomySet : Type 0 where
   pub numbers : set.FinSet nat_cmp
   pub room : ℕ
 
+-- the record encoded as the pair of its parts
 abbrev pub roomy_set_code : Coded RoomySet
 roomy_set_code = code_by (set.FinSet nat_cmp × ℕ) (coded× (set.code coded_ℕ) coded_ℕ) (λ m. (m.numbers, m.room)) (λ p. record { numbers = p.0; room = p.1 }) (λ _. refl)
 
--- the numbers that have a value or a mark
+-- the numbers that have a value in a map, a mark, or both
 abbrev pub held : {V : Type 0} → FinMap nat_cmp V → set.FinSet nat_cmp → set.FinSet nat_cmp
 held values marks = set.union marks (set.from_list (keys values))
 
--- there is room for a mark on each of them, so that marking takes no memory
+-- a set of marks has room to mark each number that has a value, so marking one takes no memory
 abbrev pub HasRoom : {V : Type 0} → FinMap nat_cmp V → RoomySet → Type 0
 HasRoom values marks = set.len (held values marks.numbers) ≤ marks.room

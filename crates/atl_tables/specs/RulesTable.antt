@@ -1,4 +1,5 @@
--- The table `[rules]`: its keys in order, with their ranges, and the rules that they give.
+-- The table `[rules]` of the world file: its keys in order, with their ranges, and the rules that they give.
+-- See docs/FORMATS.md, "The world file".
 use Rattle.std.specs.Prelude.{[], ◌∷◌, codes, option_and_then}
 use Rattle.toml.specs.Data.{Members, no_members}
 use Rattle.atl_tables.specs.Faults.{Conditions, fault_of, value_or}
@@ -14,7 +15,7 @@ use Rattle.atl_tables.specs.declared.rules_table.SkillNames.{SkillNames}
 use Rattle.atl_tables.specs.declared.world_draft.WorldDraft.{WorldDraft}
 use Rattle.atl_tables.specs.declared.world.Rules.{Rules}
 
--- what men cost and bring
+-- the keys for what men cost and bring
 unfoldable pub prices_at : Table Prices
 prices_at = do
   maintenance ← number_key 1 most_per_head (codes "maintenance")
@@ -22,7 +23,7 @@ prices_at = do
   recruit_price ← number_key 1 most_price (codes "recruit_price")
   says (record { maintenance = maintenance; tax_per_man = tax_per_man; recruit_price = recruit_price })
 
--- what peasants do in a month
+-- the keys for recruits, births and income of peasants
 unfoldable pub peasants_at : Table PeasantRules
 peasants_at = do
   recruit_fraction ← number_key 1 most_fraction (codes "recruit_fraction")
@@ -30,7 +31,7 @@ peasants_at = do
   income ← number_key 0 most_per_head (codes "income")
   says (record { recruit_fraction = recruit_fraction; growth = growth; income = income })
 
--- what men start with, weigh and carry
+-- the keys for the money of a new faction, and for what men weigh and carry
 unfoldable pub men_at : Table MenRules
 men_at = do
   start_money ← number_key 0 most_amount (codes "start_money")
@@ -38,7 +39,7 @@ men_at = do
   man_carry ← number_key 0 most_weight (codes "man_carry")
   says (record { start_money = start_money; man_weight = man_weight; man_carry = man_carry })
 
--- the skills that the rules speak of
+-- the keys that name the skills of observation, stealth and sailing
 unfoldable pub skill_names_at : Table SkillNames
 skill_names_at = do
   observation ← optional_text_key (codes "observation")
@@ -46,7 +47,7 @@ skill_names_at = do
   sailing ← optional_text_key (codes "sailing")
   says (record { observation = observation; stealth = stealth; sailing = sailing })
 
--- all of them, in this order
+-- all keys of the table, in order
 unfoldable pub rules_at : Table RulesDraft
 rules_at = do
   prices ← part prices_at
@@ -55,17 +56,19 @@ rules_at = do
   skills ← part skill_names_at
   says (record { prices = prices; peasants = peasants; men = men; skills = skills })
 
--- the table of the document
+-- the table `[rules]` of the document, empty if it is missing
 abbrev pub rules_table : Members → Members
 rules_table doc = value_or no_members (table_at (codes "rules") doc)
 
+-- the conditions on the table `[rules]`: it is there, and its keys keep theirs
 unfoldable pub rules_conditions : Members → Conditions
 rules_conditions doc = fault_of (table_at (codes "rules") doc) ∷ conditions_of rules_at (codes "rules") (rules_table doc)
 
+-- the rules of the document, with skills by name
 unfoldable pub rules_in : Members → RulesDraft
 rules_in doc = value_of rules_at (codes "rules") (rules_table doc)
 
--- its names stand for skills
+-- the conditions that `observation`, `stealth` and `sailing` name skills, where they are there
 unfoldable pub rules_known : WorldDraft → Conditions
 rules_known all =
     known_number_or_none (path (codes "rules") (codes "observation")) (skill_number all) all.rules.skills.observation
@@ -73,6 +76,7 @@ rules_known all =
     ∷ known_number_or_none (path (codes "rules") (codes "sailing")) (skill_number all) all.rules.skills.sailing
     ∷ []
 
+-- the rules of a world, with skills by number
 unfoldable pub rules_of : WorldDraft → Rules
 rules_of all = let r = all.rules in record {
   maintenance = r.prices.maintenance;

@@ -1,4 +1,4 @@
--- For proofs alone: the names that a set has, each in ASCII lower case.
+-- For proofs alone: a set of names that were seen, each kept in ASCII lower case.
 use Rattle.std.specs.Prelude.{◌≡◌, ℕ, Bool, List, map}
 use Rattle.std.specs.BTreeSet.{BTreeSet, contains_text}
 use Rattle.std.specs.Char.{to_ascii_lowercase}
@@ -6,10 +6,10 @@ use Rattle.std.specs.List.{list_any}
 use Rattle.std.specs.declared.string.String.{String}
 use Rattle.atl_tables.specs.Names.{same_name}
 
--- the set has a name that is equal to this one, ignoring ASCII case
+-- whether a set has a name that is equal to this one, ignoring ASCII case
 abbrev pub has_name : {Z : Type 0} → BTreeSet (String Z) → List ℕ → Bool
 has_name seen name = contains_text seen (map to_ascii_lowercase name)
 
--- the set has the names of these, and no others
+-- a set has exactly the names of the things in a list
 abbrev pub HasNames : {A Z : Type 0} → (A → List ℕ) → List A → BTreeSet (String Z) → Type 0
 HasNames title all seen = (name : List ℕ) → has_name seen name ≡ list_any (λ x. same_name (title x) name) all

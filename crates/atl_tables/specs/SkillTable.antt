@@ -1,4 +1,5 @@
--- A table `[[skill]]`: its keys in order, with their ranges, and the skill that they give.
+-- A table `[[skill]]` of the world file: its keys in order, with their ranges, and the skill that they give.
+-- See docs/FORMATS.md, "The world file".
 use Rattle.std.specs.Prelude.{ℕ, List, codes}
 use Rattle.toml.specs.Data.{Members}
 use Rattle.atl_tables.specs.Faults.{Conditions}
@@ -6,14 +7,17 @@ use Rattle.atl_tables.specs.KeyByKey.{Table, conditions_of, value_of, ◌>>=◌,
 use Rattle.atl_tables.specs.Limits.{most_price}
 use Rattle.atl_tables.specs.declared.world.Skill.{Skill}
 
+-- all keys of a table `[[skill]]`, in order
 unfoldable pub skill_at : Table Skill
 skill_at = do
   name ← name_key (codes "name")
   fee ← number_key 0 most_price (codes "fee")
   says (record { name = name; fee = fee })
 
+-- the conditions on the keys of a table `[[skill]]`
 abbrev pub skill_keys : List ℕ → Members → Conditions
 skill_keys = conditions_of skill_at
 
+-- the skill that a table `[[skill]]` gives
 abbrev pub skill_from : List ℕ → Members → Skill
 skill_from = value_of skill_at

@@ -1,25 +1,26 @@
--- For proofs alone: where a number is, or belongs, in a sorted list, and sets of marks in two such lists.
+-- For proofs alone: the index of a number in a sorted list, and marks that are kept in two such lists.
 use Rattle.std.specs.Prelude.{◌≡◌, ◌+◌, ◌<◌, ◌≤◌, ℕ, true, false, List, length, slice_index}
 use Rattle.std.specs.Ordering.{nat_cmp}
 use Rattle.std.specs.FinSet as set
 use Rattle.atl_tables.specs.RoomySets.{RoomySet}
 
--- the number n is at the place i of a list
+-- the number n is at the index i of a list
 pub record IsAt (xs : List ℕ) (n : ℕ) (i : ℕ) : Type 0 where
   pub within : i < length xs
   pub is : slice_index xs i ≡ n
 
--- the number n belongs at the place i of a sorted list: it is above all before that place, and below all from there on
+-- a sorted list without n stays sorted if n is put at the index i: all before it are less, all from there on are
+-- greater
 pub record BelongsAt (xs : List ℕ) (n : ℕ) (i : ℕ) : Type 0 where
   pub within : i ≤ length xs
   pub before : (k : ℕ) → k < i → slice_index xs k < n
   pub behind : (k : ℕ) → i ≤ k → k < length xs → n < slice_index xs k
 
--- no number is in both
+-- no number is in both sets
 pub record AreApart (s t : set.FinSet nat_cmp) : Type 0 where
   pub apart : (n : ℕ) → set.contains s n ≡ true → set.contains t n ≡ false
 
--- no number is in both, and there is room for all in the first
+-- no number is in both sets, and the first has room for the numbers of both
 pub record AreMarks (numbers recent : RoomySet) : Type 0 where
   pub apart : AreApart numbers.numbers recent.numbers
   pub fits : set.len numbers.numbers + set.len recent.numbers ≤ numbers.room

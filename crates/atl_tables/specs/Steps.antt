@@ -1,6 +1,7 @@
--- Steps in turn: the first error ends them.
+-- Steps that may fail, one after another: the first error ends them.
 use Rattle.std.specs.Prelude.{Result, Ok, Err}
 
+-- the next step on the value of a result, or the error of the result
 infixl 10 ◌>>=◌
 abbrev pub ◌>>=◌ : {A B E : Type 0} → Result A E → (A → Result B E) → Result B E
 (Ok x) >>= next = next x

@@ -1,4 +1,5 @@
--- A table `[[terrain]]`: its keys in order, with their ranges, and the terrain that they give.
+-- A table `[[terrain]]` of the world file: its keys in order, with their ranges, and the terrain that they give.
+-- See docs/FORMATS.md, "The world file".
 use Rattle.std.specs.Prelude.{ℕ, List, codes, map}
 use Rattle.toml.specs.Data.{Members}
 use Rattle.atl_tables.specs.Each.{each}
@@ -12,7 +13,7 @@ use Rattle.atl_tables.specs.declared.terrain_table.Economy.{Economy}
 use Rattle.atl_tables.specs.declared.terrain_table.TerrainDraft.{TerrainDraft}
 use Rattle.atl_tables.specs.declared.world.Terrain.{Terrain}
 
--- what a region of it pays, and the most that it holds
+-- the keys for what work in a region pays, and for the most money and peasants that a region grows to
 unfoldable pub economy_at : Table Economy
 economy_at = do
   wage ← number_key 1 most_price (codes "wage")
@@ -21,7 +22,7 @@ economy_at = do
   peasant_limit ← number_key 0 most_amount (codes "peasant_limit")
   says (record { wage = wage; places = places; money_limit = money_limit; peasant_limit = peasant_limit })
 
--- the whole table
+-- all keys of a table `[[terrain]]`, in order
 unfoldable pub terrain_at : Table TerrainDraft
 terrain_at = do
   name ← name_key (codes "name")
@@ -30,20 +31,23 @@ terrain_at = do
   output ← part output_at
   says (record { name = name; land = land; economy = economy; output = output })
 
+-- the conditions on the keys of a table `[[terrain]]`
 abbrev pub terrain_keys : List ℕ → Members → Conditions
 terrain_keys = conditions_of terrain_at
 
+-- the terrain that a table `[[terrain]]` gives, with its output by names of items
 abbrev pub terrain_from : List ℕ → Members → TerrainDraft
 terrain_from = value_of terrain_at
 
--- no two keys of its output are equal, and each stands for an item
+-- the conditions that no two keys of the i-th terrain's output are equal, ignoring ASCII case
 unfoldable pub terrain_twins : ℕ → TerrainDraft → Conditions
 terrain_twins i d = each (twin_key_at (output_path (element_path (codes "terrain") i)) d.output) 0 d.output
 
+-- the conditions that each key of the i-th terrain's output names an item
 unfoldable pub terrain_known : WorldDraft → ℕ → TerrainDraft → Conditions
 terrain_known all i d = each (known_key_at all (output_path (element_path (codes "terrain") i))) 0 d.output
 
--- its output has an amount for each item
+-- the terrain of a table; its output has an amount for each item of the world, by number
 unfoldable pub terrain_of : WorldDraft → TerrainDraft → Terrain
 terrain_of all d = record {
   name = d.name;

@@ -1,4 +1,4 @@
--- Names that must be unique, and the numbers that names stand for.
+-- Names that must be unique, and the numbers of things by name. See docs/FORMATS.md, "The world file".
 use Rattle.std.specs.Prelude.{ℕ, List, [], ◌∷◌, take, Option, Some, None, if◌then◌else◌}
 use Rattle.std.specs.List.{list_any, position_from}
 use Rattle.atl_tables.specs.declared.fault.WorldFault.{WorldFault}
@@ -10,32 +10,36 @@ use Rattle.atl_tables.specs.Keys.{path, element_path}
 use Rattle.atl_tables.specs.Names.{same_name}
 
 module _ {A : Type 0} (title : A → List ℕ) where
-  -- no element of the array before this one has the name that it has under a key
+  -- the condition that no element before the i-th has its name, which is under this key; else TwoNames
   unfoldable pub twin_at : List ℕ → List ℕ → List A → ℕ → A → Conditions
   twin_at array key all i x = (if list_any (λ y. same_name (title y) (title x)) (take i all) then Some (TwoNames (path (element_path array i) key)) else None) ∷ []
 
+  -- the conditions that no two elements of an array have the same name, ignoring ASCII case
   abbrev pub twins : List ℕ → List ℕ → List A → Conditions
   twins array key all = each (twin_at array key all) 0 all
 
-  -- the number of the first element with this name
+  -- the index of the first element with this name, ignoring ASCII case
   unfoldable pub number_of : List A → List ℕ → Option ℕ
   number_of all name = position_from (λ x. same_name (title x) name) 0 all
 
--- the numbers of the names of a document
+-- the number of the terrain with this name, None if there is no such terrain
 abbrev pub terrain_number : WorldDraft → List ℕ → Option ℕ
 terrain_number all name = number_of (λ d. d.name) all.terrains name
 
+-- the number of the item with this name, None if there is no such item
 abbrev pub item_number : WorldDraft → List ℕ → Option ℕ
 item_number all name = number_of (λ d. d.name) all.items name
 
+-- the number of the skill with this name, None if there is no such skill
 abbrev pub skill_number : WorldDraft → List ℕ → Option ℕ
 skill_number all name = number_of (λ s. s.name) all.skills name
 
--- a text that refers to a name has a number
+-- the fault UnknownName, if a name at the path p has no number
 abbrev pub known : List ℕ → Option ℕ → Option WorldFault
 known p None = Some (UnknownName p)
 known p (Some n) = None
 
+-- the fault UnknownName, if a name is there and has no number
 abbrev pub known_number_or_none : List ℕ → (List ℕ → Option ℕ) → Option (List ℕ) → Option WorldFault
 known_number_or_none p number None = None
 known_number_or_none p number (Some name) = known p (number name)

@@ -1,4 +1,4 @@
--- Changes of a map with change marks.
+-- How each call changes a map by number that marks the numbers whose values changed.
 use Rattle.std.specs.Prelude.{◌≡◌, ℕ, List, Bool, true, false, Option, Some, None}
 use Rattle.std.specs.Ordering.{nat_cmp}
 use Rattle.std.specs.List.Sorted.{IsStrictlySortedBy}
@@ -9,38 +9,39 @@ use denote.RattleType.{RattleType}
 use Rattle.atl_tables.specs.MarkedMaps.{MarkedMapValue}
 use Rattle.atl_tables.specs.contracts.marked_map.MarkedMap.{the_row}
 
--- the marks with that of a value that is there
+-- the marks with the number n, if n has a value
 abbrev pub marked_with : {V : Type 0} → set.FinSet nat_cmp → ℕ → Option V → set.FinSet nat_cmp
 marked_with marks n None = marks
 marked_with marks n (Some v) = set.insert marks n
 
--- the numbers of a set, in rising order
+-- a list has exactly the numbers of a set, in rising order
 pub record Lists (marks : set.FinSet nat_cmp) (numbers : List ℕ) : Type 0 where
   pub rising : IsStrictlySortedBy nat_cmp numbers
   pub all : set.from_list numbers ≡ marks
 
 module _ {V : Type 0} where
-  -- a value put in or changed, and marked
+  -- the value v is put in under n, or replaces the one there, and n is marked
   abbrev pub with_value : MarkedMapValue V → ℕ → V → MarkedMapValue V
   with_value c n v = record { values = map.insert c.values n v; marks = set.insert c.marks n }
 
+  -- the value that c has under n is taken out, and n marked; if it has none, nothing changes
   abbrev pub without_value_at : MarkedMapValue V → ℕ → Option V → MarkedMapValue V
   without_value_at c n None = c
   without_value_at c n (Some v) = record { values = map.remove c.values n; marks = set.insert c.marks n }
 
-  -- a value taken out, and its number marked
+  -- the value under n is taken out, and n marked; if there is none, nothing changes
   abbrev pub without_value : MarkedMapValue V → ℕ → MarkedMapValue V
   without_value c n = without_value_at c n (map.get c.values n)
 
-  -- all values taken out, and their numbers marked
+  -- all values are taken out, and their numbers marked
   abbrev pub without_values : MarkedMapValue V → MarkedMapValue V
   without_values c = record { values = map.empty; marks = set.union c.marks (set.from_list (map.keys c.values)) }
 
-  -- a value taken out again, whose number was marked before it came, or not
+  -- the value put in under n is taken out again; n stays marked only if it was marked before the value was put in
   abbrev pub taken_out : MarkedMapValue V → ℕ → Bool → MarkedMapValue V
   taken_out c n true = without_value c n
   taken_out c n false = record { values = map.remove c.values n; marks = set.remove c.marks n }
 
--- c ends with the last value behind r under the number, which is then marked, or as it was
+-- If r is a reference to a value, c ends with the last value of r under n, marked; if r is None, c ends as it was.
 abbrev pub LendsMarked : (V : RattleType) → MutBor (MarkedMapValue V.Denot) → ℕ → Option (MutBor V.Denot) → Fml
 LendsMarked V c n r = LendsIf (the_row V) V c r (with_value c.now n) c.now

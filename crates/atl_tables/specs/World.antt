@@ -1,5 +1,5 @@
--- The conditions on a world file, in the order in which faults are reported, and the world that it gives. See
--- docs/FORMATS.md, "Faults of a world file".
+-- The conditions on a world file, in the order in which faults count, and the world that it gives.
+-- See docs/FORMATS.md, "Faults of a world file".
 use Rattle.std.specs.Prelude.{ℕ, List, [], ◌∷◌, ◌++◌, map, codes, Option, Some, None, Result, Err}
 use Rattle.std.specs.FinMap.{FinMap}
 use Rattle.std.specs.Ordering.{nat_cmp}
@@ -30,7 +30,7 @@ use Rattle.atl_tables.specs.declared.region_table.RegionDraft.{RegionDraft}
 use Rattle.atl_tables.specs.declared.world_draft.WorldDraft.{WorldDraft}
 use Rattle.atl_tables.specs.declared.world.RegionPlan.{RegionPlan}
 
--- what the tables say, where each key keeps its rule: those that may be missing, and all
+-- the items, skills and kinds of a document, read with a default in place of each fault
 unfoldable pub things_of : Members → ThingDrafts
 things_of doc = record {
   items = list_of item_from (codes "item") (optional_array_at most_items (codes "item") (codes "item") doc);
@@ -38,11 +38,12 @@ things_of doc = record {
   kinds = list_of kind_from (codes "kind") (optional_array_at most_kinds (codes "kind") (codes "kind") doc);
 }
 
--- the regions as a format reads them
+-- the regions of a document as a format reads them
 unfoldable pub regions_in : Format → Members → List RegionDraft
 regions_in First doc = map as_draft (list_of old_region_from (codes "region") (array_at most_regions (codes "region") doc))
 regions_in Second doc = list_of region_from (codes "region") (array_at most_regions (codes "region") doc)
 
+-- all tables of a document, read with a default in place of each fault; names are not looked up
 unfoldable pub tables_of : Format → Members → WorldDraft
 tables_of format doc = record {
   rules = rules_in doc;
@@ -53,10 +54,11 @@ tables_of format doc = record {
   regions = regions_in format doc;
 }
 
--- the world, where each name stands for something
+-- the regions of the tables, each under its number
 unfoldable pub regions_of : WorldDraft → FinMap nat_cmp RegionPlan
 regions_of all = by_number (λ p. p.number) (map (region_of all) all.regions)
 
+-- the world that the tables describe, with the numbers of things in place of their names
 unfoldable pub world_of_tables : WorldDraft → WorldValue
 world_of_tables all = record {
   rules = rules_of all;
@@ -67,18 +69,20 @@ world_of_tables all = record {
   regions = regions_of all;
 }
 
--- ---- the conditions, rank by rank
--- every key is there, has its type and is in its range: in items, skills and kinds, in regions, and in all tables
+-- ---- the conditions, in the order in which their faults count
+-- the conditions on the keys of items, skills and kinds: each is there, of its type and in its range
 unfoldable pub things_are_good : Members → Conditions
 things_are_good doc =
     list_conditions item_keys (codes "item") (optional_array_at most_items (codes "item") (codes "item") doc)
     ++ (list_conditions skill_keys (codes "skill") (optional_array_at most_skills (codes "skill") (codes "skill") doc)
     ++ list_conditions kind_keys (codes "kind") (optional_array_at most_kinds (codes "kind") (codes "kind") doc))
 
+-- the conditions on the keys of regions
 unfoldable pub regions_are_good : Format → Members → Conditions
 regions_are_good First doc = list_conditions old_region_keys (codes "region") (array_at most_regions (codes "region") doc)
 regions_are_good Second doc = list_conditions region_keys (codes "region") (array_at most_regions (codes "region") doc)
 
+-- the conditions on the keys of all tables
 unfoldable pub keys_are_good : Format → Members → Conditions
 keys_are_good format doc =
     rules_conditions doc
@@ -86,7 +90,7 @@ keys_are_good format doc =
     ++ (things_are_good doc
     ++ regions_are_good format doc))
 
--- no name and no number stands twice
+-- the conditions that no two terrains, items, skills or kinds have the same name
 unfoldable pub titles_differ : WorldDraft → Conditions
 titles_differ all =
     twins (λ d. d.name) (codes "terrain") (codes "name") all.terrains
@@ -94,6 +98,7 @@ titles_differ all =
     ++ (twins (λ s. s.name) (codes "skill") (codes "name") all.skills
     ++ twins (λ d. d.name) (codes "kind") (codes "name") all.kinds))
 
+-- the conditions that all names and numbers that must be unique are
 unfoldable pub names_differ : WorldDraft → Conditions
 names_differ all =
     titles_differ all
@@ -101,7 +106,7 @@ names_differ all =
     ++ (each terrain_twins 0 all.terrains
     ++ each market_twins 0 all.regions))
 
--- no name stands for nothing
+-- the conditions that each name that refers to a thing is the name of one
 unfoldable pub names_are_known : WorldDraft → Conditions
 names_are_known all =
     rules_known all
@@ -110,15 +115,16 @@ names_are_known all =
     ++ (each (kind_known all) 0 all.kinds
     ++ each (region_known all) 0 all.regions)))
 
--- neighbours are mutual
+-- the conditions that each neighbour of a region has this region on its opposite side
 unfoldable pub neighbours_are_mutual : WorldDraft → Conditions
 neighbours_are_mutual all = each (neighbours_at (regions_of all)) 0 all.regions
 
--- some region has land
+-- the condition that there is a region with land, given the numbers of these regions; else NoLand
 abbrev pub is_some_land : List ℕ → Conditions
 is_some_land [] = Some NoLand ∷ []
 is_some_land (n ∷ ns) = None ∷ []
 
+-- the conditions on tables whose keys are good
 abbrev pub table_conditions : WorldDraft → Conditions
 table_conditions all =
     names_differ all
@@ -126,21 +132,24 @@ table_conditions all =
     ++ (neighbours_are_mutual all
     ++ is_some_land (land_of (world_of_tables all))))
 
--- all of them
+-- all conditions on a document
 unfoldable pub conditions : Format → Members → Conditions
 conditions format doc = keys_are_good format doc ++ table_conditions (tables_of format doc)
 
 -- ---- the world of a text in a format, or its first fault
+-- the world of a document in a format, or its first fault; NotToml if the text is no document
 abbrev pub world_in : Format → Option Members → Result WorldValue WorldFault
 world_in format None = Err NotToml
 world_in format (Some doc) = unless (first_fault (conditions format doc)) (world_of_tables (tables_of format doc))
 
+-- the world of a text in a format, or its first fault
 unfoldable pub world_by : Format → List ℕ → Result WorldValue WorldFault
 world_by format text = world_in format (parse_document text)
 
--- with markets, and as it was before there were any
+-- the world of a text in the second format, with markets, or its first fault
 abbrev pub world_of : List ℕ → Result WorldValue WorldFault
 world_of = world_by Second
 
+-- the world of a text in the first format, without markets, or its first fault
 abbrev pub old_world_of : List ℕ → Result WorldValue WorldFault
 old_world_of = world_by First

@@ -1,4 +1,4 @@
--- The value of a world in contracts.
+-- A world as contracts see it, and what is true of every world.
 use Rattle.std.specs.Prelude.{◌≡◌, ◌≢◌, ◌≤◌, ◌<◌, ℕ, Bool, true, false, List, length, map, refl, Option, Some, IfSome, option_and_then}
 use Rattle.std.specs.List.{All, slice_get}
 use Rattle.std.specs.Option.{option_map_or}
@@ -24,6 +24,7 @@ use Rattle.atl_tables.specs.Limits.{most_terrains, most_items, most_skills, most
 use Rattle.atl_tables.specs.Names.{name_ok, NamesDiffer}
 use Rattle.atl_tables.specs.Sums.{mapped, numbers_where}
 
+-- a world: its rules, its terrains, items, skills and kinds, each at its number, and its regions by number
 pub record WorldValue : Type 0 where
   pub rules : Rules
   pub terrains : List Terrain
@@ -32,11 +33,12 @@ pub record WorldValue : Type 0 where
   pub kinds : List Kind
   pub regions : FinMap nat_cmp RegionPlan
 
--- the world of its parts
+-- the world that has these parts
 abbrev pub world_of_parts : Rules → List Terrain → List Item → List Skill → List Kind → FinMap nat_cmp RegionPlan → WorldValue
 world_of_parts rules terrains items skills kinds regions =
     record { rules = rules; terrains = terrains; items = items; skills = skills; kinds = kinds; regions = regions }
 
+-- for proofs alone: the record encoded as nested pairs of its parts
 abbrev pub world_code : Coded WorldValue
 world_code =
     code_by (Rules × (List Terrain × (List Item × (List Skill × (List Kind × FinMap nat_cmp RegionPlan)))))
@@ -45,29 +47,31 @@ world_code =
     (λ q. world_of_parts q.0 q.1.0 q.1.1.0 q.1.1.1.0 q.1.1.1.1.0 q.1.1.1.1.1)
     (λ _. refl)
 
--- a region plan with land
+-- whether the terrain of a region is land
 abbrev pub is_land : List Terrain → RegionPlan → Bool
 is_land terrains plan = option_map_or (λ t. t.land) (slice_get terrains plan.terrain) false
 
--- the regions with land, by number
+-- the numbers of the regions with land, in rising order
 abbrev pub land_of : WorldValue → List ℕ
 land_of w = numbers_where (is_land w.terrains) w.regions
 
--- a world with its regions' markets left out
+-- a region with its markets left out
 abbrev pub without_market : RegionPlan → RegionPlan
 without_market p = record p { markets = empty }
 
+-- a world with the markets of all regions left out
 abbrev pub without_markets : WorldValue → WorldValue
 without_markets w = record w { regions = mapped without_market w.regions }
 
--- the neighbour of a region in a direction
+-- the number of a region's neighbour in a direction, None if it has none there
 abbrev pub beside : Direction → RegionPlan → Option ℕ
 beside North p = p.north
 beside South p = p.south
 beside East p = p.east
 beside West p = p.west
 
--- ---- what is true of every world: each number in its range, and each number of another thing below their count
+-- ---- what is true of every world: numbers are in their ranges, and the number of a thing is below how many there are
+-- the rules of a world with so many skills
 pub record AreRules (skills : ℕ) (r : Rules) : Type 0 where
   pub maintenance_least : 1 ≤ r.maintenance
   pub maintenance : r.maintenance ≤ most_per_head
@@ -85,7 +89,7 @@ pub record AreRules (skills : ℕ) (r : Rules) : Type 0 where
   pub stealth : IfSome r.stealth (λ s. s < skills)
   pub sailing : IfSome r.sailing (λ s. s < skills)
 
--- its output has an amount for each item
+-- a terrain of a world with so many items; its output has an amount for each of them
 pub record IsTerrain (items : ℕ) (t : Terrain) : Type 0 where
   pub name : name_ok t.name ≡ true
   pub wage_least : 1 ≤ t.wage
@@ -96,7 +100,7 @@ pub record IsTerrain (items : ℕ) (t : Terrain) : Type 0 where
   pub outputs : length t.output ≡ items
   pub output : All (λ amount. amount ≤ most_amount) t.output
 
--- the i-th item, which is made of another one
+-- the i-th item of a world with so many items and skills; if it has a raw item, that is another one
 pub record IsItem (items skills i : ℕ) (x : Item) : Type 0 where
   pub name : name_ok x.name ≡ true
   pub weight : x.weight ≤ most_weight
@@ -109,10 +113,12 @@ pub record IsItem (items skills i : ℕ) (x : Item) : Type 0 where
   pub raw_count_least : 1 ≤ x.raw_count
   pub raw_count : x.raw_count ≤ most_raw_count
 
+-- a skill of a world
 pub record IsSkill (s : Skill) : Type 0 where
   pub name : name_ok s.name ≡ true
   pub fee : s.fee ≤ most_price
 
+-- a kind of structure of a world with so many items and skills
 pub record IsKind (items skills : ℕ) (k : Kind) : Type 0 where
   pub name : name_ok k.name ≡ true
   pub material : k.material < items
@@ -125,7 +131,7 @@ pub record IsKind (items skills : ℕ) (k : Kind) : Type 0 where
   pub crew : k.crew ≤ most_size
   pub helps : IfSome k.helps (λ s. s < skills)
 
--- a market that stands under this item
+-- a market of the item with this number, in a world with so many items
 pub record IsMarket (items number : ℕ) (m : Market) : Type 0 where
   pub number_is : m.item ≡ number
   pub item : m.item < items
@@ -136,6 +142,7 @@ pub record IsMarket (items number : ℕ) (m : Market) : Type 0 where
   pub limit : m.limit ≤ most_amount
   pub restock : m.restock ≤ most_amount
 
+-- the region with this number, in a world with so many terrains and items
 pub record IsRegionPlan (terrains items number : ℕ) (p : RegionPlan) : Type 0 where
   pub number_is : p.number ≡ number
   pub number_least : 1 ≤ number
@@ -146,17 +153,18 @@ pub record IsRegionPlan (terrains items number : ℕ) (p : RegionPlan) : Type 0 
   pub money : p.money ≤ most_amount
   pub markets : (i : ℕ) (m : Market) → get p.markets i ≡ Some m → IsMarket items i m
 
--- a neighbour's neighbour on the opposite side is the region of this number
+-- a neighbour, if there is one, is a region whose own neighbour on the opposite side is the region with this number
 abbrev pub LeadsBack : FinMap nat_cmp RegionPlan → (RegionPlan → Option ℕ) → ℕ → Option ℕ → Type 0
 LeadsBack regions opposite number neighbour = IfSome neighbour (λ m. option_and_then opposite (get regions m) ≡ Some number)
 
--- of the region with this number, and its neighbours in the north, south, east and west
+-- the neighbours n, s, e and w of the region with this number have it on their opposite sides
 pub record HasNeighbours (regions : FinMap nat_cmp RegionPlan) (number : ℕ) (n s e w : Option ℕ) : Type 0 where
   pub north : LeadsBack regions (λ q. q.south) number n
   pub south : LeadsBack regions (λ q. q.north) number s
   pub east : LeadsBack regions (λ q. q.west) number e
   pub west : LeadsBack regions (λ q. q.east) number w
 
+-- a world: its parts are in bounds, neighbours are mutual, names differ, there are not too many things, and some land
 pub record IsWorld (w : WorldValue) : Type 0 where
   pub rules : AreRules (length w.skills) w.rules
   pub terrains : (i : ℕ) (t : Terrain) → slice_get w.terrains i ≡ Some t → IsTerrain (length w.items) t
