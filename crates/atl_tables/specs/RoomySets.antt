@@ -1,4 +1,4 @@
--- For proofs alone: sets of marked numbers, with the room that they have.
+-- Sets of marked numbers, with the room that they have.
 use Rattle.std.specs.Prelude.{◌≤◌, ℕ, refl}
 use Rattle.std.specs.Ordering.{nat_cmp}
 use Rattle.std.specs.Coded.{Coded, code_by, coded×, coded_ℕ}
@@ -10,7 +10,7 @@ pub record RoomySet : Type 0 where
   pub numbers : set.FinSet nat_cmp
   pub room : ℕ
 
--- the record encoded as the pair of its parts
+-- for proofs alone: the record encoded as the pair of its parts
 abbrev pub roomy_set_code : Coded RoomySet
 roomy_set_code = code_by (set.FinSet nat_cmp × ℕ) (coded× (set.code coded_ℕ) coded_ℕ) (λ m. (m.numbers, m.room)) (λ p. record { numbers = p.0; room = p.1 }) (λ _. refl)
 

@@ -11,7 +11,7 @@ use crate::limits::MOST_SIZE;
 use crate::world::{Item, Kind, Market, Terrain, World};
 
 impl World {
-    /// The terrain of a region, where the world has a region of this number.
+    /// The terrain of the region with this number, `None` if the world has no such region.
     pub fn terrain_of(&self, region: u32) -> Option<&Terrain>
         ensures value { option_copied result ≡ terrain_of self.now region }
         ensures bounds { IfSome result (λ terrain. IsTerrain (length self.now.items) terrain.now) }
@@ -20,7 +20,7 @@ impl World {
         self.terrains().get(usize::from(plan.terrain))
     }
 
-    /// Whether a region is there and has land.
+    /// Whether the world has a region with this number, and it is land.
     pub fn is_land_at(&self, region: u32) -> bool
         ensures { result ≡ is_land_at self.now region }
     {
@@ -33,14 +33,14 @@ impl World {
         }
     }
 
-    /// The region beside another, where that is one of the world and has one on this side.
+    /// The number of the region next to this one in a direction, `None` if there is none.
     pub fn neighbour(&self, region: u32, direction: Direction) -> Option<u32>
         ensures { result ≡ neighbour self.now region direction }
     {
         self.region(region)?.beside(direction)
     }
 
-    /// The market of an item in a region, where there is one.
+    /// The market of an item in a region, `None` if the region has no such market.
     pub fn market(&self, region: u32, item: u16) -> Option<&Market>
         ensures value { option_copied result ≡ market_of self.now region item }
         ensures bounds { IfSome result
@@ -49,7 +49,7 @@ impl World {
         self.region(region)?.markets.get(u32::from(item))
     }
 
-    /// The item of a number, where there is one.
+    /// The item with this number, `None` if there is no such item.
     pub fn item(&self, number: u16) -> Option<&Item>
         ensures value { option_copied result ≡ slice_get self.now.items number }
         ensures bounds { IfSome result (λ item. 1 ≤ item.now.raw_count) }
@@ -57,7 +57,7 @@ impl World {
         self.items().get(usize::from(number))
     }
 
-    /// What a man pays for a month of study of a skill; nothing where there is no such skill.
+    /// The money that a month of study of a skill costs each man, 0 if there is no such skill.
     pub fn fee_of(&self, skill: u16) -> u32
         ensures { result ≡ fee_of self.now skill }
     {
@@ -67,14 +67,14 @@ impl World {
         }
     }
 
-    /// The kind of structure of a number, where there is one.
+    /// The kind of structure with this number, `None` if there is no such kind.
     pub fn kind(&self, number: u16) -> Option<&Kind>
         ensures { option_copied result ≡ slice_get self.now.kinds number }
     {
         self.kinds().get(usize::from(number))
     }
 
-    /// Whether a kind is a ship.
+    /// Whether a kind of structure is a ship; false if there is no such kind.
     pub fn is_ship(&self, kind: u16) -> bool
         ensures { result ≡ is_ship self.now kind }
     {
@@ -84,7 +84,7 @@ impl World {
         }
     }
 
-    /// The full size of a kind; where there is no such kind, the largest.
+    /// The size of a complete structure of a kind; the largest size if there is no such kind.
     pub fn size_of(&self, kind: u16) -> u32
         ensures { result ≡ size_of self.now kind }
     {

@@ -1,6 +1,7 @@
 //! The four directions to neighbouring regions.
 
-/// A side of a region, on which its neighbour lies. North and south are opposite, and so are east and west.
+/// A direction to the next region: one of the four sides of a region. North is opposite to south,
+/// and east to west.
 #[derive(Drop, Clone, Copy, Debug, PartialEq, Eq)]
 pub enum Direction {
     North,

@@ -1,7 +1,7 @@
-//! A macro for writing a drop by hand.
+//! A macro that ends a drop written by hand.
 
-/// Takes a value apart and lets its fields go, as a drop by hand has to end: `let_go!(self: Faction { number, name })`.
-/// All fields are named.
+/// Takes a value apart and drops its fields, all of which are named: `let_go!(self: Faction {
+/// number, name })`.
 #[macro_export]
 macro_rules! let_go {
     ($value:ident: $of:ident { $($field:ident),* $(,)? }) => {

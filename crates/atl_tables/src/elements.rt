@@ -1,4 +1,5 @@
-//! Reads arrays of tables, element by element.
+//! Reads arrays of tables of the world file, element by element.
+//! See docs/FORMATS.md, "The world file".
 ghost use Rattle.std.specs.Prelude.{◌≡◌, ◌≤◌, ◌∷◌, ℕ, List, IfOk, Result, length};
 ghost use Rattle.std.specs.List.{All};
 ghost use Rattle.toml.specs.Data.{Members};
@@ -16,7 +17,7 @@ use std::alloc::Global;
 use toml::value::Array;
 use toml::{Table, Value};
 
-/// What is read from a table: an element of an array of tables, or a part of what one table says.
+/// A value that is read from a table: an element of an array of tables, or a part of one table.
 pub(crate) trait Element: Drop {
     // What its table has to fulfil, and what it then is.
     ghost conditions: { List ℕ → Members → Conditions };
@@ -25,7 +26,8 @@ pub(crate) trait Element: Drop {
     // What is true of each that was read.
     ghost is_sound: { Self → Type 0 };
 
-    /// What the table at a path says, or its first fault, key by key. `Memory` may come at any point.
+    /// What a table at a path describes, or the first fault of its keys. `Memory` may come at any
+    /// point.
     fn read(alloc: Global, at: &str, table: &Table) -> Result<Self, WorldFault>
         ensures value { Gives (λ x. x) result
             (first_fault (conditions at.now (table_view table.now)))
@@ -33,6 +35,7 @@ pub(crate) trait Element: Drop {
         ensures sound { IfOk result is_sound };
 }
 
+/// The i-th element of the array at the path `key`, else WrongType or the first fault of its table.
 fn one_element<E: Element>(
     alloc: Global,
     key: &str,
@@ -53,6 +56,7 @@ fn one_element<E: Element>(
     }
 }
 
+/// All elements of the array at the path `key`, else the first fault of one.
 fn elements<E: Element>(alloc: Global, key: &str, values: &Array) -> Result<Vec<E>, WorldFault>
     ensures value { Gives (λ v. v.items) result
         (first_fault (elements_conditions E.conditions key.now 0 (array_view values.now)))
@@ -68,8 +72,8 @@ fn elements<E: Element>(alloc: Global, key: &str, values: &Array) -> Result<Vec<
     Ok(read)
 }
 
-/// The elements of the array under a key of the document, at least one and at most so many, else Missing, WrongType or
-/// OutOfRange of the array, or the first fault of an element.
+/// The elements of the array under a key of the document, 1 to `most` of them. Else Missing,
+/// WrongType or OutOfRange of the array, or the first fault of an element.
 #[tactic(auto, unfolding(crate::specs::Arrays::list_conditions, crate::specs::Arrays::list_of, crate::specs::Keys::array_at))]
 pub(crate) fn list<E: Element>(
     alloc: Global,
@@ -93,8 +97,9 @@ pub(crate) fn list<E: Element>(
     }
 }
 
-/// The elements of the array at a path, which is under a key of the table, at most so many, or none where there is no such
-/// array; else WrongType or OutOfRange of the array, or the first fault of an element.
+/// The elements of the array under a key of a table, at most `most` of them, none if the key is
+/// missing. Else WrongType or OutOfRange of the array, whose path is `array`, or the first fault of
+/// an element.
 #[tactic(auto, unfolding(crate::specs::Arrays::list_conditions, crate::specs::Arrays::list_of, crate::specs::Keys::optional_array_at))]
 pub(crate) fn optional_list<E: Element>(
     alloc: Global,

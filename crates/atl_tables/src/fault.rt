@@ -9,32 +9,33 @@ use std::alloc::{AllocError, AllocFailed};
 use std::error::Error;
 use std::fmt;
 
-/// The first fault of a world file, most with the path of the key, as `rules.growth`, or that there was no memory to read it.
-/// Nothing is made of the file then. See docs/FORMATS.md, "Faults of a world file".
+/// The first fault of a world file, most with the path of the key, as `rules.growth`; or that
+/// memory ran out while it was read. There is no world then.
+/// See docs/FORMATS.md, "Faults of a world file".
 #[derive(Drop, Debug)]
 pub enum WorldFault {
     /// The text is no TOML.
     NotToml,
     /// A key, a table or an array that is needed isn't there.
     Missing(Text),
-    /// What stands there is of another type.
+    /// The value under a key is of another type.
     WrongType(Text),
     /// A number or a name breaks its rule, or an array has too few or too many elements.
     OutOfRange(Text),
     /// The second of two equal names or numbers.
     TwoNames(Text),
-    /// Nothing has the name that stands there.
+    /// A name refers to nothing: no thing has it.
     UnknownName(Text),
-    /// No region of this number has the region on its opposite side.
+    /// The neighbour isn't there, or doesn't have this region on its opposite side.
     BadNeighbour(Text),
     /// No region is land.
     NoLand,
-    /// It says nothing of the text.
+    /// Memory ran out. It says nothing of the text.
     Memory,
 }
 
 impl WorldFault {
-    /// The number and the name of the fault's sort.
+    /// The number of the fault, if it has one, and its name.
     fn sort(&self) -> (Option<u8>, &'static str)
         ensures number { result.0 ≡ fault_number self.now }
         ensures name { result.1.now ≡ fault_name self.now }
@@ -52,16 +53,16 @@ impl WorldFault {
         }
     }
 
-    /// The number of the fault's sort, from 1 to 8; `Memory` has none. A lower number doesn't always count first: `Missing`,
-    /// `WrongType` and `OutOfRange` (2 to 4) count key by key, and the first key with one of them decides. See
-    /// docs/FORMATS.md, "Faults of a world file".
+    /// The number of the fault, from 1 to 8; `Memory` has none. A lower number doesn't always count
+    /// first: `Missing`, `WrongType` and `OutOfRange` (2 to 4) count key by key, and the first key
+    /// with one of them decides. See docs/FORMATS.md, "Faults of a world file".
     pub fn number(&self) -> Option<u8>
         ensures { result ≡ fault_number self.now }
     {
         self.sort().0
     }
 
-    /// The name of the fault's sort, as `WrongType`.
+    /// The name of the fault, as `WrongType`.
     pub fn name(&self) -> &'static str
         ensures { result.now ≡ fault_name self.now }
     {
@@ -84,7 +85,8 @@ impl WorldFault {
     }
 }
 
-/// The number, the name and the path, as `3 WrongType rules.growth`, as far as the fault has them.
+/// Writes the fault's number, name and path, as `3 WrongType rules.growth`; without a number or a
+/// path it leaves them out.
 impl fmt::Display for WorldFault {
     fn fmt<W: fmt::Write>(&self, f: &mut fmt::Formatter<W>) -> fmt::Result {
         let name = self.name();

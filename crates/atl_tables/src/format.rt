@@ -1,8 +1,8 @@
-//! The formats of campaigns.
+//! The two formats of world files and of campaigns. See docs/FORMATS.md, "Tables".
 ghost use Rattle.std.specs.Prelude.{◌≡◌};
 ghost use Rattle.atl_tables.specs.Formats.{format_number};
 
-/// What a world file and the tables of a campaign may say.
+/// A format of a world file and of a campaign's tables. The formats differ in markets alone.
 #[derive(Drop, Clone, Copy, Debug)]
 pub enum Format {
     /// No region has a market.
@@ -12,7 +12,7 @@ pub enum Format {
 }
 
 impl Format {
-    /// The number that the campaign's own row has of it. See docs/FORMATS.md, "Tables".
+    /// The number of the format in the campaign's row: 1 or 2. See docs/FORMATS.md, "Tables".
     pub fn number(self) -> u8
         ensures { result ≡ format_number self }
     {

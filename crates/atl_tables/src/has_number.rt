@@ -1,4 +1,4 @@
-//! Makes maps of values that have a number of their own.
+//! Values that have a number of their own, and maps of them by that number.
 ghost use Rattle.std.specs.Prelude.{◌≡◌, ◌≤◌, ℕ, length, IfOk};
 ghost use Rattle.std.specs.FinMap.{len};
 ghost use Rattle.atl_tables.specs.Sums.{by_number};
@@ -6,15 +6,17 @@ ghost use Rattle.atl_tables.specs.Sums.{by_number};
 use crate::numbered::Numbered;
 use std::alloc::{AllocError, Global};
 
-/// What says under which number it stands.
+/// A value with a number of its own, under which a map stores it.
 pub(crate) trait HasNumber: Drop {
     ghost place_of: { Self → ℕ };
 
+    /// The number under which the value is stored.
     fn place(&self) -> u32
         ensures { result ≡ place_of self.now };
 }
 
-/// The values under their numbers. Of those with one number the first counts.
+/// The map of these values, each under its own number. Of two with the same number the first
+/// counts.
 pub(crate) fn by_number<T: HasNumber>(
     alloc: Global,
     values: Vec<T>,

@@ -21,7 +21,7 @@ use crate::world_draft::{Draft, WorldDraft};
 use std::alloc::Global;
 use toml::Table;
 
-/// What making an item takes, with its skill and its raw item by name.
+/// What making one item takes, with the skill and the raw item by name.
 pub struct Recipe {
     /// The name of the skill that makes it, where there is one.
     pub skill: Option<Text>,
@@ -39,7 +39,7 @@ impl Drop for Recipe {
     }
 }
 
-/// An item, with names for what making it takes.
+/// A table `[[item]]` as read, with the skill and the raw item by name.
 pub struct ItemDraft {
     /// As the file writes it; it keeps the rule of names.
     pub name: Text,

@@ -1,5 +1,5 @@
-//! Reads the value under a key of a table. Each fault has the path of the key, and `Memory` is
-//! possible everywhere.
+//! Reads the value under a key of a table, or gives a fault with the path of the key; `Memory` is
+//! possible everywhere. See docs/FORMATS.md, "The world file".
 ghost use Rattle.std.specs.Prelude.{◌≡◌, ◌≤◌, ℤ, List, option_map, IfOk, IfSome, true, length, string_bytes};
 ghost use Rattle.toml.specs.Data.{get_member, as_integer, as_str, as_array};
 ghost use Rattle.toml.specs.View.{view, table_view, array_view};
@@ -14,28 +14,28 @@ use std::alloc::{AllocError, Global};
 use toml::value::Array;
 use toml::{Table, Value};
 
-/// The path of a key in a table, as `rules.growth`.
+/// The path of a key of the table at a path, as `rules.growth`.
 pub(crate) fn path(alloc: Global, at: &str, key: &str) -> Result<Text, AllocError>
     ensures { IfOk result (λ text. text ≡ path at.now key.now) }
 {
     Ok(Text::from_string(format!(in alloc; "{at}.{key}")?))
 }
 
-/// The path of an element of an array, as `region[0]`.
+/// The path of the i-th element of an array, as `region[0]`.
 pub(crate) fn element_path(alloc: Global, key: &str, i: usize) -> Result<Text, AllocError>
     ensures { IfOk result (λ text. text ≡ element_path key.now i) }
 {
     Ok(Text::from_string(format!(in alloc; "{key}[{i}]")?))
 }
 
-/// The value under a key, where there is one.
+/// The value under a key of a table, `None` if the key is missing.
 pub(crate) fn member<'a>(table: &'a Table, key: &str) -> Option<&'a Value>
     ensures { option_map (λ v. view v.now) result ≡ get_member key.now (table_view table.now) }
 {
     table.get(key)
 }
 
-/// The number, where it is from `least` to `most`.
+/// An integer as a number of 32 bits, if it is from `least` to `most`.
 fn within(least: u32, most: u32, number: i64) -> Option<u32>
     ensures value { result ≡ within least most number }
     ensures least { IfSome result (λ n. least ≤ n) }
@@ -52,7 +52,7 @@ fn within(least: u32, most: u32, number: i64) -> Option<u32>
     }
 }
 
-/// The number that a value is, from `least` to `most`, else WrongType or OutOfRange.
+/// A value as a number from `least` to `most`, else WrongType or OutOfRange.
 pub(crate) fn integer_in_range(
     alloc: Global,
     least: u32,
@@ -75,7 +75,7 @@ pub(crate) fn integer_in_range(
     }
 }
 
-/// A number under a key, from `least` to `most`, else Missing, WrongType or OutOfRange.
+/// The number under a key, from `least` to `most`, else Missing, WrongType or OutOfRange.
 #[tactic(auto, unfolding(crate::specs::Keys::number_at))]
 pub(crate) fn number(
     alloc: Global,
@@ -96,7 +96,8 @@ pub(crate) fn number(
     }
 }
 
-/// A number under a key, from `least` to `most`, or `default` where there is none; else WrongType or OutOfRange.
+/// The number under a key, from `least` to `most`, or `default` if the key is missing; else
+/// WrongType or OutOfRange.
 #[tactic(auto, unfolding(crate::specs::Keys::number_or_at))]
 pub(crate) fn number_or(
     alloc: Global,
@@ -120,7 +121,8 @@ pub(crate) fn number_or(
     }
 }
 
-/// A number under a key, from `least` to `most`, where there is one; else WrongType or OutOfRange.
+/// The number under a key, from `least` to `most`, `None` if the key is missing; else WrongType or
+/// OutOfRange.
 #[tactic(auto, unfolding(crate::specs::Keys::optional_number_at))]
 pub(crate) fn optional_number(
     alloc: Global,
@@ -142,7 +144,7 @@ pub(crate) fn optional_number(
     }
 }
 
-/// A name under a key, else Missing, WrongType, or OutOfRange where it breaks the rule of names.
+/// The name under a key, else Missing, WrongType, or OutOfRange if it breaks the rule of names.
 #[tactic(auto, unfolding(crate::specs::Keys::name_at))]
 pub(crate) fn name(alloc: Global, key: &str, at: &str, table: &Table) -> Result<Text, WorldFault>
     ensures value { Reads (λ t. t) result (name_at key.now at.now (table_view table.now)) }
@@ -162,7 +164,7 @@ pub(crate) fn name(alloc: Global, key: &str, at: &str, table: &Table) -> Result<
     }
 }
 
-/// The text that a value is, else WrongType.
+/// A value as a text, else WrongType.
 fn text_value(alloc: Global, key: &str, at: &str, value: &Value) -> Result<Text, WorldFault>
     ensures { Reads (λ t. t) result (typed (path at.now key.now) (as_str (view value.now))) }
 {
@@ -172,7 +174,7 @@ fn text_value(alloc: Global, key: &str, at: &str, value: &Value) -> Result<Text,
     }
 }
 
-/// A text under a key, else Missing or WrongType.
+/// The text under a key, else Missing or WrongType.
 #[tactic(auto, unfolding(crate::specs::Keys::text_at))]
 pub(crate) fn text(alloc: Global, key: &str, at: &str, table: &Table) -> Result<Text, WorldFault>
     ensures { Reads (λ t. t) result (text_at key.now at.now (table_view table.now)) }
@@ -183,7 +185,7 @@ pub(crate) fn text(alloc: Global, key: &str, at: &str, table: &Table) -> Result<
     }
 }
 
-/// A text under a key, where there is one; else WrongType.
+/// The text under a key, `None` if the key is missing; else WrongType.
 #[tactic(auto, unfolding(crate::specs::Keys::optional_text_at))]
 pub(crate) fn optional_text(
     alloc: Global,
@@ -202,7 +204,7 @@ pub(crate) fn optional_text(
     }
 }
 
-/// A truth value under a key, else Missing or WrongType.
+/// The truth value under a key, else Missing or WrongType.
 #[tactic(auto, unfolding(crate::specs::Keys::flag_at))]
 pub(crate) fn flag(alloc: Global, key: &str, at: &str, table: &Table) -> Result<bool, WorldFault>
     ensures { Reads (λ b. b) result (flag_at key.now at.now (table_view table.now)) }
@@ -216,7 +218,7 @@ pub(crate) fn flag(alloc: Global, key: &str, at: &str, table: &Table) -> Result<
     }
 }
 
-/// A table of the document, else Missing or WrongType.
+/// The table under a key of the document, else Missing or WrongType.
 #[tactic(auto, unfolding(crate::specs::Keys::table_at))]
 pub(crate) fn table<'a>(
     alloc: Global,
@@ -234,7 +236,7 @@ pub(crate) fn table<'a>(
     }
 }
 
-/// How many elements there are.
+/// The number of elements of an array.
 fn count(array: &Array) -> usize
     ensures value { result ≡ count_of (array_view array.now) }
     ensures length { result ≡ length array.now.items }
@@ -242,7 +244,7 @@ fn count(array: &Array) -> usize
     array.len()
 }
 
-/// The array that a value is, with at least `least` elements and at most `most`, else WrongType or OutOfRange.
+/// A value as an array of `least` to `most` elements, else WrongType or OutOfRange.
 pub(crate) fn array_of_size<'a>(
     alloc: Global,
     least: usize,

@@ -35,7 +35,7 @@ impl Drop for Building {
     }
 }
 
-/// What a structure is good for, with the skill that it helps by name.
+/// What a structure is good for: its capacity, its crew, and the skill that it helps, by name.
 #[derive(Drop)]
 pub struct Purpose {
     /// The most weight with which a ship sails, at most `MOST_AMOUNT`; 0 where the file has none.
@@ -46,7 +46,7 @@ pub struct Purpose {
     pub helps: Option<Text>,
 }
 
-/// A kind of structure, with its material and skills by name.
+/// A table `[[kind]]` as read, with the material and the skills by name.
 pub struct KindDraft {
     /// As the file writes it; it keeps the rule of names.
     pub name: Text,

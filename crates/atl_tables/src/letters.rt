@@ -1,14 +1,14 @@
-//! Bytes that mean something in names and in texts that name things. See docs/RULES.md, "Names and pass texts" and "Names in
-//! orders".
+//! The bytes that names and words of orders treat specially.
+//! See docs/RULES.md, "Names and pass texts" and "Names in orders".
 
-/// The space, the first byte that can be printed. A name neither begins nor ends with it.
+/// The space, the first printable byte. A name neither begins nor ends with it.
 pub const SPACE: u8 = b' ';
 
-/// The tilde, the last byte that can be printed.
+/// The tilde, the last printable byte.
 pub const TILDE: u8 = b'~';
 
-/// The quotation mark, in two of which a text may stand. No name has one.
+/// The quotation mark, between two of which a word may be. No name has one.
 pub const QUOTE: u8 = b'"';
 
-/// The underscore, which stands for a space in a bare word.
+/// The underscore, which stands for a space in a word without quotes.
 pub const UNDERSCORE: u8 = b'_';

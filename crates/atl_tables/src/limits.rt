@@ -27,19 +27,19 @@ pub const MOST_AMOUNT: u32 = 999_999_999;
 /// The most bytes of a name or of a pass text.
 pub const MOST_NAME_BYTES: usize = 40;
 
-/// The most money a month of one man or peasant: maintenance and tax of a man, income of a peasant.
+/// The most money of one man or peasant a month: maintenance and tax of a man, income of a peasant.
 pub(crate) const MOST_PER_HEAD: u32 = 1_000;
 
-/// The most money that a recruit costs, a month of work pays, a month of study costs a man, and one item costs or brings.
+/// The largest price of a recruit or an item, wage of a month, and fee of a month of study.
 pub(crate) const MOST_PRICE: u32 = 1_000_000;
 
-/// The most peasants of whom one can be recruited in a month.
+/// The largest `recruit_fraction`: in a month one peasant of so many can be recruited.
 pub(crate) const MOST_FRACTION: u32 = 1_000;
 
 /// The most births in a month, in percent of the peasants.
 pub(crate) const MOST_GROWTH: u32 = 100;
 
-/// The most weight of a man or an item, and of what it carries.
+/// The largest weight of a man or an item, and of what one carries.
 pub(crate) const MOST_WEIGHT: u32 = 10_000;
 
 /// The highest level of a skill; the lowest that is learned is 1.

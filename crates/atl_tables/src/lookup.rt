@@ -24,7 +24,7 @@ impl Titled for Kind {
     }
 }
 
-/// A byte of the name that a word is: `_` stands for a space where the word is bare.
+/// A byte of the name that a word stands for: in a word without quotes `_` is a space.
 pub fn letter_of(byte: u8, quoted: bool) -> u8
     ensures { result ≡ letter_of quoted byte }
 {
@@ -35,7 +35,7 @@ pub fn letter_of(byte: u8, quoted: bool) -> u8
     }
 }
 
-/// Whether a word is this name, ignoring ASCII case.
+/// Whether a word stands for this name, ignoring ASCII case.
 #[tactic(auto, using(crate::proofs::LookupLaws::other_length, crate::proofs::LookupLaws::same_letter, crate::proofs::LookupLaws::other_letter, crate::proofs::LookupLaws::end_of_both))]
 fn is_named(name: &[u8], word: &[u8], quoted: bool) -> bool
     ensures { result ≡ str_eq_ignore_ascii_case name.now (name_of word.now quoted) }
@@ -52,7 +52,7 @@ fn is_named(name: &[u8], word: &[u8], quoted: bool) -> bool
     true
 }
 
-/// The place of the first thing that a word names.
+/// The index of the first thing that a word names, `None` if there is none.
 fn index_named<T: Titled>(things: &[T], word: &[u8], quoted: bool) -> Option<usize>
     ensures value { result ≡ index_named T.title_of things.now word.now quoted }
     ensures within { IfSome result (λ i. i < length things.now) }
@@ -63,22 +63,23 @@ fn index_named<T: Titled>(things: &[T], word: &[u8], quoted: bool) -> Option<usi
 }
 
 impl World {
-    /// The number of the item that a word names, ignoring ASCII case. In a bare word `_` stands for a space. It takes
-    /// no memory. See docs/RULES.md, "Names in orders".
+    /// The number of the item that a word names, ignoring ASCII case, `None` if there is none. In a
+    /// word without quotes `_` is a space. It takes no memory.
+    /// See docs/RULES.md, "Names in orders".
     pub fn item_named(&self, word: &[u8], quoted: bool) -> Option<u16>
         ensures { result ≡ item_named self.now word.now quoted }
     {
         index_named(self.items(), word, quoted).map(|place| place as u16)
     }
 
-    /// The number of the skill that a word names, as `item_named` does it.
+    /// The number of the skill that a word names, found as by `item_named`.
     pub fn skill_named(&self, word: &[u8], quoted: bool) -> Option<u16>
         ensures { result ≡ skill_named self.now word.now quoted }
     {
         index_named(self.skills(), word, quoted).map(|place| place as u16)
     }
 
-    /// The number of the kind of structure that a word names, as `item_named` does it.
+    /// The number of the kind of structure that a word names, found as by `item_named`.
     pub fn kind_named(&self, word: &[u8], quoted: bool) -> Option<u16>
         ensures { result ≡ kind_named self.now word.now quoted }
     {

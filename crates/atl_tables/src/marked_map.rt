@@ -1,4 +1,5 @@
-//! A map by number with change marks.
+//! A map from numbers to values that marks each number whose value changed, so that only these are
+//! written.
 ghost use Rattle.std.specs.Prelude.{◌≡◌, ◌≤◌, IfOk, OnOk, OnErr, option_copied, None};
 ghost use Rattle.std.specs.FinMap as map;
 ghost use Rattle.std.specs.FinSet as set;
@@ -12,7 +13,8 @@ use crate::numbered::{Entries, Numbered};
 use std::alloc::{AllocError, Global};
 use std::marker::Model;
 
-/// A map from numbers to values that keeps which of them were changed, put in or taken out.
+/// A map from numbers to values, with a mark on each number whose value was put in, changed or
+/// taken out since the marks were last cleared.
 pub struct MarkedMap<V> {
     values: Numbered<V>,
     // The marked numbers, with room for one mark on each value.
@@ -43,7 +45,7 @@ impl<V: Drop> MarkedMap<V> {
     ghost use Rattle.std.specs.Borrow.{sem};
     ghost use Rattle.atl_tables.specs.Tracking.{LendsMarked};
 
-    /// A map of nothing, with nothing marked. It takes no memory.
+    /// The empty map, with nothing marked. It takes no memory.
     pub fn new(alloc: Global) -> Self
         ensures { result ≡ record { values = map.empty; marks = set.empty } }
     {
@@ -53,14 +55,15 @@ impl<V: Drop> MarkedMap<V> {
         }
     }
 
-    /// The value under a number, where there is one. It marks nothing.
+    /// The value under a number, `None` if there is none. It marks nothing.
     pub fn get(&self, number: u32) -> Option<&V>
         ensures { option_copied result ≡ map.get self.now.values number }
     {
         self.values.get(number)
     }
 
-    /// Lends a value, and marks it. It takes no memory.
+    /// The value under a number, lent to be changed, and its number marked; `None` if there is
+    /// none. It takes no memory.
     pub fn get_mut(&mut self, number: u32) -> Option<&mut V>
         ensures* writes_back { sem 𝓛 (LendsMarked V.row self.entry number result) }
         ensures value { option_copied_mut result ≡ map.get self.old.values number }
@@ -72,7 +75,8 @@ impl<V: Drop> MarkedMap<V> {
         }
     }
 
-    /// Puts a value under a number that has none, and marks it.
+    /// Puts a value under a number that has none, and marks the number. Without memory nothing
+    /// changes.
     pub fn insert(&mut self, number: u32, value: V) -> Result<(), AllocError>
         requires { map.get self.old.values number ≡ None }
         ensures ok { OnOk result (self.new ≡ with_value self.old number value) }
@@ -91,7 +95,8 @@ impl<V: Drop> MarkedMap<V> {
         }
     }
 
-    /// Puts a value in the place of what was under its number, and marks it. Without memory for it nothing changes.
+    /// Puts a value under a number, in place of any that is there, and marks the number. Without
+    /// memory nothing changes.
     pub fn put(&mut self, number: u32, value: V) -> Result<(), AllocError>
         ensures ok { OnOk result (self.new ≡ with_value self.old number value) }
         ensures err { OnErr result (self.new ≡ self.old) }
@@ -105,7 +110,8 @@ impl<V: Drop> MarkedMap<V> {
         Ok(())
     }
 
-    /// Takes a value out, where there is one, and marks its number. It takes no memory.
+    /// Takes out the value under a number, if there is one, and marks the number. It takes no
+    /// memory.
     pub fn remove(&mut self, number: u32)
         ensures { self.new ≡ without_value self.old number }
     {
@@ -113,8 +119,8 @@ impl<V: Drop> MarkedMap<V> {
         self.values.remove(number);
     }
 
-    /// Takes out again what was inserted, where there is something. Its number is marked afterwards where it was marked
-    /// before it was inserted. It takes no memory.
+    /// Takes out a value that was inserted, if it is there; its number stays marked if it was
+    /// marked before that. It takes no memory.
     pub fn take_out(&mut self, number: u32, was_marked: bool)
         ensures { self.new ≡ taken_out self.old number was_marked }
     {
@@ -126,7 +132,7 @@ impl<V: Drop> MarkedMap<V> {
         }
     }
 
-    /// The values, with nothing marked.
+    /// The map of these values, with nothing marked.
     pub fn of(alloc: Global, values: Numbered<V>) -> Result<Self, AllocError>
         ensures { IfOk result (λ made. made ≡ record { values = values; marks = set.empty }) }
     {
@@ -134,7 +140,7 @@ impl<V: Drop> MarkedMap<V> {
         Ok(Self { values, marks })
     }
 
-    /// Marks a number that has a value. It takes no memory.
+    /// Marks a number, if it has a value. It takes no memory.
     pub fn mark(&mut self, number: u32)
         ensures { self.new ≡ record self.old
             { marks = marked_with self.old.marks number (map.get self.old.values number) } }
@@ -142,14 +148,14 @@ impl<V: Drop> MarkedMap<V> {
         self.marks.mark_present(&self.values, number);
     }
 
-    /// Leaves nothing marked. It takes no memory.
+    /// Clears all marks. It takes no memory.
     pub fn unmark(&mut self)
         ensures { self.new ≡ record self.old { marks = set.empty } }
     {
         self.marks.clear();
     }
 
-    /// Takes all values out, and marks their numbers. It takes no memory.
+    /// Takes out all values, and marks their numbers. It takes no memory.
     pub fn clear(&mut self)
         ensures { self.new ≡ without_values self.old }
     {
@@ -157,7 +163,7 @@ impl<V: Drop> MarkedMap<V> {
         self.values.clear();
     }
 
-    /// The values by their numbers, whether marked or not.
+    /// All values by their numbers, whether marked or not.
     pub fn values(&self) -> &Numbered<V>
         ensures { result.now ≡ self.now.values }
     {

@@ -1,4 +1,4 @@
-//! An iterator over marked numbers.
+//! An iterator over the marked numbers of a `Marks`, in rising order.
 ghost use Rattle.std.specs.Slice.Iter.{iter_rest};
 ghost use Rattle.std.specs.Iterator.{YieldsFirstBy};
 
@@ -51,7 +51,7 @@ impl<'a> Iterator for MarkedNumbers<'a> {
     }
 }
 
-/// The next number of a slice.
+/// Takes the next number from an iterator over a slice.
 fn next_of(numbers: &mut Iter<'_, u32>) -> Option<u32>
     ensures { YieldsFirstBy (λ n. n) iter_rest numbers.old result numbers.new }
 {

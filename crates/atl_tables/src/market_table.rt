@@ -22,15 +22,15 @@ use crate::world_draft::{Draft, WorldDraft};
 use std::alloc::Global;
 use toml::Table;
 
-/// A market, with its item by name.
+/// A table `[[region.market]]` as read, with its item by name.
 pub struct MarketDraft {
     /// The path of its table, as `region[0].market[1]`.
     pub place: Text,
     /// The name of the item.
     pub item: Text,
-    /// Money that one costs, from 1 to `MOST_PRICE`.
+    /// Money that a unit pays the market for one, from 1 to `MOST_PRICE`.
     pub price: u32,
-    /// Money that one brings, from 1 to `MOST_PRICE`.
+    /// Money that the market pays a unit for one, from 1 to `MOST_PRICE`.
     pub pays: u32,
     /// The largest stock, at most `MOST_AMOUNT`.
     pub limit: u32,
@@ -70,7 +70,8 @@ impl Element for MarketDraft {
     }
 }
 
-/// The markets of a region, or none where the file has none; else the first fault of them.
+/// The markets of the region at a path, in the order of the file, none if it has none; else their
+/// first fault.
 #[tactic(auto, unfolding(crate::specs::MarketTable::markets_keys, crate::specs::MarketTable::markets_from))]
 pub(crate) fn markets(
     alloc: Global,

@@ -1,4 +1,4 @@
-//! A set of marked numbers.
+//! A set of marked numbers, with room to mark more without taking memory.
 ghost use Rattle.std.specs.Prelude.{◌≡◌, true, ◌+◌, ◌<◌, ◌≤◌, IfOk, OnOk};
 ghost use Rattle.std.specs.FinMap as map;
 ghost use Rattle.std.specs.FinSet as set;
@@ -13,11 +13,11 @@ use crate::sorted_numbers::SortedNumbers;
 use std::alloc::{AllocError, Global};
 use std::marker::Model;
 
-/// At most this many numbers are recent: not merged yet.
+/// The most numbers that are recent: marked last, and not merged into the others yet.
 const RECENT_LIMIT: usize = 512;
 
-/// The marked numbers, with room for more: to mark one takes no memory, and to let all marks go takes no longer than the
-/// marks are many.
+/// A set of marked numbers, with room for more. To mark one takes no memory, and to clear the set
+/// takes time in the number of marks.
 pub struct Marks {
     numbers: SortedNumbers,
     // Those that were marked last, so few that it takes little to put one among them.
@@ -45,7 +45,7 @@ impl Model for Marks {
 }
 
 impl Marks {
-    /// Nothing marked, and no room. It takes no memory.
+    /// The empty set, without room. It takes no memory.
     pub fn new(alloc: Global) -> Marks
         ensures { result ≡ record { numbers = set.empty; room = 0 } }
     {
@@ -55,7 +55,7 @@ impl Marks {
         }
     }
 
-    /// Nothing marked, and room for so many numbers.
+    /// The empty set, with room for `room` numbers.
     pub fn with_room(alloc: Global, room: usize) -> Result<Marks, AllocError>
         ensures { IfOk result (λ marks. marks ≡ record { numbers = set.empty; room = room }) }
     {
@@ -64,7 +64,8 @@ impl Marks {
         Ok(Marks { numbers, recent })
     }
 
-    /// Makes room for so many numbers more. Without memory for it nothing changes.
+    /// Makes room for `more` further numbers. Without memory for it the numbers stay the same, and
+    /// the room is no less.
     pub fn make_room(&mut self, more: usize) -> Result<(), AllocError>
         ensures numbers { self.new.numbers ≡ self.old.numbers }
         ensures room { OnOk result (set.len self.old.numbers + more ≤ self.new.room) }
@@ -79,7 +80,7 @@ impl Marks {
         self.numbers.make_room(all)
     }
 
-    /// Marks a number for which there is room. It takes no memory.
+    /// Marks a number, for which there is room. It takes no memory.
     pub fn add(&mut self, number: u32)
         requires { set.len (set.insert self.old.numbers number) ≤ self.old.room }
         ensures { self.new ≡ record self.old { numbers = set.insert self.old.numbers number } }
@@ -95,7 +96,8 @@ impl Marks {
         }
     }
 
-    /// Marks a number if it has a value, where there is room to mark every value. It takes no memory.
+    /// Marks a number if it has a value; there is room to mark each number with a value. It takes
+    /// no memory.
     pub fn mark_present<V: Drop>(&mut self, values: &Numbered<V>, number: u32)
         requires { HasRoom values.now self.old }
         ensures { self.new ≡ record self.old
@@ -107,7 +109,7 @@ impl Marks {
         }
     }
 
-    /// Marks every number that has a value, where there is room for that. It takes no memory.
+    /// Marks each number that has a value; there is room for that. It takes no memory.
     pub fn mark_all<V: Drop>(&mut self, values: &Numbered<V>)
         requires { HasRoom values.now self.old }
         ensures { self.new ≡ record self.old { numbers = held values.now self.old.numbers } }
@@ -117,7 +119,7 @@ impl Marks {
         }
     }
 
-    /// Takes the mark from a number. It takes no memory.
+    /// Clears the mark of a number. It takes no memory.
     pub fn take(&mut self, number: u32)
         ensures { self.new ≡ record self.old { numbers = set.remove self.old.numbers number } }
     {
@@ -125,7 +127,7 @@ impl Marks {
         self.recent.take(number);
     }
 
-    /// Leaves nothing marked. It takes no memory.
+    /// Clears all marks. It takes no memory.
     pub fn clear(&mut self)
         ensures { self.new ≡ record self.old { numbers = set.empty } }
     {
@@ -159,7 +161,7 @@ impl Marks {
     }
 }
 
-/// Whether one number more can be among those that were marked last.
+/// Whether one more number fits among the recent ones, so that they need no merging.
 fn merges_recent(recent: &SortedNumbers) -> bool
     ensures { result ≡ true → set.len recent.now.numbers < recent.now.room }
 {

@@ -8,25 +8,28 @@ use crate::letters::{QUOTE, SPACE, TILDE};
 use crate::limits::MOST_NAME_BYTES;
 use crate::lookup::letter_of;
 
+/// Whether a text has 1 to 40 bytes.
 fn is_short(text: &[u8]) -> bool
     ensures { result ≡ is_short text.now }
 {
     1 <= text.len() && text.len() <= MOST_NAME_BYTES
 }
 
+/// Whether a byte may be in a name: it is from 32 to 126, and no quotation mark.
 fn is_name_byte(byte: u8) -> bool
     ensures { result ≡ is_name_byte byte }
 {
     SPACE <= byte && byte <= TILDE && byte != QUOTE
 }
 
+/// Whether a byte may be in a pass text: it is from 33 to 126.
 fn is_pass_byte(byte: u8) -> bool
     ensures { result ≡ is_pass_byte byte }
 {
     SPACE < byte && byte <= TILDE
 }
 
-/// Whether no space is at either end of what a word names.
+/// Whether the name that a word stands for neither begins nor ends with a space.
 fn has_open_ends(word: &[u8], quoted: bool) -> bool
     ensures { result ≡ has_open_ends (name_of word.now quoted) }
 {
@@ -38,7 +41,7 @@ fn has_open_ends(word: &[u8], quoted: bool) -> bool
     first != SPACE && last != SPACE
 }
 
-/// Whether what a word names has only bytes of names.
+/// Whether the name that a word stands for has only bytes of names.
 fn are_name_bytes(word: &[u8], quoted: bool) -> bool
     ensures { result ≡ list_all is_name_byte (name_of word.now quoted) }
 {
@@ -47,22 +50,23 @@ fn are_name_bytes(word: &[u8], quoted: bool) -> bool
         .all(|byte| is_name_byte(byte))
 }
 
+/// Whether a text has only bytes of pass texts.
 fn are_pass_bytes(text: &[u8]) -> bool
     ensures { result ≡ list_all is_pass_byte text.now }
 {
     text.iter().all(|byte| is_pass_byte(*byte))
 }
 
-/// Whether what a word names may be a name. In a bare word `_` stands for a space. It takes no memory. See docs/RULES.md,
-/// "Names and pass texts".
+/// Whether the text that a word stands for keeps the rule of names. In a word without quotes `_` is
+/// a space. It takes no memory. See docs/RULES.md, "Names and pass texts".
 pub fn word_ok(word: &[u8], quoted: bool) -> bool
     ensures { result ≡ name_ok (name_of word.now quoted) }
 {
     is_short(word) && has_open_ends(word, quoted) && are_name_bytes(word, quoted)
 }
 
-/// Whether a text may be a name: 1 to 40 bytes from 32 to 126, no quotation mark, and no space at either end. It takes
-/// no memory. See docs/RULES.md, "Names and pass texts".
+/// Whether a text keeps the rule of names: 1 to 40 bytes from 32 to 126, no quotation mark, and no
+/// space at either end. It takes no memory. See docs/RULES.md, "Names and pass texts".
 #[tactic(auto, using(crate::proofs::NameLaws::quoted_names_itself))]
 pub fn name_ok(text: &[u8]) -> bool
     ensures { result ≡ name_ok text.now }
@@ -70,8 +74,8 @@ pub fn name_ok(text: &[u8]) -> bool
     word_ok(text, true)
 }
 
-/// Whether a text may be a pass text: 1 to 40 bytes from 33 to 126. It takes no memory. See docs/RULES.md, "Names and
-/// pass texts".
+/// Whether a text keeps the rule of pass texts: 1 to 40 bytes from 33 to 126. It takes no memory.
+/// See docs/RULES.md, "Names and pass texts".
 pub fn pass_ok(text: &[u8]) -> bool
     ensures { result ≡ pass_ok text.now }
 {

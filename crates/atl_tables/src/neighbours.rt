@@ -17,7 +17,7 @@ use crate::region_table::RegionDraft;
 use crate::world::RegionPlan;
 use std::alloc::Global;
 
-/// The neighbour of a region on a side, where there is such a region and it has one.
+/// The number of a region's neighbour on a side, `None` if there is no such region or no neighbour.
 fn region_next_to(regions: &Numbered<RegionPlan>, number: u32, side: Direction) -> Option<u32>
     ensures { result ≡ option_and_then (beside side) (get regions.now number) }
 {
@@ -27,6 +27,7 @@ fn region_next_to(regions: &Numbered<RegionPlan>, number: u32, side: Direction) 
     }
 }
 
+/// Whether an optional number is this one.
 fn is_number(number: u32, other: Option<u32>) -> bool
     ensures { result ≡ is_number number other }
 {
@@ -36,7 +37,8 @@ fn is_number(number: u32, other: Option<u32>) -> bool
     }
 }
 
-/// That a region's neighbour under a key, where it has one, has the region on the opposite side, else BadNeighbour.
+/// Checks that a region's neighbour, if it has one, has the region on its opposite side, else
+/// BadNeighbour.
 fn neighbour(
     alloc: Global,
     key: &str,
@@ -61,6 +63,8 @@ fn neighbour(
     }
 }
 
+/// Checks the four neighbours of the i-th region of the file, else BadNeighbour at the first that
+/// is wrong.
 #[tactic(auto, unfolding(crate::specs::Neighbours::neighbours_at))]
 fn neighbours_of(
     alloc: Global,
@@ -84,7 +88,8 @@ fn neighbours_of(
     neighbour(alloc, "west", at, regions, East, number, sides.west)
 }
 
-/// That the neighbours of all regions are mutual, else BadNeighbour at the first that isn't, in the order of the file.
+/// Checks that the neighbours of all regions are mutual, else BadNeighbour at the first that isn't,
+/// in the order of the file.
 pub(crate) fn mutual_neighbours(
     alloc: Global,
     regions: &Numbered<RegionPlan>,

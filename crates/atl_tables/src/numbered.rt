@@ -1,4 +1,4 @@
-//! A map by number, sorted by its numbers.
+//! A map from numbers to values, sorted by number.
 ghost use Rattle.std.specs.Prelude.{◌≡◌, ℕ, IfOk, OnOk, OnErr, IsOk, option_copied, None, Some, is_some, length};
 ghost use Rattle.std.specs.Ordering.{nat_cmp};
 ghost use Rattle.std.specs.FinMap as map;
@@ -8,7 +8,7 @@ use std::alloc::{AllocError, Global};
 use std::collections::{BTreeMap, btree_map};
 use std::marker::Model;
 
-/// A map from numbers to values.
+/// A map from numbers to values, sorted by number.
 #[derive(Drop)]
 pub struct Numbered<V> {
     entries: BTreeMap<u32, V>,
@@ -27,7 +27,7 @@ impl<V: Drop> Numbered<V> {
     ghost use Rattle.std.specs.Borrow.{sem};
     ghost use Rattle.atl_tables.specs.Lending.{LendsAt};
 
-    /// A map of nothing. It takes no memory.
+    /// The empty map. It takes no memory.
     pub fn new(alloc: Global) -> Self
         ensures { result ≡ map.empty }
     {
@@ -36,14 +36,14 @@ impl<V: Drop> Numbered<V> {
         }
     }
 
-    /// The value under a number, where there is one.
+    /// The value under a number, `None` if there is none.
     pub fn get(&self, number: u32) -> Option<&V>
         ensures { option_copied result ≡ map.get self.now number }
     {
         self.entries.get(&number)
     }
 
-    /// Lends the value under a number, where there is one.
+    /// The value under a number, lent to be changed, `None` if there is none.
     pub fn get_mut(&mut self, number: u32) -> Option<&mut V>
         ensures* writes_back { sem 𝓛 (LendsAt V.row self.entry number result) }
         ensures value { option_copied_mut result ≡ map.get self.old number }
@@ -51,7 +51,7 @@ impl<V: Drop> Numbered<V> {
         self.entries.get_mut(&number)
     }
 
-    /// Puts a value under a number, in the place of the one that stood there. Without memory the map is as it was.
+    /// Puts a value under a number, in place of any that is there. Without memory nothing changes.
     pub fn insert(&mut self, number: u32, value: V) -> Result<(), AllocError>
         ensures ok { OnOk result (self.new ≡ map.insert self.old number value) }
         ensures err { OnErr result (self.new ≡ self.old) }
@@ -60,7 +60,7 @@ impl<V: Drop> Numbered<V> {
         Ok(())
     }
 
-    /// Takes out the value under a number, where there is one. It takes no memory.
+    /// Takes out the value under a number, if there is one. It takes no memory.
     pub fn remove(&mut self, number: u32)
         ensures { self.new ≡ map.remove self.old number }
     {
@@ -94,7 +94,7 @@ impl<V: Drop> Numbered<V> {
 impl<V: Drop> Numbered<Numbered<V>> {
     ghost use Rattle.atl_tables.specs.Groups.{group_of};
 
-    /// The value under a number of the group under another, where there is one.
+    /// The value under a number in the group under another number, `None` if there is none.
     pub fn get_under(&self, group: u32, number: u32) -> Option<&V>
         ensures { option_copied result ≡ map.get (group_of self.now group) number }
     {
@@ -104,8 +104,8 @@ impl<V: Drop> Numbered<Numbered<V>> {
         }
     }
 
-    /// Puts a value under a number of the group under another, in the place of the one that stood there. A group that isn't
-    /// there is begun. Without memory the groups are as they were.
+    /// Puts a value under a number in the group under another number, in place of any that is
+    /// there. A group that is missing is added. Without memory nothing changes.
     pub fn insert_under(
         &mut self,
         alloc: Global,
@@ -129,7 +129,8 @@ impl<V: Drop> Numbered<Numbered<V>> {
     }
 }
 
-/// The entries that are left to come.
+/// An iterator over the entries of a map, each a number and its value, in rising order of the
+/// numbers.
 #[derive(Drop)]
 pub struct Entries<'a, V> {
     inner: btree_map::Iter<'a, u32, V>,

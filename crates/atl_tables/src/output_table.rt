@@ -22,14 +22,15 @@ use std::alloc::{AllocError, Global};
 use std::collections::BTreeSet;
 use toml::Table;
 
-/// An item by name, and how much of it a region gives in a month, at most `MOST_AMOUNT`.
+/// One entry of a terrain's output: an item by name, and how much of it a region gives in a month.
 #[derive(Drop)]
 pub struct Output {
     pub item: Text,
     pub amount: u32,
 }
 
-/// Each key with its amount, in byte order, else WrongType or OutOfRange at the first key without one.
+/// The entries of a table `output`, in byte order of their keys, else WrongType or OutOfRange at
+/// the first bad amount.
 fn amounts(alloc: Global, at: &str, table: &Table) -> Result<Sequence<Output>, WorldFault>
     ensures value { Gives (λ v. v) result
         (first_fault (amounts_keys at.now (in_byte_order (table_view table.now))))
@@ -46,7 +47,8 @@ fn amounts(alloc: Global, at: &str, table: &Table) -> Result<Sequence<Output>, W
     Ok(outputs)
 }
 
-/// The output of a terrain, in byte order, or none where the file has none; else the first fault of the table.
+/// The output of the terrain at a path, in byte order of the items' names, empty if the file has
+/// none; else the first fault of the table.
 #[tactic(auto, unfolding(crate::specs::OutputTable::output_at, crate::specs::OutputTable::in_byte_order, crate::specs::Keys::optional_table_at))]
 pub(crate) fn outputs(
     alloc: Global,
@@ -70,7 +72,7 @@ pub(crate) fn outputs(
     }
 }
 
-/// That no two keys are equal, ignoring ASCII case, else TwoNames at the second.
+/// Checks that no two keys are equal, ignoring ASCII case, else TwoNames at the second.
 pub(crate) fn no_duplicate_keys(
     alloc: Global,
     at: &str,
@@ -88,7 +90,7 @@ pub(crate) fn no_duplicate_keys(
     Ok(())
 }
 
-/// That each key stands for an item, else UnknownName at the first that doesn't.
+/// Checks that each key names an item, else UnknownName at the first that doesn't.
 pub(crate) fn known_keys(
     alloc: Global,
     all: &WorldDraft,
@@ -106,7 +108,7 @@ pub(crate) fn known_keys(
     Ok(())
 }
 
-/// The amount of an item, 0 where it isn't named.
+/// The amount of the item with this name, 0 if no key names it.
 #[tactic(auto, unfolding(crate::specs::OutputTable::amount_of))]
 fn amount_of(outputs: &[Output], item: &Text) -> u32
     requires { All IsOutput outputs.now }
@@ -121,7 +123,7 @@ fn amount_of(outputs: &[Output], item: &Text) -> u32
     0
 }
 
-/// The amounts of all items, by their numbers.
+/// The amounts of all items of the world, each at the number of its item.
 pub(crate) fn amounts_of(
     alloc: Global,
     items: &[ItemDraft],

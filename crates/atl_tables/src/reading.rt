@@ -32,7 +32,7 @@ use crate::world_draft::{WorldDraft, resolve_all};
 use std::alloc::{AllocError, Global};
 use toml::Table;
 
-/// What tables stand for, with regions in the order of the file.
+/// The parts of a world, with names looked up and the regions in the order of the file.
 #[derive(Drop)]
 pub struct WorldParts {
     pub rules: Rules,
@@ -42,7 +42,7 @@ pub struct WorldParts {
     pub regions: Sequence<RegionPlan>,
 }
 
-/// The tables that a world file may lack.
+/// The tables of items, skills and kinds, which a world file may leave out.
 #[derive(Drop)]
 pub struct ThingDrafts {
     pub items: Sequence<ItemDraft>,
@@ -50,6 +50,7 @@ pub struct ThingDrafts {
     pub kinds: Sequence<KindDraft>,
 }
 
+/// The tables of items, skills and kinds of the document, else the first fault of a key.
 #[tactic(auto, unfolding(crate::specs::World::things_are_good, crate::specs::World::things_of))]
 fn read_thing_drafts(alloc: Global, document: &Table) -> Result<ThingDrafts, WorldFault>
     ensures value { Gives (λ t. t) result (first_fault (things_are_good (table_view document.now)))
@@ -66,7 +67,7 @@ fn read_thing_drafts(alloc: Global, document: &Table) -> Result<ThingDrafts, Wor
     })
 }
 
-/// The regions as a format reads them, else the first fault of a key.
+/// The regions of the document as a format reads them, else the first fault of a key.
 #[tactic(auto, unfolding(crate::specs::World::regions_are_good, crate::specs::World::regions_in))]
 fn read_regions(
     alloc: Global,
@@ -88,7 +89,7 @@ fn read_regions(
     }
 }
 
-/// What the tables say, else the first fault of a key.
+/// All tables of the document, with names not looked up yet, else the first fault of a key.
 #[tactic(auto, unfolding(crate::specs::World::keys_are_good, crate::specs::World::tables_of))]
 fn tables(alloc: Global, format: Format, document: &Table) -> Result<WorldDraft, WorldFault>
     ensures value { Gives (λ t. t) result
@@ -110,7 +111,7 @@ fn tables(alloc: Global, format: Format, document: &Table) -> Result<WorldDraft,
     })
 }
 
-/// That no two terrains, items, skills or kinds have one name, else TwoNames.
+/// Checks that no two terrains, items, skills or kinds have the same name, else TwoNames.
 #[tactic(auto, unfolding(crate::specs::World::titles_differ))]
 fn titles_differ(alloc: Global, all: &WorldDraft) -> Result<(), WorldFault>
     ensures { Gives (λ u. u) result (first_fault (titles_differ all.now)) (tt {0}) }
@@ -121,7 +122,7 @@ fn titles_differ(alloc: Global, all: &WorldDraft) -> Result<(), WorldFault>
     no_duplicate_names(alloc, "kind", "name", all.kinds.as_slice())
 }
 
-/// That no name and no number stands twice, else TwoNames.
+/// Checks that all names and numbers that must be unique are, else TwoNames.
 #[tactic(auto, unfolding(crate::specs::World::names_differ))]
 fn names_differ(alloc: Global, all: &WorldDraft) -> Result<(), WorldFault>
     ensures { Gives (λ u. u) result (first_fault (names_differ all.now)) (tt {0}) }
@@ -132,7 +133,7 @@ fn names_differ(alloc: Global, all: &WorldDraft) -> Result<(), WorldFault>
     no_duplicates_inside(alloc, all.regions.as_slice())
 }
 
-/// What the tables stand for, else UnknownName.
+/// The parts of the world that the tables describe, with names looked up, else UnknownName.
 #[tactic(auto, unfolding(crate::specs::World::names_are_known))]
 fn resolve(alloc: Global, all: &WorldDraft) -> Result<WorldParts, WorldFault>
     requires { IsWorldDraft all.now }
@@ -154,6 +155,7 @@ fn resolve(alloc: Global, all: &WorldDraft) -> Result<WorldParts, WorldFault>
     })
 }
 
+/// Whether the terrain of a region is land.
 fn is_land(terrains: &[Terrain], plan: &RegionPlan) -> bool
     ensures { result ≡ is_land terrains.now plan.now }
 {
@@ -180,7 +182,7 @@ fn land(
     Ok(numbers)
 }
 
-/// The world of its records, if it has land, else NoLand.
+/// The world of these parts, if a region has land, else NoLand.
 fn with_land(
     alloc: Global,
     rules: Rules,
@@ -205,7 +207,8 @@ fn with_land(
     Ok(World::from_parts(rules, terrains, items, skills, kinds, regions, land))
 }
 
-/// The world of what tables stand for, where neighbours are mutual, else BadNeighbour; or NoLand.
+/// The world of these parts, if neighbours are mutual and a region has land; else BadNeighbour or
+/// NoLand.
 #[tactic(auto, unfolding(crate::specs::World::neighbours_are_mutual))]
 fn join(alloc: Global, all: WorldDraft, parts: WorldParts) -> Result<World, WorldFault>
     requires all { IsWorldDraft all }
@@ -229,7 +232,8 @@ fn join(alloc: Global, all: WorldDraft, parts: WorldParts) -> Result<World, Worl
     with_land(alloc, rules, terrains, items, skills, kinds, regions)
 }
 
-/// The world that tables describe, or the first fault of their names, numbers and neighbours, or NoLand.
+/// The world that the tables describe, or the first fault of names, numbers and neighbours, or
+/// NoLand.
 fn from_tables(alloc: Global, all: WorldDraft) -> Result<World, WorldFault>
     requires { IsWorldDraft all }
     ensures { Gives (λ w. w) result (first_fault (table_conditions all)) (world_of_tables all) }
@@ -239,6 +243,7 @@ fn from_tables(alloc: Global, all: WorldDraft) -> Result<World, WorldFault>
     join(alloc, all, parts)
 }
 
+/// The world that a document describes in a format, or its first fault.
 #[tactic(auto, unfolding(crate::specs::World::conditions))]
 fn from_document(alloc: Global, format: Format, document: &Table) -> Result<World, WorldFault>
     ensures { Gives (λ w. w) result (first_fault (conditions format (table_view document.now)))
@@ -264,22 +269,25 @@ fn read(alloc: Global, format: Format, text: &str) -> Result<World, WorldFault>
     }
 }
 
-/// The world that a text describes, or its first fault in the order that docs/FORMATS.md, "Faults of a world file", gives.
-/// `Memory` is answered only where there was none left, and says nothing of the text.
+/// The world that a text describes, or its first fault in the order of
+/// docs/FORMATS.md, "Faults of a world file". `Memory` is answered only if memory ran out, and says
+/// nothing of the text.
 pub fn read_world(alloc: Global, text: &str) -> Result<World, WorldFault>
     ensures definition { Reads (λ w. w) result (world_of text.now) }
 {
     read(alloc, Format::Second, text)
 }
 
-/// Likewise by the first format, which ignores the key `market` of a region.
+/// The world that a text describes in the first format, which ignores the markets of regions, or
+/// its first fault.
 pub fn read_old_world(alloc: Global, text: &str) -> Result<World, WorldFault>
     ensures definition { Reads (λ w. w) result (old_world_of text.now) }
 {
     read(alloc, Format::First, text)
 }
 
-/// Does nothing. Its clause is the law that a world of the first format has no markets, whatever its text says of them.
+/// A law: a world of the first format has no markets, whatever its text has of them. The call does
+/// nothing.
 pub fn old_worlds_have_no_markets()
     ensures { OldWorldsAreBare }
 {}

@@ -22,7 +22,7 @@ use crate::world_draft::{Draft, WorldDraft, resolve_all};
 use std::alloc::{AllocError, Global};
 use toml::Table;
 
-/// What a region is, with its terrain by name.
+/// A region's number, name, terrain (by name), peasants and money.
 pub struct RegionBasics {
     /// From 1 to `LAST_REGION`.
     pub number: u32,
@@ -42,7 +42,8 @@ impl Drop for RegionBasics {
     }
 }
 
-/// The numbers of a region's neighbours, each from 1 to `LAST_REGION`, where it has one on that side.
+/// The numbers of a region's neighbours, each from 1 to `LAST_REGION`, `None` on a side without
+/// one.
 #[derive(Drop)]
 pub struct Sides {
     pub north: Option<u32>,
@@ -51,15 +52,17 @@ pub struct Sides {
     pub west: Option<u32>,
 }
 
-/// A region of a file of the first format, with its terrain by name.
+/// A table `[[region]]` of the first format as read, with its terrain by name.
 #[derive(Drop)]
 pub struct OldRegion {
+    /// Its number, name, terrain, peasants and money.
     pub place: RegionBasics,
     pub sides: Sides,
 }
 
-/// A region, with its terrain and the items of its markets by name.
+/// A table `[[region]]` as read, with its terrain and the items of its markets by name.
 pub struct RegionDraft {
+    /// Its number, name, terrain, peasants and money.
     pub place: RegionBasics,
     pub sides: Sides,
     /// Its markets, in the order of the file.
@@ -96,6 +99,7 @@ impl Element for RegionBasics {
     }
 }
 
+/// The neighbours of the region at a path, else WrongType or OutOfRange of a side.
 #[tactic(auto, unfolding(crate::specs::RegionTable::side_keys, crate::specs::RegionTable::sides_from))]
 fn read_sides(alloc: Global, at: &str, table: &Table) -> Result<Sides, WorldFault>
     ensures { Gives (λ s. s) result (first_fault (side_keys at.now (table_view table.now)))
@@ -147,7 +151,7 @@ impl Element for RegionDraft {
     }
 }
 
-/// The regions of a file of the first format, which have no markets.
+/// The regions of a file of the first format, each with an empty list of markets.
 pub(crate) fn without_markets(
     alloc: Global,
     regions: Sequence<OldRegion>,

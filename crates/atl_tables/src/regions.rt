@@ -1,4 +1,4 @@
-//! Checks that no two regions have the same number.
+//! Checks that no two regions have the same number. See docs/FORMATS.md, "The world file".
 ghost use Rattle.atl_tables.specs.Faults.{first_fault};
 ghost use Rattle.atl_tables.specs.Results.{Gives};
 ghost use Rattle.atl_tables.specs.Regions.{duplicate_numbers};
@@ -9,7 +9,7 @@ use crate::numbered::Numbered;
 use crate::region_table::RegionDraft;
 use std::alloc::Global;
 
-/// That no two regions have one number, else TwoNames at the second.
+/// Checks that no two regions have the same number, else TwoNames at the second.
 pub(crate) fn no_duplicate_numbers(alloc: Global, drafts: &[RegionDraft]) -> Result<(), WorldFault>
     ensures { Gives (λ u. u) result (first_fault (duplicate_numbers drafts.now)) (tt {0}) }
 {

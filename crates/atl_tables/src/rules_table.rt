@@ -21,7 +21,7 @@ use crate::{keys, let_go};
 use std::alloc::Global;
 use toml::Table;
 
-/// What men cost and bring.
+/// The rules on what men cost and bring.
 #[derive(Drop)]
 pub struct Prices {
     /// Money that each man costs a month, from 1 to `MOST_PER_HEAD`.
@@ -32,7 +32,7 @@ pub struct Prices {
     pub recruit_price: u32,
 }
 
-/// What peasants do in a month.
+/// The rules on recruits, births and income of peasants in a month.
 #[derive(Drop)]
 pub struct PeasantRules {
     /// One of so many can be recruited, from 1 to `MOST_FRACTION`.
@@ -43,7 +43,7 @@ pub struct PeasantRules {
     pub income: u32,
 }
 
-/// What men start with, weigh and carry.
+/// The rules on the money of a new faction, and on what men weigh and carry.
 #[derive(Drop)]
 pub struct MenRules {
     /// Money of the unit with which a faction joins, at most `MOST_AMOUNT`.
@@ -54,7 +54,7 @@ pub struct MenRules {
     pub man_carry: u32,
 }
 
-/// The skills that the rules speak of, by name, where the file names one.
+/// The skills of observation, stealth and sailing, by name, `None` if the file names none.
 pub struct SkillNames {
     /// The skill that finds hidden units.
     pub observation: Option<Text>,
@@ -70,7 +70,7 @@ impl Drop for SkillNames {
     }
 }
 
-/// The rules, with skills by name.
+/// The table `[rules]` as read, with skills by name.
 #[derive(Drop)]
 pub struct RulesDraft {
     pub prices: Prices,
@@ -146,6 +146,7 @@ impl Element for MenRules {
     }
 }
 
+/// The skills that the table `[rules]` names, else WrongType.
 #[tactic(auto, unfolding(crate::specs::RulesTable::skill_names_at, crate::specs::Keys::optional_text_at))]
 fn skill_names(alloc: Global, at: &str, table: &Table) -> Result<SkillNames, WorldFault>
     ensures { Gives (λ s. s) result
@@ -184,7 +185,8 @@ impl Element for RulesDraft {
     }
 }
 
-/// The rules of the document, or the first fault of the table. Missing where the document has no such table.
+/// The rules of the document, else Missing or WrongType of the table `[rules]`, or the first fault
+/// of its keys.
 #[tactic(auto, unfolding(crate::specs::RulesTable::rules_conditions, crate::specs::RulesTable::rules_in))]
 pub(crate) fn rules(alloc: Global, document: &Table) -> Result<RulesDraft, WorldFault>
     ensures value { Gives (λ r. r) result (first_fault (rules_conditions (table_view document.now)))
@@ -195,7 +197,7 @@ pub(crate) fn rules(alloc: Global, document: &Table) -> Result<RulesDraft, World
     RulesDraft::read(alloc, "rules", table)
 }
 
-/// The rules, with skills by number. UnknownName at the first key whose skill isn't there.
+/// The rules with skills by number, else UnknownName at the first key whose skill isn't there.
 #[tactic(auto, unfolding(crate::specs::RulesTable::rules_known, crate::specs::RulesTable::rules_of))]
 pub(crate) fn resolve_rules(alloc: Global, all: &WorldDraft) -> Result<Rules, WorldFault>
     requires { IsWorldDraft all.now }

@@ -1,4 +1,4 @@
-//! Whether two worlds are the same but for their markets. See docs/RULES.md, "Upgrading".
+//! Checks whether two worlds are equal but for their markets. See docs/RULES.md, "Upgrading".
 ghost use Rattle.std.specs.Prelude.{◌≡◌, ◌↔◌, IsTrue};
 ghost use Rattle.atl_tables.specs.Worlds.{without_market, without_markets};
 ghost use Rattle.atl_tables.specs.Sums.{mapped};
@@ -13,12 +13,14 @@ macro_rules! agree {
     };
 }
 
-/// What stands in a world under a number of its own.
+/// A thing of a world that can be compared with another: a terrain, an item, a skill or a kind.
 trait Comparable: Drop {
+    /// Whether both are equal.
     fn is_same(&self, other: &Self) -> bool
         ensures { IsTrue result ↔ (self.now ≡ other.now) };
 }
 
+/// Whether two lists of things are equal.
 fn are_same<T: Comparable>(things: &[T], others: &[T]) -> bool
     ensures { IsTrue result ↔ (things.now ≡ others.now) }
 {
@@ -60,6 +62,7 @@ impl Comparable for Kind {
     }
 }
 
+/// Whether the rules of two worlds are equal.
 fn are_same_rules(rules: &Rules, others: &Rules) -> bool
     ensures { IsTrue result ↔ (rules.now ≡ others.now) }
 {
@@ -67,6 +70,7 @@ fn are_same_rules(rules: &Rules, others: &Rules) -> bool
         && agree!(rules others: start_money man_weight man_carry observation stealth sailing)
 }
 
+/// Whether two regions are equal but for their markets.
 fn is_same_region(plan: &RegionPlan, other: &RegionPlan) -> bool
     ensures { IsTrue result ↔ (without_market plan.now ≡ without_market other.now) }
 {
@@ -75,6 +79,7 @@ fn is_same_region(plan: &RegionPlan, other: &RegionPlan) -> bool
         && agree!(plan other: terrain peasants money north south east west)
 }
 
+/// Whether two maps of regions are equal but for the markets of the regions.
 fn are_same_regions(plans: &Numbered<RegionPlan>, others: &Numbered<RegionPlan>) -> bool
     ensures { IsTrue result ↔ (mapped without_market plans.now ≡ mapped without_market others.now) }
 {
@@ -93,7 +98,7 @@ fn are_same_regions(plans: &Numbered<RegionPlan>, others: &Numbered<RegionPlan>)
 }
 
 impl World {
-    /// Whether both are one world where the markets of all regions are left out.
+    /// Whether two worlds are equal but for the markets of their regions.
     pub fn differs_in_markets_alone(&self, other: &World) -> bool
         ensures { IsTrue result ↔ (without_markets self.now ≡ without_markets other.now) }
     {

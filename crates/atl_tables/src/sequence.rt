@@ -1,10 +1,10 @@
-//! A list of values, seen in contracts as a list.
+//! A vector of values that contracts see as a list.
 ghost use Rattle.std.specs.Prelude.{◌≡◌, ◌++◌, ◌∷◌, [], IfOk, OnOk, OnErr, length};
 
 use std::alloc::{AllocError, Global};
 use std::marker::Model;
 
-/// A list of values, seen as that list.
+/// A vector of values that contracts see as a list.
 #[derive(Drop, Debug)]
 pub struct Sequence<T> {
     items: Vec<T>,
@@ -45,7 +45,7 @@ impl<T: Drop> Sequence<T> {
         self.items
     }
 
-    /// A copy of these values.
+    /// A copy of the values of a slice.
     pub fn from_slice(alloc: Global, values: &[T]) -> Result<Self, AllocError>
     where
         T: Copy,

@@ -1,4 +1,4 @@
-//! A sorted list of numbers.
+//! A sorted list of numbers without duplicates, with room for more.
 ghost use Rattle.std.specs.Prelude.{◌≡◌, ℕ, true, ◌+◌, ◌-◌, ◌<◌, ◌≤◌, [], ◌∷◌, ◌++◌, ◌↔◌, IsTrue, IfOk, IfErr, OnOk, length, take, slice_index, vec_capacity};
 ghost use Rattle.std.specs.List.{insert};
 ghost use Rattle.std.specs.List.Sorted.{IsStrictlySortedBy};
@@ -12,7 +12,8 @@ ghost use Rattle.atl_tables.specs.Tracking.{Lists};
 use std::alloc::{AllocError, Global};
 use std::marker::Model;
 
-/// Numbers in a sorted list, with room for more. To put one in takes as long as those above it are many.
+/// A sorted list of numbers without duplicates, with room for more. To add one takes time in the
+/// number of those above it.
 #[derive(Drop)]
 pub struct SortedNumbers {
     numbers: Vec<u32>,
@@ -35,7 +36,7 @@ impl Model for SortedNumbers {
 }
 
 impl SortedNumbers {
-    /// No number, and no room. It takes no memory.
+    /// The empty list, without room. It takes no memory.
     pub fn new(alloc: Global) -> SortedNumbers
         ensures { result ≡ record { numbers = set.empty; room = 0 } }
     {
@@ -44,7 +45,7 @@ impl SortedNumbers {
         }
     }
 
-    /// No number, and room for so many.
+    /// The empty list, with room for `room` numbers.
     pub fn with_room(alloc: Global, room: usize) -> Result<SortedNumbers, AllocError>
         ensures { IfOk result (λ made. made ≡ record { numbers = set.empty; room = room }) }
     {
@@ -53,7 +54,8 @@ impl SortedNumbers {
         })
     }
 
-    /// Makes room for so many numbers more. Without memory for it nothing changes.
+    /// Makes room for `more` further numbers. Without memory for it the numbers stay the same, and
+    /// the room is no less.
     pub fn make_room(&mut self, more: usize) -> Result<(), AllocError>
         ensures numbers { self.new.numbers ≡ self.old.numbers }
         ensures room { OnOk result (set.len self.old.numbers + more ≤ self.new.room) }
@@ -62,7 +64,8 @@ impl SortedNumbers {
         self.numbers.reserve(more)
     }
 
-    /// Puts in a number for which there is room. It takes no memory.
+    /// Adds a number, for which there is room; if it is there already, nothing changes. It takes no
+    /// memory.
     pub fn add(&mut self, number: u32)
         requires { set.len (set.insert self.old.numbers number) ≤ self.old.room }
         ensures { self.new ≡ record self.old { numbers = set.insert self.old.numbers number } }
@@ -73,8 +76,8 @@ impl SortedNumbers {
         }
     }
 
-    /// Puts in the numbers of another list, which has none of these, and leaves it none. There is room for all. It takes no
-    /// memory, and as long as the numbers above the least new one are many.
+    /// Moves all numbers of another list into this one. No number is in both, and there is room for
+    /// all. It takes no memory, and time in how many numbers are above the least one moved.
     pub fn merge_from(&mut self, others: &mut SortedNumbers)
         requires apart { AreApart self.old.numbers others.old.numbers }
         requires room { set.len self.old.numbers + set.len others.old.numbers ≤ self.old.room }
@@ -86,7 +89,7 @@ impl SortedNumbers {
         others.numbers.clear();
     }
 
-    /// Takes a number out. It takes no memory.
+    /// Takes out a number, if it is there. It takes no memory.
     pub fn take(&mut self, number: u32)
         ensures { self.new ≡ record self.old { numbers = set.remove self.old.numbers number } }
     {
@@ -98,7 +101,7 @@ impl SortedNumbers {
         }
     }
 
-    /// Takes all numbers out. It takes no memory.
+    /// Takes out all numbers. It takes no memory.
     pub fn clear(&mut self)
         ensures { self.new ≡ record self.old { numbers = set.empty } }
     {
@@ -126,7 +129,7 @@ impl SortedNumbers {
         }
     }
 
-    /// For how many numbers there is room in all.
+    /// How many numbers the list can hold without taking memory.
     pub fn room(&self) -> usize
         ensures { result ≡ self.now.room }
     {
@@ -141,7 +144,7 @@ impl SortedNumbers {
     }
 }
 
-/// Where a number stands in a sorted list, or else where it belongs.
+/// The index of a number in a sorted list, or `Err` of the index at which it belongs.
 fn index_of(numbers: &[u32], number: u32) -> Result<usize, usize>
     requires { IsStrictlySortedBy nat_cmp numbers.now }
     ensures found { IfOk result (λ place. IsAt numbers.now number place) }
@@ -150,7 +153,7 @@ fn index_of(numbers: &[u32], number: u32) -> Result<usize, usize>
     numbers.binary_search(&number)
 }
 
-/// Puts a number at a place of a list that has room for it.
+/// Inserts a number at an index of a list that has room for it.
 fn put_at(numbers: &mut Vec<u32>, place: usize, number: u32)
     requires within { place ≤ length numbers.old.items }
     requires room { length numbers.old.items < vec_capacity numbers.old }
@@ -160,7 +163,7 @@ fn put_at(numbers: &mut Vec<u32>, place: usize, number: u32)
     let _ = numbers.insert(place, number);
 }
 
-/// How many numbers a list has, of which one is known.
+/// The length of a list of numbers. Its clause `small` says that `last` is below 2^32.
 fn count_up_to(numbers: &[u32], last: u32) -> usize
     ensures value { result ≡ length numbers.now }
     ensures small { last < number_count }
@@ -168,7 +171,7 @@ fn count_up_to(numbers: &[u32], last: u32) -> usize
     numbers.len()
 }
 
-/// Puts a number at the end of a list that has room for it.
+/// Appends a number to a list that has room for it.
 fn put_last(numbers: &mut Vec<u32>, number: u32)
     requires { length numbers.old.items < vec_capacity numbers.old }
     ensures items { numbers.new.items ≡ numbers.old.items ++ number ∷ [] }
@@ -178,7 +181,7 @@ fn put_last(numbers: &mut Vec<u32>, number: u32)
     put_at(numbers, end, number);
 }
 
-/// Puts numbers at the end of a list that has room for them.
+/// Appends numbers to a list that has room for them.
 fn append(numbers: &mut Vec<u32>, others: &[u32])
     requires { length numbers.old.items + length others.now ≤ vec_capacity numbers.old }
     ensures items { numbers.new.items ≡ numbers.old.items ++ others.now }
@@ -189,7 +192,7 @@ fn append(numbers: &mut Vec<u32>, others: &[u32])
     }
 }
 
-/// Whether the last of so many numbers is above another one.
+/// Whether the last of a list's first `count` numbers is above another number.
 fn is_last_above(numbers: &[u32], count: usize, other: u32) -> bool
     requires { count ≤ length numbers.now }
     ensures { IsTrue result ↔ ((0 < count) × (other < slice_index numbers.now (count - 1))) }
@@ -197,8 +200,8 @@ fn is_last_above(numbers: &[u32], count: usize, other: u32) -> bool
     count > 0 && numbers[count - 1] > other
 }
 
-/// Merges a sorted list's first numbers with those of another one, for which there is room behind them. The largest are
-/// put into their places first, so that each number is moved once.
+/// Merges the first `own` numbers of a list with the numbers of another one, in place. Both are
+/// sorted, and no number is in both. It goes from the largest down, so each number is moved once.
 fn merge(numbers: &mut [u32], own: usize, others: &[u32])
     requires size { length numbers.old ≡ own + length others.now }
     requires rising { IsStrictlySortedBy nat_cmp (take own numbers.old) }
@@ -220,7 +223,7 @@ fn merge(numbers: &mut [u32], own: usize, others: &[u32])
     }
 }
 
-/// Merges the numbers of another sorted list into one that has none of them and room for all.
+/// Merges the numbers of a sorted list into another one that has none of them, and room for all.
 fn unite(numbers: &mut Vec<u32>, others: &[u32])
     requires room { length numbers.old.items + length others.now ≤ vec_capacity numbers.old }
     requires rising { IsStrictlySortedBy nat_cmp numbers.old.items }

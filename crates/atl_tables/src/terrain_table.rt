@@ -19,7 +19,8 @@ use crate::world_draft::{Draft, WorldDraft};
 use std::alloc::Global;
 use toml::Table;
 
-/// What a region of a terrain pays, and the most that it holds.
+/// What work in a region of a terrain pays, and the most money and peasants that such a region
+/// grows to.
 #[derive(Drop)]
 pub struct Economy {
     /// Money that a month of work pays a man, from 1 to `MOST_PRICE`.
@@ -32,7 +33,7 @@ pub struct Economy {
     pub peasant_limit: u32,
 }
 
-/// A terrain, with its output by names of items.
+/// A table `[[terrain]]` as read, with its output by names of items.
 pub struct TerrainDraft {
     /// As the file writes it; it keeps the rule of names.
     pub name: Text,

@@ -1,4 +1,5 @@
-//! Names that must be unique, and the numbers that names stand for.
+//! Names that must be unique, and the numbers of things by name.
+//! See docs/FORMATS.md, "The world file".
 ghost use Rattle.std.specs.Prelude.{◌≡◌, ◌≤◌, ◌<◌, ℕ, List, length, not, ◌||◌, IfOk, OnOk, OnErr, IfSome, Some, None, unwrap_or, option_and_then};
 ghost use Rattle.std.specs.BTreeSet.{IsUnchanged};
 ghost use Rattle.atl_tables.specs.Each.{each};
@@ -16,10 +17,11 @@ use crate::text::Text;
 use std::alloc::{AllocError, Global};
 use std::collections::BTreeSet;
 
-/// What has a name.
+/// A thing that has a name.
 pub(crate) trait Titled {
     ghost title_of: { Self → List ℕ };
 
+    /// The name of the thing.
     fn title(&self) -> &Text
         ensures { result.now ≡ title_of self.now };
 }
@@ -31,8 +33,8 @@ pub(crate) fn same_name(name: &Text, other: &Text) -> bool
     name.as_bytes().eq_ignore_ascii_case(other.as_bytes())
 }
 
-/// Puts a name into those seen, and tells whether none of them was equal to it, ignoring ASCII case. Without memory they
-/// are as they were.
+/// Adds a name to those seen, and returns whether none of them was equal to it, ignoring ASCII
+/// case. Without memory nothing is added.
 pub(crate) fn is_new(
     alloc: Global,
     seen: &mut BTreeSet<String>,
@@ -49,7 +51,8 @@ pub(crate) fn is_new(
     Ok(new)
 }
 
-/// That no two elements of the array at a path have equal names under a key, ignoring ASCII case, else TwoNames at the second.
+/// Checks that no two elements of the array at a path have equal names, ignoring ASCII case, else
+/// TwoNames at the second.
 pub(crate) fn no_duplicate_names<T: Titled>(
     alloc: Global,
     array: &str,
@@ -69,16 +72,18 @@ pub(crate) fn no_duplicate_names<T: Titled>(
     Ok(())
 }
 
-/// What holds things of which no two may have one name.
+/// A table that holds things with names, of which no two may be equal.
 pub(crate) trait HasUniqueNames: Drop {
     ghost twins: { ℕ → Self → Conditions };
 
-    /// That the i-th of its array holds no two things with equal names, ignoring ASCII case, else TwoNames at the second.
+    /// Checks that the i-th table of its array holds no two things with equal names, else TwoNames
+    /// at the second.
     fn no_duplicates_inside(&self, alloc: Global, i: usize) -> Result<(), WorldFault>
         ensures { Gives (λ u. u) result (first_fault (twins i self.now)) (tt {0}) };
 }
 
-/// Likewise of all, in the order of the file.
+/// Checks that none of these tables holds two things with equal names, else TwoNames at the first
+/// that does.
 pub(crate) fn no_duplicates_inside<T: HasUniqueNames>(
     alloc: Global,
     holders: &[T],
@@ -91,7 +96,7 @@ pub(crate) fn no_duplicates_inside<T: HasUniqueNames>(
     Ok(())
 }
 
-/// The number of the first with this name, counted from 0, where there is one.
+/// The index of the first element with this name, ignoring ASCII case, `None` if there is none.
 #[tactic(auto, unfolding(crate::specs::Titles::number_of))]
 pub(crate) fn number_of<T: Titled>(items: &[T], name: &Text) -> Option<u16>
     requires { length items.now ≤ most_numbered }
@@ -106,7 +111,7 @@ pub(crate) fn number_of<T: Titled>(items: &[T], name: &Text) -> Option<u16>
     None
 }
 
-/// The number of the first with a name that a text under a key refers to, else UnknownName at the key's path.
+/// The number of the thing that the name under a key refers to, else UnknownName at the key's path.
 pub(crate) fn known<T: Titled>(
     alloc: Global,
     items: &[T],
@@ -127,7 +132,8 @@ pub(crate) fn known<T: Titled>(
     }
 }
 
-/// Likewise of a text that may be missing.
+/// The number of the thing that the name under a key refers to, `None` without a name; else
+/// UnknownName.
 pub(crate) fn known_number_or_none<T: Titled>(
     alloc: Global,
     items: &[T],

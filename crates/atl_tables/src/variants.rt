@@ -1,6 +1,7 @@
-//! Lists of the variants of an enum, and their names.
+//! Macros that list the variants of an enum, and give a variant's name or text.
 
-/// Some variants of an enum: `variants!(Verb: Name Guard)` is `[Verb::Name, Verb::Guard]`.
+/// The array of some variants of an enum: `variants!(Verb: Name Guard)` is `[Verb::Name,
+/// Verb::Guard]`.
 #[macro_export]
 macro_rules! variants {
     ($enum:ident: $($variant:ident)*) => {
@@ -8,8 +9,8 @@ macro_rules! variants {
     };
 }
 
-/// The name of the variant that a value is, of an enum with these variants: `name_of!(fault, LineFault: NoUnit EndAlone)` is
-/// `"EndAlone"` of `LineFault::EndAlone`.
+/// The name of a value's variant, of an enum with these variants: `name_of!(fault, LineFault:
+/// NoUnit EndAlone)` is `"EndAlone"` for `LineFault::EndAlone`.
 #[macro_export]
 macro_rules! name_of {
     ($value:expr, $enum:ident: $($variant:ident)*) => {
@@ -19,8 +20,8 @@ macro_rules! name_of {
     };
 }
 
-/// The text of the variant that a value is, of an enum whose variants have these: `text_of!(verb, Verb: Form "FORM" Name "NAME")`
-/// is `"NAME"` of `Verb::Name`.
+/// The text of a value's variant, of an enum whose variants have these texts: `text_of!(verb, Verb:
+/// Form "FORM" Name "NAME")` is `"NAME"` for `Verb::Name`.
 #[macro_export]
 macro_rules! text_of {
     ($value:expr, $enum:ident: $($variant:ident $text:literal)*) => {

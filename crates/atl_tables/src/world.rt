@@ -1,4 +1,5 @@
 //! The world: rules, terrains, items, skills, kinds of structures, and regions.
+//! See docs/FORMATS.md, "The world file".
 ghost use Rattle.std.specs.Prelude.{◌≡◌, ◌≤◌, ◌<◌, length};
 ghost use Rattle.std.specs.Option.{option_copied};
 ghost use Rattle.std.specs.FinMap as map;
@@ -10,7 +11,8 @@ use crate::sequence::Sequence;
 use crate::text::Text;
 use std::marker::Model;
 
-/// The numbers of the rules, and the skills that the rules speak of. See docs/FORMATS.md, "The world file".
+/// The numbers of the world's rules, and the skills that the rules use.
+/// See docs/FORMATS.md, "The world file".
 #[derive(Drop, Clone, Copy, Debug)]
 pub struct Rules {
     /// Money that each man costs a month, from 1 to `MOST_PER_HEAD`.
@@ -39,7 +41,7 @@ pub struct Rules {
     pub sailing: Option<u16>,
 }
 
-/// A sort of land or water.
+/// A terrain, such as a forest: whether it is land, and what a region of it pays, holds and gives.
 #[derive(Debug)]
 pub struct Terrain {
     /// As the file writes it; no two terrains' names are equal, ignoring ASCII case.
@@ -64,7 +66,7 @@ impl Drop for Terrain {
     }
 }
 
-/// A thing that units hold and make.
+/// An item of goods: its weight, and what making one takes.
 #[derive(Drop, Debug)]
 pub struct Item {
     /// As the file writes it; no two items' names are equal, ignoring ASCII case.
@@ -83,7 +85,7 @@ pub struct Item {
     pub raw_count: u32,
 }
 
-/// What men study.
+/// A skill that men study, and its fee.
 #[derive(Drop, Debug)]
 pub struct Skill {
     /// As the file writes it; no two skills' names are equal, ignoring ASCII case.
@@ -92,7 +94,7 @@ pub struct Skill {
     pub fee: u32,
 }
 
-/// A kind of building or ship.
+/// A kind of structure: what building one takes, and what it is good for.
 #[derive(Drop, Debug)]
 pub struct Kind {
     /// As the file writes it; no two kinds' names are equal, ignoring ASCII case.
@@ -115,14 +117,15 @@ pub struct Kind {
     pub helps: Option<u16>,
 }
 
-/// What units buy and sell of an item in a region.
+/// A market of a region: the item that units buy and sell there, with its prices and its stock's
+/// limits.
 #[derive(Drop, Clone, Copy, Debug)]
 pub struct Market {
     /// The number of the item.
     pub item: u16,
-    /// Money that one costs, from 1 to `MOST_PRICE`.
+    /// Money that a unit pays the market for one, from 1 to `MOST_PRICE`.
     pub price: u32,
-    /// Money that one brings, from 1 to `MOST_PRICE`.
+    /// Money that the market pays a unit for one, from 1 to `MOST_PRICE`.
     pub pays: u32,
     /// The largest stock, at most `MOST_AMOUNT`.
     pub limit: u32,
@@ -130,7 +133,8 @@ pub struct Market {
     pub restock: u32,
 }
 
-/// A region as the world file has it. Its neighbours are regions of the world that have it as theirs on the opposite side.
+/// A region as the world file describes it. Each neighbour is a region of the world, and has this
+/// one on its opposite side.
 pub struct RegionPlan {
     /// From 1 to `LAST_REGION`; no two regions have one number.
     pub number: u32,
@@ -163,7 +167,7 @@ impl Drop for RegionPlan {
 impl RegionPlan {
     ghost use Rattle.atl_tables.specs.Worlds.{beside};
 
-    /// The number of the region on a side, where there is one.
+    /// The number of the region's neighbour in a direction, `None` if there is none.
     pub fn beside(&self, direction: Direction) -> Option<u32>
         ensures { result ≡ beside direction self.now }
     {
@@ -176,10 +180,11 @@ impl RegionPlan {
     }
 }
 
-/// A whole world: what a world file without fault describes. Its terrains, items, skills and kinds are numbered from 0 in
-/// the order of the file, its regions stand under their own numbers. There are at most `MOST_TERRAINS`, `MOST_ITEMS`,
-/// `MOST_SKILLS`, `MOST_KINDS` and `MOST_REGIONS` of them, some region is land, and each number of one in another is of one
-/// that is there. See docs/FORMATS.md, "The world file".
+/// A whole world, as a world file without fault describes it. Its terrains, items, skills and kinds
+/// are numbered from 0 in the order of the file, its regions are stored under their own numbers.
+/// There are at most `MOST_TERRAINS`, `MOST_ITEMS`, `MOST_SKILLS`, `MOST_KINDS` and `MOST_REGIONS`
+/// of them, some region is land, and each number of one in another is of one that is there.
+/// See docs/FORMATS.md, "The world file".
 pub struct World {
     rules: Rules,
     terrains: Sequence<Terrain>,
@@ -215,7 +220,7 @@ impl Model for World {
 impl World {
     ghost use Rattle.atl_tables.specs.Worlds.{IsWorld, land_of, world_of_parts};
 
-    /// The world of these parts, and the numbers of its regions with land.
+    /// The world of these parts, where `land` has the numbers of its regions with land.
     pub(crate) fn from_parts(
         rules: Rules,
         terrains: Sequence<Terrain>,
@@ -240,7 +245,7 @@ impl World {
         }
     }
 
-    /// The numbers of the campaign that hold everywhere. See docs/FORMATS.md, "The world file".
+    /// The rules of the world. See docs/FORMATS.md, "The world file".
     pub fn rules(&self) -> &Rules
         ensures value { result.now ≡ self.now.rules }
         ensures world { IsWorld self.now }
@@ -248,7 +253,7 @@ impl World {
         &self.rules
     }
 
-    /// The terrains, each at its number.
+    /// The terrains, each at the index of its number.
     pub fn terrains(&self) -> &[Terrain]
         ensures value { result.now ≡ self.now.terrains }
         ensures world { IsWorld self.now }
@@ -256,7 +261,7 @@ impl World {
         self.terrains.as_slice()
     }
 
-    /// The items, each at its number.
+    /// The items, each at the index of its number.
     pub fn items(&self) -> &[Item]
         ensures value { result.now ≡ self.now.items }
         ensures world { IsWorld self.now }
@@ -264,7 +269,7 @@ impl World {
         self.items.as_slice()
     }
 
-    /// The skills, each at its number.
+    /// The skills, each at the index of its number.
     pub fn skills(&self) -> &[Skill]
         ensures value { result.now ≡ self.now.skills }
         ensures world { IsWorld self.now }
@@ -272,7 +277,7 @@ impl World {
         self.skills.as_slice()
     }
 
-    /// The kinds of structures, each at its number.
+    /// The kinds of structures, each at the index of its number.
     pub fn kinds(&self) -> &[Kind]
         ensures value { result.now ≡ self.now.kinds }
         ensures world { IsWorld self.now }
@@ -280,7 +285,7 @@ impl World {
         self.kinds.as_slice()
     }
 
-    /// The plans of the regions by their numbers.
+    /// The regions by their numbers.
     pub fn regions(&self) -> &Numbered<RegionPlan>
         ensures value { result.now ≡ self.now.regions }
         ensures world { IsWorld self.now }
@@ -288,7 +293,7 @@ impl World {
         &self.regions
     }
 
-    /// The plan of a region, where the world has one of this number.
+    /// The region with this number, `None` if the world has no such region.
     pub fn region(&self, number: u32) -> Option<&RegionPlan>
         ensures value { option_copied result ≡ map.get self.now.regions number }
         ensures world { IsWorld self.now }

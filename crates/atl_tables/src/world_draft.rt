@@ -1,4 +1,5 @@
-//! A world file once read, before names are looked up, and how each table becomes its record.
+//! The tables of a world file once read, with names not looked up yet, and how each becomes a
+//! record of the world.
 ghost use Rattle.std.specs.Prelude.{◌≡◌, ℕ, IfOk, map};
 ghost use Rattle.std.specs.List.{All};
 ghost use Rattle.atl_tables.specs.Drafts.{IsWorldDraft};
@@ -19,7 +20,7 @@ use crate::terrain_table::TerrainDraft;
 use crate::world::Skill;
 use std::alloc::Global;
 
-/// What the tables of a document say, before names are looked up.
+/// All tables of a world file as read, with names not looked up yet.
 pub struct WorldDraft {
     pub rules: RulesDraft,
     pub terrains: Sequence<TerrainDraft>,
@@ -30,7 +31,7 @@ pub struct WorldDraft {
 }
 
 impl WorldDraft {
-    /// The skills, of which the world has what the file says.
+    /// The skills, which need no look-up, taken out of the tables.
     pub(crate) fn into_skills(self) -> Sequence<Skill>
         ensures { result ≡ self.skills }
     {
@@ -52,7 +53,7 @@ impl Drop for WorldDraft {
     }
 }
 
-/// What a table says, before its names are looked up.
+/// A table as read, with names not looked up yet, that becomes a record of the world.
 pub(crate) trait Draft: Drop {
     type Record: Drop;
 
@@ -64,8 +65,8 @@ pub(crate) trait Draft: Drop {
 
     ghost is_sound: { WorldDraft → ℕ → Self.Record → Type 0 };
 
-    /// What it stands for as the i-th of its array, with the numbers of what its names name, or UnknownName at the first
-    /// name that names nothing. `Memory` may come at any point.
+    /// The record of the i-th table of its array, with numbers in place of names, else UnknownName
+    /// at the first name of nothing. `Memory` may come at any point.
     fn resolve(&self, alloc: Global, all: &WorldDraft, i: usize) -> Result<Self::Record, WorldFault>
         requires all { IsWorldDraft all.now }
         requires draft { is_draft self.now }
@@ -74,7 +75,7 @@ pub(crate) trait Draft: Drop {
         ensures sound { IfOk result (λ x. is_sound all.now i x) };
 }
 
-/// What tables in an array stand for.
+/// The records of all tables of an array, else UnknownName at the first name of nothing.
 pub(crate) fn resolve_all<D: Draft>(
     alloc: Global,
     all: &WorldDraft,
