@@ -26,12 +26,12 @@ use Rattle.atl_orders.specs.Bounds.{IsWithin, IsNumber, IsAlias, IsUnitRef, IsOr
 
 -- ---- lines
 
-abbrev AreRegionBasics : ReaderState → Type 0
-AreRegionBasics Nowhere = Unit {0}
-AreRegionBasics (At n) = IsNumber n
-AreRegionBasics (Forming parent alias) = IsNumber parent × IsAlias alias
-AreRegionBasics (Skipping None) = Unit {0}
-AreRegionBasics (Skipping (Some n)) = IsNumber n
+abbrev IsStateInBounds : ReaderState → Type 0
+IsStateInBounds Nowhere = Unit {0}
+IsStateInBounds (At n) = IsNumber n
+IsStateInBounds (Forming parent alias) = IsNumber parent × IsAlias alias
+IsStateInBounds (Skipping None) = Unit {0}
+IsStateInBounds (Skipping (Some n)) = IsNumber n
 
 abbrev IsEffect : WorldValue → Effect → Type 0
 IsEffect world nothing = Unit {0}
@@ -39,7 +39,7 @@ IsEffect world (faulty fault) = Unit {0}
 IsEffect world (says unit order_value) = IsUnitRef unit × IsOrderOf world order_value
 
 abbrev IsStep : WorldValue → LineStep → Type 0
-IsStep world s = IsEffect world s.effect × AreRegionBasics s.place
+IsStep world s = IsEffect world s.effect × IsStateInBounds s.place
 
 module _ (world : WorldValue) (given : ℕ → Bool) where
   unit_sound : (r : Result Counted LineFault) → Holds (λ (x : Counted). IsNumber x.0) r → IsStep world (unit_step given r)
@@ -47,7 +47,7 @@ module _ (world : WorldValue) (given : ℕ → Bool) where
   unit_sound (Ok n) h = (tt, h)
   unit_sound (Err fault) h = (tt, tt)
 
-  end_sound : (place : ReaderState) → AreRegionBasics place → IsStep world (end_step place given)
+  end_sound : (place : ReaderState) → IsStateInBounds place → IsStep world (end_step place given)
   unfolding end_step
   end_sound Nowhere h = (tt, tt)
   end_sound (At n) h = (tt, h)
@@ -64,7 +64,7 @@ module _ (world : WorldValue) (given : ℕ → Bool) where
   block_sound n (Ok a) h k = given_sound (given a.0) n a.0 h k
   block_sound n (Err fault) h k = (tt, h)
 
-  forming_sound : (place : ReaderState) (ws : List WordText) → AreRegionBasics place → IsStep world (form_step place given ws)
+  forming_sound : (place : ReaderState) (ws : List WordText) → IsStateInBounds place → IsStep world (form_step place given ws)
   unfolding form_step
   forming_sound Nowhere ws h = (tt, tt)
   forming_sound (At n) ws h = block_sound n (alias_at ws) h (count_holds last_alias BadAlias ws)
@@ -75,13 +75,13 @@ module _ (world : WorldValue) (given : ℕ → Bool) where
   for_unit unit (Ok order_value) h k = (h, k)
   for_unit unit (Err fault) h k = tt
 
-  order_sound : (place : ReaderState) (r : Result OrderValue LineFault) → AreRegionBasics place → Sound world r → IsEffect world (order_effect (target place) r)
+  order_sound : (place : ReaderState) (r : Result OrderValue LineFault) → IsStateInBounds place → Sound world r → IsEffect world (order_effect (target place) r)
   order_sound Nowhere r h k = tt
   order_sound (At n) r h k = for_unit (Number n) r h k
   order_sound (Forming parent alias) r h k = for_unit (Alias alias) r h.1 k
   order_sound (Skipping parent) r h k = tt
 
-  keyword_sound : (place : ReaderState) (k : Option Keyword) (ws : List WordText) → AreRegionBasics place → IsStep world (keyword_step world place given k ws)
+  keyword_sound : (place : ReaderState) (k : Option Keyword) (ws : List WordText) → IsStateInBounds place → IsStep world (keyword_step world place given k ws)
   unfolding keyword_step
   keyword_sound place None ws h = (tt, h)
   keyword_sound place (Some keywords.Unit) ws h = unit_sound (number_at ws) (count_holds most_number BadNumber ws)
@@ -89,16 +89,16 @@ module _ (world : WorldValue) (given : ℕ → Bool) where
   keyword_sound place (Some keywords.Form) ws h = forming_sound place ws h
   keyword_sound place (Some (keywords.Order verb)) ws h = (order_sound place (said_by world verb ws) h (said_sound world verb ws), h)
 
-  words_sound : (place : ReaderState) (ws : List WordText) → AreRegionBasics place → IsStep world (words_step world place given ws)
+  words_sound : (place : ReaderState) (ws : List WordText) → IsStateInBounds place → IsStep world (words_step world place given ws)
   unfolding words_step
   words_sound place [] h = (tt, h)
   words_sound place (w ∷ ws) h = keyword_sound place (keyword_of w) ws h
 
-  tested_sound : (t : Bool) (place : ReaderState) (ws : List WordText) → AreRegionBasics place → IsStep world (cond t (words_step world place given ws) (record { effect = faulty BadByte; place = place; given = given }))
+  tested_sound : (t : Bool) (place : ReaderState) (ws : List WordText) → IsStateInBounds place → IsStep world (cond t (words_step world place given ws) (record { effect = faulty BadByte; place = place; given = given }))
   tested_sound true place ws h = words_sound place ws h
   tested_sound false place ws h = (tt, h)
 
-  line_sound : (place : ReaderState) (line : List ℕ) → AreRegionBasics place → IsStep world (line_step world place given line)
+  line_sound : (place : ReaderState) (line : List ℕ) → IsStateInBounds place → IsStep world (line_step world place given line)
   unfolding line_step
   line_sound place line h = tested_sound (list_all is_plain line) place (words line) h
 
@@ -114,7 +114,7 @@ module _ (world : WorldValue) where
   one_more true n effect more h k = All-nil (IsEntry world)
   one_more false n effect more h k = All-append (IsEntry world) (entry_of (n, effect)) (flat_map entry_of more) (entry_sound n effect h) k
 
-  body_sound : (lines : List (List ℕ)) (n : ℕ) (place : ReaderState) (given : ℕ → Bool) → AreRegionBasics place → All (IsEntry world) (flat_map entry_of (effects world n place given lines))
+  body_sound : (lines : List (List ℕ)) (n : ℕ) (place : ReaderState) (given : ℕ → Bool) → IsStateInBounds place → All (IsEntry world) (flat_map entry_of (effects world n place given lines))
   unfolding effects
   body_sound [] n place given h = All-nil (IsEntry world)
   body_sound (line ∷ rest) n place given h =

@@ -30,8 +30,8 @@ module _ {A : Type 0} (conditions : ℕ → A → Conditions) where
 pub mapped_on : {A B : Type 0} (f : A → B) (front : List B) (x : A) (xs : List A) (y : B) (total : List B) → front ++ map f (x ∷ xs) ≡ total → f x ≡ y → (front ++ y ∷ []) ++ map f xs ≡ total
 mapped_on f front x xs y total so_far one = append_assoc front (y ∷ []) (map f xs) ∙ ap (λ z. front ++ z ∷ map f xs) (sym one) ∙ so_far
 
-pub place_push : {A : Type 0} (P : ℕ → A → Type 0) (xs : List A) (y : A) → EachIndex P xs → P (length xs) y → EachIndex P (xs ++ y ∷ [])
-place_push P [] y all last zero x h = let same : y ≡ x = cc in subst (P 0) same last
-place_push P [] y all last (suc i) x h = absurd (cc)
-place_push P (z ∷ xs) y all last zero x h = all zero x h
-place_push P (z ∷ xs) y all last (suc i) x h = place_push (λ i. P (suc i)) xs y (λ i. all (suc i)) last i x h
+pub each_index_push : {A : Type 0} (P : ℕ → A → Type 0) (xs : List A) (y : A) → EachIndex P xs → P (length xs) y → EachIndex P (xs ++ y ∷ [])
+each_index_push P [] y all last zero x h = let same : y ≡ x = cc in subst (P 0) same last
+each_index_push P [] y all last (suc i) x h = absurd (cc)
+each_index_push P (z ∷ xs) y all last zero x h = all zero x h
+each_index_push P (z ∷ xs) y all last (suc i) x h = each_index_push (λ i. P (suc i)) xs y (λ i. all (suc i)) last i x h

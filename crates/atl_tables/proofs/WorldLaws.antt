@@ -20,14 +20,14 @@ use Rattle.atl_tables.proofs.HasNumberLaws.{few, at_number}
 use Rattle.atl_tables.proofs.DuplicateLaws.{names_kept}
 
 -- at a place of a list of which something is true at all places
-pub at_place : {A : Type 0} (P : A → Type 0) (xs : List A) → All P xs → (i : ℕ) (x : A) → slice_get xs i ≡ Some x → P x
-at_place P xs all i x h = subst P (get_or_from_slice_get xs i x x h) (All-get_or P xs i x (slice_get_within xs i x h) all)
+pub at_index : {A : Type 0} (P : A → Type 0) (xs : List A) → All P xs → (i : ℕ) (x : A) → slice_get xs i ≡ Some x → P x
+at_index P xs all i x h = subst P (get_or_from_slice_get xs i x x h) (All-get_or P xs i x (slice_get_within xs i x h) all)
 
 -- at each place of a list that is mapped
-mapped_places : {A B : Type 0} (P : A → Type 0) (Q : B → Type 0) (f : A → B) → ((x : A) → P x → Q (f x)) → (xs : List A) → All P xs → EachIndex (λ i y. Q y) (map f xs)
-mapped_places P Q f then [] all i y h = absurd (cc)
-mapped_places P Q f then (x ∷ xs) all zero y h = let same : f x ≡ y = cc in subst Q same (then x (All-head P x xs all))
-mapped_places P Q f then (x ∷ xs) all (suc i) y h = mapped_places P Q f then xs (All-tail P x xs all) i y h
+mapped_indices : {A B : Type 0} (P : A → Type 0) (Q : B → Type 0) (f : A → B) → ((x : A) → P x → Q (f x)) → (xs : List A) → All P xs → EachIndex (λ i y. Q y) (map f xs)
+mapped_indices P Q f then [] all i y h = absurd (cc)
+mapped_indices P Q f then (x ∷ xs) all zero y h = let same : f x ≡ y = cc in subst Q same (then x (All-head P x xs all))
+mapped_indices P Q f then (x ∷ xs) all (suc i) y h = mapped_indices P Q f then xs (All-tail P x xs all) i y h
 
 -- the world of tables that were read and whose names stand for something
 pub is_world : (all : WorldDraft) → IsWorldDraft all → AreWorldPartsOf all (world_parts_of all) → HaveNames all → All (λ d. HasNeighbours (regions_of all) d.place.number d.sides.north d.sides.south d.sides.east d.sides.west) all.regions → 0 < length (land_of (world_of_tables all)) → IsWorld (world_of_tables all)
@@ -42,12 +42,12 @@ is_world all tables parts names back land =
       rules = parts.rules;
       terrains = subst (λ n. EachIndex (λ i x. IsTerrain n x) (map (terrain_of all) all.terrains)) (sym item_count) parts.terrains;
       items = subst (λ n. EachIndex (λ i x. IsItem n (length all.skills) i x) (map (item_of all) all.items)) (sym item_count) parts.items;
-      skills = at_place IsSkill all.skills tables.skills;
+      skills = at_index IsSkill all.skills tables.skills;
       kinds = subst (λ n. EachIndex (λ i x. IsKind n (length all.skills) x) (map (kind_of all) all.kinds)) (sym item_count) parts.kinds;
       regions = at_number (λ p. p.number) (λ n p. IsRegionPlan (length (map (terrain_of all) all.terrains)) (length (map (item_of all) all.items)) n p) (map (region_of all) all.regions)
           (subst (λ n. EachIndex (λ i x. IsRegionPlan n (length (map (item_of all) all.items)) x.number x) (map (region_of all) all.regions)) (sym terrain_count) (subst (λ n. EachIndex (λ i x. IsRegionPlan (length all.terrains) n x.number x) (map (region_of all) all.regions)) (sym item_count) parts.regions));
       neighbours = at_number (λ p. p.number) (λ n p. HasNeighbours regions n p.north p.south p.east p.west) (map (region_of all) all.regions)
-          (mapped_places (λ d. HasNeighbours regions d.place.number d.sides.north d.sides.south d.sides.east d.sides.west) (λ p. HasNeighbours regions p.number p.north p.south p.east p.west) (region_of all) (λ d h. h) all.regions back);
+          (mapped_indices (λ d. HasNeighbours regions d.place.number d.sides.north d.sides.south d.sides.east d.sides.west) (λ p. HasNeighbours regions p.number p.north p.south p.east p.west) (region_of all) (λ d h. h) all.regions back);
       terrain_names = subst NamesDiffer (sym (names_kept (terrain_of all) (λ d. d.name) (λ t. t.name) (λ d. refl) all.terrains)) names.terrains;
       item_names = subst NamesDiffer (sym (names_kept (item_of all) (λ d. d.name) (λ x. x.name) (λ d. refl) all.items)) names.items;
       skill_names = names.skills;

@@ -4,24 +4,24 @@ use Rattle.atl_tables.specs.declared.fault.WorldFault.{WorldFault}
 use Rattle.atl_tables.specs.declared.fault.WorldFault.TheVariants.{NotToml, Missing, WrongType, OutOfRange, TwoNames, UnknownName, BadNeighbour, NoLand, Memory}
 
 -- the number and the name of a fault; Memory has no number, since it is no fault of a text
-abbrev pub fault_kind : WorldFault → Option ℕ × List ℕ
-fault_kind NotToml = (Some 1, codes "NotToml")
-fault_kind (Missing p) = (Some 2, codes "Missing")
-fault_kind (WrongType p) = (Some 3, codes "WrongType")
-fault_kind (OutOfRange p) = (Some 4, codes "OutOfRange")
-fault_kind (TwoNames p) = (Some 5, codes "TwoNames")
-fault_kind (UnknownName p) = (Some 6, codes "UnknownName")
-fault_kind (BadNeighbour p) = (Some 7, codes "BadNeighbour")
-fault_kind NoLand = (Some 8, codes "NoLand")
-fault_kind Memory = (None, codes "Memory")
+abbrev pub fault_number_and_name : WorldFault → Option ℕ × List ℕ
+fault_number_and_name NotToml = (Some 1, codes "NotToml")
+fault_number_and_name (Missing p) = (Some 2, codes "Missing")
+fault_number_and_name (WrongType p) = (Some 3, codes "WrongType")
+fault_number_and_name (OutOfRange p) = (Some 4, codes "OutOfRange")
+fault_number_and_name (TwoNames p) = (Some 5, codes "TwoNames")
+fault_number_and_name (UnknownName p) = (Some 6, codes "UnknownName")
+fault_number_and_name (BadNeighbour p) = (Some 7, codes "BadNeighbour")
+fault_number_and_name NoLand = (Some 8, codes "NoLand")
+fault_number_and_name Memory = (None, codes "Memory")
 
 -- the number of a fault, from 1 to 8; Memory has none
 abbrev pub fault_number : WorldFault → Option ℕ
-fault_number fault = (fault_kind fault).0
+fault_number fault = (fault_number_and_name fault).0
 
 -- the name of a fault, as in `WrongType`
 abbrev pub fault_name : WorldFault → List ℕ
-fault_name fault = (fault_kind fault).1
+fault_name fault = (fault_number_and_name fault).1
 
 -- the path of the key that a fault is about; NotToml, NoLand and Memory have none
 abbrev pub fault_path : WorldFault → Option (List ℕ)

@@ -28,8 +28,8 @@ abbrev pub money_at : Key ℕ
 money_at = number_at 0 most_amount (codes "money")
 
 -- the conditions on the keys of a region's basics: number, name, terrain, peasants and money
-unfoldable pub place_keys : List ℕ → Members → Conditions
-place_keys at t =
+unfoldable pub basics_keys : List ℕ → Members → Conditions
+basics_keys at t =
     fault_of (region_number_at at t)
     ∷ fault_of (name_at (codes "name") at t)
     ∷ fault_of (text_at (codes "terrain") at t)
@@ -38,8 +38,8 @@ place_keys at t =
     ∷ []
 
 -- a region's basics, with its terrain by name
-unfoldable pub place_from : List ℕ → Members → RegionBasics
-place_from at t = record {
+unfoldable pub basics_from : List ℕ → Members → RegionBasics
+basics_from at t = record {
   number = value_or 0 (region_number_at at t);
   name = value_or [] (name_at (codes "name") at t);
   terrain = value_or [] (text_at (codes "terrain") at t);
@@ -83,11 +83,11 @@ sides_from at t = record {
 
 -- the conditions on a whole table of the first format, which reads no markets
 unfoldable pub old_region_keys : List ℕ → Members → Conditions
-old_region_keys at t = first_fault (place_keys at t) ∷ side_keys at t
+old_region_keys at t = first_fault (basics_keys at t) ∷ side_keys at t
 
 -- the region that a table gives in the first format
 unfoldable pub old_region_from : List ℕ → Members → OldRegion
-old_region_from at t = record { place = place_from at t; sides = sides_from at t }
+old_region_from at t = record { place = basics_from at t; sides = sides_from at t }
 
 -- a region of the first format as one without markets
 abbrev pub as_draft : OldRegion → RegionDraft
@@ -99,7 +99,7 @@ region_keys at t = first_fault (old_region_keys at t) ∷ markets_keys at t
 
 -- the region that a table gives in the second format, with its terrain and its markets' items by name
 unfoldable pub region_from : List ℕ → Members → RegionDraft
-region_from at t = record { place = place_from at t; sides = sides_from at t; markets = markets_from at t }
+region_from at t = record { place = basics_from at t; sides = sides_from at t; markets = markets_from at t }
 
 -- the conditions that no two markets of the i-th region are of the same item
 unfoldable pub market_twins : ℕ → RegionDraft → Conditions

@@ -19,5 +19,5 @@ abbrev pub held : {V : Type 0} → FinMap nat_cmp V → set.FinSet nat_cmp → s
 held values marks = set.union marks (set.from_list (keys values))
 
 -- a set of marks has room to mark each number that has a value, so marking one takes no memory
-abbrev pub HasRoom : {V : Type 0} → FinMap nat_cmp V → RoomySet → Type 0
-HasRoom values marks = set.len (held values marks.numbers) ≤ marks.room
+abbrev pub HasRoomForMarks : {V : Type 0} → FinMap nat_cmp V → RoomySet → Type 0
+HasRoomForMarks values marks = set.len (held values marks.numbers) ≤ marks.room

@@ -43,5 +43,5 @@ module _ {V : Type 0} where
   taken_out c n false = record { values = map.remove c.values n; marks = set.remove c.marks n }
 
 -- If r is a reference to a value, c ends with the last value of r under n, marked; if r is None, c ends as it was.
-abbrev pub LendsMarked : (V : RattleType) → MutBor (MarkedMapValue V.Denot) → ℕ → Option (MutBor V.Denot) → Fml
-LendsMarked V c n r = LendsIf (the_row V) V c r (with_value c.now n) c.now
+abbrev pub WritesBackMarked : (V : RattleType) → MutBor (MarkedMapValue V.Denot) → ℕ → Option (MutBor V.Denot) → Fml
+WritesBackMarked V c n r = LendsIf (the_row V) V c r (with_value c.now n) c.now

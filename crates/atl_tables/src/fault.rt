@@ -36,7 +36,7 @@ pub enum WorldFault {
 
 impl WorldFault {
     /// The number of the fault, if it has one, and its name.
-    fn sort(&self) -> (Option<u8>, &'static str)
+    fn number_and_name(&self) -> (Option<u8>, &'static str)
         ensures number { result.0 ≡ fault_number self.now }
         ensures name { result.1.now ≡ fault_name self.now }
     {
@@ -59,14 +59,14 @@ impl WorldFault {
     pub fn number(&self) -> Option<u8>
         ensures { result ≡ fault_number self.now }
     {
-        self.sort().0
+        self.number_and_name().0
     }
 
     /// The name of the fault, as `WrongType`.
     pub fn name(&self) -> &'static str
         ensures { result.now ≡ fault_name self.now }
     {
-        self.sort().1
+        self.number_and_name().1
     }
 
     /// The path of the key that the fault is about, as `rules.growth`. `NotToml`, `NoLand` and `Memory` have none.

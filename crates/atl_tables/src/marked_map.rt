@@ -29,7 +29,7 @@ impl<V: Drop> Drop for MarkedMap<V> {
 
 impl<V> Model for MarkedMap<V> {
     ghost use Rattle.atl_tables.specs.MarkedMaps.{MarkedMapValue, marked_map_code};
-    ghost use Rattle.atl_tables.specs.RoomySets.{HasRoom};
+    ghost use Rattle.atl_tables.specs.RoomySets.{HasRoomForMarks};
 
     ghost Value = { MarkedMapValue V };
 
@@ -37,13 +37,13 @@ impl<V> Model for MarkedMap<V> {
 
     ghost view = { λ a. record { values = a.values; marks = a.marks.numbers } };
 
-    ghost invariant = { λ a. HasRoom a.values a.marks };
+    ghost invariant = { λ a. HasRoomForMarks a.values a.marks };
 }
 
 impl<V: Drop> MarkedMap<V> {
     ghost use Rattle.std.specs.Option.{option_copied_mut};
     ghost use Rattle.std.specs.Borrow.{sem};
-    ghost use Rattle.atl_tables.specs.Tracking.{LendsMarked};
+    ghost use Rattle.atl_tables.specs.Tracking.{WritesBackMarked};
 
     /// The empty map, with nothing marked. It takes no memory.
     pub fn new(alloc: Global) -> Self
@@ -65,7 +65,7 @@ impl<V: Drop> MarkedMap<V> {
     /// The value under a number, lent to be changed, and its number marked; `None` if there is
     /// none. It takes no memory.
     pub fn get_mut(&mut self, number: u32) -> Option<&mut V>
-        ensures* writes_back { sem 𝓛 (LendsMarked V.row self.entry number result) }
+        ensures* writes_back { sem 𝓛 (WritesBackMarked V.row self.entry number result) }
         ensures value { option_copied_mut result ≡ map.get self.old.values number }
     {
         self.marks.mark_present(&self.values, number);

@@ -3,7 +3,7 @@ ghost use Rattle.std.specs.Prelude.{◌≡◌, true, ◌+◌, ◌<◌, ◌≤◌
 ghost use Rattle.std.specs.FinMap as map;
 ghost use Rattle.std.specs.FinSet as set;
 ghost use Rattle.atl_tables.specs.Limits.{number_count};
-ghost use Rattle.atl_tables.specs.RoomySets.{held, HasRoom};
+ghost use Rattle.atl_tables.specs.RoomySets.{held, HasRoomForMarks};
 ghost use Rattle.atl_tables.specs.Tracking.{marked_with, Lists};
 
 use crate::let_go;
@@ -99,7 +99,7 @@ impl Marks {
     /// Marks a number if it has a value; there is room to mark each number with a value. It takes
     /// no memory.
     pub fn mark_present<V: Drop>(&mut self, values: &Numbered<V>, number: u32)
-        requires { HasRoom values.now self.old }
+        requires { HasRoomForMarks values.now self.old }
         ensures { self.new ≡ record self.old
             { numbers = marked_with self.old.numbers number (map.get values.now number) } }
     {
@@ -111,7 +111,7 @@ impl Marks {
 
     /// Marks each number that has a value; there is room for that. It takes no memory.
     pub fn mark_all<V: Drop>(&mut self, values: &Numbered<V>)
-        requires { HasRoom values.now self.old }
+        requires { HasRoomForMarks values.now self.old }
         ensures { self.new ≡ record self.old { numbers = held values.now self.old.numbers } }
     {
         for (number, _) in values.iter() {

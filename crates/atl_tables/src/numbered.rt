@@ -25,7 +25,7 @@ impl<V> Model for Numbered<V> {
 impl<V: Drop> Numbered<V> {
     ghost use Rattle.std.specs.Option.{option_copied_mut};
     ghost use Rattle.std.specs.Borrow.{sem};
-    ghost use Rattle.atl_tables.specs.Lending.{LendsAt};
+    ghost use Rattle.atl_tables.specs.Lending.{WritesBackAt};
 
     /// The empty map. It takes no memory.
     pub fn new(alloc: Global) -> Self
@@ -45,7 +45,7 @@ impl<V: Drop> Numbered<V> {
 
     /// The value under a number, lent to be changed, `None` if there is none.
     pub fn get_mut(&mut self, number: u32) -> Option<&mut V>
-        ensures* writes_back { sem 𝓛 (LendsAt V.row self.entry number result) }
+        ensures* writes_back { sem 𝓛 (WritesBackAt V.row self.entry number result) }
         ensures value { option_copied_mut result ≡ map.get self.old number }
     {
         self.entries.get_mut(&number)

@@ -4,7 +4,7 @@ ghost use Rattle.toml.specs.View.{table_view};
 ghost use Rattle.atl_tables.specs.Drafts.{AreRegionBasics, IsOldRegion, IsRegionDraft};
 ghost use Rattle.atl_tables.specs.Faults.{first_fault};
 ghost use Rattle.atl_tables.specs.Results.{Gives};
-ghost use Rattle.atl_tables.specs.RegionTable.{place_keys, place_from, side_keys, sides_from, old_region_keys, old_region_from, as_draft, region_keys, region_from, market_twins, region_known, region_of};
+ghost use Rattle.atl_tables.specs.RegionTable.{basics_keys, basics_from, side_keys, sides_from, old_region_keys, old_region_from, as_draft, region_keys, region_from, market_twins, region_known, region_of};
 ghost use Rattle.atl_tables.specs.Worlds.{IsRegionPlan};
 
 use crate::elements::Element;
@@ -76,13 +76,13 @@ impl Drop for RegionDraft {
 }
 
 impl Element for RegionBasics {
-    ghost conditions = { place_keys };
+    ghost conditions = { basics_keys };
 
-    ghost record_of = { place_from };
+    ghost record_of = { basics_from };
 
     ghost is_sound = { AreRegionBasics };
 
-    #[tactic(auto, unfolding(crate::specs::RegionTable::place_keys, crate::specs::RegionTable::place_from))]
+    #[tactic(auto, unfolding(crate::specs::RegionTable::basics_keys, crate::specs::RegionTable::basics_from))]
     fn read(alloc: Global, at: &str, table: &Table) -> Result<RegionBasics, WorldFault> {
         let number = keys::number(alloc, 1, LAST_REGION, "number", at, table)?;
         let name = keys::name(alloc, "name", at, table)?;

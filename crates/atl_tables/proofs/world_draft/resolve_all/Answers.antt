@@ -1,7 +1,7 @@
 use Rattle.std.proofs.Common.{◌+◌, ◌∷◌, [], drop, sym, ap, ◌∙◌, arith, length-append}
 use Rattle.std.proofs.lemmas.List.{drop_more}
 use Rattle.atl_tables.proofs.FaultLaws.{exits}
-use Rattle.atl_tables.proofs.EachLaws.{goes_on_at, ends_at, mapped_on, place_push}
+use Rattle.atl_tables.proofs.EachLaws.{goes_on_at, ends_at, mapped_on, each_index_push}
 use Rattle.atl_tables.proofs.world_draft.resolve_all.Goals as goal
 
 pub returns-in_err-record-clause-value : goal.returns-in_err-record-clause-value
@@ -20,6 +20,6 @@ loop-i-preserved g c =
     rw c.in_ok-push.ensures.ok (record {
       faults = goes_on_at (g.D.Draft.unknown c.args.all.now) drafts i draft _ c.loop-i-test.true c.index-drafts-i.is so_far.faults one.0;
       records = mapped_on record_of c.loop-i.records draft (drop (i + 1) drafts) c.in_ok-record.record _ (rw here at so_far.records) one.1;
-      sound = place_push (g.D.Draft.is_sound c.args.all.now) c.loop-i.records c.in_ok-record.record so_far.sound (rw so_far.count c.in_ok-record.ensures.sound);
+      sound = each_index_push (g.D.Draft.is_sound c.args.all.now) c.loop-i.records c.in_ok-record.record so_far.sound (rw so_far.count c.in_ok-record.ensures.sound);
       count = omega (arith, length-append c.loop-i.records (c.in_ok-record.record ∷ []), so_far.count);
     })

@@ -2,7 +2,7 @@ use Rattle.std.proofs.Common.{◌≡◌, true, sym, ap, ◌∙◌}
 use Rattle.std.specs.FinSet as set
 use Rattle.atl_tables.specs.RoomySets.{RoomySet}
 use Rattle.atl_tables.proofs.SetLaws.{insert_twice, union-insert, union-empty}
-use Rattle.atl_tables.proofs.ApartLaws.{fits_late, one_late, one_more}
+use Rattle.atl_tables.proofs.ApartLaws.{fits_recent, one_recent, one_more}
 use Rattle.atl_tables.proofs.marks.Marks.add.Goals as goal
 
 pub returns-then-contains : goal.returns-then-contains
@@ -12,11 +12,11 @@ returns-then-contains c =
 
 pub add-requires : goal.add-requires
 add-requires c =
-    fits_late c.self.inside.numbers c.self.inside.recent c.args.self.now c.args.number c.self.view_is c.self.invariant (sym c.contains.ensures ∙ c.if-contains.false) (c.merges_recent.ensures c.if-merges_recent.true)
+    fits_recent c.self.inside.numbers c.self.inside.recent c.args.self.now c.args.number c.self.view_is c.self.invariant (sym c.contains.ensures ∙ c.if-contains.false) (c.merges_recent.ensures c.if-merges_recent.true)
 
 pub invariant_of-self : goal.invariant_of-self
 invariant_of-self c =
-    rw c.add.ensures (one_late c.self.inside.numbers c.self.inside.recent c.args.self.now c.args.number c.self.view_is c.self.invariant (sym c.contains.ensures ∙ c.if-contains.false) c.requires)
+    rw c.add.ensures (one_recent c.self.inside.numbers c.self.inside.recent c.args.self.now c.args.number c.self.view_is c.self.invariant (sym c.contains.ensures ∙ c.if-contains.false) c.requires)
 
 pub invariant_of-self-else-merges_recent : goal.invariant_of-self-else-merges_recent
 invariant_of-self-else-merges_recent c =
