@@ -1,9 +1,10 @@
--- The set of aliases that a mailing has given so far.
+-- The set of the aliases that the FORM lines of a mailing have given so far, as a test of each number.
 use Rattle.std.specs.Prelude.{ℕ, Bool, false, ◌||◌, ◌==◌}
 
+-- the empty set of aliases
 abbrev pub no_alias : ℕ → Bool
 no_alias k = false
 
--- one alias more
+-- the set `given` with one alias more
 abbrev pub with_alias : (ℕ → Bool) → ℕ → ℕ → Bool
 with_alias given alias k = k == alias || given k

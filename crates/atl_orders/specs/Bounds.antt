@@ -1,4 +1,5 @@
--- What each order of a mailing satisfies: numbers in range, names that follow the name rule, and things of the world.
+-- The bounds of every order that is read: numbers in range, names that keep the rule of names, and things of the
+-- world.
 use Rattle.std.specs.Prelude.{◌≡◌, ◌≤◌, ◌<◌, ℕ, true, List, [], ◌∷◌, length, Some, None, Ok}
 use Rattle.std.specs.List.{All}
 use Rattle.atl_orders.specs.Limits.{most_number, last_alias, last_faction}
@@ -10,21 +11,24 @@ use Rattle.atl_orders.specs.declared.order.Operands.TheVariants as operands
 use Rattle.atl_orders.specs.Orders.{OperandsValue, OrderValue}
 use Rattle.atl_orders.specs.Mailing.{EntryValue, Reading, reading}
 
--- from 1 up to the most
+-- a number is from 1 to most
 abbrev pub IsWithin : ℕ → ℕ → Type 0
 IsWithin most n = (1 ≤ n) × (n ≤ most)
 
+-- a number is from 1 to 999,999,999
 abbrev pub IsNumber : ℕ → Type 0
 IsNumber n = IsWithin most_number n
 
+-- an alias is from 1 to 9,999
 abbrev pub IsAlias : ℕ → Type 0
 IsAlias alias = IsWithin last_alias alias
 
+-- a reference to a unit has a number or an alias in its range
 abbrev pub IsUnitRef : UnitRef → Type 0
 IsUnitRef (Number n) = IsNumber n
 IsUnitRef (Alias alias) = IsAlias alias
 
--- what the words after a verb name
+-- what the words after a verb name keeps its bounds, in this world
 abbrev pub AreOperandsOf : WorldValue → OperandsValue → Type 0
 AreOperandsOf world operands.Nothing = Unit {0}
 AreOperandsOf world (operands.Alias alias) = IsAlias alias
@@ -42,22 +46,26 @@ AreOperandsOf world (operands.Kind (Some kind)) = kind < length world.kinds
 AreOperandsOf world (operands.Skill skill) = skill < length world.skills
 AreOperandsOf world (operands.Item item) = item < length world.items
 
+-- an order keeps its bounds, in this world
 abbrev pub IsOrderOf : WorldValue → OrderValue → Type 0
 IsOrderOf world order_value = AreOperandsOf world order_value.operands
 
+-- an order keeps its bounds, and so does the unit that it is for
 pub record IsEntry (world : WorldValue) (e : EntryValue) : Type 0 where
   pub target : IsUnitRef e.target
   pub order : IsOrderOf world e.order_value
 
--- each line is behind the one before
+-- the lines of the orders rise, and all are above n
 abbrev pub LinesRise : ℕ → List EntryValue → Type 0
 LinesRise n [] = Unit {0}
 LinesRise n (e ∷ es) = (n < e.line) × LinesRise e.line es
 
+-- the reading of a mailing: a faction in range, orders that keep their bounds, and lines that rise
 pub record IsReading (world : WorldValue) (r : Reading) : Type 0 where
   pub faction : IsWithin last_faction r.faction
   pub entries : All (IsEntry world) r.entries
   pub lines : LinesRise 0 r.entries
 
+-- Every reading of a text keeps these bounds.
 abbrev pub ReadingsKeepBounds : Type 0
 ReadingsKeepBounds = (world : WorldValue) (text : List ℕ) (r : Reading) → reading world text ≡ Ok r → IsReading world r

@@ -5,7 +5,7 @@ use Rattle.atl_orders.specs.declared.fault.LineFault.TheVariants.{NoUnit, Unknow
 use Rattle.atl_orders.specs.declared.fault.MailFault.{MailFault}
 use Rattle.atl_orders.specs.declared.fault.MailFault.TheVariants.{TooLong, NoHeader, BadHeader, Memory}
 
--- each fault by its number and its name
+-- the number and the name of a line fault
 abbrev pub line_fault : LineFault → ℕ × List ℕ
 line_fault NoUnit = (1, codes "NoUnit")
 line_fault UnknownOrder = (2, codes "UnknownOrder")
@@ -19,13 +19,15 @@ line_fault EndAlone = (9, codes "EndAlone")
 line_fault BadDirection = (10, codes "BadDirection")
 line_fault BadName = (11, codes "BadName")
 
+-- the number of a line fault, from 1 to 11
 abbrev pub fault_number : LineFault → ℕ
 fault_number fault = (line_fault fault).0
 
+-- the name of a line fault, as in `BadNumber`
 abbrev pub fault_name : LineFault → List ℕ
 fault_name fault = (line_fault fault).1
 
--- the number of a refused mailing; want of memory has none
+-- the number of a mail fault, from 1 to 3; lack of memory has none
 abbrev pub mail_fault_number : MailFault → Option ℕ
 mail_fault_number TooLong = Some 1
 mail_fault_number NoHeader = Some 2

@@ -19,13 +19,13 @@ use Rattle.atl_orders.specs.Operands.{not_zero}
 use Rattle.atl_orders.specs.Orders.{OrderValue, order_value}
 use Rattle.atl_orders.specs.Reading.{Effect, nothing, faulty, says, line_step}
 
--- an order with its line and its unit
+-- an order of a mailing: its line's number, the unit that it is for, and the order
 pub record EntryValue : Type 0 where
   pub line : ℕ
   pub target : UnitRef
   pub order_value : OrderValue
 
--- what each line up to `#END` does, with its number
+-- the effect of each line up to `#END`, with the line's number; the first line has the number n
 unfoldable pub effects : WorldValue → ℕ → ReaderState → (ℕ → Bool) → List (List ℕ) → List (ℕ × Effect)
 effects world n place given [] = []
 effects world n place given (line ∷ rest) =
@@ -33,46 +33,49 @@ effects world n place given (line ∷ rest) =
     else (n, (line_step world place given line).effect)
     ∷ effects world (n + 1) (line_step world place given line).place (line_step world place given line).given rest
 
--- the orders and the faults among them
+-- the order of a line as a list of one, or of none if the line gives no order
 abbrev pub entry_of : ℕ × Effect → List EntryValue
 entry_of (n, nothing) = []
 entry_of (n, faulty fault) = []
 entry_of (n, says unit order_value) = record { line = n; target = unit; order_value = order_value } ∷ []
 
+-- the fault of a line as a list of one, or of none if the line has no fault
 abbrev pub fault_of : ℕ × Effect → List FaultyLine
 fault_of (n, nothing) = []
 fault_of (n, faulty fault) = record { line = n; fault = fault } ∷ []
 fault_of (n, says unit order_value) = []
 
--- the faction that a header names
+-- the number of the faction, from 1 to 9,999, that is the second word of a header
 abbrev pub faction_of : List WordText → Option ℕ
 faction_of [] = None
 faction_of (w ∷ []) = None
 faction_of (w ∷ v ∷ ws) = not_zero (number_of last_faction v.bytes)
 
--- The faction, and the lines behind the header with the number of their first.
+-- what a header gives: its faction, and the lines after it, of which the first has the number `next`
 pub record HeaderValue : Type 0 where
   pub faction : ℕ
   pub next : ℕ
   pub rest : List (List ℕ)
 
+-- what the header at line n gives, if its faction is a number in range; else BadHeader
 abbrev pub header_line : ℕ → List (List ℕ) → Option ℕ → Result HeaderValue MailFault
 header_line n rest None = Err BadHeader
 header_line n rest (Some faction) = Ok (record { faction = faction; next = n + 1; rest = rest })
 
--- the first header of these lines
+-- what the first header of these lines gives, else NoHeader or BadHeader; the first line has the number n
 unfoldable pub header_from : ℕ → List (List ℕ) → Result HeaderValue MailFault
 header_from n [] = Err NoHeader
 header_from n (line ∷ rest) =
     if begins (codes "#ATLANTIS") (words line) then header_line n rest (faction_of (words line))
     else header_from (n + 1) rest
 
--- What a mailing says.
+-- the reading of a mailing: its faction, its orders, and its faulty lines
 pub record Reading : Type 0 where
   pub faction : ℕ
   pub entries : List EntryValue
   pub faults : List FaultyLine
 
+-- the reading of the lines after a header, or the fault of the header
 abbrev pub after_header : WorldValue → Result HeaderValue MailFault → Result Reading MailFault
 after_header world (Err fault) = Err fault
 after_header world (Ok h) = Ok (record {
@@ -81,30 +84,32 @@ after_header world (Ok h) = Ok (record {
   faults = flat_map fault_of (effects world h.next Nowhere no_alias h.rest);
 })
 
--- the reading of a text
+-- the reading of a text, else TooLong, NoHeader or BadHeader
 unfoldable pub reading : WorldValue → List ℕ → Result Reading MailFault
 reading world text =
     if nat_lt most_bytes (length text) then Err TooLong
     else after_header world (header_from 1 (lines text))
 
--- a mailing of a faction: it is short enough, and its header names the faction
+-- a text is a mailing of this faction: it isn't too long, and its header names the faction
 pub record IsMailingOf (faction : ℕ) (text : List ℕ) : Type 0 where
   pub short : length text ≤ most_bytes
   pub header : (next : ℕ) × (rest : List (List ℕ)) × (header_from 1 (lines text) ≡ Ok (record { faction = faction; next = next; rest = rest }))
 
--- ---- what the code answers
+-- ---- what the code returns
 
+-- an order that the code returned, with the name in it by its bytes
 abbrev pub entry_value : List ℕ → Entry → EntryValue
 entry_value text e = record { line = e.line; target = e.target; order_value = order_value text e.order }
 
+-- a mailing that the code returned, as a reading
 abbrev pub reading_of : Mailing → Reading
 reading_of m = record { faction = m.faction; entries = map (entry_value m.text) m.entries; faults = m.faults }
 
--- the mailing was read with this world
+-- a mailing is what the reading of its text gives with this world
 abbrev pub IsReadWith : WorldValue → Mailing → Type 0
 IsReadWith world m = reading world m.text ≡ Ok (reading_of m)
 
--- What was answered is what reading gives, unless memory ran out.
+-- A call returned exactly `read`, its value seen by `view`; or it returned Memory, which says nothing of `read`.
 abbrev pub Reads : {X Y : Type 0} → (X → Y) → Result X MailFault → Result Y MailFault → Type 0
 Reads view (Ok x) read = read ≡ Ok (view x)
 Reads view (Err Memory) read = Unit {0}

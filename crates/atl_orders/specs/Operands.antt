@@ -1,5 +1,4 @@
--- How the words after a keyword are read: numbers, units, items, skills, kinds and names. See docs/RULES.md, "Names in
--- orders".
+-- How the words after a keyword are read, one by one. See docs/RULES.md, "Names in orders".
 use Rattle.std.specs.Prelude.{ℕ, List, [], ◌∷◌, codes, Option, Some, None, Result, Ok, Err, ◌==◌, if◌then◌else◌}
 use Rattle.atl_orders.specs.Limits.{last_alias, most_number}
 use Rattle.atl_tables.specs.Worlds.{WorldValue}
@@ -13,35 +12,37 @@ use Rattle.atl_orders.specs.declared.fault.LineFault.{LineFault}
 use Rattle.atl_orders.specs.declared.fault.LineFault.TheVariants.{BadNumber, UnknownThing, MissingWord, BadAlias, BadDirection}
 use Rattle.atl_orders.specs.Words.{WordText, is_word, number_of}
 
--- a value that there has to be
+-- the value, or this fault if there is none
 abbrev pub or_fault : {X : Type 0} → LineFault → Option X → Result X LineFault
 or_fault fault None = Err fault
 or_fault fault (Some x) = Ok x
 
--- a number from 1 on
+-- a number, unless it is 0
 abbrev pub not_zero : Option ℕ → Option ℕ
 not_zero None = None
 not_zero (Some n) = if n == 0 then None else Some n
 
--- the next word, and those after it
+-- the next word, and the words after it; else MissingWord
 abbrev pub word_at : List WordText → Result (WordText × List WordText) LineFault
 word_at [] = Err MissingWord
 word_at (w ∷ ws) = Ok (w, ws)
 
--- a number from 1 on, up to the most
+-- the next word as a number from 1 to most, and the words after it; else MissingWord or this fault
 unfoldable pub count_at : ℕ → LineFault → List WordText → Result (ℕ × List WordText) LineFault
 count_at most fault ws = do
   w ← word_at ws
   n ← or_fault fault (not_zero (number_of most w.0.bytes))
   Ok (n, w.1)
 
+-- the next word as a number from 1 to 999,999,999, and the words after it; else MissingWord or BadNumber
 abbrev pub number_at : List WordText → Result (ℕ × List WordText) LineFault
 number_at ws = count_at most_number BadNumber ws
 
+-- the next word as an alias from 1 to 9,999, and the words after it; else MissingWord or BadAlias
 abbrev pub alias_at : List WordText → Result (ℕ × List WordText) LineFault
 alias_at ws = count_at last_alias BadAlias ws
 
--- a unit by its number, or NEW and an alias
+-- a unit by its number, or by NEW and an alias, and the words after it; else a fault
 unfoldable pub unit_at : List WordText → Result (UnitRef × List WordText) LineFault
 unit_at ws = do
   w ← word_at ws
@@ -49,29 +50,32 @@ unit_at ws = do
       then (alias_at w.1 >>= λ n. Ok (Alias n.0, n.1))
       else (number_at ws >>= λ n. Ok (Number n.0, n.1))
 
--- an item, a skill or a kind of the world by its name
+-- the next word as an item of the world, by number; else MissingWord or UnknownThing
 unfoldable pub item_at : WorldValue → List WordText → Result ℕ LineFault
 item_at world ws = do
   w ← word_at ws
   or_fault UnknownThing (item_named world w.0.bytes w.0.quoted)
 
--- an amount from 1 on, and an item of the world
+-- an amount from 1 to 999,999,999, and then an item of the world; else a fault
 unfoldable pub amount_of_item_at : WorldValue → List WordText → Result (ℕ × ℕ) LineFault
 amount_of_item_at world ws = do
   amount ← number_at ws
   item ← item_at world amount.1
   Ok (amount.0, item)
 
+-- the next word as a skill of the world, by number; else MissingWord or UnknownThing
 unfoldable pub skill_at : WorldValue → List WordText → Result ℕ LineFault
 skill_at world ws = do
   w ← word_at ws
   or_fault UnknownThing (skill_named world w.0.bytes w.0.quoted)
 
+-- the next word as a kind of structure of the world, by number; else MissingWord or UnknownThing
 unfoldable pub kind_at : WorldValue → List WordText → Result ℕ LineFault
 kind_at world ws = do
   w ← word_at ws
   or_fault UnknownThing (kind_named world w.0.bytes w.0.quoted)
 
+-- the direction that a word names, None if it names none
 abbrev pub direction_of : WordText → Option Direction
 direction_of w =
     if is_word (codes "NORTH") w then Some North
@@ -80,6 +84,7 @@ direction_of w =
     else if is_word (codes "WEST") w then Some West
     else None
 
+-- the next word as a direction; else MissingWord or BadDirection
 unfoldable pub direction_at : List WordText → Result Direction LineFault
 direction_at ws = do
   w ← word_at ws
@@ -87,23 +92,25 @@ direction_at ws = do
 
 -- ---- units up to the line's end
 
--- a unit by the word of its number, and by the word behind NEW
+-- a unit by the word that writes its number; else BadNumber
 abbrev pub numbered : WordText → Result UnitRef LineFault
 numbered w = or_fault BadNumber (not_zero (number_of most_number w.bytes)) >>= λ n. Ok (Number n)
 
+-- a unit by the word after NEW that writes its alias; else BadAlias
 abbrev pub new_unit_ref : WordText → Result UnitRef LineFault
 new_unit_ref w = or_fault BadAlias (not_zero (number_of last_alias w.bytes)) >>= λ n. Ok (Alias n)
 
--- one unit more, in front
+-- a list of units with one unit more in front, or the first fault
 abbrev pub and_then_units : Result UnitRef LineFault → Result (List UnitRef) LineFault → Result (List UnitRef) LineFault
 and_then_units unit units = unit >>= λ u. units >>= λ us. Ok (u ∷ us)
 
+-- the units that all words up to the line's end name, which may be none; else the first fault
 unfoldable pub units_of : List WordText → Result (List UnitRef) LineFault
 units_of [] = Ok []
 units_of (w ∷ []) = if is_word (codes "NEW") w then Err MissingWord else and_then_units (numbered w) (Ok [])
 units_of (w ∷ v ∷ ws) = if is_word (codes "NEW") w then and_then_units (new_unit_ref v) (units_of ws) else and_then_units (numbered w) (units_of (v ∷ ws))
 
--- one or more
+-- the units that all words up to the line's end name, one or more; else the first fault
 unfoldable pub some_units_at : List WordText → Result (List UnitRef) LineFault
 some_units_at [] = Err MissingWord
 some_units_at (w ∷ ws) = units_of (w ∷ ws)

@@ -21,58 +21,68 @@ use Rattle.atl_orders.specs.Words.{WordText, is_word, number_of}
 use Rattle.atl_tables.specs.Steps.{◌>>=◌}
 use Rattle.atl_orders.specs.Operands.{or_fault, word_at, number_at, alias_at, unit_at, item_at, amount_of_item_at, skill_at, kind_at, direction_at, some_units_at}
 
--- An order, with a name by its bytes; items, skills and kinds are by their numbers in the world.
+-- an order, with a name by its bytes, and items, skills and kinds by their numbers in the world
 abbrev pub OrderValue : Type 0
 OrderValue = Order (List ℕ)
 
+-- what the words after a verb name, with a name by its bytes
 abbrev pub OperandsValue : Type 0
 OperandsValue = Operands (List ℕ)
 
--- ---- by the words after the verb, one definition a shape
+-- ---- the words after a verb, one definition for each shape of the order table
 
+-- the words of an alias, or their first fault
 unfoldable pub read_alias : List WordText → Result OperandsValue LineFault
 read_alias ws = do
   alias ← alias_at ws
   Ok (operands.Alias alias.0)
 
+-- the words of a flag: 0 or 1, or their first fault
 unfoldable pub read_flag : List WordText → Result OperandsValue LineFault
 read_flag ws = do
   w ← word_at ws
   n ← or_fault BadNumber (number_of 1 w.0.bytes)
   Ok (operands.Flag (n == 1))
 
+-- the words of a number, or their first fault
 unfoldable pub read_number : List WordText → Result OperandsValue LineFault
 read_number ws = do
   n ← number_at ws
   Ok (operands.Number n.0)
 
+-- the words of a unit, or their first fault
 unfoldable pub read_unit : List WordText → Result OperandsValue LineFault
 read_unit ws = do
   unit ← unit_at ws
   Ok (operands.Unit unit.0)
 
+-- the words of one unit or more, up to the line's end, or their first fault
 unfoldable pub read_units : List WordText → Result OperandsValue LineFault
 read_units ws = do
   units ← some_units_at ws
   Ok (operands.Units units)
 
+-- the words of a unit and a number, or their first fault
 unfoldable pub read_unit_and_number : List WordText → Result OperandsValue LineFault
 read_unit_and_number ws = do
   to ← unit_at ws
   number ← number_at to.1
   Ok (operands.UnitAndNumber to.0 number.0)
 
+-- the words of a unit, an amount and an item, or their first fault
 unfoldable pub read_unit_and_goods : WorldValue → List WordText → Result OperandsValue LineFault
 read_unit_and_goods world ws = do
   to ← unit_at ws
   goods ← amount_of_item_at world to.1
   Ok (operands.UnitAndGoods to.0 goods.0 goods.1)
 
+-- the words of an amount and an item, or their first fault
 unfoldable pub read_goods : WorldValue → List WordText → Result OperandsValue LineFault
 read_goods world ws = do
   goods ← amount_of_item_at world ws
   Ok (operands.Goods goods.0 goods.1)
 
+-- what the word after NAME says is named: the unit, the faction, the building or the ship
 abbrev pub kind_of_name : WordText → Option NameKind
 kind_of_name w =
     if is_word (codes "UNIT") w then Some kinds.Unit
@@ -81,9 +91,11 @@ kind_of_name w =
     else if is_word (codes "SHIP") w then Some kinds.Ship
     else None
 
+-- a new name and what gets it; else BadName if the name breaks the rule of names
 abbrev pub name_by : NameKind → List ℕ → Result OperandsValue LineFault
 name_by what bytes = if name_ok bytes then Ok (operands.Name what bytes) else Err BadName
 
+-- the words of what gets a new name, and the name, or their first fault
 unfoldable pub read_name : List WordText → Result OperandsValue LineFault
 read_name ws = do
   w ← word_at ws
@@ -91,28 +103,32 @@ read_name ws = do
   v ← word_at w.1
   name_by what (name_of v.0.bytes v.0.quoted)
 
+-- the words of a direction, or their first fault
 unfoldable pub read_direction : List WordText → Result OperandsValue LineFault
 read_direction ws = do
   d ← direction_at ws
   Ok (operands.Direction d)
 
+-- the words of a kind of structure, or no word, or their first fault
 unfoldable pub read_kind : WorldValue → List WordText → Result OperandsValue LineFault
 read_kind world [] = Ok (operands.Kind None)
 read_kind world (w ∷ ws) = do
   kind ← kind_at world (w ∷ ws)
   Ok (operands.Kind (Some kind))
 
+-- the words of a skill, or their first fault
 unfoldable pub read_skill : WorldValue → List WordText → Result OperandsValue LineFault
 read_skill world ws = do
   skill ← skill_at world ws
   Ok (operands.Skill skill)
 
+-- the words of an item, or their first fault
 unfoldable pub read_item : WorldValue → List WordText → Result OperandsValue LineFault
 read_item world ws = do
   item ← item_at world ws
   Ok (operands.Item item)
 
--- what the words name, by the shape that the order table gives the verb
+-- what the words after a verb name, by the shape that the order table gives the verb; or their first fault
 abbrev pub read_operands : WorldValue → Shape → List WordText → Result OperandsValue LineFault
 read_operands world shapes.Nothing ws = Ok operands.Nothing
 read_operands world shapes.Alias ws = read_alias ws
@@ -129,22 +145,23 @@ read_operands world shapes.Kind ws = read_kind world ws
 read_operands world shapes.Skill ws = read_skill world ws
 read_operands world shapes.Item ws = read_item world ws
 
+-- the order with this verb and these operands
 abbrev pub order_of : Verb → OperandsValue → OrderValue
 order_of verb named = record { verb = verb; operands = named }
 
--- what an order says by the words after its verb
+-- the order that a verb and the words after it give, or the first fault of these words
 unfoldable pub said_by : WorldValue → Verb → List WordText → Result OrderValue LineFault
 said_by world verb ws = do
   named ← read_operands world (row_of verb).shape ws
   Ok (order_of verb named)
 
--- ---- orders of the code
+-- ---- orders that the code returns, in which a name is a span of the text
 
--- the name that is there in the text
+-- the bytes of the name in a span of a text
 abbrev pub name_in : List ℕ → Span → List ℕ
 name_in text span = name_of (slice_range text span.start span.end) span.quoted
 
--- operands of the code, with the text that their name is a part of
+-- operands of the code, with the name by its bytes in the text
 abbrev pub named : List ℕ → Operands Span → OperandsValue
 named text operands.Nothing = operands.Nothing
 named text (operands.Alias alias) = operands.Alias alias
@@ -161,6 +178,6 @@ named text (operands.Kind kind) = operands.Kind kind
 named text (operands.Skill skill) = operands.Skill skill
 named text (operands.Item item) = operands.Item item
 
--- an order of the code
+-- an order of the code, with the name by its bytes in the text
 abbrev pub order_value : List ℕ → Order Span → OrderValue
 order_value text order = order_of order.verb (named text order.operands)

@@ -21,10 +21,11 @@ use Rattle.atl_orders.specs.declared.order.Operands.TheVariants as operands
 use Rattle.atl_orders.specs.declared.verb.Verb.TheVariants as verbs
 use Rattle.atl_orders.specs.Orders.{OrderValue, order_of, said_by}
 
--- Tab, and the bytes from space to `~`.
+-- whether a byte may be in a line: tab, and from space to `~`
 abbrev pub is_plain : ℕ → Bool
 is_plain b = b == tab || (nat_le space b && nat_le b tilde)
 
+-- the keyword that a word is, in any case: UNIT, END, FORM, or one of an order; None if it is no keyword
 abbrev pub keyword_of : WordText → Option Keyword
 keyword_of w =
     if is_word (codes "UNIT") w then Some keywords.Unit
@@ -32,45 +33,47 @@ keyword_of w =
     else if is_word (codes "FORM") w then Some keywords.Form
     else option_map keywords.Order (verb_of w)
 
--- what a line does: nothing, a fault, or an order for a unit
+-- the effect of a line: nothing, a fault, or an order for a unit
 pub data Effect : Type 0 where
   nothing : Effect
   faulty : LineFault → Effect
   says : UnitRef → OrderValue → Effect
 
--- and where the next line stands, with the aliases given so far
+-- what reading a line gives: its effect, the reader's state after it (`place`), and the aliases given so far
 pub record LineStep : Type 0 where
   pub effect : Effect
   pub place : ReaderState
   pub given : ℕ → Bool
 
--- for whom an order is
+-- the unit that an order is for, in a state of the reader; None if no unit is named
 abbrev pub target : ReaderState → Option UnitRef
 target Nowhere = None
 target (At n) = Some (Number n)
 target (Forming parent alias) = Some (Alias alias)
 target (Skipping parent) = None
 
--- the place of the unit outside a block
+-- the reader's state after a block, by the unit that was named before it, if one was
 abbrev pub outside : Option ℕ → ReaderState
 outside None = Nowhere
 outside (Some n) = At n
 
+-- the step of a UNIT line: its unit is named; on a fault no unit is
 unfoldable pub unit_step : (ℕ → Bool) → Result (ℕ × List WordText) LineFault → LineStep
 unit_step given (Ok n) = record { effect = nothing; place = At n.0; given = given }
 unit_step given (Err fault) = record { effect = faulty fault; place = Nowhere; given = given }
 
+-- the step of an END line: the open block ends; without one it is EndAlone
 unfoldable pub end_step : ReaderState → (ℕ → Bool) → LineStep
 end_step Nowhere given = record { effect = faulty EndAlone; place = Nowhere; given = given }
 end_step (At n) given = record { effect = faulty EndAlone; place = At n; given = given }
 end_step (Forming parent alias) given = record { effect = nothing; place = At parent; given = given }
 end_step (Skipping parent) given = record { effect = nothing; place = outside parent; given = given }
 
--- the order that an alias gives
+-- the order FORM with this alias
 abbrev pub form_value : ℕ → OrderValue
 form_value alias = order_of verbs.Form (operands.Alias alias)
 
--- a new unit of a parent, by its alias
+-- the step of a FORM line outside blocks, of the unit `parent`; on a fault its block is skipped
 unfoldable pub block_step : ℕ → (ℕ → Bool) → Result (ℕ × List WordText) LineFault → LineStep
 block_step parent given (Ok n) =
     if given n.0
@@ -78,21 +81,24 @@ block_step parent given (Ok n) =
     else record { effect = says (Number parent) (form_value n.0); place = Forming parent n.0; given = with_alias given n.0 }
 block_step parent given (Err fault) = record { effect = faulty fault; place = Skipping (Some parent); given = given }
 
+-- the step of a FORM line: inside a block it is NestedForm
 unfoldable pub form_step : ReaderState → (ℕ → Bool) → List WordText → LineStep
 form_step Nowhere given ws = record { effect = faulty NoUnit; place = Skipping None; given = given }
 form_step (At n) given ws = block_step n given (alias_at ws)
 form_step (Forming parent alias) given ws = record { effect = faulty NestedForm; place = Forming parent alias; given = given }
 form_step (Skipping parent) given ws = record { effect = faulty NestedForm; place = Skipping parent; given = given }
 
--- an order's effect for a unit
+-- the effect of an order for this unit, or of the fault of its words
 abbrev pub effect_for : UnitRef → Result OrderValue LineFault → Effect
 effect_for unit (Ok order_value) = says unit order_value
 effect_for unit (Err fault) = faulty fault
 
+-- the effect of an order's line; NoUnit if no unit is named
 abbrev pub order_effect : Option UnitRef → Result OrderValue LineFault → Effect
 order_effect None order_value = faulty NoUnit
 order_effect (Some unit) order_value = effect_for unit order_value
 
+-- the step of a line by its keyword and the words after it; without a keyword it is UnknownOrder
 unfoldable pub keyword_step : WorldValue → ReaderState → (ℕ → Bool) → Option Keyword → List WordText → LineStep
 keyword_step world place given None ws = record { effect = faulty UnknownOrder; place = place; given = given }
 keyword_step world place given (Some keywords.Unit) ws = unit_step given (number_at ws)
@@ -100,11 +106,12 @@ keyword_step world place given (Some keywords.End) ws = end_step place given
 keyword_step world place given (Some keywords.Form) ws = form_step place given ws
 keyword_step world place given (Some (keywords.Order verb)) ws = record { effect = order_effect (target place) (said_by world verb ws); place = place; given = given }
 
+-- the step of a line by its words
 unfoldable pub words_step : WorldValue → ReaderState → (ℕ → Bool) → List WordText → LineStep
 words_step world place given [] = record { effect = nothing; place = place; given = given }
 words_step world place given (w ∷ ws) = keyword_step world place given (keyword_of w) ws
 
--- one line
+-- the step of one line: what reading it gives
 unfoldable pub line_step : WorldValue → ReaderState → (ℕ → Bool) → List ℕ → LineStep
 line_step world place given line =
     if list_all is_plain line then words_step world place given (words line)

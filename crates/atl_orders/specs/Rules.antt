@@ -23,22 +23,22 @@ use Rattle.atl_orders.specs.Orders.{OrderValue, said_by}
 use Rattle.atl_orders.specs.Reading.{is_plain, keyword_of, Effect, nothing, faulty, says, form_value, target, outside, LineStep, line_step}
 use Rattle.atl_orders.specs.Mailing.{EntryValue, entry_of, fault_of, effects, faction_of, Reading, reading}
 
--- what a line does, where the next one stands, and the aliases given so far
+-- a step: the effect of a line, the reader's state after it, and the aliases given so far
 abbrev pub step : Effect → ReaderState → (ℕ → Bool) → LineStep
 step effect place given = record { effect = effect; place = place; given = given }
 
--- the place outside the block that is open, if one is
+-- the reader's state after the open block, None if no block is open
 abbrev pub outer : ReaderState → Option ReaderState
 outer Nowhere = None
 outer (At n) = None
 outer (Forming parent alias) = Some (At parent)
 outer (Skipping parent) = Some (outside parent)
 
--- the first word is this keyword
+-- a word, the first of a line, is this keyword
 abbrev pub Leads : WordText → Keyword → Type 0
 Leads w k = keyword_of w ≡ Some k
 
--- a line with words, by its first word
+-- the rules for a line with words, by the first word w: the line has the step s
 pub data WordsSay (world : WorldValue) (place : ReaderState) (given : ℕ → Bool) (w : WordText) (ws : List WordText) (s : LineStep) : Type 0 where
   -- UNIT: the unit is named, and a block ends; on a fault no unit is
   unit_named : Leads w keywords.Unit → (n : ℕ) (rest : List WordText) → number_at ws ≡ Ok (n, rest)
@@ -76,7 +76,7 @@ pub data WordsSay (world : WorldValue) (place : ReaderState) (given : ℕ → Bo
   unknown : keyword_of w ≡ None
       → s ≡ step (faulty UnknownOrder) place given → WordsSay world place given w ws s
 
--- a line
+-- the rules for one line: the line has the step s
 pub data LineSays (world : WorldValue) (place : ReaderState) (given : ℕ → Bool) (line : List ℕ) (s : LineStep) : Type 0 where
   bad_byte : list_all is_plain line ≡ false
       → s ≡ step (faulty BadByte) place given → LineSays world place given line s
@@ -85,7 +85,8 @@ pub data LineSays (world : WorldValue) (place : ReaderState) (given : ℕ → Bo
   some_words : list_all is_plain line ≡ true → (w : WordText) (ws : List WordText) → words line ≡ w ∷ ws
       → WordsSay world place given w ws s → LineSays world place given line s
 
--- the lines behind the header, from the one of this number on: their orders and their faults
+-- the rules for the lines after the header, of which the first has this number: they give these orders and these
+-- faults
 pub data BodySays (world : WorldValue) : ℕ → ReaderState → (ℕ → Bool) → List (List ℕ) → List EntryValue → List FaultyLine → Type 0 where
   text_ended : (n : ℕ) (place : ReaderState) (given : ℕ → Bool) → BodySays world n place given [] [] []
   orders_ended : (n : ℕ) (place : ReaderState) (given : ℕ → Bool) (line : List ℕ) (rest : List (List ℕ))
@@ -96,20 +97,21 @@ pub data BodySays (world : WorldValue) : ℕ → ReaderState → (ℕ → Bool) 
       → (entries : List EntryValue) (faults : List FaultyLine) → BodySays world (n + 1) s.place s.given rest entries faults
       → BodySays world n place given (line ∷ rest) (entry_of (n, s.effect) ++ entries) (fault_of (n, s.effect) ++ faults)
 
--- whether a line's first word is `#ATLANTIS`
+-- whether a line is a header: its first word is `#ATLANTIS`
 abbrev pub is_header : List ℕ → Bool
 is_header line = begins (codes "#ATLANTIS") (words line)
 
+-- no line is a header
 abbrev pub HaveNoHeader : List (List ℕ) → Type 0
 HaveNoHeader lines = All (λ line. is_header line ≡ false) lines
 
--- the header of a text's lines is the first of them that is one
+-- `header` is the first header of these lines, with `before` above it and `behind` below
 pub record HaveHeader (lines before : List (List ℕ)) (header : List ℕ) (behind : List (List ℕ)) : Type 0 where
   pub whole : lines ≡ before ++ header ∷ behind
   pub leads : is_header header ≡ true
   pub first : HaveNoHeader before
 
--- a text: its header names the faction, and the lines behind it give the orders and the faults
+-- the rules for a whole text: it is read as `read`, a mailing or a fault
 pub data TextSays (world : WorldValue) (text : List ℕ) (read : Result Reading MailFault) : Type 0 where
   too_long : most_bytes < length text
       → read ≡ Err TooLong → TextSays world text read
@@ -125,7 +127,7 @@ pub data TextSays (world : WorldValue) (text : List ℕ) (read : Result Reading 
       → (entries : List EntryValue) (faults : List FaultyLine) → BodySays world (length before + 2) Nowhere no_alias behind entries faults
       → read ≡ Ok (record { faction = faction; entries = entries; faults = faults }) → TextSays world text read
 
--- what the function gives for a line fits the rules, and nothing else does
+-- The step of a line by the function `line_step` fits the rules, and no other step does.
 abbrev pub LineRules : Type 0
 LineRules =
     ((world : WorldValue) (place : ReaderState) (given : ℕ → Bool) (line : List ℕ)
@@ -133,13 +135,15 @@ LineRules =
     × ((world : WorldValue) (place : ReaderState) (given : ℕ → Bool) (line : List ℕ) (s : LineStep)
     → LineSays world place given line s → s ≡ line_step world place given line)
 
+-- the orders that lines give by the function, of which the first has the number n
 abbrev pub entries_from : WorldValue → ℕ → ReaderState → (ℕ → Bool) → List (List ℕ) → List EntryValue
 entries_from world n place given lines = flat_map entry_of (effects world n place given lines)
 
+-- the faulty lines by the function, where the first line has the number n
 abbrev pub faults_from : WorldValue → ℕ → ReaderState → (ℕ → Bool) → List (List ℕ) → List FaultyLine
 faults_from world n place given lines = flat_map fault_of (effects world n place given lines)
 
--- and so for all lines
+-- The orders and faults of lines by the function fit the rules, and no others do.
 abbrev pub BodyRules : Type 0
 BodyRules =
     ((world : WorldValue) (n : ℕ) (place : ReaderState) (given : ℕ → Bool) (lines : List (List ℕ))
@@ -148,7 +152,7 @@ BodyRules =
     → BodySays world n place given lines entries faults
     → (entries ≡ entries_from world n place given lines) × (faults ≡ faults_from world n place given lines))
 
--- and so for a whole text
+-- The reading of a text by the function `reading` fits the rules, and no other does.
 abbrev pub TextRules : Type 0
 TextRules =
     ((world : WorldValue) (text : List ℕ) → TextSays world text (reading world text))

@@ -1,30 +1,31 @@
--- For the proofs alone: where words and lines are in a text.
+-- For proofs alone: where words and lines are in a text.
 use Rattle.std.specs.Prelude.{◌≡◌, ℕ, ◌++◌, List, length}
 use Rattle.atl_orders.specs.declared.words.Cursor.{Cursor}
 
--- the text starts with the front
+-- a text starts with `front`
 pub record StartsWith (text front : List ℕ) : Type 0 where
   pub back : List ℕ
   pub whole : text ≡ front ++ back
 
--- the bytes stand in the line, so many bytes before its end
+-- the bytes are a part of the line, of which the first is `behind` bytes before the line's end
 pub record IsPartOf (line bytes : List ℕ) (behind : ℕ) : Type 0 where
   pub front : List ℕ
   pub back : List ℕ
   pub whole : line ≡ front ++ (bytes ++ back)
   pub behind_is : length (bytes ++ back) ≡ behind
 
--- the line ends with the rest
+-- a line ends with `rest`
 pub record EndsWith (line rest : List ℕ) : Type 0 where
   pub front : List ℕ
   pub whole : line ≡ front ++ rest
 
--- the rest stands in the text, up to this place
+-- `rest` is a part of the text, and ends at the index `place` of the text
 pub record EndsAt (text : List ℕ) (place : ℕ) (rest : List ℕ) : Type 0 where
   pub front : List ℕ
   pub back : List ℕ
   pub whole : text ≡ front ++ (rest ++ back)
   pub place_is : length (front ++ rest) ≡ place
 
+-- the rest of a cursor's line is a part of its text, and ends at the index `end`
 abbrev pub IsCursor : Cursor → Type 0
 IsCursor c = EndsAt c.text.now c.end c.rest.now

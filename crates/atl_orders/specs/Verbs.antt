@@ -9,16 +9,17 @@ use Rattle.atl_orders.specs.declared.verb.Verb.{Verb}
 use Rattle.atl_orders.specs.declared.verb.Verb.TheVariants.{Form, Name, Guard, Enter, Leave, Promote, Give, Pay, Transfer, Sell, Buy, Tax, Recruit, Quit, Move, Sail, Build, Teach, Study, Produce, Work}
 use Rattle.atl_orders.specs.Words.{WordText, is_word}
 
--- a row: the keyword, what the words after it name, and the slot that an order takes, if it takes one
+-- a row of the order table: the keyword, the shape of the words after it, and the slot of the order, if it takes one
 pub record Row : Type 0 where
   pub keyword : List ℕ
   pub shape : Shape
   pub slot : Option Slot
 
+-- the row with these three columns
 abbrev pub row : List ℕ → Shape → Option Slot → Row
 row keyword shape slot = record { keyword = keyword; shape = shape; slot = slot }
 
--- The month-long orders of a unit share a slot; its SELL orders have one, its BUY orders, its TAX orders, and its RECRUIT orders.
+-- the order table: the row of each verb. Of the orders in one slot a unit carries out one a month.
 abbrev pub row_of : Verb → Row
 row_of Form = row (codes "FORM") shapes.Alias None
 row_of Name = row (codes "NAME") shapes.Name None
@@ -42,18 +43,19 @@ row_of Study = row (codes "STUDY") shapes.Skill (Some MonthLong)
 row_of Produce = row (codes "PRODUCE") shapes.Item (Some MonthLong)
 row_of Work = row (codes "WORK") shapes.Nothing (Some MonthLong)
 
+-- the keyword of a verb, in capitals
 abbrev pub keyword : Verb → List ℕ
 keyword verb = (row_of verb).keyword
 
--- a row of the code
+-- a row of the code's order table
 abbrev pub row_value : CodeRow → Row
 row_value r = row r.keyword.now r.shape r.slot
 
--- the verbs that a line can begin with; FORM has lines of its own
+-- the verbs that an order's line can begin with; FORM is left out, since it has lines of its own
 abbrev pub listed : List Verb
 listed =
     Name ∷ Guard ∷ Enter ∷ Leave ∷ Promote ∷ Give ∷ Pay ∷ Transfer ∷ Sell ∷ Buy ∷ Tax ∷ Recruit ∷ Quit ∷ Move ∷ Sail ∷ Build ∷ Teach ∷ Study ∷ Produce ∷ Work ∷ []
 
--- the verb that a word is; BOARD is read as ENTER
+-- the verb whose keyword a word is, in any case; BOARD is read as ENTER
 abbrev pub verb_of : WordText → Option Verb
 verb_of w = if is_word (codes "BOARD") w then Some Enter else find (λ verb. is_word (keyword verb) w) listed

@@ -1,4 +1,4 @@
--- For the proofs alone: the meaning of the values that the code works with.
+-- For proofs alone: the values that the code works with, as values of the definitions.
 use Rattle.std.specs.Prelude.{◌≡◌, ℕ, ◌+◌, ◌++◌, Bool, false, List, [], map, length, Option, Some, None, Result, Ok, Err, slice_index_or}
 use Rattle.std.specs.Option.{option_copied}
 use Rattle.atl_orders.specs.declared.aliases.Aliases.{Aliases}
@@ -16,45 +16,47 @@ use Rattle.atl_orders.specs.Orders.{order_value}
 use Rattle.atl_orders.specs.Reading.{Effect, nothing, faulty, says}
 use Rattle.atl_orders.specs.Words.{WordText}
 
--- a word of the code, without where it lies
+-- a word of the code as its bytes and whether it is in quotes
 abbrev pub word_text : Word → WordText
 word_text w = record { bytes = w.bytes.now; quoted = w.quoted }
 
--- the lines of what follows a line feed, if there was one
+-- the lines of what follows a line feed, none if no line feed was found
 abbrev pub lines_of_rest : Option (List ℕ) → List (List ℕ)
 lines_of_rest None = []
 lines_of_rest (Some text) = lines text
 
--- at most how many lines are left
+-- a bound on how many lines are left
 abbrev pub rest_size : Option (List ℕ) → ℕ
 rest_size None = 0
 rest_size (Some text) = length text + 1
 
--- What a function returned, seen by view, is what reading gives.
+-- a result with its value seen by `view`
 abbrev pub view_of_result : {X Y : Type 0} → (X → Y) → Result X LineFault → Result Y LineFault
 view_of_result view (Ok x) = Ok (view x)
 view_of_result view (Err e) = Err e
 
+-- a call returned exactly `read`, its value seen by `view`
 abbrev pub Gives : {X Y : Type 0} → (X → Y) → Result X LineFault → Result Y LineFault → Type 0
 Gives view result read = read ≡ view_of_result view result
 
--- units read so far, with what the others give
+-- the units read so far, and then those that `units` gives
 abbrev pub with_units : List UnitRef → Result (List UnitRef) LineFault → Result (List UnitRef) LineFault
 with_units front units = units >>= λ us. Ok (front ++ us)
 
--- what the code keeps, as a test of aliases
+-- the aliases that the code keeps, as a test of each number
 abbrev pub alias_set : Aliases → ℕ → Bool
 alias_set aliases k = slice_index_or aliases.given.items k false
 
--- what the code answers, seen as an effect
+-- the result of a line in the code, as an effect
 abbrev pub effect_of : List ℕ → LineResult → Effect
 effect_of text outcomes.Nothing = nothing
 effect_of text (outcomes.Faulty fault) = faulty fault
 effect_of text (outcomes.Says unit order) = says unit (order_value text order)
 
--- a header, seen as the lines behind it
+-- a header of the code, as its faction and the lines after it
 abbrev pub header_value : Header → HeaderValue
 header_value h = record { faction = h.faction; next = h.next; rest = lines_of_rest (option_copied h.rest) }
 
+-- the orders that the code noted, with names by their bytes
 abbrev pub body_entries : List ℕ → Body → List EntryValue
 body_entries text b = map (entry_value text) b.entries

@@ -7,23 +7,24 @@ use Rattle.std.specs.Str.Parse.{digits_value}
 use Rattle.atl_tables.specs.Letters.{space, quote}
 use Rattle.atl_orders.specs.Letters.{tab, semicolon}
 
--- a word: its bytes, and whether it stood in quotes
+-- a word: its bytes, and whether it is in quotes
 pub record WordText : Type 0 where
   pub bytes : List ℕ
   pub quoted : Bool
 
--- space and tab
+-- whether a byte separates words: space or tab
 abbrev pub is_blank : ℕ → Bool
 is_blank b = b == space || b == tab
 
+-- whether a byte is a quotation mark
 abbrev pub is_quote : ℕ → Bool
 is_quote b = b == quote
 
--- what ends a bare word: a blank, a quote, or the semicolon of a comment
+-- whether a byte ends a word without quotes: a blank, a quote, or the semicolon of a comment
 abbrev pub ends_word : ℕ → Bool
 ends_word b = is_blank b || is_quote b || b == semicolon
 
--- The words of the rest of a line, of which the first bytes still belong to the word before.
+-- the words of a part of a line, of which the first `skip` bytes still belong to the word before
 unfoldable pub words_after : ℕ → List ℕ → List WordText
 words_after skip [] = []
 words_after (suc skip) (b ∷ bs) = words_after skip bs
@@ -33,6 +34,7 @@ words_after zero (b ∷ bs) =
     else if is_quote b then record { bytes = before_first is_quote bs; quoted = true } ∷ words_after (position_or_len is_quote bs + 1) bs
     else record { bytes = before_first ends_word (b ∷ bs); quoted = false } ∷ words_after (position_or_len ends_word (b ∷ bs) - 1) bs
 
+-- the words of a line
 abbrev pub words : List ℕ → List WordText
 words line = words_after zero line
 
@@ -40,12 +42,12 @@ words line = words_after zero line
 abbrev pub is_word : List ℕ → WordText → Bool
 is_word name w = str_eq_ignore_ascii_case w.bytes name
 
--- whether the first of the words is this one
+-- whether the first of the words is this keyword, in any case
 abbrev pub begins : List ℕ → List WordText → Bool
 begins name [] = false
 begins name (w ∷ ws) = is_word name w
 
--- one or more digits, of at most this value
+-- the number that one or more digits write, if it is at most `most`
 abbrev pub number_of : ℕ → List ℕ → Option ℕ
 number_of most bytes =
     if nat_lt 0 (length bytes) && list_all is_ascii_digit bytes && nat_le (digits_value 10 bytes) most
