@@ -1,5 +1,4 @@
--- The value of a mailing: its faction, orders and faulty lines, read from its lines. See docs/RULES.md, "Reading a
--- mailing".
+-- The reading of a mailing: its faction, orders and faulty lines. See docs/RULES.md, "Reading a mailing".
 use Rattle.std.specs.Prelude.{◌≡◌, ◌≤◌, ℕ, ◌+◌, Bool, List, [], ◌∷◌, length, map, codes, Option, Some, None, Result, Ok, Err, nat_lt, if◌then◌else◌}
 use Rattle.std.specs.List.{flat_map}
 use Rattle.atl_orders.specs.Limits.{last_faction, most_bytes}

@@ -1,4 +1,4 @@
--- How the words after a keyword are read, one by one. See docs/RULES.md, "Names in orders".
+-- How the words after a keyword are read. See docs/RULES.md, "Orders", and docs/RULES.md, "Names in orders".
 use Rattle.std.specs.Prelude.{ℕ, List, [], ◌∷◌, codes, Option, Some, None, Result, Ok, Err, ◌==◌, if◌then◌else◌}
 use Rattle.atl_orders.specs.Limits.{last_alias, most_number}
 use Rattle.atl_tables.specs.Worlds.{WorldValue}

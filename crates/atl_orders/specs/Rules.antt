@@ -1,4 +1,5 @@
--- The rules for reading a mailing: which line is the header, and which rule applies to each line after it.
+-- The rules for reading a mailing: a line, all lines after the header, a text.
+-- See docs/RULES.md, "Reading a mailing".
 use Rattle.std.specs.Prelude.{◌≡◌, ℕ, ◌+◌, ◌<◌, ◌≤◌, ◌++◌, Bool, true, false, List, [], ◌∷◌, length, codes, Option, Some, None, Result, Ok, Err}
 use Rattle.std.specs.List.{All, list_all, flat_map}
 use Rattle.atl_tables.specs.Worlds.{WorldValue}

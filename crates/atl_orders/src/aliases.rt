@@ -1,11 +1,12 @@
-//! The aliases that a mailing has given.
+//! The set of the aliases that the FORM lines of a mailing have given so far.
+//! See docs/RULES.md, "Reading a mailing".
 ghost use Rattle.std.specs.Prelude.{◌≡◌, ◌≤◌, ◌+◌, ℕ, false, vec_len, slice_index_or, IfOk};
 ghost use Rattle.atl_orders.specs.Limits.{last_alias};
 
 use crate::limits::LAST_ALIAS;
 use std::alloc::{AllocError, Global};
 
-/// So many times false.
+/// A vector of `count` flags, all false.
 fn no_aliases(alloc: Global, count: usize) -> Result<Vec<bool>, AllocError>
     ensures len { IfOk result (λ flags. vec_len flags ≡ count) }
     ensures clear { IfOk result (λ flags. (k : ℕ) → slice_index_or flags.items k false ≡ false) }
@@ -14,7 +15,7 @@ fn no_aliases(alloc: Global, count: usize) -> Result<Vec<bool>, AllocError>
     Ok(flags)
 }
 
-/// Which aliases the FORM lines so far have given.
+/// The set of the aliases, from 1 to 9,999, that the FORM lines so far have given.
 #[derive(Drop)]
 pub struct Aliases {
     given: Vec<bool>,
@@ -25,7 +26,7 @@ impl Aliases {
     ghost use Rattle.atl_orders.specs.Aliasing.{no_alias, with_alias};
     ghost use Rattle.atl_orders.specs.Views.{alias_set};
 
-    /// No alias.
+    /// The empty set.
     pub fn new(alloc: Global) -> Result<Aliases, AllocError>
         ensures { IfOk result (λ made. alias_set made ≡ no_alias) }
     {
@@ -34,7 +35,7 @@ impl Aliases {
         })
     }
 
-    /// Whether an alias, from 1 to 9,999, was given by a FORM so far.
+    /// Whether an alias is in the set.
     pub fn contains(&self, alias: u32) -> bool
         requires { alias ≤ last_alias }
         ensures { result ≡ alias_set self.now alias }
@@ -42,7 +43,7 @@ impl Aliases {
         self.given[alias as usize]
     }
 
-    /// Notes that an alias, from 1 to 9,999, is given. It takes no memory.
+    /// Adds an alias to the set. It takes no memory.
     pub fn add(&mut self, alias: u32)
         requires { alias ≤ last_alias }
         ensures { alias_set self.new ≡ with_alias (alias_set self.old) alias }

@@ -8,30 +8,31 @@ use std::alloc::{AllocError, AllocFailed};
 use std::error::Error;
 use std::fmt;
 
-/// What is wrong with a line. The line gives no order then, and the other lines stand. See docs/FORMATS.md, "Line faults".
+/// What is wrong with a line of a mailing. The line gives no order, and the other lines count.
+/// See docs/FORMATS.md, "Line faults".
 #[derive(Drop, Clone, Copy, Debug, PartialEq, Eq)]
 pub enum LineFault {
     /// No unit is named for the order.
     NoUnit = 1,
     /// The first word is no keyword of an order.
     UnknownOrder = 2,
-    /// A number was to stand here, from 1 to `MOST_NUMBER`; for GUARD 0 or 1.
+    /// A word is no number from 1 to `MOST_NUMBER`, or after GUARD no 0 or 1.
     BadNumber = 3,
-    /// Nothing has this name, or NAME is followed by none of the four words for what it names.
+    /// No thing of the world has this name, or NAME has none of UNIT, FACTION, BUILDING and SHIP.
     UnknownThing = 4,
     /// The line ends too early.
     MissingWord = 5,
-    /// A byte other than tab and those from 32 to 126.
+    /// The line has a byte other than tab and those from 32 to 126.
     BadByte = 6,
-    /// No number from 1 to `LAST_ALIAS`, or the alias of an earlier FORM without fault.
+    /// A word is no alias from 1 to `LAST_ALIAS`, or FORM gives one that an earlier FORM gave.
     BadAlias = 7,
-    /// A FORM inside a block, which goes on.
+    /// A FORM is inside a block, and the block goes on.
     NestedForm = 8,
-    /// An END without a block.
+    /// An END is outside of blocks.
     EndAlone = 9,
-    /// None of the four directions.
+    /// A word is none of the four directions.
     BadDirection = 10,
-    /// A name that breaks the rule of names.
+    /// A new name breaks the rule of names.
     BadName = 11,
 }
 
@@ -56,7 +57,7 @@ impl LineFault {
     }
 }
 
-/// The number and the name, as `4 UnknownThing`.
+/// Writes the fault's number and name, as `4 UnknownThing`.
 impl fmt::Display for LineFault {
     fn fmt<W: fmt::Write>(&self, f: &mut fmt::Formatter<W>) -> fmt::Result {
         write!(f, "{} {}", self.number(), self.name())
@@ -65,7 +66,7 @@ impl fmt::Display for LineFault {
 
 impl Error for LineFault {}
 
-/// A line, and what is wrong with it.
+/// A faulty line of a mailing: its number, and its fault.
 #[derive(Drop, Clone, Copy, Debug, PartialEq, Eq)]
 pub struct FaultyLine {
     /// The line's number, from 1 on over the whole text.
@@ -74,7 +75,8 @@ pub struct FaultyLine {
     pub fault: LineFault,
 }
 
-/// Why a text is no mailing, or that there was no memory to read it. See docs/FORMATS.md, "Mailings".
+/// Why a text can't be read as a mailing: what is wrong with it, or that memory ran out.
+/// See docs/FORMATS.md, "Mailings".
 #[derive(Drop, Clone, Copy, Debug, PartialEq, Eq)]
 pub enum MailFault {
     /// The text has more than `MOST_BYTES` bytes.
@@ -83,7 +85,7 @@ pub enum MailFault {
     NoHeader,
     /// The second word of the first line that does is no number from 1 to `LAST_FACTION`.
     BadHeader,
-    /// It says nothing of the text.
+    /// Memory ran out. It says nothing of the text.
     Memory,
 }
 
@@ -103,7 +105,7 @@ impl MailFault {
     }
 }
 
-/// The number and the name, as `2 NoHeader`; `Memory` has its name alone.
+/// Writes the fault's number and name, as `2 NoHeader`; of `Memory` its name alone.
 impl fmt::Display for MailFault {
     fn fmt<W: fmt::Write>(&self, f: &mut fmt::Formatter<W>) -> fmt::Result {
         match self.number() {

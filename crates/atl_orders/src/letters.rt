@@ -1,4 +1,4 @@
-//! Bytes that mean something in a mailing. See docs/RULES.md, "Reading a mailing".
+//! The bytes that mailings treat specially. See docs/RULES.md, "Reading a mailing".
 
 /// The tab. It separates words as the space does.
 pub(crate) const TAB: u8 = b'\t';

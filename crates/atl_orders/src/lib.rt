@@ -1,4 +1,4 @@
-//! Mailings: the orders that players write for a month, and what is wrong with their lines.
+//! Reads mailings: the text that a player sends becomes orders and faulty lines.
 #![tactic(auto)]
 
 mod aliases;

@@ -9,14 +9,14 @@ ghost use Rattle.atl_orders.specs.Standing.{StartsWith, EndsWith};
 
 use crate::letters::{CARRIAGE_RETURN, LINE_FEED};
 
-/// Where the first line feed is.
+/// The index of the first line feed, `None` if there is none.
 fn first_feed(bytes: &[u8]) -> Option<usize>
     ensures { result ≡ position is_feed bytes.now }
 {
     bytes.iter().position(|byte| *byte == LINE_FEED)
 }
 
-/// Where the line feed is, or the length.
+/// The index of the first line feed, or the length if there is none.
 #[tactic(auto, using(crate::proofs::WordLaws::found_or_len, crate::proofs::WordLaws::found_within))]
 fn feed_at(bytes: &[u8]) -> usize
     ensures value { result ≡ position_or_len is_feed bytes.now }
@@ -25,7 +25,7 @@ fn feed_at(bytes: &[u8]) -> usize
     first_feed(bytes).unwrap_or(bytes.len())
 }
 
-/// A line without a carriage return at its end.
+/// A line without the carriage return at its end, if there is one.
 #[tactic(auto, using(crate::proofs::LineLaws::return_cut, crate::proofs::LineLaws::return_kept, crate::proofs::LineLaws::all_front, crate::proofs::LineLaws::take_front))]
 fn without_return(line: &[u8]) -> &[u8]
     ensures value { result.now ≡ without_return line.now }
@@ -38,7 +38,7 @@ fn without_return(line: &[u8]) -> &[u8]
     line
 }
 
-/// The first line of a text, and what follows its line feed.
+/// The first line of a text, and what follows its line feed, `None` if there is no line feed.
 #[tactic(auto, using(crate::proofs::LineLaws::front_further, crate::proofs::LineLaws::take_front, crate::proofs::WordLaws::ends_at))]
 pub fn next_line(text: &[u8]) -> (&[u8], Option<&[u8]>)
     ensures lines { lines text.now ≡ result.0.now ∷ lines_of_rest (option_copied result.1) }

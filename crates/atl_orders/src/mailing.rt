@@ -24,7 +24,7 @@ use atl_tables::lookup::letter_of;
 use atl_tables::{Sequence, World, let_go};
 use std::alloc::{AllocError, Global};
 
-/// An order for a unit.
+/// An order of a mailing, with its line's number and the unit that it is for.
 #[derive(Drop, Debug)]
 pub struct Entry {
     /// The number of its line, from 1 on over the whole text.
@@ -35,16 +35,17 @@ pub struct Entry {
     pub order: Order,
 }
 
-/// What a text says for a month. See docs/RULES.md, "Reading a mailing".
+/// A mailing as read: its faction, its orders, and its faulty lines.
+/// See docs/RULES.md, "Reading a mailing".
 #[derive(Debug)]
 pub struct Mailing {
     /// The number of the faction that it is of, from 1 to `LAST_FACTION`.
     pub faction: u32,
     /// The bytes that were read, at most `MOST_BYTES`, which the names in orders are parts of.
     pub text: Sequence<u8>,
-    /// The orders, by rising lines; a line gives one at most.
+    /// The orders, in the order of their lines; a line gives one at most.
     pub entries: Sequence<Entry>,
-    /// What is wrong, by rising lines; a line has one fault at most, and no order then.
+    /// The faulty lines in their order; a line has one fault at most, and no order then.
     pub faults: Sequence<FaultyLine>,
 }
 
@@ -57,7 +58,7 @@ impl Drop for Mailing {
 impl Mailing {
     ghost use Rattle.atl_orders.specs.Orders.{name_in};
 
-    /// The bytes that were read, the orders, and what is wrong.
+    /// The text, the orders and the faulty lines, taken out of the mailing.
     pub fn into_parts(self) -> (Sequence<u8>, Sequence<Entry>, Sequence<FaultyLine>)
         ensures text { result.0 ≡ self.text }
         ensures entries { result.1 ≡ self.entries }
@@ -72,8 +73,9 @@ impl Mailing {
         (text, entries, faults)
     }
 
-    /// The bytes of a name in an order of this mailing: the part of the text that the span says, as far as it is there, with
-    /// `_` as a space where it is bare. Of an order that was read they are a name.
+    /// The bytes of a name in an order of this mailing: the part of the text in the span, as far as
+    /// it is there, with `_` as a space if the name is without quotes. For an order that was read
+    /// they keep the rule of names.
     pub fn name(&self, alloc: Global, span: Span) -> Result<Sequence<u8>, AllocError>
         ensures { IfOk result (λ bytes. bytes ≡ name_in self.now.text span) }
     {
@@ -83,7 +85,7 @@ impl Mailing {
     }
 }
 
-/// The part of a text from one place up to another, as far as it is there.
+/// The bytes of a text from the index `start` up to the index `end`, as far as they are there.
 #[tactic(auto, using(std::proofs::lemmas::List::drop_min, std::proofs::lemmas::List::take_min, std::proofs::lemmas::List::take_rest))]
 fn part(text: &[u8], start: usize, end: usize) -> &[u8]
     ensures { result.now ≡ slice_range text.now start end }
@@ -92,7 +94,7 @@ fn part(text: &[u8], start: usize, end: usize) -> &[u8]
     &behind[..end.saturating_sub(start).min(behind.len())]
 }
 
-/// The letters of a name.
+/// The bytes of the name that a word stands for: in a word without quotes `_` is a space.
 fn letters_of(alloc: Global, bytes: &[u8], quoted: bool) -> Result<Vec<u8>, AllocError>
     ensures { IfOk result (λ letters. letters.items ≡ name_of bytes.now quoted) }
 {
@@ -102,7 +104,7 @@ fn letters_of(alloc: Global, bytes: &[u8], quoted: bool) -> Result<Vec<u8>, Allo
         .collect(alloc)
 }
 
-/// The faction that a header names, from 1 to `LAST_FACTION`.
+/// The faction that a header names, from 1 to `LAST_FACTION`, `None` if it names none.
 fn faction_of(line: &[u8]) -> Option<u32>
     ensures { result ≡ faction_of (words line.now) }
 {
@@ -114,18 +116,18 @@ fn faction_of(line: &[u8]) -> Option<u32>
     }
 }
 
-/// What a header says.
+/// A header as read: its faction, and the lines after it.
 #[derive(Drop, Clone, Copy)]
 struct Header<'a> {
     /// The number of the faction, from 1 to `LAST_FACTION`.
     faction: u32,
-    /// The number of the line behind it.
+    /// The number of the line after it.
     next: u32,
     /// The text from that line on, where there is one.
     rest: Option<&'a [u8]>,
 }
 
-/// The first header of a text, else NoHeader or BadHeader.
+/// The first header of a text, else NoHeader, or BadHeader if it names no faction.
 #[tactic(auto, using(crate::proofs::WordLaws::ends_further, crate::proofs::WordLaws::ends_with_all), unfolding(crate::specs::Mailing::header_from))]
 fn find_header(text: &[u8]) -> Result<Header<'_>, MailFault>
     requires { length text.now ≤ most_bytes }
@@ -168,7 +170,7 @@ pub fn is_mailing_of(faction: u32, text: &[u8]) -> bool
     }
 }
 
-/// What the lines behind a header say.
+/// The orders and the faulty lines that the lines after a header give.
 struct Body {
     entries: Sequence<Entry>,
     faults: Sequence<FaultyLine>,
@@ -183,7 +185,7 @@ impl Drop for Body {
 impl Body {
     ghost use Rattle.atl_orders.specs.Views.{body_entries};
 
-    /// The mailing of a faction whose lines say this.
+    /// The mailing of this faction, with this text and these orders and faulty lines.
     fn into_mailing(self, faction: u32, text: Sequence<u8>) -> Mailing
         ensures { result ≡ record
             { faction = faction; text = text; entries = self.entries; faults = self.faults } }
@@ -197,7 +199,8 @@ impl Body {
         }
     }
 
-    /// Notes what a line does, behind what was noted. Without memory what is noted is to be given up.
+    /// Appends what a line gives to the orders or the faulty lines. After AllocError the lists are
+    /// not to be used.
     fn note(&mut self, line: u32, outcome: LineResult) -> Result<(), AllocError>
         ensures entries { OnOk result ((text : List ℕ) → body_entries text self.new
             ≡ body_entries text self.old ++ entry_of (line, effect_of text outcome)) }
@@ -217,7 +220,8 @@ impl Body {
     }
 }
 
-/// What the lines behind a header say, up to the end.
+/// The orders and faulty lines that the lines after a header give, up to `#END` or the end of the
+/// text.
 #[tactic(auto, using(crate::proofs::LineLaws::line_place, crate::proofs::WordLaws::ends_further, crate::proofs::LineLaws::starts_shorter, crate::proofs::WordLaws::ends_shorter), unfolding(crate::specs::Mailing::effects))]
 fn read_body(alloc: Global, world: &World, text: &[u8], header: Header) -> Result<Body, AllocError>
     requires small { header.next + rest_size (option_copied header.rest) < 2 ^ 32 }
@@ -257,10 +261,11 @@ fn read_body(alloc: Global, world: &World, text: &[u8], header: Header) -> Resul
     Ok(body)
 }
 
-/// Reads the orders of a mailing. The text may have any bytes; it is kept as it is. TooLong comes for more than `MOST_BYTES`
-/// bytes, else NoHeader where no line begins with `#ATLANTIS`, else BadHeader where the first that does names no faction
-/// from 1 to `LAST_FACTION`, and Memory at any point. A faulty line gives no order, and the other lines stand. See
-/// docs/RULES.md, "Reading a mailing".
+/// Reads the orders of a mailing. The text may have any bytes; it is kept as it is. TooLong comes
+/// for more than `MOST_BYTES` bytes, else NoHeader if no line begins with `#ATLANTIS`, else
+/// BadHeader if the first that does names no faction from 1 to `LAST_FACTION`, and Memory at any
+/// point. A faulty line gives no order, and the other lines count.
+/// See docs/RULES.md, "Reading a mailing".
 #[tactic(auto, unfolding(crate::specs::Mailing::reading))]
 pub fn read_mailing(alloc: Global, world: &World, text: &[u8]) -> Result<Mailing, MailFault>
     ensures reading { Reads reading_of result (reading world.now text.now) }

@@ -1,5 +1,5 @@
-//! What the words behind a keyword are read as. Each call reads the words at the start of the rest of a line, and
-//! answers the first fault from left to right.
+//! Reads the words after a keyword: each call reads the first words of the rest of a line, or gives
+//! their first fault. See docs/RULES.md, "Orders" and "Names in orders".
 ghost use Rattle.std.specs.Prelude.{◌≡◌, ◌≤◌, IfOk};
 ghost use Rattle.atl_orders.specs.Limits.{most_number, last_alias};
 ghost use Rattle.atl_orders.specs.Words.{words};
@@ -14,7 +14,7 @@ use crate::words::{Word, is_same, next_word, number};
 use atl_tables::{Direction, Sequence, World};
 use std::alloc::{AllocError, Global};
 
-/// The next word, and what follows it.
+/// The next word, and the rest of the line after it; else MissingWord.
 pub fn word_at(line: &[u8]) -> Result<(Word<'_>, &[u8]), LineFault>
     ensures word { Gives (λ x. (word_text x.0, words x.1.now)) result (word_at (words line.now)) }
     ensures stands { IfOk result (λ x. IsPartOf line.now x.0.bytes.now x.0.behind) }
@@ -23,7 +23,8 @@ pub fn word_at(line: &[u8]) -> Result<(Word<'_>, &[u8]), LineFault>
     next_word(line).ok_or(LineFault::MissingWord)
 }
 
-/// The next word as a number from 1 up to the most, else this fault.
+/// The next word as a number from 1 to `most`, and the rest of the line; else MissingWord or this
+/// fault.
 #[tactic(auto, unfolding(crate::specs::Operands::count_at))]
 fn count_at(line: &[u8], most: u32, fault: LineFault) -> Result<(u32, &[u8]), LineFault>
     requires { most ≤ most_number }
@@ -38,14 +39,16 @@ fn count_at(line: &[u8], most: u32, fault: LineFault) -> Result<(u32, &[u8]), Li
     }
 }
 
-/// The next word as a number from 1 to 999,999,999.
+/// The next word as a number from 1 to 999,999,999, and the rest of the line; else MissingWord or
+/// BadNumber.
 pub fn number_at(line: &[u8]) -> Result<(u32, &[u8]), LineFault>
     ensures { Gives (λ x. (x.0, words x.1.now)) result (number_at (words line.now)) }
 {
     count_at(line, MOST_NUMBER, LineFault::BadNumber)
 }
 
-/// The next word as an alias, from 1 to 9,999.
+/// The next word as an alias from 1 to 9,999, and the rest of the line; else MissingWord or
+/// BadAlias.
 pub fn alias_at(line: &[u8]) -> Result<(u32, &[u8]), LineFault>
     ensures alias { Gives (λ x. (x.0, words x.1.now)) result (alias_at (words line.now)) }
     ensures within { IfOk result (λ x. x.0 ≤ last_alias) }
@@ -53,7 +56,7 @@ pub fn alias_at(line: &[u8]) -> Result<(u32, &[u8]), LineFault>
     count_at(line, LAST_ALIAS, LineFault::BadAlias)
 }
 
-/// The next words as a unit: a number, or NEW and an alias.
+/// The next words as a unit, a number or NEW and an alias, and the rest of the line; else a fault.
 #[tactic(auto, unfolding(crate::specs::Operands::unit_at))]
 pub fn unit_at(line: &[u8]) -> Result<(UnitRef, &[u8]), LineFault>
     ensures { Gives (λ x. (x.0, words x.1.now)) result (unit_at (words line.now)) }
@@ -67,7 +70,7 @@ pub fn unit_at(line: &[u8]) -> Result<(UnitRef, &[u8]), LineFault>
     Ok((UnitRef::Number(number), rest))
 }
 
-/// The next word as an item of the world.
+/// The number of the item that the next word names, else MissingWord or UnknownThing.
 #[tactic(auto, unfolding(crate::specs::Operands::item_at))]
 pub fn item_at(world: &World, line: &[u8]) -> Result<u16, LineFault>
     ensures { Gives (λ x. x) result (item_at world.now (words line.now)) }
@@ -78,7 +81,7 @@ pub fn item_at(world: &World, line: &[u8]) -> Result<u16, LineFault>
         .ok_or(LineFault::UnknownThing)
 }
 
-/// The next words as an amount from 1 to 999,999,999, and an item of the world.
+/// The next words as an amount from 1 to 999,999,999 and the number of an item, else a fault.
 #[tactic(auto, unfolding(crate::specs::Operands::amount_of_item_at))]
 pub fn amount_of_item_at(world: &World, line: &[u8]) -> Result<(u32, u16), LineFault>
     ensures { Gives (λ x. x) result (amount_of_item_at world.now (words line.now)) }
@@ -88,7 +91,7 @@ pub fn amount_of_item_at(world: &World, line: &[u8]) -> Result<(u32, u16), LineF
     Ok((amount, item))
 }
 
-/// The next word as a skill of the world.
+/// The number of the skill that the next word names, else MissingWord or UnknownThing.
 #[tactic(auto, unfolding(crate::specs::Operands::skill_at))]
 pub fn skill_at(world: &World, line: &[u8]) -> Result<u16, LineFault>
     ensures { Gives (λ x. x) result (skill_at world.now (words line.now)) }
@@ -99,7 +102,7 @@ pub fn skill_at(world: &World, line: &[u8]) -> Result<u16, LineFault>
         .ok_or(LineFault::UnknownThing)
 }
 
-/// The next word as a kind of structure.
+/// The number of the kind of structure that the next word names, else MissingWord or UnknownThing.
 #[tactic(auto, unfolding(crate::specs::Operands::kind_at))]
 pub fn kind_at(world: &World, line: &[u8]) -> Result<u16, LineFault>
     ensures { Gives (λ x. x) result (kind_at world.now (words line.now)) }
@@ -110,7 +113,7 @@ pub fn kind_at(world: &World, line: &[u8]) -> Result<u16, LineFault>
         .ok_or(LineFault::UnknownThing)
 }
 
-/// A direction by its name.
+/// The direction that a word names, `None` if it names none.
 fn direction_of(word: Word) -> Option<Direction>
     ensures { result ≡ direction_of (word_text word.entry) }
 {
@@ -127,7 +130,7 @@ fn direction_of(word: Word) -> Option<Direction>
     }
 }
 
-/// The next word as a direction.
+/// The direction that the next word names, else MissingWord or BadDirection.
 #[tactic(auto, unfolding(crate::specs::Operands::direction_at))]
 pub fn direction_at(line: &[u8]) -> Result<Direction, LineFault>
     ensures { Gives (λ x. x) result (direction_at (words line.now)) }
@@ -136,7 +139,7 @@ pub fn direction_at(line: &[u8]) -> Result<Direction, LineFault>
     direction_of(word).ok_or(LineFault::BadDirection)
 }
 
-/// Units up to the line's end, or the first fault among them.
+/// The units that all words up to the line's end name, which may be none, or their first fault.
 #[tactic(auto, using(crate::proofs::UnitLaws::one_more, crate::proofs::UnitLaws::fault_stays, crate::proofs::UnitLaws::rest_shorter, crate::proofs::UnitLaws::no_more))]
 pub fn units_of(
     alloc: Global,

@@ -2,7 +2,8 @@
 use crate::verb::Verb;
 use atl_tables::{Direction, Sequence};
 
-/// A unit as an order names it. See docs/RULES.md, "Reading a mailing".
+/// A unit as an order refers to it: by its number, or by an alias.
+/// See docs/RULES.md, "Reading a mailing".
 #[derive(Drop, Clone, Copy, Debug, PartialEq, Eq)]
 pub enum UnitRef {
     /// Its number, from 1 to `MOST_NUMBER`.
@@ -11,7 +12,7 @@ pub enum UnitRef {
     Alias(u32),
 }
 
-/// What a NAME order names.
+/// What a NAME order gives a new name to.
 #[derive(Drop, Clone, Copy, Debug, PartialEq, Eq)]
 pub enum NameKind {
     /// The unit itself.
@@ -24,26 +25,27 @@ pub enum NameKind {
     Ship,
 }
 
-/// A name in a mailing, as a part of the mailing's text.
+/// A name in a mailing, as a span of the mailing's text.
 #[derive(Drop, Clone, Copy, Debug)]
 pub struct Span {
-    /// Where the name's first byte is, in bytes from the text's beginning.
+    /// The index of the name's first byte in the text.
     pub start: usize,
-    /// Where the name ends: one byte behind its last one.
+    /// The index after the name's last byte.
     pub end: usize,
-    /// Whether it stands in quotes, which aren't a part of it. Where it doesn't, `_` stands for a space.
+    /// Whether it is in quotes, which aren't a part of it. If it isn't, `_` stands for a space.
     pub quoted: bool,
 }
 
-/// What the words after a verb name, with a name as a part of the mailing's text, or as `N` has it. Numbers are from 1 to
-/// `MOST_NUMBER`; items, skills and kinds are by their numbers in the world. See docs/RULES.md, "Orders".
+/// What the words after a verb name, with a name as an `N`: a span of the mailing's text. Numbers
+/// are from 1 to `MOST_NUMBER`; items, skills and kinds are by their numbers in the world.
+/// See docs/RULES.md, "Orders".
 #[derive(Debug)]
 pub enum Operands<N = Span> {
-    /// The verb stands alone.
+    /// No word.
     Nothing,
     /// The alias of a new unit, from 1 to `LAST_ALIAS`.
     Alias(u32),
-    /// Whether a flag is to be set.
+    /// Whether to set the flag, else to clear it.
     Flag(bool),
     /// A number: of a structure, a faction or men.
     Number(u32),
@@ -53,11 +55,11 @@ pub enum Operands<N = Span> {
     Units(Sequence<UnitRef>),
     /// A unit, and a number: of money or men.
     UnitAndNumber { to: UnitRef, number: u32 },
-    /// A unit, and so much of an item.
+    /// A unit, and an amount of an item.
     UnitAndGoods { to: UnitRef, amount: u32, item: u16 },
-    /// So much of an item.
+    /// An amount of an item.
     Goods { amount: u32, item: u16 },
-    /// What gets a new name, and the name, which keeps the rule of names.
+    /// What gets a new name, and that name, which keeps the rule of names.
     Name { what: NameKind, name: N },
     /// One of the four directions.
     Direction(Direction),
@@ -94,8 +96,8 @@ impl<N: Drop> Drop for Operands<N> {
     }
 }
 
-/// An order: its verb, and what the words after it name. They have the form that the order table gives the verb. See
-/// docs/RULES.md, "Orders".
+/// An order: its verb, and what the words after it name. These have the shape that the order table
+/// gives the verb. See docs/RULES.md, "Orders".
 #[derive(Drop, Debug)]
 pub struct Order<N: Drop = Span> {
     /// The word that the order begins with.

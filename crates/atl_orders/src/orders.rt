@@ -1,4 +1,5 @@
-//! What the words after a verb say, or the first fault of these words from left to right. See docs/RULES.md, "Orders".
+//! Reads the words after a verb as the order table says, or gives their first fault from left to
+//! right. See docs/RULES.md, "Orders".
 ghost use Rattle.std.specs.Prelude.{◌≡◌, IfOk};
 ghost use Rattle.atl_orders.specs.Words.{words};
 ghost use Rattle.atl_orders.specs.Views.{word_text, Gives};
@@ -16,7 +17,7 @@ use crate::words::{Cursor, Word, is_same, next_word, number};
 use atl_tables::{World, word_ok};
 use std::alloc::{AllocError, Global};
 
-/// An alias, else MissingWord or BadAlias.
+/// Reads the words of an alias, else MissingWord or BadAlias.
 #[tactic(auto, unfolding(crate::specs::Orders::read_alias))]
 fn read_alias(cursor: Cursor) -> Result<Operands, LineFault>
     ensures { Gives (named cursor.entry.text.now) result
@@ -26,7 +27,7 @@ fn read_alias(cursor: Cursor) -> Result<Operands, LineFault>
     Ok(Operands::Alias(alias))
 }
 
-/// 0 or 1, else MissingWord or BadNumber.
+/// Reads the words of a flag, 0 or 1, else MissingWord or BadNumber.
 #[tactic(auto, unfolding(crate::specs::Orders::read_flag))]
 fn read_flag(cursor: Cursor) -> Result<Operands, LineFault>
     ensures { Gives (named cursor.entry.text.now) result (read_flag (words cursor.entry.rest.now)) }
@@ -36,7 +37,7 @@ fn read_flag(cursor: Cursor) -> Result<Operands, LineFault>
     Ok(Operands::Flag(flag == 1))
 }
 
-/// A number, else MissingWord or BadNumber.
+/// Reads the words of a number, else MissingWord or BadNumber.
 #[tactic(auto, unfolding(crate::specs::Orders::read_number))]
 fn read_number(cursor: Cursor) -> Result<Operands, LineFault>
     ensures { Gives (named cursor.entry.text.now) result
@@ -46,7 +47,7 @@ fn read_number(cursor: Cursor) -> Result<Operands, LineFault>
     Ok(Operands::Number(number))
 }
 
-/// A unit, else MissingWord, BadNumber or BadAlias.
+/// Reads the words of a unit, else MissingWord, BadNumber or BadAlias.
 #[tactic(auto, unfolding(crate::specs::Orders::read_unit))]
 fn read_unit(cursor: Cursor) -> Result<Operands, LineFault>
     ensures { Gives (named cursor.entry.text.now) result (read_unit (words cursor.entry.rest.now)) }
@@ -55,7 +56,8 @@ fn read_unit(cursor: Cursor) -> Result<Operands, LineFault>
     Ok(Operands::Unit(unit))
 }
 
-/// One unit or more up to the line's end, else MissingWord, BadNumber or BadAlias.
+/// Reads the words of one unit or more, up to the line's end, else MissingWord, BadNumber or
+/// BadAlias.
 #[tactic(auto, unfolding(crate::specs::Orders::read_units, crate::specs::Operands::some_units_at))]
 fn read_units(alloc: Global, cursor: Cursor) -> Result<Result<Operands, LineFault>, AllocError>
     ensures { IfOk result (λ read.
@@ -70,7 +72,7 @@ fn read_units(alloc: Global, cursor: Cursor) -> Result<Result<Operands, LineFaul
     }
 }
 
-/// A unit and a number, else MissingWord, BadNumber or BadAlias.
+/// Reads the words of a unit and a number, else MissingWord, BadNumber or BadAlias.
 #[tactic(auto, unfolding(crate::specs::Orders::read_unit_and_number))]
 fn read_unit_and_number(cursor: Cursor) -> Result<Operands, LineFault>
     ensures { Gives (named cursor.entry.text.now) result
@@ -81,7 +83,8 @@ fn read_unit_and_number(cursor: Cursor) -> Result<Operands, LineFault>
     Ok(Operands::UnitAndNumber { to, number })
 }
 
-/// A unit, an amount and an item, else MissingWord, BadNumber, BadAlias or UnknownThing.
+/// Reads the words of a unit, an amount and an item, else MissingWord, BadNumber, BadAlias or
+/// UnknownThing.
 #[tactic(auto, unfolding(crate::specs::Orders::read_unit_and_goods))]
 fn read_unit_and_goods(world: &World, cursor: Cursor) -> Result<Operands, LineFault>
     ensures { Gives (named cursor.entry.text.now) result
@@ -92,7 +95,7 @@ fn read_unit_and_goods(world: &World, cursor: Cursor) -> Result<Operands, LineFa
     Ok(Operands::UnitAndGoods { to, amount, item })
 }
 
-/// An amount and an item, else MissingWord, BadNumber or UnknownThing.
+/// Reads the words of an amount and an item, else MissingWord, BadNumber or UnknownThing.
 #[tactic(auto, unfolding(crate::specs::Orders::read_goods))]
 fn read_goods(world: &World, cursor: Cursor) -> Result<Operands, LineFault>
     ensures { Gives (named cursor.entry.text.now) result
@@ -102,7 +105,7 @@ fn read_goods(world: &World, cursor: Cursor) -> Result<Operands, LineFault>
     Ok(Operands::Goods { amount, item })
 }
 
-/// What the first word after NAME says that it names.
+/// What the word after NAME says is named, `None` if it is none of the four words.
 fn kind_of_name(word: Word) -> Option<NameKind>
     ensures { result ≡ kind_of_name (word_text word.entry) }
 {
@@ -119,7 +122,8 @@ fn kind_of_name(word: Word) -> Option<NameKind>
     }
 }
 
-/// What gets the name, and the name, else MissingWord, UnknownThing or BadName.
+/// Reads the words of what gets a new name, and the name, else MissingWord, UnknownThing or
+/// BadName.
 #[tactic(auto, using(crate::proofs::WordLaws::place_fits, crate::proofs::WordLaws::place_behind, crate::proofs::WordLaws::stands_shorter, crate::proofs::WordLaws::ends_shorter), unfolding(crate::specs::Orders::read_name))]
 fn read_name(cursor: Cursor) -> Result<Operands, LineFault>
     requires { IsCursor cursor }
@@ -140,7 +144,7 @@ fn read_name(cursor: Cursor) -> Result<Operands, LineFault>
     Ok(Operands::Name { what, name })
 }
 
-/// A direction, else MissingWord or BadDirection.
+/// Reads the words of a direction, else MissingWord or BadDirection.
 #[tactic(auto, unfolding(crate::specs::Orders::read_direction))]
 fn read_direction(cursor: Cursor) -> Result<Operands, LineFault>
     ensures { Gives (named cursor.entry.text.now) result
@@ -150,7 +154,7 @@ fn read_direction(cursor: Cursor) -> Result<Operands, LineFault>
     Ok(Operands::Direction(direction))
 }
 
-/// A kind of structure, or no word; else UnknownThing.
+/// Reads the words of a kind of structure, or no word, else UnknownThing.
 #[tactic(auto, unfolding(crate::specs::Orders::read_kind))]
 fn read_kind(world: &World, cursor: Cursor) -> Result<Operands, LineFault>
     ensures { Gives (named cursor.entry.text.now) result
@@ -163,7 +167,7 @@ fn read_kind(world: &World, cursor: Cursor) -> Result<Operands, LineFault>
     Ok(Operands::Kind(Some(kind)))
 }
 
-/// A skill, else MissingWord or UnknownThing.
+/// Reads the words of a skill, else MissingWord or UnknownThing.
 #[tactic(auto, unfolding(crate::specs::Orders::read_skill))]
 fn read_skill(world: &World, cursor: Cursor) -> Result<Operands, LineFault>
     ensures { Gives (named cursor.entry.text.now) result
@@ -173,7 +177,7 @@ fn read_skill(world: &World, cursor: Cursor) -> Result<Operands, LineFault>
     Ok(Operands::Skill(skill))
 }
 
-/// An item, else MissingWord or UnknownThing.
+/// Reads the words of an item, else MissingWord or UnknownThing.
 #[tactic(auto, unfolding(crate::specs::Orders::read_item))]
 fn read_item(world: &World, cursor: Cursor) -> Result<Operands, LineFault>
     ensures { Gives (named cursor.entry.text.now) result
@@ -183,8 +187,8 @@ fn read_item(world: &World, cursor: Cursor) -> Result<Operands, LineFault>
     Ok(Operands::Item(item))
 }
 
-/// What the words after a verb name, by the shape that the order table gives it, or the first fault among them. Only units
-/// take memory; without it nothing is said of the words.
+/// What the words after a verb name, by the shape that the order table gives the verb, or their
+/// first fault. Only units take memory; after AllocError nothing is known of the words.
 fn read_operands(
     alloc: Global,
     world: &World,
@@ -213,8 +217,8 @@ fn read_operands(
     }
 }
 
-/// What an order says by the words after its verb, or the first fault among them. AllocError without memory; then nothing is
-/// said of the words.
+/// The order that a verb and the words after it give, or the first fault of these words. After
+/// AllocError nothing is known of them.
 #[tactic(auto, unfolding(crate::specs::Orders::said_by))]
 pub fn order_at(
     alloc: Global,

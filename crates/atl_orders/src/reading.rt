@@ -20,7 +20,7 @@ use atl_tables::World;
 use atl_tables::letters::{SPACE, TILDE};
 use std::alloc::{AllocError, Global};
 
-/// What a line begins with.
+/// The keyword that a line begins with.
 #[derive(Drop, Clone, Copy, Debug, PartialEq, Eq)]
 pub enum Keyword {
     Unit,
@@ -29,20 +29,20 @@ pub enum Keyword {
     Order(Verb),
 }
 
-/// For whom the orders of a line are.
+/// The reader's state between two lines: which unit is named, and which block is open.
 #[derive(Drop, Clone, Copy, Debug, PartialEq, Eq)]
 pub enum ReaderState {
     /// No unit is named.
     Nowhere,
-    /// The unit's of this number.
+    /// The unit with this number is named, outside of blocks.
     At(u32),
-    /// A new unit's, in the block of a FORM without fault.
+    /// The block of a FORM without fault is open: its orders are for the new unit of this alias.
     Forming { parent: u32, alias: u32 },
-    /// Nobody's, in the block of a faulty FORM, behind which the unit outside is named again, if there is one.
+    /// The block of a faulty FORM is open: its orders are for nobody. It has the unit named after it.
     Skipping(Option<u32>),
 }
 
-/// What a line does beside moving the place.
+/// What a line gives, other than the reader's next state: nothing, a fault, or an order for a unit.
 #[derive(Drop, Debug)]
 pub enum LineResult {
     Nothing,
@@ -58,7 +58,7 @@ fn is_plain(line: &[u8]) -> bool
         .all(|byte| *byte == TAB || (SPACE <= *byte && *byte <= TILDE))
 }
 
-/// The keyword that a word is.
+/// The keyword that a word is, in any case, `None` if it is none.
 fn keyword_of(word: Word) -> Option<Keyword>
     ensures { result ≡ keyword_of (word_text word.entry) }
 {
@@ -74,7 +74,7 @@ fn keyword_of(word: Word) -> Option<Keyword>
     }
 }
 
-/// A UNIT line, with the words behind its keyword.
+/// What a UNIT line gives, and the next state, by the words after its keyword.
 #[tactic(auto, unfolding(crate::specs::Reading::unit_step))]
 fn unit_line(line: &[u8]) -> (LineResult, ReaderState)
     ensures { (given : _) (text : List ℕ) → unit_step given (number_at (words line.now))
@@ -86,7 +86,7 @@ fn unit_line(line: &[u8]) -> (LineResult, ReaderState)
     }
 }
 
-/// An END line.
+/// What an END line gives, and the next state.
 #[tactic(auto, unfolding(crate::specs::Reading::end_step))]
 fn end_line(place: ReaderState) -> (LineResult, ReaderState)
     ensures { (given : _) (text : List ℕ) → end_step place given
@@ -103,7 +103,8 @@ fn end_line(place: ReaderState) -> (LineResult, ReaderState)
     }
 }
 
-/// A FORM line, with the words behind its keyword.
+/// What a FORM line gives, and the next state, by the words after its keyword. It may add its
+/// alias.
 #[tactic(auto, unfolding(crate::specs::Reading::form_step, crate::specs::Reading::block_step))]
 fn form_line(place: ReaderState, aliases: &mut Aliases, line: &[u8]) -> (LineResult, ReaderState)
     ensures { (text : List ℕ)
@@ -145,7 +146,7 @@ fn form_line(place: ReaderState, aliases: &mut Aliases, line: &[u8]) -> (LineRes
     }
 }
 
-/// For whom an order is.
+/// The unit that an order is for, in a state of the reader; `None` if no unit is named.
 fn target(place: ReaderState) -> Option<UnitRef>
     ensures { result ≡ target place }
 {
@@ -156,7 +157,7 @@ fn target(place: ReaderState) -> Option<UnitRef>
     }
 }
 
-/// An order's line, with the words behind its verb.
+/// What the line of an order gives, by the words after its verb.
 fn order_line(
     alloc: Global,
     world: &World,
@@ -177,7 +178,7 @@ fn order_line(
     }
 }
 
-/// What one whole line does, and the place for the next one. It may add to the aliases.
+/// What a whole line gives, and the next state of the reader. It may add to the aliases.
 #[tactic(auto, using(crate::proofs::WordLaws::place_behind, crate::proofs::WordLaws::ends_shorter), unfolding(crate::specs::Reading::line_step, crate::specs::Reading::words_step, crate::specs::Reading::keyword_step))]
 pub fn read_line(
     alloc: Global,

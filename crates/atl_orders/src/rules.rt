@@ -1,19 +1,18 @@
-//! Laws: mailings are read by the rules, and what is read is in its bounds.
+//! Two laws: mailings are read by the rules, and every order that is read is in bounds.
+//! See docs/RULES.md, "Reading a mailing".
 ghost use Rattle.atl_orders.specs.Rules.{LineRules, BodyRules, TextRules};
 ghost use Rattle.atl_orders.specs.Bounds.{ReadingsKeepBounds};
 
-/// Each line does what the first rule that fits says, and nothing else; the orders and faults of the lines behind a header
-/// are those that they give one after another; and a text is read as a mailing exactly where it isn't too long and its first
-/// line that begins with `#ATLANTIS` names a faction, with what the lines behind that give. See docs/RULES.md, "Reading a
-/// mailing".
+/// A law: the reading of a line, of all lines after a header, and of a whole text is what the rules
+/// give, and nothing else. The call does nothing. See docs/RULES.md, "Reading a mailing".
 pub fn rules_are_the_reading()
     ensures lines { LineRules }
     ensures mailings { BodyRules }
     ensures texts { TextRules }
 {}
 
-/// Every order that is read has its numbers in their ranges, names that are names, and things of the world. See
-/// docs/RULES.md, "Orders".
+/// A law: every order that is read has numbers in their ranges, names that keep the rule of names,
+/// and things of the world. The call does nothing. See docs/RULES.md, "Orders".
 pub fn readings_keep_bounds()
     ensures { ReadingsKeepBounds }
 {}

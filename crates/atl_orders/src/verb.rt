@@ -1,4 +1,5 @@
-//! The verbs of orders, with their keywords. See docs/RULES.md, "Orders".
+//! The order table: the verbs of orders, with their keywords, the shapes of their words, and their
+//! slots. See docs/RULES.md, "Orders".
 ghost use Rattle.std.specs.Prelude.{◌≡◌, find};
 ghost use Rattle.atl_orders.specs.Words.{is_word};
 ghost use Rattle.atl_orders.specs.Views.{word_text};
@@ -7,7 +8,7 @@ ghost use Rattle.atl_orders.specs.Verbs.{row, row_value};
 use crate::words::{Word, is_same};
 use atl_tables::variants;
 
-/// What an order does.
+/// The verb of an order, one for each row of the order table.
 #[derive(Drop, Clone, Copy, Debug, PartialEq, Eq)]
 pub enum Verb {
     Form,
@@ -33,7 +34,7 @@ pub enum Verb {
     Work,
 }
 
-/// What the words after a verb name: a column of the order table.
+/// The shape of the words after a verb: what they name. It is a column of the order table.
 #[derive(Drop, Clone, Copy, Debug, PartialEq, Eq)]
 pub enum Shape {
     /// No word.
@@ -66,10 +67,11 @@ pub enum Shape {
     Item,
 }
 
-/// Orders of which a unit carries out only one a month.
+/// A set of verbs of which a unit carries out only one order a month, the last of them in its
+/// mailing.
 #[derive(Drop, Clone, Copy, Debug, PartialEq, Eq)]
 pub enum Slot {
-    /// Of the verbs that take the whole month.
+    /// The verbs that take the whole month.
     MonthLong,
     Selling,
     Buying,
@@ -88,7 +90,7 @@ pub struct Row {
     pub slot: Option<Slot>,
 }
 
-/// A row of the order table.
+/// The row of the order table with these three columns.
 fn table_row(keyword: &'static str, shape: Shape, slot: Option<Slot>) -> Row
     ensures { row_value result ≡ row keyword.now shape slot }
 {
@@ -99,7 +101,7 @@ fn table_row(keyword: &'static str, shape: Shape, slot: Option<Slot>) -> Row
     }
 }
 
-/// The verbs of the order table that a line can begin with. FORM has lines of its own.
+/// The verbs that an order's line can begin with; FORM is left out, since it has lines of its own.
 const LISTED: [Verb; 20] = variants!(
     Verb: Name Guard Enter Leave Promote Give Pay Transfer Sell Buy Tax Recruit Quit Move Sail Build Teach
     Study Produce Work
@@ -144,7 +146,7 @@ impl Verb {
         self.row().keyword
     }
 
-    /// The verb whose keyword a word is, if a line can begin with it.
+    /// The verb whose keyword a word is, in any case, if an order's line can begin with it.
     fn listed(word: Word) -> Option<Verb>
         ensures { result ≡ find (λ verb. is_word (keyword verb) (word_text word.entry)) listed }
     {
@@ -154,7 +156,8 @@ impl Verb {
             .find(|verb| is_same(word.bytes, verb.keyword().as_bytes()))
     }
 
-    /// The verb of the order table that a word is, in any case; BOARD is read as ENTER.
+    /// The verb whose keyword a word is, in any case, if an order's line can begin with it; BOARD
+    /// is read as ENTER.
     pub fn of_word(word: Word) -> Option<Verb>
         ensures { result ≡ verb_of (word_text word.entry) }
     {

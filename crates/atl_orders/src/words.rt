@@ -17,44 +17,45 @@ use atl_tables::letters::{QUOTE, SPACE};
 pub struct Word<'a> {
     /// Its bytes, without quotes around them.
     pub bytes: &'a [u8],
-    /// Whether it stands in quotes.
+    /// Whether it is in quotes.
     pub quoted: bool,
-    /// How many bytes the line has from the first of these on.
+    /// How many bytes the line has from the word's first byte on.
     pub behind: usize,
 }
 
-/// The rest of a line in a text.
+/// The rest of a line that is left to read, and where it is in its text.
 #[derive(Drop, Clone, Copy, Debug)]
 pub struct Cursor<'a> {
     /// The whole text.
     pub text: &'a [u8],
     /// What is left of the line.
     pub rest: &'a [u8],
-    /// Where in the text the line ends.
+    /// The index in the text at which the line ends.
     pub end: usize,
 }
 
-/// Whether two texts are equal, ignoring ASCII case.
+/// Whether a word is this keyword, ignoring ASCII case.
 pub fn is_same(word: &[u8], name: &[u8]) -> bool
     ensures { result ≡ str_eq_ignore_ascii_case word.now name.now }
 {
     word.eq_ignore_ascii_case(name)
 }
 
+/// Whether a byte is a quotation mark.
 fn is_quote(byte: u8) -> bool
     ensures { result ≡ is_quote byte }
 {
     byte == QUOTE
 }
 
-/// Where the first quote is.
+/// The index of the first quotation mark, `None` if there is none.
 fn first_quote(bytes: &[u8]) -> Option<usize>
     ensures { result ≡ position is_quote bytes.now }
 {
     bytes.iter().position(|byte| is_quote(*byte))
 }
 
-/// Where the quote is, or the length.
+/// The index of the first quotation mark, or the length if there is none.
 #[tactic(auto, using(crate::proofs::WordLaws::found_or_len, crate::proofs::WordLaws::found_within))]
 fn quote_at(bytes: &[u8]) -> usize
     ensures value { result ≡ position_or_len is_quote bytes.now }
@@ -63,28 +64,28 @@ fn quote_at(bytes: &[u8]) -> usize
     first_quote(bytes).unwrap_or(bytes.len())
 }
 
-/// Space and tab.
+/// Whether a byte separates words: space or tab.
 pub fn is_blank(byte: u8) -> bool
     ensures { result ≡ is_blank byte }
 {
     byte == SPACE || byte == TAB
 }
 
-/// Whether a bare word ends at a byte.
+/// Whether a byte ends a word without quotes: a blank, a quotation mark or a semicolon.
 fn ends_word(byte: u8) -> bool
     ensures { result ≡ ends_word byte }
 {
     is_blank(byte) || is_quote(byte) || byte == SEMICOLON
 }
 
-/// Where the first byte that ends a word is.
+/// The index of the first byte that ends a word without quotes, `None` if there is none.
 fn first_end(bytes: &[u8]) -> Option<usize>
     ensures { result ≡ position ends_word bytes.now }
 {
     bytes.iter().position(|byte| ends_word(*byte))
 }
 
-/// Where a bare word ends.
+/// The index of the first byte that ends a word without quotes, or the length if there is none.
 #[tactic(auto, using(crate::proofs::WordLaws::found_or_len, crate::proofs::WordLaws::found_within))]
 fn end_at(bytes: &[u8]) -> usize
     ensures value { result ≡ position_or_len ends_word bytes.now }
@@ -93,7 +94,7 @@ fn end_at(bytes: &[u8]) -> usize
     first_end(bytes).unwrap_or(bytes.len())
 }
 
-/// A word after its opening quote, and what follows its closing one.
+/// The word after an opening quotation mark, and what follows the closing one.
 fn quoted_word(after: &[u8]) -> (Word<'_>, &[u8])
     ensures words { words (quote ∷ after.now) ≡ word_text result.0 ∷ words result.1.now }
     ensures stands { IsPartOf after.now result.0.bytes.now result.0.behind }
@@ -109,7 +110,7 @@ fn quoted_word(after: &[u8]) -> (Word<'_>, &[u8])
     (word, &behind[closing..])
 }
 
-/// A bare word, and what follows it.
+/// The word without quotes that a line begins with, and what follows it.
 fn bare_word(line: &[u8]) -> (Word<'_>, &[u8])
     requires some { 0 < length line.now }
     requires bare { ends_word (slice_index line.now 0) ≡ false }
@@ -126,7 +127,7 @@ fn bare_word(line: &[u8]) -> (Word<'_>, &[u8])
     (word, behind)
 }
 
-/// The first word of a line, and what follows it.
+/// The first word of a line, and what follows it; `None` if the line has no word.
 #[tactic(auto, using(crate::proofs::WordLaws::comment_at, crate::proofs::WordLaws::blank_at, crate::proofs::WordLaws::end_of_words))]
 pub fn next_word(line: &[u8]) -> Option<(Word<'_>, &[u8])>
     ensures words { MatchOption result (words line.now ≡ [])
@@ -148,7 +149,7 @@ pub fn next_word(line: &[u8]) -> Option<(Word<'_>, &[u8])>
     None
 }
 
-/// Whether this is the first word of a line, in any case.
+/// Whether the first word of a line is this keyword, in any case.
 pub fn begins(line: &[u8], name: &[u8]) -> bool
     ensures { result ≡ begins name.now (words line.now) }
 {
@@ -158,7 +159,7 @@ pub fn begins(line: &[u8], name: &[u8]) -> bool
     }
 }
 
-/// The number that a word writes, if it is at most this one.
+/// The number that a word writes in digits, if it is at most `most`.
 pub fn number(bytes: &[u8], most: u32) -> Option<u32>
     requires { most ≤ most_number }
     ensures { result ≡ number_of most bytes.now }

@@ -1,4 +1,5 @@
--- Sets of numbers that have none in common, as marks are kept in two of them.
+-- Sets of numbers with no number in common: a set of marks is kept in two of them, of which the second has the recent
+-- ones.
 use Rattle.std.proofs.Common.{◌≡◌, ℕ, ◌+◌, ◌<◌, ◌≤◌, Bool, true, false, cond, not, ◌&&◌, ◌||◌, List, [], ◌∷◌, length, get_or, refl, sym, ap, ◌∙◌, inl, inr, arith}
 use Rattle.std.proofs.lemmas.Bool.{cases_order, false≢true, and_parts, false_from_ne_true}
 use Rattle.std.specs.List.{list_any}
@@ -16,6 +17,7 @@ Numbers = set.FinSet nat_cmp
 
 -- ---- a set with one number more or less
 
+-- a number of a set, taken out and put in again, leaves the set as it was
 put_back : (s : Numbers) (n : ℕ) → set.contains s n ≡ true → set.insert (set.remove s n) n ≡ s
 put_back s n h = same _ _ (λ q.
     set.contains-insert nat_cmp_total (set.remove s n) n q ∙ ap (λ b. eq_by_cmp nat_cmp q n || b) (set.contains-remove nat_cmp_total s n q)
@@ -24,25 +26,32 @@ put_back s n h = same _ _ (λ q.
       | false ↦ λ _. refl
     ] refl)
 
+-- a number that was taken out is not in the set
 contains-removed : (s : Numbers) (n : ℕ) → set.contains (set.remove s n) n ≡ false
 contains-removed s n = set.contains-remove nat_cmp_total s n n ∙ ap (λ b. not b && set.contains s n) (key_itself n)
 
+-- a set with a number that is new has one number more
 len-new : (s : Numbers) (n : ℕ) → set.contains s n ≡ false → set.len (set.insert s n) ≡ set.len s + 1
 len-new s n h = set.len-insert nat_cmp_total s n ∙ ap (λ b. cond b (set.len s) (set.len s + 1)) h
 
+-- a set has one number more than without one of its numbers
 len-put_back : (s : Numbers) (n : ℕ) → set.contains s n ≡ true → set.len s ≡ set.len (set.remove s n) + 1
 len-put_back s n h = ap set.len (sym (put_back s n h)) ∙ len-new (set.remove s n) n (contains-removed s n)
 
+-- what is in a set without n is in the set
 was_there : (s : Numbers) (n q : ℕ) → set.contains (set.remove s n) q ≡ true → set.contains s q ≡ true
 was_there s n q e = (and_parts (not (eq_by_cmp nat_cmp q n)) (set.contains s q) (sym (set.contains-remove nat_cmp_total s n q) ∙ e)).1
 
+-- a set without n has no more numbers than the set
 len-less : (s : Numbers) (n : ℕ) → set.len (set.remove s n) ≤ set.len s
 len-less s n = len-within (set.remove s n) s (was_there s n)
 
+-- a law of truth values: not e distributes over "or"
 both_without : (e a b : Bool) → ((not e && a) || (not e && b)) ≡ (not e && (a || b))
 both_without true a b = refl
 both_without false a b = refl
 
+-- the union of two sets without n is their union without n
 pub union-remove : (s t : Numbers) (n : ℕ) → set.union (set.remove s n) (set.remove t n) ≡ set.remove (set.union s t) n
 union-remove s t n = same _ _ (λ q.
     set.contains-union nat_cmp_total (set.remove s n) (set.remove t n) q
@@ -53,11 +62,12 @@ union-remove s t n = same _ _ (λ q.
 
 -- ---- how many numbers two sets have
 
+-- where "a or b" is false, both are
 neither : (a b : Bool) → (a || b) ≡ false → (a ≡ false) × (b ≡ false)
 neither true b h = absurd (false≢true (sym h))
 neither false b h = (refl, h)
 
--- where a list has all numbers of the second set
+-- the union of sets with no number in common has as many as both together, where a list has all numbers of the second
 len-apart_by : (ks : List ℕ) (s t : Numbers) → ((q : ℕ) → set.contains t q ≡ true → list_any (eq_by_cmp nat_cmp q) ks ≡ true) → ((q : ℕ) → set.contains t q ≡ true → set.contains s q ≡ false) → set.len (set.union s t) ≡ set.len s + set.len t
 len-apart_by [] s t all apart =
     let none : t ≡ set.empty = same t set.empty (λ q. false_from_ne_true _ (λ e. false≢true (all q e)) ∙ sym (set.contains-empty nat_cmp q)) in
@@ -77,34 +87,41 @@ len-apart_by (k ∷ ks) s t all apart =
       | false ↦ λ missing. ap (λ u. set.len (set.union s u)) (sym (remove_absent t k missing)) ∙ fewer ∙ ap (λ u. set.len s + set.len u) (remove_absent t k missing)
     ] refl
 
+-- where a excludes b, and b is true, a is false
 turned : (a b : Bool) → (a ≡ true → b ≡ false) → b ≡ true → a ≡ false
 turned true b h e = absurd (false≢true (sym (h refl) ∙ e))
 turned false b h e = refl
 
+-- the union of sets with no number in common has as many numbers as both together
 pub len-apart : (s t : Numbers) → AreApart s t → set.len (set.union s t) ≡ set.len s + set.len t
 len-apart s t h = len-apart_by (set.items t) s t (λ q e. sym (set.contains-items t q) ∙ e) (λ q. turned _ _ (h.apart q))
 
+-- what follows from a and from b follows from "a or b"
 one_of : (a b : Bool) (P : Type 0) → (a ≡ true → P) → (b ≡ true → P) → (a || b) ≡ true → P
 one_of true b P f g h = f refl
 one_of false b P f g h = g h
 
--- all of both are below a number
+-- the union of two sets of numbers below `most` has at most `most` numbers
 pub len-both_below : (most : ℕ) (s t : Numbers) → ((k : ℕ) → set.contains s k ≡ true → k < most) → ((k : ℕ) → set.contains t k ≡ true → k < most) → set.len (set.union s t) ≤ most
 len-both_below most s t f g = len-below most (set.union s t) (λ k e. one_of _ _ _ (f k) (g k) (sym (set.contains-union nat_cmp_total s t k) ∙ e))
 
 -- ---- none is in both
 
+-- a set has no number in common with the empty set
 apart_empty : (s : Numbers) → AreApart s set.empty
 apart_empty s = record { apart = λ n _. set.contains-empty nat_cmp n }
 
+-- a number in a set is another one than a number that isn't
 other_key : (s : Numbers) (n q : ℕ) → set.contains s n ≡ false → set.contains s q ≡ true → eq_by_cmp nat_cmp q n ≡ false
 other_key s n q h e = false_from_ne_true _ (λ alike. false≢true (sym (ap (set.contains s) (same_key q n alike) ∙ h) ∙ e))
 
+-- two sets have no number in common after one gets a number that the other doesn't have
 apart_insert : (s t : Numbers) (n : ℕ) → AreApart s t → set.contains s n ≡ false → AreApart s (set.insert t n)
 apart_insert s t n h missing = record {
   apart = λ q e. set.contains-insert nat_cmp_total t n q ∙ (λ i. other_key s n q missing e i || h.apart q e i);
 }
 
+-- two sets have no number in common after a number is taken out of both
 apart_remove : (s t : Numbers) (n : ℕ) → AreApart s t → AreApart (set.remove s n) (set.remove t n)
 apart_remove s t n h = record {
   apart = λ q e. set.contains-remove nat_cmp_total t n q ∙ ap (λ b. not (eq_by_cmp nat_cmp q n) && b) (h.apart q (was_there s n q e)) ∙ and_false _;
@@ -116,20 +133,25 @@ apart_remove s t n h = record {
 
 -- ---- marks in two sets
 
+-- a set of marks, and no recent ones, if the set fits in its room
 pub none_recent : (s : Numbers) (room recent : ℕ) → set.len s ≤ room → AreMarks (record { numbers = s; room = room }) (record { numbers = set.empty; room = recent })
 none_recent s room recent h = record { apart = apart_empty s; fits = let none : set.len {R = nat_cmp} set.empty ≡ 0 = set.len-empty nat_cmp in omega (arith, none, h) }
 
+-- no marks, and no recent ones
 pub no_marks : (room recent : ℕ) → AreMarks (record { numbers = set.empty; room = room }) (record { numbers = set.empty; room = recent })
 no_marks room recent = none_recent set.empty room recent (let none : set.len {R = nat_cmp} set.empty ≡ 0 = set.len-empty nat_cmp in omega (arith, none))
 
 -- a number that is marked in neither is put into one of them
 module _ (m l v : RoomySet) (n : ℕ) (seen : ◌≡◌ {A = RoomySet} (record { numbers = set.union m.numbers l.numbers; room = m.room }) v) (marks : AreMarks m l) where
+  -- a number that isn't marked is in neither set
   in_neither : set.contains v.numbers n ≡ false → (set.contains m.numbers n ≡ false) × (set.contains l.numbers n ≡ false)
   in_neither h = neither _ _ (sym (set.contains-union nat_cmp_total m.numbers l.numbers n) ∙ ap (λ (w : RoomySet). set.contains w.numbers n) seen ∙ h)
 
+  -- a number that isn't marked fits among the recent ones, if these have room for one more
   pub fits_recent : set.contains v.numbers n ≡ false → set.len l.numbers < l.room → set.len (set.insert l.numbers n) ≤ l.room
   fits_recent missing room = let more = len-new l.numbers n (in_neither missing).1 in omega (arith, more, room)
 
+  -- a number that isn't marked may be put among the recent ones, if all marks have room for it
   pub one_recent : set.contains v.numbers n ≡ false → set.len (set.insert v.numbers n) ≤ v.room → AreMarks m (record l { numbers = set.insert l.numbers n })
   one_recent missing h =
       let more = len-new v.numbers n missing in
@@ -139,15 +161,17 @@ module _ (m l v : RoomySet) (n : ℕ) (seen : ◌≡◌ {A = RoomySet} (record {
       let recent = len-new l.numbers n (in_neither missing).1 in
       record { apart = apart_insert m.numbers l.numbers n marks.apart (in_neither missing).0; fits = omega (arith, more, all, size, room, recent, h) }
 
+  -- all marks, the recent ones and a new one may be put into the first set, if it has room for it
   pub one_more : set.len (set.insert v.numbers n) ≤ v.room → AreMarks (record { numbers = set.insert (set.union m.numbers l.numbers) n; room = m.room }) (record { numbers = set.empty; room = l.room })
   one_more h = none_recent (set.insert (set.union m.numbers l.numbers) n) m.room l.room
       (let size = ap (λ (w : RoomySet). set.len (set.insert w.numbers n)) seen in let room = ap (λ (w : RoomySet). w.room) seen in omega (arith, size, room, h))
 
+-- a number may be taken out of both sets
 pub mark_taken : (m l : RoomySet) (n : ℕ) → AreMarks m l → AreMarks (record m { numbers = set.remove m.numbers n }) (record l { numbers = set.remove l.numbers n })
 mark_taken m l n h =
     record { apart = apart_remove m.numbers l.numbers n h.apart; fits = omega (arith, len-less m.numbers n, len-less l.numbers n, h.fits) }
 
--- two numbers of lists that have none in common are not the same
+-- of numbers at two indices of lists with no number in common, one that is at most the other is less
 pub stand_apart : (xs ys : List ℕ) (i j : ℕ) → AreApart (set.from_list xs) (set.from_list ys) → i < length xs → j < length ys → get_or xs i 0 ≤ get_or ys j 0 → get_or xs i 0 < get_or ys j 0
 stand_apart xs ys i j h l m le =
     elim (cases_order (get_or xs i 0) (get_or ys j 0)) [

@@ -1,4 +1,4 @@
--- How many numbers of 32 bits can rise one after another.
+-- The numbers of the sorted entries of a map, which rise from one to the next.
 use Rattle.std.proofs.Common.{◌≡◌, ℕ, ◌+◌, ◌≤◌, ◌<◌, true, List, [], ◌∷◌, refl, sym, arith}
 use Rattle.std.specs.declared.cmp.Ordering.TheVariants.{Less, Equal, Greater}
 use Rattle.std.specs.Ordering.{nat_cmp, is_lt}
@@ -6,6 +6,7 @@ use Rattle.std.specs.Cmp.{ranked}
 use Rattle.std.specs.FinMap.{is_sorted}
 use Rattle.std.proofs.lemmas.Bool.{and_parts, false≢true}
 
+-- what comes before q in the order of numbers is less than q
 below : (k q : ℕ) → is_lt (nat_cmp k q) ≡ true → k < q
 below k q h =
     elim (nat_cmp k q) as (λ r. nat_cmp k q ≡ r → is_lt r ≡ true → k < q) [
@@ -15,23 +16,26 @@ below k q h =
     ] refl h
 
 module _ {V : Type 0} where
-  -- the first of the entries stands under this number or a greater one
+  -- the first of the entries has the number n or a greater one
   abbrev pub BeginsFrom : ℕ → List (ℕ × V) → Type 0
   BeginsFrom n [] = Unit {0}
   BeginsFrom n (e ∷ es) = n ≤ e.0
 
+  -- sorted entries without the first are sorted
   pub sorted_rest : (e : ℕ × V) (es : List (ℕ × V)) → is_sorted nat_cmp (e ∷ es) ≡ true → is_sorted nat_cmp es ≡ true
   sorted_rest e es h = (and_parts _ _ h).1
 
-  -- behind an entry the numbers are greater
+  -- after an entry with a number from n on, the next has a number from n + 1 on
   pub begins_later : (n : ℕ) (e : ℕ × V) (es : List (ℕ × V)) → is_sorted nat_cmp (e ∷ es) ≡ true → n ≤ e.0 → BeginsFrom (n + 1) es
   begins_later n e [] h l = tt
   begins_later n e (f ∷ es) h l = omega (arith, l, below e.0 f.0 (and_parts _ _ (and_parts _ _ h).0).0)
 
+  -- after an entry with a number from n on, the next has a number from n on
   pub begins_same : (n : ℕ) (e : ℕ × V) (es : List (ℕ × V)) → is_sorted nat_cmp (e ∷ es) ≡ true → n ≤ e.0 → BeginsFrom n es
   begins_same n e [] h l = tt
   begins_same n e (f ∷ es) h l = omega (arith, l, below e.0 f.0 (and_parts _ _ (and_parts _ _ h).0).0)
 
+  -- all entries have numbers from 0 on
   pub begins_zero : (es : List (ℕ × V)) → BeginsFrom 0 es
   begins_zero [] = tt
   begins_zero (e ∷ es) = omega arith

@@ -1,4 +1,4 @@
--- Where no name stands twice, the names differ.
+-- If no condition on duplicate names is broken, the names differ.
 use Rattle.std.proofs.Common.{◌≡◌, ℕ, zero, suc, ◌+◌, Bool, true, false, cond, List, [], ◌∷◌, ◌++◌, map, take, codes, Some, None, refl, sym, ap, ◌∙◌, append_assoc, arith}
 use Rattle.std.specs.List.{list_any, slice_get, AllByRecursion}
 use Rattle.std.proofs.lemmas.Bool.{or_parts}
@@ -18,17 +18,19 @@ use Rattle.atl_tables.specs.declared.fault.WorldFault.{WorldFault}
 use Rattle.atl_tables.specs.declared.fault.WorldFault.TheVariants.{TwoNames}
 use Rattle.atl_tables.specs.declared.world_draft.WorldDraft.{WorldDraft}
 
--- where no condition of two lists is broken, none of either is
+-- if no condition of two joined lists is broken, none of the first is
 front_none : (fs gs : Conditions) → first_fault (fs ++ gs) ≡ None → first_fault fs ≡ None
 front_none [] gs h = refl
 front_none (None ∷ fs) gs h = front_none fs gs h
 front_none (Some f ∷ fs) gs h = h
 
+-- if no condition of two joined lists is broken, none of the second is
 back_none : (fs gs : Conditions) → first_fault (fs ++ gs) ≡ None → first_fault gs ≡ None
 back_none [] gs h = h
 back_none (None ∷ fs) gs h = back_none fs gs h
 back_none (Some f ∷ fs) gs h = absurd (cc)
 
+-- if no condition of a list's elements is broken, none of the k-th element is
 at_each : {A : Type 0} (conditions : ℕ → A → Conditions) (i : ℕ) (xs : List A) → first_fault (each conditions i xs) ≡ None → (k : ℕ) (x : A) → slice_get xs k ≡ Some x → first_fault (conditions (i + k) x) ≡ None
 at_each conditions i [] h k x e = absurd (cc)
 at_each conditions i (y ∷ ys) h zero x e =
@@ -40,41 +42,48 @@ at_each conditions i (y ∷ ys) h (suc k) x e =
     rw there (at_each conditions (i + 1) ys (back_none (conditions i y) (each conditions (i + 1) ys) h) k x e)
 
 module _ {A : Type 0} (title : A → List ℕ) where
+  -- whether an element of `front` has the name of x
   abbrev is_before : A → List A → Bool
   is_before x front = list_any (λ y. same_name (title y) (title x)) front
 
+  -- if the condition by a test holds, the test is false
   by_test : (b : Bool) (f : WorldFault) → first_fault (cond b (Some f) None ∷ []) ≡ None → b ≡ false
   by_test true f h = absurd (cc)
   by_test false f h = refl
 
+  -- if the condition on the i-th element holds, no element before it has its name
   no_twin : (array key : List ℕ) (all : List A) (i : ℕ) (x : A) → first_fault (twin_at title array key all i x) ≡ None → is_before x (take i all) ≡ false
   unfolding twin_at
   no_twin array key all i x h = by_test (is_before x (take i all)) (TwoNames (path (element_path array i) key)) h
 
+  -- x has another name than each element of a list, if it has another than the one at each index
   head_differs : (x : A) (xs : List A) → ((k : ℕ) (y : A) → slice_get xs k ≡ Some y → same_name (title x) (title y) ≡ false) → AllByRecursion (λ n. same_name (title x) n ≡ false) (map title xs)
   head_differs x [] h = tt
   head_differs x (y ∷ ys) h = (h 0 y refl, head_differs x ys (λ k. h (suc k)))
 
+  -- if no element of a list has the name of y, neither has the one in its middle
   in_middle : (front rest : List A) (x y : A) → is_before y (front ++ x ∷ rest) ≡ false → same_name (title x) (title y) ≡ false
   in_middle front rest x y h =
       let both = or_parts _ _ (sym (list_any-append (λ z. same_name (title z) (title y)) front (x ∷ rest)) ∙ h) in
       (or_parts _ _ both.1).0
 
+  -- the names of `xs` differ, if none is the name of an element before it, in `front` or in `xs`
   differ_behind : (front xs : List A) → ((k : ℕ) (x : A) → slice_get xs k ≡ Some x → is_before x (front ++ take k xs) ≡ false) → NamesDiffer (map title xs)
   differ_behind front [] h = IsDistinct-from_apart same_name [] (λ i j d a b. absurd (omega (arith, b)))
   differ_behind front (x ∷ xs) h =
       IsDistinct-cons same_name (title x) (map title xs) (head_differs x xs (λ k y e. in_middle front (take k xs) x y (h (suc k) y e)))
       (differ_behind (front ++ x ∷ []) xs (λ k y e. ap (is_before y) (append_assoc front (x ∷ []) (take k xs)) ∙ h (suc k) y e))
 
+  -- the names of an array differ, if its conditions on duplicates hold
   pub differ : (array key : List ℕ) (all : List A) → first_fault (twins title array key all) ≡ None → NamesDiffer (map title all)
   differ array key all h = differ_behind [] all (λ k x e. let same : 0 + k ≡ k = omega arith in no_twin array key all k x (rw same at (at_each (twin_at title array key all) 0 all h k x e)))
 
--- the names stay where a table stands for something
+-- a list mapped by f keeps its names, if f keeps the name of each element
 pub names_kept : {A B : Type 0} (f : A → B) (n : A → List ℕ) (m : B → List ℕ) → ((x : A) → m (f x) ≡ n x) → (xs : List A) → map m (map f xs) ≡ map n xs
 names_kept f n m h [] = refl
 names_kept f n m h (x ∷ xs) = rw (h x, names_kept f n m h xs) refl
 
--- of tables that keep the conditions on names
+-- the names of terrains, items, skills and kinds differ, if the conditions on duplicates hold
 titles_have_names : (all : WorldDraft) → first_fault (titles_differ all) ≡ None → HaveNames all
 unfolding titles_differ
 titles_have_names all h =
@@ -91,6 +100,7 @@ titles_have_names all h =
       kinds = differ (λ d. d.name) (codes "kind") (codes "name") all.kinds (back_none skills kinds behind_items);
     }
 
+-- the names of terrains, items, skills and kinds differ, if all conditions on duplicates hold
 pub have_names : (all : WorldDraft) → first_fault (names_differ all) ≡ None → HaveNames all
 unfolding names_differ
 have_names all h = titles_have_names all (front_none (titles_differ all) (duplicate_numbers all.regions ++ (each terrain_twins 0 all.terrains ++ each market_twins 0 all.regions)) h)

@@ -1,4 +1,4 @@
--- The first broken condition, as a reader meets it.
+-- The fault of a list of conditions, as a function that reads in their order finds it.
 use Rattle.std.proofs.Common.{◌≡◌, [], ◌∷◌, ◌++◌, Option, Some, None, Result, Ok, Err, refl, sym, subst, ◌∙◌}
 use Rattle.std.specs.Result.{IsErrAnd}
 use Rattle.std.proofs.lemmas.Result.{err_from_is_err_and}
@@ -7,52 +7,57 @@ use Rattle.atl_tables.specs.declared.fault.WorldFault.TheVariants.{Memory}
 use Rattle.atl_tables.specs.Faults.{Conditions, fault_of, first_fault, unless, Reads}
 use Rattle.atl_tables.specs.Results.{Stops, Gives}
 
--- a reader that failed stops all that comes after it
+-- a call that failed gives the fault of the list that begins with its condition
 pub stops_first : {X Y : Type 0} (view : X → Y) (e : WorldFault) (r : Result Y WorldFault) (fs : Conditions) → Reads view (Err e) r → Stops e (first_fault (fault_of r ∷ fs))
 stops_first view Memory r fs h = tt
 stops_first view e r fs h = rw h refl
 
+-- if the first of two joined lists has no fault, the second has the fault of both
 pub passes : (fs gs : Conditions) → first_fault fs ≡ None → first_fault (fs ++ gs) ≡ first_fault gs
 passes [] gs h = refl
 passes (None ∷ fs) gs h = passes fs gs h
 passes (Some f ∷ fs) gs h = absurd (cc)
 
+-- if the first of two joined lists has a fault, that is the fault of both
 kept : (f : WorldFault) (fs gs : Conditions) → first_fault fs ≡ Some f → first_fault (fs ++ gs) ≡ Some f
 kept f [] gs h = absurd (cc)
 kept f (None ∷ fs) gs h = kept f fs gs h
 kept f (Some x ∷ fs) gs h = h
 
+-- a fault of the first list is the fault of both
 pub stops_on : (e : WorldFault) (fs gs : Conditions) → Stops e (first_fault fs) → Stops e (first_fault (fs ++ gs))
 stops_on Memory fs gs h = tt
 stops_on e fs gs h = kept e fs gs h
 
+-- if the first list has no fault, a fault of the second is the fault of both
 pub stops_after : (e : WorldFault) (fs gs : Conditions) → first_fault fs ≡ None → Stops e (first_fault gs) → Stops e (first_fault (fs ++ gs))
 stops_after e fs gs h s = subst (Stops e) (sym (passes fs gs h)) s
 
+-- if neither list has a fault, both together have none
 pub passes_both : (fs gs : Conditions) → first_fault fs ≡ None → first_fault gs ≡ None → first_fault (fs ++ gs) ≡ None
 passes_both fs gs h s = passes fs gs h ∙ s
 
--- a call that reads the rest, after conditions that hold
+-- a call that gives the second list's part gives that of both, if the first list has no fault
 pub gives_after : {X Y : Type 0} (view : X → Y) (r : Result X WorldFault) (fs gs : Conditions) (v : Y) → first_fault fs ≡ None → Gives view r (first_fault gs) v → Gives view r (first_fault (fs ++ gs)) v
 gives_after view (Ok x) fs gs v h g = (passes fs gs h ∙ g.0, g.1)
 gives_after view (Err e) fs gs v h g = stops_after e fs gs h g
 
--- what is given is read
+-- a call that gives a part reads it
 pub reads : {X Y : Type 0} (view : X → Y) (r : Result X WorldFault) (fault : Option WorldFault) (v : Y) → Gives view r fault v → Reads view r (unless fault v)
 reads view (Ok x) fault v h = rw (h.0, h.1) refl
 reads view (Err Memory) fault v h = tt
 reads view (Err e) fault v h = rw h refl
 
--- a condition that is broken stops all that come after it
+-- a fault of the first condition is the fault of the list
 pub stops_here : (e : WorldFault) (fault : Option WorldFault) (fs : Conditions) → Stops e fault → Stops e (first_fault (fault ∷ fs))
 stops_here Memory fault fs h = tt
 stops_here e fault fs h = rw h refl
 
--- a call that reads what the last condition is about
+-- a call that gives what one condition is about gives it for the list of this condition alone
 pub gives_last : {X Y : Type 0} (view : X → Y) (r : Result X WorldFault) (fault : Option WorldFault) (v : Y) → Gives view r fault v → Gives view r (first_fault (fault ∷ [])) v
 gives_last view r None v h = h
 gives_last view r (Some f) v h = h
 
--- the exit of a `?` gives the fault of the call, where that stops there
+-- if `?` returns the error of a call, and that is the fault of the conditions, the function gives that fault
 pub exits : {X Y : Type 0} (view : X → Y) (r : Result X WorldFault) (e : WorldFault) (fault : Option WorldFault) (v : Y) → IsErrAnd r (λ f. f ≡ e) → Stops e fault → Gives view r fault v
 exits view r e fault v h s = let p = err_from_is_err_and r h in rw (p.1, p.2) s

@@ -1,4 +1,4 @@
--- General laws of truth values, numbers and keys, which the crates above cite, too.
+-- General laws of truth values, numbers and keys of maps, which other crates cite, too.
 use Rattle.std.proofs.Common.{◌≡◌, ◌≢◌, ◌==◌, ◌∙◌, ◌+◌, ◌≤◌, ℕ, Bool, cond, true, false, T, nat_eq, refl, sym, arith}
 use Rattle.std.specs.Ordering.{nat_cmp, eq_by_cmp}
 use Rattle.std.specs.Cmp.{nat_cmp_total, unsigned_tied}
@@ -6,39 +6,48 @@ use Rattle.std.specs.FinMap.{FinMap, insert, len, len-insert, contains_key}
 use Rattle.std.proofs.lemmas.Bool.{false_from_ne_true}
 use Rattle.std.proofs.lemmas.Bool.Decides.{nat_tests}
 
+-- a truth value that holds is true
 pub is_true : (b : Bool) → T b → b ≡ true
 is_true true h = refl
 is_true false h = absurd h
 
 -- ---- numbers
 
+-- two numbers are equal if the test says so
 pub is_equal : (a b : ℕ) → (a == b) ≡ true → a ≡ b
 is_equal a b test = grind (arith, nat_tests)
 
+-- two numbers are not equal if the test says so
 pub is_unequal : (a b : ℕ) → (a == b) ≡ false → a ≢ b
 is_unequal a b test = grind (arith, nat_tests)
 
+-- a number passes the test of being equal to itself
 pub equal_itself : (a : ℕ) → (a == a) ≡ true
 equal_itself a = grind (arith, nat_tests)
 
+-- the test of two numbers gives the same in either order
 pub equal_turned : (a b : ℕ) → nat_eq a b ≡ nat_eq b a
 equal_turned a b = grind (arith, nat_tests)
 
 -- ---- keys
 
+-- a key is equal to itself by comparison
 pub key_itself : (n : ℕ) → eq_by_cmp nat_cmp n n ≡ true
 key_itself n = unsigned_tied n n ∙ equal_itself n
 
+-- two keys are equal by comparison if the test of numbers says so, in either order
 pub key_turned : (q r : ℕ) → eq_by_cmp nat_cmp q r ≡ (r == q)
 key_turned q r = unsigned_tied q r ∙ equal_turned q r
 
+-- two keys that are equal by comparison are the same number
 pub same_key : (q r : ℕ) → eq_by_cmp nat_cmp q r ≡ true → q ≡ r
 same_key q r test = is_equal q r (sym (unsigned_tied q r) ∙ test)
 
+-- n or n + 1 is at most n + 1
 at_most : (b : Bool) (n : ℕ) → cond b n (n + 1) ≤ n + 1
 at_most true n = omega arith
 at_most false n = omega arith
 
--- a map with one entry put has at most one more
+-- a map with one entry put in has at most one more
 pub one_more : {V : Type 0} (m : FinMap nat_cmp V) (k : ℕ) (v : V) → len (insert m k v) ≤ len m + 1
 one_more m k v = rw (len-insert nat_cmp_total m k v) (at_most (contains_key m k) (len m))

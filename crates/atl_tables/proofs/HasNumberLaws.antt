@@ -1,4 +1,4 @@
--- What is true of values under their own numbers.
+-- The map of values by their own numbers.
 use Rattle.std.proofs.Common.{◌≡◌, ◌≤◌, ℕ, zero, suc, ◌==◌, Bool, true, false, cond, List, [], ◌∷◌, length, Option, Some, refl, subst, sym, ap, ◌∙◌, arith}
 use Rattle.std.specs.Cmp.{nat_cmp_total, unsigned_tied}
 use Rattle.std.specs.FinMap.{FinMap, empty, get, len, get-empty, get-insert, len-empty}
@@ -7,22 +7,25 @@ use Rattle.atl_tables.specs.EachIndex.{EachIndex}
 use Rattle.atl_tables.specs.Sums.{by_number}
 use Rattle.atl_tables.proofs.GeneralLaws.{is_equal, one_more}
 
+-- a map that is empty has no entry
 pub len_none : {V : Type 0} (m : FinMap nat_cmp V) → m ≡ empty → len m ≡ 0
 len_none {V} m e = ap len e ∙ len-empty nat_cmp V
 
 module _ {V : Type 0} (number : V → ℕ) where
+  -- a map of values by their numbers has no more entries than there are values
   pub few : (vs : List V) → len (by_number number vs) ≤ length vs
   few [] = omega (arith, len-empty nat_cmp V)
   few (v ∷ vs) = omega (arith, one_more (by_number number vs) (number v) v, few vs)
 
   module _ (P : ℕ → V → Type 0) where
+    -- what holds of u at its number, and of all other entries, holds of an entry after u is put in
     one : (b : Bool) (n : ℕ) (u v : V) (o : Option V) → (n == number u) ≡ b → P (number u) u → (o ≡ Some v → P n v) → cond b (Some u) o ≡ Some v → P n v
     one true n u v o e here rest h =
         let same : u ≡ v = cc in
         subst (P n) same (subst (λ k. P k u) (sym (is_equal n (number u) e)) here)
     one false n u v o e here rest h = rest h
 
-    -- at a number of the map, where it is true of all values that the map is made of
+    -- what holds of each value at its own number holds of each entry of the map of them
     pub at_number : (vs : List V) → EachIndex (λ i v. P (number v) v) vs → (n : ℕ) (v : V) → get (by_number number vs) n ≡ Some v → P n v
     at_number [] all n v h = let e = get-empty {X = V} nat_cmp n in absurd (cc)
     at_number (u ∷ vs) all n v h =
