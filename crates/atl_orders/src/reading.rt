@@ -38,7 +38,7 @@ pub enum ReaderState {
     At(u32),
     /// The block of a FORM without fault is open: its orders are for the new unit of this alias.
     Forming { parent: u32, alias: u32 },
-    /// The block of a faulty FORM is open: its orders are for nobody. It has the unit named after it.
+    /// The block of a faulty FORM is open: its orders count for nobody. It has the unit outside.
     Skipping(Option<u32>),
 }
 

@@ -7,7 +7,7 @@ use Rattle.atl_tables.specs.declared.fault.WorldFault.TheVariants.{Memory}
 use Rattle.atl_tables.specs.Faults.{Conditions, fault_of, first_fault, unless, Reads}
 use Rattle.atl_tables.specs.Results.{Stops, Gives}
 
--- a call that failed gives the fault of the list that begins with its condition
+-- the error of a call that reads is the fault of each list that begins with the call's condition
 pub stops_first : {X Y : Type 0} (view : X → Y) (e : WorldFault) (r : Result Y WorldFault) (fs : Conditions) → Reads view (Err e) r → Stops e (first_fault (fault_of r ∷ fs))
 stops_first view Memory r fs h = tt
 stops_first view e r fs h = rw h refl

@@ -23,7 +23,7 @@ other_length (a ∷ xs) quoted (b ∷ ys) h =
 step : (name : List ℕ) (quoted : Bool) (word : List ℕ) (i : ℕ) → i < length name → i < length word → same_from name quoted word i ≡ (eq_ignore_ascii_case (get_or name i 0) (letter_of quoted (get_or word i 0)) && same_from name quoted word (i + 1))
 step name quoted word i h k = rw (drop_more name i 0 h, drop_more word i 0 k) refl
 
--- if the i-th bytes are equal, the rests from i and from i + 1 are equal or not alike
+-- if the i-th bytes are equal, the rests from i on are equal exactly if those from i + 1 on are
 pub same_letter : (name : List ℕ) (quoted : Bool) (word : List ℕ) (i : ℕ) → i < length name → i < length word → eq_ignore_ascii_case (get_or name i 0) (letter_of quoted (get_or word i 0)) ≡ true → same_from name quoted word (i + 1) ≡ same_from name quoted word i
 same_letter name quoted word i h k e = sym (step name quoted word i h k ∙ ap (λ t. t && same_from name quoted word (i + 1)) e)
 

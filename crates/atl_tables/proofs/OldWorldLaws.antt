@@ -20,31 +20,36 @@ use Rattle.atl_tables.specs.declared.world.RegionPlan.{RegionPlan}
 use Rattle.atl_tables.proofs.MadeLaws.{get-mapped}
 use Rattle.atl_tables.proofs.HasNumberLaws.{at_number}
 
+-- an option stays as it is under an f that doesn't change its value
 unchanged : {V : Type 0} (f : V → V) (o : Option V) → ((v : V) → o ≡ Some v → f v ≡ v) → option_map f o ≡ o
 unchanged f None same = refl
 unchanged f (Some v) same = ap Some (same v refl)
 
--- a map where f changes no value
+-- a map stays as it is under an f that changes no value
 mapped_same : {V : Type 0} (f : V → V) (m : FinMap nat_cmp V) → ((n : ℕ) (v : V) → get m n ≡ Some v → f v ≡ v) → mapped f m ≡ m
 mapped_same f m same = same_map nat_cmp_total nat_cmp-IsAntisymmetric _ _ (λ n. get-mapped f m n ∙ unchanged f (get m n) (same n))
 
 module _ (all : WorldDraft) where
+  -- the regions of a file of the first format have no markets
   bare_plans : (rs : List OldRegion) → EachIndex (λ i p. without_market p ≡ p) (map (region_of all) (map as_draft rs))
   unfolding region_of
   bare_plans [] i p h = absurd (cc)
   bare_plans (r ∷ rs) zero p h = let same : region_of all (as_draft r) ≡ p = cc in subst (λ (q : RegionPlan). without_market q ≡ q) same refl
   bare_plans (r ∷ rs) (suc i) p h = bare_plans rs i p h
 
+  -- the world of such regions is equal to itself with markets left out
   bare : (rs : List OldRegion) → all.regions ≡ map as_draft rs → without_markets (world_of_tables all) ≡ world_of_tables all
   unfolding world_of_tables regions_of
   bare rs read =
       let plans = subst (λ ds. EachIndex (λ i p. without_market p ≡ p) (map (region_of all) ds)) (sym read) (bare_plans rs) in
       ap (λ m. record (world_of_tables all) { regions = m }) (mapped_same without_market (regions_of all) (at_number (λ (p : RegionPlan). p.number) (λ n p. without_market p ≡ p) (map (region_of all) all.regions) plans))
 
+-- the world that is returned, if there is no fault, is the one that was read
 given : (fault : Option WorldFault) (x w : WorldValue) → unless fault x ≡ Ok w → x ≡ w
 given None x w h = cc
 given (Some f) x w h = absurd (cc)
 
+-- a world that the first format reads from a document has no markets
 in_document : (o : Option Members) (w : WorldValue) → world_in First o ≡ Ok w → without_markets w ≡ w
 unfolding tables_of regions_in
 in_document None w h = absurd (cc)
@@ -52,6 +57,7 @@ in_document (Some doc) w h =
     let all = tables_of First doc in
     subst (λ (x : WorldValue). without_markets x ≡ x) (given (first_fault (conditions First doc)) (world_of_tables all) w h) (bare all _ refl)
 
+-- a world that the first format reads from a text has no markets
 pub old_has_no_markets : OldWorldsAreBare
 unfolding world_by
 old_has_no_markets text w h = in_document (parse_document text) w h

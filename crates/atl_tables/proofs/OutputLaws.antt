@@ -1,4 +1,4 @@
--- Amounts of an output, one after the other, as a loop reads them.
+-- A loop over the amounts of an output reads them one after another, in byte order of the keys.
 use Rattle.std.proofs.Common.{◌≡◌, ℕ, true, List, [], ◌∷◌, ◌++◌, map, Option, Result, Ok, String, Global, refl, sym, ap, ◌∙◌, append_assoc, string_bytes}
 use Rattle.std.specs.Map.{keys_of}
 use Rattle.std.specs.List.Sorted.{IsStrictlySortedBy}
@@ -12,24 +12,27 @@ use Rattle.atl_tables.specs.OutputTable.{put_key, in_byte_order, amount_at, amou
 use Rattle.atl_tables.specs.declared.fault.WorldFault.{WorldFault}
 use Rattle.atl_tables.specs.declared.output_table.Output.{Output}
 
--- the keys of entries, with what stands under them
+-- the entries of a table of the library, as keys and values of the definitions
 abbrev pub pairs : List (String Global × Value) → List (List ℕ × Data)
 pairs es = map (λ e. (string_bytes e.0, view e.1)) es
 
+-- a key that is before all others is put in front
 put_first : (k : String Global) (d : Data) (es : List (String Global × Value)) → is_before (string_bytes k) (members_view es) ≡ true → put_key (string_bytes k) d (pairs es) ≡ (string_bytes k, d) ∷ pairs es
 put_first k d [] h = refl
 put_first k d (e ∷ es) h = rw h refl
 
--- a map's entries are in byte order
+-- the entries of a table are in the byte order of their keys, as the definition puts them
 pub entries_in_order : (es : List (String Global × Value)) → IsStrictlySortedBy string_cmp (keys_of es) → in_byte_order (members_view es) ≡ pairs es
 unfolding in_byte_order IsStrictlySortedBy
 entries_in_order [] h = refl
 entries_in_order (e ∷ es) h = rw (entries_in_order es h.1) (put_first e.0 (view e.1) es (is_before-sorted e.0 es h.0))
 
 module _ (at : List ℕ) (e : List ℕ × Data) (es : List (List ℕ × Data)) (n : ℕ) (one : amount_at at e ≡ Ok n) where
+  -- if the first amount is good, the conditions on the rest have the fault of all
   pub keys_on : (total : Option WorldFault) → first_fault (amounts_keys at (e ∷ es)) ≡ total → first_fault (amounts_keys at es) ≡ total
   keys_on total so_far = ap (λ (r : Result ℕ WorldFault). first_fault (fault_of r ∷ amounts_keys at es)) (sym one) ∙ so_far
 
+  -- a loop that reads amounts has the rest left, after the next amount is appended
   pub amounts_on : (front : List Output) (total : List Output) → front ++ amounts_from at (e ∷ es) ≡ total → (front ++ record { item = e.0; amount = n } ∷ []) ++ amounts_from at es ≡ total
   amounts_on front total so_far =
       append_assoc front (record { item = e.0; amount = n } ∷ []) (amounts_from at es)

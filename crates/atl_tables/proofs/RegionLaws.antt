@@ -1,4 +1,4 @@
--- Numbers of regions that were met, in a map.
+-- A loop over regions keeps the numbers that it has seen in a map.
 use Rattle.std.proofs.Common.{◌≡◌, ℕ, ◌+◌, ◌<◌, ◌==◌, ◌||◌, Bool, true, false, cond, List, take, length, get_or, codes, Option, Some, None, refl, sym, ap, ◌∙◌}
 use Rattle.std.specs.Cmp.{nat_cmp_total, unsigned_tied}
 use Rattle.std.specs.FinMap.{FinMap, get, insert, get-insert}
@@ -11,12 +11,14 @@ use Rattle.atl_tables.specs.Faults.{first_fault}
 use Rattle.atl_tables.specs.Keys.{path, element_path}
 use Rattle.atl_tables.specs.Regions.{has_number, twin_number_at}
 
+-- an option is there after a value may have been put in, if one was or it was there
 is_some-put : {V : Type 0} (v : V) (b : Bool) (o : Option V) → is_some (cond b (Some v) o) ≡ (is_some o || b)
 is_some-put v true None = refl
 is_some-put v true (Some w) = refl
 is_some-put v false None = refl
 is_some-put v false (Some w) = refl
 
+-- the map of the numbers seen has those of one more region after this region's is put in
 pub seen_more : {V : Type 0} (m : FinMap nat_cmp V) (v : V) (ds : List RegionDraft) (i : ℕ) (d : RegionDraft) → i < length ds → d ≡ get_or ds i d → ((n : ℕ) → is_some (get m n) ≡ has_number n (take i ds))
     → (n : ℕ) → is_some (get (insert m d.place.number v) n) ≡ has_number n (take (i + 1) ds)
 seen_more m v ds i d below here seen n =
@@ -26,7 +28,7 @@ seen_more m v ds i d below here seen n =
     ∙ ap (λ b. has_number n (take i ds) || b) (unsigned_tied n d.place.number ∙ ap (λ (e : RegionDraft). n == e.place.number) here)
     ∙ sym (list_any_more (λ e. n == e.place.number) ds i d below)
 
--- what the map says of an element
+-- the condition on duplicate numbers, by whether the number was seen before
 pub by_map : (all : List RegionDraft) (i : ℕ) (d : RegionDraft) (b : Bool) → has_number d.place.number (take i all) ≡ b → first_fault (twin_number_at all i d) ≡ cond b (Some (TwoNames (path (element_path (codes "region") i) (codes "number")))) None
 unfolding twin_number_at
 by_map all i d true h = rw h

@@ -9,10 +9,11 @@ use Rattle.std.specs.FinMap.{nat_cmp-IsAntisymmetric}
 use Rattle.std.specs.FinSet as set
 use Rattle.atl_tables.proofs.GeneralLaws.{key_itself}
 
+-- two sets are equal if each number is in both or in neither
 pub same : (s t : set.FinSet nat_cmp) → ((q : ℕ) → set.contains s q ≡ set.contains t q) → s ≡ t
 same s t h = set.same_set nat_cmp_total nat_cmp-IsAntisymmetric s t h
 
--- a number that is in a set already
+-- a number that is in a set already may be put in again
 pub insert_twice : (s : set.FinSet nat_cmp) (n : ℕ) → set.contains s n ≡ true → set.insert s n ≡ s
 insert_twice s n h = same _ _ (λ q. set.contains-insert nat_cmp_total s n q ∙ elim (nat_cmp q n) as (λ r. nat_cmp q n ≡ r → (is_eq r || set.contains s q) ≡ set.contains s q) [
   | Less ↦ λ _. refl
@@ -20,7 +21,7 @@ insert_twice s n h = same _ _ (λ q. set.contains-insert nat_cmp_total s n q ∙
   | Greater ↦ λ _. refl
 ] refl)
 
--- a number that is new may be taken out again
+-- a new number, put in and taken out again, leaves the set as it was
 pub insert_undone : (s : set.FinSet nat_cmp) (n : ℕ) → set.contains s n ≡ false → set.remove (set.insert s n) n ≡ s
 insert_undone s n h = same _ _ (λ q.
     set.contains-remove nat_cmp_total (set.insert s n) n q ∙ ap (λ b. not (eq_by_cmp nat_cmp q n) && b) (set.contains-insert nat_cmp_total s n q)
@@ -30,7 +31,7 @@ insert_undone s n h = same _ _ (λ q.
       | Greater ↦ λ _. refl
     ] refl)
 
--- a number that is not in a set can't be taken out
+-- to take out a number that isn't in a set leaves the set as it was
 pub remove_absent : (s : set.FinSet nat_cmp) (n : ℕ) → set.contains s n ≡ false → set.remove s n ≡ s
 remove_absent s n h = same _ _ (λ q. set.contains-remove nat_cmp_total s n q ∙ elim (nat_cmp q n) as (λ r. nat_cmp q n ≡ r → (not (is_eq r) && set.contains s q) ≡ set.contains s q) [
   | Less ↦ λ _. refl
@@ -38,34 +39,40 @@ remove_absent s n h = same _ _ (λ q. set.contains-remove nat_cmp_total s n q �
   | Greater ↦ λ _. refl
 ] refl)
 
+-- a number that was put in is in the set
 pub contains_inserted : (s : set.FinSet nat_cmp) (n : ℕ) → set.contains (set.insert s n) n ≡ true
 contains_inserted s n = set.contains-insert nat_cmp_total s n n ∙ ap (λ b. b || set.contains s n) (key_itself n)
 
 -- ---- how many
 
+-- a set with a number in it has at least one
 some : (n : ℕ) (t : set.FinSet nat_cmp) (k : ℕ) → set.len t ≡ n → set.contains t k ≡ true → 1 ≤ n
 some zero t k e h = absurd (false≢true (sym (set.contains-empty nat_cmp k) ∙ ap (λ u. set.contains u k) (sym (set.empty_of_len t e)) ∙ h))
 some (suc n) t k e h = omega arith
 
+-- a law of truth values: if "not a, and b" holds, a is false
 pub without_first : (a b : Bool) → (not a && b) ≡ true → a ≡ false
 without_first true b h = absurd (false≢true h)
 without_first false b h = refl
 
+-- a law of truth values: if "a or b" holds, and a is false, b is true
 pub rest_holds : (a b : Bool) → a ≡ false → (a || b) ≡ true → b ≡ true
 rest_holds true b e h = absurd (false≢true (sym e))
 rest_holds false b e h = h
 
+-- a law of truth values: "not a, and b" holds, if a is false and b true
 both_hold : (a b : Bool) → a ≡ false → b ≡ true → (not a && b) ≡ true
 both_hold true b e h = absurd (false≢true (sym e))
 both_hold false b e h = h
 
+-- counts m and n, each less one if its test holds, are in order; then so are m and n
 less_step : (a b : Bool) (m n : ℕ) → (a ≡ true → b ≡ true) → (b ≡ true → 1 ≤ n) → cond a (m - 1) m ≤ cond b (n - 1) n → m ≤ n
 less_step true true m n f g h = let l : 1 ≤ n = g refl in omega arith
 less_step true false m n f g h = absurd (false≢true (f refl))
 less_step false true m n f g h = omega arith
 less_step false false m n f g h = h
 
--- where a list has all of a set's numbers
+-- a set has no more numbers than one that has all of them, where a list has all of the first
 fewer : (ks : List ℕ) (s t : set.FinSet nat_cmp) → ((q : ℕ) → set.contains s q ≡ true → list_any (eq_by_cmp nat_cmp q) ks ≡ true) → ((q : ℕ) → set.contains s q ≡ true → set.contains t q ≡ true) → set.len s ≤ set.len t
 fewer [] s t all h =
     let none : s ≡ set.empty = same s set.empty (λ q. false_from_ne_true _ (λ e. false≢true (all q e)) ∙ sym (set.contains-empty nat_cmp q)) in
@@ -84,37 +91,44 @@ fewer (k ∷ ks) s t all h =
 pub len-within : (s t : set.FinSet nat_cmp) → ((q : ℕ) → set.contains s q ≡ true → set.contains t q ≡ true) → set.len s ≤ set.len t
 len-within s t h = fewer (set.items s) s t (λ q e. sym (set.contains-items s q) ∙ e) h
 
+-- a law of truth values: "b or false" is b
 pub nothing_more : (b : Bool) → (b || false) ≡ b
 nothing_more true = refl
 nothing_more false = refl
 
+-- a law of truth values: the first two of three may be swapped in "or"
 pub swapped : (a b c : Bool) → (a || (b || c)) ≡ (b || (a || c))
 swapped true true c = refl
 swapped true false c = refl
 swapped false b c = refl
 
+-- the union with the empty set is the set
 pub union-empty : (s : set.FinSet nat_cmp) → set.union s set.empty ≡ s
 union-empty s = same _ _ (λ q. set.contains-union nat_cmp_total s set.empty q ∙ ap (λ b. set.contains s q || b) (set.contains-empty nat_cmp q) ∙ nothing_more _)
 
+-- the union with a set that has k put in is the union with k put in
 pub union-insert : (s t : set.FinSet nat_cmp) (k : ℕ) → set.union s (set.insert t k) ≡ set.insert (set.union s t) k
 union-insert s t k = same _ _ (λ q.
     set.contains-union nat_cmp_total s (set.insert t k) q ∙ ap (λ b. set.contains s q || b) (set.contains-insert nat_cmp_total t k q) ∙ swapped (set.contains s q) (eq_by_cmp nat_cmp q k) (set.contains t q)
     ∙ sym (set.contains-insert nat_cmp_total (set.union s t) k q ∙ ap (λ b. eq_by_cmp nat_cmp q k || b) (set.contains-union nat_cmp_total s t q)))
 
+-- a law of truth values: "or" is associative
 pub joined : (a b c : Bool) → ((a || b) || c) ≡ (a || (b || c))
 joined true b c = refl
 joined false b c = refl
 
+-- the union of a set that has k put in with another is the union with k put in
 pub insert-union : (s t : set.FinSet nat_cmp) (k : ℕ) → set.union (set.insert s k) t ≡ set.insert (set.union s t) k
 insert-union s t k = same _ _ (λ q.
     set.contains-union nat_cmp_total (set.insert s k) t q ∙ ap (λ b. b || set.contains t q) (set.contains-insert nat_cmp_total s k q) ∙ joined (eq_by_cmp nat_cmp q k) (set.contains s q) (set.contains t q)
     ∙ sym (set.contains-insert nat_cmp_total (set.union s t) k q ∙ ap (λ b. eq_by_cmp nat_cmp q k || b) (set.contains-union nat_cmp_total s t q)))
 
+-- n or n + 1 is at most n + 1
 at_most : (b : Bool) (n : ℕ) → cond b n (n + 1) ≤ n + 1
 at_most true n = omega arith
 at_most false n = omega arith
 
--- a set with the numbers of a list has no more than both
+-- the union of a set with the numbers of a list has at most as many as both together
 pub len-union : (s : set.FinSet nat_cmp) (ks : List ℕ) → set.len (set.union s (set.from_list ks)) ≤ set.len s + length ks
 len-union s [] = let e : set.len (set.union s set.empty) ≡ set.len s = ap set.len (union-empty s) in omega (arith, e)
 len-union s (k ∷ ks) =
@@ -124,22 +138,27 @@ len-union s (k ∷ ks) =
     let l = at_most (set.contains (set.union s (set.from_list ks)) k) (set.len (set.union s (set.from_list ks))) in
     omega (arith, rest, e, l)
 
+-- a law of truth values: if a is true, so is "a or b"
 pub first : (a b : Bool) → a ≡ true → (a || b) ≡ true
 first true b h = refl
 first false b h = absurd (false≢true h)
 
 -- ---- the numbers of a list, which come one after another
+-- the union with a list's numbers is that of the set with the first put in, with the rest
 pub union-next : (s : set.FinSet nat_cmp) (k : ℕ) (ks : List ℕ) → set.union (set.insert s k) (set.from_list ks) ≡ set.union s (set.from_list (k ∷ ks))
 union-next s k ks = insert-union s (set.from_list ks) k ∙ sym (union-insert s (set.from_list ks) k)
 
+-- a set with a list's first number put in has no more numbers than with all of the list
 pub len-next : (s t : set.FinSet nat_cmp) (k : ℕ) (ks : List ℕ) → set.union s (set.from_list (k ∷ ks)) ≡ t → set.len (set.insert s k) ≤ set.len t
 len-next s t k ks h =
     len-within (set.insert s k) t (λ q e. ap (λ u. set.contains u q) (sym (union-next s k ks ∙ h)) ∙ set.contains-union nat_cmp_total (set.insert s k) (set.from_list ks) q ∙ first _ _ e)
 
+-- a count is at most one more than after a removal
 one_less : (b : Bool) (l r : ℕ) → r ≡ cond b (l - 1) l → l ≤ r + 1
 one_less true l r e = omega (arith, e)
 one_less false l r e = omega (arith, e)
 
+-- a number below m + 1 that isn't m is below m
 rest_below : (m k : ℕ) (there : Bool) → (not (eq_by_cmp nat_cmp k m) && there) ≡ true → (there ≡ true → k < m + 1) → k < m
 rest_below m k there h below = elim (nat_cmp k m) as (λ r. nat_cmp k m ≡ r → (not (is_eq r) && there) ≡ true → k < m) [
   | Less ↦ λ e yes. let l = ranked k m Less (sym e) in omega (arith, l)
@@ -147,7 +166,7 @@ rest_below m k there h below = elim (nat_cmp k m) as (λ r. nat_cmp k m ≡ r �
   | Greater ↦ λ e yes. let l = ranked k m Greater (sym e) in absurd (omega (arith, l, below yes))
 ] refl h
 
--- numbers that are all below another are, at most, as many as it says
+-- a set of numbers below `most` has at most `most` numbers
 pub len-below : (most : ℕ) (s : set.FinSet nat_cmp) → ((k : ℕ) → set.contains s k ≡ true → k < most) → set.len s ≤ most
 len-below zero s below =
     let none = len-within s set.empty (λ k there. absurd (omega (arith, below k there))) in
