@@ -1,4 +1,4 @@
--- Laws of lines.
+-- The lines of a text: how the first is split off, and at which index of the text it ends.
 use Rattle.atl_orders.proofs.WordLaws.{ends_further}
 use Rattle.std.proofs.Common.{Option, Some, None, IfSome, ◌≡◌, ◌≢◌, ℕ, zero, suc, ◌+◌, ◌-◌, ◌<◌, ◌≤◌, Bool, true, false, not, cond, List, [], ◌∷◌, ◌++◌, length, get_or, take, drop, map, refl, sym, ap, ◌∙◌, arith}
 use Rattle.std.specs.List.{position_or_len}
@@ -8,7 +8,7 @@ use Rattle.std.proofs.lemmas.Bool.{eq-eqb, ne_eqb}
 use Rattle.atl_orders.specs.Letters.{carriage_return}
 use Rattle.atl_orders.specs.Lines.{is_feed, with_front, pieces, without_return, lines}
 
--- a byte more: where the feed is, the first piece and the others
+-- the first piece of a text and the others, by whether its first byte is the line feed
 feed_step : (t : Bool) (b : ℕ) (bs : List ℕ) (m : ℕ) → cond (not t) (1 + m) 0 < suc (length bs) → (m < length bs → pieces bs ≡ take m bs ∷ pieces (drop (m + 1) bs)) → cond t ([] ∷ pieces bs) (with_front b (pieces bs)) ≡ take (cond (not t) (1 + m) 0) (b ∷ bs) ∷ pieces (drop (cond (not t) (1 + m) 0 + 1) (b ∷ bs))
 feed_step true b bs m h rest = refl
 feed_step false b bs m h rest =
@@ -16,29 +16,32 @@ feed_step false b bs m h rest =
     let two : 1 + m + 1 ≡ suc (m + 1) = omega arith in
     ap (with_front b) (rest (omega arith)) ∙ sym (rw (two, one) refl)
 
--- a text with a line feed
+-- a text with a line feed is split into what is before it and the pieces of what follows
 pub pieces-feed : (text : List ℕ) → position_or_len is_feed text < length text → pieces text ≡ take (position_or_len is_feed text) text ∷ pieces (drop (position_or_len is_feed text + 1) text)
 unfolding pieces
 pieces-feed [] h = absurd (omega arith)
 pieces-feed (b ∷ bs) h = feed_step (is_feed b) b bs (position_or_len is_feed bs) h (pieces-feed bs)
 
+-- a text without a line feed is one piece, by its first byte and the rest
 last_step : (t : Bool) (b : ℕ) (bs : List ℕ) (m : ℕ) → suc (length bs) ≤ cond (not t) (1 + m) 0 → (length bs ≤ m → pieces bs ≡ bs ∷ []) → cond t ([] ∷ pieces bs) (with_front b (pieces bs)) ≡ (b ∷ bs) ∷ []
 last_step true b bs m h rest = absurd (omega arith)
 last_step false b bs m h rest = ap (with_front b) (rest (omega arith))
 
--- a text without one
+-- a text without a line feed is one piece
 pub pieces-last : (text : List ℕ) → length text ≤ position_or_len is_feed text → pieces text ≡ text ∷ []
 unfolding pieces
 pieces-last [] h = refl
 pieces-last (b ∷ bs) h = last_step (is_feed b) b bs (position_or_len is_feed bs) h (pieces-last bs)
 
+-- the lines of a text with a line feed are the one before it and those of what follows
 pub lines-feed : (text : List ℕ) → position_or_len is_feed text < length text → lines text ≡ without_return (take (position_or_len is_feed text) text) ∷ lines (drop (position_or_len is_feed text + 1) text)
 lines-feed text h = ap (map without_return) (pieces-feed text h)
 
+-- a text without a line feed is one line
 pub lines-last : (text : List ℕ) → length text ≤ position_or_len is_feed text → lines text ≡ without_return text ∷ []
 lines-last text h = ap (map without_return) (pieces-last text h)
 
--- a carriage return at the end, and none
+-- a carriage return at the end of a line is cut off
 pub return_cut : (line : List ℕ) (n : ℕ) → length line ≡ n + 1 → get_or line n 0 ≡ carriage_return → without_return line ≡ take n line
 return_cut [] n e h = absurd (omega arith)
 return_cut (b ∷ []) zero e h = ap (λ t. cond t [] (b ∷ [])) (eq-eqb b carriage_return h)
@@ -46,35 +49,42 @@ return_cut (b ∷ []) (suc n) e h = absurd (omega arith)
 return_cut (b ∷ c ∷ bs) zero e h = absurd (omega arith)
 return_cut (b ∷ c ∷ bs) (suc n) e h = ap (λ l. b ∷ l) (return_cut (c ∷ bs) n (omega arith) h)
 
+-- a line whose last byte is no carriage return is kept, whatever its length
 kept : (line : List ℕ) → ((n : ℕ) → length line ≡ n + 1 → get_or line n 0 ≢ carriage_return) → without_return line ≡ line
 kept [] h = refl
 kept (b ∷ []) h = ap (λ t. cond t [] (b ∷ [])) (ne_eqb b carriage_return (h 0 (omega arith)))
 kept (b ∷ c ∷ bs) h = ap (λ l. b ∷ l) (kept (c ∷ bs) (λ n e. h (suc n) (omega arith)))
 
+-- a line whose last byte is no carriage return is kept
 pub return_kept : (line : List ℕ) → (0 < length line → get_or line (length line - 1) 0 ≢ carriage_return) → without_return line ≡ line
 return_kept line h = kept line (λ n e g. h (omega arith) (ap (λ k. get_or line k 0) (omega arith) ∙ g))
 
--- ---- where lines stand
+-- ---- where lines are in a text
 
+-- a text starts with itself
 pub all_front : (text : List ℕ) → StartsWith text text
 all_front text = record { back = []; whole = sym (append-nil text) }
 
+-- a text starts with its first n bytes
 pub take_front : (text : List ℕ) (n : ℕ) → StartsWith text (take n text)
 take_front text n = record { back = drop n text; whole = sym (take-append-drop n text) }
 
+-- what a start of a text starts with, the text starts with
 pub front_further : (text mid front : List ℕ) → StartsWith text mid → StartsWith mid front → StartsWith text front
 front_further text mid front a b = record { back = b.back ++ a.back; whole = a.whole ∙ ap (λ l. l ++ a.back) b.whole ∙ append_assoc front b.back a.back }
 
--- where a line ends that starts the rest of a text
+-- a line that starts the rest of a text ends at this index of the text
 pub line_place : (text left line : List ℕ) → EndsWith text left → StartsWith left line → EndsAt text (length text - length left + length line) line
 line_place text left line e s =
     let a : length text ≡ length e.front + length left = ap length e.whole ∙ length-append e.front left in
     let b : length (e.front ++ line) ≡ length e.front + length line = length-append e.front line in
     record { front = e.front; back = s.back; whole = e.whole ∙ ap (λ l. e.front ++ l) s.whole; place_is = omega arith }
 
+-- what a text starts with is no longer than it
 pub starts_shorter : (text front : List ℕ) → StartsWith text front → length front ≤ length text
 starts_shorter text front s = omega (arith, ap length s.whole, length-append front s.back)
 
+-- the rest of a rest of a text is at its end
 pub rest_further : (text left : List ℕ) (rest : Option (List ℕ)) → EndsWith text left → IfSome rest (EndsWith left) → IfSome rest (EndsWith text)
 rest_further text left None e r = tt
 rest_further text left (Some rest) e r = ends_further text left rest e r

@@ -1,4 +1,4 @@
--- What is read for an order keeps its bounds.
+-- An order that is read keeps its bounds.
 use Rattle.std.proofs.Common.{◌≡◌, ℕ, ◌<◌, ◌≤◌, ◌&&◌, Bool, true, false, cond, eqb, List, [], ◌∷◌, length, codes, Option, Some, None, Result, Ok, Err, nat_le, nat_lt, refl, arith}
 use Rattle.std.specs.List.{All, list_all}
 use Rattle.std.specs.Char.{is_ascii_digit}
@@ -26,53 +26,65 @@ use Rattle.atl_orders.specs.Verbs.{row_of}
 use Rattle.atl_orders.specs.Orders.{OperandsValue, OrderValue, kind_of_name, read_alias, read_flag, read_number, read_unit, read_units, read_unit_and_number, read_unit_and_goods, read_goods, read_name, read_direction, read_kind, read_skill, read_item, read_operands, said_by}
 use Rattle.atl_orders.specs.Bounds.{IsWithin, IsNumber, IsAlias, IsUnitRef, AreOperandsOf, IsOrderOf}
 
--- what holds of a value that was read
+-- P holds of the value of a result; of a fault nothing is said
 abbrev pub Holds : {X : Type 0} → (X → Type 0) → Result X LineFault → Type 0
 Holds P (Ok x) = P x
 Holds P (Err e) = Unit {0}
 
+-- what holds of each next step's value holds of the value of both steps
 after : {A B : Type 0} (P : A → Type 0) (Q : B → Type 0) (r : Result A LineFault) (f : A → Result B LineFault) → Holds P r → ((x : A) → P x → Holds Q (f x)) → Holds Q (r >>= f)
 after P Q (Ok x) f h g = g x h
 after P Q (Err e) f h g = tt
 
+-- what holds of a value that is there holds of it where a fault is given otherwise
 found : {X : Type 0} (P : X → Type 0) (fault : LineFault) (o : Option X) → ((x : X) → o ≡ Some x → P x) → Holds P (or_fault fault o)
 found P fault None g = tt
 found P fault (Some x) g = g x refl
 
+-- what holds of two results holds of a choice of them
 either : {X : Type 0} (P : X → Type 0) (t : Bool) (a b : Result X LineFault) → Holds P a → Holds P b → Holds P (cond t a b)
 either P true a b h k = h
 either P false a b h k = k
 
+-- of every result something trivial holds
 anything : {X : Type 0} (r : Result X LineFault) → Holds (λ _. Unit {0}) r
 anything (Ok x) = tt
 anything (Err e) = tt
 
 -- ---- numbers
 
+-- a number that is returned if a test passes is at most `most`, if the test says so
 chosen : (t : Bool) (v n most : ℕ) → (t ≡ true → v ≤ most) → cond t (Some v) None ≡ Some n → n ≤ most
 chosen true v n most f h = let e : v ≡ n = cc in omega (arith, f refl)
 chosen false v n most f h = cc
 
+-- the last of three tests says that v is at most `most`
 last_test : (a b : Bool) (v most : ℕ) → (a && b && nat_le v most) ≡ true → v ≤ most
 last_test a b v most h = grind (arith, nat_tests)
 
+-- a number that a word writes is at most `most`
 pub number_within : (most : ℕ) (bytes : List ℕ) (n : ℕ) → number_of most bytes ≡ Some n → n ≤ most
 number_within most bytes n h = chosen (nat_lt 0 (length bytes) && list_all is_ascii_digit bytes && nat_le (digits_value 10 bytes) most) (digits_value 10 bytes) n most (last_test (nat_lt 0 (length bytes)) (list_all is_ascii_digit bytes) (digits_value 10 bytes) most) h
 
+-- a number that isn't 0 is at least 1
 positive : (t : Bool) (k n : ℕ) → eqb k 0 ≡ t → cond t None (Some k) ≡ Some n → (1 ≤ n) × (k ≡ n)
 positive true k n e h = cc
 positive false k n e h = let same : k ≡ n = cc in let some : 1 ≤ k = grind (arith, nat_tests) in (omega arith, same)
 
+-- a number that is at most `most` and not 0 is from 1 to `most`
 pub from_one : (most : ℕ) (o : Option ℕ) (n : ℕ) → ((k : ℕ) → o ≡ Some k → k ≤ most) → not_zero o ≡ Some n → IsWithin most n
 from_one most None n f h = cc
 from_one most (Some k) n f h = let p = positive (eqb k 0) k n refl h in let m : k ≤ most = f k refl in let e : k ≡ n = p.1 in (p.0, omega arith)
 
+-- the number of a word that isn't 0 is from 1 to `most`
 word_number : (most : ℕ) (fault : LineFault) (w : WordText) → Holds (IsWithin most) (or_fault fault (not_zero (number_of most w.bytes)))
 word_number most fault w = found (IsWithin most) fault (not_zero (number_of most w.bytes)) (λ n h. from_one most (number_of most w.bytes) n (number_within most w.bytes) h)
 
+-- a number that was read, and the words after it
 abbrev pub Counted : Type 0
 Counted = ℕ × List WordText
 
+-- a number that is read is from 1 to `most`
 pub count_holds : (most : ℕ) (fault : LineFault) (ws : List WordText) → Holds (λ (x : Counted). IsWithin most x.0) (count_at most fault ws)
 unfolding count_at
 count_holds most fault [] = tt
@@ -80,9 +92,11 @@ count_holds most fault (w ∷ ws) = after (IsWithin most) _ (or_fault fault (not
 
 -- ---- units
 
+-- a unit that was read, and the words after it
 abbrev UnitRead : Type 0
 UnitRead = UnitRef × List WordText
 
+-- a unit that is read has its number or alias in range
 unit_holds : (ws : List WordText) → Holds (λ (x : UnitRead). IsUnitRef x.0) (unit_at ws)
 unfolding unit_at
 unit_holds [] = tt
@@ -91,15 +105,19 @@ unit_holds (w ∷ ws) =
     (after (λ (x : Counted). IsAlias x.0) _ (alias_at ws) _ (count_holds last_alias BadAlias ws) (λ n h. h))
     (after (λ (x : Counted). IsNumber x.0) _ (number_at (w ∷ ws)) _ (count_holds most_number BadNumber (w ∷ ws)) (λ n h. h))
 
+-- a list of units with one more in front has all in range, if both have
 and_then : (unit : Result UnitRef LineFault) (units : Result (List UnitRef) LineFault) → Holds IsUnitRef unit → Holds (All IsUnitRef) units → Holds (All IsUnitRef) (and_then_units unit units)
 and_then unit units h k = after IsUnitRef _ unit _ h (λ u p. after (All IsUnitRef) _ units _ k (λ us q. All-cons IsUnitRef u us p q))
 
+-- a unit by number is in range
 numbered_holds : (w : WordText) → Holds IsUnitRef (numbered w)
 numbered_holds w = after IsNumber _ (or_fault BadNumber (not_zero (number_of most_number w.bytes))) _ (word_number most_number BadNumber w) (λ n h. h)
 
+-- a unit by alias is in range
 named_holds : (w : WordText) → Holds IsUnitRef (new_unit_ref w)
 named_holds w = after IsAlias _ (or_fault BadAlias (not_zero (number_of last_alias w.bytes))) _ (word_number last_alias BadAlias w) (λ n h. h)
 
+-- all units up to the line's end are in range
 units_hold : (ws : List WordText) → Holds (All IsUnitRef) (units_of ws)
 unfolding units_of
 units_hold [] = All-nil IsUnitRef
@@ -111,29 +129,35 @@ units_hold (w ∷ v ∷ ws) =
 
 -- ---- things of the world
 
+-- the index of the thing that a word names is less than how many there are
 place_within : {A : Type 0} (title : A → List ℕ) (things : List A) (word : List ℕ) (quoted : Bool) (i : ℕ) → index_named title things word quoted ≡ Some i → i < length things
 place_within title [] word quoted i h = cc
 place_within title (x ∷ xs) word quoted i h = (position-Some (λ thing. str_eq_ignore_ascii_case (title thing) (name_of word quoted)) (x ∷ xs) i x h).0
 
+-- an item that is read is one of the world
 item_holds : (world : WorldValue) (ws : List WordText) → Holds (λ i. i < length world.items) (item_at world ws)
 unfolding item_at
 item_holds world [] = tt
 item_holds world (w ∷ ws) = found _ UnknownThing _ (λ i h. place_within _ world.items w.bytes w.quoted i h)
 
+-- an amount and an item
 abbrev Goods : Type 0
 Goods = ℕ × ℕ
 
+-- an amount that is read is in range, and its item one of the world
 goods_hold : (world : WorldValue) (ws : List WordText) → Holds (λ (x : Goods). IsNumber x.0 × (x.1 < length world.items)) (amount_of_item_at world ws)
 unfolding amount_of_item_at
 goods_hold world ws =
     after (λ (x : Counted). IsNumber x.0) _ (number_at ws) _ (count_holds most_number BadNumber ws) (λ amount h.
     after (λ i. i < length world.items) _ (item_at world amount.1) _ (item_holds world amount.1) (λ item k. (h, k)))
 
+-- a skill that is read is one of the world
 skill_holds : (world : WorldValue) (ws : List WordText) → Holds (λ i. i < length world.skills) (skill_at world ws)
 unfolding skill_at
 skill_holds world [] = tt
 skill_holds world (w ∷ ws) = found _ UnknownThing _ (λ i h. place_within _ world.skills w.bytes w.quoted i h)
 
+-- a kind of structure that is read is one of the world
 kind_holds : (world : WorldValue) (ws : List WordText) → Holds (λ i. i < length world.kinds) (kind_at world ws)
 unfolding kind_at
 kind_holds world [] = tt
@@ -141,9 +165,11 @@ kind_holds world (w ∷ ws) = found _ UnknownThing _ (λ i h. place_within _ wor
 
 -- ---- what the words after a verb name
 
+-- the operands of a result are in bounds, in this world
 abbrev AreSound : WorldValue → Result OperandsValue LineFault → Type 0
 AreSound world r = Holds (AreOperandsOf world) r
 
+-- the order of a result is in bounds, in this world
 abbrev pub Sound : WorldValue → Result OrderValue LineFault → Type 0
 Sound world r = Holds (IsOrderOf world) r
 
@@ -166,12 +192,15 @@ module _ (world : WorldValue) where
   unfolding read_unit
   unit_sound ws = after _ (AreOperandsOf world) (unit_at ws) _ (unit_holds ws) (λ u h. h)
 
+  -- one unit or more, all in range
   abbrev Units : List UnitRef → Type 0
   Units units = (0 < length units) × All IsUnitRef units
 
+  -- a list of units with one more in front is one unit or more, all in range
   more_units : (unit : Result UnitRef LineFault) (units : Result (List UnitRef) LineFault) → Holds IsUnitRef unit → Holds (All IsUnitRef) units → Holds Units (and_then_units unit units)
   more_units unit units h k = after IsUnitRef Units unit _ h (λ u p. after (All IsUnitRef) Units units _ k (λ us q. (omega arith, All-cons IsUnitRef u us p q)))
 
+  -- the units up to the line's end are one or more, all in range
   some_hold : (ws : List WordText) → Holds Units (some_units_at ws)
   unfolding some_units_at units_of
   some_hold [] = tt
@@ -230,6 +259,7 @@ module _ (world : WorldValue) where
   unfolding read_item
   item_sound ws = after _ (AreOperandsOf world) (item_at world ws) _ (item_holds world ws) (λ item h. h)
 
+  -- what the words after a verb name is in bounds, whatever the shape
   operands_sound : (shape : Shape) (ws : List WordText) → AreSound world (read_operands world shape ws)
   operands_sound shapes.Nothing ws = tt
   operands_sound shapes.Alias ws = alias_sound ws
@@ -246,6 +276,7 @@ module _ (world : WorldValue) where
   operands_sound shapes.Skill ws = skill_sound ws
   operands_sound shapes.Item ws = item_sound ws
 
+  -- the order that a verb and the words after it give is in bounds
   pub said_sound : (verb : Verb) (ws : List WordText) → Sound world (said_by world verb ws)
   unfolding said_by
   said_sound verb ws = after (AreOperandsOf world) (IsOrderOf world) (read_operands world (row_of verb).shape ws) _ (operands_sound (row_of verb).shape ws) (λ os h. h)

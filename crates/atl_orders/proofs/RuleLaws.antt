@@ -1,4 +1,4 @@
--- The rules and the function of a line are one, and so for all lines.
+-- What the function gives for a line, and for all lines after a header, is what the rules give, and nothing else.
 use Rattle.std.proofs.Common.{◌≡◌, ℕ, ◌+◌, ◌++◌, Bool, true, false, cond, List, [], ◌∷◌, codes, Option, Some, None, Result, Ok, Err, refl, ap, ◌∙◌}
 use Rattle.std.specs.List.{list_all, flat_map}
 use Rattle.atl_tables.specs.Worlds.{WorldValue}
@@ -18,17 +18,20 @@ use Rattle.atl_orders.specs.Reading.{is_plain, outside, Effect, nothing, faulty,
 use Rattle.atl_orders.specs.Mailing.{EntryValue, entry_of, fault_of, effects}
 use Rattle.atl_orders.specs.Rules.{step, outer, WordsSay, unit_named, unit_faulty, block_closed, end_alone, form_nested, form_nowhere, form_faulty, form_again, form_new, order_nowhere, order_faulty, order_said, unknown, LineSays, bad_byte, no_word, some_words, BodySays, text_ended, orders_ended, one_line, entries_from, faults_from}
 
+-- the result of reading a number, with the words after it
 abbrev Counted : Type 0
 Counted = Result (ℕ × List WordText) LineFault
 
 -- ---- what the function gives fits the rules
 
 module _ (world : WorldValue) (given : ℕ → Bool) (w : WordText) (ws : List WordText) where
+  -- the step of a UNIT line fits a rule
   unit_fits : (place : ReaderState) (r : Counted) → keyword_of w ≡ Some keywords.Unit → number_at ws ≡ r → WordsSay world place given w ws (unit_step given r)
   unfolding unit_step
   unit_fits place (Ok n) k h = unit_named k n.0 n.1 h refl
   unit_fits place (Err fault) k h = unit_faulty k fault h refl
 
+  -- the step of an END line fits a rule
   end_fits : (place : ReaderState) → keyword_of w ≡ Some keywords.End → WordsSay world place given w ws (end_step place given)
   unfolding end_step
   end_fits Nowhere k = end_alone k refl refl
@@ -36,16 +39,19 @@ module _ (world : WorldValue) (given : ℕ → Bool) (w : WordText) (ws : List W
   end_fits (Forming parent alias) k = block_closed k (At parent) refl refl
   end_fits (Skipping parent) k = block_closed k _ refl refl
 
+  -- the step of a FORM line with an alias fits a rule, whether the alias was given before or not
   given_fits : (n : ℕ) (alias : ℕ) (rest : List WordText) (t : Bool) → keyword_of w ≡ Some keywords.Form → alias_at ws ≡ Ok (alias, rest) → given alias ≡ t → WordsSay world (At n) given w ws (block_step n given (Ok (alias, rest)))
   unfolding block_step
   given_fits n alias rest true k h g = rw g (form_again k n refl alias rest h g refl)
   given_fits n alias rest false k h g = rw g (form_new k n refl alias rest h g refl)
 
+  -- the step of a FORM line outside of blocks fits a rule
   block_fits : (n : ℕ) (r : Counted) → keyword_of w ≡ Some keywords.Form → alias_at ws ≡ r → WordsSay world (At n) given w ws (block_step n given r)
   unfolding block_step
   block_fits n (Ok a) k h = given_fits n a.0 a.1 (given a.0) k h refl
   block_fits n (Err fault) k h = form_faulty k n refl fault h refl
 
+  -- the step of a FORM line fits a rule
   form_fits : (place : ReaderState) → keyword_of w ≡ Some keywords.Form → WordsSay world place given w ws (form_step place given ws)
   unfolding form_step
   form_fits Nowhere k = form_nowhere k refl refl
@@ -53,11 +59,13 @@ module _ (world : WorldValue) (given : ℕ → Bool) (w : WordText) (ws : List W
   form_fits (Forming parent alias) k = form_nested k (At parent) refl refl
   form_fits (Skipping parent) k = form_nested k _ refl refl
 
+  -- the step of an order's line fits a rule
   order_fits : (place : ReaderState) (verb : Verb) (t : Option UnitRef) (r : Result OrderValue LineFault) → keyword_of w ≡ Some (keywords.Order verb) → target place ≡ t → said_by world verb ws ≡ r → WordsSay world place given w ws (step (order_effect t r) place given)
   order_fits place verb None r k h e = order_nowhere verb k h refl
   order_fits place verb (Some unit) (Ok order_value) k h e = order_said verb k unit h order_value e refl
   order_fits place verb (Some unit) (Err fault) k h e = order_faulty verb k unit h fault e refl
 
+  -- the step of a line by its keyword fits a rule
   words_fit : (place : ReaderState) (k : Option Keyword) → keyword_of w ≡ k → WordsSay world place given w ws (keyword_step world place given k ws)
   unfolding keyword_step
   words_fit place None h = unknown h refl
@@ -66,12 +74,14 @@ module _ (world : WorldValue) (given : ℕ → Bool) (w : WordText) (ws : List W
   words_fit place (Some keywords.Form) h = form_fits place h
   words_fit place (Some (keywords.Order verb)) h = order_fits place verb (target place) (said_by world verb ws) h refl refl
 
+-- the step of a line fits a rule, whether its bytes are allowed or not
 tested_fits : (t : Bool) (l : List WordText) (world : WorldValue) (place : ReaderState) (given : ℕ → Bool) (line : List ℕ) → list_all is_plain line ≡ t → words line ≡ l → LineSays world place given line (cond t (words_step world place given l) (step (faulty BadByte) place given))
 unfolding words_step
 tested_fits false l world place given line a b = bad_byte a refl
 tested_fits true [] world place given line a b = no_word a b refl
 tested_fits true (w ∷ ws) world place given line a b = some_words a w ws b (words_fit world given w ws place (keyword_of w) refl)
 
+-- the step of a line by the function fits a rule
 pub line_fits : (world : WorldValue) (place : ReaderState) (given : ℕ → Bool) (line : List ℕ) → LineSays world place given line (line_step world place given line)
 unfolding line_step
 line_fits world place given line = tested_fits (list_all is_plain line) (words line) world place given line refl refl
@@ -79,6 +89,7 @@ line_fits world place given line = tested_fits (list_all is_plain line) (words l
 -- ---- and nothing else does
 
 module _ (given : ℕ → Bool) where
+  -- the rule for END in a block gives what the function gives
   closed : (place out : ReaderState) → outer place ≡ Some out → step nothing out given ≡ end_step place given
   unfolding end_step
   closed Nowhere out h = cc
@@ -86,6 +97,7 @@ module _ (given : ℕ → Bool) where
   closed (Forming parent alias) out h = let e : out ≡ At parent = cc in ap (λ p. step nothing p given) e
   closed (Skipping parent) out h = let e : out ≡ outside parent = cc in ap (λ p. step nothing p given) e
 
+  -- the rule for END outside of blocks gives what the function gives
   alone : (place : ReaderState) → outer place ≡ None → step (faulty EndAlone) place given ≡ end_step place given
   unfolding end_step
   alone Nowhere h = refl
@@ -93,6 +105,7 @@ module _ (given : ℕ → Bool) where
   alone (Forming parent alias) h = cc
   alone (Skipping parent) h = cc
 
+  -- the rule for FORM in a block gives what the function gives
   nested : (place out : ReaderState) (ws : List WordText) → outer place ≡ Some out → step (faulty NestedForm) place given ≡ form_step place given ws
   unfolding form_step
   nested Nowhere out ws h = cc
@@ -100,6 +113,7 @@ module _ (given : ℕ → Bool) where
   nested (Forming parent alias) out ws h = refl
   nested (Skipping parent) out ws h = refl
 
+-- a step that fits a rule for words is the one that the function gives
 words_only : (world : WorldValue) (place : ReaderState) (given : ℕ → Bool) (w : WordText) (ws : List WordText) (s : LineStep) → WordsSay world place given w ws s → s ≡ keyword_step world place given (keyword_of w) ws
 unfolding keyword_step unit_step form_step block_step
 words_only world place given w ws s (unit_named k n rest h e) = rw (k, h) e
@@ -116,6 +130,7 @@ words_only world place given w ws s (order_faulty verb k unit t fault h e) = rw 
 words_only world place given w ws s (order_said verb k unit t order_value h e) = rw (k, t, h) e
 words_only world place given w ws s (unknown k e) = rw k e
 
+-- a step that fits a rule for a line is the one that the function gives
 pub line_only : (world : WorldValue) (place : ReaderState) (given : ℕ → Bool) (line : List ℕ) (s : LineStep) → LineSays world place given line s → s ≡ line_step world place given line
 unfolding line_step words_step
 line_only world place given line s (bad_byte a e) = rw a e
@@ -124,12 +139,14 @@ line_only world place given line s (some_words a w ws b r) = rw (a, b) (words_on
 
 -- ---- all lines
 
+-- one more line fits the rules for lines, whether it is `#END` or not
 body_test : (t : Bool) (world : WorldValue) (n : ℕ) (place : ReaderState) (given : ℕ → Bool) (line : List ℕ) (rest : List (List ℕ)) (s : LineStep) (more : List (ℕ × Effect)) → begins (codes "#END") (words line) ≡ t → LineSays world place given line s
     → BodySays world (n + 1) s.place s.given rest (flat_map entry_of more) (flat_map fault_of more)
     → BodySays world n place given (line ∷ rest) (flat_map entry_of (cond t [] ((n, s.effect) ∷ more))) (flat_map fault_of (cond t [] ((n, s.effect) ∷ more)))
 body_test true world n place given line rest s more h r b = orders_ended n place given line rest h
 body_test false world n place given line rest s more h r b = one_line n place given line rest h s r _ _ b
 
+-- the orders and faults of lines by the function fit the rules
 pub body_fits : (world : WorldValue) (n : ℕ) (place : ReaderState) (given : ℕ → Bool) (lines : List (List ℕ)) → BodySays world n place given lines (entries_from world n place given lines) (faults_from world n place given lines)
 unfolding effects
 body_fits world n place given [] = text_ended n place given
@@ -137,6 +154,7 @@ body_fits world n place given (line ∷ rest) =
     let s = line_step world place given line in
     body_test (begins (codes "#END") (words line)) world n place given line rest s _ refl (line_fits world place given line) (body_fits world (n + 1) s.place s.given rest)
 
+-- orders and faults of lines that fit the rules are those by the function
 only_body : (world : WorldValue) {n : ℕ} {place : ReaderState} {given : ℕ → Bool} {lines : List (List ℕ)} {entries : List EntryValue} {faults : List FaultyLine} → BodySays world n place given lines entries faults → (entries ≡ entries_from world n place given lines) × (faults ≡ faults_from world n place given lines)
 unfolding effects
 only_body world (text_ended n place given) = (refl, refl)
@@ -146,5 +164,6 @@ only_body world (one_line n place given line rest h s r entries faults b) =
     let more = only_body world b in
     rw (h, ← e) (ap (λ l. entry_of (n, s.effect) ++ l) more.0, ap (λ l. fault_of (n, s.effect) ++ l) more.1)
 
+-- orders and faults of lines that fit the rules are those by the function
 pub body_only : (world : WorldValue) (n : ℕ) (place : ReaderState) (given : ℕ → Bool) (lines : List (List ℕ)) (entries : List EntryValue) (faults : List FaultyLine) → BodySays world n place given lines entries faults → (entries ≡ entries_from world n place given lines) × (faults ≡ faults_from world n place given lines)
 body_only world n place given lines entries faults b = only_body world b

@@ -1,4 +1,4 @@
--- Who a mailing is of.
+-- A text that is read as a mailing is one of the faction that its header names.
 use Rattle.std.proofs.Common.{◌≡◌, ◌≤◌, Bool, true, false, cond, List, ℕ, length, Result, Ok, Err, nat_lt, refl, ap, ◌∙◌, arith}
 use Rattle.std.proofs.lemmas.Bool.Decides.{nat_tests}
 use Rattle.atl_orders.specs.Limits.{most_bytes}
@@ -8,19 +8,22 @@ use Rattle.atl_orders.specs.declared.fault.MailFault.TheVariants.{TooLong}
 use Rattle.atl_orders.specs.Lines.{lines}
 use Rattle.atl_orders.specs.Mailing.{HeaderValue, header_from, Reading, after_header, reading, IsMailingOf}
 
+-- two readings are the same, if they are as results
 one_reading : (a b : Reading) → ◌≡◌ {A = Result Reading MailFault} (Ok a) (Ok b) → a ≡ b
 one_reading a b e = cc
 
 module _ (world : WorldValue) (text : List ℕ) (r : Reading) where
+  -- a text that is short enough, and whose header gives the reading, is a mailing of its faction
   sent : (header_value : Result HeaderValue MailFault) → header_from 1 (lines text) ≡ header_value → length text ≤ most_bytes → after_header world header_value ≡ Ok r → IsMailingOf r.faction text
   sent (Ok h) is short e = record { short = short; header = (h.next, h.rest, is ∙ ap (λ n. Ok (record { faction = n; next = h.next; rest = h.rest })) (ap (λ (x : Reading). x.faction) (one_reading _ r e))) }
   sent (Err fault) is short e = cc
 
+  -- a text that is read is a mailing of its faction, by whether it is too long
   tested : (long : Bool) → nat_lt most_bytes (length text) ≡ long → cond long (Err TooLong) (after_header world (header_from 1 (lines text))) ≡ Ok r → IsMailingOf r.faction text
   tested true is e = cc
   tested false is e = sent (header_from 1 (lines text)) refl (grind (arith, nat_tests)) e
 
-  -- a text that is read is a mailing of the faction that the reading tells
+  -- a text that is read is a mailing of the faction that the reading has
   pub read_is_mailing : reading world text ≡ Ok r → IsMailingOf r.faction text
   unfolding reading
   read_is_mailing e = tested (nat_lt most_bytes (length text)) refl e

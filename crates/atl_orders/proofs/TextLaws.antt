@@ -1,4 +1,4 @@
--- The rules of a whole text and the reading are one.
+-- The reading of a whole text by the function is what the rules give, and nothing else.
 use Rattle.std.proofs.Common.{◌≡◌, ℕ, suc, ◌+◌, ◌<◌, ◌≤◌, ◌++◌, Bool, true, false, cond, List, [], ◌∷◌, length, Option, Some, None, Result, Err, nat_lt, refl, sym, ap, ◌∙◌, arith}
 use Rattle.std.proofs.lemmas.Bool.Decides.{nat_tests}
 use Rattle.std.proofs.lemmas.List.Elements.{All-nil, All-cons, All-head, All-tail}
@@ -14,44 +14,51 @@ use Rattle.atl_orders.specs.Mailing.{faction_of, header_line, header_from, Readi
 use Rattle.atl_orders.specs.Rules.{is_header, HaveNoHeader, HaveHeader, TextSays, too_long, no_header, bad_header, mailing}
 use Rattle.atl_orders.proofs.RuleLaws.{body_fits, body_only}
 
+-- a line is no header
 abbrev IsOutside : List ℕ → Type 0
 IsOutside line = is_header line ≡ false
 
--- ---- the header of some lines, of which the first has the number n
+-- ---- the first header of lines
 
--- there is none, or the first one
+-- lines from the number n on have no header, or a first one, and the function gives what it gives
 data Found (n : ℕ) (all : List (List ℕ)) : Type 0 where
   none : HaveNoHeader all → header_from n all ≡ Err NoHeader → Found n all
   one : (before : List (List ℕ)) (header : List ℕ) (behind : List (List ℕ)) → HaveHeader all before header behind
       → header_from n all ≡ header_line (length before + n) behind (faction_of (words header)) → Found n all
 
+-- the number of a line after one more line
 later : (n k : ℕ) → k + (n + 1) ≡ suc k + n
 later n k = omega arith
 
+-- the number of the first line
 from_none : (n : ℕ) → 0 + n ≡ n
 from_none n = omega arith
 
+-- a line that is no header, in front of lines, leaves their first header the first
 more : (n : ℕ) (line : List ℕ) (rest : List (List ℕ)) → IsOutside line → header_from n (line ∷ rest) ≡ header_from (n + 1) rest → Found (n + 1) rest → Found n (line ∷ rest)
 more n line rest h e (none a f) = none (All-cons IsOutside line rest h a) (e ∙ f)
 more n line rest h e (one before header behind is f) =
     one (line ∷ before) header behind (record { whole = ap (λ l. line ∷ l) is.whole; leads = is.leads; first = All-cons IsOutside line before h is.first })
     (e ∙ f ∙ ap (λ k. header_line k behind (faction_of (words header))) (later n (length before)))
 
+-- the first header of lines, by whether the first line is one
 tested : (t : Bool) (n : ℕ) (line : List ℕ) (rest : List (List ℕ)) → is_header line ≡ t → header_from n (line ∷ rest) ≡ cond t (header_line n rest (faction_of (words line))) (header_from (n + 1) rest) → Found (n + 1) rest → Found n (line ∷ rest)
 tested true n line rest h e f = one [] line rest (record { whole = refl; leads = h; first = All-nil IsOutside }) (e ∙ ap (λ k. header_line k rest (faction_of (words line))) (sym (from_none n)))
 tested false n line rest h e f = more n line rest h e f
 
+-- lines have no header, or a first one
 found : (n : ℕ) (all : List (List ℕ)) → Found n all
 unfolding header_from
 found n [] = none (All-nil IsOutside) refl
 found n (line ∷ rest) = tested (is_header line) n line rest refl refl (found (n + 1) rest)
 
--- no line, and the first one, give what the function gives
+-- lines without a header give NoHeader
 no_one : (n : ℕ) (all : List (List ℕ)) → HaveNoHeader all → header_from n all ≡ Err NoHeader
 unfolding header_from
 no_one n [] a = refl
 no_one n (line ∷ rest) a = rw (All-head IsOutside line rest a) (no_one (n + 1) rest (All-tail IsOutside line rest a))
 
+-- lines with a header give what the first header gives
 first_one : (n : ℕ) (before : List (List ℕ)) (header : List ℕ) (behind : List (List ℕ)) → HaveNoHeader before → is_header header ≡ true → header_from n (before ++ header ∷ behind) ≡ header_line (length before + n) behind (faction_of (words header))
 unfolding header_from
 first_one n [] header behind a h = rw h (ap (λ k. header_line k behind (faction_of (words header))) (sym (from_none n)))
@@ -59,36 +66,45 @@ first_one n (line ∷ before) header behind a h = rw (All-head IsOutside line be
 
 -- ---- a whole text
 
+-- the number of the line after a header
 numbered : (k : ℕ) → k + 1 + 1 ≡ k + 2
 numbered k = omega arith
 
 module _ (world : WorldValue) (text : List ℕ) where
+  -- what a text with a header gives fits the rules, whether the header names a faction or not
   headed_fits : (o : Option ℕ) → length text ≤ most_bytes → (before : List (List ℕ)) (header : List ℕ) (behind : List (List ℕ)) → HaveHeader (lines text) before header behind → faction_of (words header) ≡ o → TextSays world text (after_header world (header_line (length before + 1) behind o))
   headed_fits None s before header behind is f = bad_header s before header behind is f refl
   headed_fits (Some faction) s before header behind is f =
       rw (numbered (length before)) (mailing s before header behind is faction f _ _ (body_fits world (length before + 2) Nowhere no_alias behind) refl)
 
+  -- what a text of allowed length gives fits the rules, whether it has a header or not
   found_fits : length text ≤ most_bytes → Found 1 (lines text) → TextSays world text (after_header world (header_from 1 (lines text)))
   found_fits s (none a e) = rw e (no_header s a refl)
   found_fits s (one before header behind is e) = rw e (headed_fits (faction_of (words header)) s before header behind is refl)
 
+  -- what a text gives fits the rules, whether it is too long or not
   sized_fits : (t : Bool) → nat_lt most_bytes (length text) ≡ t → TextSays world text (cond t (Err TooLong) (after_header world (header_from 1 (lines text))))
   sized_fits true h = too_long (grind (arith, nat_tests)) refl
   sized_fits false h = found_fits (grind (arith, nat_tests)) (found 1 (lines text))
 
+  -- the reading of a text by the function fits the rules
   pub text_fits : TextSays world text (reading world text)
   unfolding reading
   text_fits = sized_fits (nat_lt most_bytes (length text)) refl
 
+  -- a text with too many bytes fails the test of its length
   long_is : most_bytes < length text → nat_lt most_bytes (length text) ≡ true
   long_is h = grind (arith, nat_tests)
 
+  -- a text with at most that many bytes passes the test of its length
   short_is : length text ≤ most_bytes → nat_lt most_bytes (length text) ≡ false
   short_is h = grind (arith, nat_tests)
 
+  -- a text with a header gives what its first header gives
   first_is : (before : List (List ℕ)) (header : List ℕ) (behind : List (List ℕ)) → HaveHeader (lines text) before header behind → header_from 1 (lines text) ≡ header_line (length before + 1) behind (faction_of (words header))
   first_is before header behind is = ap (header_from 1) is.whole ∙ first_one 1 before header behind is.first is.leads
 
+  -- a reading of a text that fits the rules is the one by the function
   pub text_only : (read : Result Reading MailFault) → TextSays world text read → read ≡ reading world text
   unfolding reading
   text_only read (too_long h e) = rw (long_is h) e

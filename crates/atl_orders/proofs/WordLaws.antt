@@ -1,4 +1,4 @@
--- Laws of words.
+-- The words of a line, one by one, and where they are in the text.
 use Rattle.std.proofs.Common.{◌≡◌, ℕ, zero, suc, ◌+◌, ◌*◌, ◌-◌, ◌<◌, ◌≤◌, Bool, ◌||◌, not, true, false, cond, eqb, List, [], ◌∷◌, ◌++◌, length, get_or, take, drop, min, Some, None, nat_lt, refl, sym, ap, ◌∙◌, arith}
 use Rattle.std.specs.List.{slice_range, position, position_or_len, before_first}
 use Rattle.std.specs.Option.{unwrap_or}
@@ -15,43 +15,51 @@ use Rattle.atl_orders.specs.Letters.{semicolon}
 use Rattle.atl_orders.specs.Words.{is_blank, is_quote, ends_word, words_after, words}
 use Rattle.atl_orders.specs.Standing.{IsPartOf, EndsWith, EndsAt}
 
--- ---- the place of the first that passes, or the length
+-- ---- the index of the first that passes, or the length
 
+-- an index that may be missing, or else the length
 placed : (t : Bool) (n m : ℕ) → nat_lt n m ≡ t → n ≤ m → unwrap_or (cond t (Some n) None) m ≡ n
 placed true n m h l = refl
 placed false n m h l = grind (arith, nat_tests)
 
+-- the index of the first that passes, or the length, is at most the length
 pub found_within : {X : Type 0} (p : X → Bool) (xs : List X) → position_or_len p xs ≤ length xs
 found_within p xs = prefix_len-le-length (λ x. not (p x)) xs
 
+-- the position, or else the length, is `position_or_len`
 pub found_or_len : {X : Type 0} (p : X → Bool) (xs : List X) → unwrap_or (position p xs) (length xs) ≡ position_or_len p xs
 found_or_len p xs = placed (nat_lt (position_or_len p xs) (length xs)) (position_or_len p xs) (length xs) refl (found_within p xs)
 
 -- ---- words
 
+-- the words after the first `skip` bytes are those of the rest
 pub words_after-drop : (skip : ℕ) (line : List ℕ) → words_after skip line ≡ words (drop skip line)
 unfolding words_after
 words_after-drop zero line = refl
 words_after-drop (suc skip) [] = refl
 words_after-drop (suc skip) (b ∷ bs) = words_after-drop skip bs
 
+-- an empty line has no words
 pub words-nil : words [] ≡ []
 unfolding words_after
 words-nil = refl
 
+-- a blank at the start of a line leaves its words the same
 pub words-blank : (b : ℕ) (bs : List ℕ) → is_blank b ≡ true → words (b ∷ bs) ≡ words bs
 unfolding words_after
 words-blank b bs h = cond-true (is_blank b) _ _ h
 
+-- a comment has no words
 pub words-comment : (bs : List ℕ) → words (semicolon ∷ bs) ≡ []
 unfolding words_after
 words-comment bs = refl
 
+-- the first word after an opening quote ends at the next quote
 pub words-quoted : (bs : List ℕ) → words (quote ∷ bs) ≡ record { bytes = before_first is_quote bs; quoted = true } ∷ words (drop 1 (drop (position_or_len is_quote bs) bs))
 unfolding words_after
 words-quoted bs = ap (λ ws. record { bytes = before_first is_quote bs; quoted = true } ∷ ws) (words_after-drop (position_or_len is_quote bs + 1) bs ∙ ap words (sym (drop-drop 1 (position_or_len is_quote bs) bs)))
 
--- a byte that doesn't end a word stands in it
+-- a byte that doesn't end a word is a part of it
 drop-bare : (t : Bool) (n b : ℕ) (bs : List ℕ) → t ≡ false → drop (cond (not t) (1 + n) 0 - 1) bs ≡ drop (cond (not t) (1 + n) 0) (b ∷ bs)
 drop-bare true n b bs h = absurd (true≢false h)
 drop-bare false n b bs h =
@@ -59,6 +67,7 @@ drop-bare false n b bs h =
     let more : 1 + n ≡ suc n = omega arith in
     rw (less, more) refl
 
+-- a word without quotes, of which b is the first byte, ends at the first byte that ends words
 pub words-bare : (b : ℕ) (bs : List ℕ) → ends_word b ≡ false → words (b ∷ bs) ≡ record { bytes = before_first ends_word (b ∷ bs); quoted = false } ∷ words (drop (position_or_len ends_word (b ∷ bs)) (b ∷ bs))
 unfolding words_after
 words-bare b bs h =
@@ -67,57 +76,66 @@ words-bare b bs h =
     cond-false (is_blank b) _ _ two.0 ∙ cond-false (eqb b semicolon) _ _ one.1 ∙ cond-false (is_quote b) _ _ two.1
     ∙ ap (λ ws. record { bytes = before_first ends_word (b ∷ bs); quoted = false } ∷ ws) (words_after-drop (position_or_len ends_word (b ∷ bs) - 1) bs ∙ ap words (drop-bare (ends_word b) _ b bs h))
 
+-- a line that begins with a word without quotes has that word first
 pub words-bare_line : (line : List ℕ) → 0 < length line → ends_word (get_or line 0 0) ≡ false → words line ≡ record { bytes = before_first ends_word line; quoted = false } ∷ words (drop (position_or_len ends_word line) line)
 words-bare_line [] p h = absurd (omega arith)
 words-bare_line (b ∷ bs) p h = words-bare b bs h
 
--- what follows a closing quote, if it is there
+-- what follows a closing quote, if it is there, is the rest without its first byte
 pub behind_closing : (bs : List ℕ) (closing : ℕ) → closing ≡ min (length bs) 1 → take (length bs - closing) (drop closing bs) ≡ drop 1 bs
 behind_closing bs closing e = take_rest bs closing ∙ ap (λ n. drop n bs) (e ∙ min_comm (length bs) 1) ∙ drop_min 1 bs
 
+-- the value of an ASCII digit is its byte less 48
 digit_value_of : (b : ℕ) → is_ascii_digit b ≡ true → digit_value b ≡ b - 48
 digit_value_of b h = grind (arith, nat_tests)
 
--- the value of the digits up to the i-th
+-- the value of the first i + 1 digits is ten times that of the first i, and the next digit
 pub one_digit_more : (bytes : List ℕ) (i : ℕ) → i < length bytes → is_ascii_digit (get_or bytes i 0) ≡ true → digits_value 10 (take (i + 1) bytes) ≡ digits_value 10 (take i bytes) * 10 + (get_or bytes i 0 - 48)
 one_digit_more bytes i h digit = digits_value_more 10 bytes i h ∙ ap (λ n. digits_value 10 (take i bytes) * 10 + n) (digit_value_of (get_or bytes i 0) digit)
 
--- one step of a loop over a line
+-- from a semicolon on there are no words
 pub comment_at : (line : List ℕ) (i : ℕ) → i < length line → get_or line i 0 ≡ semicolon → words (drop i line) ≡ []
 comment_at line i h e = at_drop_more words line i 0 h ∙ ap (λ b. words (b ∷ drop (i + 1) line)) e ∙ words-comment (drop (i + 1) line)
 
+-- from a blank on the words are those after it
 pub blank_at : (line : List ℕ) (i : ℕ) → i < length line → is_blank (get_or line i 0) ≡ true → words (drop (i + 1) line) ≡ words (drop i line)
 blank_at line i h e = sym (at_drop_more words line i 0 h ∙ words-blank (get_or line i 0) (drop (i + 1) line) e)
 
+-- from the end of a line on there are no words
 pub end_of_words : (line : List ℕ) (i : ℕ) → length line ≤ i → words (drop i line) ≡ []
 end_of_words line i h = at_drop_all words line i h ∙ words-nil
 
--- ---- where words stand
+-- ---- where words are in a line and a text
 
+-- a line ends with what is left after its first n bytes
 pub ends_behind : (line : List ℕ) (n : ℕ) → EndsWith line (drop n line)
 ends_behind line n = record { front = take n line; whole = sym (take-append-drop n line) }
 
+-- what an end of a line ends with, the line ends with
 pub ends_further : (line mid rest : List ℕ) → EndsWith line mid → EndsWith mid rest → EndsWith line rest
 ends_further line mid rest a b = record { front = a.front ++ b.front; whole = a.whole ∙ ap (λ l. a.front ++ l) b.whole ∙ sym (append_assoc a.front b.front rest) }
 
+-- a part of an end of a line is a part of the line
 pub stands_further : (line mid bytes : List ℕ) (behind : ℕ) → EndsWith line mid → IsPartOf mid bytes behind → IsPartOf line bytes behind
 stands_further line mid bytes behind a b =
     record { front = a.front ++ b.front; back = b.back; whole = a.whole ∙ ap (λ l. a.front ++ l) b.whole ∙ sym (append_assoc a.front b.front (bytes ++ b.back)); behind_is = b.behind_is }
 
--- the part `&line[n..]`
+-- a line ends with its part `&line[n..]`
 pub ends_at : (line : List ℕ) (n : ℕ) → EndsWith line (take (length line - n) (drop n line))
 ends_at line n = rw (take_rest line n) (ends_behind line n)
 
+-- what a line ends with is no longer than it
 pub ends_shorter : (line rest : List ℕ) → EndsWith line rest → length rest ≤ length line
 ends_shorter line rest e = omega (arith, ap length e.whole, length-append e.front rest)
 
+-- a part of a line is no longer than what is left from its first byte, nor that than the line
 pub stands_shorter : (line bytes : List ℕ) (behind : ℕ) → IsPartOf line bytes behind → (length bytes ≤ behind) × (behind ≤ length line)
 stands_shorter line bytes behind s =
     let a : length line ≡ length s.front + length (bytes ++ s.back) = ap length s.whole ∙ length-append s.front (bytes ++ s.back) in
     let b : length (bytes ++ s.back) ≡ length bytes + length s.back = length-append bytes s.back in
     (omega (arith, s.behind_is), omega (arith, s.behind_is))
 
--- a word behind another still stands up to the place where the line ends
+-- the end of a line that ends at an index of a text ends at that index, too
 pub place_behind : (text : List ℕ) (place : ℕ) (line rest : List ℕ) → EndsAt text place line → EndsWith line rest → EndsAt text place rest
 place_behind text place line rest a e = record {
   front = a.front ++ e.front;
@@ -126,7 +144,7 @@ place_behind text place line rest a e = record {
   place_is = ap length (append_assoc a.front e.front rest ∙ ap (λ l. a.front ++ l) (sym e.whole)) ∙ a.place_is;
 }
 
--- the span of a word has its bytes
+-- the bytes of a word are those of its span in the text
 pub bytes_in_span : (text : List ℕ) (place : ℕ) (line bytes : List ℕ) (behind : ℕ) → EndsAt text place line → IsPartOf line bytes behind → slice_range text (place - behind) (place - behind + length bytes) ≡ bytes
 bytes_in_span text place line bytes behind a s =
     let whole : text ≡ (a.front ++ s.front) ++ (bytes ++ (s.back ++ a.back)) =
@@ -142,8 +160,10 @@ bytes_in_span text place line bytes behind a s =
     let here : drop (place - behind) text ≡ bytes ++ (s.back ++ a.back) = ap (drop (place - behind)) whole ∙ drop_at (a.front ++ s.front) (bytes ++ (s.back ++ a.back)) (place - behind) start in
     ap (λ n. take n (drop (place - behind) text)) count ∙ ap (take (length bytes)) here ∙ take_at bytes (s.back ++ a.back) (length bytes) refl
 
+-- a text ends with itself
 pub ends_with_all : (text : List ℕ) → EndsWith text text
 ends_with_all text = record { front = []; whole = refl }
 
+-- a line that ends at an index of a text is no longer than that index
 pub place_fits : (text : List ℕ) (place : ℕ) (line : List ℕ) → EndsAt text place line → length line ≤ place
 place_fits text place line e = omega (arith, e.place_is, length-append e.front line)

@@ -1,4 +1,4 @@
--- What is true of the records of a world, place by place.
+-- The world that tables give is a world: its parts keep their bounds at each index.
 use Rattle.std.proofs.Common.{◌≡◌, ◌<◌, ℕ, zero, suc, List, [], ◌∷◌, length, map, Some, refl, subst, sym, arith}
 use Rattle.std.specs.List.{All, slice_get}
 use Rattle.std.proofs.lemmas.List.{length-map}
@@ -19,17 +19,17 @@ use Rattle.atl_tables.specs.declared.world.RegionPlan.{RegionPlan}
 use Rattle.atl_tables.proofs.HasNumberLaws.{few, at_number}
 use Rattle.atl_tables.proofs.DuplicateLaws.{names_kept}
 
--- at a place of a list of which something is true at all places
+-- what holds of all elements of a list holds of the one at an index
 pub at_index : {A : Type 0} (P : A → Type 0) (xs : List A) → All P xs → (i : ℕ) (x : A) → slice_get xs i ≡ Some x → P x
 at_index P xs all i x h = subst P (get_or_from_slice_get xs i x x h) (All-get_or P xs i x (slice_get_within xs i x h) all)
 
--- at each place of a list that is mapped
+-- if what P holds of is mapped to what Q holds of, Q holds at each index of the mapped list
 mapped_indices : {A B : Type 0} (P : A → Type 0) (Q : B → Type 0) (f : A → B) → ((x : A) → P x → Q (f x)) → (xs : List A) → All P xs → EachIndex (λ i y. Q y) (map f xs)
 mapped_indices P Q f then [] all i y h = absurd (cc)
 mapped_indices P Q f then (x ∷ xs) all zero y h = let same : f x ≡ y = cc in subst Q same (then x (All-head P x xs all))
 mapped_indices P Q f then (x ∷ xs) all (suc i) y h = mapped_indices P Q f then xs (All-tail P x xs all) i y h
 
--- the world of tables that were read and whose names stand for something
+-- the world of tables in bounds is a world, if names differ, neighbours are mutual, and there is land
 pub is_world : (all : WorldDraft) → IsWorldDraft all → AreWorldPartsOf all (world_parts_of all) → HaveNames all → All (λ d. HasNeighbours (regions_of all) d.place.number d.sides.north d.sides.south d.sides.east d.sides.west) all.regions → 0 < length (land_of (world_of_tables all)) → IsWorld (world_of_tables all)
 unfolding world_of_tables regions_of region_of terrain_of item_of kind_of
 is_world all tables parts names back land =
