@@ -174,20 +174,24 @@ abbrev pub Sound : WorldValue → Result OrderValue LineFault → Type 0
 Sound world r = Holds (IsOrderOf world) r
 
 module _ (world : WorldValue) where
+  -- the operands are in bounds where the words are read as an alias
   alias_sound : (ws : List WordText) → AreSound world (read_alias ws)
   unfolding read_alias
   alias_sound ws = after _ (AreOperandsOf world) (alias_at ws) _ (count_holds last_alias BadAlias ws) (λ n h. h)
 
+  -- the operands are in bounds where the words are read as a flag
   flag_sound : (ws : List WordText) → AreSound world (read_flag ws)
   unfolding read_flag
   flag_sound ws =
       after _ (AreOperandsOf world) (word_at ws) _ (anything (word_at ws)) (λ w _.
       after _ (AreOperandsOf world) (or_fault BadNumber (number_of 1 w.0.bytes)) _ (anything (or_fault BadNumber (number_of 1 w.0.bytes))) (λ n _. tt))
 
+  -- the operands are in bounds where the words are read as a number
   number_sound : (ws : List WordText) → AreSound world (read_number ws)
   unfolding read_number
   number_sound ws = after _ (AreOperandsOf world) (number_at ws) _ (count_holds most_number BadNumber ws) (λ n h. h)
 
+  -- the operands are in bounds where the words are read as a unit
   unit_sound : (ws : List WordText) → AreSound world (read_unit ws)
   unfolding read_unit
   unit_sound ws = after _ (AreOperandsOf world) (unit_at ws) _ (unit_holds ws) (λ u h. h)
@@ -210,30 +214,36 @@ module _ (world : WorldValue) where
       (more_units (new_unit_ref v) (units_of ws) (named_holds v) (units_hold ws))
       (more_units (numbered w) (units_of (v ∷ ws)) (numbered_holds w) (units_hold (v ∷ ws)))
 
+  -- the operands are in bounds where the words are read as a list of units
   units_sound : (ws : List WordText) → AreSound world (read_units ws)
   unfolding read_units
   units_sound ws = after Units (AreOperandsOf world) (some_units_at ws) _ (some_hold ws) (λ us h. h)
 
+  -- the operands are in bounds where the words are read as a unit and a number
   unit_and_number_sound : (ws : List WordText) → AreSound world (read_unit_and_number ws)
   unfolding read_unit_and_number
   unit_and_number_sound ws =
       after _ (AreOperandsOf world) (unit_at ws) _ (unit_holds ws) (λ to h.
       after _ (AreOperandsOf world) (number_at to.1) _ (count_holds most_number BadNumber to.1) (λ n k. (h, k)))
 
+  -- the operands are in bounds where the words are read as a unit and goods
   unit_and_goods_sound : (ws : List WordText) → AreSound world (read_unit_and_goods world ws)
   unfolding read_unit_and_goods
   unit_and_goods_sound ws =
       after _ (AreOperandsOf world) (unit_at ws) _ (unit_holds ws) (λ to h.
       after _ (AreOperandsOf world) (amount_of_item_at world to.1) _ (goods_hold world to.1) (λ goods k. (h, k.0, k.1)))
 
+  -- the operands are in bounds where the words are read as an amount and an item
   goods_sound : (ws : List WordText) → AreSound world (read_goods world ws)
   unfolding read_goods
   goods_sound ws = after _ (AreOperandsOf world) (amount_of_item_at world ws) _ (goods_hold world ws) (λ goods h. h)
 
+  -- the operands are in bounds where the words are read as a new name
   named_sound : (t : Bool) (what : NameKind) (bytes : List ℕ) → name_ok bytes ≡ t → AreSound world (cond t (Ok (operands.Name what bytes)) (Err BadName))
   named_sound true what bytes h = h
   named_sound false what bytes h = tt
 
+  -- the operands are in bounds where the words are read as what gets a new name, and the name
   name_sound : (ws : List WordText) → AreSound world (read_name ws)
   unfolding read_name
   name_sound ws =
@@ -242,19 +252,23 @@ module _ (world : WorldValue) where
       after _ (AreOperandsOf world) (word_at w.1) _ (anything (word_at w.1)) (λ v _.
       named_sound (name_ok (name_of v.0.bytes v.0.quoted)) what (name_of v.0.bytes v.0.quoted) refl)))
 
+  -- the operands are in bounds where the words are read as a direction
   direction_sound : (ws : List WordText) → AreSound world (read_direction ws)
   unfolding read_direction
   direction_sound ws = after _ (AreOperandsOf world) (direction_at ws) _ (anything (direction_at ws)) (λ d _. tt)
 
+  -- the operands are in bounds where the words are read as a kind of structure
   kind_sound : (ws : List WordText) → AreSound world (read_kind world ws)
   unfolding read_kind
   kind_sound [] = tt
   kind_sound (w ∷ ws) = after _ (AreOperandsOf world) (kind_at world (w ∷ ws)) _ (kind_holds world (w ∷ ws)) (λ kind h. h)
 
+  -- the operands are in bounds where the words are read as a skill
   skill_sound : (ws : List WordText) → AreSound world (read_skill world ws)
   unfolding read_skill
   skill_sound ws = after _ (AreOperandsOf world) (skill_at world ws) _ (skill_holds world ws) (λ skill h. h)
 
+  -- the operands are in bounds where the words are read as an item
   item_sound : (ws : List WordText) → AreSound world (read_item world ws)
   unfolding read_item
   item_sound ws = after _ (AreOperandsOf world) (item_at world ws) _ (item_holds world ws) (λ item h. h)

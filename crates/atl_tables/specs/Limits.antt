@@ -51,7 +51,7 @@ most_per_head = 1000
 abbrev pub most_price : ℕ
 most_price = 1000000
 
--- the largest `recruit_fraction`: one peasant of so many can be recruited
+-- the largest `recruit_fraction`: of this many peasants one can be recruited in a month
 abbrev pub most_fraction : ℕ
 most_fraction = 1000
 

@@ -18,7 +18,7 @@ use Rattle.atl_tables.specs.declared.output_table.Output.{Output}
 use Rattle.atl_tables.specs.declared.world_draft.WorldDraft.{WorldDraft}
 
 -- ---- the entries of a table in byte order
--- a list of entries, sorted by key, with one entry more at its place in the order
+-- entries sorted by key, with the entry of `key` put in where it belongs
 abbrev pub put_key : List ℕ → Data → List (List ℕ × Data) → List (List ℕ × Data)
 put_key key d [] = (key, d) ∷ []
 put_key key d (e ∷ es) = if is_lt (slice_cmp nat_cmp key e.0) then (key, d) ∷ e ∷ es else e ∷ put_key key d es

@@ -71,7 +71,7 @@ beside East p = p.east
 beside West p = p.west
 
 -- ---- what is true of every world: numbers are in their ranges, and the number of a thing is below how many there are
--- the rules of a world with so many skills
+-- the rules are in bounds, in a world that has `skills` skills
 pub record AreRules (skills : ℕ) (r : Rules) : Type 0 where
   pub maintenance_least : 1 ≤ r.maintenance
   pub maintenance : r.maintenance ≤ most_per_head
@@ -89,7 +89,7 @@ pub record AreRules (skills : ℕ) (r : Rules) : Type 0 where
   pub stealth : IfSome r.stealth (λ s. s < skills)
   pub sailing : IfSome r.sailing (λ s. s < skills)
 
--- a terrain of a world with so many items; its output has an amount for each of them
+-- a terrain is in bounds, in a world that has `items` items: its output has an amount for each of them
 pub record IsTerrain (items : ℕ) (t : Terrain) : Type 0 where
   pub name : name_ok t.name ≡ true
   pub wage_least : 1 ≤ t.wage
@@ -100,7 +100,7 @@ pub record IsTerrain (items : ℕ) (t : Terrain) : Type 0 where
   pub outputs : length t.output ≡ items
   pub output : All (λ amount. amount ≤ most_amount) t.output
 
--- the i-th item of a world with so many items and skills; if it has a raw item, that is another one
+-- the i-th item is in bounds, in a world that has `items` items and `skills` skills; its raw item is another one
 pub record IsItem (items skills i : ℕ) (x : Item) : Type 0 where
   pub name : name_ok x.name ≡ true
   pub weight : x.weight ≤ most_weight
@@ -113,12 +113,12 @@ pub record IsItem (items skills i : ℕ) (x : Item) : Type 0 where
   pub raw_count_least : 1 ≤ x.raw_count
   pub raw_count : x.raw_count ≤ most_raw_count
 
--- a skill of a world
+-- a skill is in bounds
 pub record IsSkill (s : Skill) : Type 0 where
   pub name : name_ok s.name ≡ true
   pub fee : s.fee ≤ most_price
 
--- a kind of structure of a world with so many items and skills
+-- a kind of structure is in bounds, in a world that has `items` items and `skills` skills
 pub record IsKind (items skills : ℕ) (k : Kind) : Type 0 where
   pub name : name_ok k.name ≡ true
   pub material : k.material < items
@@ -131,7 +131,7 @@ pub record IsKind (items skills : ℕ) (k : Kind) : Type 0 where
   pub crew : k.crew ≤ most_size
   pub helps : IfSome k.helps (λ s. s < skills)
 
--- a market of the item with this number, in a world with so many items
+-- a market is in bounds and sells the item `number`, in a world that has `items` items
 pub record IsMarket (items number : ℕ) (m : Market) : Type 0 where
   pub number_is : m.item ≡ number
   pub item : m.item < items
@@ -142,7 +142,7 @@ pub record IsMarket (items number : ℕ) (m : Market) : Type 0 where
   pub limit : m.limit ≤ most_amount
   pub restock : m.restock ≤ most_amount
 
--- the region with this number, in a world with so many terrains and items
+-- the region with this number is in bounds, in a world that has `terrains` terrains and `items` items
 pub record IsRegionPlan (terrains items number : ℕ) (p : RegionPlan) : Type 0 where
   pub number_is : p.number ≡ number
   pub number_least : 1 ≤ number

@@ -19,11 +19,11 @@ use toml::{Table, Value};
 
 /// A value that is read from a table: an element of an array of tables, or a part of one table.
 pub(crate) trait Element: Drop {
-    // What its table has to fulfil, and what it then is.
+    // The conditions on its table, and the value that the table gives if they hold.
     ghost conditions: { List ℕ → Members → Conditions };
 
     ghost record_of: { List ℕ → Members → Self };
-    // What is true of each that was read.
+    // What is true of each value that was read.
     ghost is_sound: { Self → Type 0 };
 
     /// What a table at a path describes, or the first fault of its keys. `Memory` may come at any

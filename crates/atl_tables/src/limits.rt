@@ -33,7 +33,7 @@ pub(crate) const MOST_PER_HEAD: u32 = 1_000;
 /// The largest price of a recruit or an item, wage of a month, and fee of a month of study.
 pub(crate) const MOST_PRICE: u32 = 1_000_000;
 
-/// The largest `recruit_fraction`: in a month one peasant of so many can be recruited.
+/// The largest `recruit_fraction`: of this many peasants one can be recruited in a month.
 pub(crate) const MOST_FRACTION: u32 = 1_000;
 
 /// The most births in a month, in percent of the peasants.

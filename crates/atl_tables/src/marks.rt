@@ -20,7 +20,7 @@ const RECENT_LIMIT: usize = 512;
 /// takes time in the number of marks.
 pub struct Marks {
     numbers: SortedNumbers,
-    // Those that were marked last, so few that it takes little to put one among them.
+    // The numbers that were marked last, few enough that it takes little time to add one.
     recent: SortedNumbers,
 }
 

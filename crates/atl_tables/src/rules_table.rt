@@ -35,7 +35,7 @@ pub struct Prices {
 /// The rules on recruits, births and income of peasants in a month.
 #[derive(Drop)]
 pub struct PeasantRules {
-    /// One of so many can be recruited, from 1 to `MOST_FRACTION`.
+    /// Of this many one can be recruited, from 1 to `MOST_FRACTION`.
     pub recruit_fraction: u32,
     /// The most births, in percent of the peasants, at most `MOST_GROWTH`.
     pub growth: u32,

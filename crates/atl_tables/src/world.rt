@@ -21,7 +21,7 @@ pub struct Rules {
     pub tax_per_man: u32,
     /// Money that a recruit costs, from 1 to `MOST_PRICE`.
     pub recruit_price: u32,
-    /// One of so many peasants can be recruited in a month, from 1 to `MOST_FRACTION`.
+    /// Of this many peasants one can be recruited in a month, from 1 to `MOST_FRACTION`.
     pub recruit_fraction: u32,
     /// The most births in a month, in percent of the peasants, at most `MOST_GROWTH`.
     pub growth: u32,

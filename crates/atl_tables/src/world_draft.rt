@@ -58,7 +58,7 @@ pub(crate) trait Draft: Drop {
     type Record: Drop;
 
     ghost is_draft: { Self → Type 0 };
-    // Where its names stand for nothing, what it is else, and what is true of that at its place.
+    // The conditions on its names, its record if they hold, and what is true of that at its index.
     ghost unknown: { WorldDraft → ℕ → Self → Conditions };
 
     ghost record_of: { WorldDraft → Self → Self.Record };
