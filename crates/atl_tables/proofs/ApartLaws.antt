@@ -12,6 +12,7 @@ use Rattle.atl_tables.proofs.GeneralLaws.{key_itself, same_key}
 use Rattle.atl_tables.proofs.SetLaws.{same, remove_absent, union-empty, union-insert, len-within, len-below, without_first, rest_holds}
 use Rattle.atl_tables.proofs.MarkLaws.{contains-stands}
 
+-- a set of numbers
 abbrev Numbers : Type 0
 Numbers = set.FinSet nat_cmp
 

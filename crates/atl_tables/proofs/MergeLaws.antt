@@ -80,6 +80,7 @@ module _ (P : ℕ → Type 0) where
   all-merged [] ys a b = b
   all-merged (x ∷ xs) ys a b = all-step x xs (merged xs) a.0 a.1 (λ zs. all-merged xs zs a.1) ys b
 
+-- all numbers of a list are greater than x
 abbrev Above : ℕ → List ℕ → Type 0
 Above x ys = AllByRecursion (λ y. nat_cmp x y ≡ Less) ys
 

@@ -56,6 +56,7 @@ impl Drop for ItemDraft {
     }
 }
 
+/// Reads the keys of a table `[[item]]` for what making one takes.
 impl Element for Recipe {
     ghost conditions = { conditions_of making_at };
 
@@ -78,6 +79,7 @@ impl Element for Recipe {
     }
 }
 
+/// Reads a whole table `[[item]]`.
 impl Element for ItemDraft {
     ghost conditions = { item_keys };
 
@@ -155,6 +157,7 @@ fn raw_item(
     }
 }
 
+/// Looks up the skill and the raw item of a table `[[item]]`.
 impl Draft for ItemDraft {
     type Record = Item;
 

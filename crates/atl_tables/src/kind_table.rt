@@ -62,6 +62,7 @@ impl Drop for KindDraft {
     }
 }
 
+/// Reads the keys of a table `[[kind]]` for what building a structure takes.
 impl Element for Building {
     ghost conditions = { conditions_of building_at };
 
@@ -84,6 +85,7 @@ impl Element for Building {
     }
 }
 
+/// Reads the keys of a table `[[kind]]` for what a structure is good for.
 impl Element for Purpose {
     ghost conditions = { conditions_of purpose_at };
 
@@ -104,6 +106,7 @@ impl Element for Purpose {
     }
 }
 
+/// Reads a whole table `[[kind]]`.
 impl Element for KindDraft {
     ghost conditions = { kind_keys };
 
@@ -134,6 +137,7 @@ impl Titled for KindDraft {
     }
 }
 
+/// Looks up the material and the skills of a table `[[kind]]`.
 impl Draft for KindDraft {
     type Record = Kind;
 

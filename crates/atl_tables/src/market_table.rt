@@ -44,6 +44,7 @@ impl Drop for MarketDraft {
     }
 }
 
+/// Reads a whole table `[[region.market]]`.
 impl Element for MarketDraft {
     ghost conditions = { market_keys };
 
@@ -94,6 +95,7 @@ impl Titled for MarketDraft {
     }
 }
 
+/// Looks up the item of a table `[[region.market]]`.
 impl Draft for MarketDraft {
     type Record = Market;
 
@@ -119,6 +121,7 @@ impl Draft for MarketDraft {
     }
 }
 
+/// A market is stored under the number of its item.
 impl HasNumber for Market {
     ghost place_of = { λ m. m.item };
 

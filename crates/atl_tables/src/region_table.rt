@@ -75,6 +75,7 @@ impl Drop for RegionDraft {
     }
 }
 
+/// Reads the keys of a table `[[region]]` for number, name, terrain, peasants and money.
 impl Element for RegionBasics {
     ghost conditions = { basics_keys };
 
@@ -117,6 +118,7 @@ fn read_sides(alloc: Global, at: &str, table: &Table) -> Result<Sides, WorldFaul
     })
 }
 
+/// Reads a whole table `[[region]]` of the first format.
 impl Element for OldRegion {
     ghost conditions = { old_region_keys };
 
@@ -132,6 +134,7 @@ impl Element for OldRegion {
     }
 }
 
+/// Reads a whole table `[[region]]` of the second format, with its markets.
 impl Element for RegionDraft {
     ghost conditions = { region_keys };
 
@@ -170,6 +173,7 @@ pub(crate) fn without_markets(
     Ok(drafts)
 }
 
+/// Checks that no two markets of a region are of the same item.
 impl HasUniqueNames for RegionDraft {
     ghost twins = { market_twins };
 
@@ -181,6 +185,7 @@ impl HasUniqueNames for RegionDraft {
     }
 }
 
+/// Looks up the terrain and the items of the markets of a table `[[region]]`.
 impl Draft for RegionDraft {
     type Record = RegionPlan;
 
@@ -220,6 +225,7 @@ impl Draft for RegionDraft {
     }
 }
 
+/// A region is stored under its own number.
 impl HasNumber for RegionPlan {
     ghost place_of = { λ p. p.number };
 

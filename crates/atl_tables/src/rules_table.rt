@@ -79,6 +79,7 @@ pub struct RulesDraft {
     pub skills: SkillNames,
 }
 
+/// Reads the keys of the table `[rules]` for what men cost and bring.
 impl Element for Prices {
     ghost conditions = { conditions_of prices_at };
 
@@ -99,6 +100,7 @@ impl Element for Prices {
     }
 }
 
+/// Reads the keys of the table `[rules]` for recruits, births and income.
 impl Element for PeasantRules {
     ghost conditions = { conditions_of peasants_at };
 
@@ -126,6 +128,7 @@ impl Element for PeasantRules {
     }
 }
 
+/// Reads the keys of the table `[rules]` for what men start with, weigh and carry.
 impl Element for MenRules {
     ghost conditions = { conditions_of men_at };
 
@@ -163,6 +166,7 @@ fn skill_names(alloc: Global, at: &str, table: &Table) -> Result<SkillNames, Wor
     })
 }
 
+/// Reads the whole table `[rules]`.
 impl Element for RulesDraft {
     ghost conditions = { conditions_of rules_at };
 

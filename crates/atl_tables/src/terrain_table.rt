@@ -50,6 +50,7 @@ impl Drop for TerrainDraft {
     }
 }
 
+/// Reads the keys of a table `[[terrain]]` for its wage, places and limits.
 impl Element for Economy {
     ghost conditions = { conditions_of economy_at };
 
@@ -72,6 +73,7 @@ impl Element for Economy {
     }
 }
 
+/// Reads a whole table `[[terrain]]`.
 impl Element for TerrainDraft {
     ghost conditions = { terrain_keys };
 
@@ -102,6 +104,7 @@ impl Titled for TerrainDraft {
     }
 }
 
+/// Looks up the items of the output of a table `[[terrain]]`.
 impl Draft for TerrainDraft {
     type Record = Terrain;
 
@@ -132,6 +135,7 @@ impl Draft for TerrainDraft {
     }
 }
 
+/// Checks that no two keys of a terrain's output are equal.
 impl HasUniqueNames for TerrainDraft {
     ghost twins = { terrain_twins };
 
