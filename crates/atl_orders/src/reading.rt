@@ -38,7 +38,8 @@ pub enum ReaderState {
     At(u32),
     /// The block of a FORM without fault is open: its orders are for the new unit of this alias.
     Forming { parent: u32, alias: u32 },
-    /// The block of a faulty FORM is open: its orders count for nobody. It has the unit outside.
+    /// The block of a faulty FORM is open: its orders count for nobody. After the block the unit
+    /// that was named before it is named again, if there was one.
     Skipping(Option<u32>),
 }
 

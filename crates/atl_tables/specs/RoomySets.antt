@@ -18,6 +18,6 @@ roomy_set_code = code_by (set.FinSet nat_cmp × ℕ) (coded× (set.code coded_�
 abbrev pub held : {V : Type 0} → FinMap nat_cmp V → set.FinSet nat_cmp → set.FinSet nat_cmp
 held values marks = set.union marks (set.from_list (keys values))
 
--- a set of marks has room to mark each number that has a value, so marking one takes no memory
+-- a set of marks has room for its numbers and all that have a value, so to mark one of these takes no memory
 abbrev pub HasRoomForMarks : {V : Type 0} → FinMap nat_cmp V → RoomySet → Type 0
 HasRoomForMarks values marks = set.len (held values marks.numbers) ≤ marks.room
