@@ -1,5 +1,4 @@
--- The bounds of every order that is read: numbers in range, names that keep the rule of names, and things of the
--- world.
+-- The bounds of all orders that are read: numbers in range, names by their rule, things of the world.
 use Rattle.std.specs.Prelude.{◌≡◌, ◌≤◌, ◌<◌, ℕ, true, List, [], ◌∷◌, length, Some, None, Ok}
 use Rattle.std.specs.List.{All}
 use Rattle.atl_orders.specs.Limits.{most_number, last_alias, last_faction}

@@ -1,5 +1,5 @@
-//! The faults of a line, and those of a mailing that can't be read. See docs/FORMATS.md, "Line
-//! faults".
+//! The faults of lines, and those of texts that can't be read as mailings.
+//! See docs/FORMATS.md, "Line faults".
 ghost use Rattle.std.specs.Prelude.{◌≡◌};
 ghost use Rattle.atl_orders.specs.declared.fault.MailFault.TheVariants.{Memory};
 

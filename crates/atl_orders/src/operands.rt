@@ -1,5 +1,5 @@
-//! Reads the words after a keyword: each call reads the first words of the rest of a line, or gives
-//! their first fault. See docs/RULES.md, "Orders" and "Names in orders".
+//! Reads the next words of a line as a number, a unit or a thing, or gives their first fault.
+//! See docs/RULES.md, "Orders" and "Names in orders".
 ghost use Rattle.std.specs.Prelude.{◌≡◌, ◌≤◌, IfOk};
 ghost use Rattle.atl_orders.specs.Limits.{most_number, last_alias};
 ghost use Rattle.atl_orders.specs.Words.{words};

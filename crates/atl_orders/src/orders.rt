@@ -1,5 +1,5 @@
-//! Reads the words after a verb as the order table says, or gives their first fault from left to
-//! right. See docs/RULES.md, "Orders".
+//! Reads the words after a verb as the order table says, or gives their first fault.
+//! See docs/RULES.md, "Orders".
 ghost use Rattle.std.specs.Prelude.{◌≡◌, IfOk};
 ghost use Rattle.atl_orders.specs.Words.{words};
 ghost use Rattle.atl_orders.specs.Views.{word_text, Gives};

@@ -1,5 +1,5 @@
-//! The order table: the verbs of orders, with their keywords, the shapes of their words, and their
-//! slots. See docs/RULES.md, "Orders".
+//! The order table: the verbs, with their keywords, shapes of words, and slots.
+//! See docs/RULES.md, "Orders".
 ghost use Rattle.std.specs.Prelude.{◌≡◌, find};
 ghost use Rattle.atl_orders.specs.Words.{is_word};
 ghost use Rattle.atl_orders.specs.Views.{word_text};

@@ -1,5 +1,4 @@
--- Sets of numbers with no number in common: a set of marks is kept in two of them, of which the second has the recent
--- ones.
+-- Sets with no number in common: a set of marks is kept in two of them, one with the recent marks.
 use Rattle.std.proofs.Common.{◌≡◌, ℕ, ◌+◌, ◌<◌, ◌≤◌, Bool, true, false, cond, not, ◌&&◌, ◌||◌, List, [], ◌∷◌, length, get_or, refl, sym, ap, ◌∙◌, inl, inr, arith}
 use Rattle.std.proofs.lemmas.Bool.{cases_order, false≢true, and_parts, false_from_ne_true}
 use Rattle.std.specs.List.{list_any}

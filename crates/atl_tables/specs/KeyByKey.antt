@@ -1,5 +1,5 @@
--- Tables of the world file that are read key by key, so that one definition gives both their conditions and their
--- value.
+-- Tables that are read key by key: one definition gives both the conditions on the keys and the value.
+-- See docs/FORMATS.md, "The world file".
 use Rattle.std.specs.Prelude.{ℕ, Bool, false, List, [], ◌∷◌, ◌++◌, Option, None}
 use Rattle.toml.specs.Data.{Members}
 use Rattle.atl_tables.specs.Faults.{Conditions, fault_of, first_fault, value_or}

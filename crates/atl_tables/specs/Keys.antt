@@ -117,7 +117,6 @@ array_of_size key least most (Some ds) = if nat_le least (count_of ds) && nat_le
 unfoldable pub array_at : ℕ → List ℕ → Members → Result Items WorldFault
 array_at most key doc = present key (λ d. array_of_size key 1 most (as_array d)) (get_member key doc)
 
--- the array at the path `array`, under a key of a table, of 0 to most elements, empty if the key is missing; else a
--- fault
+-- the array under a key of a table, of 0 to most elements, empty if the key is missing; `array` is its path
 unfoldable pub optional_array_at : ℕ → List ℕ → List ℕ → Members → Result Items WorldFault
 optional_array_at most array key t = or_else no_items (λ d. array_of_size array 0 most (as_array d)) (get_member key t)

@@ -1,5 +1,4 @@
--- The limits of worlds: how many of each thing there are at most, and the ranges of numbers. See docs/RULES.md,
--- "Limits".
+-- The limits of worlds: how many of each thing there are, and the ranges of numbers. See docs/RULES.md, "Limits".
 use Rattle.std.specs.Prelude.{ℕ, ◌^◌}
 
 -- ---- how many of each a world has at most

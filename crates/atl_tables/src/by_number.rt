@@ -1,5 +1,4 @@
-//! Looks up parts of a world by number: terrains, neighbours, markets, kinds and fees. It takes no
-//! memory.
+//! Looks up parts of a world by number, without memory: terrains, neighbours, markets, kinds, fees.
 ghost use Rattle.std.specs.Prelude.{◌≡◌, ◌≤◌, IfSome, length};
 ghost use Rattle.std.specs.List.{slice_get};
 ghost use Rattle.std.specs.Option.{option_copied};

@@ -1,4 +1,4 @@
-//! Reads the value under a key of a table, or gives a fault with the path of the key; `Memory` is
+//! Reads the value under a key of a table, or gives a fault with the path of the key. `Memory` is
 //! possible everywhere. See docs/FORMATS.md, "The world file".
 ghost use Rattle.std.specs.Prelude.{◌≡◌, ◌≤◌, ℤ, List, option_map, IfOk, IfSome, true, length, string_bytes};
 ghost use Rattle.toml.specs.Data.{get_member, as_integer, as_str, as_array};

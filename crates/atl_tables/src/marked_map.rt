@@ -1,5 +1,4 @@
-//! A map from numbers to values that marks each number whose value changed, so that only these are
-//! written.
+//! A map from numbers to values that marks each number whose value changed.
 ghost use Rattle.std.specs.Prelude.{◌≡◌, ◌≤◌, IfOk, OnOk, OnErr, option_copied, None};
 ghost use Rattle.std.specs.FinMap as map;
 ghost use Rattle.std.specs.FinSet as set;

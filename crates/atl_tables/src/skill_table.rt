@@ -1,4 +1,4 @@
-//! The tables `[[skill]]`. See docs/FORMATS.md, "The world file".
+//! Reads the tables `[[skill]]`. See docs/FORMATS.md, "The world file".
 ghost use Rattle.atl_tables.specs.Worlds.{IsSkill};
 ghost use Rattle.atl_tables.specs.SkillTable.{skill_keys, skill_from};
 
