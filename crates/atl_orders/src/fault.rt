@@ -24,7 +24,7 @@ pub enum LineFault {
     MissingWord = 5,
     /// The line has a byte other than tab and those from 32 to 126.
     BadByte = 6,
-    /// A word is no alias from 1 to `LAST_ALIAS`, or the alias of a FORM is that of an earlier FORM
+    /// A word is no alias from 1 to `LAST_ALIAS`. Or the alias of a FORM is that of an earlier FORM
     /// without fault.
     BadAlias = 7,
     /// A FORM is inside a block, and the block goes on.

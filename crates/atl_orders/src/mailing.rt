@@ -220,8 +220,8 @@ impl Body {
     }
 }
 
-/// The orders and faulty lines that the lines after a header give, up to `#END` or the end of the
-/// text.
+/// The orders and faulty lines that the lines after a header give. They end at `#END` or at the end
+/// of the text.
 #[tactic(auto, using(crate::proofs::LineLaws::line_place, crate::proofs::WordLaws::ends_further, crate::proofs::LineLaws::starts_shorter, crate::proofs::WordLaws::ends_shorter), unfolding(crate::specs::Mailing::effects))]
 fn read_body(alloc: Global, world: &World, text: &[u8], header: Header) -> Result<Body, AllocError>
     requires small { header.next + rest_size (option_copied header.rest) < 2 ^ 32 }

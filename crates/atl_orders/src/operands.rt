@@ -23,7 +23,7 @@ pub fn word_at(line: &[u8]) -> Result<(Word<'_>, &[u8]), LineFault>
     next_word(line).ok_or(LineFault::MissingWord)
 }
 
-/// The next word as a number from 1 to `most`, and the rest of the line; else MissingWord or this
+/// The next word as a number from 1 to `most`, and the rest of the line. Else MissingWord or this
 /// fault.
 #[tactic(auto, unfolding(crate::specs::Operands::count_at))]
 fn count_at(line: &[u8], most: u32, fault: LineFault) -> Result<(u32, &[u8]), LineFault>
@@ -39,7 +39,7 @@ fn count_at(line: &[u8], most: u32, fault: LineFault) -> Result<(u32, &[u8]), Li
     }
 }
 
-/// The next word as a number from 1 to 999,999,999, and the rest of the line; else MissingWord or
+/// The next word as a number from 1 to 999,999,999, and the rest of the line. Else MissingWord or
 /// BadNumber.
 pub fn number_at(line: &[u8]) -> Result<(u32, &[u8]), LineFault>
     ensures { Gives (λ x. (x.0, words x.1.now)) result (number_at (words line.now)) }
@@ -47,7 +47,7 @@ pub fn number_at(line: &[u8]) -> Result<(u32, &[u8]), LineFault>
     count_at(line, MOST_NUMBER, LineFault::BadNumber)
 }
 
-/// The next word as an alias from 1 to 9,999, and the rest of the line; else MissingWord or
+/// The next word as an alias from 1 to 9,999, and the rest of the line. Else MissingWord or
 /// BadAlias.
 pub fn alias_at(line: &[u8]) -> Result<(u32, &[u8]), LineFault>
     ensures alias { Gives (λ x. (x.0, words x.1.now)) result (alias_at (words line.now)) }

@@ -56,7 +56,7 @@ fn read_unit(cursor: Cursor) -> Result<Operands, LineFault>
     Ok(Operands::Unit(unit))
 }
 
-/// Reads the words of one unit or more, up to the line's end, else MissingWord, BadNumber or
+/// Reads the words of one unit or more, up to the line's end. Else MissingWord, BadNumber or
 /// BadAlias.
 #[tactic(auto, unfolding(crate::specs::Orders::read_units, crate::specs::Operands::some_units_at))]
 fn read_units(alloc: Global, cursor: Cursor) -> Result<Result<Operands, LineFault>, AllocError>
@@ -83,7 +83,7 @@ fn read_unit_and_number(cursor: Cursor) -> Result<Operands, LineFault>
     Ok(Operands::UnitAndNumber { to, number })
 }
 
-/// Reads the words of a unit, an amount and an item, else MissingWord, BadNumber, BadAlias or
+/// Reads the words of a unit, an amount and an item. Else MissingWord, BadNumber, BadAlias or
 /// UnknownThing.
 #[tactic(auto, unfolding(crate::specs::Orders::read_unit_and_goods))]
 fn read_unit_and_goods(world: &World, cursor: Cursor) -> Result<Operands, LineFault>
@@ -122,7 +122,7 @@ fn kind_of_name(word: Word) -> Option<NameKind>
     }
 }
 
-/// Reads the words of what gets a new name, and the name, else MissingWord, UnknownThing or
+/// Reads the words of what gets a new name, and the name. Else MissingWord, UnknownThing or
 /// BadName.
 #[tactic(auto, using(crate::proofs::WordLaws::place_fits, crate::proofs::WordLaws::place_behind, crate::proofs::WordLaws::stands_shorter, crate::proofs::WordLaws::ends_shorter), unfolding(crate::specs::Orders::read_name))]
 fn read_name(cursor: Cursor) -> Result<Operands, LineFault>
@@ -187,8 +187,8 @@ fn read_item(world: &World, cursor: Cursor) -> Result<Operands, LineFault>
     Ok(Operands::Item(item))
 }
 
-/// What the words after a verb name, by the shape that the order table gives the verb, or their
-/// first fault. Only units take memory; after AllocError nothing is known of the words.
+/// What the words after a verb name, by the shape of its words in the order table. Else their first
+/// fault. Only units take memory; after AllocError nothing is known of the words.
 fn read_operands(
     alloc: Global,
     world: &World,

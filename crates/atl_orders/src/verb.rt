@@ -67,8 +67,7 @@ pub enum Shape {
     Item,
 }
 
-/// A set of verbs of which a unit carries out only one order a month, the last of them in its
-/// mailing.
+/// Verbs of which a unit carries out one order a month. That is the last of them in its mailing.
 #[derive(Drop, Clone, Copy, Debug, PartialEq, Eq)]
 pub enum Slot {
     /// The verbs that take the whole month.
@@ -156,8 +155,8 @@ impl Verb {
             .find(|verb| is_same(word.bytes, verb.keyword().as_bytes()))
     }
 
-    /// The verb whose keyword a word is, in any case, if an order's line can begin with it; BOARD
-    /// is read as ENTER.
+    /// The verb whose keyword a word is, in any case; BOARD is read as ENTER. FORM is left out,
+    /// since it has lines of its own.
     pub fn of_word(word: Word) -> Option<Verb>
         ensures { result ≡ verb_of (word_text word.entry) }
     {

@@ -3,8 +3,7 @@ use Rattle.std.specs.Prelude.{◌≡◌, List, [], ◌∷◌, Option, Some, None
 use Rattle.atl_tables.specs.declared.fault.WorldFault.{WorldFault}
 use Rattle.atl_tables.specs.declared.fault.WorldFault.TheVariants.{Memory}
 
--- a list of conditions in the order in which their faults count, each as the fault if it is broken, or None if it
--- holds
+-- conditions in the order in which their faults count: None if a condition holds, or its fault if it is broken
 abbrev pub Conditions : Type 0
 Conditions = List (Option WorldFault)
 
@@ -29,8 +28,7 @@ abbrev pub unless : {A : Type 0} → Option WorldFault → A → Result A WorldF
 unless None x = Ok x
 unless (Some f) x = Err f
 
--- A call that reads returned exactly `read`, its value seen by `view`; or it returned Memory, which says nothing of
--- `read`.
+-- A call returned exactly `read`, its value seen by `view`; or it returned Memory, which says nothing of `read`.
 abbrev pub Reads : {X Y : Type 0} → (X → Y) → Result X WorldFault → Result Y WorldFault → Type 0
 Reads view (Ok x) read = read ≡ Ok (view x)
 Reads view (Err Memory) read = Unit {0}

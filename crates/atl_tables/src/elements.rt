@@ -97,9 +97,9 @@ pub(crate) fn list<E: Element>(
     }
 }
 
-/// The elements of the array under a key of a table, at most `most` of them, none if the key is
-/// missing. Else WrongType or OutOfRange of the array, whose path is `array`, or the first fault of
-/// an element.
+/// The elements of the array under a key of a table, at most `most`, none if the key is missing.
+/// Else WrongType or OutOfRange of the array, whose path is `array`, or the first fault of an
+/// element.
 #[tactic(auto, unfolding(crate::specs::Arrays::list_conditions, crate::specs::Arrays::list_of, crate::specs::Keys::optional_array_at))]
 pub(crate) fn optional_list<E: Element>(
     alloc: Global,

@@ -9,9 +9,8 @@ use std::alloc::{AllocError, AllocFailed};
 use std::error::Error;
 use std::fmt;
 
-/// The first fault of a world file, most with the path of the key, as `rules.growth`; or that
-/// memory ran out while it was read. There is no world then.
-/// See docs/FORMATS.md, "Faults of a world file".
+/// Why a world file describes no world: its first fault, or that memory ran out. Most faults have
+/// the path of a key, as `rules.growth`. See docs/FORMATS.md, "Faults of a world file".
 #[derive(Drop, Debug)]
 pub enum WorldFault {
     /// The text is no TOML.
@@ -85,7 +84,7 @@ impl WorldFault {
     }
 }
 
-/// Writes the fault's number, name and path, as `3 WrongType rules.growth`; without a number or a
+/// Writes the fault's number, name and path, as `3 WrongType rules.growth`. Without a number or a
 /// path it leaves them out.
 impl fmt::Display for WorldFault {
     fn fmt<W: fmt::Write>(&self, f: &mut fmt::Formatter<W>) -> fmt::Result {

@@ -96,7 +96,7 @@ pub(crate) fn number(
     }
 }
 
-/// The number under a key, from `least` to `most`, or `default` if the key is missing; else
+/// The number under a key, from `least` to `most`, or `default` if the key is missing. Else
 /// WrongType or OutOfRange.
 #[tactic(auto, unfolding(crate::specs::Keys::number_or_at))]
 pub(crate) fn number_or(
@@ -121,7 +121,7 @@ pub(crate) fn number_or(
     }
 }
 
-/// The number under a key, from `least` to `most`, `None` if the key is missing; else WrongType or
+/// The number under a key, from `least` to `most`, `None` if the key is missing. Else WrongType or
 /// OutOfRange.
 #[tactic(auto, unfolding(crate::specs::Keys::optional_number_at))]
 pub(crate) fn optional_number(

@@ -12,8 +12,8 @@ use crate::numbered::{Entries, Numbered};
 use std::alloc::{AllocError, Global};
 use std::marker::Model;
 
-/// A map from numbers to values, with a mark on each number whose value was put in, changed or
-/// taken out since the marks were last cleared.
+/// A map from numbers to values that marks each number whose value changes. A value changes if it
+/// is put in, lent to be changed, or taken out; the marks stay until they are cleared.
 pub struct MarkedMap<V> {
     values: Numbered<V>,
     // The marked numbers, with room for one mark on each value.
@@ -61,8 +61,8 @@ impl<V: Drop> MarkedMap<V> {
         self.values.get(number)
     }
 
-    /// The value under a number, lent to be changed, and its number marked; `None` if there is
-    /// none. It takes no memory.
+    /// Marks a number that has a value, and lends the value to be changed; `None` without one. It
+    /// takes no memory.
     pub fn get_mut(&mut self, number: u32) -> Option<&mut V>
         ensures* writes_back { sem 𝓛 (WritesBackMarked V.row self.entry number result) }
         ensures value { option_copied_mut result ≡ map.get self.old.values number }
@@ -118,7 +118,7 @@ impl<V: Drop> MarkedMap<V> {
         self.values.remove(number);
     }
 
-    /// Takes out a value that was inserted, if it is there; its number stays marked if it was
+    /// Takes out a value that was inserted, if it is there. Its number stays marked if it was
     /// marked before that. It takes no memory.
     pub fn take_out(&mut self, number: u32, was_marked: bool)
         ensures { self.new ≡ taken_out self.old number was_marked }

@@ -72,7 +72,7 @@ impl Element for MarketDraft {
     }
 }
 
-/// The markets of the region at a path, in the order of the file, none if it has none; else their
+/// The markets of the region at a path, in the order of the file, none if it has none. Else their
 /// first fault.
 #[tactic(auto, unfolding(crate::specs::MarketTable::markets_keys, crate::specs::MarketTable::markets_from))]
 pub(crate) fn markets(

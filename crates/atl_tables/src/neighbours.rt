@@ -37,7 +37,7 @@ fn is_number(number: u32, other: Option<u32>) -> bool
     }
 }
 
-/// Checks that a region's neighbour, if it has one, has the region on its opposite side, else
+/// Checks that a region's neighbour, if it has one, has the region on its opposite side. Else
 /// BadNeighbour.
 fn neighbour(
     alloc: Global,
@@ -63,7 +63,7 @@ fn neighbour(
     }
 }
 
-/// Checks the four neighbours of the i-th region of the file, else BadNeighbour at the first that
+/// Checks the four neighbours of the i-th region of the file. Else BadNeighbour at the first that
 /// is wrong.
 #[tactic(auto, unfolding(crate::specs::Neighbours::neighbours_at))]
 fn neighbours_of(
@@ -88,7 +88,7 @@ fn neighbours_of(
     neighbour(alloc, "west", at, regions, East, number, sides.west)
 }
 
-/// Checks that the neighbours of all regions are mutual, else BadNeighbour at the first that isn't,
+/// Checks that the neighbours of all regions are mutual. Else BadNeighbour at the first that isn't,
 /// in the order of the file.
 pub(crate) fn mutual_neighbours(
     alloc: Global,

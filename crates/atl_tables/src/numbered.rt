@@ -104,8 +104,8 @@ impl<V: Drop> Numbered<Numbered<V>> {
         }
     }
 
-    /// Puts a value under a number in the group under another number, in place of any that is
-    /// there. A group that is missing is added. Without memory nothing changes.
+    /// Puts a value under a number of the group under another number. It replaces any value that is
+    /// there, and adds the group if it is missing. Without memory nothing changes.
     pub fn insert_under(
         &mut self,
         alloc: Global,
@@ -129,8 +129,7 @@ impl<V: Drop> Numbered<Numbered<V>> {
     }
 }
 
-/// An iterator over the entries of a map, each a number and its value, in rising order of the
-/// numbers.
+/// An iterator over the numbers of a map with their values, in rising order.
 #[derive(Drop)]
 pub struct Entries<'a, V> {
     inner: btree_map::Iter<'a, u32, V>,

@@ -29,7 +29,7 @@ pub struct Output {
     pub amount: u32,
 }
 
-/// The entries of a table `output`, in byte order of their keys, else WrongType or OutOfRange at
+/// The entries of a table `output`, in byte order of their keys. Else WrongType or OutOfRange at
 /// the first bad amount.
 fn amounts(alloc: Global, at: &str, table: &Table) -> Result<Sequence<Output>, WorldFault>
     ensures value { Gives (λ v. v) result
@@ -48,7 +48,7 @@ fn amounts(alloc: Global, at: &str, table: &Table) -> Result<Sequence<Output>, W
 }
 
 /// The output of the terrain at a path, in byte order of the items' names, empty if the file has
-/// none; else the first fault of the table.
+/// none. Else the first fault of the table.
 #[tactic(auto, unfolding(crate::specs::OutputTable::output_at, crate::specs::OutputTable::in_byte_order, crate::specs::Keys::optional_table_at))]
 pub(crate) fn outputs(
     alloc: Global,

@@ -207,7 +207,7 @@ fn with_land(
     Ok(World::from_parts(rules, terrains, items, skills, kinds, regions, land))
 }
 
-/// The world of these parts, if neighbours are mutual and a region has land; else BadNeighbour or
+/// The world of these parts, if neighbours are mutual and a region has land. Else BadNeighbour or
 /// NoLand.
 #[tactic(auto, unfolding(crate::specs::World::neighbours_are_mutual))]
 fn join(alloc: Global, all: WorldDraft, parts: WorldParts) -> Result<World, WorldFault>
@@ -232,8 +232,7 @@ fn join(alloc: Global, all: WorldDraft, parts: WorldParts) -> Result<World, Worl
     with_land(alloc, rules, terrains, items, skills, kinds, regions)
 }
 
-/// The world that the tables describe, or the first fault of names, numbers and neighbours, or
-/// NoLand.
+/// The world that the tables describe, or the first fault that isn't one of a key.
 fn from_tables(alloc: Global, all: WorldDraft) -> Result<World, WorldFault>
     requires { IsWorldDraft all }
     ensures { Gives (λ w. w) result (first_fault (table_conditions all)) (world_of_tables all) }
@@ -269,7 +268,7 @@ fn read(alloc: Global, format: Format, text: &str) -> Result<World, WorldFault>
     }
 }
 
-/// The world that a text describes, or its first fault in the order of
+/// The world that a text describes, or its first fault. The order of faults is that of
 /// docs/FORMATS.md, "Faults of a world file". `Memory` is answered only if memory ran out, and says
 /// nothing of the text.
 pub fn read_world(alloc: Global, text: &str) -> Result<World, WorldFault>
@@ -278,8 +277,8 @@ pub fn read_world(alloc: Global, text: &str) -> Result<World, WorldFault>
     read(alloc, Format::Second, text)
 }
 
-/// The world that a text describes in the first format, which ignores the markets of regions, or
-/// its first fault.
+/// The world that a text describes in the first format, or its first fault. The first format
+/// ignores the markets of regions.
 pub fn read_old_world(alloc: Global, text: &str) -> Result<World, WorldFault>
     ensures definition { Reads (λ w. w) result (old_world_of text.now) }
 {

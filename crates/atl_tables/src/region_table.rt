@@ -42,8 +42,8 @@ impl Drop for RegionBasics {
     }
 }
 
-/// The numbers of a region's neighbours, each from 1 to `LAST_REGION`, `None` on a side without
-/// one.
+/// The numbers of a region's neighbours, `None` on a side without one. They are from 1 to
+/// `LAST_REGION`.
 #[derive(Drop)]
 pub struct Sides {
     pub north: Option<u32>,

@@ -189,7 +189,7 @@ impl Element for RulesDraft {
     }
 }
 
-/// The rules of the document, else Missing or WrongType of the table `[rules]`, or the first fault
+/// The rules of the document. Else Missing or WrongType of the table `[rules]`, or the first fault
 /// of its keys.
 #[tactic(auto, unfolding(crate::specs::RulesTable::rules_conditions, crate::specs::RulesTable::rules_in))]
 pub(crate) fn rules(alloc: Global, document: &Table) -> Result<RulesDraft, WorldFault>

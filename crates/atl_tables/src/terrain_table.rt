@@ -20,8 +20,7 @@ use crate::world_draft::{Draft, WorldDraft};
 use std::alloc::Global;
 use toml::Table;
 
-/// What work in a region of a terrain pays, and the most money and peasants that such a region
-/// grows to.
+/// The wage and the places of work in a region of a terrain, and its limits of money and peasants.
 #[derive(Drop)]
 pub struct Economy {
     /// Money that a month of work pays a man, from 1 to `MOST_PRICE`.

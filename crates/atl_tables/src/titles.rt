@@ -33,8 +33,8 @@ pub(crate) fn same_name(name: &Text, other: &Text) -> bool
     name.as_bytes().eq_ignore_ascii_case(other.as_bytes())
 }
 
-/// Adds a name to those seen, and returns whether none of them was equal to it, ignoring ASCII
-/// case. Without memory nothing is added.
+/// Adds a name to those seen, and returns whether it is new, ignoring ASCII case. Without memory
+/// nothing is added.
 pub(crate) fn is_new(
     alloc: Global,
     seen: &mut BTreeSet<String>,
@@ -51,7 +51,7 @@ pub(crate) fn is_new(
     Ok(new)
 }
 
-/// Checks that no two elements of the array at a path have equal names, ignoring ASCII case, else
+/// Checks that no two elements of the array at a path have equal names, ignoring ASCII case. Else
 /// TwoNames at the second.
 pub(crate) fn no_duplicate_names<T: Titled>(
     alloc: Global,
@@ -76,13 +76,13 @@ pub(crate) fn no_duplicate_names<T: Titled>(
 pub(crate) trait HasUniqueNames: Drop {
     ghost twins: { ℕ → Self → Conditions };
 
-    /// Checks that the i-th table of its array holds no two things with equal names, else TwoNames
+    /// Checks that the i-th table of its array holds no two things with equal names. Else TwoNames
     /// at the second.
     fn no_duplicates_inside(&self, alloc: Global, i: usize) -> Result<(), WorldFault>
         ensures { Gives (λ u. u) result (first_fault (twins i self.now)) (tt {0}) };
 }
 
-/// Checks that none of these tables holds two things with equal names, else TwoNames at the first
+/// Checks that none of these tables holds two things with equal names. Else TwoNames at the first
 /// that does.
 pub(crate) fn no_duplicates_inside<T: HasUniqueNames>(
     alloc: Global,
@@ -132,7 +132,7 @@ pub(crate) fn known<T: Titled>(
     }
 }
 
-/// The number of the thing that the name under a key refers to, `None` without a name; else
+/// The number of the thing that the name under a key refers to, `None` without a name. Else
 /// UnknownName.
 pub(crate) fn known_number_or_none<T: Titled>(
     alloc: Global,

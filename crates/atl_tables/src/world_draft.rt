@@ -65,7 +65,7 @@ pub(crate) trait Draft: Drop {
 
     ghost is_sound: { WorldDraft → ℕ → Self.Record → Type 0 };
 
-    /// The record of the i-th table of its array, with numbers in place of names, else UnknownName
+    /// The record of the i-th table of its array, with numbers in place of names. Else UnknownName
     /// at the first name of nothing. `Memory` may come at any point.
     fn resolve(&self, alloc: Global, all: &WorldDraft, i: usize) -> Result<Self::Record, WorldFault>
         requires all { IsWorldDraft all.now }
