@@ -47,8 +47,8 @@ fn amounts(alloc: Global, at: &str, table: &Table) -> Result<Sequence<Output>, W
     Ok(outputs)
 }
 
-/// The output of the terrain at a path, in byte order of the items' names, empty if the file has
-/// none. Else the first fault of the table.
+/// The output of the terrain at a path, in byte order of its keys, empty if the file has none. Else
+/// the first fault of the table.
 #[tactic(auto, unfolding(crate::specs::OutputTable::output_at, crate::specs::OutputTable::in_byte_order, crate::specs::Keys::optional_table_at))]
 pub(crate) fn outputs(
     alloc: Global,

@@ -232,7 +232,7 @@ fn join(alloc: Global, all: WorldDraft, parts: WorldParts) -> Result<World, Worl
     with_land(alloc, rules, terrains, items, skills, kinds, regions)
 }
 
-/// The world that the tables describe, or the first fault that isn't one of a key.
+/// The world that the tables describe, or the first fault of names, numbers, neighbours and land.
 fn from_tables(alloc: Global, all: WorldDraft) -> Result<World, WorldFault>
     requires { IsWorldDraft all }
     ensures { Gives (λ w. w) result (first_fault (table_conditions all)) (world_of_tables all) }
