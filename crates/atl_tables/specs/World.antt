@@ -70,7 +70,7 @@ world_of_tables all = record {
 }
 
 -- ---- the conditions, in the order in which their faults count
--- the conditions on the keys of items, skills and kinds: each is there, of its type and in its range
+-- the conditions on the keys of items, skills and kinds: each has its type and range, and is there if it is needed
 unfoldable pub things_are_good : Members → Conditions
 things_are_good doc =
     list_conditions item_keys (codes "item") (optional_array_at most_items (codes "item") (codes "item") doc)
@@ -137,7 +137,7 @@ unfoldable pub conditions : Format → Members → Conditions
 conditions format doc = keys_are_good format doc ++ table_conditions (tables_of format doc)
 
 -- ---- the world of a text in a format, or its first fault
--- the world of a document in a format, or its first fault; NotToml if the text is no document
+-- the world of a document in a format, or its first fault; NotToml without a document
 abbrev pub world_in : Format → Option Members → Result WorldValue WorldFault
 world_in format None = Err NotToml
 world_in format (Some doc) = unless (first_fault (conditions format doc)) (world_of_tables (tables_of format doc))
