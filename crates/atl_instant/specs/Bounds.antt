@@ -60,7 +60,7 @@ pub record StepsWell (holds : Condition) (reserve : RemainingBound) (w : WorldVa
   pub balances : Balances before → Balances after
   pub drawn : (e : Entry) (t : Thing) → UsesBound (reserve before e t) (reserve after e t) (amount_in before.books e t) (amount_in after.books e t)
 
--- `spares` relates each unit to itself, relates over two changes what it relates over each, and keeps the faction
+-- `spares` is reflexive and transitive, and relates only units of the same faction
 pub record IsUnaffectedRelation (spares : Unaffected) : Type 0 where
   pub same : (u : Unit) → spares u u
   pub again : (u v x : Unit) → spares u v → spares v x → spares u x

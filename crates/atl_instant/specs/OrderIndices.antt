@@ -71,7 +71,7 @@ key_by ByFaction p = p.faction ∷ p.line ∷ p.unit ∷ p.place ∷ []
 abbrev pub no_mailing : Mailing
 no_mailing = record { faction = 0; text = []; entries = []; faults = [] }
 
--- an order that does nothing, for an index past the last order of a mailing
+-- an order WORK for unit 0 on line 0, for an index past the last order of a mailing
 abbrev pub no_entry : Entry
 no_entry = record { line = 0; target = Number 0; order = record { verb = Work; operands = Nothing } }
 

@@ -96,7 +96,7 @@ pub record QuitsFrom (begun : CampaignValue) (t : Task) (n f : ℕ) : Type 0 whe
 abbrev pub quit_keeps : Frame
 quit_keeps w m before after = spares_others (QuitsFrom before) IsNoWorse is_quitting w m before after
 
--- ---- how far it moves the books
+-- ---- by how much the phase moves the books
 
 -- the bound on the books: each thing may move by less than 10^14 under the entry of its loss, and nothing else
 abbrev pub quit_moves : BookBound
