@@ -43,7 +43,7 @@ use Rattle.atl_instant.specs.Unbooked.{moves_nothing}
 use Rattle.atl_instant.proofs.MeaningLaws.{same_month_by}
 use Rattle.atl_instant.proofs.OutcomeLaws.{false_true, none_fits}
 use Rattle.atl_instant.proofs.RefitLaws.{under}
-use Rattle.atl_instant.proofs.StructureLaws.{at_number, changed_else, equal, get-changed, len-changed}
+use Rattle.atl_instant.proofs.StructureLaws.{at_number, changed_else, equal_passes, get-changed, len-changed}
 use Rattle.atl_instant.proofs.OrderEffectLaws.{carried_cases, well_same}
 use Rattle.atl_instant.specs.NoWorse.{IsUnchanged}
 use Rattle.atl_instant.proofs.UnbookedLaws.{stays_well}
@@ -63,7 +63,7 @@ of_unit f o = option_map_or (λ (x : Unit). f x.holding) o 0
 
 any_listed : (k : ℕ) (ns : List ℕ) → IsListed k ns → list_any (λ n. k == n) ns ≡ true
 any_listed k [] listed = absurd listed
-any_listed k (n ∷ ns) (inl same) = ap (λ b. b || list_any (λ n. k == n) ns) (equal k n same)
+any_listed k (n ∷ ns) (inl same) = ap (λ b. b || list_any (λ n. k == n) ns) (equal_passes k n same)
 any_listed k (n ∷ ns) (inr listed) = ap (λ b. (k == n) || b) (any_listed k ns listed) ∙ or_true (k == n)
   where
     or_true : (b : Bool) → (b || true) ≡ true
@@ -112,7 +112,7 @@ module _ (ship to : ℕ) where
   unfolding with_place
   one_is d n v is here =
       ap (λ o. with_guard (with_place_at d n to ship o) n false) is
-      ∙ ap (λ b. with_guard (if b then placed d n to ship else after_handover (after_handover (placed d n to ship) v.structure n (heir d v.structure n)) ship 0 n) n false) (equal v.structure ship here)
+      ∙ ap (λ b. with_guard (if b then placed d n to ship else after_handover (after_handover (placed d n to ship) v.structure n (heir d v.structure n)) ship 0 n) n false) (equal_passes v.structure ship here)
 
   still_inside : (m : FinMap nat_cmp Unit) (n k : ℕ) → IsInside m k → IsInside (elsewhere ship to m n) k
   still_inside m n k (v, there, here) = (gone_if ship to (k == n) v, elsewhere_at ship to m n k ∙ ap (option_map (gone_if ship to (k == n))) there, by_test (k == n))
@@ -180,7 +180,7 @@ module _ (w : WorldValue) (c : CampaignValue) (ship to : ℕ) (steady : IsSteady
       let (u, at, inside) = listed_is_inside ship c.units k (listed_any k ns e) in
       let one : Some u ≡ Some v = sym at ∙ there in
       let unit : u ≡ v = cc in
-      sym (equal u.structure ship inside) ∙ ap (λ (y : Unit). y.structure == ship) unit ∙ t
+      sym (equal_passes u.structure ship inside) ∙ ap (λ (y : Unit). y.structure == ship) unit ∙ t
 
   units_by : (k : ℕ) (o : Option Unit) → get c.units k ≡ o → option_map (gone_if ship to (list_any (λ n. k == n) ns)) o ≡ option_map (f k) o
   units_by k None there = refl
@@ -197,7 +197,7 @@ module _ (w : WorldValue) (c : CampaignValue) (ship to : ℕ) (steady : IsSteady
   inside_same k v = inside_by v (v.structure == ship) refl
 
   at_ship : get structures ship ≡ Some (shifted x)
-  at_ship = get-changed shifted c.structures ship ship ∙ ap (option_map (g ship)) is ∙ ap (λ b. Some (if b then shifted x else x)) (equal ship ship refl)
+  at_ship = get-changed shifted c.structures ship ship ∙ ap (option_map (g ship)) is ∙ ap (λ b. Some (if b then shifted x else x)) (equal_passes ship ship refl)
 
   at_other : (q : ℕ) → q ≢ ship → get structures q ≡ get c.structures q
   at_other q apart = changed_else shifted c.structures ship q apart (get c.structures ship)

@@ -34,7 +34,7 @@ use Rattle.atl_instant.proofs.MeaningLaws.{same_month_by}
 use Rattle.atl_instant.proofs.OutcomeLaws.{false_true, none_fits}
 use Rattle.atl_instant.proofs.OwnerLaws.{heir_owns, owner_stays}
 use Rattle.atl_instant.proofs.PlacingLaws.{mapped_twice, owns_no_other, place_stays}
-use Rattle.atl_instant.proofs.StructureLaws.{changed_else, equal, get-after_handover, handed_is, handed_on, len-after_handover}
+use Rattle.atl_instant.proofs.StructureLaws.{changed_else, equal_passes, get-after_handover, handed_is, handed_on, len-after_handover}
 use Rattle.atl_instant.proofs.OrderEffectLaws.{no_worse_spares, well_same}
 use Rattle.atl_instant.proofs.UnbookedLaws.{stays_spared, stays_well}
 use Rattle.atl_action.specs.Walk.{after_walk, is_land_there, walk, walk_effect, walk_fault, walk_step}
@@ -75,7 +75,7 @@ module _ (w : WorldValue) (c : CampaignValue) (n : ℕ) (u : Unit) (to : ℕ) (i
   units_at = elsewhere_at 0 to c.units n
 
   here : get units n ≡ Some (gone 0 to u)
-  here = units_at n ∙ ap (option_map (f n)) is ∙ ap (λ b. Some (gone_if 0 to b u)) (equal n n refl)
+  here = units_at n ∙ ap (option_map (f n)) is ∙ ap (λ b. Some (gone_if 0 to b u)) (equal_passes n n refl)
 
   away : (k : ℕ) → k ≢ n → get units k ≡ get c.units k
   away k apart = units_at k ∙ ap (λ b. option_map (gone_if 0 to b) (get c.units k)) (other_number k n apart) ∙ sym (mapped_itself (get c.units k))

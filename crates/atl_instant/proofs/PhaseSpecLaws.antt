@@ -30,21 +30,21 @@ moved_within (phase ∷ next ∷ rest) each e t = counted (may_move phase.moved 
 
 -- ---- a faction without a mailing
 
-abbrev pub Leaves : PhaseSpec → Type 0
-Leaves phase = LeavesUnmailed phase.meaning phase.keeps
+abbrev pub PhaseLeavesUnmailed : PhaseSpec → Type 0
+PhaseLeavesUnmailed phase = LeavesUnmailed phase.meaning phase.keeps
 
 -- each but the last leaves an unmailed faction its units, and the last one closes
 abbrev pub CloseTogether : List PhaseSpec → Type 0
 CloseTogether [] = ⊥
 CloseTogether (phase ∷ []) = ClosesUnmailed phase.meaning phase.keeps
-CloseTogether (phase ∷ next ∷ rest) = Leaves phase × CloseTogether (next ∷ rest)
+CloseTogether (phase ∷ next ∷ rest) = PhaseLeavesUnmailed phase × CloseTogether (next ∷ rest)
 
 pub closed_together : (phases : List PhaseSpec) → CloseTogether phases → ClosesUnmailed (meaning_of phases) (keeps_of phases)
 closed_together [] none = absurd none
 closed_together (phase ∷ []) closes = closes
 closed_together (phase ∷ next ∷ rest) each = then_closes each.0 (closed_together (next ∷ rest) each.1)
 
-pub leave_together : (phases : List PhaseSpec) → EachPhase Leaves phases → LeavesUnmailed (meaning_of phases) (keeps_of phases)
+pub leave_together : (phases : List PhaseSpec) → EachPhase PhaseLeavesUnmailed phases → LeavesUnmailed (meaning_of phases) (keeps_of phases)
 leave_together [] each = record {
   readings = λ w c m. refl;
   told = λ w c m n. omega arith;

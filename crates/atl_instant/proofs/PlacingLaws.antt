@@ -23,7 +23,7 @@ use Rattle.atl_instant.specs.Bounds.{StepsWell, books_nothing}
 use Rattle.atl_instant.proofs.MeaningLaws.{same_month_by}
 use Rattle.atl_instant.proofs.OwnerLaws.{heir_owns, owner_stays}
 use Rattle.atl_instant.proofs.RefitLaws.{IsRefit, IsRelabelled, early-refitted, refitted, steady-refitted, total-refitted}
-use Rattle.atl_instant.proofs.StructureLaws.{changed_else, equal, get-after_handover, handed_is, handed_on, len-after_handover}
+use Rattle.atl_instant.proofs.StructureLaws.{changed_else, equal_passes, get-after_handover, handed_is, handed_on, len-after_handover}
 use Rattle.atl_instant.proofs.UnbookedLaws.{unbooked_well}
 
 pub mapped_twice : {A : Type 0} (f g : A → A) (o : Option A) → option_map f (option_map g o) ≡ option_map (λ y. f (g y)) o
@@ -118,7 +118,7 @@ module _ (w : WorldValue) (c : CampaignValue) (n : ℕ) (u : Unit) (s : ℕ) (is
     owned = λ some. (moved, get-insert_same c.units n moved, sym here);
     ownerless = λ none. let least = low n u is in absurd (omega (arith, none, least));
   }
-  entered_owned q y there other here false t = still_owned q y there (owns_no_other w c n u is steady q y there other) (λ none. absurd (true≢false (sym (equal y.owner 0 none) ∙ t)))
+  entered_owned q y there other here false t = still_owned q y there (owns_no_other w c n u is steady q y there other) (λ none. absurd (true≢false (sym (equal_passes y.owner 0 none) ∙ t)))
 
   abbrev given : (a e b : Bool) → Structure → Structure
   given a e b y = let x = if a && e then owned_by next y else y in if b && x.owner == 0 then owned_by n x else x

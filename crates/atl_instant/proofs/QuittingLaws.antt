@@ -21,7 +21,7 @@ use Rattle.atl_instant.specs.NoWorse.{IsNoWorse}
 use Rattle.atl_instant.specs.OrderEffects.{is_of_faction, is_own, meaning_by_orders}
 use Rattle.atl_instant.specs.declared.phase_order.Arrangement.TheVariants.{ByUnit}
 use Rattle.atl_instant.proofs.QuitLaws.{left_well, quit_cases, quit_orderly, quit_well, units_behind}
-use Rattle.atl_instant.proofs.StructureLaws.{equal}
+use Rattle.atl_instant.proofs.StructureLaws.{equal_passes}
 use Rattle.atl_instant.proofs.OrderEffectLaws.{no_worse_spares, orders_fit, orders_spare}
 
 -- ---- no unit comes, and none changes
@@ -47,7 +47,7 @@ quit_some : (w : WorldValue) (c : CampaignValue) (number : ℕ) (x : Unit) → I
 quit_some w c number x steady = quit_cases (HasSomeOf c) c number x (λ k u there. there) (λ own. all_left_some w c (numbers_of x.faction c.units) steady)
 
 is_own_unit : (c : CampaignValue) (t : Task) (x : Unit) → IsUnitOf c t x → is_own c t ≡ true
-is_own_unit c t x own = ap (is_of_faction t.faction) own.there ∙ equal x.faction t.faction own.faction
+is_own_unit c t x own = ap (is_of_faction t.faction) own.there ∙ equal_passes x.faction t.faction own.faction
 
 -- an order for a unit that is the faction's own behind was so before
 own_before : (c d : CampaignValue) (t : Task) → HasSomeOf c d → is_own d t ≡ true → is_own c t ≡ true

@@ -115,8 +115,8 @@ rest_within k s n d some most = elim (cases_lt (k * s) d) [
     scaled : (y : ℕ) → y ≤ k * n → y * (s + n) ≤ (k * s + y) * n
     scaled y few = rw (turned k s n y, spread y s n) (sum (y * s) ((k * n) * s) (y * n) (mul-le-mul_right s few))
 
-pub rest_most : (n men days : ℕ) → n ≤ men → 1 ≤ days → days ≤ most_days * men → days - days_going n men days ≤ most_days * (men - n)
-rest_most n men days fewer some most =
+pub staying_days_within : (n men days : ℕ) → n ≤ men → 1 ≤ days → days ≤ most_days * men → days - days_going n men days ≤ most_days * (men - n)
+staying_days_within n men days fewer some most =
     let whole : (men - n) + n ≡ men = omega arith in
     let men_there : 0 < men = some_men men days some most in
     subst (λ m. days - days * n / m ≤ most_days * (men - n)) whole (rest_within most_days (men - n) n days (omega arith) (subst (λ m. days ≤ most_days * m) (sym whole) most))
@@ -145,7 +145,7 @@ may_have_fewer w n h fewer may = record {
   skills = λ s d there. let (some, is) = each_said (staying_of n h) (keys h.days) s d there in known_skill w h s may (had (amount_of h.days s) (going_of n h s) d is some);
   days = λ s d there.
       let (some, is) = each_said (staying_of n h) (keys h.days) s d there in
-      (some, subst (λ x. x ≤ most_days * (h.men - n)) (sym is) (rest_most n h.men (amount_of h.days s) fewer (had (amount_of h.days s) (going_of n h s) d is some) (days_may w h s may)));
+      (some, subst (λ x. x ≤ most_days * (h.men - n)) (sym is) (staying_days_within n h.men (amount_of h.days s) fewer (had (amount_of h.days s) (going_of n h s) d is some) (days_may w h s may)));
 }
   where
     had : (a g d : ℕ) → d ≡ a - g → 1 ≤ d → 1 ≤ a

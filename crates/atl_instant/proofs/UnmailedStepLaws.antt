@@ -37,7 +37,7 @@ use Rattle.atl_instant.proofs.GiveLaws.{give_cases}
 use Rattle.atl_instant.proofs.MovingLaws.{moved, receiver_still}
 use Rattle.atl_instant.proofs.QuitLaws.{all_left_others}
 use Rattle.atl_instant.proofs.StructureLaws.{handed_is}
-use Rattle.atl_instant.proofs.PhaseSpecLaws.{Leaves}
+use Rattle.atl_instant.proofs.PhaseSpecLaws.{PhaseLeavesUnmailed}
 use Rattle.atl_instant.proofs.TransferLaws.{transfer_cases}
 use Rattle.atl_instant.proofs.UnmailedLaws.{HasItsMen, HaveTheirMen, LeavesUnmailed, OthersHaveMen, SparesMen, carried_leaves, items_of_no_worse, men_changed, men_put, men_same, men_stay, men_twice, men_unless, others_men, own_faction, told_of_order, unmailed_spared, whole_leaves}
 
@@ -82,7 +82,7 @@ name_men w c f n x other = tt
 name_spares : SparesMen name_step
 name_spares w a c t x own = name_men w c t.faction t.unit x t.order_value.operands
 
-pub name_leaves : Leaves name_spec
+pub name_leaves : PhaseLeavesUnmailed name_spec
 name_leaves = carried_leaves name_step is_naming name_spares (unmailed_spared {concerns = name_concerns} is_naming (λ t n f h. own_faction t n f h.0) items_of_no_worse)
 
 -- ---- LEAVE, ENTER and PROMOTE
@@ -128,7 +128,7 @@ places_men w a c f n x other = tt
 place_spares : SparesMen place_step
 place_spares w a c t x own = places_men w a c t.faction t.unit x t.order_value.operands
 
-pub place_leaves : Leaves place_spec
+pub place_leaves : PhaseLeavesUnmailed place_spec
 place_leaves = carried_leaves place_step is_placing place_spares (unmailed_spared is_placing own_faction items_of_no_worse)
 
 -- ---- GIVE and PAY
@@ -160,7 +160,7 @@ given_men a c f from x here other = tt
 give_spares : SparesMen give_step
 give_spares w a c t x own = given_men a c t.faction t.unit x own.there t.order_value.operands
 
-pub give_leaves : Leaves give_spec
+pub give_leaves : PhaseLeavesUnmailed give_spec
 give_leaves = carried_leaves give_step is_giving give_spares (unmailed_spared is_giving own_faction items_of_no_worse)
 
 -- ---- TRANSFER
@@ -189,7 +189,7 @@ transferred a c t x own o = tt
 transfer_spares : SparesMen transfer_step
 transfer_spares w a c t x own = transferred a c t x own t.order_value.operands
 
-pub transfer_leaves : Leaves transfer_spec
+pub transfer_leaves : PhaseLeavesUnmailed transfer_spec
 transfer_leaves = carried_leaves transfer_step is_transferring transfer_spares (unmailed_spared is_transferring own_faction items_of_no_worse)
 
 -- ---- GUARD 1
@@ -205,7 +205,7 @@ guarded_men c f n x other = tt
 guard_spares : SparesMen guard_step
 guard_spares w a c t x own = guarded_men c t.faction t.unit x t.order_value.operands
 
-pub guard_leaves : Leaves guard_spec
+pub guard_leaves : PhaseLeavesUnmailed guard_spec
 guard_leaves = carried_leaves guard_step is_guarding guard_spares (unmailed_spared {concerns = guard_concerns} is_guarding (λ t n f h. own_faction t n f h.0) items_of_no_worse)
 
 -- ---- QUIT

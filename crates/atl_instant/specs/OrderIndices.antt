@@ -126,6 +126,6 @@ tasks_picked is_of mailings places = filter (has_verb is_of) (map (task_at maili
 
 -- The invariant of a month: its mailings are sorted by faction, and the indices that it gathered, if any, name all orders that count,
 -- sorted by unit.
-pub record IsReady {Z : Type 0} (aliases : Aliases) (mailings : List Mailing) (standing : Option (Vec OrderIndex Z)) : Type 0 where
+pub record IsSortedMonth {Z : Type 0} (aliases : Aliases) (mailings : List Mailing) (standing : Option (Vec OrderIndex Z)) : Type 0 where
   pub sorted : AreByFaction mailings
   pub gathered : IfSome standing (λ places. AreOrderIndices ByUnit aliases mailings places.items)

@@ -39,7 +39,7 @@ impl Model for Month {
     ghost use Rattle.std.specs.Prelude.{map};
     ghost use Rattle.atl_orders.specs.Mailing.{reading_of};
     ghost use Rattle.atl_instant.specs.Month.{MonthValue, month_code, by_faction};
-    ghost use Rattle.atl_instant.specs.OrderIndices.{IsReady};
+    ghost use Rattle.atl_instant.specs.OrderIndices.{IsSortedMonth};
 
     ghost Value = { MonthValue };
 
@@ -52,7 +52,7 @@ impl Model for Month {
       events = a.events.items;
     } };
 
-    ghost invariant = { λ a. IsReady a.aliases a.mailings.items a.standing };
+    ghost invariant = { λ a. IsSortedMonth a.aliases a.mailings.items a.standing };
 }
 
 impl Month {

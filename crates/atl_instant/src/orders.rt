@@ -7,7 +7,7 @@ ghost use Rattle.atl_orders.specs.Mailing.{reading_of};
 ghost use Rattle.atl_instant.specs.Month.{by_faction};
 ghost use Rattle.atl_instant.specs.PhaseOrders.{OrdersAreInMailings, is_month_long, task_of, orders_of};
 ghost use Rattle.atl_instant.specs.StandOnce.{OneOrderStands};
-ghost use Rattle.atl_instant.specs.OrderIndices.{IsReady, IsThere, task_at, tasks_picked};
+ghost use Rattle.atl_instant.specs.OrderIndices.{IsSortedMonth, IsThere, task_at, tasks_picked};
 
 use crate::order_indices::{OrderIndex, order_indices};
 use crate::phase_order::{Arrangement, PhaseOrder};
@@ -87,7 +87,7 @@ pub(crate) fn orders_of<'m, P: PhaseVerbs>(
     mailings: &'m [Mailing],
     standing: &Option<Vec<OrderIndex>>,
 ) -> Result<Vec<PhaseOrder<'m>>, AllocError>
-    requires { IsReady aliases.now mailings.now standing.now }
+    requires { IsSortedMonth aliases.now mailings.now standing.now }
     ensures { IfOk result (λ list. map task_of list.items
         ≡ values (orders_of P.is_of arrangement aliases.now
         (by_faction (map reading_of mailings.now)))) }
