@@ -17,10 +17,10 @@ pub type PhaseResult = Result<(Campaign, Month), AllocError>;
 
 /// A phase of the month, or some phases one after the other: `(first, second)` is a phase too.
 pub trait Phase {
-    // What it makes of a campaign and of what the month carries.
+    // Its effect: the campaign and the month after it.
     ghost meaning: { Meaning };
 
-    // What it needs of a campaign, and what it leaves: a steady one, with most phases.
+    // What the campaign must be before it, and what it is after it: with most phases steady.
     ghost needs: { Condition } = { IsSteady };
 
     ghost leaves: { Condition } = { IsSteady };
