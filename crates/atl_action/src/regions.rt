@@ -4,7 +4,7 @@ ghost use Rattle.atl_action.specs.Regions.{is_region};
 
 use atl_tables::World;
 
-/// Whether it is a region of the world.
+/// Whether the world has a region of this number.
 pub(crate) fn is_region(world: &World, region: u32) -> bool
     ensures { result ≡ is_region world.now region }
 {

@@ -17,8 +17,8 @@ use std::alloc::{AllocError, Global};
 use std::marker::Model;
 
 /// What the phases of a month hand on: the mailings, the units that FORM made by their aliases, the
-/// words of the dice, and the events of the orders so far. Nothing shows in which order the mailings
-/// were given.
+/// words of the dice, and the events of the orders so far. Nothing shows in which order the
+/// mailings were given.
 pub struct Month {
     // By faction, no two of one faction.
     mailings: Vec<Mailing>,
@@ -117,7 +117,8 @@ impl Month {
         Ok(())
     }
 
-    /// Notes the unit that a faction's FORM made under an alias. Without memory the month stays as it is.
+    /// Notes the unit that a faction's FORM made under an alias. Without memory the month stays as
+    /// it is.
     pub fn set_alias(
         &mut self,
         alloc: Global,
@@ -144,10 +145,10 @@ impl Month {
         Ok(())
     }
 
-    /// The orders that a phase carries out, in the order of the arrangement.
-    /// It takes memory for each of them. If the month's orders aren't gathered, or not in this
-    /// arrangement, it also takes memory for each order of all mailings, and n log n steps for n of them.
-    /// See docs/RULES.md, "Orders of a month".
+    /// The orders that a phase carries out, in the order of the arrangement. It takes memory for
+    /// each of them. If the month's orders aren't gathered, or not in this arrangement, it also
+    /// takes memory for each order of all mailings, and n log n steps for n of them. See
+    /// docs/RULES.md, "Orders of a month".
     pub fn orders<P: PhaseVerbs>(
         &self,
         alloc: Global,
@@ -174,7 +175,8 @@ impl Month {
         mailing_of(&self.mailings, faction)
     }
 
-    /// The number of the unit that a faction's order names; 0 for an alias under which no unit was made.
+    /// The number of the unit that a faction's order names; 0 for an alias under which no unit was
+    /// made.
     pub fn unit(&self, faction: u32, target: UnitRef) -> u32
         ensures { result ≡ unit_of self.now.aliases faction target }
     {

@@ -1,4 +1,5 @@
-//! Phases that carry out their orders one by one, and the loop over the orders. See docs/RULES.md, "Orders of a month".
+//! Phases that carry out their orders one by one, and the loop over the orders. See docs/RULES.md,
+//! "Orders of a month".
 ghost use Rattle.std.specs.Prelude.{◌≡◌, IfOk, IfSome, OnOk, Some};
 ghost use Rattle.std.specs.FinMap.{get};
 ghost use Rattle.std.specs.Option.{option_copied};
@@ -41,9 +42,9 @@ pub trait OrderPhase: PhaseVerbs {
 
     ghost spares: { Unaffected } = { IsNoWorse };
 
-    /// Carries out an order of the phase's verbs. Returns its outcome, or None where it is passed over.
-    /// An order for a unit that isn't the faction's own changes nothing. AllocError without memory; the
-    /// campaign may then be changed in part. See docs/RULES.md, "Orders of a month".
+    /// Carries out an order of the phase's verbs. Returns its outcome, or None where it is passed
+    /// over. An order for a unit that isn't the faction's own changes nothing. AllocError without
+    /// memory; the campaign may then be changed in part. See docs/RULES.md, "Orders of a month".
     fn carry_out(
         &self,
         alloc: Global,

@@ -26,8 +26,8 @@ pub trait PhaseVerbs {
         ensures { result ≡ is_of verb };
 }
 
-/// The verbs that take the whole month. With these, `Month::orders` gives at most one order for each
-/// unit from each mailing: the one that counts.
+/// The verbs that take the whole month. With these, `Month::orders` gives at most one order for
+/// each unit from each mailing: the one that counts.
 pub struct MonthLongVerbs;
 
 impl PhaseVerbs for MonthLongVerbs {
@@ -76,9 +76,9 @@ fn phase_orders_at<'m, P: PhaseVerbs>(
     Ok(list)
 }
 
-/// The orders that a phase carries out, in the order of the arrangement.
-/// The mailings are sorted by faction, no two of one faction. By unit the orders are picked from the
-/// gathered indices, if there are any. Otherwise all orders are gathered for this call alone.
+/// The orders that a phase carries out, in the order of the arrangement. The mailings are sorted by
+/// faction, no two of one faction. By unit the orders are picked from the gathered indices, if
+/// there are any. Otherwise all orders are gathered for this call alone.
 pub(crate) fn orders_of<'m, P: PhaseVerbs>(
     alloc: Global,
     phase: &P,
@@ -107,8 +107,8 @@ pub fn orders_are_in_mailings()
     ensures { OrdersAreInMailings }
 {}
 
-/// Does nothing. Its clause is a law: of the verbs that share a slot, at most one order counts for a
-/// unit in a faction's mailing. See docs/RULES.md, "Orders of a month".
+/// Does nothing. Its clause is a law: of the verbs that share a slot, at most one order counts for
+/// a unit in a faction's mailing. See docs/RULES.md, "Orders of a month".
 pub fn one_order_stands()
     ensures { OneOrderStands }
 {}

@@ -32,8 +32,8 @@ pub trait Phase {
     // What it leaves to the units whose own faction wrote no order of it.
     ghost keeps: { Frame };
 
-    /// Runs the phase, with orders as they can be read with the world. AllocError without memory; the campaign and the
-    /// month are then given up.
+    /// Runs the phase, with orders as they can be read with the world. AllocError without memory;
+    /// the campaign and the month are then given up.
     fn run(&self, alloc: Global, world: &World, campaign: Campaign, month: Month) -> PhaseResult
         requires needs { needs world.now campaign.value }
         requires room { HaveRoom moving campaign.value }

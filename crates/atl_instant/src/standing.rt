@@ -33,7 +33,8 @@ pub(crate) fn is_slot(slot: Slot, other: Option<Slot>) -> bool
     }
 }
 
-/// The number of the unit that a faction's order names; 0 for an alias under which no unit was made.
+/// The number of the unit that a faction's order names; 0 for an alias under which no unit was
+/// made.
 pub(crate) fn unit_of(aliases: &Numbered<Numbered<u32>>, faction: u32, target: UnitRef) -> u32
     ensures { result ≡ unit_of aliases.now faction target }
 {
