@@ -1,4 +1,4 @@
--- How a campaign changes with the name that a faction shows.
+-- A campaign in which a faction shows another name stays steady.
 use Rattle.std.proofs.Common.{◌≡◌, ℕ, ◌+◌, List, Some, None, refl, sym, ap, subst, ◌∙◌, arith}
 use Rattle.std.specs.Prelude.{IsTrue, true, []}
 use Rattle.std.specs.Ordering.{nat_cmp}
@@ -96,15 +96,17 @@ module _ (c : CampaignValue) (n : ℕ) (x : Faction) (name : List ℕ) (is : get
   shown_is : with_faction_name c n name ≡ shown
   shown_is = ap (λ m. record c { factions = m }) (changed-known (λ f. record f { name = name }) c.factions n x is)
 
+  -- a campaign stays steady when a faction shows another good name
   pub steady-faction_name : (w : WorldValue) → IsTrue (name_ok name) → IsSteady w c → IsSteady w (with_faction_name c n name)
   steady-faction_name w named old = subst (IsSteady w) (sym shown_is) (steady_shown w named old)
 
-  -- no faction comes, and none is removed
+  -- the number of factions stays the same
   pub count-faction_name : len (with_faction_name c n name).factions ≡ len c.factions
   count-faction_name = ap (λ (d : CampaignValue). len d.factions) shown_is ∙ same_count
 
   was_there : (k : ℕ) → IsThere factions k → IsThere c.factions k
   was_there k (f, here) = every-insert (λ k f. IsThere c.factions k) c.factions n renamed (x, is) (λ k f here. (f, here)) k f here
 
+  -- a faction that is there after was there before
   pub known-faction_name : (k : ℕ) → IsThere (with_faction_name c n name).factions k → IsThere c.factions k
   known-faction_name k h = was_there k (subst (λ (d : CampaignValue). IsThere d.factions k) shown_is h)

@@ -1,4 +1,4 @@
--- How a campaign changes as a unit forms another.
+-- A campaign in which a unit has formed another stays well.
 use Rattle.std.proofs.Common.{◌≡◌, ◌≢◌, ◌==◌, ◌||◌, ◌*◌, ℕ, ◌+◌, ◌≤◌, ◌<◌, Bool, true, false, cond, Some, None, length, nat_le, nat_lt, refl, sym, ap, ◌∙◌, arith}
 use Rattle.std.proofs.lemmas.Bool.{true≢false}
 use Rattle.std.specs.Prelude.{IsTrue, is_some, unwrap_or}
@@ -42,6 +42,7 @@ still_there m k q v x free is = get-insert_other m k q v (λ same. none_some x (
 few : (u n : ℕ) → (nat_le most_units u || nat_lt last_unit n) ≡ false → (u < most_units) × (n ≤ last_unit)
 few u n h = (grind (arith, nat_tests), grind (arith, nat_tests))
 
+-- where the unit limit isn't reached there is room for one more unit, and for its number
 pub room : (c : CampaignValue) → is_unit_limit c ≡ false → (len c.units < most_units) × (c.next_unit ≤ last_unit)
 room c h = few (len c.units) c.next_unit h
 
@@ -168,14 +169,17 @@ module _ (w : WorldValue) (c : CampaignValue) (p : ℕ) (u : Unit) (is : get c.u
   unfolding total
   same_total t = none_more (total begun t) (total c t) (unit_amount t child.holding) (total-with_unit c c.next_unit child t free) (nothing_held t)
 
+  -- forming a unit is a step that leaves the campaign well, if the unit limit isn't reached
   pub begun_well : is_unit_limit c ≡ false → StepsWell IsEarly books_nothing w c begun
   begun_well limit = unbooked_well w c begun (early_begun limit) (same_month_by refl) refl same_total
 
+  -- each unit that was there stays as it was when another is formed
   pub begun_stays : Every (λ n v. get begun.units n ≡ Some v) c.units
   begun_stays = unit_stays
 
 -- ---- what is marked
 
+-- all that changes when a unit is formed is marked
 pub marks-begun : (c : MarkedCampaign) (u : Unit) → MarksChanges c (record { value = with_unit_begun c.value u; marks = mark_unit_begun c })
 marks-begun c u =
     let n = c.value.next_unit in

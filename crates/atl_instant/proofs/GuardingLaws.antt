@@ -1,4 +1,4 @@
--- A unit that begins to guard, in a region that no other faction guards.
+-- GUARD 1 leaves a campaign well: a unit begins to guard a region that no other faction guards.
 use Rattle.std.proofs.Common.{◌≡◌, ◌≢◌, ◌==◌, ℕ, ◌+◌, Bool, true, false, not, ◌&&◌, ◌||◌, List, [], ◌∷◌, Option, Some, None, refl, sym, ap, subst, ◌∙◌, inl, inr, arith}
 use Rattle.std.specs.Prelude.{IfSome, pos}
 use Rattle.std.specs.List.{list_any}
@@ -40,6 +40,7 @@ use Rattle.atl_instant.proofs.UnbookedLaws.{other_unit}
 
 -- ---- who else guards
 
+-- if no element of a list passes a test, an element of the list doesn't
 none_of : (p : ℕ → Bool) (ns : List ℕ) → list_any p ns ≡ false → (k : ℕ) → IsListed k ns → p k ≡ false
 none_of p [] is k listed = absurd listed
 none_of p (n ∷ ns) is k listed = by_test (p n) refl is (λ e h. none_of p ns e k h) listed
@@ -49,7 +50,7 @@ none_of p (n ∷ ns) is k listed = by_test (p n) refl is (λ e h. none_of p ns e
     by_test false t e rest (inl same) = ap p same ∙ t
     by_test false t e rest (inr h) = rest e h
 
--- a guard of the region is of the faction
+-- where no other faction guards a region, each unit that guards there is of this faction
 pub own_guards : (c : CampaignValue) (region faction : ℕ) → is_guarded_against c region faction ≡ false → Every (λ m v. guards v ≡ true → v.region ≡ region → v.faction ≡ faction) c.units
 own_guards c region faction none m v there guarding here =
     let inside : (v.region == region) ≡ true = grind (arith, nat_tests) in
@@ -64,9 +65,11 @@ own_guards c region faction none m v there guarding here =
 -- ---- the campaign behind it
 
 module _ (c : CampaignValue) (n : ℕ) (u : Unit) (is : get c.units n ≡ Some u) where
+  -- the unit with its guard flag set
   abbrev pub guarding : Unit
   guarding = record u { holding = record u.holding { guard = true } }
 
+  -- the campaign in which the unit has its guard flag set
   abbrev pub flagged : CampaignValue
   flagged = record c { units = insert c.units n guarding }
 
@@ -80,14 +83,17 @@ module _ (c : CampaignValue) (n : ℕ) (u : Unit) (is : get c.units n ≡ Some u
       (every-insert (λ m y. Agree guarding y) c.units n guarding (λ g k same. refl) (λ m y there g k same. sym (own m y there k (sym same))))
       (λ k x here. every-insert (λ m y. Agree x y) c.units n guarding (λ g h same. own k x here g same) (old k x here))
 
+  -- setting the guard flag of a unit that is there makes this campaign
   pub flagged_is : with_guard c n true ≡ flagged
   flagged_is = ap (λ m. record c { units = m }) (changed-known (λ (x : Unit). record x { holding = record x.holding { guard = true } }) c.units n u is)
 
+  -- each other unit stays as it is
   pub flag_spares : (k : ℕ) (x : Unit) → get c.units k ≡ Some x → k ≢ n → IsUnaffected IsNoWorse (with_guard c n true) k x
   flag_spares k x there apart =
       subst (λ d. IsUnaffected IsNoWorse d k x) (sym flagged_is) (record { unit = x; there = get-insert_other c.units n k guarding apart ∙ there; spared = no_worse x })
 
   module _ (w : WorldValue) where
+    -- a campaign stays steady when a unit begins to guard a region that no other faction guards
     pub steady-flagged : is_guarded_against c u.region u.faction ≡ false → IsSteady w c → IsSteady w flagged
     steady-flagged none steady =
         let may = may_have w c n u is steady in
@@ -107,6 +113,7 @@ module _ (c : CampaignValue) (n : ℕ) (u : Unit) (is : get c.units n ≡ Some u
         same : (a b x y : ℕ) → a + x ≡ b + y → y ≡ x → a ≡ b
         same a b x y e f = omega arith
 
+    -- so setting the flag is a step that leaves the campaign well
     pub flag_steps_well : is_guarded_against c u.region u.faction ≡ false → IsSteady w c → StepsWell IsSteady (λ d e t. 0) w c (with_guard c n true)
     flag_steps_well none steady =
         subst (λ d. StepsWell IsSteady (λ d e t. 0) w c d) (sym flagged_is) (record {
@@ -116,6 +123,7 @@ module _ (c : CampaignValue) (n : ℕ) (u : Unit) (is : get c.units n ≡ Some u
           drawn = λ e t. drawn_same 0 (amount_in c.books e t);
         })
 
+-- all that changes when the guard flag is set is marked
 pub flag_marks : (c d : MarkedCampaign) (n : ℕ) → d.value ≡ with_guard c.value n true → d.marks ≡ mark_unit_row c n → MarksChanges c d
 flag_marks c d n what marks =
     let all = marks-unit_row (λ u. record u { holding = record u.holding { guard = true } }) (λ u. refl) c n in
@@ -123,7 +131,7 @@ flag_marks c d n what marks =
 
 -- ---- one order
 
--- what is so of the campaign as it is, and of that in which the unit guards, is so of the campaign behind the order
+-- to show P of the campaign after GUARD 1, it is enough to show it of the campaign as it is and of that with the flag set
 guard_cases : (P : CampaignValue → Type 0) (c : CampaignValue) (n : ℕ) (u : Unit) → P c → (is_guarded_against c u.region u.faction ≡ false → P (with_guard c n true)) → P (guard n c u).0
 unfolding guard
 guard_cases P c n u same flag = by_fault (guard_fault c u) refl
@@ -144,6 +152,7 @@ guard_spares w c n u is k x there apart =
 
 -- ---- the phase
 
+-- the step of GUARD 1 is orderly
 pub guard_orderly : IsOrderly guard_step IsSteady (λ c e t. 0) (λ e t. 0) guard_concerns IsNoWorse
 guard_orderly = record {
   well = λ w a c t x steady fit own. well w c t x steady own t.order_value.operands;

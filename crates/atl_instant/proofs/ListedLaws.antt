@@ -1,4 +1,4 @@
--- Lists of entries in another order, and the maps that they make.
+-- The map that a list of entries makes, and what it lists: independent of the order of the list.
 use Rattle.std.proofs.Common.{◌≡◌, ℕ, ◌+◌, ◌<◌, cond, ◌&&◌, Bool, true, false, T, List, [], ◌∷◌, map, filter, length, get_or, Option, Some, None, refl, sym, ap, subst, ◌∙◌, Contains, slice_get, IsPermutation, arith}
 use Rattle.std.specs.declared.cmp.Ordering.{Ordering}
 use Rattle.std.specs.declared.cmp.Ordering.TheVariants.{Less, Equal, Greater}
@@ -20,7 +20,7 @@ module _ {X : Type 0} where
   some_none : {P : Type 0} (x : X) → Some x ≡ None → P
   some_none x e = cc
 
-  -- two look-ups each of which finds what the other does
+  -- two look-ups are the same if each finds what the other finds
   alike : (a b : Option X) → ((v : X) → a ≡ Some v → b ≡ Some v) → ((v : X) → b ≡ Some v → a ≡ Some v) → a ≡ b
   alike None None f g = refl
   alike None (Some w) f g = g w refl
@@ -54,6 +54,7 @@ module _ {K : Type 0} {R : K → K → Ordering} (o : IsTotalOrder R) where
       ] refl apart
 
 module _ {K X : Type 0} {R : K → K → Ordering} (o : IsTotalOrder R) (exact : IsAntisymmetric R) where
+  -- `find` finds the value of the first entry with an equal key
   pub find_is : (q : K) (es : List (K × X)) → find R q es ≡ lookup (eq_by_cmp R q) es
   find_is q [] = refl
   find_is q (e ∷ es) = ap (cond (eq_by_cmp R q e.0) (Some e.1)) (find_is q es)
@@ -68,15 +69,16 @@ module _ {K X : Type 0} {R : K → K → Ordering} (o : IsTotalOrder R) (exact :
   moved : (es fs : List (K × X)) → IsPermutation es fs → IsDistinct (eq_by_cmp R) (keys_of es) → IsDistinct (eq_by_cmp R) (keys_of fs)
   moved es fs p apart = IsDistinct-IsPermutation (eq_by_cmp R) (eq_by_cmp_equiv o).symm (keys_of es) (keys_of fs) (IsPermutation-map (λ e. e.0) es fs p) apart
 
+  -- the search finds the same in a list in another order, if no two keys are equal
   pub find-permutation : (es fs : List (K × X)) → IsPermutation es fs → IsDistinct (eq_by_cmp R) (keys_of es) → (q : K) → find R q es ≡ find R q fs
   find-permutation es fs p apart q =
       find_is q es ∙ alike (lookup (eq_by_cmp R q) es) (lookup (eq_by_cmp R q) fs) (found es fs p (moved es fs p apart) q) (found fs es (IsPermutation-sym es fs p) apart q) ∙ sym (find_is q fs)
 
-  -- entries in another order make the same map
+  -- entries in another order make the same map, if no two keys are equal
   pub from_entries-permutation : (es fs : List (K × X)) → IsPermutation es fs → IsDistinct (eq_by_cmp R) (keys_of es) → from_entries {R = R} es ≡ from_entries fs
   from_entries-permutation es fs p apart = same_map o exact _ _ (λ q. get-from_entries o es q ∙ find-permutation es fs p apart q ∙ sym (get-from_entries o fs q))
 
-  -- keys in order of which no two are one rise
+  -- keys that are sorted, and of which no two are equal, are strictly sorted
   pub strictly : (es : List (K × X)) → IsDistinct (eq_by_cmp R) (keys_of es) → IsSortedBy (λ a b. is_lt (R a.0 b.0)) es → IsStrictlySortedBy R (keys_of es)
   unfolding IsStrictlySortedBy
   strictly [] apart up = tt
@@ -97,7 +99,7 @@ module _ {K X : Type 0} {R : K → K → Ordering} (o : IsTotalOrder R) (exact :
   in_order [] h = refl
   in_order (e ∷ es) h = λ i. all_below e.0 es (sorted_head R e.0 (keys_of es) h) i && in_order es (sorted_tail R e.0 (keys_of es) h) i
 
-  -- a list in the order of its keys is what the map of its elements lists
+  -- a list sorted by its keys is what the map of its elements lists, if no two keys are equal
   pub entries-sorted : (es fs : List (K × X)) → IsPermutation es fs → IsDistinct (eq_by_cmp R) (keys_of es) → IsSortedBy (λ a b. is_lt (R a.0 b.0)) fs → fs ≡ entries (from_entries {R = R} es)
   entries-sorted es fs p apart up =
       let ordered = is_true _ (in_order fs (strictly fs (moved es fs p apart) up)) in
@@ -143,7 +145,7 @@ module _ {K X : Type 0} {R : K → K → Ordering} (o : IsTotalOrder R) (exact :
     find-passing : (es : List (K × X)) → IsDistinct (eq_by_cmp R) (keys_of es) → (q : K) → find R q (passing es) ≡ option_filter p (find R q es)
     find-passing es apart q = find_is q (passing es) ∙ lookup-filter-values (eq_by_cmp_equiv o) p q es apart ∙ ap (option_filter p) (sym (find_is q es))
 
-    -- are what the map lists of those that pass
+    -- the map of the entries whose values pass a test lists those of the whole map's entries that do
     pub entries-passing : (es : List (K × X)) → IsDistinct (eq_by_cmp R) (keys_of es) → entries (from_entries {R = R} (passing es)) ≡ passing (entries (from_entries {R = R} es))
     entries-passing es apart =
         let m : FinMap R X = from_entries es in

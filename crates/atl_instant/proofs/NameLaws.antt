@@ -1,4 +1,4 @@
--- NAME and GUARD 0 leave a campaign well, and spare who doesn't order them.
+-- NAME and GUARD 0 leave a campaign well, and leave alone units without such an order.
 use Rattle.std.proofs.Common.{◌≡◌, ◌≢◌, ◌==◌, ℕ, ◌+◌, Bool, true, false, List, Option, Some, None, refl, sym, ap, subst, ◌∙◌, arith}
 use Rattle.std.specs.Prelude.{IfSome, IsTrue, if◌then◌else◌}
 use Rattle.std.specs.FinMap.{get, insert}
@@ -39,13 +39,14 @@ use Rattle.atl_instant.proofs.StructureLaws.{at_number, changed_else, get-change
 use Rattle.atl_instant.proofs.OrderEffectLaws.{no_worse_spares, well_same}
 use Rattle.atl_instant.proofs.UnbookedLaws.{other_spared, same_total_of, unbooked_well}
 
--- an order that is none of the phase is passed over
+-- an order that is neither NAME nor GUARD 0 is passed over
 pub name_other : (w : WorldValue) (n : ℕ) (text : List ℕ) (o : Operands Span) → ((what : NameKind) (span : Span) → o ≡ operands.Name what span → ⊥) → (o ≡ operands.Flag false → ⊥) → name_effect w n (operands_in text o) ≡ None
 name_other w n text (operands.Name what span) a b = absurd (a what span refl)
 name_other w n text (operands.Flag false) a b = absurd (b refl)
 name_other w n text other a b = refl
 
 module _ (w : WorldValue) (c : CampaignValue) (n : ℕ) (u : Unit) (is : get c.units n ≡ Some u) (early : IsEarly w c) where
+  -- the change of the campaign is a step that leaves it well
   abbrev Well : CampaignValue → Type 0
   Well d = StepsWell IsEarly books_nothing w c d
 
@@ -107,6 +108,7 @@ module _ (w : WorldValue) (c : CampaignValue) (n : ℕ) (u : Unit) (is : get c.u
       (record { steady = steady-faction_name c u.faction x name there w ok early.steady; flags = early.flags })
       (same_month_among refl (count-faction_name c u.faction x name there) (known-faction_name c u.faction x name there)) refl (same_total_of c (with_faction_name c u.faction name) refl refl)
 
+  -- a structure with another name
   abbrev titled : List ℕ → Structure → Structure
   titled name s = record s { name = name }
 
@@ -148,6 +150,7 @@ module _ (w : WorldValue) (c : CampaignValue) (n : ℕ) (u : Unit) (is : get c.u
 -- ---- other units stay
 
 module _ (w : WorldValue) (c : CampaignValue) (n : ℕ) (u : Unit) (k : ℕ) (apart : k ≢ n) where
+  -- unit k is in the changed campaign as it was
   abbrev Stays : CampaignValue → Type 0
   Stays d = get d.units k ≡ get c.units k
 
@@ -169,6 +172,7 @@ module _ (w : WorldValue) (c : CampaignValue) (n : ℕ) (u : Unit) (k : ℕ) (ap
   order_stays (operands.Flag false) = changed_else (λ (x : Unit). record x { holding = record x.holding { guard = false } }) c.units n k apart (get c.units n)
   order_stays other = tt
 
+-- the step of NAME and GUARD 0 is orderly
 pub name_orderly : IsOrderly name_step IsEarly books_nothing moves_nothing name_concerns IsNoWorse
 name_orderly = record {
   well = λ w a c t x early fit own. order_well w c t.unit x own.there early t.order_value.operands fit;

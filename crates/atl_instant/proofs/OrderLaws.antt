@@ -1,4 +1,4 @@
--- Orders: no two have one key, and those that are collected and sorted are what the map lists.
+-- No two orders have one key, and the orders that are collected and sorted are what the map of orders lists.
 use Rattle.std.proofs.Common.{◌≡◌, ℕ, ◌+◌, ◌<◌, ◌≤◌, Bool, true, false, cond, List, [], ◌∷◌, map, filter, get_or, refl, sym, ap, subst, ◌∙◌, arith, IsPermutation, flat_map}
 use Rattle.std.specs.declared.cmp.Ordering.TheVariants.{Less}
 use Rattle.std.specs.Ordering.{nat_cmp, eq_by_cmp}
@@ -30,6 +30,7 @@ use Rattle.atl_instant.proofs.MonthLaws.{by_its_faction, factions_read, keys_of-
 
 -- ---- keys that differ
 
+-- whether two orders have the same key in an arrangement
 abbrev same_key : Arrangement → Task → Task → Bool
 same_key a t u = eq_by_cmp (slice_cmp nat_cmp) (key_of a t) (key_of a u)
 
@@ -55,7 +56,7 @@ other_place : (a : Arrangement) (t u : Task) → t.place < u.place → same_key 
 other_place a t u l = refuted (same_key a t u) (λ h. let e = places_tie a t u (keys_tie a t u h) in omega arith)
 
 module _ (aliases : Aliases) (a : Arrangement) where
-  -- within a mailing
+  -- an order of this faction whose index in the mailing is at least `low`
   abbrev IsBehind : ℕ → ℕ → Task → Type 0
   IsBehind faction place t = (t.faction ≡ faction) × (place ≤ t.place)
 
@@ -73,6 +74,7 @@ module _ (aliases : Aliases) (a : Arrangement) where
   apart_behind t faction [] h = tt
   apart_behind t faction (u ∷ ts) h = (other_place a t u (omega (arith, h.0.1)), apart_behind t faction ts h.1)
 
+  -- no two orders of one mailing have one key
   pub apart_within : (p : Task → Bool) (faction : ℕ) (place : ℕ) (es : List EntryValue) → IsDistinct (same_key a) (filter p (tasks_from aliases faction place es))
   unfolding IsDistinct
   apart_within p faction place [] = tt
@@ -111,6 +113,7 @@ module _ (aliases : Aliases) (a : Arrangement) where
     all_before n [] us e h = tt
     all_before n (t ∷ ts) us e h = (before n t us e.0 h, all_before n ts us e.1 h)
 
+    -- no two orders of a phase have one key, in mailings sorted by faction
     pub all_apart : (rs : List Reading) → IsStrictlySortedBy nat_cmp (map (λ r. r.faction) rs) → IsDistinct (same_key a) (all_tasks is_of aliases rs)
     unfolding IsDistinct
     all_apart [] h = tt
@@ -161,6 +164,7 @@ module _ {X : Type 0} (as_task : X → Task) where
         ∙ ap (map (λ e. e.1)) (sym (entries-with_value (slice_cmp nat_cmp) as_task nat_list_cmp_total (map keyed os)))
         ∙ ap (λ es. values (from_entries {R = slice_cmp nat_cmp} es)) (pairs-keyed os ∙ ap (map paired) are)
 
+-- orders sorted by a key, of which no two are equal, are what the map of the orders under their keys lists
 pub listed_tasks : (key : Task → List ℕ) (os list : List PhaseOrder) (ts : List Task) → map task_of os ≡ ts → IsDistinct (λ t u. eq_by_cmp (slice_cmp nat_cmp) (key t) (key u)) ts → IsPermutation os list
     → IsSortedByKey (λ o. key (task_of o)) (slice_cmp nat_cmp) list → map task_of list ≡ values (from_entries {R = slice_cmp nat_cmp} (map (λ t. (key t, t)) ts))
 listed_tasks = listed task_of
@@ -171,7 +175,7 @@ module _ (is_of : Verb → Bool) (a : Arrangement) (aliases : Aliases) where
       ap (flat_map (λ e. tasks_for is_of (tasks_of aliases e.0 e.1))) (entries_of (map by_its_faction rs) (subst (IsStrictlySortedBy nat_cmp) (sym (keys_of-factions rs)) h))
       ∙ flat_map-map (λ e. tasks_for is_of (tasks_of aliases e.0 e.1)) by_its_faction rs
 
-  -- the map of them, from readings that are sorted
+  -- the map of a phase's orders lists the orders of all mailings under their keys, if the readings are sorted by faction
   pub orders_are : (rs : List Reading) → IsStrictlySortedBy nat_cmp (map (λ r. r.faction) rs) → values (orders_of is_of a aliases (by_faction rs)) ≡ values (from_entries {R = slice_cmp nat_cmp} (map (λ t. (key_of a t, t)) (all_tasks is_of aliases rs)))
   orders_are rs h = ap (λ us. values (from_entries {R = slice_cmp nat_cmp} (map (λ t. (key_of a t, t)) us))) (tasks_of_all rs h)
 
@@ -181,6 +185,7 @@ by_key : (a : Arrangement) (ms : List Mailing) (list : List OrderIndex) → IsSo
 by_key ByUnit ms list up = up
 by_key ByFaction ms list up = up
 
+-- the indices of all orders that count, sorted by their keys, are the order indices of the arrangement
 pub sorted_places : (a : Arrangement) (aliases : Aliases) (ms : List Mailing) (os list : List OrderIndex) → AreByFaction ms → AreIndicesByMailing aliases ms os → IsPermutation os list → IsSortedByKey (key_by a) (slice_cmp nat_cmp) list
     → AreOrderIndices a aliases ms list
 sorted_places a aliases ms os list h are p up =
