@@ -56,7 +56,7 @@ other_place : (a : Arrangement) (t u : Task) → t.place < u.place → same_key 
 other_place a t u l = refuted (same_key a t u) (λ h. let e = places_tie a t u (keys_tie a t u h) in omega arith)
 
 module _ (aliases : Aliases) (a : Arrangement) where
-  -- an order of this faction whose index in the mailing is at least `low`
+  -- an order of this faction whose index in its mailing is at least `place`
   abbrev IsBehind : ℕ → ℕ → Task → Type 0
   IsBehind faction place t = (t.faction ≡ faction) × (place ≤ t.place)
 

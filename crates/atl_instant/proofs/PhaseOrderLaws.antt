@@ -1,4 +1,4 @@
--- Each order of a phase stands in a mailing.
+-- Each order of a phase is an entry of the mailing of its faction, and has a verb of the phase.
 use Rattle.std.proofs.Common.{◌≡◌, ℕ, suc, ◌+◌, Bool, true, false, ◌&&◌, cond, List, [], ◌∷◌, map, filter, flat_map, slice_get, Some, refl, sym, subst, arith}
 use Rattle.std.specs.declared.cmp.Ordering.{Ordering}
 use Rattle.std.specs.declared.cmp.Ordering.TheVariants.{Less, Equal, Greater}
@@ -22,6 +22,7 @@ use Rattle.atl_instant.proofs.MappedLaws.{no_entries}
 -- ---- what is so of each entry is so of each that a map lists
 
 module _ {K X : Type 0} (R : K → K → Ordering) (P : K → X → Type 0) where
+  -- P holds of each of these entries
   abbrev pub Entries : List (K × X) → Type 0
   Entries = AllByRecursion (λ e. P e.0 e.1)
 
@@ -34,11 +35,13 @@ module _ {K X : Type 0} (R : K → K → Ordering) (P : K → X → Type 0) wher
         | Greater ↦ λ o. (all.0, entries-put anti k v es h all.1)
       ] refl
 
+  -- if P holds of each entry of a list, it holds of each entry of the map that they make
   pub entries-listed : IsTotalOrder R → IsAntisymmetric R → (es : List (K × X)) → Entries es → Entries (entries (from_entries {R = R} es))
   entries-listed o anti [] all = subst Entries (sym (no_entries R)) tt
   entries-listed o anti (e ∷ es) all =
       subst Entries (sym (entries-insert o (from_entries es) e.0 e.1)) (entries-put anti e.0 e.1 (entries (from_entries es)) all.0 (entries-listed o anti es all.1))
 
+  -- if P holds of each element and its key, it holds of the entries that they make
   pub keyed_entries : (key : X → K) (xs : List X) → AllByRecursion (λ x. P (key x) x) xs → Entries (map (λ x. (key x, x)) xs)
   keyed_entries key [] all = tt
   keyed_entries key (x ∷ xs) all = (all.0, keyed_entries key xs all.1)
@@ -48,7 +51,7 @@ unkeyed_values : {K X : Type 0} (P : X → Type 0) (es : List (K × X)) → AllB
 unkeyed_values P [] all = tt
 unkeyed_values P (e ∷ es) all = (all.0, unkeyed_values P es all.1)
 
--- what is so of each order is so of each that is listed by keys
+-- if P holds of each order, it holds of each order that the map under their keys lists
 listed_orders : (P : Task → Type 0) (a : Arrangement) (ts : List Task) → AllByRecursion P ts → AllByRecursion P (values (from_entries {R = slice_cmp nat_cmp} (map (λ t. (key_of a t, t)) ts)))
 listed_orders P a ts all =
     let es = map (λ t. (key_of a t, t)) ts in
@@ -79,6 +82,7 @@ module _ (aliases : Aliases) (readings : FinMap nat_cmp Reading) where
       kept ts t true h r = (h, r)
       kept ts t false h r = r
 
+  -- each order of these mailings that counts for the phase is an entry of its faction's mailing
   pub in_mailings : (is_of : _) (es : List (ℕ × Reading)) → EachOf (λ f r. get readings f ≡ Some r) es → AllByRecursion (IsInMailing aliases readings) (flat_map (λ e. tasks_for is_of (tasks_of aliases e.0 e.1)) es)
   in_mailings is_of [] h = tt
   in_mailings is_of (e ∷ es) h =
@@ -92,6 +96,7 @@ orders_are_in_mailings is_of a aliases readings =
 
 -- each order of a phase has one of its verbs
 module _ (is_of : Verb → Bool) (a : Arrangement) (aliases : Aliases) (readings : FinMap nat_cmp Reading) where
+  -- the order has a verb of the phase
   abbrev HasVerb : Task → Type 0
   HasVerb t = is_of t.order_value.verb ≡ true
 
@@ -110,5 +115,6 @@ module _ (is_of : Verb → Bool) (a : Arrangement) (aliases : Aliases) (readings
       let ts = tasks_of aliases e.0 e.1 in
       append_each HasVerb (tasks_for is_of ts) (flat_map (λ e. tasks_for is_of (tasks_of aliases e.0 e.1)) es) (passing (stands ts) ts) (of_mailings es)
 
+  -- each order of a phase has a verb of the phase
   pub orders_have_verbs : AllByRecursion (λ t. is_of t.order_value.verb ≡ true) (values (orders_of is_of a aliases readings))
   orders_have_verbs = listed_orders HasVerb a _ (of_mailings (entries readings))

@@ -1,4 +1,4 @@
--- The orders of a phase, among all.
+-- The orders of one phase, picked from the gathered indices of all orders that count.
 use Rattle.std.proofs.Common.{◌≡◌, ℕ, ◌+◌, ◌<◌, ◌≤◌, Bool, true, false, cond, ◌&&◌, List, [], ◌∷◌, ◌++◌, map, filter, drop, length, get_or, IfOk, Result, Ok, Err, Vec, refl, sym, ap, subst, ◌∙◌}
 use Rattle.std.proofs.lemmas.List.{append-nil, append_assoc, drop_all, map-append}
 use Rattle.std.specs.Ordering.{nat_cmp, eq_by_cmp}
@@ -49,7 +49,7 @@ module _ (a : Arrangement) where
   keys-paired [] = refl
   keys-paired (t ∷ ts) = ap (λ ks. key_of a t ∷ ks) (keys-paired ts)
 
-  -- what the map lists of the tasks that pass a test
+  -- the map of the orders that pass a test lists those orders of the whole map that pass it
   values-passing : (p : Task → Bool) (ts : List Task) → IsDistinct (λ t u. eq_by_cmp (slice_cmp nat_cmp) (key_of a t) (key_of a u)) ts
       → values (from_entries {R = slice_cmp nat_cmp} (map paired (filter p ts))) ≡ filter p (values (from_entries {R = slice_cmp nat_cmp} (map paired ts)))
   values-passing p ts apart =
@@ -68,7 +68,7 @@ module _ (is_of : Verb → Bool) (aliases : Aliases) where
       ∙ ap (λ us. filter (has_verb is_of) (tasks_for every_verb ts) ++ us) (tasks_of_phase rs)
       ∙ sym (filter-append (has_verb is_of) (tasks_for every_verb ts) (all_tasks every_verb aliases rs))
 
-  -- those of the phase's verbs, among the places of all orders
+  -- the orders of the phase's verbs, picked from the indices of all orders, are those that the phase carries out
   pub picked_orders : (a : Arrangement) (ms : List Mailing) (places : List OrderIndex) (ts : List Task) → AreByFaction ms → AreOrderIndices a aliases ms places → ts ≡ tasks_picked is_of ms places
       → ts ≡ values (orders_of is_of a aliases (by_faction (map reading_of ms)))
   picked_orders a ms places ts h all are =
@@ -79,6 +79,7 @@ module _ (is_of : Verb → Bool) (aliases : Aliases) where
       ∙ ap (λ us. values (from_entries {R = slice_cmp nat_cmp} (map (paired a) us))) (sym (tasks_of_phase rs))
       ∙ sym (orders_are is_of a aliases rs rise)
 
+  -- so it is for the list that the code returns
   pub picked_list : {Z E : Type 0} (a : Arrangement) (ms : List Mailing) (places : List OrderIndex) (r : Result (Vec PhaseOrder Z) E) → AreByFaction ms → AreOrderIndices a aliases ms places → IfOk r (λ list. map task_of list.items ≡ tasks_picked is_of ms places)
       → IfOk r (λ list. map task_of list.items ≡ values (orders_of is_of a aliases (by_faction (map reading_of ms))))
   picked_list a ms places (Ok list) h all are = picked_orders a ms places (map task_of list.items) h all are
@@ -87,6 +88,7 @@ module _ (is_of : Verb → Bool) (aliases : Aliases) where
 -- ---- place by place
 
 module _ (is_of : Verb → Bool) (ms : List Mailing) (places : List OrderIndex) where
+  -- the orders to be picked from the indices from i on
   abbrev pub rest_from : ℕ → List Task
   rest_from i = tasks_picked is_of ms (drop i places)
 
@@ -98,6 +100,7 @@ module _ (is_of : Verb → Bool) (ms : List Mailing) (places : List OrderIndex) 
   read_verb p o b task verb = ap (has_verb is_of) (sym task) ∙ verb
 
   module _ (list : List PhaseOrder) (i : ℕ) (p : OrderIndex) (o : PhaseOrder) (ts : List Task) (h : i < length places) (at : p ≡ get_or places i p) (task : task_of o ≡ task_at ms p) (before : map task_of list ++ rest_from i ≡ ts) where
+    -- an order with a verb of the phase is added to the list
     pub taken : (new : List PhaseOrder) → is_of o.order.now.verb ≡ true → new ≡ list ++ o ∷ [] → map task_of new ++ rest_from (i + 1) ≡ ts
     taken new verb is =
         ap (λ os. map task_of os ++ rest_from (i + 1)) is
@@ -107,11 +110,13 @@ module _ (is_of : Verb → Bool) (ms : List Mailing) (places : List OrderIndex) 
         ∙ ap (λ us. map task_of list ++ us) (sym (opened i p h at ∙ ap (λ b. cond b (task_at ms p ∷ rest_from (i + 1)) (rest_from (i + 1))) (read_verb p o true task verb)))
         ∙ before
 
+    -- an order without one is left out
     pub left : (new : List PhaseOrder) → is_of o.order.now.verb ≡ false → new ≡ list → map task_of new ++ rest_from (i + 1) ≡ ts
     left new verb is =
         ap (λ os. map task_of os ++ rest_from (i + 1)) is
         ∙ ap (λ us. map task_of list ++ us) (sym (opened i p h at ∙ ap (λ b. cond b (task_at ms p ∷ rest_from (i + 1)) (rest_from (i + 1))) (read_verb p o false task verb))) ∙ before
 
+  -- after the last index the list has all orders to be picked
   pub all_picked : (list : List PhaseOrder) (i : ℕ) (ts : List Task) → length places ≤ i → map task_of list ++ rest_from i ≡ ts → map task_of list ≡ ts
   all_picked list i ts h before =
       sym (append-nil (map task_of list)) ∙ ap (λ ps. map task_of list ++ tasks_picked is_of ms ps) (sym (drop_all i places h)) ∙ before

@@ -1,4 +1,4 @@
--- LEAVE, ENTER and PROMOTE leave a campaign well, and spare who doesn't order them.
+-- LEAVE, ENTER and PROMOTE leave a campaign well, and leave alone units without such an order.
 use Rattle.std.proofs.Common.{◌≡◌, ◌≢◌, ◌==◌, ℕ, Bool, true, false, not, List, [], ◌∷◌, Option, Some, None, refl, sym, ap, ◌∙◌, arith}
 use Rattle.std.proofs.lemmas.Bool.{true≢false}
 use Rattle.std.specs.Prelude.{IfSome, if◌then◌else◌}
@@ -37,7 +37,7 @@ use Rattle.atl_instant.proofs.StructureLaws.{at_number, get-changed, len-changed
 use Rattle.atl_instant.proofs.OrderEffectLaws.{no_worse_spares, well_same}
 use Rattle.atl_instant.proofs.UnbookedLaws.{same_total_of, stays_spared, unbooked_well}
 
--- an order that is none of the phase is passed over
+-- an order that is neither LEAVE, ENTER nor PROMOTE is passed over
 pub place_other : (w : WorldValue) (a : Aliases) (f n : ℕ) (text : List ℕ) (o : Operands Span) → (o ≡ operands.Nothing → ⊥) → ((s : ℕ) → o ≡ operands.Number s → ⊥) → ((to : UnitRef) → o ≡ operands.Unit to → ⊥)
     → place_effect w a f n (named text o) ≡ None
 place_other w a f n text operands.Nothing l b d = absurd (l refl)
@@ -46,6 +46,7 @@ place_other w a f n text (operands.Unit to) l b d = absurd (d to refl)
 place_other w a f n text other l b d = refl
 
 module _ (w : WorldValue) (c : CampaignValue) (n : ℕ) (u : Unit) (is : get c.units n ≡ Some u) (early : IsEarly w c) where
+  -- the change of the campaign is a step that leaves it well
   abbrev Well : CampaignValue → Type 0
   Well d = StepsWell IsEarly books_nothing w c d
 
@@ -136,6 +137,7 @@ module _ (w : WorldValue) (c : CampaignValue) (n : ℕ) (u : Unit) (is : get c.u
 -- ---- other units stay
 
 module _ (w : WorldValue) (a : Aliases) (c : CampaignValue) (f n : ℕ) (u : Unit) (k : ℕ) (apart : k ≢ n) where
+  -- unit k is in the changed campaign as it was
   abbrev Stays : CampaignValue → Type 0
   Stays d = get d.units k ≡ get c.units k
 
@@ -154,6 +156,7 @@ module _ (w : WorldValue) (a : Aliases) (c : CampaignValue) (f n : ℕ) (u : Uni
   order_stays (operands.Unit to) = unless_stays (promote_fault c n (unit_of a f to) u) (with_owner c u.structure (unit_of a f to)) refl
   order_stays other = tt
 
+-- the step of LEAVE, ENTER and PROMOTE is orderly
 pub place_orderly : IsOrderly place_step IsEarly books_nothing moves_nothing IsOwnOrder IsNoWorse
 place_orderly = record {
   well = λ w a c t x early fit own. order_well w c t.unit x own.there early a t.faction t.order_value.operands;

@@ -1,4 +1,4 @@
--- How a campaign changes as a unit leaves a structure for another of its region, or for none.
+-- A campaign in which a unit goes from one structure to another of its region, or to none, stays well.
 use Rattle.std.proofs.Common.{◌≡◌, ◌≢◌, ◌==◌, ◌&&◌, ℕ, ◌≤◌, Bool, true, false, Option, Some, None, refl, sym, ap, subst, ◌∙◌, arith}
 use Rattle.std.proofs.lemmas.Bool.{true≢false}
 use Rattle.std.proofs.lemmas.Option.{same_Some}
@@ -26,6 +26,7 @@ use Rattle.atl_instant.proofs.RefitLaws.{IsRefit, IsRelabelled, early-refitted, 
 use Rattle.atl_instant.proofs.StructureLaws.{changed_else, equal_passes, get-after_handover, handed_is, handed_on, len-after_handover}
 use Rattle.atl_instant.proofs.UnbookedLaws.{unbooked_well}
 
+-- a function taken of a looked-up value after another one is both in turn
 pub mapped_twice : {A : Type 0} (f g : A → A) (o : Option A) → option_map f (option_map g o) ≡ option_map (λ y. f (g y)) o
 mapped_twice f g None = refl
 mapped_twice f g (Some y) = refl
@@ -47,9 +48,11 @@ owns_no_other w c n u is steady q y there other own =
     other (sym inside ∙ ap (λ (x : Unit). x.structure) unit)
 
 module _ (w : WorldValue) (c : CampaignValue) (n : ℕ) (u : Unit) (s : ℕ) (is : get c.units n ≡ Some u) (steady : IsSteady w c) (apart : u.structure ≢ s) where
+  -- the structure that the unit leaves
   abbrev old_place : ℕ
   old_place = u.structure
 
+  -- the unit that owns that structure next
   abbrev next : ℕ
   next = heir c old_place n
 
@@ -59,16 +62,19 @@ module _ (w : WorldValue) (c : CampaignValue) (n : ℕ) (u : Unit) (s : ℕ) (is
   abbrev begun : CampaignValue
   begun = placed c n u.region s
 
+  -- the campaign after the unit's old structure got its next owner
   abbrev gone_out : CampaignValue
   gone_out = after_handover begun old_place n next
 
+  -- the campaign after the unit owns its new structure too, if nobody did
   abbrev gone_in : CampaignValue
   gone_in = after_handover gone_out s 0 n
 
+  -- the structure of number q with its owner after both
   abbrev owner_behind : ℕ → Structure → Structure
   owner_behind q y = handed_on s 0 n q (handed_on old_place n next q y)
 
-  -- the campaign behind it
+  -- the campaign after the unit went
   abbrev pub behind : CampaignValue
   behind = refitted w c n u s is gone_in.structures owner_behind
 
@@ -81,6 +87,7 @@ module _ (w : WorldValue) (c : CampaignValue) (n : ℕ) (u : Unit) (s : ℕ) (is
       handed_is gone_out s 0 n ∙ ap (λ (d : CampaignValue). record d { structures = gone_in.structures }) (handed_is begun old_place n next)
       ∙ ap (λ m. record c { units = m; structures = gone_in.structures }) (changed-known (λ (x : Unit). record x { region = u.region; structure = s }) c.units n u is)
 
+  -- `with_place` makes this campaign
   pub place_is : with_place c n u.region s ≡ behind
   place_is = placed_is ∙ behind_is
 
@@ -105,7 +112,7 @@ module _ (w : WorldValue) (c : CampaignValue) (n : ℕ) (u : Unit) (s : ℕ) (is
   stands : (v : Unit) → get behind.units n ≡ Some v → v.structure ≡ s
   stands v there = sym (ap (λ (x : Unit). x.structure) (same_Some moved v (sym (get-insert_same c.units n moved) ∙ there)))
 
-  -- a structure that keeps its owner
+  -- a structure that neither the unit owned nor, without an owner, the unit enters, keeps its right owner
   still_owned : (q : ℕ) (y : Structure) → get c.structures q ≡ Some y → y.owner ≢ n → (y.owner ≡ 0 → s ≢ q) → IsOwned behind q y
   still_owned q y there other free = owner_stays c behind n away q y (steady.owners q y there) other (λ none v here inside. free none (sym (stands v here) ∙ inside))
 
@@ -143,16 +150,20 @@ module _ (w : WorldValue) (c : CampaignValue) (n : ℕ) (u : Unit) (s : ℕ) (is
       afloat = afloat;
     }
 
+    -- the campaign stays steady when the unit's new structure is in its region, and a ship on water
     pub placed_steady : IsSteady w behind
     placed_steady = steady-refitted w c n u s is gone_in.structures owner_behind refit steady
 
+    -- it stays early too
     pub placed_early : IsEarly w c → IsEarly w behind
     placed_early early = early-refitted w c n u s is gone_in.structures owner_behind refit early
 
+    -- the totals stay the same
     pub placed_total : (t : Thing) → total behind t ≡ total c t
     placed_total = total-refitted w c n u s is gone_in.structures owner_behind
 
 module _ (w : WorldValue) (c : CampaignValue) (n : ℕ) (u : Unit) (s : ℕ) (is : get c.units n ≡ Some u) (early : IsEarly w c) (apart : u.structure ≢ s) where
+  -- so the move is a step that leaves the campaign well
   pub place_well : (s ≢ 0 → (x : Structure) × (get c.structures s ≡ Some x) × (x.region ≡ u.region)) → (is_land_at w u.region ≡ false → (x : Structure) × (get c.structures s ≡ Some x) × (is_ship w x ≡ true)) → StepsWell IsEarly books_nothing w c (with_place c n u.region s)
   place_well inside afloat =
       let steady = early.steady in
@@ -162,6 +173,7 @@ module _ (w : WorldValue) (c : CampaignValue) (n : ℕ) (u : Unit) (s : ℕ) (is
 
 -- ---- other units stay
 
+-- a handover of a structure changes no unit
 handed_units : (c : CampaignValue) (k from to : ℕ) → (after_handover c k from to).units ≡ c.units
 handed_units c k from to = by_test (is_owned_by (get c.structures k) from)
   where
@@ -169,6 +181,7 @@ handed_units c k from to = by_test (is_owned_by (get c.structures k) from)
     by_test true = refl
     by_test false = refl
 
+-- every other unit stays as it was
 pub place_stays : (c : CampaignValue) (n r s k : ℕ) → k ≢ n → get (with_place c n r s).units k ≡ get c.units k
 unfolding with_place
 place_stays c n r s k apart = by_unit (get c.units n)

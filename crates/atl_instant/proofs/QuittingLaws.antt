@@ -1,4 +1,4 @@
--- QUIT takes nothing from the units of a faction that quits by no order for a unit that was its own as the phase began.
+-- QUIT leaves no unit worse off whose faction doesn't quit by an order for a unit that was its own as the phase began.
 use Rattle.std.proofs.Common.{◌≡◌, ℕ, true, List, [], ◌∷◌, Option, Some, None, refl, sym, ap, subst, ◌∙◌}
 use Rattle.std.specs.Prelude.{IfSome, fold}
 use Rattle.std.specs.Ordering.{nat_cmp}
@@ -26,7 +26,7 @@ use Rattle.atl_instant.proofs.OrderEffectLaws.{no_worse_spares, orders_fit, orde
 
 -- ---- no unit comes, and none changes
 
--- the units behind are some of those before
+-- each unit of d is a unit of c, as it was
 abbrev HasSomeOf : CampaignValue → CampaignValue → Type 0
 HasSomeOf c d = Every (λ k u. get c.units k ≡ Some u) d.units
 
@@ -49,7 +49,7 @@ quit_some w c number x steady = quit_cases (HasSomeOf c) c number x (λ k u ther
 is_own_unit : (c : CampaignValue) (t : Task) (x : Unit) → IsUnitOf c t x → is_own c t ≡ true
 is_own_unit c t x own = ap (is_of_faction t.faction) own.there ∙ equal_passes x.faction t.faction own.faction
 
--- an order for a unit that is the faction's own behind was so before
+-- an order for a unit that is the faction's own in d was for one of its own in c, if d has some of the units of c
 own_before : (c d : CampaignValue) (t : Task) → HasSomeOf c d → is_own d t ≡ true → is_own c t ≡ true
 own_before c d t some own = by_unit (get d.units t.unit) refl own
   where
@@ -59,7 +59,7 @@ own_before c d t some own = by_unit (get d.units t.unit) refl own
 
 -- ---- by the campaign as the phase begins
 
--- each order for a unit of its own faction was so as the phase began
+-- the campaign is steady, and each order for a unit that is its faction's own is for one that was so as the phase began
 abbrev OwnSince : CampaignValue → Condition
 OwnSince begun w c = IsSteady w c × ((t : Task) → is_own c t ≡ true → is_own begun t ≡ true)
 
@@ -84,6 +84,7 @@ module _ (begun : CampaignValue) where
     bounded = λ w c since. quit_orderly.bounded w c since.0;
   }
 
+-- QUIT keeps what `quit_keeps` says
 pub quit_spares_others : (w : WorldValue) (c : CampaignValue) (m : MonthValue) → IsSteady w c → AreFit w m.readings → quit_keeps w m c (quit_meaning w c m).0
 unfolding meaning_by_orders
 quit_spares_others w c m steady fit =

@@ -1,4 +1,4 @@
--- Books have room for a phase that moves little.
+-- Books in which no amount passes 9*10^18 have room for one phase.
 use Rattle.std.proofs.Common.{ℕ, ◌≤◌, arith}
 use Rattle.std.specs.Prelude.{ℤ}
 use Rattle.std.proofs.lemmas.Int.{ints}

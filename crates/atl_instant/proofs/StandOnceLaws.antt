@@ -1,4 +1,4 @@
--- At most one order of a slot stands.
+-- No two orders of a phase share a slot: at most one order of a slot counts for a unit in a faction's mailing.
 use Rattle.std.proofs.Common.{◌≡◌, ◌==◌, ℕ, suc, zero, ◌+◌, ◌<◌, Bool, true, false, ◌&&◌, cond, List, [], ◌∷◌, map, filter, flat_map, slice_get, Option, Some, None, refl, sym, ap, subst, ◌∙◌, arith}
 use Rattle.std.proofs.lemmas.Bool.{and_parts, false_from_ne_true}
 use Rattle.std.proofs.lemmas.Option.{same_Some}
@@ -34,7 +34,7 @@ above n i [] e rise is = cc
 above n zero (x ∷ es) e rise is = let same = ap (λ (y : EntryValue). y.line) (same_Some x e is) in omega (arith, same, rise.0)
 above n (suc i) (x ∷ es) e rise is = let behind = above x.line i es e rise.1 is in omega (arith, behind, rise.0)
 
--- no two entries have one line
+-- two entries of one mailing on one line have one index, since lines rise
 same_place : (n : ℕ) (es : List EntryValue) (i j : ℕ) (d e : EntryValue) → LinesRise n es → slice_get es i ≡ Some d → slice_get es j ≡ Some e → d.line ≡ e.line → i ≡ j
 same_place n [] i j d e rise one two line = cc
 same_place n (x ∷ es) zero zero d e rise one two line = refl
@@ -50,6 +50,7 @@ same_place n (x ∷ es) (suc i) (suc j) d e rise one two line = ap suc (same_pla
 
 -- ---- slots
 
+-- slots with one number are one slot
 slots_are : (s o : Slot) → (slot_number s == slot_number o) ≡ true → s ≡ o
 slots_are MonthLong MonthLong same = refl
 slots_are Selling Selling same = refl
@@ -58,11 +59,12 @@ slots_are Taxing Taxing same = refl
 slots_are Recruiting Recruiting same = refl
 slots_are s o same = cc
 
--- orders that stand in one slot are on one line
+-- an order that counts in a slot is on the last line of the slot for its unit
 line_of : (ts : List Task) (t : Task) (s : Slot) (o : Option Slot) → o ≡ Some s → stands_in ts t o ≡ true → t.line ≡ last_line s t.unit ts
 line_of ts t s None is there = cc
 line_of ts t s (Some x) is there = is_equal t.line (last_line x t.unit ts) there ∙ ap (λ y. last_line y t.unit ts) (same_Some x s is)
 
+-- two orders that count, for one unit and in one slot of one mailing, are on one line
 one_line : (ts us : List Task) (t o : Task) → ts ≡ us → t.unit ≡ o.unit → are_of_slot (row_of t.order_value.verb).slot (row_of o.order_value.verb).slot ≡ true → stands ts t ≡ true → stands us o ≡ true → t.line ≡ o.line
 one_line ts us t o same unit share one two = by_slots (row_of t.order_value.verb).slot (row_of o.order_value.verb).slot refl refl share
   where
@@ -76,6 +78,7 @@ one_line ts us t o same unit share one two = by_slots (row_of t.order_value.verb
 -- ---- the orders of a phase
 
 module _ (w : WorldValue) (is_of : Verb → Bool) (a : Arrangement) (aliases : Aliases) (readings : FinMap nat_cmp Reading) where
+  -- the order counts in its faction's mailing
   abbrev Stands : Task → Type 0
   Stands t = (r : Reading) → get readings t.faction ≡ Some r → stands (tasks_of aliases t.faction r) t ≡ true
 
@@ -103,7 +106,7 @@ module _ (w : WorldValue) (is_of : Verb → Bool) (a : Arrangement) (aliases : A
   all_stand (e ∷ es) there =
       append_each Stands (tasks_for is_of (tasks_of aliases e.0 e.1)) (flat_map (λ e. tasks_for is_of (tasks_of aliases e.0 e.1)) es) (stand_from e.0 e.1 there.0 0 e.1.entries) (all_stand es there.1)
 
-  -- an order that stands in its mailing, under its key
+  -- an order that counts in its mailing, under its key
   record IsKept (key : List ℕ) (t : Task) : Type 0 where
     keyed : key ≡ key_of a t
     there : IsInMailing aliases readings t

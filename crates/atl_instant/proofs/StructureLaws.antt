@@ -1,4 +1,4 @@
--- Structures that change their owners, under each number.
+-- The structure under each number after one of them got another owner.
 use Rattle.std.proofs.Common.{◌≡◌, ◌≢◌, ◌==◌, ◌&&◌, ℕ, Bool, true, false, Option, Some, None, refl, sym, ap, ◌∙◌, inl, inr, arith}
 use Rattle.std.specs.Prelude.{option_map, if◌then◌else◌}
 use Rattle.std.specs.Ordering.{nat_cmp}
@@ -19,7 +19,7 @@ equal_passes a b same = grind (arith, nat_tests)
 -- ---- a value of a map that is changed
 
 module _ {V : Type 0} (f : V → V) (m : FinMap nat_cmp V) (k : ℕ) where
-  -- f at the value under this number, and no other
+  -- f of the value under number k; every other value as it is
   abbrev pub at_number : ℕ → V → V
   at_number q v = if q == k then f v else v
 
@@ -35,10 +35,12 @@ module _ {V : Type 0} (f : V → V) (m : FinMap nat_cmp V) (k : ℕ) where
   changed_here None is = is
   changed_here (Some v) is = get-insert_same m k (f v)
 
+  -- a change of the value under k leaves the value under every other number
   pub changed_else : (q : ℕ) → q ≢ k → (o : Option V) → get (changed_at f m k o) q ≡ get m q
   changed_else q apart None = refl
   changed_else q apart (Some v) = get-insert_other m k q (f v) apart
 
+  -- a look-up after a change of the value under k
   pub get-changed : (q : ℕ) → get (changed f m k) q ≡ option_map (at_number q) (get m q)
   get-changed q = elim (cases_eq q k) [
     | inl same ↦
@@ -51,12 +53,13 @@ module _ {V : Type 0} (f : V → V) (m : FinMap nat_cmp V) (k : ℕ) where
   len_by None is = refl
   len_by (Some v) is = same_len m k v (f v) is
 
+  -- a change of the value under k leaves the number of values as it is
   pub len-changed : len (changed f m k) ≡ len m
   len-changed = len_by (get m k) refl
 
 -- ---- a structure that goes from one owner to another
 
--- the structure under a number, where it is this one and the former owner's
+-- the structure of number q, with the owner `to` if it is number k and its owner was `from`
 abbrev pub handed_on : (k from to q : ℕ) → Structure → Structure
 handed_on k from to q y = if q == k && y.owner == from then owned_by to y else y
 
@@ -80,6 +83,7 @@ module _ (c : CampaignValue) (k from to : ℕ) where
   unmoved q apart None = refl
   unmoved q apart (Some y) = ap (λ b. Some (if b && y.owner == from then owned_by to y else y)) (sym (other_number q k apart))
 
+  -- a look-up after a handover of structure k finds the structure as `handed_on` gives it
   pub get-after_handover : (q : ℕ) → get (after_handover c k from to).structures q ≡ option_map (handed_on k from to q) (get c.structures q)
   get-after_handover q = elim (cases_eq q k) [
     | inl same ↦
@@ -88,6 +92,7 @@ module _ (c : CampaignValue) (k from to : ℕ) where
     | inr apart ↦ else_by q apart (is_owned_by (get c.structures k) from) ∙ unmoved q apart (get c.structures q)
   ]
 
+  -- a handover leaves the number of structures as it is
   pub len-after_handover : len (after_handover c k from to).structures ≡ len c.structures
   len-after_handover = by_test (is_owned_by (get c.structures k) from)
     where
@@ -95,7 +100,7 @@ module _ (c : CampaignValue) (k from to : ℕ) where
       by_test true = len-changed (owned_by to) c.structures k
       by_test false = refl
 
-  -- nothing but the structures changes
+  -- a handover changes nothing but the structures
   pub handed_is : after_handover c k from to ≡ record c { structures = (after_handover c k from to).structures }
   handed_is = by_test (is_owned_by (get c.structures k) from)
     where

@@ -65,6 +65,7 @@ form_leaves =
 flag_men : (flag : Bool) (u : Unit) → HasItsMen u (record u { holding = record u.holding { guard = flag } })
 flag_men flag u = record { faction = refl; men = refl }
 
+-- a unit whose guard flag is set or cleared keeps its men
 pub guard_men : (c : CampaignValue) (n : ℕ) (flag : Bool) → HaveTheirMen c (with_guard c n flag)
 guard_men c n flag = men_changed (λ u. record u { holding = record u.holding { guard = flag } }) (flag_men flag) c (with_guard c n flag) n refl
 
@@ -90,7 +91,7 @@ name_leaves = carried_leaves name_step is_naming name_spares (unmailed_spared {c
 handed_men : (c : CampaignValue) (s from to : ℕ) → HaveTheirMen c (after_handover c s from to)
 handed_men c s from to = men_same c (after_handover c s from to) (ap (λ (d : CampaignValue). d.units) (handed_is c s from to))
 
--- a unit goes to another place
+-- a unit that goes elsewhere keeps its men
 pub place_men : (c : CampaignValue) (n r s : ℕ) → HaveTheirMen c (with_place c n r s)
 unfolding with_place
 place_men c n r s = by_unit (get c.units n)
@@ -137,7 +138,7 @@ gift_men : (gift : Gift) (v : Unit) (n : ℕ) → HasItsMen v (record v { holdin
 gift_men Money v n = record { faction = refl; men = refl }
 gift_men (Item i) v n = record { faction = refl; men = refl }
 
--- what goes from one unit to another, of whom both keep their men
+-- a move from one unit to another leaves all units their men, if both keep theirs
 men_moved : (c : CampaignValue) (from to : ℕ) (u v : Unit) (h k : HoldingValue) (giver : get c.units from ≡ Some u) (receiver : get c.units to ≡ Some v) (apart : to ≢ from)
     → HasItsMen u (record u { holding = h }) → HasItsMen v (record v { holding = k }) → HaveTheirMen c (moved c from to u v h k giver receiver apart)
 men_moved c from to u v h k giver receiver apart one two =
