@@ -1,4 +1,4 @@
--- MOVE leaves a campaign well, and spares who doesn't order it.
+-- MOVE leaves a campaign well, and leaves alone units without such an order.
 use Rattle.std.proofs.Common.{◌≡◌, ◌≢◌, ◌==◌, ◌&&◌, ℕ, ◌≤◌, Bool, true, false, not, [], ◌∷◌, Option, Some, None, refl, sym, ap, subst, ◌∙◌, arith}
 use Rattle.std.specs.Prelude.{IfSome, nat_lt, option_map, unwrap_or, if◌then◌else◌}
 use Rattle.std.specs.Option.{option_map_or}
@@ -54,15 +54,19 @@ land_is_there w r land = by_plan (get w.regions r) refl land
     by_plan (Some p) is dry = (p, is)
 
 module _ (w : WorldValue) (c : CampaignValue) (n : ℕ) (u : Unit) (to : ℕ) (is : get c.units n ≡ Some u) (steady : IsSteady w c) (land : is_land_at w to ≡ true) where
+  -- the structure that the unit leaves; 0 where it is inside none
   abbrev old_place : ℕ
   old_place = u.structure
 
+  -- the unit that owns that structure next
   abbrev next : ℕ
   next = heir c old_place n
 
+  -- the units with unit n in region `to`, outside structures
   abbrev units : FinMap nat_cmp Unit
   units = elsewhere 0 to c.units n
 
+  -- the unit of number k after unit n walked
   abbrev f : ℕ → Unit → Unit
   f k = gone_if 0 to (k == n)
 
@@ -197,18 +201,19 @@ module _ (w : WorldValue) (c : CampaignValue) (n : ℕ) (u : Unit) (to : ℕ) (i
   by_place true t = outside_well (is_equal old_place 0 t)
   by_place false t = subst (λ d. StepsWell IsSteady books_nothing w c (with_guard d n false)) (sym off_is) (inside_well (is_unequal old_place 0 t))
 
+  -- walking to a region with land is a step that leaves the campaign well
   pub walked_well : StepsWell IsSteady books_nothing w c (after_walk c n to)
   unfolding with_place
   walked_well = subst (λ o. StepsWell IsSteady books_nothing w c (with_guard (with_place_at c n to 0 o) n false)) (sym is) (by_place (old_place == 0) refl)
 
 -- ---- an order
 
--- a region that is there, if it has land, is the one that the unit goes to
+-- the region that a unit walks to, if it has no fault, has land
 land_to : (w : WorldValue) (to : Option ℕ) → not (is_land_there w to) ≡ false → is_land_at w (unwrap_or to 0) ≡ true
 land_to w None dry = false_true (sym dry)
 land_to w (Some r) dry = not-false (is_land_at w r) dry
 
--- what is so of the campaign as it is, and of that in which the unit has gone, is so of the campaign behind the order
+-- to show P of the campaign after an order, it is enough to show it of the campaign as it is, and of those in which the unit walked
 walk_cases : (P : CampaignValue → Type 0) (w : WorldValue) (c : CampaignValue) (n : ℕ) (u : Unit) (direction : Direction) → P c → ((to : ℕ) → is_land_at w to ≡ true → P (after_walk c n to)) → P (walk w n direction c u).0
 unfolding walk
 walk_cases P w c n u direction same gone = by_fault (neighbour w u.region direction) (walk_fault w u (neighbour w u.region direction)) refl
@@ -223,16 +228,19 @@ walk_cases P w c n u direction same gone = by_fault (neighbour w u.region direct
         let three = none_fits (not (is_land_there w to)) NoWay heavy two.1 in
         gone (unwrap_or to 0) (land_to w to three.0)
 
+-- an order of MOVE is a step that leaves the campaign well
 walk_well : (w : WorldValue) (c : CampaignValue) (n : ℕ) (u : Unit) → get c.units n ≡ Some u → (direction : Direction) → IsSteady w c → StepsWell IsSteady books_nothing w c (walk w n direction c u).0
 walk_well w c n u is direction steady = walk_cases (λ d. StepsWell IsSteady books_nothing w c d) w c n u direction (well_same w c steady) (λ to land. walked_well w c n u to is steady land)
 
 -- ---- other units stay
 
+-- an order of MOVE leaves every other unit as it was
 walk_stays : (w : WorldValue) (c : CampaignValue) (n : ℕ) (u : Unit) (direction : Direction) (k : ℕ) → k ≢ n → get (walk w n direction c u).0.units k ≡ get c.units k
 walk_stays w c n u direction k apart =
     walk_cases (λ d. get d.units k ≡ get c.units k) w c n u direction refl (λ to land.
     changed_else (λ (x : Unit). record x { holding = record x.holding { guard = false } }) (with_place c n to 0).units n k apart (get (with_place c n to 0).units n) ∙ place_stays c n to 0 k apart)
 
+-- the step of MOVE is orderly
 pub walk_orderly : IsOrderly walk_step IsSteady books_nothing moves_nothing IsOwnOrder IsNoWorse
 walk_orderly = record {
   well = λ w a c t x steady fit own. well w c t.unit x own.there steady t.order_value.operands;

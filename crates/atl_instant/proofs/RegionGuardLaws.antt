@@ -118,7 +118,7 @@ module _ (c : CampaignValue) (m : GuardMap) (are : AreRegionGuards c m) (region 
   abbrev stands_here : Unit → Bool
   stands_here u = u.region == region
 
-  -- no other faction guards the region, if each unit there is of the faction that the map has for it
+  -- no other faction guards the region, if the faction that the map has for a unit there can only be this one
   all_own : ((u : Unit) → u.region ≡ region → get m u.region ≡ Some u.faction → u.faction ≡ faction) → is_guarded_against c region faction ≡ false
   all_own own = any_none against (numbers_in region c.units) (λ k listed. let (u, is, here) = listed_passing stands_here c.units k listed in ap (guards_against faction) is ∙ by_test u (guards u) (are.noted k u is) (is_equal u.region region here))
     where

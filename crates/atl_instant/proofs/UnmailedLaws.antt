@@ -37,8 +37,8 @@ use Rattle.atl_instant.proofs.PhaseOrderLaws.{orders_are_in_mailings}
 
 -- ---- phases one after the other
 
--- The phase keeps the mailings and takes back no Starved event. Each unit of a faction without a mailing is there after, with exactly
--- the men less who starve in the phase.
+-- The phase keeps the mailings and takes back no Starved event. Each unit of a faction without a mailing is there after, with its name,
+-- its items, and exactly the men less who starve in the phase.
 pub record LeavesUnmailed (meaning : Meaning) (keeps : Frame) : Type 0 where
   pub readings : (w : WorldValue) (c : CampaignValue) (m : MonthValue) → (meaning w c m).1.readings ≡ m.readings
   pub told : (w : WorldValue) (c : CampaignValue) (m : MonthValue) (n : ℕ) → starved_in m.events n ≤ starved_in (meaning w c m).1.events n
