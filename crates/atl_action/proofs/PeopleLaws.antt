@@ -113,7 +113,7 @@ module _ (structure to : ℕ) where
   gone_same true x = record { faction = refl; name = refl; men = refl; money = refl; items = refl; days = refl }
   gone_same false x = record { faction = refl; name = refl; men = refl; money = refl; items = refl; days = refl }
 
-  -- a unit that guards after isn't gone
+  -- a unit that guards after is as it was
   pub guards_stay : (b : Bool) (x : Unit) → guards (gone_if b x) ≡ true → gone_if b x ≡ x
   guards_stay true x g = false_true g
   guards_stay false x g = refl
