@@ -11,6 +11,7 @@ use Rattle.atl_action.specs.Teach.{first_mentions}
 abbrev pub is_new : FinMap nat_cmp ℕ → ℕ → Bool
 is_new seen k = not (is_some (get seen k))
 
+-- two filters in turn are one filter by the test that both tests make
 both_filters : (p q r : ℕ → Bool) → ((k : ℕ) → (q k && p k) ≡ r k) → (ns : List ℕ) → filter p (filter q ns) ≡ filter r ns
 both_filters p q r same [] = refl
 both_filters p q r same (n ∷ ns) = by_test (q n) (same n) (both_filters p q r same ns)

@@ -44,6 +44,7 @@ cancelled : (a b p q : ℕ) → a + p ≡ b + q → q ≡ p → a ≡ b
 cancelled a b p q e f = omega arith
 
 module _ (f : Unit → Unit) (same : (u : Unit) → IsSameUnit u (f u)) (m : FinMap nat_cmp Unit) (k : ℕ) where
+  -- a change of unit k keeps the people, by whether it is there
   changed_by : (o : Option Unit) → get m k ≡ o → AreSamePeople m (changed_at f m k o)
   changed_by None is = people_same m
   changed_by (Some u) is = record {
@@ -88,6 +89,7 @@ module _ (structure to : ℕ) where
       (people_changed put_there (λ x. record { faction = refl; name = refl; men = refl; money = refl; items = refl; days = refl }) m n)
       (people_changed flag_off (λ x. record { faction = refl; name = refl; men = refl; money = refl; items = refl; days = refl }) (changed put_there m n) n)
 
+  -- a look-up of unit k after its location and then its flag were changed
   elsewhere_by : (m : FinMap nat_cmp Unit) (n k : ℕ) (b : Bool) → (k == n) ≡ b → (o : Option Unit) → option_map (at_number flag_off (changed put_there m n) n k) (option_map (at_number put_there m n k) o) ≡ option_map (gone_if (k == n)) o
   elsewhere_by m n k b t None = refl
   elsewhere_by m n k true t (Some x) = rw t refl
@@ -99,6 +101,7 @@ module _ (structure to : ℕ) where
       get-changed flag_off (changed put_there m n) n k ∙ ap (option_map (at_number flag_off (changed put_there m n) n k)) (get-changed put_there m n k)
       ∙ elsewhere_by m n k (k == n) refl (get m k)
 
+  -- each structure has the same units inside after a unit changed that is inside the same one
   inside_changed : (f : Unit → Unit) (m : FinMap nat_cmp Unit) (n q : ℕ) (v : Unit) → get m n ≡ Some v → (v.structure == q) ≡ ((f v).structure == q) → numbers_inside q (changed f m n) ≡ numbers_inside q m
   inside_changed f m n q v is same = ap (λ o. numbers_inside q (changed_at f m n o)) is ∙ inside_as_before q m (insert m n (f v)) (numbers_where-insert_known (λ (x : Unit). x.structure == q) m n v (f v) is same)
 

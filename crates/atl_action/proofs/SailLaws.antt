@@ -94,12 +94,14 @@ module _ (ship to : ℕ) where
   all_people m [] = people_same m
   all_people m (n ∷ ns) = people_twice m (elsewhere ship to m n) (fold (elsewhere ship to) (elsewhere ship to m n) ns) (elsewhere_people ship to m n) (all_people (elsewhere ship to m n) ns)
 
+  -- a unit that goes along by one of two tests does so by either
   mapped_both : (a b : Bool) (o : Option Unit) → option_map (gone_if ship to b) (option_map (gone_if ship to a) o) ≡ option_map (gone_if ship to (a || b)) o
   mapped_both a b None = refl
   mapped_both true true (Some x) = refl
   mapped_both true false (Some x) = refl
   mapped_both false b (Some x) = refl
 
+  -- a unit that doesn't go along is as it was
   mapped_none : (o : Option Unit) → o ≡ option_map (gone_if ship to false) o
   mapped_none None = refl
   mapped_none (Some x) = refl
@@ -122,6 +124,7 @@ module _ (ship to : ℕ) where
       ap (λ o. with_guard (with_place_at d n to ship o) n false) is
       ∙ ap (λ b. with_guard (if b then placed d n to ship else after_handover (after_handover (placed d n to ship) v.structure n (heir d v.structure n)) ship 0 n) n false) (equal_passes v.structure ship here)
 
+  -- a unit inside the ship still is when another one went along
   still_inside : (m : FinMap nat_cmp Unit) (n k : ℕ) → IsInside m k → IsInside (elsewhere ship to m n) k
   still_inside m n k (v, there, here) = (gone_if ship to (k == n) v, elsewhere_at ship to m n k ∙ ap (option_map (gone_if ship to (k == n))) there, by_test (k == n))
     where
@@ -129,6 +132,7 @@ module _ (ship to : ℕ) where
       by_test true = refl
       by_test false = here
 
+  -- all units inside the ship still are when another one went along
   still_all : (m : FinMap nat_cmp Unit) (n : ℕ) (ns : List ℕ) → AllByRecursion (IsInside m) ns → AllByRecursion (IsInside (elsewhere ship to m n)) ns
   still_all m n [] all = tt
   still_all m n (k ∷ ns) all = (still_inside m n k all.0, still_all m n ns all.1)
@@ -154,6 +158,7 @@ module _ (w : WorldValue) (c : CampaignValue) (ship to : ℕ) (steady : IsSteady
   abbrev ns : List ℕ
   ns = numbers_inside ship c.units
 
+  -- the units after those inside went along
   abbrev units : FinMap nat_cmp Unit
   units = fold (elsewhere ship to) c.units ns
 
@@ -161,6 +166,7 @@ module _ (w : WorldValue) (c : CampaignValue) (ship to : ℕ) (steady : IsSteady
   abbrev shifted : Structure → Structure
   shifted y = record y { region = to }
 
+  -- the structures with the ship in region `to`
   abbrev structures : FinMap nat_cmp Structure
   structures = changed shifted c.structures ship
 
@@ -168,6 +174,7 @@ module _ (w : WorldValue) (c : CampaignValue) (ship to : ℕ) (steady : IsSteady
   abbrev f : ℕ → Unit → Unit
   f k v = gone_if ship to (v.structure == ship) v
 
+  -- the structure of number k after the ship went
   abbrev g : ℕ → Structure → Structure
   g = at_number shifted c.structures ship
 
@@ -175,6 +182,7 @@ module _ (w : WorldValue) (c : CampaignValue) (ship to : ℕ) (steady : IsSteady
   abbrev behind : CampaignValue
   behind = travelled w c units structures f g
 
+  -- each unit listed as inside the ship is inside it
   is_inside : (k : ℕ) → IsListed k ns → IsInside ship to c.units k
   is_inside k listed = listed_is_inside ship c.units k listed
 
@@ -183,6 +191,7 @@ module _ (w : WorldValue) (c : CampaignValue) (ship to : ℕ) (steady : IsSteady
   unfolding after_sailing
   sailed_is = ap (λ d. with_structure_region d ship to) (all_is ship to c ns (all_listed (IsInside ship to c.units) ns is_inside))
 
+  -- the ship's number isn't 0
   some_ship : ship ≢ 0
   some_ship = is_no_zero c.structures c.next_structure steady.next.structures ship x is
 
@@ -201,6 +210,7 @@ module _ (w : WorldValue) (c : CampaignValue) (ship to : ℕ) (steady : IsSteady
   units_by k None there = refl
   units_by k (Some v) there = ap (λ b. Some (gone_if ship to b v)) (member_by k v there (v.structure == ship) (list_any (λ n. k == n) ns) refl refl)
 
+  -- a look-up of a unit after the ship went
   units_at : (k : ℕ) → get units k ≡ option_map (f k) (get c.units k)
   units_at k = all_at ship to c.units ns k ∙ units_by k (get c.units k) refl
 
@@ -208,19 +218,24 @@ module _ (w : WorldValue) (c : CampaignValue) (ship to : ℕ) (steady : IsSteady
   inside_by v true t = sym (is_equal v.structure ship t)
   inside_by v false t = refl
 
+  -- each unit is inside the structure that it was inside
   inside_same : (k : ℕ) (v : Unit) → (f k v).structure ≡ v.structure
   inside_same k v = inside_by v (v.structure == ship) refl
 
+  -- the ship is in region `to`
   at_ship : get structures ship ≡ Some (shifted x)
   at_ship = get-changed shifted c.structures ship ship ∙ ap (option_map (g ship)) is ∙ ap (λ b. Some (if b then shifted x else x)) (equal_passes ship ship refl)
 
+  -- every other structure stays as it was
   at_other : (q : ℕ) → q ≢ ship → get structures q ≡ get c.structures q
   at_other q apart = changed_else shifted c.structures ship q apart (get c.structures ship)
 
+  -- a structure is the same but for its region
   ship_same : (q : ℕ) (y : Structure) (b : Bool) → IsSameStructure y (if b then shifted y else y)
   ship_same q y true = record { kind = refl; done = refl; name = refl }
   ship_same q y false = record { kind = refl; done = refl; name = refl }
 
+  -- each structure has its right owner
   ship_owned : (q : ℕ) (y : Structure) → get c.structures q ≡ Some y → (b : Bool) → IsOwned behind q (if b then shifted y else y)
   ship_owned q y there b = by_test b
     where
@@ -238,6 +253,7 @@ module _ (w : WorldValue) (c : CampaignValue) (ship to : ℕ) (steady : IsSteady
       by_test true = record { owned = owned; ownerless = ownerless }
       by_test false = record { owned = owned; ownerless = ownerless }
 
+  -- the ship's number isn't 0
   ship_some : ship ≢ 0
   ship_some zero = none_some x (sym steady.next.structures.first ∙ ap (get c.structures) (sym zero) ∙ is)
 
@@ -292,6 +308,7 @@ module _ (w : WorldValue) (c : CampaignValue) (ship to : ℕ) (steady : IsSteady
 
   -- ---- what stays of each unit
 
+  -- a unit that goes along with its ship, or stays, at most goes along
   carried_by : (v : Unit) (b : Bool) → (v.structure == ship) ≡ b → IsAtMostMoved v (gone_if ship to b v)
   carried_by v true t =
       let here : v.structure ≡ ship = is_equal v.structure ship t in
@@ -461,6 +478,7 @@ fault_with w n u to ship crew load = first_fault (
     ∷ (nat_lt (capacity w ship) load, TooHeavy)
     ∷ [])
 
+-- an order has the same outcome in two campaigns, if it has the same fault
 unless_told : (c d x y : CampaignValue) (o : Option EventFault) → (unless c o (x, Done 0)).1 ≡ (unless d o (y, Done 0)).1
 unless_told c d x y None = refl
 unless_told c d x y (Some fault) = refl
@@ -534,6 +552,7 @@ module _ (w : WorldValue) (begun : CampaignValue) (number faction : ℕ) where
     task_stays : (m : MonthValue) (t : Task) → (SailsWith w begun t number faction → ⊥) → IsAsBegun (one_order sail_step w (c, m) t).0
     task_stays m t apart = order_stays t.faction t.unit t.order_value.operands (λ in_it done. apart (record { together = in_it; done = done }))
 
+  -- orders by which the structure doesn't sail keep what `IsAsBegun` says
   tasks_stay : (c : CampaignValue) (m : MonthValue) (ts : List Task) → IsAsBegun c → AllByRecursion (λ t. SailsWith w begun t number faction → ⊥) ts → IsAsBegun (fold (one_order sail_step w) (c, m) ts).0
   tasks_stay c m [] same others = same
   tasks_stay c m (t ∷ ts) same others =

@@ -54,6 +54,7 @@ module _ (w : WorldValue) (taught n s : ℕ) (c d : CampaignValue) (u : Unit) (i
   same_days : days_in d ≡ days_in c
   same_days = ap (λ (o : Option Structure). days_after u.holding.men (amount_of u.holding.days s) taught (is_helpful w s o)) (ap (λ m. get m u.structure) structures)
 
+  -- the unit with these days, and the fee paid
   abbrev put : ℕ → Unit
   put days = record u { holding = with_study u.holding s cost days }
 
@@ -73,6 +74,7 @@ module _ (w : WorldValue) (taught n s : ℕ) (c d : CampaignValue) (u : Unit) (i
 abbrev Studies : Task → Type 0
 Studies t = is_studying t.order_value.verb ≡ true
 
+-- a verb of the phase of STUDY is STUDY
 is_study : (verb : Verb) → is_studying verb ≡ true → verb ≡ verbs.Study
 is_study verbs.Study is = refl
 is_study verb is = cc
@@ -91,6 +93,7 @@ both_own t o never t_studies o_studies unit faction =
     all_three false b d p q r never = cc
 
 module _ (w : WorldValue) (taught : TaughtMen) (n : ℕ) (u : Unit) where
+  -- the campaign and the month after one order of STUDY
   abbrev step : CampaignValue × MonthValue → Task → CampaignValue × MonthValue
   step = one_order (study_step taught) w
 

@@ -56,6 +56,7 @@ not_listed : (n : ℕ) (ns : List ℕ) → AreOthers n ns → list_any (λ k. n 
 not_listed n [] all = refl
 not_listed n (k ∷ ns) all = ap (λ b. b || list_any (λ k. n == k) ns) all.0 ∙ not_listed n ns all.1
 
+-- the elements before the first that passes a test, of a list with one more in front
 before_cons : (p : ℕ → Bool) (n : ℕ) (ns : List ℕ) → before_first p (n ∷ ns) ≡ if p n then [] else n ∷ before_first p ns
 before_cons p n ns = by_test (p n)
   where
@@ -63,6 +64,7 @@ before_cons p n ns = by_test (p n)
     by_test true = refl
     by_test false = search rules
 
+-- if no number of a list is n, none before the first that passes a test is
 before_others : (n : ℕ) (p : ℕ → Bool) (ns : List ℕ) → AreOthers n ns → AreOthers n (before_first p ns)
 before_others n p [] all = tt
 before_others n p (k ∷ ns) all = subst (AreOthers n) (sym (before_cons p k ns)) (by_test (p k) (before_others n p ns all.1))
@@ -73,9 +75,11 @@ before_others n p (k ∷ ns) all = subst (AreOthers n) (sym (before_cons p k ns)
 
 -- ---- so many men of the first unit are taught, and then those of the rest
 
+-- the first unit of a lesson gets as many of its men taught as its turn gives
 first_is_dealt : (had given want places : ℕ) → given ≡ min places want → (had + given) + 0 ≡ had + (min (0 + want) places - min 0 places)
 first_is_dealt had given want places is = grind (arith, is)
 
+-- a later unit gets the same whether the first one is still in the list or its part is already taken off
 rest_is_dealt : (places given first before want : ℕ) → given ≡ min places first →
     min (before + want) (places - given) - min before (places - given) ≡ min ((first + before) + want) places - min (first + before) places
 rest_is_dealt places given first before want is = grind (arith, is)

@@ -62,6 +62,7 @@ study_men w taught c n s u is =
     men_unless c (after_study c n u s cost days) (Done (days - old)) (study_fault u.holding cost)
     (men_put c (after_study c n u s cost days) n u (record u { holding = with_study u.holding s cost days }) is (record { faction = refl; men = refl }) refl)
 
+-- an order of STUDY leaves units of other factions their men
 studied_men : (w : WorldValue) (taught : TaughtMen) (c : CampaignValue) (f n : ℕ) (x : Unit) → get c.units n ≡ Some x → (o : OperandsValue) → IfSome (study_effect w taught n o) (λ deed. OthersHaveMen f c (deed c x).0)
 studied_men w taught c f n x is (operands.Skill s) = others_men f c (study w (taught n) n s c x).0 (study_men w (taught n) c n s x is)
 studied_men w taught c f n x is other = tt
@@ -70,6 +71,7 @@ studied_men w taught c f n x is other = tt
 study_spares : (taught : TaughtMen) → SparesMen (study_step taught)
 study_spares taught w a c t x own = studied_men w taught c t.faction t.unit x own.there t.order_value.operands
 
+-- a unit that is unchanged has its name and items
 items_of_unchanged : (u v : Unit) → IsUnchanged u v → HasItsItems u v
 items_of_unchanged u v same = record { name = ap (λ (x : Unit). x.holding.name) same; items = λ i. omega (arith, ap (λ (x : Unit). amount_of x.holding.items i) same) }
 

@@ -30,6 +30,7 @@ walk_men w c n u direction =
     let to = neighbour w u.region direction in
     men_unless c (after_walk c n (unwrap_or to 0)) (Done 0) (walk_fault w u to) (gone_men c n (unwrap_or to 0) 0)
 
+-- an order of MOVE leaves units of other factions their men
 walked_men : (w : WorldValue) (c : CampaignValue) (f n : ℕ) (x : Unit) (o : OperandsValue) → IfSome (walk_effect w n o) (λ deed. OthersHaveMen f c (deed c x).0)
 walked_men w c f n x (operands.Direction direction) = others_men f c (walk w n direction c x).0 (walk_men w c n x direction)
 walked_men w c f n x other = tt
@@ -59,6 +60,7 @@ sail_men w c n u direction =
     let to = neighbour w u.region direction in
     men_unless c (after_sailing c u.structure (unwrap_or to 0)) (Done 0) (sail_fault w c n u (get c.structures u.structure) to) (sailed_men c u.structure (unwrap_or to 0))
 
+-- an order of SAIL leaves units of other factions their men
 sailing_men : (w : WorldValue) (c : CampaignValue) (f n : ℕ) (x : Unit) (o : OperandsValue) → IfSome (sail_effect w n o) (λ deed. OthersHaveMen f c (deed c x).0)
 sailing_men w c f n x (operands.Direction direction) = others_men f c (sail w n direction c x).0 (sail_men w c n x direction)
 sailing_men w c f n x other = tt

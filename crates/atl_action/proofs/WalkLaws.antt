@@ -41,6 +41,7 @@ use Rattle.atl_action.specs.Walk.{after_walk, is_land_there, walk, walk_effect, 
 use Rattle.atl_action.proofs.PeopleLaws.{AreSamePeople, elsewhere, elsewhere_at, elsewhere_people, gone, gone_if, gone_same, guards_stay, total_people}
 use Rattle.atl_action.proofs.TravelLaws.{AreTravelled, IsPut, IsSameStructure, steady-travelled, travelled}
 
+-- a looked-up value as it is
 mapped_itself : {A : Type 0} (o : Option A) → o ≡ option_map (λ y. y) o
 mapped_itself None = refl
 mapped_itself (Some y) = refl
@@ -72,26 +73,33 @@ module _ (w : WorldValue) (c : CampaignValue) (n : ℕ) (u : Unit) (to : ℕ) (i
 
   -- ---- the units
 
+  -- the units are the same people
   same_people : AreSamePeople c.units units
   same_people = elsewhere_people 0 to c.units n
 
+  -- a look-up of a unit after unit n walked
   units_at : (k : ℕ) → get units k ≡ option_map (f k) (get c.units k)
   units_at = elsewhere_at 0 to c.units n
 
+  -- unit n is in region `to`, inside no structure, with its flag cleared
   here : get units n ≡ Some (gone 0 to u)
   here = units_at n ∙ ap (option_map (f n)) is ∙ ap (λ b. Some (gone_if 0 to b u)) (equal_passes n n refl)
 
+  -- every other unit stays as it was
   away : (k : ℕ) → k ≢ n → get units k ≡ get c.units k
   away k apart = units_at k ∙ ap (λ b. option_map (gone_if 0 to b) (get c.units k)) (other_number k n apart) ∙ sym (mapped_itself (get c.units k))
 
+  -- unit n is inside no structure
   outside : (v : Unit) → get units n ≡ Some v → v.structure ≡ 0
   outside v there = sym (ap (λ (x : Unit). x.structure) (same_Some (gone 0 to u) v (sym here ∙ there)))
 
   -- ---- the structures
 
+  -- unit numbers begin at 1
   low : Every (λ k v. 1 ≤ k) c.units
   low k v there = (steady.numbers.units k v there).0
 
+  -- structure numbers aren't 0
   not_first : (q : ℕ) (y : Structure) → get c.structures q ≡ Some y → q ≢ 0
   not_first q y there zero = none_some y (sym steady.next.structures.first ∙ ap (get c.structures) (sym zero) ∙ there)
 
@@ -148,9 +156,11 @@ module _ (w : WorldValue) (c : CampaignValue) (n : ℕ) (u : Unit) (to : ℕ) (i
 
   -- ---- a unit that was inside no structure
 
+  -- each structure has its right owner, if the unit was inside none
   unowned : old_place ≡ 0 → (q : ℕ) (y : Structure) → get c.structures q ≡ Some y → IsOwned (behind c.structures) q y
   unowned outside q y there = still_owned c.structures q y there (owns_no_other w c n u is steady q y there (λ same. not_first q y there (same ∙ outside)))
 
+  -- walking leaves the campaign well, if the unit was inside no structure
   outside_well : old_place ≡ 0 → StepsWell IsSteady books_nothing w c (behind c.structures)
   outside_well outside =
       behind_well c.structures (λ q y. y) (λ k. mapped_itself (get c.structures k)) refl
@@ -158,33 +168,41 @@ module _ (w : WorldValue) (c : CampaignValue) (n : ℕ) (u : Unit) (to : ℕ) (i
 
   -- ---- a unit that leaves a structure
 
+  -- the campaign with the unit in region `to`, before owners change
   abbrev begun : CampaignValue
   begun = placed c n to 0
 
+  -- the campaign after the unit's old structure got its next owner
   abbrev gone_out : CampaignValue
   gone_out = after_handover begun old_place n next
 
+  -- the same after the handover of structure 0, which isn't there
   abbrev gone_off : CampaignValue
   gone_off = after_handover gone_out 0 0 n
 
+  -- the structure with its owner after both handovers, by the three tests
   abbrev given : (a e b : Bool) → Structure → Structure
   given a e b y = let x = if a && e then owned_by next y else y in if b && x.owner == 0 then owned_by n x else x
 
+  -- the structure is the same but for its owner
   given_same : (a e b : Bool) (y : Structure) → b ≡ false → IsSameStructure y (given a e b y) × ((given a e b y).region ≡ y.region)
   given_same true true b y high = rw high (record { kind = refl; done = refl; name = refl }, refl)
   given_same true false b y high = rw high (record { kind = refl; done = refl; name = refl }, refl)
   given_same false e b y high = rw high (record { kind = refl; done = refl; name = refl }, refl)
 
+  -- each structure has its right owner, by the three tests
   given_owned : old_place ≢ 0 → (q : ℕ) (y : Structure) → get c.structures q ≡ Some y → (a e b : Bool) → (q == old_place) ≡ a → (y.owner == n) ≡ e → b ≡ false → IsOwned (behind gone_off.structures) q (given a e b y)
   given_owned some q y there true true b p r high = rw high (subst (λ k. IsOwned (behind gone_off.structures) k (owned_by next y)) (sym (is_equal q old_place p)) (left_owned gone_off.structures some y))
   given_owned some q y there true false b p r high = rw high (still_owned gone_off.structures q y there (is_unequal y.owner n r))
   given_owned some q y there false e b p r high = rw high (still_owned gone_off.structures q y there (owns_no_other w c n u is steady q y there (is_unequal q old_place p)))
 
+  -- a look-up of a structure after both handovers
   given_at : (q : ℕ) → get gone_off.structures q ≡ option_map (λ y. handed_on 0 0 n q (handed_on old_place n next q y)) (get c.structures q)
   given_at q =
       get-after_handover gone_out 0 0 n q ∙ ap (option_map (handed_on 0 0 n q)) (get-after_handover begun old_place n next q)
       ∙ mapped_twice (handed_on 0 0 n q) (handed_on old_place n next q) (get c.structures q)
 
+  -- walking leaves the campaign well, if the unit was inside a structure
   inside_well : old_place ≢ 0 → StepsWell IsSteady books_nothing w c (behind gone_off.structures)
   inside_well some =
       behind_well gone_off.structures (λ q y. handed_on 0 0 n q (handed_on old_place n next q y)) given_at
@@ -197,6 +215,7 @@ module _ (w : WorldValue) (c : CampaignValue) (n : ℕ) (u : Unit) (to : ℕ) (i
 
   -- ---- both
 
+  -- walking leaves the campaign well in either case
   by_place : (b : Bool) → (old_place == 0) ≡ b → StepsWell IsSteady books_nothing w c (with_guard (if b then begun else gone_off) n false)
   by_place true t = outside_well (is_equal old_place 0 t)
   by_place false t = subst (λ d. StepsWell IsSteady books_nothing w c (with_guard d n false)) (sym off_is) (inside_well (is_unequal old_place 0 t))

@@ -16,12 +16,15 @@ at_least_one : (n : ℕ) → (n == 0) ≡ false → 1 ≤ n
 at_least_one n some = grind (arith, nat_tests)
 
 module _ (f : ℕ → ℕ) where
+  -- the number has the amount that f gives it, and that isn't 0
   abbrev IsSome : ℕ → ℕ → Type 0
   IsSome n amount = (1 ≤ amount) × (amount ≡ f n)
 
+  -- the entries from which `amounts_for` makes its map
   abbrev listed : List ℕ → List (ℕ × ℕ)
   listed ns = filter (λ e. not (e.1 == 0)) (map (λ n. (n, f n)) ns)
 
+  -- each of these entries has an amount other than 0, the one that f gives
   each_some : (ns : List ℕ) → EachOf IsSome (listed ns)
   each_some [] = tt
   each_some (n ∷ ns) = by_test (each_some ns) (f n == 0) refl
@@ -35,12 +38,15 @@ module _ (f : ℕ → ℕ) where
   unfolding amounts_for
   each_said ns n amount is = found_of IsSome (listed ns) n amount (each_some ns) (sym (get-from_entries nat_cmp_total (listed ns) n) ∙ is)
 
+  -- the amount of a number in the map; 0 where it isn't listed
   abbrev found : ℕ → List ℕ → ℕ
   found q ns = unwrap_or (find nat_cmp q (listed ns)) 0
 
+  -- whether a number is in the list
   abbrev is_among : ℕ → List ℕ → Bool
   is_among q ns = list_any (eq_by_cmp nat_cmp q) ns
 
+  -- a number in the list has the amount that f gives, and any other has 0
   found_said : (q : ℕ) (ns : List ℕ) → found q ns ≡ cond (is_among q ns) (f q) 0
   found_said q [] = refl
   found_said q (n ∷ ns) = by_tests (found_said q ns) (f n == 0) (eq_by_cmp nat_cmp q n) refl refl

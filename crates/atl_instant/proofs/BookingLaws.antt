@@ -21,6 +21,7 @@ near_by x y z n small h = elim h [
   | inr is ↦ record { above = omega (arith, ints, is); below = omega (arith, ints, is) }
 ]
 
+-- an amount that stays moves by 0
 near_same : (x y : ℤ) → y ≡ x → IsNear 0 x y
 near_same x y is = record { above = omega (arith, ints, is); below = omega (arith, ints, is) }
 

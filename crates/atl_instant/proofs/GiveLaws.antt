@@ -97,6 +97,7 @@ may_have_of w h (Item i) amount known most may = record {
   days = may.days;
 }
 
+-- a unit with another amount of the gift guards only if it did before
 same_flag : (gift : Gift) (h : HoldingValue) (amount : ℕ) → (with_held_of gift h amount).guard ≡ true → h.guard ≡ true
 same_flag Money h amount g = g
 same_flag (Item i) h amount g = g

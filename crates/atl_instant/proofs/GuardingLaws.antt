@@ -73,9 +73,11 @@ module _ (c : CampaignValue) (n : ℕ) (u : Unit) (is : get c.units n ≡ Some u
   abbrev pub flagged : CampaignValue
   flagged = record c { units = insert c.units n guarding }
 
+  -- two units that both guard one region are of one faction
   abbrev Agree : Unit → Unit → Type 0
   Agree x y = guards x ≡ true → guards y ≡ true → x.region ≡ y.region → x.faction ≡ y.faction
 
+  -- all units that guard a region still are of one faction
   guards_kept : is_guarded_against c u.region u.faction ≡ false → AreOfOneFaction guards c → AreOfOneFaction guards flagged
   guards_kept none old =
       let own = own_guards c u.region u.faction none in
@@ -143,9 +145,11 @@ guard_cases P c n u same flag = by_fault (guard_fault c u) refl
         let two = none_fits (is_guarded_against c u.region u.faction) Guarded [] one.1 in
         flag two.0
 
+-- an order of GUARD 1 is a step that leaves the campaign well
 guard_steps_well : (w : WorldValue) (c : CampaignValue) (n : ℕ) (u : Unit) → get c.units n ≡ Some u → IsSteady w c → StepsWell IsSteady (λ d e t. 0) w c (guard n c u).0
 guard_steps_well w c n u is steady = guard_cases (λ d. StepsWell IsSteady (λ d e t. 0) w c d) c n u (well_same w c steady) (λ none. flag_steps_well c n u is w none steady)
 
+-- an order of GUARD 1 leaves each other unit no worse off
 guard_spares : (w : WorldValue) (c : CampaignValue) (n : ℕ) (u : Unit) → get c.units n ≡ Some u → (k : ℕ) (x : Unit) → get c.units k ≡ Some x → k ≢ n → IsUnaffected IsNoWorse (guard n c u).0 k x
 guard_spares w c n u is k x there apart =
     guard_cases (λ d. IsUnaffected IsNoWorse d k x) c n u (record { unit = x; there = there; spared = no_worse x }) (λ none. flag_spares c n u is k x there apart)

@@ -7,6 +7,7 @@ use Rattle.std.specs.FinMap.{empty, entries, entries-insert, from_entries, put, 
 use Rattle.std.specs.FinMap.Entries.{by_order}
 use Rattle.std.proofs.Common.{length, arith}
 
+-- a list of length 0 is empty
 empty_list : {A : Type 0} (es : List A) → length es ≡ 0 → es ≡ []
 empty_list [] h = refl
 empty_list (e ∷ es) h = absurd (omega arith)
@@ -20,6 +21,7 @@ module _ {K X Y : Type 0} (R : K → K → Ordering) (f : X → Y) where
   abbrev pub with_value : K × X → K × Y
   with_value e = (e.0, f e.1)
 
+  -- putting f of a value among mapped entries is mapping the entries with the value put
   put-mapped : (k : K) (v : X) (es : List (K × X)) → put R k (f v) (map with_value es) ≡ map with_value (put R k v es)
   put-mapped k v [] = refl
   put-mapped k v (e ∷ es) =

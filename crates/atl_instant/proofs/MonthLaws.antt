@@ -51,6 +51,7 @@ mailings_have_no_order ms ns apart p =
 abbrev under_faction : Mailing → ℕ × Mailing
 under_faction m = (m.faction, m)
 
+-- the keys of mailings under their factions are the factions
 keys_of-mailings : (ms : List Mailing) → keys_of (map under_faction ms) ≡ map (λ m. m.faction) ms
 keys_of-mailings [] = refl
 keys_of-mailings (m ∷ ms) = ap (λ ks. m.faction ∷ ks) (keys_of-mailings ms)
@@ -84,6 +85,7 @@ found_at ms f i d rise h tie =
     get-from_entries nat_cmp_total es f ∙ find_is nat_cmp_total nat_cmp-IsAntisymmetric f es ∙ ap (λ k. lookup (eq_by_cmp nat_cmp k) es) (sym same)
     ∙ lookup_from_place (eq_by_cmp_equiv nat_cmp_total) es i m.faction (reading_of m) apart there
 
+-- where no mailing is of a faction, the search finds no reading of it
 unfound : (ms : List Mailing) (f : ℕ) → ((j : ℕ) (d : Mailing) → j < length ms → eq_by_cmp nat_cmp (get_or ms j d).faction f ≡ false) → find nat_cmp f (map by_its_faction (map reading_of ms)) ≡ None
 unfound [] f h = refl
 unfound (m ∷ ms) f h =

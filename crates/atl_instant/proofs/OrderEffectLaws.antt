@@ -134,10 +134,12 @@ module _ (step : OrderMeaning) {holds : Condition} {reserve : RemainingBound} {m
   pub order_well : (a : Aliases) (c : CampaignValue) (t : Task) → holds w c → IsOrderOf w t.order_value → StepsWell holds reserve w c (order_result (step w a t) c t.faction t.unit).0
   order_well a c t h fit = ordered_cases (StepsWell holds reserve w c) (step w a t) c t (well_same w c h) (λ x own. orderly.well w a c t x h fit own)
 
+  -- an order of an orderly step spares a unit that it doesn't concern
   order_spares : (a : Aliases) (c : CampaignValue) (t : Task) → holds w c → (n : ℕ) (u : Unit) → get c.units n ≡ Some u → (concerns t n u.faction → ⊥) → IsUnaffected spares (order_result (step w a t) c t.faction t.unit).0 n u
   order_spares a c t h n u there other =
       ordered_cases (λ d. IsUnaffected spares d n u) (step w a t) c t (record { unit = u; there = there; spared = orderly.sparing.same u }) (λ x own. orderly.spared w a c t x h own n u there other)
 
+  -- orders of an orderly step spare a unit that none of them concerns
   orders_spare_one : (c : CampaignValue) (m : MonthValue) (ts : List Task) → holds w c → AllByRecursion (λ t. IsOrderOf w t.order_value) ts → (n : ℕ) (u : Unit) → get c.units n ≡ Some u → AllByRecursion (λ t. concerns t n u.faction → ⊥) ts
       → IsUnaffected spares (fold (one_order step w) (c, m) ts).0 n u
   orders_spare_one c m [] h fit n u there others = record { unit = u; there = there; spared = orderly.sparing.same u }
@@ -156,11 +158,13 @@ module _ (step : OrderMeaning) {holds : Condition} {reserve : RemainingBound} {m
 -- ---- the orders of a phase
 
 module _ (w : WorldValue) where
+  -- if all entries fit the world, so does the one at an index
   fit_at : (es : List EntryValue) (k : ℕ) (e : EntryValue) → AllByRecursion (IsEntry w) es → slice_get es k ≡ Some e → IsEntry w e
   fit_at [] k e all is = cc
   fit_at (x ∷ es) zero e all is = subst (IsEntry w) (same_Some _ _ is) all.0
   fit_at (x ∷ es) (suc k) e all is = fit_at es k e all.1 is
 
+  -- the order at an index of a reading that fits the world fits it too
   entry_fit : (r : Reading) (k : ℕ) (e : EntryValue) → IsReading w r → slice_get r.entries k ≡ Some e → IsOrderOf w e.order_value
   entry_fit r k e fit is = (fit_at r.entries k e (recursion_from_All (IsEntry w) r.entries fit.entries) is).order
 
@@ -174,6 +178,7 @@ module _ (w : WorldValue) where
 
 -- ---- the mailings stay
 
+-- adding an event leaves the readings as they are
 told_readings : (m : MonthValue) (t : Task) (o : Option Outcome) → (with_event_of m t o).readings ≡ m.readings
 told_readings m t None = refl
 told_readings m t (Some outcome) = refl

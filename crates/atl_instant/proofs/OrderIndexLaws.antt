@@ -18,9 +18,11 @@ by_lines ts lines t last None = refl
 by_lines ts lines t last (Some slot) = ap (λ n. t.line == n) (last slot t.unit)
 
 module _ (aliases : Aliases) (ms : List Mailing) (at : ℕ) where
+  -- the mailing whose orders are gone over
   abbrev read : Mailing
   read = mailing_at ms at
 
+  -- the entry at an index of the mailing
   abbrev entry_at : ℕ → Entry
   entry_at i = get_or read.entries i no_entry
 
@@ -28,6 +30,7 @@ module _ (aliases : Aliases) (ms : List Mailing) (at : ℕ) where
   abbrev pub rest_from : ℕ → List Task
   rest_from i = filter (stands (tasks_at aliases ms at)) (tasks_from aliases read.faction i (map (entry_value read.text) (drop i read.entries)))
 
+  -- the `OrderIndex` of the order at an index of the mailing
   abbrev place_of : ℕ → OrderIndex
   place_of i = record { unit = unit_of aliases read.faction (entry_at i).target; line = (entry_at i).line; faction = read.faction; mailing = at; place = i }
 
@@ -35,6 +38,7 @@ module _ (aliases : Aliases) (ms : List Mailing) (at : ℕ) where
   abbrev counts : ℕ → Bool
   counts i = stands (tasks_at aliases ms at) (task_at ms (place_of i))
 
+  -- the orders from i on that count are the one at i, if it counts, and those from i + 1 on
   opened : (i : ℕ) → i < length read.entries → rest_from i ≡ cond (counts i) (task_at ms (place_of i) ∷ rest_from (i + 1)) (rest_from (i + 1))
   opened i h = ap (λ es. filter (stands (tasks_at aliases ms at)) (tasks_from aliases read.faction i (map (entry_value read.text) es))) (drop_more read.entries i no_entry h)
 

@@ -34,10 +34,12 @@ use Rattle.atl_instant.proofs.MonthLaws.{by_its_faction, factions_read, keys_of-
 abbrev same_key : Arrangement → Task → Task → Bool
 same_key a t u = eq_by_cmp (slice_cmp nat_cmp) (key_of a t) (key_of a u)
 
+-- orders with one key are of one faction
 factions_tie : (a : Arrangement) (t u : Task) → key_of a t ≡ key_of a u → t.faction ≡ u.faction
 factions_tie ByUnit t u e = ap (λ key. get_or key 2 0) e
 factions_tie ByFaction t u e = ap (λ key. get_or key 0 0) e
 
+-- orders with one key have one index in their mailings
 places_tie : (a : Arrangement) (t u : Task) → key_of a t ≡ key_of a u → t.place ≡ u.place
 places_tie ByUnit t u e = ap (λ key. get_or key 3 0) e
 places_tie ByFaction t u e = ap (λ key. get_or key 3 0) e
@@ -46,12 +48,15 @@ refuted : (b : Bool) → (b ≡ true → ⊥) → b ≡ false
 refuted true h = absurd (h refl)
 refuted false h = refl
 
+-- orders for which `same_key` holds have equal keys
 keys_tie : (a : Arrangement) (t u : Task) → same_key a t u ≡ true → key_of a t ≡ key_of a u
 keys_tie a t u h = slice_cmp-IsAntisymmetric nat_cmp-IsAntisymmetric (key_of a t) (key_of a u) ((Equal-is (slice_cmp nat_cmp (key_of a t) (key_of a u))).0 h)
 
+-- orders of two factions have different keys
 other_faction : (a : Arrangement) (t u : Task) → t.faction < u.faction → same_key a t u ≡ false
 other_faction a t u l = refuted (same_key a t u) (λ h. let e = factions_tie a t u (keys_tie a t u h) in omega arith)
 
+-- orders with two indices in their mailings have different keys
 other_place : (a : Arrangement) (t u : Task) → t.place < u.place → same_key a t u ≡ false
 other_place a t u l = refuted (same_key a t u) (λ h. let e = places_tie a t u (keys_tie a t u h) in omega arith)
 
@@ -60,6 +65,7 @@ module _ (aliases : Aliases) (a : Arrangement) where
   abbrev IsBehind : ℕ → ℕ → Task → Type 0
   IsBehind faction place t = (t.faction ≡ faction) × (place ≤ t.place)
 
+  -- the orders of the entries from an index on have that index or a greater one
   behind : (p : Task → Bool) (faction : ℕ) (low place : ℕ) (es : List EntryValue) → low ≤ place → AllByRecursion (IsBehind faction low) (filter p (tasks_from aliases faction place es))
   behind p faction low place [] le = tt
   behind p faction low place (e ∷ es) le =
@@ -70,6 +76,7 @@ module _ (aliases : Aliases) (a : Arrangement) where
       kept ts t true h r = (h, r)
       kept ts t false h r = r
 
+  -- an order has another key than all orders of its mailing with greater indices
   apart_behind : (t : Task) (faction : ℕ) (ts : List Task) → AllByRecursion (IsBehind faction (t.place + 1)) ts → AllByRecursion (λ u. same_key a t u ≡ false) ts
   apart_behind t faction [] h = tt
   apart_behind t faction (u ∷ ts) h = (other_place a t u (omega (arith, h.0.1)), apart_behind t faction ts h.1)
@@ -129,6 +136,7 @@ module _ (aliases : Aliases) (a : Arrangement) where
 -- ---- as they are collected, and as the map lists them
 
 module _ {X : Type 0} (as_task : X → Task) where
+  -- the values of mapped entries are the mapped values
   values-tasks : (es : List (List ℕ × X)) → map (λ e. e.1) (map (with_value (slice_cmp nat_cmp) as_task) es) ≡ map as_task (map (λ e. e.1) es)
   values-tasks [] = refl
   values-tasks (e ∷ es) = ap (λ ts. as_task e.1 ∷ ts) (values-tasks es)
@@ -170,6 +178,7 @@ pub listed_tasks : (key : Task → List ℕ) (os list : List PhaseOrder) (ts : L
 listed_tasks = listed task_of
 
 module _ (is_of : Verb → Bool) (a : Arrangement) (aliases : Aliases) where
+  -- the orders of the readings in the map are those of the sorted readings
   tasks_of_all : (rs : List Reading) → IsStrictlySortedBy nat_cmp (map (λ r. r.faction) rs) → flat_map (λ e. tasks_for is_of (tasks_of aliases e.0 e.1)) (entries (by_faction rs)) ≡ all_tasks is_of aliases rs
   tasks_of_all rs h =
       ap (flat_map (λ e. tasks_for is_of (tasks_of aliases e.0 e.1))) (entries_of (map by_its_faction rs) (subst (IsStrictlySortedBy nat_cmp) (sym (keys_of-factions rs)) h))
@@ -181,6 +190,7 @@ module _ (is_of : Verb → Bool) (a : Arrangement) (aliases : Aliases) where
 
 -- ---- the places of all orders
 
+-- indices sorted by their keys are sorted by the keys of their orders
 by_key : (a : Arrangement) (ms : List Mailing) (list : List OrderIndex) → IsSortedByKey (key_by a) (slice_cmp nat_cmp) list → IsSortedByKey (λ p. key_of a (task_at ms p)) (slice_cmp nat_cmp) list
 by_key ByUnit ms list up = up
 by_key ByFaction ms list up = up

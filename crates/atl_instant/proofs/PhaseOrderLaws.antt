@@ -26,6 +26,7 @@ module _ {K X : Type 0} (R : K → K → Ordering) (P : K → X → Type 0) wher
   abbrev pub Entries : List (K × X) → Type 0
   Entries = AllByRecursion (λ e. P e.0 e.1)
 
+  -- if P holds of each entry, it does after one more is put among them, of which it holds
   entries-put : IsAntisymmetric R → (k : K) (v : X) (es : List (K × X)) → P k v → Entries es → Entries (put R k v es)
   entries-put anti k v [] h all = (h, tt)
   entries-put anti k v (e ∷ es) h all =
@@ -61,6 +62,7 @@ listed_orders P a ts all =
 -- ---- the orders of a mailing
 
 module _ (aliases : Aliases) (readings : FinMap nat_cmp Reading) where
+  -- each order of these entries of a faction's mailing is an entry there
   in_mailing : (p : Task → Bool) (f : ℕ) (r : Reading) → get readings f ≡ Some r → (place : ℕ) (es : List EntryValue) → ((j : ℕ) (e : EntryValue) → slice_get es j ≡ Some e → slice_get r.entries (place + j) ≡ Some e) →
       AllByRecursion (IsInMailing aliases readings) (filter p (tasks_from aliases f place es))
   in_mailing p f r h place [] whole = tt
@@ -100,6 +102,7 @@ module _ (is_of : Verb → Bool) (a : Arrangement) (aliases : Aliases) (readings
   abbrev HasVerb : Task → Type 0
   HasVerb t = is_of t.order_value.verb ≡ true
 
+  -- of orders with a verb of the phase, those that pass another test have one
   passing : (q : Task → Bool) (ts : List Task) → AllByRecursion HasVerb (filter (λ t. is_of t.order_value.verb && q t) ts)
   passing q [] = tt
   passing q (t ∷ ts) = by_test (is_of t.order_value.verb) (q t) refl (filter (λ t. is_of t.order_value.verb && q t) ts) (passing q ts)
@@ -109,6 +112,7 @@ module _ (is_of : Verb → Bool) (a : Arrangement) (aliases : Aliases) (readings
       by_test true false is us rest = rest
       by_test false c is us rest = rest
 
+  -- the orders of some mailings for the phase have its verbs
   of_mailings : (es : List (ℕ × Reading)) → AllByRecursion HasVerb (flat_map (λ e. tasks_for is_of (tasks_of aliases e.0 e.1)) es)
   of_mailings [] = tt
   of_mailings (e ∷ es) =

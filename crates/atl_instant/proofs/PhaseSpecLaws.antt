@@ -15,6 +15,7 @@ each_also also (phase ∷ rest) each = (also phase each.0, each_also also rest e
 
 -- ---- the books
 
+-- the move of one phase and those of the others, by the number of phases that may move the amount
 counted : (b : Bool) (rest moved most : ℕ) → moved ≤ (if b then most_moved else 0) → rest ≤ most * most_moved → moved + rest ≤ ((if b then 1 else 0) + most) * most_moved
 counted true rest moved most one others = omega (arith, one, others)
 counted false rest moved most one others = omega (arith, one, others)

@@ -22,6 +22,7 @@ use Rattle.atl_instant.proofs.ListedLaws.{entries-passing}
 use Rattle.atl_instant.proofs.MonthLaws.{factions_read}
 use Rattle.atl_instant.proofs.OrderLaws.{all_apart, orders_are}
 
+-- two filters in turn are one filter by both tests
 filter-filter : {X : Type 0} (p q : X → Bool) (xs : List X) → filter p (filter q xs) ≡ filter (λ x. p x && q x) xs
 filter-filter p q [] = refl
 filter-filter p q (x ∷ xs) =
@@ -32,6 +33,7 @@ filter-filter p q (x ∷ xs) =
       | false ↦ elim (p x) as (λ b. filter p (filter q xs) ≡ cond (b && false) (x ∷ both) both) [ true ↦ rest | false ↦ rest ]
     ]
 
+-- a filter after a map is the map after a filter by the test of the mapped elements
 filter-map : {X Y : Type 0} (p : Y → Bool) (f : X → Y) (xs : List X) → filter p (map f xs) ≡ map f (filter (λ x. p (f x)) xs)
 filter-map p f [] = refl
 filter-map p f (x ∷ xs) =
@@ -42,9 +44,11 @@ filter-map p f (x ∷ xs) =
     ]
 
 module _ (a : Arrangement) where
+  -- an order with its key
   abbrev paired : Task → List ℕ × Task
   paired t = (key_of a t, t)
 
+  -- the keys of these pairs are the keys of the orders
   keys-paired : (ts : List Task) → keys_of (map paired ts) ≡ map (key_of a) ts
   keys-paired [] = refl
   keys-paired (t ∷ ts) = ap (λ ks. key_of a t ∷ ks) (keys-paired ts)
@@ -60,6 +64,7 @@ module _ (a : Arrangement) where
       ∙ sym (filter-map p (λ e. e.1) (entries (from_entries {R = slice_cmp nat_cmp} es)))
 
 module _ (is_of : Verb → Bool) (aliases : Aliases) where
+  -- the orders of a phase are those of all orders that have a verb of the phase
   tasks_of_phase : (rs : List Reading) → all_tasks is_of aliases rs ≡ filter (has_verb is_of) (all_tasks every_verb aliases rs)
   tasks_of_phase [] = refl
   tasks_of_phase (r ∷ rs) =
@@ -92,6 +97,7 @@ module _ (is_of : Verb → Bool) (ms : List Mailing) (places : List OrderIndex) 
   abbrev pub rest_from : ℕ → List Task
   rest_from i = tasks_picked is_of ms (drop i places)
 
+  -- the orders to be picked from i on are the one at i, if its verb is the phase's, and those from i + 1 on
   opened : (i : ℕ) (p : OrderIndex) → i < length places → p ≡ get_or places i p → rest_from i ≡ cond (has_verb is_of (task_at ms p)) (task_at ms p ∷ rest_from (i + 1)) (rest_from (i + 1))
   opened i p h at = ap (tasks_picked is_of ms) (next_of places i p h at)
 

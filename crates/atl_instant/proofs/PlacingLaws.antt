@@ -31,10 +31,12 @@ pub mapped_twice : {A : Type 0} (f g : A → A) (o : Option A) → option_map f 
 mapped_twice f g None = refl
 mapped_twice f g (Some y) = refl
 
+-- a structure that may get another owner is the same but for the owner
 relabelled_if : (b : Bool) (to : ℕ) (y : Structure) → IsRelabelled y (if b then owned_by to y else y)
 relabelled_if true to y = record { kind = refl; region = refl; done = refl; name = λ old. old }
 relabelled_if false to y = record { kind = refl; region = refl; done = refl; name = λ old. old }
 
+-- a structure that is relabelled twice is relabelled
 relabelled_twice : (x y z : Structure) → IsRelabelled x y → IsRelabelled y z → IsRelabelled x z
 relabelled_twice x y z one two = record { kind = two.kind ∙ one.kind; region = two.region ∙ one.region; done = two.done ∙ one.done; name = λ old. two.name (one.name old) }
 
@@ -56,9 +58,11 @@ module _ (w : WorldValue) (c : CampaignValue) (n : ℕ) (u : Unit) (s : ℕ) (is
   abbrev next : ℕ
   next = heir c old_place n
 
+  -- the unit inside structure s
   abbrev moved : Unit
   moved = record u { structure = s }
 
+  -- the campaign with the unit inside structure s, before owners change
   abbrev begun : CampaignValue
   begun = placed c n u.region s
 
@@ -78,10 +82,12 @@ module _ (w : WorldValue) (c : CampaignValue) (n : ℕ) (u : Unit) (s : ℕ) (is
   abbrev pub behind : CampaignValue
   behind = refitted w c n u s is gone_in.structures owner_behind
 
+  -- `with_place` makes the campaign `gone_in`
   placed_is : with_place c n u.region s ≡ gone_in
   unfolding with_place
   placed_is = ap (with_place_at c n u.region s) is ∙ ap (λ b. if b then begun else gone_in) (other_number old_place s apart)
 
+  -- this campaign is `gone_in`, as a refitted campaign
   behind_is : gone_in ≡ behind
   behind_is =
       handed_is gone_out s 0 n ∙ ap (λ (d : CampaignValue). record d { structures = gone_in.structures }) (handed_is begun old_place n next)
@@ -91,11 +97,13 @@ module _ (w : WorldValue) (c : CampaignValue) (n : ℕ) (u : Unit) (s : ℕ) (is
   pub place_is : with_place c n u.region s ≡ behind
   place_is = placed_is ∙ behind_is
 
+  -- a look-up of a structure after both handovers
   at : (q : ℕ) → get gone_in.structures q ≡ option_map (λ y. handed_on s 0 n q (handed_on old_place n next q y)) (get c.structures q)
   at q =
       get-after_handover gone_out s 0 n q ∙ ap (option_map (handed_on s 0 n q)) (get-after_handover begun old_place n next q)
       ∙ mapped_twice (handed_on s 0 n q) (handed_on old_place n next q) (get c.structures q)
 
+  -- a structure is the same but for its owner after both handovers
   same : (q : ℕ) (y : Structure) → IsRelabelled y (handed_on s 0 n q (handed_on old_place n next q y))
   same q y =
       let x = handed_on old_place n next q y in
@@ -103,12 +111,15 @@ module _ (w : WorldValue) (c : CampaignValue) (n : ℕ) (u : Unit) (s : ℕ) (is
 
   -- ---- who owns the structures then
 
+  -- unit numbers begin at 1
   low : Every (λ k v. 1 ≤ k) c.units
   low k v there = (steady.numbers.units k v there).0
 
+  -- every other unit stays as it was
   away : (k : ℕ) → k ≢ n → get behind.units k ≡ get c.units k
   away k other = get-insert_other c.units n k moved other
 
+  -- the unit is inside structure s
   stands : (v : Unit) → get behind.units n ≡ Some v → v.structure ≡ s
   stands v there = sym (ap (λ (x : Unit). x.structure) (same_Some moved v (sym (get-insert_same c.units n moved) ∙ there)))
 
@@ -120,6 +131,7 @@ module _ (w : WorldValue) (c : CampaignValue) (n : ℕ) (u : Unit) (s : ℕ) (is
   structure_in (Some x) v = x.structure
   structure_in None v = v.structure
 
+  -- structure s has its right owner after the unit entered it
   entered_owned : (q : ℕ) (y : Structure) → get c.structures q ≡ Some y → q ≢ old_place → q ≡ s → (z : Bool) → (y.owner == 0) ≡ z → IsOwned behind q (if z then owned_by n y else y)
   entered_owned q y there other here true t = record {
     owned = λ some. (moved, get-insert_same c.units n moved, sym here);
@@ -127,9 +139,11 @@ module _ (w : WorldValue) (c : CampaignValue) (n : ℕ) (u : Unit) (s : ℕ) (is
   }
   entered_owned q y there other here false t = still_owned q y there (owns_no_other w c n u is steady q y there other) (λ none. absurd (true≢false (sym (equal_passes y.owner 0 none) ∙ t)))
 
+  -- the structure with its owner after both handovers, by the three tests
   abbrev given : (a e b : Bool) → Structure → Structure
   given a e b y = let x = if a && e then owned_by next y else y in if b && x.owner == 0 then owned_by n x else x
 
+  -- each structure has its right owner, by the three tests
   by_tests : (q : ℕ) (y : Structure) → get c.structures q ≡ Some y → (a e b : Bool) → (q == old_place) ≡ a → (y.owner == n) ≡ e → (q == s) ≡ b → IsOwned behind q (given a e b y)
   by_tests q y there true e true p r t = absurd (apart (sym (is_equal q old_place p) ∙ is_equal q s t))
   by_tests q y there true true false p r t = subst (λ k. IsOwned behind k (owned_by next y)) (sym (is_equal q old_place p)) (heir_owns c behind n away old_place (λ zero. is_no_zero c.structures c.next_structure steady.next.structures q y there (is_equal q old_place p ∙ zero)) low (λ v here inside. apart (sym inside ∙ stands v here)) y)

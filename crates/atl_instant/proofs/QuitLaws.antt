@@ -69,6 +69,7 @@ part_of s t amount = cond (thing_index s == thing_index t) amount 0
 abbrev under : Entry → Thing → ℕ → ℕ
 under e t n = if entry_index e == entry_index (loss_entry t) then n else 0
 
+-- things with one number are one thing
 same_thing : (s t : Thing) → thing_index s ≡ thing_index t → s ≡ t
 same_thing Money Money e = refl
 same_thing Money People e = absurd (omega (arith, e))
@@ -80,6 +81,7 @@ same_thing (Item i) Money e = absurd (omega (arith, e))
 same_thing (Item i) People e = absurd (omega (arith, e))
 same_thing (Item i) (Item j) e = let same : i ≡ j = omega (arith, e) in ap Item same
 
+-- the bound on one loss is within `under`
 one_moves : (amount : ℕ) (t : Thing) (e : Entry) (s : Thing) → moves_only amount (loss_entry t) t e s ≤ under e s (part_of s t amount)
 one_moves amount t e s = by_number (amount_number e s == amount_number (loss_entry t) t) refl
   where
@@ -99,6 +101,7 @@ one_moves amount t e s = by_number (amount_number e s == amount_number (loss_ent
         at_place (entry_index e == entry_index (loss_entry s)) (thing_index s == thing_index t) (let f : (entry_index e == entry_index (loss_entry s)) ≡ true = grind (arith, nat_tests) in f) (let g : (thing_index s == thing_index t) ≡ true = grind (arith, nat_tests) in g)
     by_number false is = omega arith
 
+-- two amounts within `under` are together within it for the sum
 under_sum : (e : Entry) (s : Thing) (x y m n : ℕ) → x ≤ under e s m → y ≤ under e s n → x + y ≤ under e s (m + n)
 under_sum e s x y m n = by_test (entry_index e == entry_index (loss_entry s))
   where
@@ -113,6 +116,7 @@ abbrev pub owing_items : List (ℕ × ℕ) → Thing → ℕ
 owing_items [] s = 0
 owing_items (e ∷ es) s = part_of s (Item e.0) e.1 + owing_items es s
 
+-- the bound on the losses of some items is within `under`
 items_within : (es : List (ℕ × ℕ)) (e : Entry) (s : Thing) → moving_items es e s ≤ under e s (owing_items es s)
 items_within [] e s = omega arith
 items_within (x ∷ xs) e s = under_sum e s (moves_only x.1 Lost (Item x.0) e s) (moving_items xs e s) (part_of s (Item x.0) x.1) (owing_items xs s) (one_moves x.1 (Item x.0) e s) (items_within xs e s)
@@ -159,6 +163,7 @@ owing h s = part_of s People h.men + (part_of s Money h.money + owing_items (ent
 abbrev pub held_moves : HoldingValue → BookBound
 held_moves h = both_move (moves_only h.men Left People) (both_move (moves_only h.money Lost Money) (moving_items (entries h.items)))
 
+-- all that a unit has of a thing is what it holds of it
 all_owed : (h : HoldingValue) (s : Thing) → owing h s ≡ unit_amount s h
 all_owed h Money = sum h.money (owing_items (entries h.items) Money) (no_money (entries h.items))
   where
@@ -194,6 +199,7 @@ pub record BooksOff (w : WorldValue) (off : Thing → ℕ) (moving : BookBound) 
   pub near : (e : Entry) (s : Thing) → IsNear (moving e s) (amount_in c.books e s) (amount_in d.books e s)
   pub same : d ≡ record c { books = d.books }
 
+-- two bookings off are one of both amounts
 off_twice : {o p : Thing → ℕ} {i j : BookBound} (w : WorldValue) (a b c : CampaignValue) → BooksOff w o i a b → BooksOff w p j b c → BooksOff w (λ s. o s + p s) (both_move i j) a c
 off_twice {o} {p} {i} {j} w a b c one two = record {
   steady = two.steady;
@@ -220,6 +226,7 @@ off_one w c t amount inside steady = record {
     less z true a = omega (arith, ints)
     less z false a = omega (arith, ints)
 
+-- the bookings of some items as lost
 off_items : (w : WorldValue) (c : CampaignValue) (es : List (ℕ × ℕ)) → EachOf (λ i a. i < length w.items) es → IsSteady w c → BooksOff w (owing_items es) (moving_items es) c (fold with_item_loss c es)
 off_items w c [] known steady = record {
   steady = steady;
@@ -294,20 +301,25 @@ held_room c n u is room = room_less (held_moves u.holding) (quit_reserve c) c (�
 
 -- ---- a unit that leaves
 
+-- other books leave the totals as they are
 total_books : (c : CampaignValue) (books : BooksValue) (t : Thing) → total (record c { books = books }) t ≡ total c t
 unfolding total
 total_books c books t = refl
 
 module _ (w : WorldValue) (c : CampaignValue) (n : ℕ) (u : Unit) (is : get c.units n ≡ Some u) (steady : IsSteady w c) where
+  -- the campaign with all that the unit has booked as gone
   abbrev off : CampaignValue
   off = with_all_losses c u.holding
 
+  -- the campaign after the unit left
   abbrev behind : CampaignValue
   behind = without_unit off n
 
+  -- the bookings are those of all that the unit has
   off_is : BooksOff w (owing u.holding) (held_moves u.holding) c off
   off_is = off_all w c u.holding (steady.known.units n u is).items steady
 
+  -- the unit is still there before it is removed
   there : get off.units n ≡ Some u
   there = ap (λ (s : CampaignValue). get s.units n) off_is.same ∙ is
 
@@ -315,6 +327,7 @@ module _ (w : WorldValue) (c : CampaignValue) (n : ℕ) (u : Unit) (is : get c.u
   pub units_behind : behind.units ≡ remove c.units n
   units_behind = (only_reduced w off n u there).units ∙ ap (λ (s : CampaignValue). remove s.units n) off_is.same
 
+  -- the books balance after the unit left, where they did before
   balanced : Balances c → Balances behind
   balanced old t =
       let only = only_reduced w off n u there in
@@ -325,6 +338,7 @@ module _ (w : WorldValue) (c : CampaignValue) (n : ℕ) (u : Unit) (is : get c.u
       rest : (a h b d o : ℕ) (z y : ℤ) → a + h ≡ b → b ≡ d → o ≡ h → pos d ≡ z → z ≡ y +ℤ pos o → pos a ≡ y
       rest a h b d o z y e f g k l = omega (arith, ints, e, f, g, k, l)
 
+  -- the bookings use what the remaining bound falls
   drawn : (e : Entry) (t : Thing) → UsesBound (quit_reserve c e t) (quit_reserve behind e t) (amount_in c.books e t) (amount_in behind.books e t)
   drawn e t =
       let only = only_reduced w off n u there in
@@ -334,6 +348,7 @@ module _ (w : WorldValue) (c : CampaignValue) (n : ℕ) (u : Unit) (is : get c.u
       (drawn_near (loss_under e t u.holding) (quit_reserve c e t) (quit_reserve behind e t) (amount_in c.books e t) (amount_in off.books e t) reserves
       (near_more (held_moves u.holding e t) (loss_under e t u.holding) (amount_in c.books e t) (amount_in off.books e t) (moves_what_leaves u.holding e t) (off_is.near e t)))
 
+  -- a unit that leaves is a step that leaves the campaign well
   leaving_well : StepsWell IsSteady quit_reserve w c behind
   leaving_well =
       let only = only_reduced w off n u there in
@@ -410,6 +425,7 @@ quit_cases P c number u same leave = by_fault (quit_fault number u) refl
 pub quit_well : (w : WorldValue) (c : CampaignValue) (number : ℕ) (u : Unit) → IsSteady w c → StepsWell IsSteady quit_reserve w c (quit number c u).0
 quit_well w c number u steady = quit_cases (λ d. StepsWell IsSteady quit_reserve w c d) c number u (well_same w c steady) (λ own. all_left_well w c (numbers_of u.faction c.units) steady)
 
+-- QUIT leaves no worse off a unit of another faction than the one that quits
 quit_spares : (w : WorldValue) (c : CampaignValue) (number : ℕ) (u : Unit) (k : ℕ) (x : Unit) → IsSteady w c → get c.units k ≡ Some x → (number ≡ u.faction → u.faction ≢ x.faction) → IsUnaffected IsNoWorse (quit number c u).0 k x
 quit_spares w c number u k x steady here other =
     quit_cases (λ d. IsUnaffected IsNoWorse d k x) c number u (record { unit = x; there = here; spared = no_worse x })
@@ -434,6 +450,7 @@ sum_within {V} f most (e ∷ es) each =
     more : (s x y a b m : ℕ) → s ≡ x + y → a ≡ b + m → x ≤ m → y ≤ b → s ≤ a
     more s x y a b m e f k l = omega (arith, e, f, k, l)
 
+-- a unit holds at most the limit of each thing
 within_limit : (t : Thing) (h : HoldingValue) → IsHolding h → unit_amount t h ≤ holding_limit
 within_limit Money h is = is.money
 within_limit People h is = omega (arith, is.men)

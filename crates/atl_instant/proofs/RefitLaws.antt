@@ -76,6 +76,7 @@ module _ (w : WorldValue) (c : CampaignValue) (n : ℕ) (u : Unit) (s : ℕ) (is
   abbrev pub moved_unit : Unit
   moved_unit = record u { structure = s }
 
+  -- the units with this one inside structure s
   abbrev units : FinMap nat_cmp Unit
   units = insert c.units n moved_unit
 
@@ -195,12 +196,15 @@ module _ (w : WorldValue) (c : CampaignValue) (n : ℕ) (u : Unit) (s : ℕ) (is
 module _ (w : WorldValue) (c : CampaignValue) (n : ℕ) (u : Unit) (is : get c.units n ≡ Some u) (structures : FinMap nat_cmp Structure) (g : ℕ → Structure → Structure)
     (at : (k : ℕ) → get structures k ≡ option_map (g k) (get c.structures k)) (count : len structures ≡ len c.structures)
     (same : Every (λ k y. IsRelabelled y (g k y)) c.structures) (owned : Every (λ k y. IsOwned c k (g k y)) c.structures) where
+  -- the unit as it was
   abbrev as_it_was : Unit
   as_it_was = record u { structure = u.structure }
 
+  -- putting it back changes no unit
   units_stay : insert c.units n as_it_was ≡ c.units
   units_stay = put_same c.units n u as_it_was is refl
 
+  -- structures that are relabelled refit the campaign with the unit as it was
   relabelled_refit : IsEarly w c → IsRefit w c n u u.structure is structures g
   relabelled_refit old = record {
     at = at;

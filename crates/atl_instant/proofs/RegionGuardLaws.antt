@@ -67,6 +67,7 @@ module _ (c : CampaignValue) where
             ]
         by_test false on at = old at
 
+  -- a faction in the map of some units guards its region by one of them
   held_of : (m : GuardMap) (es : List (ℕ × Unit)) → AreUnits es → ((r f : ℕ) → get m r ≡ Some f → Held r f) → (r f : ℕ) → get (with_guards_of m es) r ≡ Some f → Held r f
   held_of m [] are old = old
   held_of m (e ∷ es) are old = held_of (with_guard_of m e.1) es are.1 (λ r f. held_more r f m e.0 e.1 are.0 (old r f))
@@ -112,9 +113,11 @@ any_none p [] none = refl
 any_none p (n ∷ ns) none = ap (λ b. b || list_any p ns) (none n (inl refl)) ∙ any_none p ns (λ k listed. none k (inr listed))
 
 module _ (c : CampaignValue) (m : GuardMap) (are : AreRegionGuards c m) (region faction : ℕ) where
+  -- whether unit n guards for another faction
   abbrev against : ℕ → Bool
   against n = guards_against faction (get c.units n)
 
+  -- whether a unit is in the region
   abbrev stands_here : Unit → Bool
   stands_here u = u.region == region
 
@@ -163,12 +166,15 @@ can_guard c u none =
     (two.0, has_men u.holding.men one.0)
 
 module _ (c : CampaignValue) (m : GuardMap) (n : ℕ) (u : Unit) (is : get c.units n ≡ Some u) (are : AreRegionGuards c m) where
+  -- the map with the unit's faction set for its region
   abbrev set_now : GuardMap
   set_now = insert m u.region u.faction
 
+  -- the campaign in which the unit guards
   abbrev behind : CampaignValue
   behind = flagged c n u is
 
+  -- each guard has its faction in this map
   set_noted : is_guarded_against c u.region u.faction ≡ false → Every (λ k v. guards v ≡ true → get set_now v.region ≡ Some v.faction) behind.units
   set_noted none =
       every-insert (λ k v. guards v ≡ true → get set_now v.region ≡ Some v.faction) c.units n (guarding c n u is) (λ on. get-insert_same m u.region u.faction) (λ k v there on. by_region k v there on)
@@ -180,6 +186,7 @@ module _ (c : CampaignValue) (m : GuardMap) (n : ℕ) (u : Unit) (is : get c.uni
             | inr apart ↦ get-insert_other m u.region v.region u.faction apart ∙ are.noted k v there on
           ]
 
+  -- each faction in this map guards its region
   set_held : nat_lt 0 u.holding.men ≡ true → (r f : ℕ) → get set_now r ≡ Some f → Held behind r f
   set_held men r f at =
       elim (cases_eq r u.region) [

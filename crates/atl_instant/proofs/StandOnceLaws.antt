@@ -29,6 +29,7 @@ use Rattle.atl_instant.proofs.PhaseOrderLaws.{entries-listed, in_mailings, keyed
 
 -- ---- lines
 
+-- an entry is on a line above n, if lines rise from n
 above : (n i : ℕ) (es : List EntryValue) (e : EntryValue) → LinesRise n es → slice_get es i ≡ Some e → n < e.line
 above n i [] e rise is = cc
 above n zero (x ∷ es) e rise is = let same = ap (λ (y : EntryValue). y.line) (same_Some x e is) in omega (arith, same, rise.0)
@@ -101,6 +102,7 @@ module _ (w : WorldValue) (is_of : Verb → Bool) (a : Arrangement) (aliases : A
         let first : Task = record { faction = f; unit = unit_of aliases f e.target; line = e.line; place = place; order_value = e.order_value } in
         kept first refl (tasks_from aliases f (place + 1) es) (stand_from (place + 1) es) (passes first) refl
 
+  -- the orders of these mailings for the phase count
   all_stand : (es : List (ℕ × Reading)) → EachOf (λ f r. get readings f ≡ Some r) es → AllByRecursion Stands (flat_map (λ e. tasks_for is_of (tasks_of aliases e.0 e.1)) es)
   all_stand [] there = tt
   all_stand (e ∷ es) there =
@@ -112,6 +114,7 @@ module _ (w : WorldValue) (is_of : Verb → Bool) (a : Arrangement) (aliases : A
     there : IsInMailing aliases readings t
     kept : Stands t
 
+  -- orders that are entries and count are so under their keys
   both : (ts : List Task) → AllByRecursion (IsInMailing aliases readings) ts → AllByRecursion Stands ts → AllByRecursion (λ t. IsKept (key_of a t) t) ts
   both [] there kept = tt
   both (t ∷ ts) there kept = (record { keyed = refl; there = there.0; kept = kept.0 }, both ts there.1 kept.1)

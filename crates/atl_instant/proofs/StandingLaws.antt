@@ -17,6 +17,7 @@ use Rattle.atl_instant.specs.OrderIndices.{Lines, line_in, with_line}
 
 -- the line of a unit in a slot, once a line is noted
 module _ (lines : Lines) (k u line : ℕ) where
+  -- the lines of a slot after a line was noted
   group_at : (j : ℕ) → group_of (with_line lines k u line) j ≡ (if j == k then insert (group_of lines k) u (max (line_in lines k u) line) else group_of lines j)
   group_at j =
       ap (λ o. unwrap_or o empty) (get-insert nat_cmp_total lines k (insert (group_of lines k) u (max (line_in lines k u) line)) j)
@@ -26,6 +27,7 @@ module _ (lines : Lines) (k u line : ℕ) where
         | false ↦ refl
       ]
 
+  -- the greatest line for a unit in a slot after a line of that slot was noted
   in_group : (unit n : ℕ) → max (unwrap_or (get (insert (group_of lines k) u (max (line_in lines k u) line)) unit) 0) n ≡ max (line_in lines k unit) (max (if (u == unit) && true then line else 0) n)
   in_group unit n =
       ap (λ o. max (unwrap_or o 0) n) (get-insert nat_cmp_total (group_of lines k) u (max (line_in lines k u) line) unit)
@@ -59,6 +61,7 @@ module _ (slot : Slot) (aliases : Aliases) (faction : ℕ) (text : List ℕ) whe
   abbrev rest_from : ℕ → List Entry → ℕ → ℕ
   rest_from i es unit = last_line slot unit (tasks_from aliases faction i (map (entry_value text) (drop i es)))
 
+  -- the greatest line from index i on is that of the entry at i, and of those from i + 1 on
   opened : (es : List Entry) (i : ℕ) (e : Entry) (in_slot : Option Slot) (unit : ℕ) → i < length es → e ≡ get_or es i e → (row_of e.order.verb).slot ≡ in_slot →
       rest_from i es unit ≡ max (if (unit_of aliases faction e.target == unit) && is_slot slot in_slot then e.line else 0) (rest_from (i + 1) es unit)
   opened es i e in_slot unit h is slot_is =

@@ -13,6 +13,7 @@ use Rattle.atl_records.proofs.EveryLaws.{get-insert_other, other_number}
 use Rattle.atl_state.proofs.LeavingLaws.{owned_by}
 use Rattle.atl_state.proofs.RegionLaws.{get-insert_same, same_len}
 
+-- equal numbers pass the test for equality
 pub equal_passes : (a b : ℕ) → a ≡ b → (a == b) ≡ true
 equal_passes a b same = grind (arith, nat_tests)
 
@@ -23,14 +24,17 @@ module _ {V : Type 0} (f : V → V) (m : FinMap nat_cmp V) (k : ℕ) where
   abbrev pub at_number : ℕ → V → V
   at_number q v = if q == k then f v else v
 
+  -- f under the number itself is `at_number`
   mapped_here : (q : ℕ) → (q == k) ≡ true → (o : Option V) → option_map f o ≡ option_map (at_number q) o
   mapped_here q t None = refl
   mapped_here q t (Some v) = ap (λ b. Some (if b then f v else v)) (sym t)
 
+  -- nothing under any other number is `at_number`
   mapped_else : (q : ℕ) → (q == k) ≡ false → (o : Option V) → o ≡ option_map (at_number q) o
   mapped_else q t None = refl
   mapped_else q t (Some v) = ap (λ b. Some (if b then f v else v)) (sym t)
 
+  -- a look-up of the value that was changed finds f of it
   changed_here : (o : Option V) → get m k ≡ o → get (changed_at f m k o) k ≡ option_map f o
   changed_here None is = is
   changed_here (Some v) is = get-insert_same m k (f v)
@@ -49,6 +53,7 @@ module _ {V : Type 0} (f : V → V) (m : FinMap nat_cmp V) (k : ℕ) where
     | inr apart ↦ changed_else q apart (get m k) ∙ mapped_else q (other_number q k apart) (get m q)
   ]
 
+  -- the number of values stays, by whether there is a value
   len_by : (o : Option V) → get m k ≡ o → len (changed_at f m k o) ≡ len m
   len_by None is = refl
   len_by (Some v) is = same_len m k v (f v) is
@@ -67,14 +72,17 @@ module _ (c : CampaignValue) (k from to : ℕ) where
   abbrev after : Bool → CampaignValue
   after b = if b then with_owner c k to else c
 
+  -- structure k after the handover, by whether it was the owner's
   here_by : (y : Structure) → get c.structures k ≡ Some y → (b : Bool) → get (after b).structures k ≡ Some (if b then owned_by to y else y)
   here_by y is true = changed_here (owned_by to) c.structures k (get c.structures k) refl ∙ ap (option_map (owned_by to)) is
   here_by y is false = is
 
+  -- structure k after the handover
   here : (o : Option Structure) → get c.structures k ≡ o → get (after (is_owned_by o from)).structures k ≡ option_map (handed_on k from to k) o
   here None is = is
   here (Some y) is = here_by y is (y.owner == from) ∙ ap (λ b. Some (if b && y.owner == from then owned_by to y else y)) (sym (equal_passes k k refl))
 
+  -- every other structure stays as it was
   else_by : (q : ℕ) → q ≢ k → (b : Bool) → get (after b).structures q ≡ get c.structures q
   else_by q apart true = changed_else (owned_by to) c.structures k q apart (get c.structures k)
   else_by q apart false = refl

@@ -43,10 +43,12 @@ use Rattle.atl_instant.proofs.UnmailedLaws.{HasItsMen, HaveTheirMen, LeavesUnmai
 
 -- ---- FORM
 
+-- FORM keeps the readings
 form_readings : (p : CampaignValue × MonthValue) (ts : List Task) → (fold form_order p ts).1.readings ≡ p.1.readings
 form_readings p [] = refl
 form_readings p (t ∷ ts) = form_readings (form_order p t) ts
 
+-- nobody starves in FORM
 form_told : (p : CampaignValue × MonthValue) (ts : List Task) (n : ℕ) → starved_in (fold form_order p ts).1.events n ≡ starved_in p.1.events n
 form_told p [] n = refl
 form_told p (t ∷ ts) n = form_told (form_order p t) ts n ∙ told_of_order p.1.events t (form_by p.0 t.faction t.unit).1 n
@@ -62,6 +64,7 @@ form_leaves =
 
 -- ---- NAME and GUARD 0
 
+-- a unit keeps its men when its flag changes
 flag_men : (flag : Bool) (u : Unit) → HasItsMen u (record u { holding = record u.holding { guard = flag } })
 flag_men flag u = record { faction = refl; men = refl }
 
@@ -69,12 +72,14 @@ flag_men flag u = record { faction = refl; men = refl }
 pub guard_men : (c : CampaignValue) (n : ℕ) (flag : Bool) → HaveTheirMen c (with_guard c n flag)
 guard_men c n flag = men_changed (λ u. record u { holding = record u.holding { guard = flag } }) (flag_men flag) c (with_guard c n flag) n refl
 
+-- NAME leaves all units their men, whatever it names
 named_men : (w : WorldValue) (c : CampaignValue) (n f s : ℕ) (what : NameKind) (name : List ℕ) → HaveTheirMen c (name_result w c n f s what name).0
 named_men w c n f s kinds.Unit name = men_changed (λ u. record u { holding = record u.holding { name = name } }) (λ u. record { faction = refl; men = refl }) c (name_result w c n f s kinds.Unit name).0 n refl
 named_men w c n f s kinds.Faction name = men_same c (name_result w c n f s kinds.Faction name).0 refl
 named_men w c n f s kinds.Building name = men_unless c (with_structure_name c s name) (Done 0) _ (men_same c (with_structure_name c s name) refl)
 named_men w c n f s kinds.Ship name = men_unless c (with_structure_name c s name) (Done 0) _ (men_same c (with_structure_name c s name) refl)
 
+-- an order of NAME or GUARD 0 leaves units of other factions their men
 name_men : (w : WorldValue) (c : CampaignValue) (f n : ℕ) (x : Unit) (o : OperandsValue) → IfSome (name_effect w n o) (λ deed. OthersHaveMen f c (deed c x).0)
 name_men w c f n x (operands.Name what name) = others_men f c (naming w n what name c x).0 (named_men w c n x.faction x.structure what name)
 name_men w c f n x (operands.Flag false) = others_men f c (with_guard c n false) (guard_men c n false)
@@ -88,6 +93,7 @@ name_leaves = carried_leaves name_step is_naming name_spares (unmailed_spared {c
 
 -- ---- LEAVE, ENTER and PROMOTE
 
+-- a handover of a structure leaves all units their men
 handed_men : (c : CampaignValue) (s from to : ℕ) → HaveTheirMen c (after_handover c s from to)
 handed_men c s from to = men_same c (after_handover c s from to) (ap (λ (d : CampaignValue). d.units) (handed_is c s from to))
 
@@ -112,10 +118,12 @@ place_men c n r s = by_unit (get c.units n)
     by_unit None = men_stay c
     by_unit (Some u) = by_test u (u.structure == s)
 
+-- ENTER leaves all units their men
 entered_men : (c : CampaignValue) (n region s : ℕ) (b : Bool) → HaveTheirMen c (if b then c else with_place c n region s)
 entered_men c n region s true = men_stay c
 entered_men c n region s false = place_men c n region s
 
+-- an order of LEAVE, ENTER or PROMOTE leaves units of other factions their men
 places_men : (w : WorldValue) (a : Aliases) (c : CampaignValue) (f n : ℕ) (x : Unit) (o : OperandsValue) → IfSome (place_effect w a f n o) (λ deed. OthersHaveMen f c (deed c x).0)
 unfolding leave enter promote
 places_men w a c f n x operands.Nothing = others_men f c (leave w n c x).0 (men_unless c (with_place c n x.region 0) (Done 0) (leave_fault w x) (place_men c n x.region 0))
@@ -134,6 +142,7 @@ place_leaves = carried_leaves place_step is_placing place_spares (unmailed_spare
 
 -- ---- GIVE and PAY
 
+-- a unit keeps its men with another amount of the gift
 gift_men : (gift : Gift) (v : Unit) (n : ℕ) → HasItsMen v (record v { holding = with_held_of gift v.holding n })
 gift_men Money v n = record { faction = refl; men = refl }
 gift_men (Item i) v n = record { faction = refl; men = refl }
@@ -146,6 +155,7 @@ men_moved c from to u v h k giver receiver apart one two =
     men_twice c between (with_held between to k (Some v)) (men_put c between from u (record u { holding = h }) giver one refl)
     (men_put between (with_held between to k (Some v)) to v (record v { holding = k }) (receiver_still c from to u v h k giver receiver apart) two refl)
 
+-- a gift leaves all units their men
 give_men : (c : CampaignValue) (from to : ℕ) (gift : Gift) (n : ℕ) (u : Unit) → get c.units from ≡ Some u → HaveTheirMen c (give from to gift n c u).0
 give_men c from to gift n u giver =
     give_cases (HaveTheirMen c) c from to gift n u giver (men_stay c)
@@ -153,6 +163,7 @@ give_men c from to gift n u giver =
     men_moved c from to u v (with_held_of gift u.holding (held_of gift u.holding - n)) (with_held_of gift v.holding (held_of gift v.holding + n)) giver receiver apart
     (gift_men gift u (held_of gift u.holding - n)) (gift_men gift v (held_of gift v.holding + n)))
 
+-- an order of GIVE or PAY leaves units of other factions their men
 given_men : (a : Aliases) (c : CampaignValue) (f from : ℕ) (x : Unit) → get c.units from ≡ Some x → (o : OperandsValue) → IfSome (give_effect a f from o) (λ deed. OthersHaveMen f c (deed c x).0)
 given_men a c f from x here (operands.UnitAndGoods to n item) = others_men f c (give from (unit_of a f to) (Item item) n c x).0 (give_men c from (unit_of a f to) (Item item) n x here)
 given_men a c f from x here (operands.UnitAndNumber to n) = others_men f c (give from (unit_of a f to) Money n c x).0 (give_men c from (unit_of a f to) Money n x here)
@@ -166,6 +177,7 @@ give_leaves = carried_leaves give_step is_giving give_spares (unmailed_spared is
 
 -- ---- TRANSFER
 
+-- a transfer leaves units of other factions their men
 transfer_others : (c : CampaignValue) (from to n : ℕ) (x : Unit) → get c.units from ≡ Some x → OthersHaveMen x.faction c (transfer from to n c x).0
 transfer_others c from to n x here =
     transfer_cases (OthersHaveMen x.faction c) c from to n x here (others_men x.faction c c (men_stay c))
@@ -183,6 +195,7 @@ transfer_others c from to n x here =
     same_unit : (k : ℕ) (y z : Unit) → get c.units k ≡ Some y → get c.units k ≡ Some z → y ≡ z
     same_unit k y z one two = let both : Some y ≡ Some z = sym one ∙ two in cc
 
+-- an order of TRANSFER leaves units of other factions their men
 transferred : (a : Aliases) (c : CampaignValue) (t : Task) (x : Unit) → IsUnitOf c t x → (o : OperandsValue) → IfSome (transfer_effect a t.faction t.unit o) (λ deed. OthersHaveMen t.faction c (deed c x).0)
 transferred a c t x own (operands.UnitAndNumber to n) = λ k y there other. transfer_others c t.unit (unit_of a t.faction to) n x own.there k y there (λ same. other (sym own.faction ∙ same))
 transferred a c t x own o = tt
@@ -195,10 +208,12 @@ transfer_leaves = carried_leaves transfer_step is_transferring transfer_spares (
 
 -- ---- GUARD 1
 
+-- beginning to guard leaves all units their men
 guarding_men : (c : CampaignValue) (n : ℕ) (u : Unit) → HaveTheirMen c (guard n c u).0
 unfolding guard
 guarding_men c n u = men_unless c (with_guard c n true) (Done 0) (guard_fault c u) (guard_men c n true)
 
+-- an order of GUARD 1 leaves units of other factions their men
 guarded_men : (c : CampaignValue) (f n : ℕ) (x : Unit) (o : OperandsValue) → IfSome (guard_effect n o) (λ deed. OthersHaveMen f c (deed c x).0)
 guarded_men c f n x (operands.Flag true) = others_men f c (guard n c x).0 (guarding_men c n x)
 guarded_men c f n x other = tt
@@ -211,6 +226,7 @@ guard_leaves = carried_leaves guard_step is_guarding guard_spares (unmailed_spar
 
 -- ---- QUIT
 
+-- a faction that quits leaves units of other factions their men
 quit_others : (c : CampaignValue) (number : ℕ) (x : Unit) → OthersHaveMen x.faction c (quit number c x).0
 unfolding quit
 quit_others c number x k y there other = by_fault (quit_fault number x)
@@ -226,6 +242,7 @@ quit_others c number x k y there other = by_fault (quit_fault number x)
     by_fault (Some fault) = men_stay c k y there
     by_fault None = record { unit = y; there = all_left_others c (numbers_of x.faction c.units) k stays ∙ there; spared = record { faction = refl; men = refl } }
 
+-- an order of QUIT leaves units of other factions their men
 quitted : (c : CampaignValue) (t : Task) (x : Unit) → IsUnitOf c t x → (o : OperandsValue) → IfSome (quit_effect o) (λ deed. OthersHaveMen t.faction c (deed c x).0)
 quitted c t x own (operands.Number number) = λ k y there other. quit_others c number x k y there (λ same. other (sym own.faction ∙ same))
 quitted c t x own o = tt
