@@ -394,8 +394,8 @@ way_there : (w : WorldValue) (from : ℕ) (to : Option ℕ) → not (is_way w fr
 way_there w from None t = false_true (sym t)
 way_there w from (Some r) t = region_there w r (and_parts (is_region w r) (not (is_land_at w from && is_land_at w r)) (not-false (is_way w from (Some r)) t)).0
 
--- to show P of the result of an order, it is enough to show it where nothing changes, and where a complete ship went to a region of the
--- world
+-- P holds of the result of an order of SAIL, if it holds of each outcome without a change, and wherever a complete ship
+-- sailed to a region of the world
 sail_cases : (P : CampaignValue × Outcome → Type 0) (w : WorldValue) (c : CampaignValue) (n : ℕ) (u : Unit) (direction : Direction) → ((outcome : Outcome) → P (c, outcome))
     → ((to : ℕ) (x : Structure) → get c.structures u.structure ≡ Some x → is_ship w x ≡ true → x.done ≡ size_of w x.kind → IsThere w.regions to → P (after_sailing c u.structure to, Done 0)) → P (sail w n direction c u)
 unfolding sail
@@ -488,8 +488,8 @@ module _ (w : WorldValue) (begun : CampaignValue) (number faction : ℕ) where
   abbrev s : ℕ
   s = inside begun number
 
-  -- Each unit is inside the structure that it was inside as the phase began. The structure that unit `number` is inside is as it was, and
-  -- so are all units inside it.
+  -- Each unit is inside the structure that it was inside as the phase began.
+  -- The structure that unit `number` is inside is as it was, and so are all units inside it.
   record IsAsBegun (c : CampaignValue) : Type 0 where
     pub steady : IsSteady w c
     pub places : (k : ℕ) → inside c k ≡ inside begun k

@@ -147,7 +147,7 @@ payable_fee h cost e =
     let two = none_fits (nat_lt h.money cost) NoFee [] one.1 in
     not_less h.money cost two.0
 
--- to show P of the campaign after an order, it is enough to show it of the campaign as it is, and of that in which the unit studied
+-- P holds of the campaign after an order of STUDY, if it holds without a change and after the unit studied
 pub study_cases : (P : CampaignValue → Type 0) (w : WorldValue) (taught : ℕ) (c : CampaignValue) (n s : ℕ) (u : Unit) → P c
     → ((days : ℕ) → fee_of w s * u.holding.men ≤ u.holding.money → days ≤ most_days * u.holding.men → P (after_study c n u s (fee_of w s * u.holding.men) days))
     → P (study w taught n s c u).0

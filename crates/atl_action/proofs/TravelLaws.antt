@@ -40,8 +40,8 @@ module _ (w : WorldValue) (c : CampaignValue) (units : FinMap nat_cmp Unit) (str
     pub region : IsThere c.regions u.region
     pub structure : u.structure ≢ 0 → (s : Structure) × (get structures u.structure ≡ Some s) × (s.region ≡ u.region)
 
-  -- f gives the units and g the structures; each unit is in a region that is there, each structure has its right owner, and units that
-  -- guard after haven't moved.
+  -- f gives the units and g the structures, and all that a steady campaign needs of them holds.
+  -- Each unit is where it may be, each structure has its right owner, and units that guard after are as they were.
   pub record AreTravelled : Type 0 where
     pub units_at : (k : ℕ) → get units k ≡ option_map (f k) (get c.units k)
     pub structures_at : (k : ℕ) → get structures k ≡ option_map (g k) (get c.structures k)

@@ -232,7 +232,7 @@ land_to : (w : WorldValue) (to : Option ℕ) → not (is_land_there w to) ≡ fa
 land_to w None dry = false_true (sym dry)
 land_to w (Some r) dry = not-false (is_land_at w r) dry
 
--- to show P of the campaign after an order, it is enough to show it of the campaign as it is, and of those in which the unit walked
+-- P holds of the campaign after an order of MOVE, if it holds without a change and after the unit walked
 walk_cases : (P : CampaignValue → Type 0) (w : WorldValue) (c : CampaignValue) (n : ℕ) (u : Unit) (direction : Direction) → P c → ((to : ℕ) → is_land_at w to ≡ true → P (after_walk c n to)) → P (walk w n direction c u).0
 unfolding walk
 walk_cases P w c n u direction same gone = by_fault (neighbour w u.region direction) (walk_fault w u (neighbour w u.region direction)) refl

@@ -55,7 +55,8 @@ learners w c m = fold (with_learner w c) empty (study_tasks m)
 
 -- ---- a law: which units are learning
 
--- By an order of STUDY that counts, of the unit's own faction, unit n learns this skill: it has men, and the fee for all of them.
+-- Unit n learns this skill by an order of STUDY that counts, from its own faction.
+-- It has men, and the fee for all of them.
 pub record IsLearning (w : WorldValue) (c : CampaignValue) (m : MonthValue) (n skill : ℕ) : Type 0 where
   pub order : Task
   pub stands : Contains (study_tasks m) order

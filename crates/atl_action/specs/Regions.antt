@@ -1,4 +1,4 @@
--- Whether a number is that of a region of the world.
+-- Whether the world has a region of a number. See docs/RULES.md, "Walking" and docs/RULES.md, "Sailing".
 use Rattle.std.specs.Prelude.{ℕ, Bool, true, false}
 use Rattle.std.specs.Option.{option_map_or}
 use Rattle.std.specs.FinMap.{get}

@@ -107,8 +107,8 @@ sail_step w aliases t = sail_effect w t.unit t.order_value.operands
 
 -- ---- the phase
 
--- The unit has the same faction, structure and name, and no less of anything; its guard flag isn't set anew. If it is inside no
--- structure, it has the same region and flag too.
+-- The unit keeps its faction, structure and name, has no less of anything, and doesn't begin to guard.
+-- If it is inside no structure, it keeps its region and its guard flag too.
 pub record IsAtMostMoved (before after : Unit) : Type 0 where
   pub faction : after.faction ≡ before.faction
   pub structure : after.structure ≡ before.structure
@@ -129,8 +129,8 @@ AreAtMostMoved before after = Every (λ n u. IsUnaffected IsAtMostMoved after n 
 abbrev pub concerns_nobody : Affects
 concerns_nobody t n f = ⊥
 
--- By order t the structure sails that unit n is inside: as the phase begins it is for a unit inside the same structure, of the faction
--- that wrote it, and without a fault.
+-- By order t the structure sails that unit n is inside, as the phase begins.
+-- The order is for a unit inside the same structure, of the faction that wrote it, and has no fault.
 pub record SailsWith (w : WorldValue) (begun : CampaignValue) (t : Task) (n f : ℕ) : Type 0 where
   pub together : inside begun t.unit ≡ inside begun n
   pub done : (order_result (sail_effect w t.unit t.order_value.operands) begun t.faction t.unit).1 ≡ Some (Done 0)

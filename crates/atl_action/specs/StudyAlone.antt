@@ -31,8 +31,8 @@ taught_men w c m n = (after_lessons c (learners w c m) m).0 n
 abbrev pub unit_after_own_study : WorldValue → CampaignValue → MonthValue → (n skill : ℕ) → Unit → Option Unit
 unit_after_own_study w c m n skill u = get (study w (taught_men w c m n) n skill c u).0.units n
 
--- A unit for which its own faction's order of STUDY counts is after the phase as that order alone makes it, where the mailings can be read
--- with the world.
+-- After the phase a unit is as its own faction's order of STUDY that counts makes it alone.
+-- The mailings can be read with the world.
 abbrev pub UnitsStudyAsBegun : Type 0
 UnitsStudyAsBegun =
     (w : WorldValue) (c : CampaignValue) (m : MonthValue) → AreFit w m.readings →

@@ -67,8 +67,8 @@ men_at c n = option_map_or (λ u. u.holding.men) (get c.units n) 0
 abbrev pub untaught_men : CampaignValue → TaughtMen → (n : ℕ) → ℕ
 untaught_men c taught n = men_at c n - taught n
 
--- How many men of unit n are taught in a lesson for `places` men. The listed units take their turn: each gets as many as the units before
--- it leave, up to its men who weren't taught yet.
+-- How many men of unit n are taught in a lesson for `places` men.
+-- The listed units take turns: each gets what the units before it leave, up to its men who weren't taught yet.
 abbrev pub taught_in_lesson : CampaignValue → TaughtMen → (places : ℕ) → List ℕ → (n : ℕ) → ℕ
 taught_in_lesson c taught places ns n =
     if list_any (λ k. n == k) ns then amount_in_turn places (sum_by (untaught_men c taught) (before_first (λ k. n == k) ns)) (untaught_men c taught n) else 0

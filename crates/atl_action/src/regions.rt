@@ -1,4 +1,4 @@
-//! Whether a number is that of a region of the world.
+//! Whether the world has a region of a number. See docs/RULES.md, "Walking" and "Sailing".
 ghost use Rattle.std.specs.Prelude.{◌≡◌};
 ghost use Rattle.atl_action.specs.Regions.{is_region};
 

@@ -146,8 +146,7 @@ behind c from to gift n u v itself =
     if itself then c
     else with_held (with_held c from (with_held_of gift u.holding (held_of gift u.holding - n)) (Some u)) to (with_held_of gift v.holding (held_of gift v.holding + n)) (Some v)
 
--- to show P of the campaign after an order, it is enough to show it of the campaign as it is, and of each campaign in which the unit gave
--- to another
+-- P holds of the campaign after an order of GIVE or PAY, if it holds without a change and after a gift to another unit
 pub give_cases : (P : CampaignValue → Type 0) (c : CampaignValue) (from to : ℕ) (gift : Gift) (n : ℕ) (u : Unit) (giver : get c.units from ≡ Some u) → P c
     → ((v : Unit) (receiver : get c.units to ≡ Some v) (apart : to ≢ from) → CanGive gift n false u v
     → P (moved c from to u v (with_held_of gift u.holding (held_of gift u.holding - n)) (with_held_of gift v.holding (held_of gift v.holding + n)) giver receiver apart))

@@ -133,7 +133,7 @@ flag_marks c d n what marks =
 
 -- ---- one order
 
--- to show P of the campaign after GUARD 1, it is enough to show it of the campaign as it is and of that with the flag set
+-- P holds of the campaign after an order of GUARD 1, if it holds without a change and with the guard flag set
 guard_cases : (P : CampaignValue → Type 0) (c : CampaignValue) (n : ℕ) (u : Unit) → P c → (is_guarded_against c u.region u.faction ≡ false → P (with_guard c n true)) → P (guard n c u).0
 unfolding guard
 guard_cases P c n u same flag = by_fault (guard_fault c u) refl

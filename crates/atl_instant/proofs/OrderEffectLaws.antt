@@ -102,8 +102,7 @@ no_worse_spares = record { same = no_worse; again = no_worse_twice; faction = λ
 
 -- ---- orders
 
--- to show P of the result of an order, it is enough to show it where nothing is done, with the fault NotYours, and of the effect on a unit
--- of the faction
+-- P holds of the result of a faction's order, if it holds without a change (NotYours) and of the effect on its own unit
 pub carried_cases : (P : CampaignValue × Outcome → Type 0) (deed : OrderEffect) (c : CampaignValue) (faction n : ℕ) → P (c, Fault 1) → ((u : Unit) → get c.units n ≡ Some u → u.faction ≡ faction → P (deed c u)) → P (faction_effect deed c faction n)
 carried_cases P deed c faction n other own = by_unit (get c.units n) refl
   where
@@ -115,8 +114,7 @@ carried_cases P deed c faction n other own = by_unit (get c.units n) refl
     by_unit None there = other
     by_unit (Some u) there = by_faction u there (u.faction == faction) refl
 
--- to show P of the campaign after an order, it is enough to show it of the campaign as it is, and of the effect on the unit of the
--- order
+-- P holds of the campaign after an order, if it holds without a change and after the effect on the order's unit
 pub ordered_cases : (P : CampaignValue → Type 0) (step : Option OrderEffect) (c : CampaignValue) (t : Task) → P c → ((x : Unit) → IsUnitOf c t x → IfSome step (λ deed. P (deed c x).0)) → P (order_result step c t.faction t.unit).0
 ordered_cases P None c t same done = same
 ordered_cases P (Some deed) c t same done = carried_cases (λ p. P p.0) deed c t.faction t.unit same (λ x there faction. done x (record { there = there; faction = faction }))

@@ -191,8 +191,8 @@ moves_what_leaves h e s =
 
 -- ---- a campaign in which so much is booked as gone
 
--- The campaign d is c with `off` of each thing booked as gone: it is steady, only its books differ, what they hold of a thing
--- falls by this amount, and no amount of theirs moves further than `moving`.
+-- The campaign d is c with `off` of each thing booked as gone, and only its books differ.
+-- It is steady, what the books have of a thing falls by this amount, and no amount of theirs moves further than `moving`.
 pub record BooksOff (w : WorldValue) (off : Thing → ℕ) (moving : BookBound) (c d : CampaignValue) : Type 0 where
   pub steady : IsSteady w d
   pub owed : (s : Thing) → booked c.books s ≡ booked d.books s +ℤ pos (off s)
@@ -412,7 +412,7 @@ all_left_others c (n ∷ ns) k apart = all_left_others (after_leaving c n) ns k 
 
 -- ---- one order
 
--- to show P of the campaign after QUIT, it is enough to show it of the campaign as it is and of that which the faction's units left
+-- P holds of the campaign after an order of QUIT, if it holds without a change and after the faction's units left
 pub quit_cases : (P : CampaignValue → Type 0) (c : CampaignValue) (number : ℕ) (u : Unit) → P c → (number ≡ u.faction → P (fold after_leaving c (numbers_of u.faction c.units))) → P (quit number c u).0
 unfolding quit
 quit_cases P c number u same leave = by_fault (quit_fault number u) refl

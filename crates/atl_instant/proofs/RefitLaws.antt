@@ -84,7 +84,8 @@ module _ (w : WorldValue) (c : CampaignValue) (n : ℕ) (u : Unit) (s : ℕ) (is
   abbrev pub refitted : CampaignValue
   refitted = record c { units = units; structures = structures }
 
-  -- g gives the structures, each with its right owner. The unit is inside a structure of its region, or none, and on water inside a ship.
+  -- g gives the structures, each relabelled and with its right owner.
+  -- The unit is inside a structure of its region, or none, and on water inside a ship.
   pub record IsRefit : Type 0 where
     pub at : (k : ℕ) → get structures k ≡ option_map (g k) (get c.structures k)
     pub count : len structures ≡ len c.structures

@@ -215,8 +215,7 @@ better_off n other v = record {
 abbrev behind : CampaignValue → (from to n : ℕ) → Unit → Unit → (itself : Bool) → CampaignValue
 behind c from to n u v itself = if itself then c else with_held (with_held c from (with_fewer n u.holding) (Some u)) to (with_more n u.holding v.holding) (Some v)
 
--- to show P of the campaign after an order, it is enough to show it of the campaign as it is, and of each campaign in which men went
--- to another unit
+-- P holds of the campaign after an order of TRANSFER, if it holds without a change and after men went to another unit
 pub transfer_cases : (P : CampaignValue → Type 0) (c : CampaignValue) (from to n : ℕ) (u : Unit) (sender : get c.units from ≡ Some u) → P c
     → ((v : Unit) (receiver : get c.units to ≡ Some v) (apart : to ≢ from) → CanSend n false u v
     → P (moved c from to u v (with_fewer n u.holding) (with_more n u.holding v.holding) sender receiver apart))

@@ -37,8 +37,8 @@ use Rattle.atl_instant.proofs.PhaseOrderLaws.{orders_are_in_mailings}
 
 -- ---- phases one after the other
 
--- The phase keeps the mailings and takes back no Starved event. Each unit of a faction without a mailing is there after, with its name,
--- its items, and exactly the men less who starve in the phase.
+-- The phase keeps the mailings and takes back no Starved event.
+-- Each unit of a faction without a mailing is there after, with its name, its items, and exactly the men less who starve.
 pub record LeavesUnmailed (meaning : Meaning) (keeps : Frame) : Type 0 where
   pub readings : (w : WorldValue) (c : CampaignValue) (m : MonthValue) → (meaning w c m).1.readings ≡ m.readings
   pub told : (w : WorldValue) (c : CampaignValue) (m : MonthValue) (n : ℕ) → starved_in m.events n ≤ starved_in (meaning w c m).1.events n
@@ -177,8 +177,8 @@ module _ {meaning : Meaning} {keeps : Frame} (readings : (w : WorldValue) (c : C
     (nobody : (w : WorldValue) (c : CampaignValue) (m : MonthValue) (n : ℕ) → starved_in (meaning w c m).1.events n ≡ starved_in m.events n)
     (men : (w : WorldValue) (c : CampaignValue) (m : MonthValue) → keeps w m c (meaning w c m).0 → UnmailedAre HasItsMen m c (meaning w c m).0)
     (items : (w : WorldValue) (c : CampaignValue) (m : MonthValue) → keeps w m c (meaning w c m).0 → UnmailedAre HasItsItems m c (meaning w c m).0) where
-  -- A phase leaves the units of factions without a mailing, if it keeps the mailings, nobody starves in it, and these units have their
-  -- men and items.
+  -- A phase in which nobody starves leaves the units of factions without a mailing, if it keeps the mailings,
+  -- and these units keep their men and items.
   pub whole_leaves : LeavesUnmailed meaning keeps
   whole_leaves = record {
     readings = readings;
@@ -279,8 +279,8 @@ module _ (step : OrderMeaning) where
 pub own_faction : (t : Task) (n f : ℕ) → IsOwnOrder t n f → t.faction ≡ f
 own_faction t n f h = h.faction
 
--- A phase that spares units which no order concerns leaves units of factions without a mailing their items, if only orders of a unit's
--- own faction concern it.
+-- A phase that spares units which no order concerns leaves units of factions without a mailing their items,
+-- if only orders of a unit's own faction concern it.
 pub unmailed_spared : {concerns : Affects} {spares : Unaffected} (is_of : Verb → Bool) → ((t : Task) (n f : ℕ) → concerns t n f → t.faction ≡ f) → ((u v : Unit) → spares u v → HasItsItems u v)
     → (w : WorldValue) (c d : CampaignValue) (m : MonthValue) → spares_others concerns spares is_of w m c d → UnmailedAre HasItsItems m c d
 unmailed_spared {concerns} {spares} is_of own items w c d m h n u there none =

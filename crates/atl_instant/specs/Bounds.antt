@@ -52,8 +52,8 @@ pub record UsesBound (reserve left : ℕ) (before after : ℤ) : Type 0 where
 
 -- ---- the step of one order
 
--- After a step the campaign is as `holds` says and of the same month, the books balance where they did before, and no amount moves
--- further than its remaining bound falls.
+-- After a step `holds` is so of the campaign, it is of the same month, and the books balance where they did before.
+-- No amount of the books moves further than its remaining bound falls.
 pub record StepsWell (holds : Condition) (reserve : RemainingBound) (w : WorldValue) (before after : CampaignValue) : Type 0 where
   pub holds_still : holds w after
   pub same_month : IsSameMonth before after
@@ -71,8 +71,9 @@ pub record IsUnitOf (c : CampaignValue) (t : Task) (u : Unit) : Type 0 where
   pub there : get c.units t.unit ≡ Some u
   pub faction : u.faction ≡ t.faction
 
--- What has to be shown of the step of a phase that carries its orders out one by one. Each order steps well, and leaves units that it
--- doesn't concern as `spares` says; no remaining bound is above the bound of the phase.
+-- What has to be shown of the step of a phase that carries its orders out one by one.
+-- Each order steps well, and leaves units that it doesn't concern as `spares` says.
+-- No remaining bound is above the bound of the phase.
 pub record IsOrderly (step : OrderMeaning) (holds : Condition) (reserve : RemainingBound) (moving : BookBound) (concerns : Affects) (spares : Unaffected) : Type 0 where
   pub well : (w : WorldValue) (a : Aliases) (c : CampaignValue) (t : Task) (x : Unit) → holds w c → IsOrderOf w t.order_value → IsUnitOf c t x →
       IfSome (step w a t) (λ deed. StepsWell holds reserve w c (deed c x).0)

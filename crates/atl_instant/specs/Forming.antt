@@ -1,4 +1,4 @@
--- For proofs alone: the orders of FORM as the code copies them out of the month, to which it adds aliases as it carries them out.
+-- For proofs alone: the orders of FORM as copies outside of the month, which the code makes before it carries them out.
 use Rattle.std.specs.Prelude.{◌++◌, [], ◌∷◌}
 use Rattle.atl_records.specs.declared.event.Event.{Event}
 use Rattle.atl_records.specs.declared.event.EventVerb.TheVariants.{Order}

@@ -43,8 +43,8 @@ with_held_of (Item i) h n = record h { items = with_amount_of h.items i n }
 
 -- ---- one order
 
--- The fault of giving n to a receiver: NotHere, NotEnough or NoRoom; None where it has none. A unit always has room for what it gives
--- to itself.
+-- The fault of giving n to a receiver: NotHere, NotEnough or NoRoom; None where it has none.
+-- A unit always has room for what it gives to itself.
 abbrev pub give_fault : Gift → (n : ℕ) → (itself : Bool) → Unit → Option Unit → Option EventFault
 give_fault gift n itself u None = Some NotHere
 give_fault gift n itself u (Some v) =
@@ -54,7 +54,8 @@ give_fault gift n itself u (Some v) =
     ∷ (not itself && nat_lt holding_limit (held_of gift v.holding + n), NoRoom)
     ∷ [])
 
--- The campaign after n of the gift went from one unit to another. Nothing changes if both are one unit, or one of them isn't there.
+-- The campaign after n of the gift went from one unit to another.
+-- Nothing changes if both are one unit, or one of them isn't there.
 abbrev pub after_gift : CampaignValue → (from to : ℕ) → Gift → (n : ℕ) → Option Unit → Option Unit → CampaignValue
 after_gift c from to gift n (Some u) (Some v) =
     let less = with_held_of gift u.holding (held_of gift u.holding - n) in

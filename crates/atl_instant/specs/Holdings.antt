@@ -7,8 +7,8 @@ use Rattle.atl_records.specs.Holdings.{HoldingValue, with_amount_of}
 use Rattle.atl_state.specs.Marks.{Marks}
 use Rattle.atl_state.specs.Campaign.{MarkedCampaign, unit_changed}
 
--- Unit n, if it is there, holds what `change` makes of what it held, and nothing else changes. All that changed is marked, and no unit's
--- goods are newly marked as a whole.
+-- Unit n, if it is there, holds what `change` makes of what it held, and nothing else changes.
+-- All that changed is marked, and no unit's goods are newly marked as a whole.
 pub record ChangesHolding (before after : MarkedCampaign) (n : ℕ) (change : HoldingValue → HoldingValue) : Type 0 where
   pub value : after.value ≡ unit_changed (λ u. record u { holding = change u.holding }) before.value n
   pub marks : MarksChanges before after

@@ -32,8 +32,8 @@ Follows leaves needs = (w : WorldValue) (c : CampaignValue) → leaves w c → n
 abbrev pub both_need : Condition → Condition → Condition → Condition
 both_need needs between follows w c = needs w c × Follows between follows
 
--- What a phase keeps: a statement of the campaign before it, the month that it got, and the campaign after it. It says what the phase
--- leaves to the units whose own faction wrote no order of it.
+-- What a phase keeps: a statement of the campaign before it, the month that it got, and the campaign after it.
+-- It says what the phase leaves to the units whose own faction wrote no order of it.
 abbrev pub Frame : Type 1
 Frame = WorldValue → MonthValue → CampaignValue → CampaignValue → Type 0
 
@@ -66,15 +66,15 @@ pub record IsNear (most : ℕ) (before after : ℤ) : Type 0 where
   pub above : after ≤ℤ (before +ℤ pos most)
   pub below : before ≤ℤ (after +ℤ pos most)
 
--- The number of the month last closed and the reports stay the same, and so does the set of factions, gone ones among them.
+-- The number of the month last closed, the reports and the set of factions (gone ones too) stay the same.
 pub record IsSameMonth (before after : CampaignValue) : Type 0 where
   pub month : after.month ≡ before.month
   pub reports : after.reports ≡ before.reports
   pub count : len after.factions ≡ len before.factions
   pub factions : (n : ℕ) → IsThere after.factions n → IsThere before.factions n
 
--- After a phase the campaign is as `leaves` says and of the same month, the books balance where they did before, and no amount moves
--- further than its bound.
+-- After a phase `leaves` is so of the campaign, it is of the same month, and the books balance where they did before.
+-- No amount of the books moves further than its bound.
 pub record LeavesWell (leaves : Condition) (moving : BookBound) (w : WorldValue) (before after : CampaignValue) : Type 0 where
   pub leaves_it : leaves w after
   pub same_month : IsSameMonth before after

@@ -23,7 +23,8 @@ use Rattle.atl_records.specs.contracts.event.Event as event
 abbrev pub Aliases : Type 0
 Aliases = FinMap nat_cmp (FinMap nat_cmp ℕ)
 
--- What the phases of a month hand on: what was read of each faction's mailing, the aliases, the words of the dice, and the events so far.
+-- What the phases of a month hand on, as contracts see it.
+-- It has what was read of each faction's mailing, the aliases, the words of the dice, and the events so far.
 pub record MonthValue : Type 0 where
   pub readings : FinMap nat_cmp Reading
   pub aliases : Aliases

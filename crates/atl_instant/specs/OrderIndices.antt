@@ -124,8 +124,8 @@ AreOrderIndices arrangement aliases mailings = AreAt mailings (values (orders_of
 abbrev pub tasks_picked : (Verb → Bool) → List Mailing → List OrderIndex → List Task
 tasks_picked is_of mailings places = filter (has_verb is_of) (map (task_at mailings) places)
 
--- The invariant of a month: its mailings are sorted by faction, and the indices that it gathered, if any, name all orders that count,
--- sorted by unit.
+-- The invariant of a month: its mailings are sorted by faction, and its gathered indices by unit.
+-- If there are such indices, they name all orders that count.
 pub record IsSortedMonth {Z : Type 0} (aliases : Aliases) (mailings : List Mailing) (standing : Option (Vec OrderIndex Z)) : Type 0 where
   pub sorted : AreByFaction mailings
   pub gathered : IfSome standing (λ places. AreOrderIndices ByUnit aliases mailings places.items)

@@ -17,8 +17,8 @@ use Rattle.atl_instant.specs.declared.phase_order.PhaseOrder.{PhaseOrder}
 use Rattle.atl_instant.specs.declared.phase_order.Arrangement.{Arrangement}
 use Rattle.atl_instant.specs.declared.phase_order.Arrangement.TheVariants.{ByUnit, ByFaction}
 
--- An order of a mailing: its faction, the unit that it is for, its line, its index among the orders of the mailing, from 0 on, and what
--- it says.
+-- An order of a mailing: its faction, the unit that it is for, its line, its index, and what it says.
+-- The index is the one among the orders of the mailing, from 0 on.
 pub record Task : Type 0 where
   pub faction : ℕ
   pub unit : ℕ
@@ -88,8 +88,8 @@ stands ts t = stands_in ts t (row_of t.order_value.verb).slot
 abbrev pub tasks_for : (Verb → Bool) → List Task → List Task
 tasks_for is_of ts = filter (λ t. is_of t.order_value.verb && stands ts t) ts
 
--- The numbers that an order is sorted by: unit, line and faction, or faction, line and unit. The last number is its index, which no
--- mailing has twice.
+-- The numbers that an order is sorted by: unit, line and faction, or faction, line and unit.
+-- The last number is its index, which no mailing has twice.
 abbrev pub key_of : Arrangement → Task → List ℕ
 key_of ByUnit t = t.unit ∷ t.line ∷ t.faction ∷ t.place ∷ []
 key_of ByFaction t = t.faction ∷ t.line ∷ t.unit ∷ t.place ∷ []

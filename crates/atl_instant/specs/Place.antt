@@ -62,7 +62,8 @@ enter n s c u = unless c (enter_fault c s u) (with_unit_inside c n u.region u.st
 
 -- ---- PROMOTE
 
--- why unit n can't make unit `to` the owner of the structure that n is inside: NotInside, NotOwner or NotHere; None where it can
+-- why unit n can't make unit `to` the owner of the structure that n is inside: NotInside, NotOwner or NotHere;
+-- None where it can
 abbrev pub promote_fault : CampaignValue → (n to : ℕ) → Unit → Option EventFault
 promote_fault c n to u = first_fault (
     (u.structure == 0, NotInside)

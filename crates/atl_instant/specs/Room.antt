@@ -15,7 +15,7 @@ roomy_amount = amount_limit - most_moved
 abbrev pub AreRoomy : CampaignValue → Type 0
 AreRoomy c = (e : Entry) (t : Thing) → IsWithin roomy_amount (amount_in c.books e t)
 
--- A law: where no amount passes 9*10^18, the books have room for one phase that moves each amount by less than 10^14. Two phases may move
--- an amount further.
+-- A law: where no amount passes 9*10^18, the books have room for one phase that moves each by less than 10^14.
+-- Two phases may move an amount further.
 abbrev pub OnePhaseHasRoom : Type 0
 OnePhaseHasRoom = (moving : BookBound) (c : CampaignValue) → ((e : Entry) (t : Thing) → moving e t ≤ most_moved) → AreRoomy c → HaveRoom moving c

@@ -66,8 +66,8 @@ DaysGoWithMen = (n : ℕ) (other h : HoldingValue) (skill : ℕ) → HaveDaysOf 
 
 -- ---- one order
 
--- The fault of sending n men to a receiver: NotHere, NotYours, NotEnough or NoRoom; None where it has none. A unit always has room for
--- men that it sends to itself.
+-- The fault of sending n men to a receiver: NotHere, NotYours, NotEnough or NoRoom; None where it has none.
+-- A unit always has room for men that it sends to itself.
 abbrev pub transfer_fault : (n : ℕ) → (itself : Bool) → Unit → Option Unit → Option EventFault
 transfer_fault n itself u None = Some NotHere
 transfer_fault n itself u (Some v) =
@@ -78,7 +78,8 @@ transfer_fault n itself u (Some v) =
     ∷ (not itself && nat_lt men_limit (v.holding.men + n), NoRoom)
     ∷ [])
 
--- The campaign after n men went from one unit to another. Nothing changes if both are one unit, or one of them isn't there.
+-- The campaign after n men went from one unit to another.
+-- Nothing changes if both are one unit, or one of them isn't there.
 abbrev pub after_transfer : CampaignValue → (from to n : ℕ) → Option Unit → Option Unit → CampaignValue
 after_transfer c from to n (Some u) (Some v) =
     if to == from then c else with_held (with_held c from (with_fewer n u.holding) (Some u)) to (with_more n u.holding v.holding) (Some v)
