@@ -457,7 +457,7 @@ sail_orderly = record {
 pub all_carried : (w : WorldValue) (m : MonthValue) (c d : CampaignValue) → spares_others concerns_nobody IsAtMostMoved is_sailing w m c d → AreAtMostMoved c d
 all_carried w m c d keeps n u there = keeps n u there (λ k d l nobody. nobody)
 
--- ---- who stays: where what it is inside doesn't sail
+-- ---- units that stay: those whose structure doesn't sail
 
 -- sums over a list of two numbers that are the same for each element are the same
 sum_same : (g h : ℕ → ℕ) (ns : List ℕ) → ((k : ℕ) → IsListed k ns → g k ≡ h k) → sum_by g ns ≡ sum_by h ns

@@ -21,7 +21,7 @@ use Rattle.atl_action.specs.Learners.{Learning, is_studying, learners}
 use Rattle.atl_action.specs.Study.{after_study, days_after, is_helpful, learn_keeps, learn_meaning, study, study_effect, study_fault, study_step, with_study}
 use Rattle.atl_action.specs.Teach.{TaughtMen, after_lessons, is_teaching, teach, teach_order}
 
--- ---- TEACH tells its events and changes nothing else of the month
+-- ---- TEACH adds its events and changes nothing else of the month
 
 -- the month with the same readings and aliases, in whose events as many men of each unit starved
 pub record IsTold (before after : MonthValue) : Type 0 where

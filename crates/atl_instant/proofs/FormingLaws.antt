@@ -143,7 +143,7 @@ module _ (w : WorldValue) (c : CampaignValue) (p : ℕ) (u : Unit) (is : get c.u
     structures = old.water.structures;
   }
 
-  -- who doesn't pass a test changes nothing of those who do
+  -- all units that pass a test still are of one faction in each region, if the new unit doesn't pass it
   one_faction_kept : (test : Unit → Bool) → test child ≡ false → AreOfOneFaction test c → AreOfOneFaction test begun
   one_faction_kept test fails one =
       every-insert (λ n x. Every (λ m y. test x ≡ true → test y ≡ true → x.region ≡ y.region → x.faction ≡ y.faction) units) c.units c.next_unit child (λ m y there e. absurd (true≢false (sym e ∙ fails)))

@@ -38,7 +38,7 @@ use Rattle.atl_instant.proofs.NoWorseLaws.{no_worse}
 use Rattle.atl_instant.proofs.OrderEffectLaws.{drawn_same, no_worse_spares, well_same}
 use Rattle.atl_instant.proofs.UnbookedLaws.{other_unit}
 
--- ---- who else guards
+-- ---- other guards of the region
 
 -- if no element of a list passes a test, an element of the list doesn't
 none_of : (p : ℕ → Bool) (ns : List ℕ) → list_any p ns ≡ false → (k : ℕ) → IsListed k ns → p k ≡ false
@@ -62,7 +62,7 @@ own_guards c region faction none m v there guarding here =
     second true b t e = e
     second false b t e = cc
 
--- ---- the campaign behind it
+-- ---- the campaign after the flag is set
 
 module _ (c : CampaignValue) (n : ℕ) (u : Unit) (is : get c.units n ≡ Some u) where
   -- the unit with its guard flag set

@@ -168,7 +168,7 @@ module _ {K X : Type 0} {R : K → K → Ordering} (o : IsTotalOrder R) (exact :
         ∙ sym (find-passing fs (IsDistinct-from_sorted R (keys_of fs) (rising fs up)) q) ∙ sym (get-from_sorted R (passing fs) q ordered)))
         ∙ entries-from_sorted R (passing fs) ordered
 
--- elements in the order of their keys, each behind its key
+-- elements in the order of their keys, each with its key
 module _ {K X : Type 0} (R : K → K → Ordering) (key : X → K) where
   -- an element with its key
   abbrev keyed : X → K × X

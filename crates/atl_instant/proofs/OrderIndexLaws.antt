@@ -99,7 +99,7 @@ module _ (aliases : Aliases) (ms : List Mailing) (at : ℕ) where
         ∙ before.tasks;
   }
 
--- ---- the orders that stand, mailing by mailing
+-- ---- the orders that count, mailing by mailing
 
 module _ (aliases : Aliases) (ms : List Mailing) where
   -- the orders of all mailings that count, from the mailing at index i on

@@ -188,7 +188,7 @@ module _ (is_of : Verb → Bool) (a : Arrangement) (aliases : Aliases) where
   pub orders_are : (rs : List Reading) → IsStrictlySortedBy nat_cmp (map (λ r. r.faction) rs) → values (orders_of is_of a aliases (by_faction rs)) ≡ values (from_entries {R = slice_cmp nat_cmp} (map (λ t. (key_of a t, t)) (all_tasks is_of aliases rs)))
   orders_are rs h = ap (λ us. values (from_entries {R = slice_cmp nat_cmp} (map (λ t. (key_of a t, t)) us))) (tasks_of_all rs h)
 
--- ---- the places of all orders
+-- ---- the indices of all orders
 
 -- indices sorted by their keys are sorted by the keys of their orders
 by_key : (a : Arrangement) (ms : List Mailing) (list : List OrderIndex) → IsSortedByKey (key_by a) (slice_cmp nat_cmp) list → IsSortedByKey (λ p. key_of a (task_at ms p)) (slice_cmp nat_cmp) list

@@ -90,7 +90,7 @@ module _ (is_of : Verb → Bool) (aliases : Aliases) where
   picked_list a ms places (Ok list) h all are = picked_orders a ms places (map task_of list.items) h all are
   picked_list a ms places (Err e) h all are = tt
 
--- ---- place by place
+-- ---- index by index
 
 module _ (is_of : Verb → Bool) (ms : List Mailing) (places : List OrderIndex) where
   -- the orders to be picked from the indices from i on

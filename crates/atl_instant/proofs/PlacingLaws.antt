@@ -109,7 +109,7 @@ module _ (w : WorldValue) (c : CampaignValue) (n : ℕ) (u : Unit) (s : ℕ) (is
       let x = handed_on old_place n next q y in
       relabelled_twice y x (handed_on s 0 n q x) (relabelled_if (q == old_place && y.owner == n) next y) (relabelled_if (q == s && x.owner == 0) n x)
 
-  -- ---- who owns the structures then
+  -- ---- the owners of the structures after the move
 
   -- unit numbers begin at 1
   low : Every (λ k v. 1 ≤ k) c.units

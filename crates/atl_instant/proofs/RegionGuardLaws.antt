@@ -95,7 +95,7 @@ module _ (c : CampaignValue) where
           held = held_of empty (entries c.units) are (λ r f at. none_some f (sym (get-empty nat_cmp r) ∙ at));
         }
 
--- ---- what the map tells
+-- ---- what the map says
 
 -- a list with an element that passes a test has some that does
 any_listed : (p : ℕ → Bool) (ns : List ℕ) (k : ℕ) → IsListed k ns → p k ≡ true → list_any p ns ≡ true
