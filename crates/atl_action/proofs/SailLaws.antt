@@ -484,7 +484,7 @@ unless_told c d x y None = refl
 unless_told c d x y (Some fault) = refl
 
 module _ (w : WorldValue) (begun : CampaignValue) (number faction : ℕ) where
-  -- what the unit is inside
+  -- the number of the structure that unit `number` is inside as the phase begins
   abbrev s : ℕ
   s = inside begun number
 
@@ -512,7 +512,7 @@ module _ (w : WorldValue) (begun : CampaignValue) (number faction : ℕ) where
         ∙ ap (λ crew. fault_with w n u to (get begun.structures u.structure) crew (sum_inside (load_of w) c u.structure)) (subst (λ q. sum_inside (crew_of w) c q ≡ sum_inside (crew_of w) begun q) (sym here) (sum_inside_same (crew_of w)))
         ∙ ap (fault_with w n u to (get begun.structures u.structure) (sum_inside (crew_of w) begun u.structure)) (subst (λ q. sum_inside (load_of w) c q ≡ sum_inside (load_of w) begun q) (sym here) (sum_inside_same (load_of w)))
 
-    -- an order for a unit inside comes to what it would have come to as the phase began
+    -- an order for a unit inside has the outcome that it would have had as the phase began
     told_same : (n : ℕ) (u : Unit) (direction : Direction) → u.structure ≡ s → (sail w n direction c u).1 ≡ (sail w n direction begun u).1
     unfolding sail
     told_same n u direction here =
@@ -520,7 +520,7 @@ module _ (w : WorldValue) (begun : CampaignValue) (number faction : ℕ) where
         ap (λ o. (unless c o (after_sailing c u.structure (unwrap_or to 0), Done 0)).1) (fault_same n u to here)
         ∙ unless_told c begun (after_sailing c u.structure (unwrap_or to 0)) (after_sailing begun u.structure (unwrap_or to 0)) (sail_fault w begun n u (get begun.structures u.structure) to)
 
-    -- and so where the unit may be another faction's
+    -- the same where the unit may be another faction's
     carried_same_told : (f n : ℕ) (direction : Direction) → inside begun n ≡ s → (faction_effect (sail w n direction) c f n).1 ≡ (faction_effect (sail w n direction) begun f n).1
     carried_same_told f n direction here = ap (λ o. (effect_on (sail w n direction) c (of_faction f o)).1) (same.units n here) ∙ by_unit (get begun.units n) here
       where

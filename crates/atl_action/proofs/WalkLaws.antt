@@ -113,7 +113,7 @@ module _ (w : WorldValue) (c : CampaignValue) (n : ℕ) (u : Unit) (to : ℕ) (i
     left_owned : old_place ≢ 0 → (y : Structure) → IsOwned behind old_place (owned_by next y)
     left_owned some = heir_owns c behind n away old_place some low (λ v at inside. some (sym inside ∙ outside v at))
 
-    -- g gives the structures, which are where they were
+    -- g gives the structures, which stay in their regions
     module _ (g : ℕ → Structure → Structure) (at : (k : ℕ) → get structures k ≡ option_map (g k) (get c.structures k)) (count : len structures ≡ len c.structures)
         (same : Every (λ k y. IsSameStructure y (g k y) × ((g k y).region ≡ y.region)) c.structures) (owned : Every (λ k y. IsOwned behind k (g k y)) c.structures) where
       forth : (k : ℕ) (y : Structure) → get c.structures k ≡ Some y → get structures k ≡ Some (g k y)

@@ -77,7 +77,7 @@ then_changes a b d n f g one two = record {
   goods = two.goods ∙ one.goods;
 }
 
--- the setters
+-- the items and the days of a unit
 abbrev goods_of : HoldingValue → FinMap nat_cmp ℕ × FinMap nat_cmp ℕ
 goods_of h = (h.items, h.days)
 

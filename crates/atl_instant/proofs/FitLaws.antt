@@ -1,4 +1,4 @@
--- Mailings that were read with a world say what can be read with it.
+-- Mailings that were read with a world say only what can be read with it.
 use Rattle.std.proofs.Common.{List, [], ◌∷◌, map}
 use Rattle.std.specs.List.{AllByRecursion}
 use Rattle.atl_tables.specs.Worlds.{WorldValue}

@@ -1,4 +1,4 @@
--- FORM leaves a campaign well, and each unit as it is.
+-- FORM leaves a campaign well, and each unit that was there as it was.
 use Rattle.std.proofs.Common.{◌≡◌, ℕ, ◌≤◌, Bool, true, false, not, List, [], ◌∷◌, Option, Some, None, map, refl, sym, ap, subst, ◌∙◌, arith}
 use Rattle.std.specs.Prelude.{fold}
 use Rattle.std.specs.Option.{option_map_or}
@@ -31,7 +31,7 @@ module _ (w : WorldValue) (c : CampaignValue) (early : IsEarly w c) where
   free_number = early.steady.next.units c.next_unit (omega arith)
 
   module _ (f n : ℕ) where
-    -- what is formed, where the unit is known
+    -- the campaign with the formed unit, by what its parent is
     formed_is : (u : Unit) → get c.units n ≡ Some u → u.faction ≡ f → with_formed_unit c f n ≡ with_unit_begun c (new_unit c.next_unit u.faction u.region u.structure)
     formed_is u is own =
         ap (λ g. with_unit_begun c (new_unit c.next_unit g (region_of c n) (inside c n))) (sym own)

@@ -36,7 +36,7 @@ use Rattle.atl_state.proofs.NumberedNameLaws.{unit_name_ok}
 len_new : {V : Type 0} (m : FinMap nat_cmp V) (k : ℕ) (v : V) → get m k ≡ None → len (insert m k v) ≡ len m + 1
 len_new m k v h = len-insert nat_cmp_total m k v ∙ ap (λ o. cond (is_some o) (len m) (len m + 1)) h
 
--- what was there is still there after an insertion where nothing was
+-- a value of a map is still there after an insertion under a number that had none
 still_there : {V : Type 0} (m : FinMap nat_cmp V) (k q : ℕ) (v x : V) → get m k ≡ None → get m q ≡ Some x → get (insert m k v) q ≡ Some x
 still_there m k q v x free is = get-insert_other m k q v (λ same. none_some x (sym free ∙ ap (get m) (sym same) ∙ is)) ∙ is
 

@@ -60,7 +60,7 @@ room_behind j k w c d well room e t = near_room (j e t) (k e t) (amount_in c.boo
 
 -- ---- the same month
 
--- the month that is counted, and the reports
+-- the number of the month last closed, and the reports
 abbrev pub counted_month : CampaignValue → ℕ × FinMap nat_cmp (List ℕ)
 counted_month c = (c.month, c.reports)
 
@@ -118,7 +118,7 @@ well_within j k w a b l h = record { leaves_it = h.leaves_it; same_month = h.sam
 pub well_unchanged : {leaves : Condition} (moving : BookBound) (w : WorldValue) (c : CampaignValue) → leaves w c → LeavesWell leaves moving w c c
 well_unchanged moving w c h = record { leaves_it = h; same_month = same_month c; balances = λ b. b; near = λ e t. near_same (moving e t) (amount_in c.books e t) }
 
--- so does a fold of steps each of which does
+-- steps in turn that each leave the campaign well do so together
 module _ {A : Type 0} {leaves : Condition} (moving : BookBound) (w : WorldValue) (step : CampaignValue → A → CampaignValue) (each : (c : CampaignValue) (x : A) → leaves w c → LeavesWell leaves moving w c (step c x)) where
   -- the bound of one step and then of the others is within the bound of all steps
   more : {B : Type 0} (x : B) (xs : List B) → MovesLess (both_move moving (moved_times (length xs) moving)) (moved_times (length (x ∷ xs)) moving)

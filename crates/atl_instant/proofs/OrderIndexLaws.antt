@@ -65,7 +65,7 @@ module _ (aliases : Aliases) (ms : List Mailing) (at : ℕ) where
           ∙ ap (λ ts. map (task_at ms) list ++ ts) (sym (opened i h ∙ ap (λ b. cond b (task_at ms (place_of i) ∷ rest_from (i + 1)) (rest_from (i + 1))) counted)) ∙ before.tasks;
     }
 
-  -- as the code reads them
+  -- the mailing, the entry and the unit that the code reads
   module _ (i : ℕ) (m : Mailing) (e : Entry) (unit : ℕ) (here : m ≡ read) (entry : e ≡ entry_at i) (for_unit : unit ≡ unit_of aliases m.faction e.target) where
     abbrev found : OrderIndex
     found = record { unit = unit; line = e.line; faction = m.faction; mailing = at; place = i }

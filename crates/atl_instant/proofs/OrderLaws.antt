@@ -92,7 +92,7 @@ module _ (aliases : Aliases) (a : Arrangement) where
       kept ts t true h r = (h, r)
       kept ts t false h r = r
 
-  -- and across them
+  -- orders of different mailings
   of_faction : (p : Task → Bool) (faction : ℕ) (place : ℕ) (es : List EntryValue) (Q : ℕ → Type 0) → Q faction → AllByRecursion (λ t. Q t.faction) (filter p (tasks_from aliases faction place es))
   of_faction p faction place [] Q q = tt
   of_faction p faction place (e ∷ es) Q q = kept _ _ (p _) q (of_faction p faction (place + 1) es Q q)
@@ -160,7 +160,7 @@ module _ {X : Type 0} (as_task : X → Task) where
     unkeyed [] = refl
     unkeyed (o ∷ os) = ap (λ ps. o ∷ ps) (unkeyed os)
 
-    -- orders in the order of their keys, of which no two are one, are what the map of them lists
+    -- orders sorted by their keys, of which no two are equal, are what the map of them lists
     listed : (os list : List X) (ts : List Task) → map as_task os ≡ ts → IsDistinct (λ t u. eq_by_cmp (slice_cmp nat_cmp) (key t) (key u)) ts → IsPermutation os list
         → IsSortedByKey (λ o. key (as_task o)) (slice_cmp nat_cmp) list → map as_task list ≡ values (from_entries {R = slice_cmp nat_cmp} (map paired ts))
     listed os list ts are apart p up =

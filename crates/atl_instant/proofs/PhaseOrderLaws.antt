@@ -47,7 +47,7 @@ module _ {K X : Type 0} (R : K → K → Ordering) (P : K → X → Type 0) wher
   keyed_entries key [] all = tt
   keyed_entries key (x ∷ xs) all = (all.0, keyed_entries key xs all.1)
 
--- and of each value
+-- if P holds of the value of each entry, it holds of each value
 unkeyed_values : {K X : Type 0} (P : X → Type 0) (es : List (K × X)) → AllByRecursion (λ e. P e.1) es → AllByRecursion P (map (λ e. e.1) es)
 unkeyed_values P [] all = tt
 unkeyed_values P (e ∷ es) all = (all.0, unkeyed_values P es all.1)

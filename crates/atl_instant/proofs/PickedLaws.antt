@@ -101,7 +101,7 @@ module _ (is_of : Verb → Bool) (ms : List Mailing) (places : List OrderIndex) 
   opened : (i : ℕ) (p : OrderIndex) → i < length places → p ≡ get_or places i p → rest_from i ≡ cond (has_verb is_of (task_at ms p)) (task_at ms p ∷ rest_from (i + 1)) (rest_from (i + 1))
   opened i p h at = ap (tasks_picked is_of ms) (next_of places i p h at)
 
-  -- whether an order that is read is of the phase
+  -- the code's test of an order is whether it has a verb of the phase
   read_verb : (p : OrderIndex) (o : PhaseOrder) (b : Bool) → task_of o ≡ task_at ms p → is_of o.order.now.verb ≡ b → has_verb is_of (task_at ms p) ≡ b
   read_verb p o b task verb = ap (has_verb is_of) (sym task) ∙ verb
 

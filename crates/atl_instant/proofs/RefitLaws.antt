@@ -34,7 +34,7 @@ pub under : {A B : Type 0} (f : A → B) (o : Option A) (x : B) → option_map f
 under f None x is = none_some x is
 under f (Some v) x is = let same : f v ≡ x = cc in (v, refl, same)
 
--- other units and structures, but as many
+-- a campaign with other units and structures
 module _ (c : CampaignValue) (units : FinMap nat_cmp Unit) (structures : FinMap nat_cmp Structure) where
   -- the campaign with other units and structures
   abbrev pub replaced : CampaignValue
@@ -151,7 +151,7 @@ module _ (w : WorldValue) (c : CampaignValue) (n : ℕ) (u : Unit) (s : ℕ) (is
       structures = every_structure (λ k x. is_land_at w x.region ≡ false → (is_ship w x ≡ true) × (x.done ≡ size_of w x.kind)) (λ k y was. let r = refit.same k y was in rw (r.region, r.kind, r.done) (old.structures k y was));
     }
 
-    -- those that pass a test are still of one faction, where the test sees what a unit holds alone
+    -- units that pass a test still are of one faction in each region, if the moved unit passes it only as before
     module _ (test : Unit → Bool) (only : test moved_unit ≡ true → test u ≡ true) where
       abbrev Agree : Unit → Unit → Type 0
       Agree x y = test x ≡ true → test y ≡ true → x.region ≡ y.region → x.faction ≡ y.faction
@@ -193,7 +193,7 @@ module _ (w : WorldValue) (c : CampaignValue) (n : ℕ) (u : Unit) (s : ℕ) (is
       cancelled (sum_over stock units) (sum_over stock c.units) (unit_amount t u.holding) (sum_over (λ (r : Region). region_amount t r) c.regions)
       (sum_over-insert_known stock c.units n u moved_unit is)
 
--- structures alone change, while a unit is there
+-- a campaign in which structures alone change
 module _ (w : WorldValue) (c : CampaignValue) (n : ℕ) (u : Unit) (is : get c.units n ≡ Some u) (structures : FinMap nat_cmp Structure) (g : ℕ → Structure → Structure)
     (at : (k : ℕ) → get structures k ≡ option_map (g k) (get c.structures k)) (count : len structures ≡ len c.structures)
     (same : Every (λ k y. IsRelabelled y (g k y)) c.structures) (owned : Every (λ k y. IsOwned c k (g k y)) c.structures) where

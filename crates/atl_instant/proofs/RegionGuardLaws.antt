@@ -38,7 +38,7 @@ module _ (c : CampaignValue) where
     abbrev IsOwn : Unit → Type 0
     IsOwn u = guards u ≡ true → u.region ≡ region → u.faction ≡ faction
 
-    -- a faction that guards stays noted, where all that guard the region are its own
+    -- the map keeps the faction of a region, if all units that guard it are of that faction
     one_stays : (m : GuardMap) (u : Unit) → IsOwn u → get m region ≡ Some faction → get (with_guard_of m u) region ≡ Some faction
     one_stays m u own at = by_test (guards u) own
       where

@@ -120,7 +120,7 @@ module _ (w : WorldValue) (is_of : Verb → Bool) (a : Arrangement) (aliases : A
   both (t ∷ ts) there kept = (record { keyed = refl; there = there.0; kept = kept.0 }, both ts there.1 kept.1)
 
   module _ (fit : AreFit w readings) where
-    -- two that share a slot are one
+    -- two kept orders that share a slot are one order
     are_one : (key other : List ℕ) (t o : Task) → IsKept key t → IsKept other o → share_slot t o ≡ true → t ≡ o
     are_one key other t o one two share =
         let first = and_parts _ _ share in

@@ -15,7 +15,7 @@ use Rattle.atl_instant.specs.Month.{Aliases}
 use Rattle.atl_instant.specs.PhaseOrders.{unit_of, slot_number, is_slot, last_line, tasks_from}
 use Rattle.atl_instant.specs.OrderIndices.{Lines, line_in, with_line}
 
--- the line of a unit in a slot, once a line is noted
+-- the greatest line in a slot for a unit, once a line is noted
 module _ (lines : Lines) (k u line : ℕ) where
   -- the lines of a slot after a line was noted
   group_at : (j : ℕ) → group_of (with_line lines k u line) j ≡ (if j == k then insert (group_of lines k) u (max (line_in lines k u) line) else group_of lines j)

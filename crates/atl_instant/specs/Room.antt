@@ -1,4 +1,4 @@
--- When the amounts of the books are small enough for one more phase.
+-- When the amounts of the books are small enough for one phase.
 use Rattle.std.specs.Prelude.{ℕ, ◌-◌, ◌≤◌}
 use Rattle.atl_records.specs.declared.books.Entry.{Entry}
 use Rattle.atl_records.specs.declared.books.Thing.{Thing}

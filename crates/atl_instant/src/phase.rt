@@ -25,11 +25,11 @@ pub trait Phase {
 
     ghost leaves: { Condition } = { IsSteady };
 
-    // By how much it may move each amount of the books: by less than 10^14 for a phase, and so far for each of some phases.
-    // Where nothing is said it moves none.
+    // By how much it may move each amount of the books: by less than 10^14 for one phase, and by the
+    // sum of their bounds for several. By default it moves none.
     ghost moving: { BookBound } = { moves_nothing };
 
-    // What it leaves to the units whose own faction wrote no order of it.
+    // What it keeps: what is left to the units whose own faction wrote no order of it.
     ghost keeps: { Frame };
 
     /// Runs the phase, with orders as they can be read with the world. AllocError without memory;
