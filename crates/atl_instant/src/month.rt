@@ -26,7 +26,7 @@ pub struct Month {
     aliases: Numbered<Numbered<u32>>,
     words: Vec<u32>,
     events: Vec<Event>,
-    // The indices of the orders that count, by unit, line and faction; None until they are gathered.
+    // The indices of the orders that count, by unit, line and faction; None until gathered.
     standing: Option<Vec<OrderIndex>>,
 }
 

@@ -25,7 +25,7 @@ pub trait Phase {
 
     ghost leaves: { Condition } = { IsSteady };
 
-    // By how much it may move each amount of the books: by less than 10^14 for one phase, and by the
+    // By how much it may move each amount of the books: by less than 10^14 for a phase, and by the
     // sum of their bounds for several. By default it moves none.
     ghost moving: { BookBound } = { moves_nothing };
 
