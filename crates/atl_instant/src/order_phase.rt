@@ -36,7 +36,7 @@ pub trait OrderPhase: PhaseVerbs {
     // By how much the whole phase may move each amount of the books.
     ghost moving: { BookBound } = { moves_nothing };
 
-    // Which units an order concerns, and what stays of the others. With most phases an order concerns
+    // Which units an order concerns, and what stays of the others. With most phases it concerns
     // the unit that it is for, and the others are no worse off.
     ghost concerns: { Affects } = { IsOwnOrder };
 
