@@ -1,4 +1,4 @@
--- Who is learning: those whom an order of STUDY that stands has learn.
+-- Exactly those units are learning that learn by an order of STUDY that counts.
 use Rattle.std.proofs.Common.{◌≡◌, ℕ, Bool, true, false, cond, List, [], ◌∷◌, Option, Some, None, refl, sym, ap, subst, ◌∙◌}
 use Rattle.std.specs.Prelude.{fold, if◌then◌else◌}
 use Rattle.std.specs.List.{AllByRecursion, Contains}
@@ -17,14 +17,15 @@ use Rattle.atl_instant.specs.PhaseOrders.{Task}
 use Rattle.atl_action.specs.Learners.{IsLearning, Learning, UnitsLearnByOrders, learners, learns, skill_of, study_tasks, with_learner}
 
 module _ (w : WorldValue) (c : CampaignValue) where
-  -- what is so of a unit and a skill wherever an order has it learn that
+  -- P holds of the unit and the skill of an order of STUDY, if the unit learns by it
   abbrev IfLearns : (ℕ → ℕ → Type 0) → Task → Type 0
   IfLearns P t = (s : ℕ) → skill_of t.order_value.operands ≡ Some s → learns w s t.faction (get c.units t.unit) ≡ true → P t.unit s
 
-  -- with the unit of an order by which it learns a skill, or nothing
+  -- the map with the unit of an order under this skill, if it learns it; unchanged where the order names no skill
   abbrev with_skill : Learning → Task → Option ℕ → Learning
   with_skill learning t skill = option_map_or (λ s. if learns w s t.faction (get c.units t.unit) then insert learning t.unit s else learning) skill learning
 
+  -- if P holds of all that are learning, and of the unit of an order if it learns, it holds with that unit too
   only_one : (P : ℕ → ℕ → Type 0) (t : Task) (learning : Learning) → IfLearns P t → Every P learning → Every P (with_learner w c learning t)
   only_one P t learning so old = by_skill (skill_of t.order_value.operands) refl
     where
@@ -36,11 +37,12 @@ module _ (w : WorldValue) (c : CampaignValue) where
       by_skill None says = old
       by_skill (Some s) says = by_test s says (learns w s t.faction (get c.units t.unit)) refl
 
+  -- the same for some orders
   only_all : (P : ℕ → ℕ → Type 0) (ts : List Task) (learning : Learning) → AllByRecursion (IfLearns P) ts → Every P learning → Every P (fold (with_learner w c) learning ts)
   only_all P [] learning so old = old
   only_all P (t ∷ ts) learning so old = only_all P ts (with_learner w c learning t) so.1 (only_one P t learning so.0 old)
 
-  -- who is learning stays so
+  -- a unit that is learning still is when another one is added
   there-insert : (learning : Learning) (k s n : ℕ) → IsThere learning n → IsThere (insert learning k s) n
   there-insert learning k s n (x, there) = by_test (eq_by_cmp nat_cmp n k) refl
     where
@@ -48,6 +50,7 @@ module _ (w : WorldValue) (c : CampaignValue) where
       by_test true is = (s, get-insert nat_cmp_total learning k s n ∙ ap (λ b. cond b (Some s) (get learning n)) is)
       by_test false is = (x, get-insert nat_cmp_total learning k s n ∙ ap (λ b. cond b (Some s) (get learning n)) is ∙ there)
 
+  -- a unit that is learning still is after an order of STUDY
   kept_one : (t : Task) (learning : Learning) (n : ℕ) → IsThere learning n → IsThere (with_learner w c learning t) n
   kept_one t learning n there = by_skill (skill_of t.order_value.operands)
     where
@@ -59,22 +62,25 @@ module _ (w : WorldValue) (c : CampaignValue) where
       by_skill None = there
       by_skill (Some s) = by_test s (learns w s t.faction (get c.units t.unit))
 
+  -- a unit that is learning still is after some orders of STUDY
   kept : (ts : List Task) (learning : Learning) (n : ℕ) → IsThere learning n → IsThere (fold (with_learner w c) learning ts) n
   kept [] learning n there = there
   kept (t ∷ ts) learning n there = kept ts (with_learner w c learning t) n (kept_one t learning n there)
 
+  -- the unit of an order is learning after it, if it learns by it
   added : (t : Task) (learning : Learning) → IfLearns (λ n s. IsThere (with_learner w c learning t) n) t
   added t learning s says can =
       subst (λ o. IsThere (with_skill learning t o) t.unit) (sym says)
       (subst (λ b. IsThere (if b then insert learning t.unit s else learning) t.unit) (sym can) (s, get-insert_same learning t.unit s))
 
+  -- each unit that learns by one of some orders is learning after them
   each_all : (ts : List Task) (learning : Learning) → AllByRecursion (IfLearns (λ n s. IsThere (fold (with_learner w c) learning ts) n)) ts
   each_all [] learning = tt
   each_all (t ∷ ts) learning =
       let next = with_learner w c learning t in
       ((λ s says can. kept ts next t.unit (added t learning s says can)), each_all ts next)
 
--- by each of the orders that stand
+-- by each order of STUDY that counts its unit `IsLearning`, if it learns by it
 each_so : (w : WorldValue) (c : CampaignValue) (m : MonthValue) (ts : List Task) → AllByRecursion (Contains (study_tasks m)) ts → AllByRecursion (IfLearns w c (IsLearning w c m)) ts
 each_so w c m [] among = tt
 each_so w c m (t ∷ ts) among = ((λ s says can. record { order = t; stands = among.0; for_unit = refl; says = says; can = can }), each_so w c m ts among.1)

@@ -1,4 +1,4 @@
--- Each number at its first mention, as the numbers that were seen are noted.
+-- Numbers without repetitions: the loop that skips the numbers seen before gives `first_mentions`.
 use Rattle.std.proofs.Common.{◌≡◌, ◌==◌, ℕ, ◌&&◌, not, Bool, true, false, cond, List, [], ◌∷◌, filter, Some, refl, sym, ap, ◌∙◌}
 use Rattle.std.specs.Prelude.{is_some}
 use Rattle.std.specs.Ordering.{nat_cmp}
@@ -7,10 +7,11 @@ use Rattle.std.specs.FinMap.{FinMap, empty, get, get-empty, get-insert, insert}
 use Rattle.atl_tables.proofs.GeneralLaws.{is_equal}
 use Rattle.atl_action.specs.Teach.{first_mentions}
 
--- whether a number wasn't seen yet
+-- whether a number isn't among those seen so far
 abbrev pub is_new : FinMap nat_cmp ℕ → ℕ → Bool
 is_new seen k = not (is_some (get seen k))
 
+-- two filters in turn are one filter by the test that both tests make
 both_filters : (p q r : ℕ → Bool) → ((k : ℕ) → (q k && p k) ≡ r k) → (ns : List ℕ) → filter p (filter q ns) ≡ filter r ns
 both_filters p q r same [] = refl
 both_filters p q r same (n ∷ ns) = by_test (q n) (same n) (both_filters p q r same ns)
@@ -19,7 +20,7 @@ both_filters p q r same (n ∷ ns) = by_test (q n) (same n) (both_filters p q r 
     by_test true is rest = ap (λ l. cond (p n) (n ∷ l) l) rest ∙ ap (λ b. cond b (n ∷ filter r ns) (filter r ns)) is
     by_test false is rest = rest ∙ ap (λ b. cond b (n ∷ filter r ns) (filter r ns)) is
 
--- a number that is noted is new no more
+-- a number is new after another is noted, if it was new and isn't that one
 new_behind : (seen : FinMap nat_cmp ℕ) (n k : ℕ) → (not (k == n) && is_new seen k) ≡ is_new (insert seen n n) k
 new_behind seen n k = by_test (k == n) ∙ sym (ap (λ o. not (is_some o)) (get-insert nat_cmp_total seen n n k ∙ ap (λ b. cond b (Some n) (get seen k)) (sym (unsigned_ties k n))))
   where
@@ -27,7 +28,7 @@ new_behind seen n k = by_test (k == n) ∙ sym (ap (λ o. not (is_some o)) (get-
     by_test true = refl
     by_test false = refl
 
--- and one that was seen before is passed over
+-- a number that is new isn't one that was seen before
 new_before : (seen : FinMap nat_cmp ℕ) (n : ℕ) → is_some (get seen n) ≡ true → (k : ℕ) → (not (k == n) && is_new seen k) ≡ is_new seen k
 new_before seen n there k = by_test (k == n) refl
   where
@@ -35,6 +36,7 @@ new_before seen n there k = by_test (k == n) refl
     by_test true is = sym (ap (λ j. is_new seen j) (is_equal k n is) ∙ ap not there)
     by_test false is = refl
 
+-- a number that is new is the next of the list, and then those come that are new after it
 pub mention : (seen : FinMap nat_cmp ℕ) (n : ℕ) (ns : List ℕ) → is_some (get seen n) ≡ false →
     filter (is_new seen) (first_mentions (n ∷ ns)) ≡ n ∷ filter (is_new (insert seen n n)) (first_mentions ns)
 mention seen n ns new =
@@ -43,6 +45,7 @@ mention seen n ns new =
     rest : List ℕ
     rest = filter (is_new seen) (filter (λ k. not (k == n)) (first_mentions ns))
 
+-- a number that was seen before is skipped
 pub mentioned : (seen : FinMap nat_cmp ℕ) (n : ℕ) (ns : List ℕ) → is_some (get seen n) ≡ true → filter (is_new seen) (first_mentions (n ∷ ns)) ≡ filter (is_new seen) (first_mentions ns)
 mentioned seen n ns there =
     ap (λ b. cond (not b) (n ∷ rest) rest) there ∙ both_filters (is_new seen) (λ k. not (k == n)) (is_new seen) (new_before seen n there) (first_mentions ns)

@@ -1,4 +1,4 @@
--- The same people in other places: how many units there are, of which factions they are, and what they hold.
+-- Units that are put elsewhere are the same people: as many units, of the same factions, that hold the same together.
 use Rattle.std.proofs.Common.{◌≡◌, ◌==◌, ℕ, ◌+◌, Bool, true, false, Option, Some, None, refl, sym, ap, ◌∙◌, arith}
 use Rattle.std.specs.Prelude.{option_map, if◌then◌else◌}
 use Rattle.std.specs.Ordering.{nat_cmp}
@@ -20,17 +20,21 @@ use Rattle.atl_instant.proofs.OutcomeLaws.{false_true}
 use Rattle.atl_instant.proofs.StructureLaws.{at_number, get-changed}
 use Rattle.atl_action.proofs.TravelLaws.{IsSameUnit}
 
+-- there are as many units, each faction has the same numbers of units, and all together hold the same
 pub record AreSamePeople (before after : FinMap nat_cmp Unit) : Type 0 where
   pub count : len after ≡ len before
   pub of_factions : (m : ℕ) → numbers_of m after ≡ numbers_of m before
   pub hold : (t : Thing) → sum_over (λ (x : Unit). unit_amount t x.holding) after ≡ sum_over (λ (x : Unit). unit_amount t x.holding) before
 
+-- units are the same people as themselves
 pub people_same : (m : FinMap nat_cmp Unit) → AreSamePeople m m
 people_same m = record { count = refl; of_factions = λ k. refl; hold = λ t. refl }
 
+-- two changes that keep the people keep them together
 pub people_twice : (a b c : FinMap nat_cmp Unit) → AreSamePeople a b → AreSamePeople b c → AreSamePeople a c
 people_twice a b c one two = record { count = two.count ∙ one.count; of_factions = λ k. two.of_factions k ∙ one.of_factions k; hold = λ t. two.hold t ∙ one.hold t }
 
+-- a unit that is the same but for its location and flag holds as much of each thing
 held_same : (u v : Unit) → IsSameUnit u v → (t : Thing) → unit_amount t v.holding ≡ unit_amount t u.holding
 held_same u v same Money = same.money
 held_same u v same People = same.men
@@ -40,6 +44,7 @@ cancelled : (a b p q : ℕ) → a + p ≡ b + q → q ≡ p → a ≡ b
 cancelled a b p q e f = omega arith
 
 module _ (f : Unit → Unit) (same : (u : Unit) → IsSameUnit u (f u)) (m : FinMap nat_cmp Unit) (k : ℕ) where
+  -- a change of unit k keeps the people, by whether it is there
   changed_by : (o : Option Unit) → get m k ≡ o → AreSamePeople m (changed_at f m k o)
   changed_by None is = people_same m
   changed_by (Some u) is = record {
@@ -50,65 +55,75 @@ module _ (f : Unit → Unit) (same : (u : Unit) → IsSameUnit u (f u)) (m : Fin
         cancelled (sum_over stock (insert m k (f u))) (sum_over stock m) (stock u) (stock (f u)) (sum_over-insert_known stock m k u (f u) is) (held_same u (f u) (same u) t);
   }
 
-  -- one unit changes
+  -- a change of one unit that keeps all but its location and flag keeps the people
   pub people_changed : AreSamePeople m (changed f m k)
   people_changed = changed_by (get m k) refl
 
 -- ---- units that are put elsewhere, with their flags cleared
 
 module _ (structure to : ℕ) where
+  -- the unit in region `to`, inside this structure
   abbrev put_there : Unit → Unit
   put_there x = record x { region = to; structure = structure }
 
+  -- the unit with its guard flag cleared
   abbrev flag_off : Unit → Unit
   flag_off x = record x { holding = record x.holding { guard = false } }
 
+  -- the unit in region `to`, inside this structure, with its guard flag cleared
   abbrev pub gone : Unit → Unit
   gone x = flag_off (put_there x)
 
+  -- the unit, gone if b is true
   abbrev pub gone_if : Bool → Unit → Unit
   gone_if b x = if b then gone x else x
 
-  -- the units with one of them elsewhere
+  -- the units with number n gone: in region `to`, inside this structure, with its guard flag cleared
   abbrev pub elsewhere : FinMap nat_cmp Unit → ℕ → FinMap nat_cmp Unit
   elsewhere m n = changed flag_off (changed put_there m n) n
 
+  -- they are the same people
   pub elsewhere_people : (m : FinMap nat_cmp Unit) (n : ℕ) → AreSamePeople m (elsewhere m n)
   elsewhere_people m n =
       people_twice m (changed put_there m n) (elsewhere m n)
       (people_changed put_there (λ x. record { faction = refl; name = refl; men = refl; money = refl; items = refl; days = refl }) m n)
       (people_changed flag_off (λ x. record { faction = refl; name = refl; men = refl; money = refl; items = refl; days = refl }) (changed put_there m n) n)
 
+  -- a look-up of unit k after its location and then its flag were changed
   elsewhere_by : (m : FinMap nat_cmp Unit) (n k : ℕ) (b : Bool) → (k == n) ≡ b → (o : Option Unit) → option_map (at_number flag_off (changed put_there m n) n k) (option_map (at_number put_there m n k) o) ≡ option_map (gone_if (k == n)) o
   elsewhere_by m n k b t None = refl
   elsewhere_by m n k true t (Some x) = rw t refl
   elsewhere_by m n k false t (Some x) = rw t refl
 
+  -- a look-up among them
   pub elsewhere_at : (m : FinMap nat_cmp Unit) (n k : ℕ) → get (elsewhere m n) k ≡ option_map (gone_if (k == n)) (get m k)
   elsewhere_at m n k =
       get-changed flag_off (changed put_there m n) n k ∙ ap (option_map (at_number flag_off (changed put_there m n) n k)) (get-changed put_there m n k)
       ∙ elsewhere_by m n k (k == n) refl (get m k)
 
+  -- each structure has the same units inside after a unit changed that is inside the same one
   inside_changed : (f : Unit → Unit) (m : FinMap nat_cmp Unit) (n q : ℕ) (v : Unit) → get m n ≡ Some v → (v.structure == q) ≡ ((f v).structure == q) → numbers_inside q (changed f m n) ≡ numbers_inside q m
   inside_changed f m n q v is same = ap (λ o. numbers_inside q (changed_at f m n o)) is ∙ inside_as_before q m (insert m n (f v)) (numbers_where-insert_known (λ (x : Unit). x.structure == q) m n v (f v) is same)
 
-  -- who is inside goes along, and everybody is inside what it was inside
+  -- each structure has the same units inside, if unit n was inside this structure already
   pub elsewhere_inside : (m : FinMap nat_cmp Unit) (n q : ℕ) (v : Unit) → get m n ≡ Some v → v.structure ≡ structure → numbers_inside q (elsewhere m n) ≡ numbers_inside q m
   elsewhere_inside m n q v is here =
       inside_changed flag_off (changed put_there m n) n q (at_number put_there m n n v) (get-changed put_there m n n ∙ ap (option_map (at_number put_there m n n)) is) refl
       ∙ inside_changed put_there m n q v is (ap (λ s. s == q) here)
 
+  -- a unit that is gone is the same but for its location and flag
   pub gone_same : (b : Bool) (x : Unit) → IsSameUnit x (gone_if b x)
   gone_same true x = record { faction = refl; name = refl; men = refl; money = refl; items = refl; days = refl }
   gone_same false x = record { faction = refl; name = refl; men = refl; money = refl; items = refl; days = refl }
 
-  -- who guards has stayed
+  -- a unit that guards after is as it was
   pub guards_stay : (b : Bool) (x : Unit) → guards (gone_if b x) ≡ true → gone_if b x ≡ x
   guards_stay true x g = false_true g
   guards_stay false x g = refl
 
 -- ---- the totals
 
+-- the totals of the campaign are the same with the same people and regions
 pub total_people : (c d : CampaignValue) → AreSamePeople c.units d.units → d.regions ≡ c.regions → (t : Thing) → total d t ≡ total c t
 unfolding total
 total_people c d people regions t =

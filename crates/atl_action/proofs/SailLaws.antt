@@ -1,4 +1,4 @@
--- SAIL leaves a campaign well, and takes along at most who is inside a ship.
+-- SAIL leaves a campaign well: a ship goes with the units inside it, and no other unit changes.
 use Rattle.std.proofs.Common.{◌≡◌, ◌≢◌, ◌==◌, ◌&&◌, ◌||◌, ◌+◌, ℕ, Bool, true, false, not, List, [], ◌∷◌, sum_by, Option, Some, None, refl, sym, ap, subst, ◌∙◌, inl, inr, arith}
 use Rattle.std.specs.Prelude.{IfSome, fold, nat_lt, option_map, unwrap_or, if◌then◌else◌}
 use Rattle.std.specs.List.{AllByRecursion, list_any}
@@ -43,7 +43,7 @@ use Rattle.atl_instant.specs.Unbooked.{moves_nothing}
 use Rattle.atl_instant.proofs.MeaningLaws.{same_month_by}
 use Rattle.atl_instant.proofs.OutcomeLaws.{false_true, none_fits}
 use Rattle.atl_instant.proofs.RefitLaws.{under}
-use Rattle.atl_instant.proofs.StructureLaws.{at_number, changed_else, equal, get-changed, len-changed}
+use Rattle.atl_instant.proofs.StructureLaws.{at_number, changed_else, equal_passes, get-changed, len-changed}
 use Rattle.atl_instant.proofs.OrderEffectLaws.{carried_cases, well_same}
 use Rattle.atl_instant.specs.NoWorse.{IsUnchanged}
 use Rattle.atl_instant.proofs.UnbookedLaws.{stays_well}
@@ -52,24 +52,27 @@ use Rattle.atl_action.specs.Regions.{is_region}
 use Rattle.atl_action.proofs.PeopleLaws.{AreSamePeople, elsewhere, elsewhere_at, elsewhere_inside, elsewhere_people, gone_if, gone_same, guards_stay, people_same, people_twice, total_people}
 use Rattle.atl_action.proofs.TravelLaws.{AreTravelled, IsPut, IsSameStructure, steady-travelled, travelled}
 
+-- the structure that a unit is inside; 0 where it isn't there
 abbrev structure_in : Option Unit → ℕ
 structure_in o = option_map_or (λ (x : Unit). x.structure) o 0
 
--- what a unit counts, 0 where there is none
+-- a number that a unit's holding gives; 0 where the unit isn't there
 abbrev of_unit : (HoldingValue → ℕ) → Option Unit → ℕ
 of_unit f o = option_map_or (λ (x : Unit). f x.holding) o 0
 
 -- ---- lists of units
 
+-- a number in a list is found in it
 any_listed : (k : ℕ) (ns : List ℕ) → IsListed k ns → list_any (λ n. k == n) ns ≡ true
 any_listed k [] listed = absurd listed
-any_listed k (n ∷ ns) (inl same) = ap (λ b. b || list_any (λ n. k == n) ns) (equal k n same)
+any_listed k (n ∷ ns) (inl same) = ap (λ b. b || list_any (λ n. k == n) ns) (equal_passes k n same)
 any_listed k (n ∷ ns) (inr listed) = ap (λ b. (k == n) || b) (any_listed k ns listed) ∙ or_true (k == n)
   where
     or_true : (b : Bool) → (b || true) ≡ true
     or_true true = refl
     or_true false = refl
 
+-- a number that is found in a list is in it
 listed_any : (k : ℕ) (ns : List ℕ) → list_any (λ n. k == n) ns ≡ true → IsListed k ns
 listed_any k [] e = false_true e
 listed_any k (n ∷ ns) e = by_test (k == n) refl e (λ rest. listed_any k ns rest)
@@ -78,6 +81,7 @@ listed_any k (n ∷ ns) e = by_test (k == n) refl e (λ rest. listed_any k ns re
     by_test true t e rest = inl (is_equal k n t)
     by_test false t e rest = inr (rest e)
 
+-- P holds of all elements of a list, if it holds of each
 all_listed : (P : ℕ → Type 0) (ns : List ℕ) → ((k : ℕ) → IsListed k ns → P k) → AllByRecursion P ns
 all_listed P [] h = tt
 all_listed P (n ∷ ns) h = (h n (inl refl), all_listed P ns (λ k l. h k (inr l)))
@@ -85,35 +89,42 @@ all_listed P (n ∷ ns) h = (h n (inl refl), all_listed P ns (λ k l. h k (inr l
 -- ---- units that go along
 
 module _ (ship to : ℕ) where
+  -- units that go along one after another are the same people
   all_people : (m : FinMap nat_cmp Unit) (ns : List ℕ) → AreSamePeople m (fold (elsewhere ship to) m ns)
   all_people m [] = people_same m
   all_people m (n ∷ ns) = people_twice m (elsewhere ship to m n) (fold (elsewhere ship to) (elsewhere ship to m n) ns) (elsewhere_people ship to m n) (all_people (elsewhere ship to m n) ns)
 
+  -- a unit that goes along by one of two tests does so by either
   mapped_both : (a b : Bool) (o : Option Unit) → option_map (gone_if ship to b) (option_map (gone_if ship to a) o) ≡ option_map (gone_if ship to (a || b)) o
   mapped_both a b None = refl
   mapped_both true true (Some x) = refl
   mapped_both true false (Some x) = refl
   mapped_both false b (Some x) = refl
 
+  -- a unit that doesn't go along is as it was
   mapped_none : (o : Option Unit) → o ≡ option_map (gone_if ship to false) o
   mapped_none None = refl
   mapped_none (Some x) = refl
 
+  -- a look-up among the units after those of a list went along
   all_at : (m : FinMap nat_cmp Unit) (ns : List ℕ) (k : ℕ) → get (fold (elsewhere ship to) m ns) k ≡ option_map (gone_if ship to (list_any (λ n. k == n) ns)) (get m k)
   all_at m [] k = mapped_none (get m k)
   all_at m (n ∷ ns) k =
       all_at (elsewhere ship to m n) ns k ∙ ap (option_map (gone_if ship to (list_any (λ n. k == n) ns))) (elsewhere_at ship to m n k)
       ∙ mapped_both (k == n) (list_any (λ n. k == n) ns) (get m k)
 
+  -- the unit of this number is there, and is inside the ship
   abbrev IsInside : FinMap nat_cmp Unit → ℕ → Type 0
   IsInside m n = (v : Unit) × (get m n ≡ Some v) × (v.structure ≡ ship)
 
+  -- a unit inside the ship that goes along changes nothing but the units
   one_is : (d : CampaignValue) (n : ℕ) (v : Unit) → get d.units n ≡ Some v → v.structure ≡ ship → with_unit_aboard ship to d n ≡ record d { units = elsewhere ship to d.units n }
   unfolding with_place
   one_is d n v is here =
       ap (λ o. with_guard (with_place_at d n to ship o) n false) is
-      ∙ ap (λ b. with_guard (if b then placed d n to ship else after_handover (after_handover (placed d n to ship) v.structure n (heir d v.structure n)) ship 0 n) n false) (equal v.structure ship here)
+      ∙ ap (λ b. with_guard (if b then placed d n to ship else after_handover (after_handover (placed d n to ship) v.structure n (heir d v.structure n)) ship 0 n) n false) (equal_passes v.structure ship here)
 
+  -- a unit inside the ship still is when another one went along
   still_inside : (m : FinMap nat_cmp Unit) (n k : ℕ) → IsInside m k → IsInside (elsewhere ship to m n) k
   still_inside m n k (v, there, here) = (gone_if ship to (k == n) v, elsewhere_at ship to m n k ∙ ap (option_map (gone_if ship to (k == n))) there, by_test (k == n))
     where
@@ -121,16 +132,19 @@ module _ (ship to : ℕ) where
       by_test true = refl
       by_test false = here
 
+  -- all units inside the ship still are when another one went along
   still_all : (m : FinMap nat_cmp Unit) (n : ℕ) (ns : List ℕ) → AllByRecursion (IsInside m) ns → AllByRecursion (IsInside (elsewhere ship to m n)) ns
   still_all m n [] all = tt
   still_all m n (k ∷ ns) all = (still_inside m n k all.0, still_all m n ns all.1)
 
+  -- units inside the ship that go along change nothing but the units
   all_is : (d : CampaignValue) (ns : List ℕ) → AllByRecursion (IsInside d.units) ns → fold (with_unit_aboard ship to) d ns ≡ record d { units = fold (elsewhere ship to) d.units ns }
   all_is d [] all = refl
   all_is d (n ∷ ns) all =
       let (v, there, here) = all.0 in
       ap (λ e. fold (with_unit_aboard ship to) e ns) (one_is d n v there here) ∙ all_is (record d { units = elsewhere ship to d.units n }) ns (still_all d.units n ns all.1)
 
+  -- each structure has the same units inside after they went along
   all_inside : (q : ℕ) (m : FinMap nat_cmp Unit) (ns : List ℕ) → AllByRecursion (IsInside m) ns → numbers_inside q (fold (elsewhere ship to) m ns) ≡ numbers_inside q m
   all_inside q m [] all = refl
   all_inside q m (n ∷ ns) all =
@@ -140,38 +154,48 @@ module _ (ship to : ℕ) where
 -- ---- a ship that goes
 
 module _ (w : WorldValue) (c : CampaignValue) (ship to : ℕ) (steady : IsSteady w c) (x : Structure) (is : get c.structures ship ≡ Some x) where
+  -- the numbers of the units inside the ship
   abbrev ns : List ℕ
   ns = numbers_inside ship c.units
 
+  -- the units after those inside went along
   abbrev units : FinMap nat_cmp Unit
   units = fold (elsewhere ship to) c.units ns
 
+  -- a structure in region `to`
   abbrev shifted : Structure → Structure
   shifted y = record y { region = to }
 
+  -- the structures with the ship in region `to`
   abbrev structures : FinMap nat_cmp Structure
   structures = changed shifted c.structures ship
 
+  -- the unit of number k after the ship went
   abbrev f : ℕ → Unit → Unit
   f k v = gone_if ship to (v.structure == ship) v
 
+  -- the structure of number k after the ship went
   abbrev g : ℕ → Structure → Structure
   g = at_number shifted c.structures ship
 
+  -- the campaign after the ship went
   abbrev behind : CampaignValue
   behind = travelled w c units structures f g
 
+  -- each unit listed as inside the ship is inside it
   is_inside : (k : ℕ) → IsListed k ns → IsInside ship to c.units k
   is_inside k listed = listed_is_inside ship c.units k listed
 
+  -- `after_sailing` makes this campaign
   sailed_is : after_sailing c ship to ≡ behind
   unfolding after_sailing
   sailed_is = ap (λ d. with_structure_region d ship to) (all_is ship to c ns (all_listed (IsInside ship to c.units) ns is_inside))
 
+  -- the ship's number isn't 0
   some_ship : ship ≢ 0
   some_ship = is_no_zero c.structures c.next_structure steady.next.structures ship x is
 
-  -- who goes along is who is inside
+  -- a unit is in the list of those inside exactly if it is inside the ship
   member_by : (k : ℕ) (v : Unit) → get c.units k ≡ Some v → (a b : Bool) → (v.structure == ship) ≡ a → list_any (λ n. k == n) ns ≡ b → b ≡ a
   member_by k v there true true t e = refl
   member_by k v there false false t e = refl
@@ -180,12 +204,13 @@ module _ (w : WorldValue) (c : CampaignValue) (ship to : ℕ) (steady : IsSteady
       let (u, at, inside) = listed_is_inside ship c.units k (listed_any k ns e) in
       let one : Some u ≡ Some v = sym at ∙ there in
       let unit : u ≡ v = cc in
-      sym (equal u.structure ship inside) ∙ ap (λ (y : Unit). y.structure == ship) unit ∙ t
+      sym (equal_passes u.structure ship inside) ∙ ap (λ (y : Unit). y.structure == ship) unit ∙ t
 
   units_by : (k : ℕ) (o : Option Unit) → get c.units k ≡ o → option_map (gone_if ship to (list_any (λ n. k == n) ns)) o ≡ option_map (f k) o
   units_by k None there = refl
   units_by k (Some v) there = ap (λ b. Some (gone_if ship to b v)) (member_by k v there (v.structure == ship) (list_any (λ n. k == n) ns) refl refl)
 
+  -- a look-up of a unit after the ship went
   units_at : (k : ℕ) → get units k ≡ option_map (f k) (get c.units k)
   units_at k = all_at ship to c.units ns k ∙ units_by k (get c.units k) refl
 
@@ -193,19 +218,24 @@ module _ (w : WorldValue) (c : CampaignValue) (ship to : ℕ) (steady : IsSteady
   inside_by v true t = sym (is_equal v.structure ship t)
   inside_by v false t = refl
 
+  -- each unit is inside the structure that it was inside
   inside_same : (k : ℕ) (v : Unit) → (f k v).structure ≡ v.structure
   inside_same k v = inside_by v (v.structure == ship) refl
 
+  -- the ship is in region `to`
   at_ship : get structures ship ≡ Some (shifted x)
-  at_ship = get-changed shifted c.structures ship ship ∙ ap (option_map (g ship)) is ∙ ap (λ b. Some (if b then shifted x else x)) (equal ship ship refl)
+  at_ship = get-changed shifted c.structures ship ship ∙ ap (option_map (g ship)) is ∙ ap (λ b. Some (if b then shifted x else x)) (equal_passes ship ship refl)
 
+  -- every other structure stays as it was
   at_other : (q : ℕ) → q ≢ ship → get structures q ≡ get c.structures q
   at_other q apart = changed_else shifted c.structures ship q apart (get c.structures ship)
 
+  -- a structure is the same but for its region
   ship_same : (q : ℕ) (y : Structure) (b : Bool) → IsSameStructure y (if b then shifted y else y)
   ship_same q y true = record { kind = refl; done = refl; name = refl }
   ship_same q y false = record { kind = refl; done = refl; name = refl }
 
+  -- each structure has its right owner
   ship_owned : (q : ℕ) (y : Structure) → get c.structures q ≡ Some y → (b : Bool) → IsOwned behind q (if b then shifted y else y)
   ship_owned q y there b = by_test b
     where
@@ -223,6 +253,7 @@ module _ (w : WorldValue) (c : CampaignValue) (ship to : ℕ) (steady : IsSteady
       by_test true = record { owned = owned; ownerless = ownerless }
       by_test false = record { owned = owned; ownerless = ownerless }
 
+  -- the ship's number isn't 0
   ship_some : ship ≢ 0
   ship_some zero = none_some x (sym steady.next.structures.first ∙ ap (get c.structures) (sym zero) ∙ is)
 
@@ -268,6 +299,7 @@ module _ (w : WorldValue) (c : CampaignValue) (ship to : ℕ) (steady : IsSteady
       guarding = λ k v there. guards_stay ship to (v.structure == ship) v;
     }
 
+    -- sailing a complete ship to a region that is there leaves the campaign well
     pub sailed_well : StepsWell IsSteady books_nothing w c (after_sailing c ship to)
     sailed_well =
         subst (StepsWell IsSteady books_nothing w c) (sym sailed_is)
@@ -276,6 +308,7 @@ module _ (w : WorldValue) (c : CampaignValue) (ship to : ℕ) (steady : IsSteady
 
   -- ---- what stays of each unit
 
+  -- a unit that goes along with its ship, or stays, at most goes along
   carried_by : (v : Unit) (b : Bool) → (v.structure == ship) ≡ b → IsAtMostMoved v (gone_if ship to b v)
   carried_by v true t =
       let here : v.structure ≡ ship = is_equal v.structure ship t in
@@ -293,12 +326,13 @@ module _ (w : WorldValue) (c : CampaignValue) (ship to : ℕ) (steady : IsSteady
       }
   carried_by v false t = record { faction = refl; structure = refl; region = λ none. refl; name = refl; guard = λ none. refl; no_flag = λ off. off; men = omega arith; money = omega arith; items = λ i. omega arith; days = λ s. omega arith }
 
+  -- each unit at most went along
   pub sailed_spares : (k : ℕ) (v : Unit) → get c.units k ≡ Some v → IsUnaffected IsAtMostMoved (after_sailing c ship to) k v
   sailed_spares k v there =
       subst (λ d. IsUnaffected IsAtMostMoved d k v) (sym sailed_is)
       (record { unit = f k v; there = units_at k ∙ ap (option_map (f k)) there; spared = carried_by v (v.structure == ship) refl })
 
-  -- everybody stays inside what it was inside
+  -- each unit is inside the structure that it was inside
   pub sailed_inside : (k : ℕ) → inside (after_sailing c ship to) k ≡ inside c k
   sailed_inside k = ap (λ d. inside d k) sailed_is ∙ ap structure_in (units_at k) ∙ by_unit (get c.units k)
     where
@@ -306,7 +340,7 @@ module _ (w : WorldValue) (c : CampaignValue) (ship to : ℕ) (steady : IsSteady
       by_unit None = refl
       by_unit (Some v) = inside_same k v
 
-  -- who isn't inside the ship stays as it is
+  -- a unit that isn't inside the ship stays as it was
   sailed_same : (k : ℕ) → inside c k ≢ ship → get (after_sailing c ship to).units k ≡ get c.units k
   sailed_same k apart = ap (λ d. get d.units k) sailed_is ∙ units_at k ∙ by_unit (get c.units k) apart
     where
@@ -314,17 +348,21 @@ module _ (w : WorldValue) (c : CampaignValue) (ship to : ℕ) (steady : IsSteady
       by_unit None apart = refl
       by_unit (Some v) apart = ap (λ b. Some (gone_if ship to b v)) (other_number v.structure ship apart)
 
+  -- every other structure stays as it was
   sailed_structure : (q : ℕ) → q ≢ ship → get (after_sailing c ship to).structures q ≡ get c.structures q
   sailed_structure q apart = ap (λ d. get d.structures q) sailed_is ∙ at_other q apart
 
+  -- each structure has the same units inside
   sailed_list : (q : ℕ) → numbers_inside q (after_sailing c ship to).units ≡ numbers_inside q c.units
   sailed_list q = ap (λ d. numbers_inside q d.units) sailed_is ∙ all_inside ship to q c.units ns (all_listed (IsInside ship to c.units) ns is_inside)
 
 -- ---- an order
 
+-- a unit that stays as it is at most went along
 carried_same : (v : Unit) → IsAtMostMoved v v
 carried_same v = record { faction = refl; structure = refl; region = λ none. refl; name = refl; guard = λ none. refl; no_flag = λ off. off; men = omega arith; money = omega arith; items = λ i. omega arith; days = λ s. omega arith }
 
+-- a unit that at most went along in each of two changes did so in both
 carried_twice : (u v x : Unit) → IsAtMostMoved u v → IsAtMostMoved v x → IsAtMostMoved u x
 carried_twice u v x one two = record {
   faction = two.faction ∙ one.faction;
@@ -339,9 +377,11 @@ carried_twice u v x one two = record {
   days = λ s. omega (arith, one.days s, two.days s);
 }
 
+-- `IsAtMostMoved` is reflexive and transitive, and keeps the faction
 carried_spares : IsUnaffectedRelation IsAtMostMoved
 carried_spares = record { same = carried_same; again = carried_twice; faction = λ u v h. h.faction }
 
+-- a region of the world is there
 region_there : (w : WorldValue) (r : ℕ) → is_region w r ≡ true → IsThere w.regions r
 region_there w r is = by_plan (get w.regions r) refl is
   where
@@ -349,11 +389,13 @@ region_there w r is = by_plan (get w.regions r) refl is
     by_plan None there t = false_true t
     by_plan (Some p) there t = (p, there)
 
+-- the region of a way is one of the world
 way_there : (w : WorldValue) (from : ℕ) (to : Option ℕ) → not (is_way w from to) ≡ false → IsThere w.regions (unwrap_or to 0)
 way_there w from None t = false_true (sym t)
 way_there w from (Some r) t = region_there w r (and_parts (is_region w r) (not (is_land_at w from && is_land_at w r)) (not-false (is_way w from (Some r)) t)).0
 
--- what is so of the campaign as it is, and of that in which a whole ship has gone, is so of the campaign behind the order
+-- P holds of the result of an order of SAIL, if it holds of each outcome without a change, and wherever a complete ship
+-- sailed to a region of the world
 sail_cases : (P : CampaignValue × Outcome → Type 0) (w : WorldValue) (c : CampaignValue) (n : ℕ) (u : Unit) (direction : Direction) → ((outcome : Outcome) → P (c, outcome))
     → ((to : ℕ) (x : Structure) → get c.structures u.structure ≡ Some x → is_ship w x ≡ true → x.done ≡ size_of w x.kind → IsThere w.regions to → P (after_sailing c u.structure to, Done 0)) → P (sail w n direction c u)
 unfolding sail
@@ -382,16 +424,19 @@ sail_cases P w c n u direction same gone_off =
         let five = none_fits (not (is_way w u.region to)) NoWay crew four.1 in
         by_ship to ship refl four.0 five.0
 
+-- an order of SAIL is a step that leaves the campaign well
 sail_well : (w : WorldValue) (c : CampaignValue) (n : ℕ) (u : Unit) (direction : Direction) → IsSteady w c → StepsWell IsSteady books_nothing w c (sail w n direction c u).0
 sail_well w c n u direction steady =
     sail_cases (λ p. StepsWell IsSteady books_nothing w c p.0) w c n u direction (λ outcome. well_same w c steady)
     (λ to x at floats whole there. sailed_well w c u.structure to steady x at floats whole ((steady.known.regions to).1 there))
 
+-- by an order of SAIL each unit at most goes along
 sail_spares : (w : WorldValue) (c : CampaignValue) (n : ℕ) (u : Unit) (direction : Direction) → IsSteady w c → (k : ℕ) (v : Unit) → get c.units k ≡ Some v → IsUnaffected IsAtMostMoved (sail w n direction c u).0 k v
 sail_spares w c n u direction steady k v there =
     sail_cases (λ p. IsUnaffected IsAtMostMoved p.0 k v) w c n u direction (λ outcome. record { unit = v; there = there; spared = carried_same v })
     (λ to x at floats whole near. sailed_spares w c u.structure to steady x at k v there)
 
+-- the step of SAIL is orderly
 pub sail_orderly : IsOrderly sail_step IsSteady books_nothing moves_nothing concerns_nobody IsAtMostMoved
 sail_orderly = record {
   well = λ w a c t x steady fit own. well w c t.unit x steady t.order_value.operands;
@@ -408,18 +453,20 @@ sail_orderly = record {
     spared w c n x steady k v there (operands.Direction direction) = sail_spares w c n x direction steady k v there
     spared w c n x steady k v there other = tt
 
+-- if each unit is spared as one that no order concerns, each at most went along
 pub all_carried : (w : WorldValue) (m : MonthValue) (c d : CampaignValue) → spares_others concerns_nobody IsAtMostMoved is_sailing w m c d → AreAtMostMoved c d
 all_carried w m c d keeps n u there = keeps n u there (λ k d l nobody. nobody)
 
--- ---- who stays: where what it is inside doesn't sail
+-- ---- units that stay: those whose structure doesn't sail
 
+-- sums over a list of two numbers that are the same for each element are the same
 sum_same : (g h : ℕ → ℕ) (ns : List ℕ) → ((k : ℕ) → IsListed k ns → g k ≡ h k) → sum_by g ns ≡ sum_by h ns
 sum_same g h [] same = refl
 sum_same g h (n ∷ ns) same =
     sum_by-cons g n ns ∙ ap (λ a. a + sum_by g ns) (same n (inl refl)) ∙ ap (λ r. h n + r) (sum_same g h ns (λ k l. same k (inr l)))
     ∙ sym (sum_by-cons h n ns)
 
--- why a unit doesn't sail, by what it is inside and what all inside are worth as a crew and weigh
+-- the fault of SAIL, from the unit, its structure, and the crew and load of all inside
 abbrev fault_with : WorldValue → (n : ℕ) → Unit → (to : Option ℕ) → Option Structure → (crew load : ℕ) → Option EventFault
 fault_with w n u to ship crew load = first_fault (
     (u.holding.men == 0, NoMen)
@@ -431,16 +478,18 @@ fault_with w n u to ship crew load = first_fault (
     ∷ (nat_lt (capacity w ship) load, TooHeavy)
     ∷ [])
 
+-- an order has the same outcome in two campaigns, if it has the same fault
 unless_told : (c d x y : CampaignValue) (o : Option EventFault) → (unless c o (x, Done 0)).1 ≡ (unless d o (y, Done 0)).1
 unless_told c d x y None = refl
 unless_told c d x y (Some fault) = refl
 
 module _ (w : WorldValue) (begun : CampaignValue) (number faction : ℕ) where
-  -- what the unit is inside
+  -- the number of the structure that unit `number` is inside as the phase begins
   abbrev s : ℕ
   s = inside begun number
 
-  -- everybody is inside what it was inside as the phase began, and what the unit is inside is as it was, with all that are inside
+  -- Each unit is inside the structure that it was inside as the phase began.
+  -- The structure that unit `number` is inside is as it was, and so are all units inside it.
   record IsAsBegun (c : CampaignValue) : Type 0 where
     pub steady : IsSteady w c
     pub places : (k : ℕ) → inside c k ≡ inside begun k
@@ -463,7 +512,7 @@ module _ (w : WorldValue) (begun : CampaignValue) (number faction : ℕ) where
         ∙ ap (λ crew. fault_with w n u to (get begun.structures u.structure) crew (sum_inside (load_of w) c u.structure)) (subst (λ q. sum_inside (crew_of w) c q ≡ sum_inside (crew_of w) begun q) (sym here) (sum_inside_same (crew_of w)))
         ∙ ap (fault_with w n u to (get begun.structures u.structure) (sum_inside (crew_of w) begun u.structure)) (subst (λ q. sum_inside (load_of w) c q ≡ sum_inside (load_of w) begun q) (sym here) (sum_inside_same (load_of w)))
 
-    -- an order for a unit inside comes to what it would have come to as the phase began
+    -- an order for a unit inside has the outcome that it would have had as the phase began
     told_same : (n : ℕ) (u : Unit) (direction : Direction) → u.structure ≡ s → (sail w n direction c u).1 ≡ (sail w n direction begun u).1
     unfolding sail
     told_same n u direction here =
@@ -471,7 +520,7 @@ module _ (w : WorldValue) (begun : CampaignValue) (number faction : ℕ) where
         ap (λ o. (unless c o (after_sailing c u.structure (unwrap_or to 0), Done 0)).1) (fault_same n u to here)
         ∙ unless_told c begun (after_sailing c u.structure (unwrap_or to 0)) (after_sailing begun u.structure (unwrap_or to 0)) (sail_fault w begun n u (get begun.structures u.structure) to)
 
-    -- and so where the unit may be another faction's
+    -- the same where the unit may be another faction's
     carried_same_told : (f n : ℕ) (direction : Direction) → inside begun n ≡ s → (faction_effect (sail w n direction) c f n).1 ≡ (faction_effect (sail w n direction) begun f n).1
     carried_same_told f n direction here = ap (λ o. (effect_on (sail w n direction) c (of_faction f o)).1) (same.units n here) ∙ by_unit (get begun.units n) here
       where
@@ -503,12 +552,14 @@ module _ (w : WorldValue) (begun : CampaignValue) (number faction : ℕ) where
     task_stays : (m : MonthValue) (t : Task) → (SailsWith w begun t number faction → ⊥) → IsAsBegun (one_order sail_step w (c, m) t).0
     task_stays m t apart = order_stays t.faction t.unit t.order_value.operands (λ in_it done. apart (record { together = in_it; done = done }))
 
+  -- orders by which the structure doesn't sail keep what `IsAsBegun` says
   tasks_stay : (c : CampaignValue) (m : MonthValue) (ts : List Task) → IsAsBegun c → AllByRecursion (λ t. SailsWith w begun t number faction → ⊥) ts → IsAsBegun (fold (one_order sail_step w) (c, m) ts).0
   tasks_stay c m [] same others = same
   tasks_stay c m (t ∷ ts) same others =
       let next = one_order sail_step w (c, m) t in
       tasks_stay next.0 next.1 ts (task_stays c same m t others.0) others.1
 
+-- a unit whose ship doesn't sail stays as it was
 pub sail_spares_others : (w : WorldValue) (c : CampaignValue) (m : MonthValue) → IsSteady w c → spares_others (SailsWith w c) IsUnchanged is_sailing w m c (sail_spec.meaning w c m).0
 unfolding meaning_by_orders
 sail_spares_others w c m steady n u there others =

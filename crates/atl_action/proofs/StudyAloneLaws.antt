@@ -1,4 +1,4 @@
--- A unit behind STUDY is as its own order makes it alone.
+-- After the phase a unit is as its own order of STUDY alone makes it.
 use Rattle.std.proofs.Common.{◌≡◌, ◌==◌, ℕ, suc, zero, ◌-◌, ◌*◌, ◌<◌, Bool, true, false, ◌&&◌, List, [], ◌∷◌, length, Option, Some, None, refl, sym, ap, subst, ◌∙◌, inl, inr, arith}
 use Rattle.std.specs.Prelude.{IfSome, fold, if◌then◌else◌}
 use Rattle.std.proofs.lemmas.Bool.{cases_eq}
@@ -42,18 +42,23 @@ use Rattle.atl_action.proofs.UnmailedLearnLaws.{taught_told}
 -- ---- an order reads its own unit and the structures
 
 module _ (w : WorldValue) (taught n s : ℕ) (c d : CampaignValue) (u : Unit) (in_c : get c.units n ≡ Some u) (in_d : get d.units n ≡ Some u) (structures : d.structures ≡ c.structures) where
+  -- the fee of the unit's men
   abbrev cost : ℕ
   cost = fee_of w s * u.holding.men
 
+  -- the days of the skill that the unit has after a month of study, with the structures of a campaign
   abbrev days_in : CampaignValue → ℕ
   days_in b = days_after u.holding.men (amount_of u.holding.days s) taught (is_helpful w s (get b.structures u.structure))
 
+  -- these days are the same in two campaigns with the same structures
   same_days : days_in d ≡ days_in c
   same_days = ap (λ (o : Option Structure). days_after u.holding.men (amount_of u.holding.days s) taught (is_helpful w s o)) (ap (λ m. get m u.structure) structures)
 
+  -- the unit with these days, and the fee paid
   abbrev put : ℕ → Unit
   put days = record u { holding = with_study u.holding s cost days }
 
+  -- an order of STUDY makes the same of a unit in two campaigns where the unit and the structures are the same
   study_alike : get (study w taught n s d u).0.units n ≡ get (study w taught n s c u).0.units n
   unfolding study
   study_alike = by_fault (study_fault u.holding cost) (Done (days_in d - amount_of u.holding.days s)) (Done (days_in c - amount_of u.holding.days s))
@@ -65,14 +70,16 @@ module _ (w : WorldValue) (taught n s : ℕ) (c d : CampaignValue) (u : Unit) (i
 
 -- ---- all orders
 
+-- the order's verb is STUDY
 abbrev Studies : Task → Type 0
 Studies t = is_studying t.order_value.verb ≡ true
 
+-- a verb of the phase of STUDY is STUDY
 is_study : (verb : Verb) → is_studying verb ≡ true → verb ≡ verbs.Study
 is_study verbs.Study is = refl
 is_study verb is = cc
 
--- two orders of STUDY of one faction for one unit share a slot
+-- two orders of STUDY for one unit from one faction share a slot
 both_own : (t o : Task) → share_slot t o ≡ false → Studies t → Studies o → t.unit ≡ o.unit → t.faction ≡ o.faction → ⊥
 both_own t o never t_studies o_studies unit faction =
     all_three (t.unit == o.unit) (t.faction == o.faction) (are_of_slot (row_of t.order_value.verb).slot (row_of o.order_value.verb).slot)
@@ -86,13 +93,15 @@ both_own t o never t_studies o_studies unit faction =
     all_three false b d p q r never = cc
 
 module _ (w : WorldValue) (taught : TaughtMen) (n : ℕ) (u : Unit) where
+  -- the campaign and the month after one order of STUDY
   abbrev step : CampaignValue × MonthValue → Task → CampaignValue × MonthValue
   step = one_order (study_step taught) w
 
-  -- it isn't the unit's own
+  -- the order isn't for unit n from its own faction
   abbrev IsOther : Task → Type 0
   IsOther t = t.unit ≡ n → t.faction ≡ u.faction → ⊥
 
+  -- an order of STUDY changes no structure
   structures_stay : (d : CampaignValue) (l : MonthValue) (t : Task) → (step (d, l) t).0.structures ≡ d.structures
   structures_stay d l t = ordered_cases (λ b. b.structures ≡ d.structures) (study_step taught w l.aliases t) d t refl (λ x own. by_said t.order_value.operands x)
     where
@@ -100,7 +109,7 @@ module _ (w : WorldValue) (taught : TaughtMen) (n : ℕ) (u : Unit) where
       by_said (operands.Skill s) x = study_cases (λ b. b.structures ≡ d.structures) w (taught t.unit) d t.unit s x refl (λ days payable most. refl)
       by_said other x = tt
 
-  -- other orders leave the unit as it is
+  -- an order that is another's leaves unit n as it was
   one_stays : (d : CampaignValue) (l : MonthValue) (t : Task) (v : Unit) → get d.units n ≡ Some v → v.faction ≡ u.faction → IsOther t → get (step (d, l) t).0.units n ≡ Some v
   one_stays d l t v there own other = ordered_cases (λ b. get b.units n ≡ Some v) (study_step taught w l.aliases t) d t there (λ x its. by_said t.order_value.operands x its)
     where
@@ -114,6 +123,7 @@ module _ (w : WorldValue) (taught : TaughtMen) (n : ℕ) (u : Unit) where
           ]
       by_said o x its = tt
 
+  -- orders that are others' leave unit n as it was
   all_stay : (ts : List Task) (p : CampaignValue × MonthValue) (v : Unit) → get p.0.units n ≡ Some v → v.faction ≡ u.faction → AllByRecursion IsOther ts → get (fold step p ts).0.units n ≡ Some v
   all_stay [] p v there own others = there
   all_stay (t ∷ ts) p v there own others = all_stay ts (step p t) v (one_stays p.0 p.1 t v there own others.0) own others.1
@@ -150,6 +160,7 @@ module _ (w : WorldValue) (taught : TaughtMen) (n : ℕ) (u : Unit) where
           let v : Unit = record u { holding = with_study u.holding skill (fee_of w skill * u.holding.men) days } in
           (v, get-insert_same c.units n v, refl))
 
+      -- after all orders of STUDY, unit n is as its own alone makes it
       alone : (ts : List Task) (p : CampaignValue × MonthValue) → get p.0.units n ≡ Some u → p.0.structures ≡ c.structures → IsDistinct share_slot ts → AllByRecursion Studies ts
           → (k : ℕ) → k < length ts → slice_index_or ts k order ≡ order → get (fold step p ts).0.units n ≡ get (deed c u).0.units n
       unfolding IsDistinct

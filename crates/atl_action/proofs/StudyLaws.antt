@@ -1,4 +1,4 @@
--- STUDY leaves a campaign well, and every unit without an order of it as it is.
+-- STUDY leaves a campaign well, and leaves each unit without an order of it as it was.
 use Rattle.std.proofs.Common.{◌≡◌, ◌≢◌, ◌==◌, ℕ, ◌+◌, ◌-◌, ◌*◌, ◌≤◌, ◌<◌, Bool, true, false, cond, [], ◌∷◌, length, Option, Some, None, refl, sym, ap, ◌∙◌, arith}
 use Rattle.std.specs.Prelude.{pos, neg_ℤ, ◌+ℤ◌, IfSome, nat_lt, if◌then◌else◌}
 use Rattle.std.specs.FinMap.{get}
@@ -51,15 +51,19 @@ use Rattle.atl_action.specs.Teach.{TaughtMen}
 -- ---- a unit that pays, and reaches so many days
 
 module _ (w : WorldValue) (c : CampaignValue) (n : ℕ) (u : Unit) (s cost days : ℕ) (is : get c.units n ≡ Some u) (steady : IsSteady w c) (payable : cost ≤ u.holding.money) where
+  -- what the unit holds after it paid and has the days
   abbrev learned : HoldingValue
   learned = with_study u.holding s cost days
 
+  -- the campaign with this, before the booking
   abbrev paid : CampaignValue
   paid = with_held c n learned (Some u)
 
+  -- the campaign after the unit studied, with the booking
   abbrev behind : CampaignValue
   behind = after_study c n u s cost days
 
+  -- what the unit then holds is what it may hold
   may : s < length w.skills → days ≤ most_days * u.holding.men → MayHold w u learned
   may known most =
       let old = may_have w c n u is steady in
@@ -72,10 +76,11 @@ module _ (w : WorldValue) (c : CampaignValue) (n : ℕ) (u : Unit) (s cost days 
         guard = λ g. g;
       }
 
+  -- the campaign stays steady
   steady_behind : s < length w.skills → days ≤ most_days * u.holding.men → IsSteady w behind
   steady_behind known most = steady-amount w paid Study Money (neg_ℤ (pos cost)) (omega arith) (steady-unit_amount w c n u learned is (may known most) steady)
 
-  -- what is booked is what all have less
+  -- what is booked of a thing is what the units have less of it
   owed : (t : Thing) (a b : ℕ) → a + unit_amount t u.holding ≡ b + unit_amount t learned → pos a ≡ pos b +ℤ cond (thing_index t == 0) (neg_ℤ (pos cost)) (pos 0)
   owed Money a b e = omega (arith, ints, e, payable)
   owed People a b e = omega (arith, ints, e)
@@ -85,6 +90,7 @@ module _ (w : WorldValue) (c : CampaignValue) (n : ℕ) (u : Unit) (s cost days 
       nothing true off = cc
       nothing false off = omega (arith, ints, e)
 
+  -- the books balance where they did before
   balanced : Balances c → Balances behind
   balanced old t =
       let sum : total behind t + unit_amount t u.holding ≡ total c t + unit_amount t learned =
@@ -92,7 +98,7 @@ module _ (w : WorldValue) (c : CampaignValue) (n : ℕ) (u : Unit) (s cost days 
       owed t (total behind t) (total c t) sum ∙ ap (λ z. z +ℤ cond (thing_index t == 0) (neg_ℤ (pos cost)) (pos 0)) (old t)
       ∙ sym (booked-after_booking c.books Study Money (neg_ℤ (pos cost)) t)
 
-  -- the money of all units is less by what is paid
+  -- the money of all units falls by the cost
   less : sum_over (λ (x : Unit). x.holding.money) behind.units + cost ≡ sum_over (λ (x : Unit). x.holding.money) c.units
   less =
       let money = λ (x : Unit). x.holding.money in
@@ -101,12 +107,13 @@ module _ (w : WorldValue) (c : CampaignValue) (n : ℕ) (u : Unit) (s cost days 
       sum : (a b m : ℕ) → a + m ≡ b + (m - cost) → cost ≤ m → a + cost ≡ b
       sum a b m e l = omega (arith, e, l)
 
-  -- there is room for what is paid
+  -- books with room for the money of all units have room for the cost
   pub cost_room : HaveRoom (study_reserve c) c → HasRoom cost (amount_in c.books Study Money)
   cost_room room =
       let all : HasRoom (sum_over (λ (x : Unit). x.holding.money) c.units) (amount_in c.books Study Money) = room Study Money in
       record { above = omega (arith, ints, all.above, less); below = omega (arith, ints, all.below, less) }
 
+  -- the bookings use what the remaining bound of STUDY falls
   drawn : (e : Entry) (t : Thing) → UsesBound (study_reserve c e t) (study_reserve behind e t) (amount_in c.books e t) (amount_in behind.books e t)
   drawn e t =
       drawn_near (moves_only cost Study Money e t) (study_reserve c e t) (study_reserve behind e t) (amount_in c.books e t) (amount_in behind.books e t)
@@ -117,6 +124,7 @@ module _ (w : WorldValue) (c : CampaignValue) (n : ℕ) (u : Unit) (s cost days 
       by_amount true a b e = e
       by_amount false a b e = omega arith
 
+  -- a unit that pays and reaches the days of a skill is a step that leaves the campaign well
   studied_well : s < length w.skills → days ≤ most_days * u.holding.men → StepsWell IsSteady study_reserve w c behind
   studied_well known most = record {
     holds_still = steady_behind known most;
@@ -127,11 +135,11 @@ module _ (w : WorldValue) (c : CampaignValue) (n : ℕ) (u : Unit) (s cost days 
 
 -- ---- an order
 
--- no more than 450 days for each man
+-- a unit has at most 450 days for each man after a month of study
 pub days_most : (men old taught : ℕ) (helped : Bool) → days_after men old taught helped ≤ most_days * men
 days_most men old taught helped = omega arith
 
--- who has no fault can pay
+-- a unit without a fault has the money for the fee
 pub payable_fee : (h : HoldingValue) (cost : ℕ) → study_fault h cost ≡ None → cost ≤ h.money
 payable_fee h cost e =
     let poor = (nat_lt h.money cost, NoFee) ∷ [] in
@@ -139,7 +147,7 @@ payable_fee h cost e =
     let two = none_fits (nat_lt h.money cost) NoFee [] one.1 in
     not_less h.money cost two.0
 
--- what is so of the campaign as it is, and of that in which the unit studied, is so of the campaign behind the order
+-- P holds of the campaign after an order of STUDY, if it holds without a change and after the unit studied
 pub study_cases : (P : CampaignValue → Type 0) (w : WorldValue) (taught : ℕ) (c : CampaignValue) (n s : ℕ) (u : Unit) → P c
     → ((days : ℕ) → fee_of w s * u.holding.men ≤ u.holding.money → days ≤ most_days * u.holding.men → P (after_study c n u s (fee_of w s * u.holding.men) days))
     → P (study w taught n s c u).0
@@ -154,11 +162,13 @@ study_cases P w taught c n s u same learned =
     by_fault days done most (Some fault) e = same
     by_fault days done most None e = learned days (payable_fee u.holding (fee_of w s * u.holding.men) e) most
 
+-- an order of STUDY is a step that leaves the campaign well
 study_well : (w : WorldValue) (taught : ℕ) (c : CampaignValue) (n s : ℕ) (u : Unit) → get c.units n ≡ Some u → IsSteady w c → s < length w.skills → StepsWell IsSteady study_reserve w c (study w taught n s c u).0
 study_well w taught c n s u is steady known =
     study_cases (λ d. StepsWell IsSteady study_reserve w c d) w taught c n s u (well_same w c steady)
     (λ days payable most. studied_well w c n u s (fee_of w s * u.holding.men) days is steady payable known most)
 
+-- an order of STUDY leaves every other unit as it was
 pub study_stays : (w : WorldValue) (taught : ℕ) (c : CampaignValue) (n s : ℕ) (u : Unit) (k : ℕ) → k ≢ n → get (study w taught n s c u).0.units k ≡ get c.units k
 study_stays w taught c n s u k apart =
     study_cases (λ d. get d.units k ≡ get c.units k) w taught c n s u refl
@@ -166,10 +176,11 @@ study_stays w taught c n s u k apart =
 
 -- ---- the phase
 
+-- `IsUnchanged` is reflexive and transitive, and keeps the faction
 unchanged : IsUnaffectedRelation IsUnchanged
 unchanged = record { same = λ u. refl; again = λ u v x one two. two ∙ one; faction = λ u v same. ap (λ (x : Unit). x.faction) same }
 
--- the money of all units is no more than could be lost by QUIT
+-- the money of all units is within the bound of the phase
 money_most : (w : WorldValue) (c : CampaignValue) → IsSteady w c → (e : Entry) (t : Thing) → study_reserve c e t ≤ study_moves e t
 money_most w c steady e t = by_amount (amount_number e t == amount_number Study Money) _ _ (quit_orderly.bounded w c steady Lost Money)
   where
@@ -177,6 +188,7 @@ money_most w c steady e t = by_amount (amount_number e t == amount_number Study 
     by_amount true a b l = l
     by_amount false a b l = omega arith
 
+-- the step of STUDY is orderly
 pub study_orderly : (taught : TaughtMen) → IsOrderly (study_step taught) IsSteady study_reserve study_moves IsOwnOrder IsUnchanged
 study_orderly taught = record {
   well = λ w a c t x steady fit own. well w c t.unit x own.there steady t.order_value.operands fit;

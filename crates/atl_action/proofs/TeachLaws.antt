@@ -1,4 +1,4 @@
--- How a lesson is given: to the first unit that is listed, and then to the rest.
+-- A lesson unit by unit: to the first unit that is listed, and then to the others.
 use Rattle.std.proofs.Common.{◌≡◌, ◌≢◌, ◌==◌, ◌≤◌, ◌||◌, ℕ, ◌+◌, ◌-◌, min, not, Bool, true, false, cond, List, [], ◌∷◌, filter, take, sum_by, refl, sym, ap, subst, ◌∙◌, inl, inr, arith, rules}
 use Rattle.std.specs.Prelude.{nat_eq, if◌then◌else◌}
 use Rattle.std.specs.List.{AllByRecursion, IsDistinct, before_first, list_any, position_or_len}
@@ -12,10 +12,11 @@ use Rattle.atl_action.specs.Teach.{TaughtMen, first_mentions, taught_in_lesson, 
 
 -- ---- lists of units
 
--- none of a list is this number
+-- no number of the list is n
 abbrev pub AreOthers : ℕ → List ℕ → Type 0
 AreOthers n = AllByRecursion (λ y. nat_eq n y ≡ false)
 
+-- if no number of a list is n, none of those that pass a test is
 filtered_others : (n : ℕ) (p : ℕ → Bool) (ns : List ℕ) → AreOthers n ns → AreOthers n (filter p ns)
 filtered_others n p [] all = tt
 filtered_others n p (k ∷ ns) all = by_test (p k) (filtered_others n p ns all.1)
@@ -24,6 +25,7 @@ filtered_others n p (k ∷ ns) all = by_test (p k) (filtered_others n p ns all.1
     by_test true rest = (all.0, rest)
     by_test false rest = rest
 
+-- numbers that pass a test are without repetitions, if all of a list are
 filtered_distinct : (p : ℕ → Bool) (ns : List ℕ) → IsDistinct nat_eq ns → IsDistinct nat_eq (filter p ns)
 unfolding IsDistinct
 filtered_distinct p [] all = tt
@@ -33,6 +35,7 @@ filtered_distinct p (k ∷ ns) all = by_test (p k) (filtered_distinct p ns all.1
     by_test true rest = (filtered_others k p ns all.0, rest)
     by_test false rest = rest
 
+-- the numbers of a list other than n are others
 without : (n : ℕ) (ns : List ℕ) → AreOthers n (filter (λ k. not (k == n)) ns)
 without n [] = tt
 without n (k ∷ ns) = by_test (k == n) refl (without n ns)
@@ -42,15 +45,18 @@ without n (k ∷ ns) = by_test (k == n) refl (without n ns)
     by_test true t rest = rest
     by_test false t rest = (equal_turned n k ∙ t, rest)
 
+-- `first_mentions` has no repetitions
 pub mentions_distinct : (ns : List ℕ) → IsDistinct nat_eq (first_mentions ns)
 unfolding IsDistinct
 mentions_distinct [] = tt
 mentions_distinct (n ∷ ns) = (without n (first_mentions ns), filtered_distinct (λ k. not (k == n)) (first_mentions ns) (mentions_distinct ns))
 
+-- a number that no number of a list is isn't found in it
 not_listed : (n : ℕ) (ns : List ℕ) → AreOthers n ns → list_any (λ k. n == k) ns ≡ false
 not_listed n [] all = refl
 not_listed n (k ∷ ns) all = ap (λ b. b || list_any (λ k. n == k) ns) all.0 ∙ not_listed n ns all.1
 
+-- the elements before the first that passes a test, of a list with one more in front
 before_cons : (p : ℕ → Bool) (n : ℕ) (ns : List ℕ) → before_first p (n ∷ ns) ≡ if p n then [] else n ∷ before_first p ns
 before_cons p n ns = by_test (p n)
   where
@@ -58,6 +64,7 @@ before_cons p n ns = by_test (p n)
     by_test true = refl
     by_test false = search rules
 
+-- if no number of a list is n, none before the first that passes a test is
 before_others : (n : ℕ) (p : ℕ → Bool) (ns : List ℕ) → AreOthers n ns → AreOthers n (before_first p ns)
 before_others n p [] all = tt
 before_others n p (k ∷ ns) all = subst (AreOthers n) (sym (before_cons p k ns)) (by_test (p k) (before_others n p ns all.1))
@@ -68,14 +75,17 @@ before_others n p (k ∷ ns) all = subst (AreOthers n) (sym (before_cons p k ns)
 
 -- ---- so many men of the first unit are taught, and then those of the rest
 
+-- the first unit of a lesson gets as many of its men taught as its turn gives
 first_is_dealt : (had given want places : ℕ) → given ≡ min places want → (had + given) + 0 ≡ had + (min (0 + want) places - min 0 places)
 first_is_dealt had given want places is = grind (arith, is)
 
+-- a later unit gets the same whether the first one is still in the list or its part is already taken off
 rest_is_dealt : (places given first before want : ℕ) → given ≡ min places first →
     min (before + want) (places - given) - min before (places - given) ≡ min ((first + before) + want) places - min (first + before) places
 rest_is_dealt places given first before want is = grind (arith, is)
 
 module _ (c : CampaignValue) (taught after : TaughtMen) (n given : ℕ) (here : after n ≡ taught n + given) (away : (k : ℕ) → k ≢ n → after k ≡ taught k) where
+  -- the men who weren't taught yet of units other than n are the same as before n got its part
   pub same_sum : (ns : List ℕ) → AreOthers n ns → sum_by (untaught_men c after) ns ≡ sum_by (untaught_men c taught) ns
   same_sum [] all = refl
   same_sum (k ∷ ns) all =
@@ -115,13 +125,14 @@ module _ (c : CampaignValue) (taught after : TaughtMen) (n given : ℕ) (here : 
         by_listed true = ap (λ d. taught k + d) (rest_is_dealt places given (untaught_men c taught n) (sum_by (untaught_men c taught) (before_first (λ j. k == j) ns)) (untaught_men c taught k) is)
         by_listed false = refl
 
+    -- after unit n got its part, a lesson to the others for the men still left to teach makes the same as the whole lesson
     pub rest_taught : (k : ℕ) → after k + taught_in_lesson c after (places - given) ns k ≡ taught k + taught_in_lesson c taught places (n ∷ ns) k
     rest_taught k = elim (cases_eq k n) [
       | inl same ↦ subst (λ j. after j + taught_in_lesson c after (places - given) ns j ≡ taught j + taught_in_lesson c taught places (n ∷ ns) j) (sym same) at_first
       | inr apart ↦ at_other k apart
     ]
 
--- how many men are taught: those so far, and those of the rest in the places that are left
+-- the men taught so far and those of the rest are as many as in the whole lesson
 pub men_so_far : (places left given want rest total : ℕ) → left ≤ places → given ≡ min left want → (places - left) + min (want + rest) left ≡ total
     → (places - (left - given)) + min rest (left - given) ≡ total
 men_so_far places left given want rest total few is all = grind (arith, few, is, all)

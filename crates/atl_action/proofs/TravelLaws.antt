@@ -1,4 +1,4 @@
--- A campaign in which units and structures are in other places, some flags are cleared, and structures have other owners.
+-- A campaign stays steady when units and structures are in other regions, flags are cleared, and structures have other owners.
 use Rattle.std.proofs.Common.{◌≡◌, ◌≢◌, ℕ, ◌*◌, ◌≤◌, true, false, Some, None, sym, ap, subst, ◌∙◌}
 use Rattle.std.specs.Prelude.{IsTrue, option_map}
 use Rattle.std.specs.Ordering.{nat_cmp}
@@ -15,7 +15,7 @@ use Rattle.atl_records.specs.Holdings.{IsHolding}
 use Rattle.atl_state.specs.Campaign.{CampaignValue, numbers_of}
 use Rattle.atl_instant.proofs.RefitLaws.{in_range_replaced, named_replaced, numbered_replaced, under}
 
--- the same unit, but for where it is and its flag
+-- the same unit, but for its region, structure and guard flag
 pub record IsSameUnit (before after : Unit) : Type 0 where
   pub faction : after.faction ≡ before.faction
   pub name : after.holding.name ≡ before.holding.name
@@ -24,22 +24,24 @@ pub record IsSameUnit (before after : Unit) : Type 0 where
   pub items : after.holding.items ≡ before.holding.items
   pub days : after.holding.days ≡ before.holding.days
 
--- the same structure, but for where it is and its owner
+-- the same structure, but for its region and its owner
 pub record IsSameStructure (before after : Structure) : Type 0 where
   pub kind : after.kind ≡ before.kind
   pub done : after.done ≡ before.done
   pub name : after.name ≡ before.name
 
 module _ (w : WorldValue) (c : CampaignValue) (units : FinMap nat_cmp Unit) (structures : FinMap nat_cmp Structure) (f : ℕ → Unit → Unit) (g : ℕ → Structure → Structure) where
+  -- the campaign with these units and structures
   abbrev pub travelled : CampaignValue
   travelled = record c { units = units; structures = structures }
 
-  -- a unit's region is there, and its structure stands in it
+  -- the unit's region is there, and the structure that it is inside is in that region
   pub record IsPut (u : Unit) : Type 0 where
     pub region : IsThere c.regions u.region
     pub structure : u.structure ≢ 0 → (s : Structure) × (get structures u.structure ≡ Some s) × (s.region ≡ u.region)
 
-  -- f gives the units and g the structures; each unit is where it may be, each structure has the owner that it should have, and who guards has stayed
+  -- f gives the units and g the structures, and all that a steady campaign needs of them holds.
+  -- Each unit is where it may be, each structure has its right owner, and units that guard after are as they were.
   pub record AreTravelled : Type 0 where
     pub units_at : (k : ℕ) → get units k ≡ option_map (f k) (get c.units k)
     pub structures_at : (k : ℕ) → get structures k ≡ option_map (g k) (get c.structures k)
@@ -123,6 +125,7 @@ module _ (w : WorldValue) (c : CampaignValue) (units : FinMap nat_cmp Unit) (str
         agree : {x u y v : Unit} → x ≡ u → y ≡ v → Agree u v → Agree x y
         agree one two same = rw (one, two) same
 
+    -- a steady campaign stays steady when units and structures are where they may be
     pub steady-travelled : IsSteady w c → IsSteady w travelled
     steady-travelled old = record {
       numbers = numbers_kept old.numbers;

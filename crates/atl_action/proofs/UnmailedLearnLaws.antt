@@ -21,14 +21,15 @@ use Rattle.atl_action.specs.Learners.{Learning, is_studying, learners}
 use Rattle.atl_action.specs.Study.{after_study, days_after, is_helpful, learn_keeps, learn_meaning, study, study_effect, study_fault, study_step, with_study}
 use Rattle.atl_action.specs.Teach.{TaughtMen, after_lessons, is_teaching, teach, teach_order}
 
--- ---- TEACH tells its events and changes nothing else of the month
+-- ---- TEACH adds its events and changes nothing else of the month
 
--- the month with as many who starved, and the same mailings and aliases
+-- the month with the same readings and aliases, in whose events as many men of each unit starved
 pub record IsTold (before after : MonthValue) : Type 0 where
   pub readings : after.readings ≡ before.readings
   pub aliases : after.aliases ≡ before.aliases
   pub starved : (n : ℕ) → starved_in after.events n ≡ starved_in before.events n
 
+-- an order of TEACH changes only events, and none that says that men starved
 lesson_told : (c : CampaignValue) (learning : Learning) (p : TaughtMen × MonthValue) (t : Task) → IsTold p.1 (teach_order c learning p t).1
 lesson_told c learning (taught, m) t = record {
   readings = refl;
@@ -36,6 +37,7 @@ lesson_told c learning (taught, m) t = record {
   starved = λ n. told_of_order m.events t (teach c m.aliases learning taught t).1 n;
 }
 
+-- so do some orders of TEACH
 lessons_told : (c : CampaignValue) (learning : Learning) (p : TaughtMen × MonthValue) (ts : List Task) → IsTold p.1 (fold (teach_order c learning) p ts).1
 lessons_told c learning p [] = record { readings = refl; aliases = refl; starved = λ n. refl }
 lessons_told c learning p (t ∷ ts) =
@@ -43,12 +45,14 @@ lessons_told c learning p (t ∷ ts) =
     let rest = lessons_told c learning (teach_order c learning p t) ts in
     record { readings = rest.readings ∙ one.readings; aliases = rest.aliases ∙ one.aliases; starved = λ n. rest.starved n ∙ one.starved n }
 
+-- so do all orders of TEACH of a month
 pub taught_told : (c : CampaignValue) (learning : Learning) (m : MonthValue) → IsTold m (after_lessons c learning m).1
 unfolding after_lessons
 taught_told c learning m = lessons_told c learning ((λ n. 0), m) (values (orders_of is_teaching ByUnit m.aliases m.readings))
 
 -- ---- STUDY
 
+-- an order of STUDY leaves all units their men
 study_men : (w : WorldValue) (taught : ℕ) (c : CampaignValue) (n s : ℕ) (u : Unit) → get c.units n ≡ Some u → HaveTheirMen c (study w taught n s c u).0
 unfolding study
 study_men w taught c n s u is =
@@ -58,21 +62,26 @@ study_men w taught c n s u is =
     men_unless c (after_study c n u s cost days) (Done (days - old)) (study_fault u.holding cost)
     (men_put c (after_study c n u s cost days) n u (record u { holding = with_study u.holding s cost days }) is (record { faction = refl; men = refl }) refl)
 
+-- an order of STUDY leaves units of other factions their men
 studied_men : (w : WorldValue) (taught : TaughtMen) (c : CampaignValue) (f n : ℕ) (x : Unit) → get c.units n ≡ Some x → (o : OperandsValue) → IfSome (study_effect w taught n o) (λ deed. OthersHaveMen f c (deed c x).0)
 studied_men w taught c f n x is (operands.Skill s) = others_men f c (study w (taught n) n s c x).0 (study_men w (taught n) c n s x is)
 studied_men w taught c f n x is other = tt
 
+-- the step of STUDY leaves all units their men
 study_spares : (taught : TaughtMen) → SparesMen (study_step taught)
 study_spares taught w a c t x own = studied_men w taught c t.faction t.unit x own.there t.order_value.operands
 
+-- a unit that is unchanged has its name and items
 items_of_unchanged : (u v : Unit) → IsUnchanged u v → HasItsItems u v
 items_of_unchanged u v same = record { name = ap (λ (x : Unit). x.holding.name) same; items = λ i. omega (arith, ap (λ (x : Unit). amount_of x.holding.items i) same) }
 
+-- STUDY leaves the units of factions without a mailing
 all_study : (taught : TaughtMen) → LeavesUnmailed (meaning_by_orders (study_step taught) is_studying) learn_keeps
 all_study taught = carried_leaves (study_step taught) is_studying (study_spares taught) (unmailed_spared is_studying own_faction items_of_unchanged)
 
 -- ---- both
 
+-- TEACH and STUDY leave the units of factions without a mailing
 pub learn_leaves : LeavesUnmailed learn_meaning learn_keeps
 learn_leaves = record {
   readings = λ w c m. let lessons = after_lessons c (learners w c m) m in (all_study lessons.0).readings w c lessons.1 ∙ (taught_told c (learners w c m) m).readings;

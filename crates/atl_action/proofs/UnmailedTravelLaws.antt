@@ -13,34 +13,39 @@ use Rattle.atl_state.specs.Owners.{with_place}
 use Rattle.atl_state.specs.Campaign.{CampaignValue, numbers_inside, with_guard, with_structure_region}
 use Rattle.atl_action.specs.Sail.{IsAtMostMoved, after_sailing, is_sailing, sail, sail_effect, sail_fault, sail_spec, sail_step, with_unit_aboard}
 use Rattle.atl_action.specs.Walk.{after_walk, is_walking, walk, walk_effect, walk_fault, walk_spec, walk_step}
-use Rattle.atl_instant.proofs.PhaseSpecLaws.{Leaves}
+use Rattle.atl_instant.proofs.PhaseSpecLaws.{PhaseLeavesUnmailed}
 use Rattle.atl_instant.proofs.UnmailedLaws.{HasItsItems, HaveTheirMen, OthersHaveMen, SparesMen, carried_leaves, items_of_no_worse, men_in_turn, men_same, men_twice, men_unless, others_men, own_faction, unmailed_spared}
 use Rattle.atl_instant.proofs.UnmailedStepLaws.{guard_men, place_men}
 
--- a unit that is put elsewhere, with its flag cleared
+-- all units have their men after one of them is elsewhere, with its flag cleared
 gone_men : (c : CampaignValue) (n r s : ℕ) → HaveTheirMen c (with_guard (with_place c n r s) n false)
 gone_men c n r s = let there = with_place c n r s in men_twice c there (with_guard there n false) (place_men c n r s) (guard_men there n false)
 
 -- ---- MOVE
 
+-- an order of MOVE leaves all units their men
 walk_men : (w : WorldValue) (c : CampaignValue) (n : ℕ) (u : Unit) (direction : Direction) → HaveTheirMen c (walk w n direction c u).0
 unfolding walk
 walk_men w c n u direction =
     let to = neighbour w u.region direction in
     men_unless c (after_walk c n (unwrap_or to 0)) (Done 0) (walk_fault w u to) (gone_men c n (unwrap_or to 0) 0)
 
+-- an order of MOVE leaves units of other factions their men
 walked_men : (w : WorldValue) (c : CampaignValue) (f n : ℕ) (x : Unit) (o : OperandsValue) → IfSome (walk_effect w n o) (λ deed. OthersHaveMen f c (deed c x).0)
 walked_men w c f n x (operands.Direction direction) = others_men f c (walk w n direction c x).0 (walk_men w c n x direction)
 walked_men w c f n x other = tt
 
+-- the step of MOVE leaves all units their men
 walk_spares : SparesMen walk_step
 walk_spares w a c t x own = walked_men w c t.faction t.unit x t.order_value.operands
 
-pub walk_leaves : Leaves walk_spec
+-- MOVE leaves the units of factions without a mailing
+pub walk_leaves : PhaseLeavesUnmailed walk_spec
 walk_leaves = carried_leaves walk_step is_walking walk_spares (unmailed_spared is_walking own_faction items_of_no_worse)
 
 -- ---- SAIL
 
+-- a ship that goes leaves all units their men
 sailed_men : (c : CampaignValue) (ship to : ℕ) → HaveTheirMen c (after_sailing c ship to)
 unfolding after_sailing
 sailed_men c ship to =
@@ -48,23 +53,28 @@ sailed_men c ship to =
     let gone = fold (with_unit_aboard ship to) c ns in
     men_twice c gone (with_structure_region gone ship to) (men_in_turn (with_unit_aboard ship to) (λ d n. gone_men d n to ship) c ns) (men_same gone (with_structure_region gone ship to) refl)
 
+-- an order of SAIL leaves all units their men
 sail_men : (w : WorldValue) (c : CampaignValue) (n : ℕ) (u : Unit) (direction : Direction) → HaveTheirMen c (sail w n direction c u).0
 unfolding sail
 sail_men w c n u direction =
     let to = neighbour w u.region direction in
     men_unless c (after_sailing c u.structure (unwrap_or to 0)) (Done 0) (sail_fault w c n u (get c.structures u.structure) to) (sailed_men c u.structure (unwrap_or to 0))
 
+-- an order of SAIL leaves units of other factions their men
 sailing_men : (w : WorldValue) (c : CampaignValue) (f n : ℕ) (x : Unit) (o : OperandsValue) → IfSome (sail_effect w n o) (λ deed. OthersHaveMen f c (deed c x).0)
 sailing_men w c f n x (operands.Direction direction) = others_men f c (sail w n direction c x).0 (sail_men w c n x direction)
 sailing_men w c f n x other = tt
 
+-- the step of SAIL leaves all units their men
 sail_spares : SparesMen sail_step
 sail_spares w a c t x own = sailing_men w c t.faction t.unit x t.order_value.operands
 
+-- a unit that at most went along has its name and items
 items_of_carried : (u v : Unit) → IsAtMostMoved u v → HasItsItems u v
 items_of_carried u v h = record { name = h.name; items = h.items }
 
-pub sail_leaves : Leaves sail_spec
+-- SAIL leaves the units of factions without a mailing
+pub sail_leaves : PhaseLeavesUnmailed sail_spec
 sail_leaves =
     carried_leaves sail_step is_sailing sail_spares
     (λ w c d m keeps n u there none. let one = keeps.0 n u there in record { unit = one.unit; there = one.there; spared = items_of_carried u one.unit one.spared })

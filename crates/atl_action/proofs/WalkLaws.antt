@@ -1,4 +1,4 @@
--- MOVE leaves a campaign well, and spares who doesn't order it.
+-- MOVE leaves a campaign well, and leaves alone units without such an order.
 use Rattle.std.proofs.Common.{◌≡◌, ◌≢◌, ◌==◌, ◌&&◌, ℕ, ◌≤◌, Bool, true, false, not, [], ◌∷◌, Option, Some, None, refl, sym, ap, subst, ◌∙◌, arith}
 use Rattle.std.specs.Prelude.{IfSome, nat_lt, option_map, unwrap_or, if◌then◌else◌}
 use Rattle.std.specs.Option.{option_map_or}
@@ -34,13 +34,14 @@ use Rattle.atl_instant.proofs.MeaningLaws.{same_month_by}
 use Rattle.atl_instant.proofs.OutcomeLaws.{false_true, none_fits}
 use Rattle.atl_instant.proofs.OwnerLaws.{heir_owns, owner_stays}
 use Rattle.atl_instant.proofs.PlacingLaws.{mapped_twice, owns_no_other, place_stays}
-use Rattle.atl_instant.proofs.StructureLaws.{changed_else, equal, get-after_handover, handed_is, handed_on, len-after_handover}
+use Rattle.atl_instant.proofs.StructureLaws.{changed_else, equal_passes, get-after_handover, handed_is, handed_on, len-after_handover}
 use Rattle.atl_instant.proofs.OrderEffectLaws.{no_worse_spares, well_same}
 use Rattle.atl_instant.proofs.UnbookedLaws.{stays_spared, stays_well}
 use Rattle.atl_action.specs.Walk.{after_walk, is_land_there, walk, walk_effect, walk_fault, walk_step}
 use Rattle.atl_action.proofs.PeopleLaws.{AreSamePeople, elsewhere, elsewhere_at, elsewhere_people, gone, gone_if, gone_same, guards_stay, total_people}
 use Rattle.atl_action.proofs.TravelLaws.{AreTravelled, IsPut, IsSameStructure, steady-travelled, travelled}
 
+-- a looked-up value as it is
 mapped_itself : {A : Type 0} (o : Option A) → o ≡ option_map (λ y. y) o
 mapped_itself None = refl
 mapped_itself (Some y) = refl
@@ -54,40 +55,51 @@ land_is_there w r land = by_plan (get w.regions r) refl land
     by_plan (Some p) is dry = (p, is)
 
 module _ (w : WorldValue) (c : CampaignValue) (n : ℕ) (u : Unit) (to : ℕ) (is : get c.units n ≡ Some u) (steady : IsSteady w c) (land : is_land_at w to ≡ true) where
+  -- the structure that the unit leaves; 0 where it is inside none
   abbrev old_place : ℕ
   old_place = u.structure
 
+  -- the unit that owns that structure next
   abbrev next : ℕ
   next = heir c old_place n
 
+  -- the units with unit n in region `to`, outside structures
   abbrev units : FinMap nat_cmp Unit
   units = elsewhere 0 to c.units n
 
+  -- the unit of number k after unit n walked
   abbrev f : ℕ → Unit → Unit
   f k = gone_if 0 to (k == n)
 
   -- ---- the units
 
+  -- the units are the same people
   same_people : AreSamePeople c.units units
   same_people = elsewhere_people 0 to c.units n
 
+  -- a look-up of a unit after unit n walked
   units_at : (k : ℕ) → get units k ≡ option_map (f k) (get c.units k)
   units_at = elsewhere_at 0 to c.units n
 
+  -- unit n is in region `to`, inside no structure, with its flag cleared
   here : get units n ≡ Some (gone 0 to u)
-  here = units_at n ∙ ap (option_map (f n)) is ∙ ap (λ b. Some (gone_if 0 to b u)) (equal n n refl)
+  here = units_at n ∙ ap (option_map (f n)) is ∙ ap (λ b. Some (gone_if 0 to b u)) (equal_passes n n refl)
 
+  -- every other unit stays as it was
   away : (k : ℕ) → k ≢ n → get units k ≡ get c.units k
   away k apart = units_at k ∙ ap (λ b. option_map (gone_if 0 to b) (get c.units k)) (other_number k n apart) ∙ sym (mapped_itself (get c.units k))
 
+  -- unit n is inside no structure
   outside : (v : Unit) → get units n ≡ Some v → v.structure ≡ 0
   outside v there = sym (ap (λ (x : Unit). x.structure) (same_Some (gone 0 to u) v (sym here ∙ there)))
 
   -- ---- the structures
 
+  -- unit numbers begin at 1
   low : Every (λ k v. 1 ≤ k) c.units
   low k v there = (steady.numbers.units k v there).0
 
+  -- structure numbers aren't 0
   not_first : (q : ℕ) (y : Structure) → get c.structures q ≡ Some y → q ≢ 0
   not_first q y there zero = none_some y (sym steady.next.structures.first ∙ ap (get c.structures) (sym zero) ∙ there)
 
@@ -101,7 +113,7 @@ module _ (w : WorldValue) (c : CampaignValue) (n : ℕ) (u : Unit) (to : ℕ) (i
     left_owned : old_place ≢ 0 → (y : Structure) → IsOwned behind old_place (owned_by next y)
     left_owned some = heir_owns c behind n away old_place some low (λ v at inside. some (sym inside ∙ outside v at))
 
-    -- g gives the structures, which are where they were
+    -- g gives the structures, which stay in their regions
     module _ (g : ℕ → Structure → Structure) (at : (k : ℕ) → get structures k ≡ option_map (g k) (get c.structures k)) (count : len structures ≡ len c.structures)
         (same : Every (λ k y. IsSameStructure y (g k y) × ((g k y).region ≡ y.region)) c.structures) (owned : Every (λ k y. IsOwned behind k (g k y)) c.structures) where
       forth : (k : ℕ) (y : Structure) → get c.structures k ≡ Some y → get structures k ≡ Some (g k y)
@@ -144,9 +156,11 @@ module _ (w : WorldValue) (c : CampaignValue) (n : ℕ) (u : Unit) (to : ℕ) (i
 
   -- ---- a unit that was inside no structure
 
+  -- each structure has its right owner, if the unit was inside none
   unowned : old_place ≡ 0 → (q : ℕ) (y : Structure) → get c.structures q ≡ Some y → IsOwned (behind c.structures) q y
   unowned outside q y there = still_owned c.structures q y there (owns_no_other w c n u is steady q y there (λ same. not_first q y there (same ∙ outside)))
 
+  -- walking leaves the campaign well, if the unit was inside no structure
   outside_well : old_place ≡ 0 → StepsWell IsSteady books_nothing w c (behind c.structures)
   outside_well outside =
       behind_well c.structures (λ q y. y) (λ k. mapped_itself (get c.structures k)) refl
@@ -154,33 +168,41 @@ module _ (w : WorldValue) (c : CampaignValue) (n : ℕ) (u : Unit) (to : ℕ) (i
 
   -- ---- a unit that leaves a structure
 
+  -- the campaign with the unit in region `to`, before owners change
   abbrev begun : CampaignValue
   begun = placed c n to 0
 
+  -- the campaign after the unit's old structure got its next owner
   abbrev gone_out : CampaignValue
   gone_out = after_handover begun old_place n next
 
+  -- the same after the handover of structure 0, which isn't there
   abbrev gone_off : CampaignValue
   gone_off = after_handover gone_out 0 0 n
 
+  -- the structure with its owner after both handovers, by the three tests
   abbrev given : (a e b : Bool) → Structure → Structure
   given a e b y = let x = if a && e then owned_by next y else y in if b && x.owner == 0 then owned_by n x else x
 
+  -- the structure is the same but for its owner
   given_same : (a e b : Bool) (y : Structure) → b ≡ false → IsSameStructure y (given a e b y) × ((given a e b y).region ≡ y.region)
   given_same true true b y high = rw high (record { kind = refl; done = refl; name = refl }, refl)
   given_same true false b y high = rw high (record { kind = refl; done = refl; name = refl }, refl)
   given_same false e b y high = rw high (record { kind = refl; done = refl; name = refl }, refl)
 
+  -- each structure has its right owner, by the three tests
   given_owned : old_place ≢ 0 → (q : ℕ) (y : Structure) → get c.structures q ≡ Some y → (a e b : Bool) → (q == old_place) ≡ a → (y.owner == n) ≡ e → b ≡ false → IsOwned (behind gone_off.structures) q (given a e b y)
   given_owned some q y there true true b p r high = rw high (subst (λ k. IsOwned (behind gone_off.structures) k (owned_by next y)) (sym (is_equal q old_place p)) (left_owned gone_off.structures some y))
   given_owned some q y there true false b p r high = rw high (still_owned gone_off.structures q y there (is_unequal y.owner n r))
   given_owned some q y there false e b p r high = rw high (still_owned gone_off.structures q y there (owns_no_other w c n u is steady q y there (is_unequal q old_place p)))
 
+  -- a look-up of a structure after both handovers
   given_at : (q : ℕ) → get gone_off.structures q ≡ option_map (λ y. handed_on 0 0 n q (handed_on old_place n next q y)) (get c.structures q)
   given_at q =
       get-after_handover gone_out 0 0 n q ∙ ap (option_map (handed_on 0 0 n q)) (get-after_handover begun old_place n next q)
       ∙ mapped_twice (handed_on 0 0 n q) (handed_on old_place n next q) (get c.structures q)
 
+  -- walking leaves the campaign well, if the unit was inside a structure
   inside_well : old_place ≢ 0 → StepsWell IsSteady books_nothing w c (behind gone_off.structures)
   inside_well some =
       behind_well gone_off.structures (λ q y. handed_on 0 0 n q (handed_on old_place n next q y)) given_at
@@ -193,22 +215,24 @@ module _ (w : WorldValue) (c : CampaignValue) (n : ℕ) (u : Unit) (to : ℕ) (i
 
   -- ---- both
 
+  -- walking leaves the campaign well in either case
   by_place : (b : Bool) → (old_place == 0) ≡ b → StepsWell IsSteady books_nothing w c (with_guard (if b then begun else gone_off) n false)
   by_place true t = outside_well (is_equal old_place 0 t)
   by_place false t = subst (λ d. StepsWell IsSteady books_nothing w c (with_guard d n false)) (sym off_is) (inside_well (is_unequal old_place 0 t))
 
+  -- walking to a region with land is a step that leaves the campaign well
   pub walked_well : StepsWell IsSteady books_nothing w c (after_walk c n to)
   unfolding with_place
   walked_well = subst (λ o. StepsWell IsSteady books_nothing w c (with_guard (with_place_at c n to 0 o) n false)) (sym is) (by_place (old_place == 0) refl)
 
 -- ---- an order
 
--- a region that is there, if it has land, is the one that the unit goes to
+-- the region that a unit walks to, if it has no fault, has land
 land_to : (w : WorldValue) (to : Option ℕ) → not (is_land_there w to) ≡ false → is_land_at w (unwrap_or to 0) ≡ true
 land_to w None dry = false_true (sym dry)
 land_to w (Some r) dry = not-false (is_land_at w r) dry
 
--- what is so of the campaign as it is, and of that in which the unit has gone, is so of the campaign behind the order
+-- P holds of the campaign after an order of MOVE, if it holds without a change and after the unit walked
 walk_cases : (P : CampaignValue → Type 0) (w : WorldValue) (c : CampaignValue) (n : ℕ) (u : Unit) (direction : Direction) → P c → ((to : ℕ) → is_land_at w to ≡ true → P (after_walk c n to)) → P (walk w n direction c u).0
 unfolding walk
 walk_cases P w c n u direction same gone = by_fault (neighbour w u.region direction) (walk_fault w u (neighbour w u.region direction)) refl
@@ -223,16 +247,19 @@ walk_cases P w c n u direction same gone = by_fault (neighbour w u.region direct
         let three = none_fits (not (is_land_there w to)) NoWay heavy two.1 in
         gone (unwrap_or to 0) (land_to w to three.0)
 
+-- an order of MOVE is a step that leaves the campaign well
 walk_well : (w : WorldValue) (c : CampaignValue) (n : ℕ) (u : Unit) → get c.units n ≡ Some u → (direction : Direction) → IsSteady w c → StepsWell IsSteady books_nothing w c (walk w n direction c u).0
 walk_well w c n u is direction steady = walk_cases (λ d. StepsWell IsSteady books_nothing w c d) w c n u direction (well_same w c steady) (λ to land. walked_well w c n u to is steady land)
 
 -- ---- other units stay
 
+-- an order of MOVE leaves every other unit as it was
 walk_stays : (w : WorldValue) (c : CampaignValue) (n : ℕ) (u : Unit) (direction : Direction) (k : ℕ) → k ≢ n → get (walk w n direction c u).0.units k ≡ get c.units k
 walk_stays w c n u direction k apart =
     walk_cases (λ d. get d.units k ≡ get c.units k) w c n u direction refl (λ to land.
     changed_else (λ (x : Unit). record x { holding = record x.holding { guard = false } }) (with_place c n to 0).units n k apart (get (with_place c n to 0).units n) ∙ place_stays c n to 0 k apart)
 
+-- the step of MOVE is orderly
 pub walk_orderly : IsOrderly walk_step IsSteady books_nothing moves_nothing IsOwnOrder IsNoWorse
 walk_orderly = record {
   well = λ w a c t x steady fit own. well w c t.unit x own.there steady t.order_value.operands;

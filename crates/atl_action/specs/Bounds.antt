@@ -5,6 +5,6 @@ use Rattle.atl_records.specs.declared.books.Thing.TheVariants.{Money}
 use Rattle.atl_instant.specs.Bounds.{RemainingBound}
 use Rattle.atl_instant.specs.Meaning.{moves_only}
 
--- no more than the money of all units is spent
+-- the remaining bound of STUDY: the money of all units under the entry study, and 0 for every other amount
 abbrev pub study_reserve : RemainingBound
 study_reserve c = moves_only (sum_over (λ u. u.holding.money) c.units) Study Money

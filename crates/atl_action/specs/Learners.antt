@@ -1,4 +1,4 @@
--- Who is learning, as the phase begins. See docs/RULES.md, "Learning".
+-- The units that are learning as the phase of TEACH and STUDY begins. See docs/RULES.md, "Learning".
 use Rattle.std.specs.Prelude.{◌≡◌, ◌*◌, ◌==◌, ◌&&◌, ℕ, nat_le, nat_lt, Bool, true, false, List, fold, Option, Some, None, if◌then◌else◌}
 use Rattle.std.specs.List.{Contains}
 use Rattle.std.specs.Option.{option_map_or}
@@ -17,43 +17,46 @@ use Rattle.atl_state.specs.Campaign.{CampaignValue}
 use Rattle.atl_instant.specs.Month.{MonthValue}
 use Rattle.atl_instant.specs.PhaseOrders.{Task, orders_by_unit}
 
+-- whether a verb is STUDY
 abbrev pub is_studying : Verb → Bool
 is_studying verbs.Study = true
 is_studying verb = false
 
--- the skill that an order has its unit study
+-- the skill that an order of STUDY names; None for operands of any other form
 abbrev pub skill_of : OperandsValue → Option ℕ
 skill_of (operands.Skill s) = Some s
 skill_of order = None
 
--- there are men, and the fee for all of them
+-- whether a unit has men, and money for the fee of all of them
 abbrev pub can_learn : WorldValue → (skill : ℕ) → HoldingValue → Bool
 can_learn w s h = nat_lt 0 h.men && nat_le (fee_of w s * h.men) h.money
 
--- a unit that is there, is of the faction that gives the order, and can learn
+-- whether a unit is there, is of the faction that gives the order, and can learn the skill
 abbrev pub learns : WorldValue → (skill faction : ℕ) → Option Unit → Bool
 learns w s f unit = option_map_or (λ u. u.faction == f && can_learn w s u.holding) unit false
 
--- the skill that each unit is learning, by the units' numbers
+-- the number of the skill that each learning unit is learning, by the units' numbers
 abbrev pub Learning : Type 0
 Learning = FinMap nat_cmp ℕ
 
--- with the unit of a STUDY order that stands, if it learns by it
+-- the map with the unit of an order of STUDY, if it learns by the order
 abbrev pub with_learner : WorldValue → CampaignValue → Learning → Task → Learning
 with_learner w c learning t =
     option_map_or (λ s. if learns w s t.faction (get c.units t.unit) then insert learning t.unit s else learning) (skill_of t.order_value.operands) learning
 
--- the orders of STUDY that stand
+-- the orders of STUDY of a month that count, by unit, line and faction
 abbrev pub study_tasks : MonthValue → List Task
 study_tasks = orders_by_unit is_studying
 
--- At most one order of STUDY stands for a unit in the mailing of its own faction.
+-- The units that are learning as the phase begins, each with its skill: by all orders of STUDY that count.
+-- At most one order of STUDY counts for a unit in the mailing of its own faction.
 unfoldable pub learners : WorldValue → CampaignValue → MonthValue → Learning
 learners w c m = fold (with_learner w c) empty (study_tasks m)
 
--- ---- a law: who is learning
+-- ---- a law: which units are learning
 
--- By an order of STUDY that stands, of the unit's own faction, it learns this skill: it has men, and money for all of them.
+-- Unit n learns this skill by an order of STUDY that counts, from its own faction.
+-- It has men, and the fee for all of them.
 pub record IsLearning (w : WorldValue) (c : CampaignValue) (m : MonthValue) (n skill : ℕ) : Type 0 where
   pub order : Task
   pub stands : Contains (study_tasks m) order
@@ -61,10 +64,11 @@ pub record IsLearning (w : WorldValue) (c : CampaignValue) (m : MonthValue) (n s
   pub says : skill_of order.order_value.operands ≡ Some skill
   pub can : learns w skill order.faction (get c.units n) ≡ true
 
--- only those units are learning, and each of them is
+-- each unit in `learners` learns its skill by such an order, and each unit that learns by such an order is in `learners`
 pub record LearnByOrders (w : WorldValue) (c : CampaignValue) (m : MonthValue) : Type 0 where
   pub only : (n skill : ℕ) → get (learners w c m) n ≡ Some skill → IsLearning w c m n skill
   pub each : (n skill : ℕ) → IsLearning w c m n skill → IsThere (learners w c m) n
 
+-- A law: it is so for each world, campaign and month.
 abbrev pub UnitsLearnByOrders : Type 0
 UnitsLearnByOrders = (w : WorldValue) (c : CampaignValue) (m : MonthValue) → LearnByOrders w c m

@@ -1,4 +1,4 @@
--- SAIL: ships go to a neighbouring region with all that are inside. See docs/RULES.md, "Sailing".
+-- SAIL: ships go to a neighbouring region with all units inside. See docs/RULES.md, "Sailing".
 use Rattle.std.specs.Prelude.{◌≡◌, ◌≤◌, ℕ, ◌*◌, ◌==◌, ◌&&◌, nat_lt, Bool, true, false, not, [], ◌∷◌, fold, sum_by, unwrap_or, Option, Some, None}
 use Rattle.std.specs.List.{slice_get}
 use Rattle.std.specs.Option.{option_map_or}
@@ -33,42 +33,44 @@ use Rattle.atl_instant.specs.PhaseSpecs.{PhaseSpec, books_none}
 
 -- ---- which orders are of the phase
 
+-- whether a verb is SAIL
 abbrev pub is_sailing : Verb → Bool
 is_sailing verbs.Sail = true
 is_sailing verb = false
 
--- ---- the ship and who is inside
+-- ---- the ship and the units inside it
 
--- a ship that is done
+-- whether a structure is there, is a ship, and is complete
 abbrev pub is_complete_ship : WorldValue → Option Structure → Bool
 is_complete_ship w structure = option_map_or (λ s. is_ship w s && s.done == size_of w s.kind) structure false
 
--- a number that the world gives the kind of a structure; 0 where there is none
+-- a number that the world gives the kind of a structure; 0 where the structure or its kind isn't there
 abbrev pub of_kind : (Kind → ℕ) → WorldValue → Option Structure → ℕ
 of_kind number w structure = option_map_or (λ s. option_map_or number (slice_get w.kinds s.kind) 0) structure 0
 
--- the crew that a ship needs, and the load that it can take
+-- the crew that a ship's kind needs
 abbrev pub crew_needed : WorldValue → Option Structure → ℕ
 crew_needed = of_kind (λ k. k.crew)
 
+-- the load that a ship's kind can take
 abbrev pub capacity : WorldValue → Option Structure → ℕ
 capacity = of_kind (λ k. k.capacity)
 
--- what people are worth as a crew: each man his level in the world's skill of sailing
+-- what the men of a unit are worth as a crew: their number times the unit's level in the world's skill of sailing
 abbrev pub crew_of : WorldValue → HoldingValue → ℕ
 crew_of w h = h.men * level_in_any h w.rules.sailing
 
--- the sum over all units inside
+-- the sum of a number over all units inside a structure
 abbrev pub sum_inside : (HoldingValue → ℕ) → CampaignValue → (structure : ℕ) → ℕ
 sum_inside f c s = sum_by (λ n. option_map_or (λ u. f u.holding) (get c.units n) 0) (numbers_inside s c.units)
 
 -- ---- SAIL
 
--- whether ships sail that way: there is a neighbour, and one of both regions is water
+-- whether ships sail from a region to its neighbour: the world has that region, and the two aren't both land
 abbrev pub is_way : WorldValue → (from : ℕ) → (neighbour : Option ℕ) → Bool
 is_way w from neighbour = option_map_or (λ to. is_region w to && not (is_land_at w from && is_land_at w to)) neighbour false
 
--- why a unit doesn't sail there in what it is inside: NoMen, NotInside, NotOwner, NotComplete, NoWay, NoCrew, TooHeavy
+-- why unit n doesn't sail there: NoMen, NotInside, NotOwner, NotComplete, NoWay, NoCrew or TooHeavy; None where it does
 abbrev pub sail_fault : WorldValue → CampaignValue → (n : ℕ) → Unit → Option Structure → (to : Option ℕ) → Option EventFault
 sail_fault w c n u ship to = first_fault (
     (u.holding.men == 0, NoMen)
@@ -80,30 +82,33 @@ sail_fault w c n u ship to = first_fault (
     ∷ (nat_lt (capacity w ship) (sum_inside (load_of w) c u.structure), TooHeavy)
     ∷ [])
 
--- one unit that is inside goes along, and guards no more
+-- the campaign with unit n inside the ship in region `to`, and its guard flag cleared
 abbrev pub with_unit_aboard : (ship to : ℕ) → CampaignValue → (n : ℕ) → CampaignValue
 with_unit_aboard ship to c n = with_guard (with_place c n to ship) n false
 
--- the ship goes, and all that are inside
+-- the campaign with the ship in region `to`, and all units inside it too, their guard flags cleared
 unfoldable pub after_sailing : CampaignValue → (ship to : ℕ) → CampaignValue
 after_sailing c ship to = with_structure_region (fold (with_unit_aboard ship to) c (numbers_inside ship c.units)) ship to
 
+-- the effect of SAIL: the ship goes in this direction with all units inside, unless the order has a fault
 unfoldable pub sail : WorldValue → (n : ℕ) → Direction → OrderEffect
 sail w n direction c u =
     let to = neighbour w u.region direction in
     unless c (sail_fault w c n u (get c.structures u.structure) to) (after_sailing c u.structure (unwrap_or to 0), Done 0)
 
+-- the effect of an order of SAIL, by its operands; None for operands of any other form
 abbrev pub sail_effect : WorldValue → (n : ℕ) → OperandsValue → Option OrderEffect
 sail_effect w n (operands.Direction direction) = Some (sail w n direction)
 sail_effect w n other = None
 
+-- the step of the phase: the effect of an order of SAIL
 abbrev pub sail_step : OrderMeaning
 sail_step w aliases t = sail_effect w t.unit t.order_value.operands
 
 -- ---- the phase
 
--- a unit that keeps its name and no less of anything, and stays inside what it was inside; where that is nothing, it stays in its region
--- and keeps its flag
+-- The unit keeps its faction, structure and name, has no less of anything, and doesn't begin to guard.
+-- If it is inside no structure, it keeps its region and its guard flag too.
 pub record IsAtMostMoved (before after : Unit) : Type 0 where
   pub faction : after.faction ≡ before.faction
   pub structure : after.structure ≡ before.structure
@@ -116,23 +121,24 @@ pub record IsAtMostMoved (before after : Unit) : Type 0 where
   pub items : (i : ℕ) → amount_of before.holding.items i ≤ amount_of after.holding.items i
   pub days : (s : ℕ) → amount_of before.holding.days s ≤ amount_of after.holding.days s
 
--- each unit is still there, and at most went along
+-- each unit is still there, and at most went along with the structure that it is inside
 abbrev pub AreAtMostMoved : CampaignValue → CampaignValue → Type 0
 AreAtMostMoved before after = Every (λ n u. IsUnaffected IsAtMostMoved after n u) before.units
 
--- no order takes anything from anybody
+-- an order of SAIL concerns no unit: none is excepted from what `IsAtMostMoved` says
 abbrev pub concerns_nobody : Affects
 concerns_nobody t n f = ⊥
 
--- The ship sails that a unit is inside: as the phase begins an order is for a unit inside the same structure, of the faction that wrote
--- it, and without a fault.
+-- By order t the structure sails that unit n is inside, as the phase begins.
+-- The order is for a unit inside the same structure, of the faction that wrote it, and has no fault.
 pub record SailsWith (w : WorldValue) (begun : CampaignValue) (t : Task) (n f : ℕ) : Type 0 where
   pub together : inside begun t.unit ≡ inside begun n
   pub done : (order_result (sail_effect w t.unit t.order_value.operands) begun t.faction t.unit).1 ≡ Some (Done 0)
 
--- each unit goes at most with what it is inside, and where that is no ship that sails, it stays as it is
+-- what the phase keeps: each unit at most goes with its structure, and one whose structure doesn't sail is unchanged
 abbrev pub sail_keeps : Frame
 sail_keeps w m before after = AreAtMostMoved before after × spares_others (SailsWith w before) IsUnchanged is_sailing w m before after
 
+-- the specification of the phase of SAIL, which moves no amount of the books
 abbrev pub sail_spec : PhaseSpec
 sail_spec = books_none (meaning_by_orders sail_step is_sailing) sail_keeps

@@ -30,33 +30,34 @@ use Rattle.atl_instant.specs.PhaseSpecs.{PhaseSpec, books_money}
 
 -- ---- days
 
--- whether a kind of structure helps a skill
+-- whether a kind of structure helps the study of a skill
 abbrev pub helps : (skill : ℕ) → Kind → Bool
 helps s kind = option_map_or (λ helped. helped == s) kind.helps false
 
--- a complete structure whose kind helps the skill
+-- whether a structure is there, is complete, and is of a kind that helps the study of a skill
 abbrev pub is_helpful : WorldValue → (skill : ℕ) → Option Structure → Bool
 is_helpful w s structure =
     option_map_or (λ b. b.done == size_of w b.kind && option_map_or (helps s) (slice_get w.kinds b.kind) false) structure false
 
--- the days of so many men behind a month of study, of whom so many were taught
+-- the days of a skill that a unit has after a month of study: `old` and those gained, at most 450 for each man
 abbrev pub days_after : (men old taught : ℕ) → (helped : Bool) → ℕ
 days_after men old taught helped = min (old + month_days * men + taught_days * taught + (if helped then helped_days * men else 0)) (most_days * men)
 
--- ---- STUDY, of a unit of which so many men were taught
+-- ---- STUDY, for a unit of which some men were taught
 
--- NoMen, NoFee
+-- why a unit can't study: NoMen or NoFee; None where it can
 abbrev pub study_fault : HoldingValue → (cost : ℕ) → Option EventFault
 study_fault h cost = first_fault ((h.men == 0, NoMen) ∷ (nat_lt h.money cost, NoFee) ∷ [])
 
--- the fee is paid, and so many days are reached
+-- what a unit holds after it paid `cost` and has `days` of the skill
 abbrev pub with_study : HoldingValue → (skill cost days : ℕ) → HoldingValue
 with_study h s cost days = record h { money = h.money - cost; days = with_amount_of h.days s days }
 
--- what is paid is booked
+-- the campaign after unit n paid `cost`, which is booked as study, and has `days` of the skill
 abbrev pub after_study : CampaignValue → (n : ℕ) → Unit → (skill cost days : ℕ) → CampaignValue
 after_study c n u s cost days = with_amount (with_held c n (with_study u.holding s cost days) (Some u)) Study Money (neg_ℤ (pos cost))
 
+-- the effect of STUDY on a unit of which `taught` men were taught: it pays the fee and gains days, unless the order has a fault
 unfoldable pub study : WorldValue → (taught n skill : ℕ) → OrderEffect
 study w taught n s c u =
     let cost = fee_of w s * u.holding.men in
@@ -64,30 +65,33 @@ study w taught n s c u =
     let days = days_after u.holding.men old taught (is_helpful w s (get c.structures u.structure)) in
     unless c (study_fault u.holding cost) (after_study c n u s cost days, Done (days - old))
 
+-- the effect of an order of STUDY, by its operands; None for operands of any other form
 abbrev pub study_effect : WorldValue → TaughtMen → (n : ℕ) → OperandsValue → Option OrderEffect
 study_effect w taught n (operands.Skill s) = Some (study w (taught n) n s)
 study_effect w taught n other = None
 
--- where so many were taught
+-- the step of STUDY, where this many men of each unit were taught
 abbrev pub study_step : TaughtMen → OrderMeaning
 study_step taught w aliases t = study_effect w taught t.unit t.order_value.operands
 
 -- ---- the phase
 
--- all teach, and then all study
+-- the effect of the phase: all orders of TEACH, and then all orders of STUDY
 abbrev pub learn_meaning : Meaning
 learn_meaning w c m =
     let lessons = after_lessons c (learners w c m) m in
     meaning_by_orders (study_step lessons.0) is_studying w c lessons.1
 
--- a unit for which its own faction wrote no order of STUDY stays as it is
+-- what the phase keeps: a unit for which its own faction wrote no order of STUDY is unchanged
 abbrev pub learn_keeps : Frame
 learn_keeps = spares_others IsOwnOrder IsUnchanged is_studying
 
--- ---- how far it moves the books
+-- ---- by how much the phase moves the books
 
+-- the bound on the books: the money under the entry study may move by less than 10^14, and nothing else
 abbrev pub study_moves : BookBound
 study_moves = moves_only most_moved Study Money
 
+-- the specification of the phase of TEACH and STUDY
 abbrev pub learn_spec : PhaseSpec
 learn_spec = books_money Study learn_meaning learn_keeps

@@ -1,4 +1,4 @@
--- A law: who studies pays and learns by what it had as the phase began, whoever else studies. See docs/RULES.md, "Learning".
+-- A law: a unit that studies pays and learns by what it had as the phase began, whoever else studies. See docs/RULES.md, "Learning".
 use Rattle.std.specs.Prelude.{◌≡◌, ℕ, Option, Some}
 use Rattle.std.specs.List.{Contains}
 use Rattle.std.specs.FinMap.{get}
@@ -15,7 +15,7 @@ use Rattle.atl_action.specs.Learners.{learners, study_tasks}
 use Rattle.atl_action.specs.Study.{learn_meaning, study}
 use Rattle.atl_action.specs.Teach.{after_lessons}
 
--- the order of STUDY of its own faction, which stands
+-- for unit n an order of STUDY of this skill counts, from this faction, its own
 pub record IsOwnStudy (m : MonthValue) (n faction skill : ℕ) : Type 0 where
   pub order : Task
   pub stands : Contains (study_tasks m) order
@@ -23,15 +23,16 @@ pub record IsOwnStudy (m : MonthValue) (n faction skill : ℕ) : Type 0 where
   pub own : order.faction ≡ faction
   pub says : order.order_value ≡ order_of Study (Skill skill)
 
--- how many men of a unit are taught
+-- how many men of unit n are taught in the phase
 abbrev pub taught_men : WorldValue → CampaignValue → MonthValue → (n : ℕ) → ℕ
 taught_men w c m n = (after_lessons c (learners w c m) m).0 n
 
--- the unit as this order alone makes it
+-- unit n as its order of STUDY alone makes it, of the campaign as the phase began
 abbrev pub unit_after_own_study : WorldValue → CampaignValue → MonthValue → (n skill : ℕ) → Unit → Option Unit
 unit_after_own_study w c m n skill u = get (study w (taught_men w c m n) n skill c u).0.units n
 
--- so it is behind the phase, with mailings as they can be read
+-- After the phase a unit is as its own faction's order of STUDY that counts makes it alone.
+-- The mailings can be read with the world.
 abbrev pub UnitsStudyAsBegun : Type 0
 UnitsStudyAsBegun =
     (w : WorldValue) (c : CampaignValue) (m : MonthValue) → AreFit w m.readings →

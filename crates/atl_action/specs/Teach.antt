@@ -24,59 +24,62 @@ use Rattle.atl_instant.specs.InTurn.{amount_in_turn}
 use Rattle.atl_action.specs.Learners.{Learning}
 use Rattle.atl_action.specs.Limits.{pupils_per_teacher}
 
+-- whether a verb is TEACH
 abbrev pub is_teaching : Verb → Bool
 is_teaching verbs.Teach = true
 is_teaching verb = false
 
--- the units that an order lists
+-- the units that an order of TEACH lists; none for operands of any other form
 abbrev pub listed_units : OperandsValue → List UnitRef
 listed_units (operands.Units refs) = refs
 listed_units order = []
 
--- how many men of each unit were taught this month, by the units' numbers
+-- how many men of each unit were taught so far in this month, by the units' numbers
 abbrev pub TaughtMen : Type 0
 TaughtMen = ℕ → ℕ
 
--- ---- who of the listed units is taught
+-- ---- which of the listed units are taught
 
+-- the level of unit n in a skill; 0 where it isn't there
 abbrev pub level_at : CampaignValue → (n skill : ℕ) → ℕ
 level_at c n s = option_map_or (λ u. level_in u.holding s) (get c.units n) 0
 
--- whether a unit is learning, and is in the region
+-- whether unit n is learning, and is in this region
 abbrev pub is_pupil : CampaignValue → Learning → (region n : ℕ) → Bool
 is_pupil c learning region n = is_some (get learning n) && region_of c n == region
 
--- whether a unit's level in the skill that it learns is lower than the teacher's
+-- whether unit n's level in the skill that it learns is lower than the teacher's
 abbrev pub is_below : CampaignValue → Learning → (teacher n : ℕ) → Bool
 is_below c learning teacher n = option_map_or (λ s. nat_lt (level_at c n s) (level_at c teacher s)) (get learning n) false
 
--- each number where it is first listed
+-- the list of numbers without repetitions: each where it is first listed
 abbrev pub first_mentions : List ℕ → List ℕ
 first_mentions [] = []
 first_mentions (n ∷ ns) = n ∷ filter (λ k. not (k == n)) (first_mentions ns)
 
 -- ---- a lesson
 
+-- how many men unit n has; 0 where it isn't there
 abbrev pub men_at : CampaignValue → (n : ℕ) → ℕ
 men_at c n = option_map_or (λ u. u.holding.men) (get c.units n) 0
 
--- the men of a unit who weren't taught yet
+-- how many men of unit n weren't taught yet
 abbrev pub untaught_men : CampaignValue → TaughtMen → (n : ℕ) → ℕ
 untaught_men c taught n = men_at c n - taught n
 
--- How many men of a unit are taught in a lesson. Its places go in order to the units that are listed: each gets what those before it leave,
--- up to its men who weren't taught yet.
+-- How many men of unit n are taught in a lesson for `places` men.
+-- The listed units take turns: each gets what the units before it leave, up to its men who weren't taught yet.
 abbrev pub taught_in_lesson : CampaignValue → TaughtMen → (places : ℕ) → List ℕ → (n : ℕ) → ℕ
 taught_in_lesson c taught places ns n =
     if list_any (λ k. n == k) ns then amount_in_turn places (sum_by (untaught_men c taught) (before_first (λ k. n == k) ns)) (untaught_men c taught n) else 0
 
--- who is taught after a lesson, and how many men were taught in it
+-- how many men of each unit are taught after a lesson for `places` men, and its outcome: how many were taught in it
 abbrev pub lesson : CampaignValue → TaughtMen → (places : ℕ) → List ℕ → TaughtMen × Outcome
 lesson c taught places ns = ((λ n. taught n + taught_in_lesson c taught places ns n), Done (min (sum_by (untaught_men c taught) ns) places))
 
 -- ---- TEACH
 
--- NotYours, NoMen, NotLearning, CannotTeach
+-- why the unit of an order can't teach: NotYours, NoMen, NotLearning or CannotTeach; None where it can
 abbrev pub teach_fault : CampaignValue → Task → (pupils below : List ℕ) → Option EventFault
 teach_fault c t pupils below = first_fault (
     (not (is_own c t), NotYours)
@@ -85,7 +88,7 @@ teach_fault c t pupils below = first_fault (
     ∷ (length below == 0, CannotTeach)
     ∷ [])
 
--- an order: with a fault nobody is taught
+-- how many men of each unit are taught after an order of TEACH, and its outcome; with a fault nobody is taught
 unfoldable pub teach : CampaignValue → Aliases → Learning → TaughtMen → Task → TaughtMen × Outcome
 teach c aliases learning taught t =
     let pupils = filter (is_pupil c learning (region_of c t.unit)) (map (unit_of aliases t.faction) (listed_units t.order_value.operands)) in
@@ -95,17 +98,20 @@ teach c aliases learning taught t =
 
 -- ---- all orders of TEACH
 
+-- how many men of each unit are taught after an order of TEACH, and the month with its event
 abbrev pub teach_order : CampaignValue → Learning → TaughtMen × MonthValue → Task → TaughtMen × MonthValue
 teach_order c learning (taught, m) t = let after = teach c m.aliases learning taught t in (after.0, with_event_of m t (Some after.1))
 
--- who was taught, and what is told
+-- how many men of each unit are taught after all orders of TEACH, and the month with their events
 unfoldable pub after_lessons : CampaignValue → Learning → MonthValue → TaughtMen × MonthValue
 after_lessons c learning m = fold (teach_order c learning) ((λ n. 0), m) (orders_by_unit is_teaching m)
 
 -- ---- a law: of no unit more men are taught in a month than it has
 
+-- of no unit more men were taught than it has
 abbrev pub AreTaughtOnce : CampaignValue → TaughtMen → Type 0
 AreTaughtOnce c taught = (n : ℕ) → taught n ≤ men_at c n
 
+-- A law: after all orders of TEACH it is so.
 abbrev pub NobodyIsTaughtTwice : Type 0
 NobodyIsTaughtTwice = (c : CampaignValue) (learning : Learning) (m : MonthValue) → AreTaughtOnce c (after_lessons c learning m).0

@@ -22,17 +22,18 @@ use Rattle.atl_instant.specs.PhaseSpecs.{PhaseSpec, goes_by_orders}
 
 -- ---- which orders are of the phase
 
+-- whether a verb is MOVE
 abbrev pub is_walking : Verb → Bool
 is_walking verbs.Move = true
 is_walking verb = false
 
 -- ---- MOVE
 
--- whether there is a neighbour with land
+-- whether there is a neighbour, and it is land
 abbrev pub is_land_there : WorldValue → (to : Option ℕ) → Bool
 is_land_there w to = option_map_or (is_land_at w) to false
 
--- why a unit doesn't go there: NoMen, AtSea, NoWay, TooHeavy
+-- why a unit can't walk to a neighbour: NoMen, AtSea, NoWay or TooHeavy; None where it can
 abbrev pub walk_fault : WorldValue → Unit → (to : Option ℕ) → Option EventFault
 walk_fault w u to = first_fault (
     (u.holding.men == 0, NoMen)
@@ -41,24 +42,27 @@ walk_fault w u to = first_fault (
     ∷ (nat_lt (carried_by w u.holding) (goods_of w u.holding), TooHeavy)
     ∷ [])
 
--- the unit goes there, leaves its structure, and guards no more
+-- the campaign with unit n in region `to`, inside no structure, and its guard flag cleared
 abbrev pub after_walk : CampaignValue → (n to : ℕ) → CampaignValue
 after_walk c n to = with_guard (with_place c n to 0) n false
 
+-- the effect of MOVE: unit n walks to the region in this direction, unless the order has a fault
 unfoldable pub walk : WorldValue → (n : ℕ) → Direction → OrderEffect
 walk w n direction c u =
     let to = neighbour w u.region direction in
     unless c (walk_fault w u to) (after_walk c n (unwrap_or to 0), Done 0)
 
+-- the effect of an order of MOVE, by its operands; None for operands of any other form
 abbrev pub walk_effect : WorldValue → (n : ℕ) → OperandsValue → Option OrderEffect
 walk_effect w n (operands.Direction direction) = Some (walk w n direction)
 walk_effect w n other = None
 
+-- the step of the phase: the effect of an order of MOVE
 abbrev pub walk_step : OrderMeaning
 walk_step w aliases t = walk_effect w t.unit t.order_value.operands
 
 -- ---- the phase
 
--- who gives no such order stays
+-- the specification of the phase: a unit for which its own faction wrote no such order is no worse off
 abbrev pub walk_spec : PhaseSpec
 walk_spec = goes_by_orders walk_step is_walking IsOwnOrder IsNoWorse

@@ -11,7 +11,8 @@ use atl_state::Campaign;
 use atl_tables::World;
 use std::alloc::Global;
 
-/// People study skills for a fee, and others teach them. All teach before anybody studies. See docs/RULES.md, "Learning".
+/// The phase of TEACH and STUDY: all units teach before any unit studies.
+/// See docs/RULES.md, "Learning".
 #[derive(Drop, Clone, Copy)]
 pub struct LearnPhase;
 
@@ -37,8 +38,8 @@ impl Phase for LearnPhase {
     }
 }
 
-/// Does nothing. Its clause is the law of STUDY: behind the phase a unit is as its own order makes it alone, in the campaign as
-/// the phase began. See docs/RULES.md, "Learning".
+/// Does nothing. Its clause is the law of STUDY: after the phase a unit is as its own order alone
+/// makes it, of the campaign as the phase began. See docs/RULES.md, "Learning".
 pub fn units_study_as_begun()
     ensures { UnitsStudyAsBegun }
 {}

@@ -13,7 +13,7 @@ use atl_state::{Campaign, Holding};
 use atl_tables::{Numbered, World};
 use std::alloc::{AllocError, Global};
 
-/// The verb of those who learn.
+/// The verb STUDY, whose orders say which units are learning.
 pub(crate) struct StudyVerbs;
 
 impl PhaseVerbs for StudyVerbs {
@@ -24,7 +24,7 @@ impl PhaseVerbs for StudyVerbs {
     }
 }
 
-/// The skill that an order has its unit study.
+/// The skill that an order of STUDY names; None for operands of any other form.
 fn skill_of(what: &Operands) -> Option<u16>
     ensures { (text : List ℕ) → result ≡ skill_of (named text what.now) }
 {
@@ -34,14 +34,14 @@ fn skill_of(what: &Operands) -> Option<u16>
     }
 }
 
-/// What so many men pay for it.
+/// The fee of a skill for this number of men.
 pub(crate) fn cost_of(world: &World, skill: u16, men: u32) -> u64
     ensures { result ≡ fee_of world.now skill * men }
 {
     u64::from(world.fee_of(skill)) * u64::from(men)
 }
 
-/// Whether people can pay for it.
+/// Whether a unit has men, and money for the fee of all of them.
 fn can_learn(world: &World, skill: u16, holding: &Holding) -> bool
     ensures { result ≡ can_learn world.now skill holding.now }
 {
@@ -49,7 +49,7 @@ fn can_learn(world: &World, skill: u16, holding: &Holding) -> bool
     0 < men && cost_of(world, skill, men) <= u64::from(holding.money())
 }
 
-/// Whether a unit that a faction orders to study is its own, and learns.
+/// Whether a unit is there, is of the faction that gives the order, and can learn the skill.
 fn learns(world: &World, campaign: &Campaign, skill: u16, faction: u32, unit: u32) -> bool
     ensures { result ≡ learns world.now skill faction (map.get campaign.now.value.units unit) }
 {
@@ -59,7 +59,7 @@ fn learns(world: &World, campaign: &Campaign, skill: u16, faction: u32, unit: u3
     }
 }
 
-/// Notes who learns by an order of STUDY.
+/// Adds the unit of an order of STUDY, with its skill, if it learns by the order.
 fn add_learner(
     world: &World,
     campaign: &Campaign,
@@ -77,7 +77,7 @@ fn add_learner(
     Ok(())
 }
 
-/// The skill that each unit is learning, by the units' numbers.
+/// The number of the skill that each learning unit is learning, by the units' numbers.
 pub(crate) fn learners(
     alloc: Global,
     world: &World,
@@ -94,8 +94,9 @@ pub(crate) fn learners(
     Ok(learning)
 }
 
-/// Does nothing. Its clause is the law of who is learning: a unit for which its own faction's order of STUDY stands, and which
-/// has men and the fee for all of them; it learns the skill of such an order. See docs/RULES.md, "Learning".
+/// Does nothing. Its clause is a law: exactly the units learn for which an order of STUDY of their
+/// own faction counts, and which have men and the fee for all of them. Each learns the skill of
+/// such an order. See docs/RULES.md, "Learning".
 pub fn units_learn_by_orders()
     ensures { UnitsLearnByOrders }
 {}

@@ -1,13 +1,14 @@
-//! The numbers of teaching and study. See docs/RULES.md, "Learning".
+//! The numbers of teaching and study: men for each teacher, and days for each month. See
+//! docs/RULES.md, "Learning".
 
-/// How many men learn from one teacher in a month.
+/// How many men one man teaches in a month at most.
 pub(crate) const PUPILS_PER_TEACHER: u32 = 10;
 
-/// The days that a man studies in a month.
+/// The days that each man gains by a month of study.
 pub(crate) const MONTH_DAYS: u64 = 30;
 
-/// What a man that is taught studies more.
+/// The days that each man who is taught gains besides.
 pub(crate) const TAUGHT_DAYS: u64 = 30;
 
-/// What each man inside a structure that helps studies more.
+/// The days that each man gains besides, inside a structure that helps the skill.
 pub(crate) const HELPED_DAYS: u64 = 10;

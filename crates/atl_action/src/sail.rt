@@ -21,18 +21,19 @@ use atl_state::{Campaign, EventFault, Holding, Outcome, Structure, Unit, level_i
 use atl_tables::{Kind, World};
 use std::alloc::{AllocError, Global};
 
-/// Ships sail to neighbouring regions with all that are inside. See docs/RULES.md, "Sailing".
+/// The phase of SAIL: ships go to neighbouring regions with all units inside.
+/// See docs/RULES.md, "Sailing".
 #[derive(Drop, Clone, Copy)]
 pub struct SailPhase;
 
-/// The kind of a structure.
+/// The kind of a structure, by its index among the kinds of the world; None past the last.
 fn kind_of<'w>(world: &'w World, structure: &Structure) -> Option<&'w Kind>
     ensures { option_copied result ≡ slice_get world.now.kinds structure.now.kind }
 {
     world.kinds().get(usize::from(structure.kind))
 }
 
-/// Whether a structure is a ship that is done.
+/// Whether a structure is there, is a ship, and is complete.
 fn is_complete_ship(world: &World, structure: Option<&Structure>) -> bool
     ensures { result ≡ is_complete_ship world.now (option_copied structure.entry) }
 {
@@ -45,7 +46,7 @@ fn is_complete_ship(world: &World, structure: Option<&Structure>) -> bool
     }
 }
 
-/// The crew that a ship needs.
+/// The crew that a ship's kind needs; 0 where the structure or its kind isn't there.
 fn crew_needed(world: &World, structure: Option<&Structure>) -> u32
     ensures { result ≡ crew_needed world.now (option_copied structure.entry) }
 {
@@ -58,7 +59,7 @@ fn crew_needed(world: &World, structure: Option<&Structure>) -> u32
     }
 }
 
-/// The load that a ship can take.
+/// The load that a ship's kind can take; 0 where the structure or its kind isn't there.
 fn capacity(world: &World, structure: Option<&Structure>) -> u32
     ensures { result ≡ capacity world.now (option_copied structure.entry) }
 {
@@ -81,14 +82,14 @@ fn is_owned_by(structure: Option<&Structure>, unit: u32) -> bool
     }
 }
 
-/// What people are worth as a crew.
+/// What the men of a unit are worth as a crew: their number times the unit's level of sailing.
 fn crew_of(world: &World, holding: &Holding) -> u64
     ensures { result ≡ crew_of world.now holding.now }
 {
     u64::from(holding.men()) * u64::from(level_in_any(holding, world.rules().sailing))
 }
 
-/// What a unit is worth as a crew.
+/// What a unit is worth as a crew; 0 where it isn't there.
 fn crew_at(world: &World, unit: Option<&Unit>) -> u64
     ensures { result ≡ option_map_or (λ u. crew_of world.now u.holding) (option_copied unit.entry)
         0 }
@@ -99,7 +100,7 @@ fn crew_at(world: &World, unit: Option<&Unit>) -> u64
     }
 }
 
-/// What a unit weighs.
+/// What a unit weighs, men and goods; 0 where it isn't there.
 fn load_at(world: &World, unit: Option<&Unit>) -> u64
     ensures { result ≡ option_map_or (λ u. load_of world.now u.holding) (option_copied unit.entry)
         0 }
@@ -110,7 +111,7 @@ fn load_at(world: &World, unit: Option<&Unit>) -> u64
     }
 }
 
-/// What all inside a structure are worth as a crew.
+/// What all units inside a structure are worth as a crew together.
 fn crew_inside(world: &World, campaign: &Campaign, structure: u32) -> u128
     ensures { result ≡ sum_inside (crew_of world.now) campaign.now.value structure }
 {
@@ -121,7 +122,7 @@ fn crew_inside(world: &World, campaign: &Campaign, structure: u32) -> u128
     sum
 }
 
-/// What all inside a structure weigh.
+/// What all units inside a structure weigh together.
 fn load_inside(world: &World, campaign: &Campaign, structure: u32) -> u128
     ensures { result ≡ sum_inside (load_of world.now) campaign.now.value structure }
 {
@@ -132,7 +133,7 @@ fn load_inside(world: &World, campaign: &Campaign, structure: u32) -> u128
     sum
 }
 
-/// Whether ships sail from one region to another.
+/// Whether ships sail from a region to its neighbour: that is there, and not both are land.
 fn is_way(world: &World, from: u32, to: Option<u32>) -> bool
     ensures { result ≡ is_way world.now from to }
 {
@@ -143,7 +144,7 @@ fn is_way(world: &World, from: u32, to: Option<u32>) -> bool
     }
 }
 
-/// Why a unit doesn't sail there in what it is inside.
+/// Why a unit can't sail what it is inside to a neighbouring region; None where it can.
 fn sail_fault(
     world: &World,
     campaign: &Campaign,
@@ -174,7 +175,7 @@ fn sail_fault(
     }
 }
 
-/// A unit that is inside goes along, and guards no more.
+/// Puts a unit inside the ship into the ship's new region, and clears its guard flag.
 fn take_along(campaign: &mut Campaign, unit: u32, ship: u32, to: u32) -> Result<(), AllocError>
     ensures what { OnOk result
         (campaign.new.value ≡ with_unit_aboard ship to campaign.old.value unit) }
@@ -185,7 +186,7 @@ fn take_along(campaign: &mut Campaign, unit: u32, ship: u32, to: u32) -> Result<
     Ok(())
 }
 
-/// These units go along.
+/// Puts these units inside the ship into its new region, and clears their guard flags.
 fn take_all(campaign: &mut Campaign, units: &[u32], ship: u32, to: u32) -> Result<(), AllocError>
     ensures what { OnOk result
         (campaign.new.value ≡ fold (with_unit_aboard ship to) campaign.old.value units.now) }
@@ -197,7 +198,7 @@ fn take_all(campaign: &mut Campaign, units: &[u32], ship: u32, to: u32) -> Resul
     Ok(())
 }
 
-/// A structure stands in another region.
+/// Sets the region of a ship.
 fn put_ship(campaign: &mut Campaign, ship: u32, to: u32)
     ensures what { campaign.new.value ≡ with_structure_region campaign.old.value ship to }
     ensures marks { MarksChanges campaign.old campaign.new }
@@ -205,7 +206,7 @@ fn put_ship(campaign: &mut Campaign, ship: u32, to: u32)
     campaign.set_structure_region(ship, to);
 }
 
-/// A ship goes to another region, and all that are inside.
+/// Puts a ship, and all units inside it, into another region; clears the units' guard flags.
 #[tactic(auto, unfolding(crate::specs::Sail::after_sailing))]
 fn put_there(alloc: Global, campaign: &mut Campaign, ship: u32, to: u32) -> Result<(), AllocError>
     ensures what { OnOk result (campaign.new.value ≡ after_sailing campaign.old.value ship to) }
@@ -217,7 +218,7 @@ fn put_there(alloc: Global, campaign: &mut Campaign, ship: u32, to: u32) -> Resu
     Ok(())
 }
 
-/// A unit sails to the neighbouring region in a direction.
+/// Carries out SAIL: the ship goes in the direction, or nothing changes where a fault fits.
 #[tactic(auto, unfolding(crate::specs::Sail::sail))]
 fn sail(
     alloc: Global,

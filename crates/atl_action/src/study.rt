@@ -26,13 +26,13 @@ use atl_state::{Campaign, Entry, EventFault, Holding, MOST_DAYS, Outcome, Struct
 use atl_tables::{Numbered, World};
 use std::alloc::{AllocError, Global};
 
-/// All who study, with how many men of each unit were taught.
+/// The orders of STUDY as a phase of their own, with the number of men of each unit taught before.
 #[derive(Drop)]
 pub(crate) struct StudyPhase {
     pub(crate) taught: Numbered<u32>,
 }
 
-/// Whether a structure is complete, and of a kind that helps a skill.
+/// Whether a structure is there, is complete, and is of a kind that helps the study of a skill.
 fn is_helpful(world: &World, skill: u16, structure: Option<&Structure>) -> bool
     ensures { result ≡ is_helpful world.now skill (option_copied structure.entry) }
 {
@@ -51,7 +51,7 @@ fn is_helpful(world: &World, skill: u16, structure: Option<&Structure>) -> bool
     }
 }
 
-/// The days of so many men behind a month of study, of whom so many were taught.
+/// The days of a skill that a unit has after a month of study, at most 450 for each man.
 fn days_after(men: u32, old: u32, taught: u32, helped: bool) -> u32
     requires { men ≤ men_limit }
     ensures { result ≡ days_after men old taught helped }
@@ -62,7 +62,7 @@ fn days_after(men: u32, old: u32, taught: u32, helped: bool) -> u32
     days.min(u64::from(MOST_DAYS) * men) as u32
 }
 
-/// Why people don't study.
+/// Why a unit can't study; None where it can.
 fn study_fault(holding: &Holding, cost: u64) -> Option<EventFault>
     ensures { result ≡ study_fault holding.now cost }
 {
@@ -75,7 +75,7 @@ fn study_fault(holding: &Holding, cost: u64) -> Option<EventFault>
     }
 }
 
-/// A unit pays, and reaches so many days of a skill, where it is there.
+/// Takes the cost from a unit's money and sets its days of a skill, if it is there.
 fn learn(
     campaign: &mut Campaign,
     unit: u32,
@@ -96,7 +96,7 @@ fn learn(
     campaign.set_days(unit, u32::from(skill), days)
 }
 
-/// A unit that is there studies, and what it pays is booked.
+/// Takes the cost from a unit's money, sets its days of a skill, and books the cost as study.
 fn put_study(
     world: &World,
     campaign: &mut Campaign,
@@ -119,7 +119,7 @@ fn put_study(
     Ok(())
 }
 
-/// A unit studies a skill.
+/// Carries out an order of STUDY, or changes nothing where it has a fault.
 #[tactic(auto, unfolding(crate::specs::Study::study))]
 fn study(
     world: &World,

@@ -19,7 +19,7 @@ use atl_state::{Campaign, Event, EventFault, Outcome, level};
 use atl_tables::Numbered;
 use std::alloc::{AllocError, Global};
 
-/// The verb of those who teach.
+/// The verb TEACH, which this phase carries out before STUDY.
 struct TeachVerbs;
 
 impl PhaseVerbs for TeachVerbs {
@@ -30,7 +30,7 @@ impl PhaseVerbs for TeachVerbs {
     }
 }
 
-/// The units that an order lists.
+/// The units that an order of TEACH lists; none for operands of any other form.
 fn listed_units(what: &Operands) -> &[UnitRef]
     ensures { (text : List ℕ) → result.now ≡ listed_units (named text what.now) }
 {
@@ -40,7 +40,7 @@ fn listed_units(what: &Operands) -> &[UnitRef]
     }
 }
 
-/// The level of a unit in a skill, or 0.
+/// The level of a unit in a skill; 0 where it isn't there.
 fn level_at(campaign: &Campaign, unit: u32, skill: u32) -> u32
     ensures { result ≡ level_at campaign.now.value unit skill }
 {
@@ -50,14 +50,14 @@ fn level_at(campaign: &Campaign, unit: u32, skill: u32) -> u32
     }
 }
 
-/// Whether a unit is in a region, and is learning.
+/// Whether a unit is learning, and is in this region.
 fn is_pupil(campaign: &Campaign, learning: &Numbered<u32>, region: u32, unit: u32) -> bool
     ensures { result ≡ is_pupil campaign.now.value learning.now region unit }
 {
     learning.get(unit).is_some() && region_of(campaign, unit) == region
 }
 
-/// Whether a unit is learning a skill in which the teacher has a higher level.
+/// Whether a unit's level in the skill that it learns is lower than the teacher's.
 fn is_below(campaign: &Campaign, learning: &Numbered<u32>, teacher: u32, unit: u32) -> bool
     ensures { result ≡ is_below campaign.now.value learning.now teacher unit }
 {
@@ -67,7 +67,7 @@ fn is_below(campaign: &Campaign, learning: &Numbered<u32>, teacher: u32, unit: u
     }
 }
 
-/// The units of those that a faction names that are in a region, and are learning.
+/// The listed units that are learning in this region, in the order of the list.
 fn pupils_of(
     alloc: Global,
     campaign: &Campaign,
@@ -91,7 +91,7 @@ fn pupils_of(
     Ok(list)
 }
 
-/// The pupils that are below a teacher.
+/// The pupils whose level in the skill that they learn is lower than the teacher's.
 fn below_of(
     alloc: Global,
     campaign: &Campaign,
@@ -111,7 +111,8 @@ fn below_of(
     Ok(list)
 }
 
-/// Each number where it is first listed. It takes n log n steps for n numbers.
+/// The numbers without repetitions, each where it is first listed.
+/// It takes n log n steps for n numbers.
 fn first_mentions(alloc: Global, numbers: &[u32]) -> Result<Vec<u32>, AllocError>
     ensures { IfOk result (λ list. list.items ≡ first_mentions numbers.now) }
 {
@@ -126,7 +127,7 @@ fn first_mentions(alloc: Global, numbers: &[u32]) -> Result<Vec<u32>, AllocError
     Ok(list)
 }
 
-/// How many men of a unit were taught.
+/// How many men of a unit were taught so far; 0 where the unit isn't listed.
 pub(crate) fn taught_at(taught: &Numbered<u32>, unit: u32) -> u32
     ensures { result ≡ amount_of taught.now unit }
 {
@@ -136,7 +137,7 @@ pub(crate) fn taught_at(taught: &Numbered<u32>, unit: u32) -> u32
     }
 }
 
-/// The men of a unit, or 0.
+/// How many men a unit has; 0 where it isn't there.
 fn men_at(campaign: &Campaign, unit: u32) -> u32
     ensures value { result ≡ men_at campaign.now.value unit }
     ensures few { result ≤ men_limit }
@@ -155,7 +156,8 @@ fn untaught_men(campaign: &Campaign, taught: &Numbered<u32>, unit: u32) -> u32
     men_at(campaign, unit).saturating_sub(taught_at(taught, unit))
 }
 
-/// Teaches men of these units, each listed once, in so many places, and returns how many men.
+/// Teaches at most `places` men of these units, each listed once, in their order.
+/// Returns how many men were taught.
 fn teach_men(
     campaign: &Campaign,
     taught: &mut Numbered<u32>,
@@ -177,7 +179,8 @@ fn teach_men(
     Ok(places - left)
 }
 
-/// Gives a lesson with so many places to units, to each where it is first listed.
+/// Teaches at most `places` men of these units, each where it is first listed.
+/// Returns the outcome: how many men were taught.
 fn give_lesson(
     alloc: Global,
     campaign: &Campaign,
@@ -194,7 +197,7 @@ fn give_lesson(
     Ok(Outcome::Done(u64::from(men)))
 }
 
-/// Whether the unit of an order is there, and of the faction that wrote it.
+/// Whether the unit of an order is there, and of the faction that wrote the order.
 fn is_own(campaign: &Campaign, order: PhaseOrder<'_>) -> bool
     ensures { result ≡ is_own campaign.now.value (task_of order.entry) }
 {
@@ -204,7 +207,7 @@ fn is_own(campaign: &Campaign, order: PhaseOrder<'_>) -> bool
     }
 }
 
-/// Why the unit of an order can't teach.
+/// Why the unit of an order can't teach; None where it can.
 fn teach_fault(
     campaign: &Campaign,
     order: PhaseOrder<'_>,
@@ -226,7 +229,7 @@ fn teach_fault(
     }
 }
 
-/// The unit of an order teaches those whom it lists, or nobody where a fault fits.
+/// Carries out an order of TEACH; nobody is taught where it has a fault. Returns the outcome.
 #[tactic(auto, unfolding(crate::specs::Teach::teach))]
 fn teach(
     alloc: Global,
@@ -261,7 +264,7 @@ fn teach(
     give_lesson(alloc, campaign, taught, places, &below)
 }
 
-/// Carries out an order of TEACH, and puts what came of it behind other events.
+/// Carries out an order of TEACH, and adds its event to those of earlier orders.
 fn teach_one(
     alloc: Global,
     campaign: &Campaign,
@@ -281,7 +284,8 @@ fn teach_one(
     Ok(())
 }
 
-/// Carries out all orders of TEACH, and tells of each. The answer is how many men of each unit were taught.
+/// Carries out all orders of TEACH, and adds their events to the month.
+/// Returns how many men of each unit were taught.
 pub(crate) fn teach_all(
     alloc: Global,
     campaign: &Campaign,
@@ -312,7 +316,8 @@ pub(crate) fn teach_all(
     Ok(taught)
 }
 
-/// Of no unit more men are taught in a month than it has, however many teach it.
+/// Does nothing. Its clause is a law: of no unit more men are taught in a month than it has,
+/// however many units teach it.
 pub fn nobody_is_taught_twice()
     ensures { NobodyIsTaughtTwice }
 {}

@@ -11,11 +11,12 @@ use atl_state::{Campaign, EventFault, Outcome, Unit, carry, goods};
 use atl_tables::World;
 use std::alloc::{AllocError, Global};
 
-/// Units walk to neighbouring regions with land. See docs/RULES.md, "Walking".
+/// The phase of MOVE: units walk to neighbouring regions with land.
+/// See docs/RULES.md, "Walking".
 #[derive(Drop, Clone, Copy)]
 pub struct MovePhase;
 
-/// Whether there is a neighbour with land.
+/// Whether there is a neighbour, and it is land.
 fn is_land_there(world: &World, to: Option<u32>) -> bool
     ensures { result ≡ is_land_there world.now to }
 {
@@ -25,7 +26,7 @@ fn is_land_there(world: &World, to: Option<u32>) -> bool
     }
 }
 
-/// Why a unit doesn't walk there.
+/// Why a unit can't walk to a neighbouring region; None where it can.
 fn walk_fault(world: &World, unit: &Unit, to: Option<u32>) -> Option<EventFault>
     ensures { result ≡ walk_fault world.now unit.now to }
 {
@@ -42,7 +43,7 @@ fn walk_fault(world: &World, unit: &Unit, to: Option<u32>) -> Option<EventFault>
     }
 }
 
-/// A unit stands in another region, inside no structure, and guards no more.
+/// Puts a unit into another region, inside no structure, and clears its guard flag.
 fn put_there(campaign: &mut Campaign, unit: u32, to: u32) -> Result<(), AllocError>
     ensures what { OnOk result (campaign.new.value ≡ after_walk campaign.old.value unit to) }
     ensures marks { OnOk result (MarksChanges campaign.old campaign.new) }
@@ -52,7 +53,7 @@ fn put_there(campaign: &mut Campaign, unit: u32, to: u32) -> Result<(), AllocErr
     Ok(())
 }
 
-/// A unit walks to the neighbouring region in a direction.
+/// Carries out MOVE: the unit walks in the direction, or nothing changes where a fault fits.
 #[tactic(auto, unfolding(crate::specs::Walk::walk))]
 fn walk(
     world: &World,

@@ -1,4 +1,4 @@
--- Amounts that are each said on their own.
+-- The amounts of a map that `amounts_for` makes of a list of numbers.
 use Rattle.std.proofs.Common.{◌≡◌, ◌==◌, ℕ, ◌≤◌, Bool, true, false, not, ◌||◌, cond, List, [], ◌∷◌, map, filter, Option, Some, None, refl, sym, ap, ◌∙◌, arith}
 use Rattle.std.specs.Prelude.{unwrap_or}
 use Rattle.std.specs.List.{list_any}
@@ -16,12 +16,15 @@ at_least_one : (n : ℕ) → (n == 0) ≡ false → 1 ≤ n
 at_least_one n some = grind (arith, nat_tests)
 
 module _ (f : ℕ → ℕ) where
+  -- the number has the amount that f gives it, and that isn't 0
   abbrev IsSome : ℕ → ℕ → Type 0
   IsSome n amount = (1 ≤ amount) × (amount ≡ f n)
 
+  -- the entries from which `amounts_for` makes its map
   abbrev listed : List ℕ → List (ℕ × ℕ)
   listed ns = filter (λ e. not (e.1 == 0)) (map (λ n. (n, f n)) ns)
 
+  -- each of these entries has an amount other than 0, the one that f gives
   each_some : (ns : List ℕ) → EachOf IsSome (listed ns)
   each_some [] = tt
   each_some (n ∷ ns) = by_test (each_some ns) (f n == 0) refl
@@ -30,17 +33,20 @@ module _ (f : ℕ → ℕ) where
       by_test rest true is = rest
       by_test rest false is = ((at_least_one (f n) is, refl), rest)
 
-  -- what is listed is no 0, and as it is said
+  -- each number that `amounts_for` lists has an amount other than 0, the one that f gives it
   pub each_said : (ns : List ℕ) → Every IsSome (amounts_for f ns)
   unfolding amounts_for
   each_said ns n amount is = found_of IsSome (listed ns) n amount (each_some ns) (sym (get-from_entries nat_cmp_total (listed ns) n) ∙ is)
 
+  -- the amount of a number in the map; 0 where it isn't listed
   abbrev found : ℕ → List ℕ → ℕ
   found q ns = unwrap_or (find nat_cmp q (listed ns)) 0
 
+  -- whether a number is in the list
   abbrev is_among : ℕ → List ℕ → Bool
   is_among q ns = list_any (eq_by_cmp nat_cmp q) ns
 
+  -- a number in the list has the amount that f gives, and any other has 0
   found_said : (q : ℕ) (ns : List ℕ) → found q ns ≡ cond (is_among q ns) (f q) 0
   found_said q [] = refl
   found_said q (n ∷ ns) = by_tests (found_said q ns) (f n == 0) (eq_by_cmp nat_cmp q n) refl refl
@@ -55,7 +61,7 @@ module _ (f : ℕ → ℕ) where
       by_tests rest false true some same = ap (λ k. unwrap_or (cond k (Some (f n)) (find nat_cmp q (listed ns))) 0) same ∙ ap f (sym (same_key q n same))
       by_tests rest false false some other = ap (λ k. unwrap_or (cond k (Some (f n)) (find nat_cmp q (listed ns))) 0) other ∙ rest
 
-  -- each amount is as it is said, where those that are not listed are 0
+  -- each number has the amount that f gives it, if f gives 0 to those that are not in the list
   pub as_said : (ns : List ℕ) (q : ℕ) → (list_any (eq_by_cmp nat_cmp q) ns ≡ false → f q ≡ 0) → amount_of (amounts_for f ns) q ≡ f q
   unfolding amounts_for
   as_said ns q others = ap (λ (o : Option ℕ). unwrap_or o 0) (get-from_entries nat_cmp_total (listed ns) q) ∙ found_said q ns ∙ by_test (is_among q ns) refl
@@ -64,7 +70,7 @@ module _ (f : ℕ → ℕ) where
       by_test true is = refl
       by_test false is = sym (others is)
 
--- maps of the same amounts, of which none is 0, are one
+-- two maps with the same amount of each number are equal, if neither lists an amount of 0
 pub same_amounts : (m o : FinMap nat_cmp ℕ) → Every (λ n amount. 1 ≤ amount) m → Every (λ n amount. 1 ≤ amount) o → ((n : ℕ) → amount_of m n ≡ amount_of o n) → m ≡ o
 same_amounts m o some also same = same_map nat_cmp_total nat_cmp-IsAntisymmetric m o (λ n. by_options n (get m n) (get o n) refl refl (same n))
   where

@@ -1,4 +1,4 @@
--- What becomes of a campaign where one unit has other things, and what is marked.
+-- What a campaign is, and which marks are set, after the holding of one unit was changed.
 use Rattle.std.proofs.Common.{◌≡◌, ◌≢◌, ℕ, Option, Some, None, refl, sym, ap, ◌∙◌}
 use Rattle.std.specs.Ordering.{nat_cmp}
 use Rattle.std.specs.FinMap.{FinMap, get, insert}
@@ -18,7 +18,7 @@ use Rattle.atl_state.proofs.RegionLaws.{get-insert_same}
 use Rattle.atl_instant.specs.Holdings.{ChangesHolding}
 use Rattle.atl_instant.proofs.MarkLaws.{marks_by}
 
--- a unit changed twice
+-- a unit changed by f and then by g is the unit changed by both at once
 pub changed_twice : (f g : Unit → Unit) (c : CampaignValue) (n : ℕ) → unit_changed g (unit_changed f c n) n ≡ unit_changed (λ u. g (f u)) c n
 changed_twice f g c n = by_unit (get c.units n) refl
   where
@@ -27,7 +27,7 @@ changed_twice f g c n = by_unit (get c.units n) refl
     by_unit (Some u) is =
         ap (λ o. record c { units = changed_at g (insert c.units n (f u)) n o }) (get-insert_same c.units n (f u)) ∙ ap (λ m. record c { units = m }) (insert_over c.units n (f u) (g (f u)))
 
--- with what it had nothing is changed
+-- the change that leaves a unit as it is leaves the campaign as it is
 pub same_held : (c : CampaignValue) (n : ℕ) → unit_changed (λ u. u) c n ≡ c
 same_held c n = by_unit (get c.units n) refl
   where
@@ -35,11 +35,11 @@ same_held c n = by_unit (get c.units n) refl
     by_unit None is = refl
     by_unit (Some u) is = ap (λ m. record c { units = m }) (put_same c.units n u u is refl)
 
--- of a unit that is there
+-- to change what a unit holds is to set it to the new holding (`with_held`), if the unit is there
 pub changed_held : (f : HoldingValue → HoldingValue) (c d : CampaignValue) (n : ℕ) → d ≡ unit_changed (λ u. record u { holding = f u.holding }) c n → (u : Unit) → get c.units n ≡ Some u → d ≡ with_held c n (f u.holding) (Some u)
 changed_held f c d n what u is = what ∙ ap (λ o. record c { units = changed_at (λ (v : Unit). record v { holding = f v.holding }) c.units n o }) is
 
--- another unit stays
+-- a change of unit n leaves every other unit as it is
 pub others_held : (f : Unit → Unit) (c : CampaignValue) (n k : ℕ) → k ≢ n → get (unit_changed f c n).units k ≡ get c.units k
 others_held f c n k apart = by_unit (get c.units n)
   where
@@ -49,7 +49,7 @@ others_held f c n k apart = by_unit (get c.units n)
 
 -- ---- what calls leave
 
--- nobody is there
+-- if unit n isn't there, leaving the campaign as it is counts as changing what the unit holds
 pub nobody_changes : (c : MarkedCampaign) (n : ℕ) (f : HoldingValue → HoldingValue) → get c.value.units n ≡ None → ChangesHolding c c n f
 nobody_changes c n f none = record {
   value = sym (ap (λ o. record c.value { units = changed_at (λ (u : Unit). record u { holding = f u.holding }) c.value.units n o }) none);
@@ -57,7 +57,7 @@ nobody_changes c n f none = record {
   goods = refl;
 }
 
--- what else makes the same of what the unit had
+-- a change by f is one by g too, if both make the same of what the unit had
 pub changes_as : (c d : MarkedCampaign) (n : ℕ) (f g : HoldingValue → HoldingValue) (u : Unit) → get c.value.units n ≡ Some u → f u.holding ≡ g u.holding → ChangesHolding c d n f → ChangesHolding c d n g
 changes_as c d n f g u is same old = record {
   value =
@@ -67,7 +67,7 @@ changes_as c d n f g u is same old = record {
   goods = old.goods;
 }
 
--- one change behind another
+-- a change by f and then one by g is a change by both in turn
 pub then_changes : (a b d : MarkedCampaign) (n : ℕ) (f g : HoldingValue → HoldingValue) → ChangesHolding a b n f → ChangesHolding b d n g → ChangesHolding a d n (λ h. g (f h))
 then_changes a b d n f g one two = record {
   value =
@@ -77,10 +77,11 @@ then_changes a b d n f g one two = record {
   goods = two.goods ∙ one.goods;
 }
 
--- the setters
+-- the items and the days of a unit
 abbrev goods_of : HoldingValue → FinMap nat_cmp ℕ × FinMap nat_cmp ℕ
 goods_of h = (h.items, h.days)
 
+-- a setter that changes neither items nor days, and marks the row of the unit, is a `ChangesHolding`
 row_changes : (f : HoldingValue → HoldingValue) → ((h : HoldingValue) → goods_of (f h) ≡ goods_of h) → (c d : MarkedCampaign) (n : ℕ)
     → d.value ≡ unit_changed (λ u. record u { holding = f u.holding }) c.value n → d.marks ≡ mark_unit_row c n → ChangesHolding c d n f
 row_changes f same c d n what marks =
@@ -91,12 +92,15 @@ row_changes f same c d n what marks =
       goods = ap (λ (m : Marks). m.goods) marks;
     }
 
+-- the setter of a unit's men is a `ChangesHolding`
 pub men_changes : (c d : MarkedCampaign) (n men : ℕ) → d.value ≡ with_men c.value n men → d.marks ≡ mark_unit_row c n → ChangesHolding c d n (λ h. record h { men = men })
 men_changes c d n men = row_changes (λ h. record h { men = men }) (λ h. refl) c d n
 
+-- the setter of a unit's money is a `ChangesHolding`
 pub money_changes : (c d : MarkedCampaign) (n money : ℕ) → d.value ≡ with_money c.value n money → d.marks ≡ mark_unit_row c n → ChangesHolding c d n (λ h. record h { money = money })
 money_changes c d n money = row_changes (λ h. record h { money = money }) (λ h. refl) c d n
 
+-- the setter of one item of a unit is a `ChangesHolding`
 pub item_changes : (c d : MarkedCampaign) (n item amount : ℕ) → d.value ≡ with_item c.value n item amount → d.marks ≡ mark_item c n item → ChangesHolding c d n (λ h. record h { items = with_amount_of h.items item amount })
 item_changes c d n item amount what marks = record {
   value = what;
@@ -104,6 +108,7 @@ item_changes c d n item amount what marks = record {
   goods = ap (λ (m : Marks). m.goods) marks;
 }
 
+-- the setter of a unit's days of one skill is a `ChangesHolding`
 pub skill_changes : (c d : MarkedCampaign) (n skill days : ℕ) → d.value ≡ with_skill c.value n skill days → d.marks ≡ mark_skill c n skill → ChangesHolding c d n (λ h. record h { days = with_amount_of h.days skill days })
 skill_changes c d n skill days what marks = record {
   value = what;

@@ -1,4 +1,4 @@
--- What TRANSFER makes of the days of each skill, as it is said and as the code sets them.
+-- The days of each skill after TRANSFER, by its definition and as the code sets them.
 use Rattle.std.proofs.Common.{◌≡◌, ℕ, ◌+◌, ◌-◌, ◌/◌, ◌≤◌, Bool, true, false, cond, List, [], ◌∷◌, ◌++◌, map, Option, Some, None, refl, sym, ap, subst, ◌∙◌, arith}
 use Rattle.std.proofs.Math.Nat.{zero-div, zero-mul}
 use Rattle.std.specs.Prelude.{fold, is_some, unwrap_or, ◌||◌}
@@ -17,12 +17,15 @@ use Rattle.atl_records.proofs.HoldingLaws.{alike, every_amount, set_amount}
 
 -- the amounts of some numbers, each set by the one that it has in a map
 module _ (days : FinMap nat_cmp ℕ) (f : ℕ → ℕ → ℕ) (s : ℕ) where
+  -- the map with the days of each entry set to f of its skill and its days
   abbrev set_all : FinMap nat_cmp ℕ → List (ℕ × ℕ) → FinMap nat_cmp ℕ
   set_all left es = fold (λ (m : FinMap nat_cmp ℕ) (e : ℕ × ℕ). with_amount_of m e.0 (f e.0 e.1)) left es
 
+  -- whether the skill s is in the list of entries
   abbrev is_among : List (ℕ × ℕ) → Bool
   is_among es = list_any (eq_by_cmp nat_cmp s) (map (λ e. e.0) es)
 
+  -- after all are set, the skill s has f of its days if it is listed, and otherwise what it had
   set_among : (es : List (ℕ × ℕ)) (left : FinMap nat_cmp ℕ) → EachOf (λ k v. amount_of days k ≡ v) es → amount_of (set_all left es) s ≡ cond (is_among es) (f s (amount_of days s)) (amount_of left s)
   set_among [] left each = refl
   set_among ((k, v) ∷ es) left (one, each) =
@@ -41,6 +44,7 @@ module _ (days : FinMap nat_cmp ℕ) (f : ℕ → ℕ → ℕ) (s : ℕ) where
           ap (cond (is_among es) (f s (amount_of days s))) here ∙ both (is_among es) (f s (amount_of days s))
       by_key false is = refl
 
+  -- after the days of each skill of a map are set, the skill s has f of its days
   pub set_each : (left : FinMap nat_cmp ℕ) → (amount_of days s ≡ 0 → amount_of left s ≡ f s 0) → amount_of (set_all left (entries days)) s ≡ f s (amount_of days s)
   set_each left others =
       set_among (entries days) left (each-from_every (λ k v. amount_of days k ≡ v) days (λ k v there. ap (λ (o : Option ℕ). unwrap_or o 0) there))
@@ -53,14 +57,17 @@ module _ (days : FinMap nat_cmp ℕ) (f : ℕ → ℕ → ℕ) (s : ℕ) where
           let none : amount_of days s ≡ 0 = ap (λ (o : Option ℕ). unwrap_or o 0) there in
           others none ∙ ap (f s) (sym none)
 
+-- of 0 days 0 go
 nobody_goes : (n men : ℕ) → days_going n men 0 ≡ 0
 nobody_goes n men = ap (λ k. k / men) (zero-mul n) ∙ zero-div men
 
+-- setting days from a mapped list is setting f of the days of each entry
 with_days_mapped : (f : ℕ → ℕ → ℕ) (es : List (ℕ × ℕ)) (all : FinMap nat_cmp ℕ) →
     with_days all (map (λ e. (e.0, f e.0 e.1)) es) ≡ fold (λ (m : FinMap nat_cmp ℕ) (e : ℕ × ℕ). with_amount_of m e.0 (f e.0 e.1)) all es
 with_days_mapped f [] all = refl
 with_days_mapped f (e ∷ es) all = with_days_mapped f es (with_amount_of all e.0 (f e.0 e.1))
 
+-- a skill that isn't listed has 0 days
 none_listed : (days : FinMap nat_cmp ℕ) (s : ℕ) → list_any (eq_by_cmp nat_cmp s) (keys days) ≡ false → amount_of days s ≡ 0
 none_listed days s none = by_option (get days s) (contains_key-keys days s ∙ none)
   where
@@ -72,13 +79,15 @@ neither : (a b : Bool) → (a || b) ≡ false → (a ≡ false) × (b ≡ false)
 neither true b h = cc
 neither false b h = (refl, h)
 
+-- where there are 0 days, 0 stay
 none_stay : (d g : ℕ) → d ≡ 0 → d - g ≡ 0
 none_stay d g e = omega (arith, e)
 
+-- where there are 0 days and 0 come, there are 0 after
 none_come : (d g : ℕ) → d ≡ 0 → g ≡ 0 → d + g ≡ 0
 none_come d g e f = omega (arith, e, f)
 
--- of a skill that nobody has none go
+-- no days of a skill go with n men, if the unit has none
 pub none_go : (n : ℕ) (h : HoldingValue) (s : ℕ) → amount_of h.days s ≡ 0 → going_of n h s ≡ 0
 none_go n h s none = ap (days_going n h.men) none ∙ nobody_goes n h.men
 
@@ -93,11 +102,12 @@ days_go_with_men n other h s = record {
 
 -- ---- what the code sets one by one
 
+-- a map without days of 0 has none after days are set one by one
 every_set : (f : ℕ → ℕ → ℕ) (es : List (ℕ × ℕ)) (left : FinMap nat_cmp ℕ) → Every (λ s d. 1 ≤ d) left → Every (λ s d. 1 ≤ d) (fold (λ (m : FinMap nat_cmp ℕ) (e : ℕ × ℕ). with_amount_of m e.0 (f e.0 e.1)) left es)
 every_set f [] left old = old
 every_set f (e ∷ es) left old = every_set f es (with_amount_of left e.0 (f e.0 e.1)) (every_amount (λ s d. 1 ≤ d) left e.0 (f e.0 e.1) (λ some. some) old)
 
--- days set one by one are as they are said, if each skill is
+-- days set one by one over `had` are the map `said`, if the days of each skill are the same in both
 set_as_said : (days had said : FinMap nat_cmp ℕ) (f : ℕ → ℕ → ℕ) → Every (λ s d. 1 ≤ d) had → Every (λ s d. 1 ≤ d) said
     → ((s : ℕ) → amount_of days s ≡ 0 → amount_of had s ≡ f s 0) → ((s : ℕ) → f s (amount_of days s) ≡ amount_of said s)
     → with_days had (map (λ e. (e.0, f e.0 e.1)) (entries days)) ≡ said
@@ -107,7 +117,7 @@ set_as_said days had said f some some_said others each =
     (subst (Every (λ s d. 1 ≤ d)) (sym set) (every_set f (entries days) had some)) some_said
     (λ s. ap (λ (m : FinMap nat_cmp ℕ). amount_of m s) set ∙ set_each days f s had (others s) ∙ each s)
 
--- those that are set where they stand are as if each were set from nothing
+-- setting each listed skill over the old days gives the same map as setting it over the empty one, if f keeps 0 at 0
 pub set_again : (days : FinMap nat_cmp ℕ) (f : ℕ → ℕ → ℕ) → ((s : ℕ) → f s 0 ≡ 0) → Every (λ s d. 1 ≤ d) days
     → with_days days (map (λ e. (e.0, f e.0 e.1)) (entries days)) ≡ fold (λ (m : FinMap nat_cmp ℕ) (e : ℕ × ℕ). with_amount_of m e.0 (f e.0 e.1)) empty (entries days)
 set_again days f none some =
@@ -115,9 +125,11 @@ set_again days f none some =
     set_as_said days days anew f some (every_set f (entries days) empty (every-empty (λ s d. 1 ≤ d))) (λ s free. free ∙ sym (none s))
     (λ s. sym (set_each days f s empty (λ free. ap (λ (o : Option ℕ). unwrap_or o 0) (get-empty nat_cmp s) ∙ sym (none s))))
 
+-- the days of a skill that stay when n of `men` men go
 abbrev rest_days : (n men : ℕ) → (skill days : ℕ) → ℕ
 rest_days n men k d = d - days_going n men d
 
+-- the holding that the code sets for the sender of n men is `with_fewer`
 pub fewer_is : (n : ℕ) (h : HoldingValue) → Every (λ s d. 1 ≤ d) h.days → record h { men = h.men - n; days = with_days h.days (left_list n h.men h.days) } ≡ with_fewer n h
 fewer_is n h had =
     ap (λ (m : FinMap nat_cmp ℕ). record h { men = h.men - n; days = m })
@@ -126,9 +138,11 @@ fewer_is n h had =
     (λ s none. none ∙ sym (none_stay 0 (days_going n h.men 0) refl))
     (λ s. sym (days_go_with_men n h h s).stay))
 
+-- the days of a skill that the receiver has, once n of the sender's `men` men came
 abbrev raised_days : (n men : ℕ) → FinMap nat_cmp ℕ → (skill days : ℕ) → ℕ
 raised_days n men had k d = amount_of had k + days_going n men d
 
+-- the holding that the code sets for the receiver of n men is `with_more`
 pub more_is : (n : ℕ) (other h : HoldingValue) → Every (λ s d. 1 ≤ d) h.days → record h { men = h.men + n; days = with_days h.days (raised_list n other.men other.days h.days) } ≡ with_more n other h
 more_is n other h had =
     ap (λ (m : FinMap nat_cmp ℕ). record h { men = h.men + n; days = m })

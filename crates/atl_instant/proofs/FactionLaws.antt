@@ -1,4 +1,4 @@
--- How a campaign changes with the name that a faction shows.
+-- A campaign in which a faction shows another name stays steady.
 use Rattle.std.proofs.Common.{◌≡◌, ℕ, ◌+◌, List, Some, None, refl, sym, ap, subst, ◌∙◌, arith}
 use Rattle.std.specs.Prelude.{IsTrue, true, []}
 use Rattle.std.specs.Ordering.{nat_cmp}
@@ -14,21 +14,27 @@ use Rattle.atl_records.proofs.EveryLaws.{every-insert, get-insert_other, none_so
 use Rattle.atl_state.proofs.RegionLaws.{changed-known, same_len}
 
 module _ (c : CampaignValue) (n : ℕ) (x : Faction) (name : List ℕ) (is : get c.factions n ≡ Some x) where
+  -- the faction with the other name
   abbrev renamed : Faction
   renamed = record x { name = name }
 
+  -- the factions with this one renamed
   abbrev factions : FinMap nat_cmp Faction
   factions = insert c.factions n renamed
 
+  -- the campaign in which the faction shows the other name
   abbrev shown : CampaignValue
   shown = record c { factions = factions }
 
+  -- no faction is added
   none_kept : (k : ℕ) → get c.factions k ≡ None → get factions k ≡ None
   none_kept k none = get-insert_other c.factions n k renamed (λ same. none_some x (sym none ∙ ap (get c.factions) same ∙ is)) ∙ none
 
+  -- each faction is still there
   there : (k : ℕ) → IsThere c.factions k → IsThere factions k
   there k h = there-insert c.factions n k renamed h
 
+  -- there are as many factions
   same_count : len factions ≡ len c.factions
   same_count = same_len c.factions n x renamed is
 
@@ -48,6 +54,7 @@ module _ (c : CampaignValue) (n : ℕ) (x : Faction) (name : List ℕ) (is : get
     books = old.books;
   }
 
+  -- two factions that joined under the same bytes are one
   abbrev JoinedOnce : ℕ → Faction → ℕ → Faction → Type 0
   JoinedOnce k f m g = f.joined_as ≡ g.joined_as → k ≡ m
 
@@ -93,18 +100,22 @@ module _ (c : CampaignValue) (n : ℕ) (x : Faction) (name : List ℕ) (is : get
     guarded = old.guarded;
   }
 
+  -- `with_faction_name` makes this campaign
   shown_is : with_faction_name c n name ≡ shown
   shown_is = ap (λ m. record c { factions = m }) (changed-known (λ f. record f { name = name }) c.factions n x is)
 
+  -- a campaign stays steady when a faction shows another good name
   pub steady-faction_name : (w : WorldValue) → IsTrue (name_ok name) → IsSteady w c → IsSteady w (with_faction_name c n name)
   steady-faction_name w named old = subst (IsSteady w) (sym shown_is) (steady_shown w named old)
 
-  -- no faction comes, and none is removed
+  -- the number of factions stays the same
   pub count-faction_name : len (with_faction_name c n name).factions ≡ len c.factions
   count-faction_name = ap (λ (d : CampaignValue). len d.factions) shown_is ∙ same_count
 
+  -- each faction that is there was there before
   was_there : (k : ℕ) → IsThere factions k → IsThere c.factions k
   was_there k (f, here) = every-insert (λ k f. IsThere c.factions k) c.factions n renamed (x, is) (λ k f here. (f, here)) k f here
 
+  -- a faction that is there after was there before
   pub known-faction_name : (k : ℕ) → IsThere (with_faction_name c n name).factions k → IsThere c.factions k
   known-faction_name k h = was_there k (subst (λ (d : CampaignValue). IsThere d.factions k) shown_is h)

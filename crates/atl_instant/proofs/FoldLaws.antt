@@ -1,24 +1,24 @@
--- A fold over a list that the code goes through.
+-- Folds over the elements of a list that a loop has still to go through.
 use Rattle.std.proofs.Common.{◌≡◌, ◌+◌, ◌<◌, ◌≤◌, ℕ, List, [], ◌∷◌, length, map, drop, get_or, refl, sym, ap, subst, ◌∙◌, arith}
 use Rattle.std.specs.Prelude.{fold}
 use Rattle.std.specs.List.{All}
 use Rattle.std.proofs.lemmas.List.{drop_all, drop_more, get_or-map, length-map}
 
--- what the elements ahead make of what was made so far is the same behind the next of them
+-- after one more step of the loop, the fold over the elements from i + 1 on still gives the whole result
 pub fold_behind : {S A : Type 0} (f : S → A → S) (xs : List A) (i : ℕ) (none : A) (before : S) {after whole : S} → i < length xs
     → after ≡ f before (get_or xs i none) → fold f before (drop i xs) ≡ whole → fold f after (drop (i + 1) xs) ≡ whole
 fold_behind f xs i none before inside step all = ap (λ s. fold f s (drop (i + 1) xs)) step ∙ sym (ap (fold f before) (drop_more xs i none inside)) ∙ all
 
--- at the end of the list it is what was made
+-- at the end of the list the result so far is the whole result
 pub fold_ended : {S A : Type 0} (f : S → A → S) (xs : List A) (i : ℕ) (behind : S) {whole : S} → length xs ≤ i → fold f behind (drop i xs) ≡ whole → behind ≡ whole
 fold_ended f xs i behind ended all = sym (ap (fold f behind) (drop_all i xs ended)) ∙ all
 
--- a fold over what the elements stand for
+-- a fold over a list, with g taken of each element, is the fold over the mapped list
 pub fold_mapped : {S A B : Type 0} (f : S → B → S) (g : A → B) (s : S) (xs : List A) → fold (λ r x. f r (g x)) s xs ≡ fold f s (map g xs)
 fold_mapped f g s [] = refl
 fold_mapped f g s (x ∷ xs) = fold_mapped f g (f s (g x)) xs
 
--- what is so of all that the elements stand for is so of what one stands for
+-- if P holds of all elements of a mapped list, it holds of g of the element at index i
 pub each_mapped : {A B : Type 0} (P : B → Type 0) (g : A → B) (xs : List A) (ys : List B) → map g xs ≡ ys → All P ys → (i : ℕ) (d : A) → i < length xs → P (g (get_or xs i d))
 each_mapped P g xs ys is all i d inside =
     let long : length (map g xs) ≡ length xs = length-map xs g in

@@ -1,4 +1,4 @@
--- FORM leaves a campaign well, and each unit as it is.
+-- FORM leaves a campaign well, and each unit that was there as it was.
 use Rattle.std.proofs.Common.{◌≡◌, ℕ, ◌≤◌, Bool, true, false, not, List, [], ◌∷◌, Option, Some, None, map, refl, sym, ap, subst, ◌∙◌, arith}
 use Rattle.std.specs.Prelude.{fold}
 use Rattle.std.specs.Option.{option_map_or}
@@ -26,11 +26,12 @@ use Rattle.atl_instant.proofs.FormingLaws.{begun_stays, begun_well, room}
 use Rattle.atl_instant.proofs.OrderEffectLaws.{well_same}
 
 module _ (w : WorldValue) (c : CampaignValue) (early : IsEarly w c) where
+  -- there is no unit under the next unit number
   pub free_number : get c.units c.next_unit ≡ None
   free_number = early.steady.next.units c.next_unit (omega arith)
 
   module _ (f n : ℕ) where
-    -- what is formed, where the unit is known
+    -- the campaign with the formed unit, by what its parent is
     formed_is : (u : Unit) → get c.units n ≡ Some u → u.faction ≡ f → with_formed_unit c f n ≡ with_unit_begun c (new_unit c.next_unit u.faction u.region u.structure)
     formed_is u is own =
         ap (λ g. with_unit_begun c (new_unit c.next_unit g (region_of c n) (inside c n))) (sym own)
@@ -58,19 +59,22 @@ module _ (w : WorldValue) (c : CampaignValue) (early : IsEarly w c) where
     form_fine : Fine (form_by c f n).0
     form_fine = by_unit (get c.units n) refl
 
-  -- an order leaves a campaign well, and each unit as it is
+  -- a copied order of FORM steps well
   pub order_well : (m : MonthValue) (o : Forming) → StepsWell IsEarly books_nothing w c (form_apart (c, m) o).0
   order_well m o = (form_fine o.faction o.unit).0
 
+  -- a copied order of FORM leaves each unit that was there as it was
   pub order_stays : (m : MonthValue) (o : Forming) → Every (λ k v. get (form_apart (c, m) o).0.units k ≡ Some v) c.units
   order_stays m o = (form_fine o.faction o.unit).1
 
 -- ---- orders apart from the month
 
+-- the copied orders together make what the orders themselves make
 pub formed_apart : (p : CampaignValue × MonthValue) (ts : List Task) → fold form_apart p (map forming_of ts) ≡ fold form_order p ts
 formed_apart p [] = refl
 formed_apart p (t ∷ ts) = formed_apart (form_order p t) ts
 
+-- the copied orders of a month make what the phase makes
 pub all_formed : (w : WorldValue) (c : CampaignValue) (m : MonthValue) → fold form_apart (c, m) (map forming_of (values (orders_of is_forming ByFaction m.aliases m.readings))) ≡ form_meaning w c m
 unfolding form_meaning
 all_formed w c m = formed_apart (c, m) (values (orders_of is_forming ByFaction m.aliases m.readings))

@@ -1,4 +1,4 @@
--- How a campaign changes as a unit forms another.
+-- A campaign in which a unit has formed another stays well.
 use Rattle.std.proofs.Common.{◌≡◌, ◌≢◌, ◌==◌, ◌||◌, ◌*◌, ℕ, ◌+◌, ◌≤◌, ◌<◌, Bool, true, false, cond, Some, None, length, nat_le, nat_lt, refl, sym, ap, ◌∙◌, arith}
 use Rattle.std.proofs.lemmas.Bool.{true≢false}
 use Rattle.std.specs.Prelude.{IsTrue, is_some, unwrap_or}
@@ -32,35 +32,44 @@ use Rattle.atl_instant.proofs.MeaningLaws.{same_month_by}
 use Rattle.atl_instant.proofs.UnbookedLaws.{unbooked_well}
 use Rattle.atl_state.proofs.NumberedNameLaws.{unit_name_ok}
 
+-- a map has one value more after an insertion under a number that had none
 len_new : {V : Type 0} (m : FinMap nat_cmp V) (k : ℕ) (v : V) → get m k ≡ None → len (insert m k v) ≡ len m + 1
 len_new m k v h = len-insert nat_cmp_total m k v ∙ ap (λ o. cond (is_some o) (len m) (len m + 1)) h
 
--- what was there is still there after an insertion where nothing was
+-- a value of a map is still there after an insertion under a number that had none
 still_there : {V : Type 0} (m : FinMap nat_cmp V) (k q : ℕ) (v x : V) → get m k ≡ None → get m q ≡ Some x → get (insert m k v) q ≡ Some x
 still_there m k q v x free is = get-insert_other m k q v (λ same. none_some x (sym free ∙ ap (get m) (sym same) ∙ is)) ∙ is
 
+-- where the unit limit isn't reached, there are fewer units than the most, and the next number may be given
 few : (u n : ℕ) → (nat_le most_units u || nat_lt last_unit n) ≡ false → (u < most_units) × (n ≤ last_unit)
 few u n h = (grind (arith, nat_tests), grind (arith, nat_tests))
 
+-- where the unit limit isn't reached there is room for one more unit, and for its number
 pub room : (c : CampaignValue) → is_unit_limit c ≡ false → (len c.units < most_units) × (c.next_unit ≤ last_unit)
 room c h = few (len c.units) c.next_unit h
 
 module _ (w : WorldValue) (c : CampaignValue) (p : ℕ) (u : Unit) (is : get c.units p ≡ Some u) (early : IsEarly w c) where
+  -- the new unit
   abbrev child : Unit
   child = new_unit c.next_unit u.faction u.region u.structure
 
+  -- the units with the new one
   abbrev units : FinMap nat_cmp Unit
   units = insert c.units c.next_unit child
 
+  -- the campaign with the new unit
   abbrev begun : CampaignValue
   begun = with_unit_begun c child
 
+  -- the campaign before is steady
   old : IsSteady w c
   old = early.steady
 
+  -- there is no unit under the next unit number
   free : get c.units c.next_unit ≡ None
   free = old.next.units c.next_unit (omega arith)
 
+  -- each unit that was there stays as it was
   unit_stays : Every (λ n v. get units n ≡ Some v) c.units
   unit_stays n v there = still_there c.units c.next_unit n child v free there
 
@@ -134,12 +143,13 @@ module _ (w : WorldValue) (c : CampaignValue) (p : ℕ) (u : Unit) (is : get c.u
     structures = old.water.structures;
   }
 
-  -- who doesn't pass a test changes nothing of those who do
+  -- all units that pass a test still are of one faction in each region, if the new unit doesn't pass it
   one_faction_kept : (test : Unit → Bool) → test child ≡ false → AreOfOneFaction test c → AreOfOneFaction test begun
   one_faction_kept test fails one =
       every-insert (λ n x. Every (λ m y. test x ≡ true → test y ≡ true → x.region ≡ y.region → x.faction ≡ y.faction) units) c.units c.next_unit child (λ m y there e. absurd (true≢false (sym e ∙ fails)))
       (λ n x there. every-insert (λ m y. test x ≡ true → test y ≡ true → x.region ≡ y.region → x.faction ≡ y.faction) c.units c.next_unit child (λ _ e. absurd (true≢false (sym e ∙ fails))) (one n x there))
 
+  -- the campaign stays early when a unit is formed, if the unit limit isn't reached
   early_begun : is_unit_limit c ≡ false → IsEarly w begun
   early_begun limit = record {
     steady = record {
@@ -156,6 +166,7 @@ module _ (w : WorldValue) (c : CampaignValue) (p : ℕ) (u : Unit) (is : get c.u
     flags = one_faction_kept (λ x. x.holding.guard) refl early.flags;
   }
 
+  -- the new unit holds nothing
   nothing_held : (t : Thing) → unit_amount t child.holding ≡ 0
   nothing_held Money = refl
   nothing_held People = refl
@@ -164,18 +175,22 @@ module _ (w : WorldValue) (c : CampaignValue) (p : ℕ) (u : Unit) (is : get c.u
   none_more : (a b h : ℕ) → a ≡ b + h → h ≡ 0 → a ≡ b
   none_more a b h e none = omega arith
 
+  -- the totals stay the same
   same_total : (t : Thing) → total begun t ≡ total c t
   unfolding total
   same_total t = none_more (total begun t) (total c t) (unit_amount t child.holding) (total-with_unit c c.next_unit child t free) (nothing_held t)
 
+  -- forming a unit is a step that leaves the campaign well, if the unit limit isn't reached
   pub begun_well : is_unit_limit c ≡ false → StepsWell IsEarly books_nothing w c begun
   begun_well limit = unbooked_well w c begun (early_begun limit) (same_month_by refl) refl same_total
 
+  -- each unit that was there stays as it was when another is formed
   pub begun_stays : Every (λ n v. get begun.units n ≡ Some v) c.units
   begun_stays = unit_stays
 
 -- ---- what is marked
 
+-- all that changes when a unit is formed is marked
 pub marks-begun : (c : MarkedCampaign) (u : Unit) → MarksChanges c (record { value = with_unit_begun c.value u; marks = mark_unit_begun c })
 marks-begun c u =
     let n = c.value.next_unit in

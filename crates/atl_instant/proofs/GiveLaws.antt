@@ -1,4 +1,4 @@
--- GIVE and PAY leave a campaign well.
+-- GIVE and PAY leave a campaign well, and no unit but the giver worse off.
 use Rattle.std.proofs.Common.{◌≡◌, ◌≢◌, ◌==◌, ℕ, ◌+◌, ◌-◌, ◌≤◌, ◌<◌, Bool, true, false, cond, not, ◌&&◌, [], ◌∷◌, length, Option, Some, None, refl, sym, ap, subst, ◌∙◌, arith}
 use Rattle.std.specs.Prelude.{⊤, IfSome, nat_lt, if◌then◌else◌}
 use Rattle.std.proofs.lemmas.Bool.Decides.{nat_tests}
@@ -37,12 +37,13 @@ use Rattle.atl_instant.proofs.NoWorseLaws.{no_worse}
 use Rattle.atl_instant.proofs.OrderEffectLaws.{no_worse_spares, well_same}
 use Rattle.atl_instant.proofs.UnbookedLaws.{other_unit}
 
--- what is so of two units where no fault fits
+-- what holds of two units where a gift has no fault
 pub record CanGive (gift : Gift) (n : ℕ) (itself : Bool) (u v : Unit) : Type 0 where
   pub here : v.region ≡ u.region
   pub enough : n ≤ held_of gift u.holding
   pub room : itself ≡ false → held_of gift v.holding + n ≤ holding_limit
 
+-- where a gift has no fault, `CanGive` holds of both units
 pub can_give : (gift : Gift) (n : ℕ) (itself : Bool) (u v : Unit) → give_fault gift n itself u (Some v) ≡ None → CanGive gift n itself u v
 can_give gift n itself u v is =
     let little = nat_lt (held_of gift u.holding) n in
@@ -56,11 +57,12 @@ can_give gift n itself u v is =
       room = λ other. not_less holding_limit (held_of gift v.holding + n) (unless_itself itself full three.0 other);
     }
 
+-- a unit holds at most the limit of what is given
 pub held_within : (gift : Gift) (h : HoldingValue) → IsHolding h → held_of gift h ≤ holding_limit
 held_within Money h is = is.money
 held_within (Item i) h is = amount_within h i is
 
--- two units, one after the other
+-- setting first the giver's amount and then the receiver's makes the campaign `after_gift`
 pub given_is : (c d e : CampaignValue) (from to : ℕ) (gift : Gift) (n left more : ℕ) (u v : Unit) → to ≢ from → get c.units from ≡ Some u → get c.units to ≡ Some v
     → d ≡ with_held c from (with_held_of gift u.holding left) (Some u)
     → ((x : Unit) → get d.units to ≡ Some x → e ≡ with_held d to (with_held_of gift x.holding more) (Some x))
@@ -73,11 +75,12 @@ given_is c d e from to gift n left more u v apart giver receiver first second le
 
 -- ---- what both hold
 
--- an item of the world
+-- the gift is money, or an item of the world
 abbrev pub IsKnown : WorldValue → Gift → Type 0
 IsKnown w Money = ⊤
 IsKnown w (Item i) = i < length w.items
 
+-- a unit may still hold what it holds with another amount of the gift, if that is within the limit
 pub may_have_of : (w : WorldValue) (h : HoldingValue) (gift : Gift) (amount : ℕ) → IsKnown w gift → amount ≤ holding_limit → MayHave w h → MayHave w (with_held_of gift h amount)
 may_have_of w h Money amount known most may = record {
   limits = record { men = may.limits.men; money = most; items = may.limits.items };
@@ -94,11 +97,12 @@ may_have_of w h (Item i) amount known most may = record {
   days = may.days;
 }
 
+-- a unit with another amount of the gift guards only if it did before
 same_flag : (gift : Gift) (h : HoldingValue) (amount : ℕ) → (with_held_of gift h amount).guard ≡ true → h.guard ≡ true
 same_flag Money h amount g = g
 same_flag (Item i) h amount g = g
 
--- what one has less the other has more
+-- giver and receiver together hold as much of each thing after a gift as before
 pub both_hold : (gift : Gift) (n : ℕ) (h k : HoldingValue) → n ≤ held_of gift h → (t : Thing) → unit_amount t (with_held_of gift h (held_of gift h - n)) + unit_amount t (with_held_of gift k (held_of gift k + n)) ≡ unit_amount t h + unit_amount t k
 both_hold Money n h k l things.Money = omega (arith, l)
 both_hold Money n h k l things.People = refl
@@ -119,6 +123,7 @@ both_hold (Item i) n h k l (things.Item j) =
     by_test true is = sum (amount_of h.items i) (amount_of k.items i) n l ∙ ap (λ x. amount_of h.items x + amount_of k.items x) (sym (alike i j is))
     by_test false is = refl
 
+-- a unit that gets a gift is no worse off
 pub better_off : (gift : Gift) (n : ℕ) (v : Unit) → IsNoWorse v (record v { holding = with_held_of gift v.holding (held_of gift v.holding + n) })
 better_off Money n v = record { faction = refl; region = refl; structure = refl; name = refl; guard = refl; men = omega arith; money = omega arith; items = λ i. omega arith; days = λ s. omega arith }
 better_off (Item i) n v = record { faction = refl; region = refl; structure = refl; name = refl; guard = refl; men = omega arith; money = omega arith; items = λ j. more j; days = λ s. omega arith }
@@ -135,13 +140,13 @@ better_off (Item i) n v = record { faction = refl; region = refl; structure = re
 
 -- ---- one order
 
--- the campaign behind what goes from one to another, or to itself
+-- the campaign after a gift from one unit to another, or to itself
 abbrev behind : CampaignValue → (from to : ℕ) → Gift → (n : ℕ) → Unit → Unit → (itself : Bool) → CampaignValue
 behind c from to gift n u v itself =
     if itself then c
     else with_held (with_held c from (with_held_of gift u.holding (held_of gift u.holding - n)) (Some u)) to (with_held_of gift v.holding (held_of gift v.holding + n)) (Some v)
 
--- what is so of the campaign as it is, and of each in which a unit gave so much to another, is so of the campaign behind the order
+-- P holds of the campaign after an order of GIVE or PAY, if it holds without a change and after a gift to another unit
 pub give_cases : (P : CampaignValue → Type 0) (c : CampaignValue) (from to : ℕ) (gift : Gift) (n : ℕ) (u : Unit) (giver : get c.units from ≡ Some u) → P c
     → ((v : Unit) (receiver : get c.units to ≡ Some v) (apart : to ≢ from) → CanGive gift n false u v
     → P (moved c from to u v (with_held_of gift u.holding (held_of gift u.holding - n)) (with_held_of gift v.holding (held_of gift v.holding + n)) giver receiver apart))
@@ -162,6 +167,7 @@ give_cases P c from to gift n u giver same move = by_receiver (get c.units to) r
     by_receiver (Some v) receiver = by_fault v receiver (give_fault gift n (to == from) u (Some v)) refl
 
 module _ (w : WorldValue) (c : CampaignValue) (early : IsEarly w c) (from to : ℕ) (gift : Gift) (n : ℕ) (u : Unit) (giver : get c.units from ≡ Some u) where
+  -- an order of GIVE or PAY is a step that leaves the campaign well
   give_steps_well : IsKnown w gift → StepsWell IsEarly (λ d e t. 0) w c (give from to gift n c u).0
   give_steps_well known =
       give_cases (λ d. StepsWell IsEarly (λ d e t. 0) w c d) c from to gift n u giver (well_same w c early)
@@ -175,6 +181,7 @@ module _ (w : WorldValue) (c : CampaignValue) (early : IsEarly w c) (from to : �
       (may_have_of w v.holding gift (held_of gift v.holding + n) known (can.room refl) (may_have w c to v receiver early.steady)) (same_flag gift v.holding (held_of gift v.holding + n)) early)
       (both_hold gift n u.holding v.holding can.enough))
 
+  -- an order of GIVE or PAY leaves each unit but the giver no worse off
   give_spares : (k : ℕ) (x : Unit) → get c.units k ≡ Some x → k ≢ from → IsUnaffected IsNoWorse (give from to gift n c u).0 k x
   give_spares k x there other =
       give_cases (λ d. IsUnaffected IsNoWorse d k x) c from to gift n u giver (record { unit = x; there = there; spared = no_worse x })
@@ -183,6 +190,7 @@ module _ (w : WorldValue) (c : CampaignValue) (early : IsEarly w c) (from to : �
 
 -- ---- the phase
 
+-- the step of GIVE and PAY is orderly
 pub give_orderly : IsOrderly give_step IsEarly (λ c e t. 0) (λ e t. 0) IsOwnOrder IsNoWorse
 give_orderly = record {
   well = λ w a c t x early fit own. well w a c t x early own t.order_value.operands fit;

@@ -1,4 +1,4 @@
--- A unit that begins to guard, in a region that no other faction guards.
+-- GUARD 1 leaves a campaign well: a unit begins to guard a region that no other faction guards.
 use Rattle.std.proofs.Common.{◌≡◌, ◌≢◌, ◌==◌, ℕ, ◌+◌, Bool, true, false, not, ◌&&◌, ◌||◌, List, [], ◌∷◌, Option, Some, None, refl, sym, ap, subst, ◌∙◌, inl, inr, arith}
 use Rattle.std.specs.Prelude.{IfSome, pos}
 use Rattle.std.specs.List.{list_any}
@@ -38,8 +38,9 @@ use Rattle.atl_instant.proofs.NoWorseLaws.{no_worse}
 use Rattle.atl_instant.proofs.OrderEffectLaws.{drawn_same, no_worse_spares, well_same}
 use Rattle.atl_instant.proofs.UnbookedLaws.{other_unit}
 
--- ---- who else guards
+-- ---- other guards of the region
 
+-- if no element of a list passes a test, an element of the list doesn't
 none_of : (p : ℕ → Bool) (ns : List ℕ) → list_any p ns ≡ false → (k : ℕ) → IsListed k ns → p k ≡ false
 none_of p [] is k listed = absurd listed
 none_of p (n ∷ ns) is k listed = by_test (p n) refl is (λ e h. none_of p ns e k h) listed
@@ -49,7 +50,7 @@ none_of p (n ∷ ns) is k listed = by_test (p n) refl is (λ e h. none_of p ns e
     by_test false t e rest (inl same) = ap p same ∙ t
     by_test false t e rest (inr h) = rest e h
 
--- a guard of the region is of the faction
+-- where no other faction guards a region, each unit that guards there is of this faction
 pub own_guards : (c : CampaignValue) (region faction : ℕ) → is_guarded_against c region faction ≡ false → Every (λ m v. guards v ≡ true → v.region ≡ region → v.faction ≡ faction) c.units
 own_guards c region faction none m v there guarding here =
     let inside : (v.region == region) ≡ true = grind (arith, nat_tests) in
@@ -61,18 +62,22 @@ own_guards c region faction none m v there guarding here =
     second true b t e = e
     second false b t e = cc
 
--- ---- the campaign behind it
+-- ---- the campaign after the flag is set
 
 module _ (c : CampaignValue) (n : ℕ) (u : Unit) (is : get c.units n ≡ Some u) where
+  -- the unit with its guard flag set
   abbrev pub guarding : Unit
   guarding = record u { holding = record u.holding { guard = true } }
 
+  -- the campaign in which the unit has its guard flag set
   abbrev pub flagged : CampaignValue
   flagged = record c { units = insert c.units n guarding }
 
+  -- two units that both guard one region are of one faction
   abbrev Agree : Unit → Unit → Type 0
   Agree x y = guards x ≡ true → guards y ≡ true → x.region ≡ y.region → x.faction ≡ y.faction
 
+  -- all units that guard a region still are of one faction
   guards_kept : is_guarded_against c u.region u.faction ≡ false → AreOfOneFaction guards c → AreOfOneFaction guards flagged
   guards_kept none old =
       let own = own_guards c u.region u.faction none in
@@ -80,14 +85,17 @@ module _ (c : CampaignValue) (n : ℕ) (u : Unit) (is : get c.units n ≡ Some u
       (every-insert (λ m y. Agree guarding y) c.units n guarding (λ g k same. refl) (λ m y there g k same. sym (own m y there k (sym same))))
       (λ k x here. every-insert (λ m y. Agree x y) c.units n guarding (λ g h same. own k x here g same) (old k x here))
 
+  -- setting the guard flag of a unit that is there makes this campaign
   pub flagged_is : with_guard c n true ≡ flagged
   flagged_is = ap (λ m. record c { units = m }) (changed-known (λ (x : Unit). record x { holding = record x.holding { guard = true } }) c.units n u is)
 
+  -- each other unit stays as it is
   pub flag_spares : (k : ℕ) (x : Unit) → get c.units k ≡ Some x → k ≢ n → IsUnaffected IsNoWorse (with_guard c n true) k x
   flag_spares k x there apart =
       subst (λ d. IsUnaffected IsNoWorse d k x) (sym flagged_is) (record { unit = x; there = get-insert_other c.units n k guarding apart ∙ there; spared = no_worse x })
 
   module _ (w : WorldValue) where
+    -- a campaign stays steady when a unit begins to guard a region that no other faction guards
     pub steady-flagged : is_guarded_against c u.region u.faction ≡ false → IsSteady w c → IsSteady w flagged
     steady-flagged none steady =
         let may = may_have w c n u is steady in
@@ -107,6 +115,7 @@ module _ (c : CampaignValue) (n : ℕ) (u : Unit) (is : get c.units n ≡ Some u
         same : (a b x y : ℕ) → a + x ≡ b + y → y ≡ x → a ≡ b
         same a b x y e f = omega arith
 
+    -- so setting the flag is a step that leaves the campaign well
     pub flag_steps_well : is_guarded_against c u.region u.faction ≡ false → IsSteady w c → StepsWell IsSteady (λ d e t. 0) w c (with_guard c n true)
     flag_steps_well none steady =
         subst (λ d. StepsWell IsSteady (λ d e t. 0) w c d) (sym flagged_is) (record {
@@ -116,6 +125,7 @@ module _ (c : CampaignValue) (n : ℕ) (u : Unit) (is : get c.units n ≡ Some u
           drawn = λ e t. drawn_same 0 (amount_in c.books e t);
         })
 
+-- all that changes when the guard flag is set is marked
 pub flag_marks : (c d : MarkedCampaign) (n : ℕ) → d.value ≡ with_guard c.value n true → d.marks ≡ mark_unit_row c n → MarksChanges c d
 flag_marks c d n what marks =
     let all = marks-unit_row (λ u. record u { holding = record u.holding { guard = true } }) (λ u. refl) c n in
@@ -123,7 +133,7 @@ flag_marks c d n what marks =
 
 -- ---- one order
 
--- what is so of the campaign as it is, and of that in which the unit guards, is so of the campaign behind the order
+-- P holds of the campaign after an order of GUARD 1, if it holds without a change and with the guard flag set
 guard_cases : (P : CampaignValue → Type 0) (c : CampaignValue) (n : ℕ) (u : Unit) → P c → (is_guarded_against c u.region u.faction ≡ false → P (with_guard c n true)) → P (guard n c u).0
 unfolding guard
 guard_cases P c n u same flag = by_fault (guard_fault c u) refl
@@ -135,15 +145,18 @@ guard_cases P c n u same flag = by_fault (guard_fault c u) refl
         let two = none_fits (is_guarded_against c u.region u.faction) Guarded [] one.1 in
         flag two.0
 
+-- an order of GUARD 1 is a step that leaves the campaign well
 guard_steps_well : (w : WorldValue) (c : CampaignValue) (n : ℕ) (u : Unit) → get c.units n ≡ Some u → IsSteady w c → StepsWell IsSteady (λ d e t. 0) w c (guard n c u).0
 guard_steps_well w c n u is steady = guard_cases (λ d. StepsWell IsSteady (λ d e t. 0) w c d) c n u (well_same w c steady) (λ none. flag_steps_well c n u is w none steady)
 
+-- an order of GUARD 1 leaves each other unit no worse off
 guard_spares : (w : WorldValue) (c : CampaignValue) (n : ℕ) (u : Unit) → get c.units n ≡ Some u → (k : ℕ) (x : Unit) → get c.units k ≡ Some x → k ≢ n → IsUnaffected IsNoWorse (guard n c u).0 k x
 guard_spares w c n u is k x there apart =
     guard_cases (λ d. IsUnaffected IsNoWorse d k x) c n u (record { unit = x; there = there; spared = no_worse x }) (λ none. flag_spares c n u is k x there apart)
 
 -- ---- the phase
 
+-- the step of GUARD 1 is orderly
 pub guard_orderly : IsOrderly guard_step IsSteady (λ c e t. 0) (λ e t. 0) guard_concerns IsNoWorse
 guard_orderly = record {
   well = λ w a c t x steady fit own. well w c t x steady own t.order_value.operands;

@@ -1,4 +1,4 @@
--- Lists of entries in another order, and the maps that they make.
+-- The map that a list of entries makes, and what it lists: independent of the order of the list.
 use Rattle.std.proofs.Common.{◌≡◌, ℕ, ◌+◌, ◌<◌, cond, ◌&&◌, Bool, true, false, T, List, [], ◌∷◌, map, filter, length, get_or, Option, Some, None, refl, sym, ap, subst, ◌∙◌, Contains, slice_get, IsPermutation, arith}
 use Rattle.std.specs.declared.cmp.Ordering.{Ordering}
 use Rattle.std.specs.declared.cmp.Ordering.TheVariants.{Less, Equal, Greater}
@@ -17,18 +17,21 @@ use Rattle.std.proofs.lemmas.List.Sorted.{IsPermutation-map, IsPermutation-sym, 
 use Rattle.std.proofs.lemmas.Option.{get_or_from_slice_get, slice_get-get_or, slice_get_within}
 
 module _ {X : Type 0} where
+  -- a value that is there isn't missing
   some_none : {P : Type 0} (x : X) → Some x ≡ None → P
   some_none x e = cc
 
-  -- two look-ups each of which finds what the other does
+  -- two look-ups are the same if each finds what the other finds
   alike : (a b : Option X) → ((v : X) → a ≡ Some v → b ≡ Some v) → ((v : X) → b ≡ Some v → a ≡ Some v) → a ≡ b
   alike None None f g = refl
   alike None (Some w) f g = g w refl
   alike (Some v) b f g = sym (f v refl)
 
+  -- an element at an index is in the list
   placed : (xs : List X) (i : ℕ) (x : X) → slice_get xs i ≡ Some x → Contains xs x
   placed xs i x h = (i, slice_get_within xs i x h, get_or_from_slice_get xs i x x h)
 
+  -- an element in the list has an index
   place_of : (xs : List X) (x : X) → Contains xs x → (i : ℕ) × (slice_get xs i ≡ Some x)
   place_of xs x h = (h.0, slice_get-get_or xs h.0 x h.1 ∙ ap Some h.2)
 
@@ -45,6 +48,7 @@ less Equal h = absurd (false≢true h)
 less Greater h = absurd (false≢true h)
 
 module _ {K : Type 0} {R : K → K → Ordering} (o : IsTotalOrder R) where
+  -- of two keys that aren't equal, the one that isn't greater is less
   below : (x y : K) → is_lt (R y x) ≡ false → eq_by_cmp R x y ≡ false → R x y ≡ Less
   below x y up apart =
       elim (R x y) as (λ r. R x y ≡ r → is_eq r ≡ false → r ≡ Less) [
@@ -54,10 +58,12 @@ module _ {K : Type 0} {R : K → K → Ordering} (o : IsTotalOrder R) where
       ] refl apart
 
 module _ {K X : Type 0} {R : K → K → Ordering} (o : IsTotalOrder R) (exact : IsAntisymmetric R) where
+  -- `find` finds the value of the first entry with an equal key
   pub find_is : (q : K) (es : List (K × X)) → find R q es ≡ lookup (eq_by_cmp R q) es
   find_is q [] = refl
   find_is q (e ∷ es) = ap (cond (eq_by_cmp R q e.0) (Some e.1)) (find_is q es)
 
+  -- what a look-up by key finds in a list is found in the list in another order
   found : (es fs : List (K × X)) → IsPermutation es fs → IsDistinct (eq_by_cmp R) (keys_of fs) → (q : K) (v : X) → lookup (eq_by_cmp R q) es ≡ Some v → lookup (eq_by_cmp R q) fs ≡ Some v
   found es fs p apart q v h =
       let at = place_from_lookup (eq_by_cmp R q) es v h in
@@ -65,18 +71,20 @@ module _ {K X : Type 0} {R : K → K → Ordering} (o : IsTotalOrder R) (exact :
       let same : at.1 ≡ q = sym (exact q at.1 ((Equal-is (R q at.1)).0 at.3)) in
       ap (λ k. lookup (eq_by_cmp R k) fs) (sym same) ∙ lookup_from_place (eq_by_cmp_equiv o) fs there.0 at.1 v apart there.1
 
+  -- keys without two equal ones are so in another order
   moved : (es fs : List (K × X)) → IsPermutation es fs → IsDistinct (eq_by_cmp R) (keys_of es) → IsDistinct (eq_by_cmp R) (keys_of fs)
   moved es fs p apart = IsDistinct-IsPermutation (eq_by_cmp R) (eq_by_cmp_equiv o).symm (keys_of es) (keys_of fs) (IsPermutation-map (λ e. e.0) es fs p) apart
 
+  -- the search finds the same in a list in another order, if no two keys are equal
   pub find-permutation : (es fs : List (K × X)) → IsPermutation es fs → IsDistinct (eq_by_cmp R) (keys_of es) → (q : K) → find R q es ≡ find R q fs
   find-permutation es fs p apart q =
       find_is q es ∙ alike (lookup (eq_by_cmp R q) es) (lookup (eq_by_cmp R q) fs) (found es fs p (moved es fs p apart) q) (found fs es (IsPermutation-sym es fs p) apart q) ∙ sym (find_is q fs)
 
-  -- entries in another order make the same map
+  -- entries in another order make the same map, if no two keys are equal
   pub from_entries-permutation : (es fs : List (K × X)) → IsPermutation es fs → IsDistinct (eq_by_cmp R) (keys_of es) → from_entries {R = R} es ≡ from_entries fs
   from_entries-permutation es fs p apart = same_map o exact _ _ (λ q. get-from_entries o es q ∙ find-permutation es fs p apart q ∙ sym (get-from_entries o fs q))
 
-  -- keys in order of which no two are one rise
+  -- keys that are sorted, and of which no two are equal, are strictly sorted
   pub strictly : (es : List (K × X)) → IsDistinct (eq_by_cmp R) (keys_of es) → IsSortedBy (λ a b. is_lt (R a.0 b.0)) es → IsStrictlySortedBy R (keys_of es)
   unfolding IsStrictlySortedBy
   strictly [] apart up = tt
@@ -89,25 +97,29 @@ module _ {K X : Type 0} {R : K → K → Ordering} (o : IsTotalOrder R) (exact :
       (ap is_lt (λ i. R (key (k + 1) (omega arith) i) (key k (omega arith) i)) ∙ up k e (omega arith) (omega arith))
       (apart_from_distinct (eq_by_cmp R) ks k (k + 1) e.0 apart (omega arith) h))
 
+  -- a key less than all keys of a list is below the list
   all_below : (x : K) (es : List (K × X)) → AllByRecursion (λ y. R x y ≡ Less) (keys_of es) → below_all R x es ≡ true
   all_below x [] h = refl
   all_below x (e ∷ es) h = λ i. is_lt (h.0 i) && all_below x es h.1 i
 
+  -- strictly sorted keys pass the test for sorted entries
   in_order : (es : List (K × X)) → IsStrictlySortedBy R (keys_of es) → is_sorted R es ≡ true
   in_order [] h = refl
   in_order (e ∷ es) h = λ i. all_below e.0 es (sorted_head R e.0 (keys_of es) h) i && in_order es (sorted_tail R e.0 (keys_of es) h) i
 
-  -- a list in the order of its keys is what the map of its elements lists
+  -- a list sorted by its keys is what the map of its elements lists, if no two keys are equal
   pub entries-sorted : (es fs : List (K × X)) → IsPermutation es fs → IsDistinct (eq_by_cmp R) (keys_of es) → IsSortedBy (λ a b. is_lt (R a.0 b.0)) fs → fs ≡ entries (from_entries {R = R} es)
   entries-sorted es fs p apart up =
       let ordered = is_true _ (in_order fs (strictly fs (moved es fs p apart) up)) in
       sym (entries-from_sorted R fs ordered) ∙ ap entries (same_map o exact (from_sorted fs) (from_entries es) (λ q.
       get-from_sorted R fs q ordered ∙ sym (find-permutation es fs p apart q) ∙ sym (get-from_entries o es q)))
 
+  -- a key below a list is less than all its keys
   all_less : (x : K) (es : List (K × X)) → below_all R x es ≡ true → AllByRecursion (λ y. R x y ≡ Less) (keys_of es)
   all_less x [] h = tt
   all_less x (e ∷ es) h = let parts = and_parts _ _ h in (less _ parts.0, all_less x es parts.1)
 
+  -- entries that pass the test for sorted ones have strictly sorted keys
   rising : (es : List (K × X)) → is_sorted R es ≡ true → IsStrictlySortedBy R (keys_of es)
   unfolding IsStrictlySortedBy
   rising [] h = tt
@@ -143,7 +155,7 @@ module _ {K X : Type 0} {R : K → K → Ordering} (o : IsTotalOrder R) (exact :
     find-passing : (es : List (K × X)) → IsDistinct (eq_by_cmp R) (keys_of es) → (q : K) → find R q (passing es) ≡ option_filter p (find R q es)
     find-passing es apart q = find_is q (passing es) ∙ lookup-filter-values (eq_by_cmp_equiv o) p q es apart ∙ ap (option_filter p) (sym (find_is q es))
 
-    -- are what the map lists of those that pass
+    -- the map of the entries whose values pass a test lists those of the whole map's entries that do
     pub entries-passing : (es : List (K × X)) → IsDistinct (eq_by_cmp R) (keys_of es) → entries (from_entries {R = R} (passing es)) ≡ passing (entries (from_entries {R = R} es))
     entries-passing es apart =
         let m : FinMap R X = from_entries es in
@@ -156,11 +168,13 @@ module _ {K X : Type 0} {R : K → K → Ordering} (o : IsTotalOrder R) (exact :
         ∙ sym (find-passing fs (IsDistinct-from_sorted R (keys_of fs) (rising fs up)) q) ∙ sym (get-from_sorted R (passing fs) q ordered)))
         ∙ entries-from_sorted R (passing fs) ordered
 
--- elements in the order of their keys, each behind its key
+-- elements in the order of their keys, each with its key
 module _ {K X : Type 0} (R : K → K → Ordering) (key : X → K) where
+  -- an element with its key
   abbrev keyed : X → K × X
   keyed x = (key x, x)
 
+  -- elements sorted by their keys are so with their keys
   pub keyed_order : (xs : List X) → IsSortedByKey key R xs → IsSortedBy {X = K × X} (λ x y. is_lt (R x.0 y.0)) (map keyed xs)
   keyed_order xs up k d low h =
       let long : length (map keyed xs) ≡ length xs = length-map xs keyed in

@@ -1,4 +1,4 @@
--- What a map lists, where each value stands for another.
+-- The entries of a map when a function is taken of each value.
 use Rattle.std.proofs.Common.{◌≡◌, List, [], ◌∷◌, map, refl, sym, ap, ◌∙◌}
 use Rattle.std.specs.declared.cmp.Ordering.{Ordering}
 use Rattle.std.specs.declared.cmp.Ordering.TheVariants.{Less, Equal, Greater}
@@ -7,17 +7,21 @@ use Rattle.std.specs.FinMap.{empty, entries, entries-insert, from_entries, put, 
 use Rattle.std.specs.FinMap.Entries.{by_order}
 use Rattle.std.proofs.Common.{length, arith}
 
+-- a list of length 0 is empty
 empty_list : {A : Type 0} (es : List A) → length es ≡ 0 → es ≡ []
 empty_list [] h = refl
 empty_list (e ∷ es) h = absurd (omega arith)
 
+-- the empty map lists nothing
 pub no_entries : {K X : Type 0} (R : K → K → Ordering) → entries (empty {X = X} {R = R}) ≡ []
 no_entries {X = X} R = empty_list _ (sym (len-entries empty) ∙ len-empty R X)
 
 module _ {K X Y : Type 0} (R : K → K → Ordering) (f : X → Y) where
+  -- an entry with f of its value
   abbrev pub with_value : K × X → K × Y
   with_value e = (e.0, f e.1)
 
+  -- putting f of a value among mapped entries is mapping the entries with the value put
   put-mapped : (k : K) (v : X) (es : List (K × X)) → put R k (f v) (map with_value es) ≡ map with_value (put R k v es)
   put-mapped k v [] = refl
   put-mapped k v (e ∷ es) =
@@ -27,6 +31,7 @@ module _ {K X Y : Type 0} (R : K → K → Ordering) (f : X → Y) where
         | Greater ↦ ap (λ fs. with_value e ∷ fs) (put-mapped k v es)
       ]
 
+  -- the map of entries with f of their values lists the entries of the old map with f of their values
   pub entries-with_value : IsTotalOrder R → (es : List (K × X)) → entries (from_entries {R = R} (map with_value es)) ≡ map with_value (entries (from_entries {R = R} es))
   entries-with_value o [] = no_entries R ∙ ap (map with_value) (sym (no_entries R))
   entries-with_value o (e ∷ es) =

@@ -1,4 +1,4 @@
--- What several steps leave, each of which leaves a campaign well.
+-- Steps and phases in turn: what they leave, and the room that they need in the books.
 use Rattle.std.proofs.Common.{◌≡◌, ℕ, ◌+◌, ◌*◌, ◌≤◌, List, [], ◌∷◌, length, refl, sym, ap, subst, ◌∙◌, arith}
 use Rattle.std.specs.Prelude.{ℤ, fold}
 use Rattle.std.specs.Ordering.{nat_cmp}
@@ -17,30 +17,35 @@ use Rattle.atl_instant.specs.Month.{MonthValue}
 use Rattle.atl_instant.specs.Meaning.{BookBound, Condition, Frame, IsNear, IsSameMonth, LeavesWell, Meaning, both_keep, both_move}
 use Rattle.atl_instant.specs.Bounds.{HasRoom, HaveRoom, moved_times}
 
+-- two moves, of at most j and at most k, are together one of at most j + k
 pub near_twice : (j k : ℕ) (a b c : ℤ) → IsNear j a b → IsNear k b c → IsNear (j + k) a c
 near_twice j k a b c g h = record { above = omega (arith, ints, g.above, h.above); below = omega (arith, ints, g.below, h.below) }
 
+-- amounts that differ by at most j differ by at most a greater k
 pub near_more : (j k : ℕ) (a b : ℤ) → j ≤ k → IsNear j a b → IsNear k a b
 near_more j k a b l h = record { above = omega (arith, ints, h.above); below = omega (arith, ints, h.below) }
 
+-- an amount differs from itself by at most any k
 pub near_same : (k : ℕ) (a : ℤ) → IsNear k a a
 near_same k a = record { above = omega (arith, ints); below = omega (arith, ints) }
 
+-- an amount with room for j + k has room for k after a move of at most j
 pub near_room : (j k : ℕ) (a b : ℤ) → IsNear j a b → HasRoom (j + k) a → HasRoom k b
 near_room j k a b near room = record { above = omega (arith, ints, near.above, room.above); below = omega (arith, ints, near.below, room.below) }
 
+-- an amount with room for k has room for a smaller j
 pub less_room : (j k : ℕ) (a : ℤ) → j ≤ k → HasRoom k a → HasRoom j a
 less_room j k a l room = record { above = omega (arith, ints, room.above); below = omega (arith, ints, room.below) }
 
--- one moves no amount further than the other
+-- the first bound is at most the second for each amount
 abbrev pub MovesLess : BookBound → BookBound → Type 0
 MovesLess less more = (e : Entry) (t : Thing) → less e t ≤ more e t
 
--- room for more is room for less
+-- books with room for a bound have room for a smaller one
 pub room_less : (j k : BookBound) (c : CampaignValue) → MovesLess j k → HaveRoom k c → HaveRoom j c
 room_less j k c l room e t = less_room (j e t) (k e t) (amount_in c.books e t) (l e t) (room e t)
 
--- a sound campaign has room for a month
+-- the books of a sound campaign have room for any bound of at most 5*10^18
 pub room_when_sound : (w : WorldValue) (c : CampaignValue) (moving : BookBound) → MovesLess moving (λ e t. 5000000000000000000) → IsSound w c → HaveRoom moving c
 room_when_sound w c moving l sound e t =
     let few : amount_bound c ≤ 3000000000000000000 = omega (arith, sound.steady.numbers.month, sound.steady.numbers.few_factions) in
@@ -49,17 +54,17 @@ room_when_sound w c moving l sound e t =
     within : (a : ℤ) (bound change : ℕ) → bound ≤ 3000000000000000000 → change ≤ 5000000000000000000 → IsWithin bound a → HasRoom change a
     within a bound change few little h = record { above = omega (arith, ints, h.most); below = omega (arith, ints, h.least) }
 
--- behind one step there is room for the next
+-- books with room for two phases have room for the second after the first
 pub room_behind : {leaves : Condition} (j k : BookBound) (w : WorldValue) (c d : CampaignValue) → LeavesWell leaves j w c d → HaveRoom (both_move j k) c → HaveRoom k d
 room_behind j k w c d well room e t = near_room (j e t) (k e t) (amount_in c.books e t) (amount_in d.books e t) (well.near e t) (room e t)
 
 -- ---- the same month
 
--- the month that is counted, and the reports
+-- the number of the month last closed, and the reports
 abbrev pub counted_month : CampaignValue → ℕ × FinMap nat_cmp (List ℕ)
 counted_month c = (c.month, c.reports)
 
--- where none of these changes, and of the factions as many are there, and no others
+-- a campaign is of the same month if month, reports, number of factions and the factions there stay
 pub same_month_among : {c d : CampaignValue} → counted_month d ≡ counted_month c → len d.factions ≡ len c.factions → ((n : ℕ) → IsThere d.factions n → IsThere c.factions n) → IsSameMonth c d
 same_month_among {c} {d} same count factions = record {
   month = ap (λ (p : ℕ × FinMap nat_cmp (List ℕ)). p.0) same;
@@ -68,19 +73,21 @@ same_month_among {c} {d} same count factions = record {
   factions = factions;
 }
 
--- all that a month keeps
+-- all that stays in a month: the month last closed, the reports and the factions
 abbrev pub kept_in_month : CampaignValue → (ℕ × FinMap nat_cmp (List ℕ)) × FinMap nat_cmp Faction
 kept_in_month c = (counted_month c, c.factions)
 
--- so where all of it stays as it is
+-- a campaign in which these stay as they are is of the same month
 pub same_month_by : {c d : CampaignValue} → kept_in_month d ≡ kept_in_month c → IsSameMonth c d
 same_month_by {c} {d} same =
     let factions : d.factions ≡ c.factions = ap (λ (p : (ℕ × FinMap nat_cmp (List ℕ)) × FinMap nat_cmp Faction). p.1) same in
     same_month_among (ap (λ (p : (ℕ × FinMap nat_cmp (List ℕ)) × FinMap nat_cmp Faction). p.0) same) (ap len factions) (λ n there. subst (λ (m : FinMap nat_cmp Faction). IsThere m n) factions there)
 
+-- a campaign is of its own month
 pub same_month : (c : CampaignValue) → IsSameMonth c c
 same_month c = same_month_by refl
 
+-- two changes that each keep the month keep it together
 pub same_month_twice : (a b c : CampaignValue) → IsSameMonth a b → IsSameMonth b c → IsSameMonth a c
 same_month_twice a b c one two = record {
   month = two.month ∙ one.month;
@@ -89,6 +96,7 @@ same_month_twice a b c one two = record {
   factions = λ n there. one.factions n (two.factions n there);
 }
 
+-- two phases that each leave a campaign well do so in turn, within the sum of their bounds
 pub both_leave_well : {between leaves : Condition} (j k : BookBound) (w : WorldValue) (a b c : CampaignValue) → LeavesWell between j w a b → LeavesWell leaves k w b c → LeavesWell leaves (both_move j k) w a c
 both_leave_well j k w a b c one two = record {
   leaves_it = two.leaves_it;
@@ -97,22 +105,26 @@ both_leave_well j k w a b c one two = record {
   near = λ e t. near_twice (j e t) (k e t) (amount_in a.books e t) (amount_in b.books e t) (amount_in c.books e t) (one.near e t) (two.near e t);
 }
 
--- what two phases keep, by what the first one makes
+-- two phases in turn keep what each keeps, where the first makes the campaign and month between them
 pub both_keep_well : (first : Meaning) (early late : Frame) (w : WorldValue) (m n : MonthValue) (a b c : CampaignValue)
     → (b, n) ≡ first w a m → early w m a b → late w n b c → both_keep first early late w m a c
 both_keep_well first early late w m n a b c is one two = rw (sym is) (one, two)
 
+-- a phase that leaves a campaign well within a bound does so within a greater one
 pub well_within : {leaves : Condition} (j k : BookBound) (w : WorldValue) (a b : CampaignValue) → MovesLess j k → LeavesWell leaves j w a b → LeavesWell leaves k w a b
 well_within j k w a b l h = record { leaves_it = h.leaves_it; same_month = h.same_month; balances = h.balances; near = λ e t. near_more (j e t) (k e t) (amount_in a.books e t) (amount_in b.books e t) (l e t) (h.near e t) }
 
+-- a phase that changes nothing leaves the campaign well
 pub well_unchanged : {leaves : Condition} (moving : BookBound) (w : WorldValue) (c : CampaignValue) → leaves w c → LeavesWell leaves moving w c c
 well_unchanged moving w c h = record { leaves_it = h; same_month = same_month c; balances = λ b. b; near = λ e t. near_same (moving e t) (amount_in c.books e t) }
 
--- so does a fold of steps each of which does
+-- steps in turn that each leave the campaign well do so together
 module _ {A : Type 0} {leaves : Condition} (moving : BookBound) (w : WorldValue) (step : CampaignValue → A → CampaignValue) (each : (c : CampaignValue) (x : A) → leaves w c → LeavesWell leaves moving w c (step c x)) where
+  -- the bound of one step and then of the others is within the bound of all steps
   more : {B : Type 0} (x : B) (xs : List B) → MovesLess (both_move moving (moved_times (length xs) moving)) (moved_times (length (x ∷ xs)) moving)
   more x xs e t = let one : length (x ∷ xs) * moving e t ≡ length xs * moving e t + moving e t = suc-mul (length xs) (moving e t) in omega arith
 
+  -- steps in turn that each leave the campaign well do so together, within the bound of one times their number
   pub fold_leaves_well : (c : CampaignValue) (xs : List A) → leaves w c → LeavesWell leaves (moved_times (length xs) moving) w c (fold step c xs)
   fold_leaves_well c [] h = well_unchanged (moved_times 0 moving) w c h
   fold_leaves_well c (x ∷ xs) h =
@@ -120,10 +132,11 @@ module _ {A : Type 0} {leaves : Condition} (moving : BookBound) (w : WorldValue)
       well_within (both_move moving (moved_times (length xs) moving)) (moved_times (length (x ∷ xs)) moving) w c (fold step (step c x) xs) (more x xs)
       (both_leave_well moving (moved_times (length xs) moving) w c (step c x) (fold step (step c x) xs) one (fold_leaves_well (step c x) xs one.leaves_it))
 
-  -- room for all steps is room for the first, and behind it for the others
+  -- books with room for some steps have room for one of them
   pub room_for_one : {B : Type 0} (c : CampaignValue) (y : B) (ys : List B) → HaveRoom (moved_times (length (y ∷ ys)) moving) c → HaveRoom moving c
   room_for_one c y ys room = room_less moving (moved_times (length (y ∷ ys)) moving) c (λ e t. omega (arith, more y ys e t)) room
 
+  -- after the first of these steps, the books have room for the others
   pub room_behind_one : {B : Type 0} (c : CampaignValue) (x : A) (y : B) (ys : List B) → leaves w c → HaveRoom (moved_times (length (y ∷ ys)) moving) c → HaveRoom (moved_times (length ys) moving) (step c x)
   room_behind_one c x y ys h room =
       room_behind moving (moved_times (length ys) moving) w c (step c x) (each c x h)

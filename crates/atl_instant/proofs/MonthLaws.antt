@@ -1,4 +1,4 @@
--- What was read, by faction.
+-- Readings by faction: their keys, any order of the mailings, and the search for a mailing.
 use Rattle.std.proofs.Common.{◌≡◌, ℕ, suc, ◌+◌, ◌<◌, ◌≤◌, ◌⊎◌, nat_lt, true, false, cond, List, [], ◌∷◌, map, length, get_or, slice_get, Some, None, refl, sym, ap, ◌∙◌, subst, IsPermutation, arith}
 use mathlib.Core.Logic.{inl, inr}
 use Rattle.std.specs.declared.cmp.Ordering.TheVariants.{Less, Equal, Greater}
@@ -20,18 +20,21 @@ use Rattle.atl_orders.specs.Mailing.{Reading, reading_of}
 use Rattle.atl_instant.specs.Month.{HaveOwnFactions, HaveNoOrder, by_faction}
 use Rattle.atl_instant.proofs.ListedLaws.{find_is, from_entries-permutation, keyed_order, strictly}
 
+-- a reading with its faction as its key
 abbrev pub by_its_faction : Reading → ℕ × Reading
 by_its_faction r = (r.faction, r)
 
+-- the keys of readings under their factions are the factions
 pub keys_of-factions : (rs : List Reading) → keys_of (map by_its_faction rs) ≡ map (λ r. r.faction) rs
 keys_of-factions [] = refl
 keys_of-factions (r ∷ rs) = ap (λ ks. r.faction ∷ ks) (keys_of-factions rs)
 
--- a reading is of the faction that its mailing is of
+-- each reading has the faction of its mailing
 pub factions_read : (ms : List Mailing) → map (λ r. r.faction) (map reading_of ms) ≡ map (λ m. m.faction) ms
 factions_read [] = refl
 factions_read (m ∷ ms) = ap (λ fs. m.faction ∷ fs) (factions_read ms)
 
+-- so the keys of the readings of mailings are the factions of the mailings
 pub keys_of-read : (ms : List Mailing) → keys_of (map by_its_faction (map reading_of ms)) ≡ map (λ m. m.faction) ms
 keys_of-read ms = keys_of-factions (map reading_of ms) ∙ factions_read ms
 
@@ -44,23 +47,28 @@ mailings_have_no_order ms ns apart p =
 
 -- ---- mailings that are sorted by faction
 
+-- a mailing with its faction as its key
 abbrev under_faction : Mailing → ℕ × Mailing
 under_faction m = (m.faction, m)
 
+-- the keys of mailings under their factions are the factions
 keys_of-mailings : (ms : List Mailing) → keys_of (map under_faction ms) ≡ map (λ m. m.faction) ms
 keys_of-mailings [] = refl
 keys_of-mailings (m ∷ ms) = ap (λ ks. m.faction ∷ ks) (keys_of-mailings ms)
 
+-- sorted mailings of different factions are strictly sorted by faction
 pub rise : (ms : List Mailing) → HaveOwnFactions ms → IsSortedByKey (λ m. m.faction) nat_cmp ms → AreByFaction ms
 rise ms apart up =
     subst (IsStrictlySortedBy nat_cmp) (keys_of-mailings ms) (strictly nat_cmp_total nat_cmp-IsAntisymmetric (map under_faction ms)
     (subst (IsDistinct (eq_by_cmp nat_cmp)) (sym (keys_of-mailings ms)) apart) (keyed_order nat_cmp (λ m. m.faction) ms up))
 
+-- mailings in another order still are of different factions
 pub own_factions-moved : (ms ns : List Mailing) → IsPermutation ms ns → HaveOwnFactions ms → HaveOwnFactions ns
 own_factions-moved ms ns p = IsDistinct-IsPermutation (eq_by_cmp nat_cmp) (eq_by_cmp_equiv nat_cmp_total).symm (map (λ m. m.faction) ms) (map (λ m. m.faction) ns) (IsPermutation-map (λ m. m.faction) ms ns p)
 
 -- ---- a mailing that is looked for
 
+-- in mailings sorted by faction, the reading of the mailing at index i is the one of its faction
 pub found_at : (ms : List Mailing) (f i : ℕ) (d : Mailing) → AreByFaction ms → i < length ms → nat_cmp (get_or ms i d).faction f ≡ Equal → get (by_faction (map reading_of ms)) f ≡ Some (reading_of (get_or ms i d))
 found_at ms f i d rise h tie =
     let rs = map reading_of ms in
@@ -77,6 +85,7 @@ found_at ms f i d rise h tie =
     get-from_entries nat_cmp_total es f ∙ find_is nat_cmp_total nat_cmp-IsAntisymmetric f es ∙ ap (λ k. lookup (eq_by_cmp nat_cmp k) es) (sym same)
     ∙ lookup_from_place (eq_by_cmp_equiv nat_cmp_total) es i m.faction (reading_of m) apart there
 
+-- where no mailing is of a faction, the search finds no reading of it
 unfound : (ms : List Mailing) (f : ℕ) → ((j : ℕ) (d : Mailing) → j < length ms → eq_by_cmp nat_cmp (get_or ms j d).faction f ≡ false) → find nat_cmp f (map by_its_faction (map reading_of ms)) ≡ None
 unfound [] f h = refl
 unfound (m ∷ ms) f h =
@@ -84,6 +93,7 @@ unfound (m ∷ ms) f h =
     ap (λ b. cond b (Some (reading_of m)) (find nat_cmp f es)) ((eq_by_cmp_equiv nat_cmp_total).symm f m.faction ∙ h 0 m (omega arith))
     ∙ unfound ms f (λ j d l. h (suc j) d (omega arith))
 
+-- where the search finds no mailing of a faction, the map has no reading of it
 pub missing : (ms : List Mailing) (f i : ℕ) → IsPartitionPoint (λ m. nat_cmp m.faction f ≡ Less) (λ m. nat_cmp m.faction f ≡ Greater) ms i → get (by_faction (map reading_of ms)) f ≡ None
 missing ms f i h =
     get-from_entries nat_cmp_total (map by_its_faction (map reading_of ms)) f ∙ unfound ms f (λ j d l. either j d l (trichotomy j))
@@ -95,7 +105,7 @@ missing ms f i h =
     either j d l (inl b) = ap is_eq (h.0 j d (omega arith) b)
     either j d l (inr b) = ap is_eq (h.1 j d b l)
 
--- they can be searched for a faction
+-- mailings sorted by faction can be searched by halves for a faction
 pub searchable : (ms : List Mailing) (f : ℕ) → AreByFaction ms → IsNonDecreasingBy (λ m. ordering_index (nat_cmp m.faction f)) ms
 searchable ms f rise = searchable_from_sorted nat_cmp_total (λ m. m.faction) ms f (λ k d low h.
     let fs = map (λ m. m.faction) ms in

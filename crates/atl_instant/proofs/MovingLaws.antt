@@ -1,4 +1,4 @@
--- What goes from one unit to another.
+-- Something goes from one unit to another, and the campaign stays well.
 use Rattle.std.proofs.Common.{◌≡◌, ◌≢◌, ℕ, ◌+◌, true, Some, refl, sym, ap, subst, ◌∙◌, inl, inr, arith}
 use Rattle.std.specs.Prelude.{pos}
 use Rattle.std.proofs.lemmas.Bool.{cases_eq}
@@ -27,23 +27,28 @@ use Rattle.atl_instant.proofs.OrderEffectLaws.{drawn_same}
 -- ---- two units, of which one gives and the other gets
 
 module _ (c : CampaignValue) (from to : ℕ) (u v : Unit) (h k : HoldingValue) (giver : get c.units from ≡ Some u) (receiver : get c.units to ≡ Some v) (apart : to ≢ from) where
+  -- the campaign after the giver has given, and before the receiver has got
   abbrev between : CampaignValue
   between = with_held c from h (Some u)
 
+  -- the campaign in which the giver holds h and the receiver holds k
   abbrev pub moved : CampaignValue
   moved = with_held between to k (Some v)
 
+  -- the receiver is still there after the giver has given
   pub receiver_still : get between.units to ≡ Some v
   receiver_still = get-insert_other c.units from to (record u { holding = h }) apart ∙ receiver
 
+  -- a campaign stays early when both units may hold what they then hold, and neither guards anew
   pub early-moved : (w : WorldValue) → MayHave w h → (h.guard ≡ true → u.holding.guard ≡ true) → MayHave w k → (k.guard ≡ true → v.holding.guard ≡ true) → IsEarly w c → IsEarly w moved
   early-moved w less less_flag more more_flag early =
       early-having w between to v k receiver_still more more_flag (early-having w c from u h giver less less_flag early)
 
-  -- what both hold stays
+  -- both units together hold as much of each thing after as before
   abbrev pub BothHold : Type 0
   BothHold = (t : Thing) → unit_amount t h + unit_amount t k ≡ unit_amount t u.holding + unit_amount t v.holding
 
+  -- the totals of the campaign stay the same, if both together hold as much as before
   pub total-moved : WorldValue → BothHold → (t : Thing) → total moved t ≡ total c t
   total-moved w both t =
       sum (total moved t) (total between t) (total c t) (unit_amount t u.holding) (unit_amount t v.holding) (unit_amount t h) (unit_amount t k) (total-unit_amount w between to v k receiver_still t) (total-unit_amount w c from u h giver t) (both t)
@@ -51,6 +56,7 @@ module _ (c : CampaignValue) (from to : ℕ) (u v : Unit) (h k : HoldingValue) (
       sum : (a b x p q r s : ℕ) → a + q ≡ b + s → b + p ≡ x + r → r + s ≡ p + q → a ≡ x
       sum a b x p q r s e f g = omega arith
 
+  -- such a move is a step that leaves the campaign well
   pub steps-moved : (w : WorldValue) → IsEarly w moved → BothHold → StepsWell IsEarly (λ d e t. 0) w c moved
   steps-moved w early both = record {
     holds_still = early;
@@ -59,7 +65,7 @@ module _ (c : CampaignValue) (from to : ℕ) (u v : Unit) (h k : HoldingValue) (
     drawn = λ e t. drawn_same 0 (amount_in c.books e t);
   }
 
-  -- a unit that doesn't give is no worse off
+  -- each unit but the giver is no worse off, if the receiver isn't
   pub spared-moved : IsNoWorse v (record v { holding = k }) → (n : ℕ) (x : Unit) → get c.units n ≡ Some x → n ≢ from → IsUnaffected IsNoWorse moved n x
   spared-moved better n x there other = elim (cases_eq n to) [
     | inl same ↦

@@ -1,4 +1,4 @@
--- Orders: no two have one key, and those that are collected and sorted are what the map lists.
+-- No two orders have one key, and the orders that are collected and sorted are what the map of orders lists.
 use Rattle.std.proofs.Common.{◌≡◌, ℕ, ◌+◌, ◌<◌, ◌≤◌, Bool, true, false, cond, List, [], ◌∷◌, map, filter, get_or, refl, sym, ap, subst, ◌∙◌, arith, IsPermutation, flat_map}
 use Rattle.std.specs.declared.cmp.Ordering.TheVariants.{Less}
 use Rattle.std.specs.Ordering.{nat_cmp, eq_by_cmp}
@@ -30,13 +30,16 @@ use Rattle.atl_instant.proofs.MonthLaws.{by_its_faction, factions_read, keys_of-
 
 -- ---- keys that differ
 
+-- whether two orders have the same key in an arrangement
 abbrev same_key : Arrangement → Task → Task → Bool
 same_key a t u = eq_by_cmp (slice_cmp nat_cmp) (key_of a t) (key_of a u)
 
+-- orders with one key are of one faction
 factions_tie : (a : Arrangement) (t u : Task) → key_of a t ≡ key_of a u → t.faction ≡ u.faction
 factions_tie ByUnit t u e = ap (λ key. get_or key 2 0) e
 factions_tie ByFaction t u e = ap (λ key. get_or key 0 0) e
 
+-- orders with one key have one index in their mailings
 places_tie : (a : Arrangement) (t u : Task) → key_of a t ≡ key_of a u → t.place ≡ u.place
 places_tie ByUnit t u e = ap (λ key. get_or key 3 0) e
 places_tie ByFaction t u e = ap (λ key. get_or key 3 0) e
@@ -45,20 +48,24 @@ refuted : (b : Bool) → (b ≡ true → ⊥) → b ≡ false
 refuted true h = absurd (h refl)
 refuted false h = refl
 
+-- orders for which `same_key` holds have equal keys
 keys_tie : (a : Arrangement) (t u : Task) → same_key a t u ≡ true → key_of a t ≡ key_of a u
 keys_tie a t u h = slice_cmp-IsAntisymmetric nat_cmp-IsAntisymmetric (key_of a t) (key_of a u) ((Equal-is (slice_cmp nat_cmp (key_of a t) (key_of a u))).0 h)
 
+-- orders of two factions have different keys
 other_faction : (a : Arrangement) (t u : Task) → t.faction < u.faction → same_key a t u ≡ false
 other_faction a t u l = refuted (same_key a t u) (λ h. let e = factions_tie a t u (keys_tie a t u h) in omega arith)
 
+-- orders with two indices in their mailings have different keys
 other_place : (a : Arrangement) (t u : Task) → t.place < u.place → same_key a t u ≡ false
 other_place a t u l = refuted (same_key a t u) (λ h. let e = places_tie a t u (keys_tie a t u h) in omega arith)
 
 module _ (aliases : Aliases) (a : Arrangement) where
-  -- within a mailing
+  -- an order of this faction whose index in its mailing is at least `place`
   abbrev IsBehind : ℕ → ℕ → Task → Type 0
   IsBehind faction place t = (t.faction ≡ faction) × (place ≤ t.place)
 
+  -- the orders of the entries from an index on have that index or a greater one
   behind : (p : Task → Bool) (faction : ℕ) (low place : ℕ) (es : List EntryValue) → low ≤ place → AllByRecursion (IsBehind faction low) (filter p (tasks_from aliases faction place es))
   behind p faction low place [] le = tt
   behind p faction low place (e ∷ es) le =
@@ -69,10 +76,12 @@ module _ (aliases : Aliases) (a : Arrangement) where
       kept ts t true h r = (h, r)
       kept ts t false h r = r
 
+  -- an order has another key than all orders of its mailing with greater indices
   apart_behind : (t : Task) (faction : ℕ) (ts : List Task) → AllByRecursion (IsBehind faction (t.place + 1)) ts → AllByRecursion (λ u. same_key a t u ≡ false) ts
   apart_behind t faction [] h = tt
   apart_behind t faction (u ∷ ts) h = (other_place a t u (omega (arith, h.0.1)), apart_behind t faction ts h.1)
 
+  -- no two orders of one mailing have one key
   pub apart_within : (p : Task → Bool) (faction : ℕ) (place : ℕ) (es : List EntryValue) → IsDistinct (same_key a) (filter p (tasks_from aliases faction place es))
   unfolding IsDistinct
   apart_within p faction place [] = tt
@@ -83,7 +92,7 @@ module _ (aliases : Aliases) (a : Arrangement) where
       kept ts t true h r = (h, r)
       kept ts t false h r = r
 
-  -- and across them
+  -- orders of different mailings
   of_faction : (p : Task → Bool) (faction : ℕ) (place : ℕ) (es : List EntryValue) (Q : ℕ → Type 0) → Q faction → AllByRecursion (λ t. Q t.faction) (filter p (tasks_from aliases faction place es))
   of_faction p faction place [] Q q = tt
   of_faction p faction place (e ∷ es) Q q = kept _ _ (p _) q (of_faction p faction (place + 1) es Q q)
@@ -111,6 +120,7 @@ module _ (aliases : Aliases) (a : Arrangement) where
     all_before n [] us e h = tt
     all_before n (t ∷ ts) us e h = (before n t us e.0 h, all_before n ts us e.1 h)
 
+    -- no two orders of a phase have one key, in mailings sorted by faction
     pub all_apart : (rs : List Reading) → IsStrictlySortedBy nat_cmp (map (λ r. r.faction) rs) → IsDistinct (same_key a) (all_tasks is_of aliases rs)
     unfolding IsDistinct
     all_apart [] h = tt
@@ -126,6 +136,7 @@ module _ (aliases : Aliases) (a : Arrangement) where
 -- ---- as they are collected, and as the map lists them
 
 module _ {X : Type 0} (as_task : X → Task) where
+  -- the values of mapped entries are the mapped values
   values-tasks : (es : List (List ℕ × X)) → map (λ e. e.1) (map (with_value (slice_cmp nat_cmp) as_task) es) ≡ map as_task (map (λ e. e.1) es)
   values-tasks [] = refl
   values-tasks (e ∷ es) = ap (λ ts. as_task e.1 ∷ ts) (values-tasks es)
@@ -149,7 +160,7 @@ module _ {X : Type 0} (as_task : X → Task) where
     unkeyed [] = refl
     unkeyed (o ∷ os) = ap (λ ps. o ∷ ps) (unkeyed os)
 
-    -- orders in the order of their keys, of which no two are one, are what the map of them lists
+    -- orders sorted by their keys, of which no two are equal, are what the map of them lists
     listed : (os list : List X) (ts : List Task) → map as_task os ≡ ts → IsDistinct (λ t u. eq_by_cmp (slice_cmp nat_cmp) (key t) (key u)) ts → IsPermutation os list
         → IsSortedByKey (λ o. key (as_task o)) (slice_cmp nat_cmp) list → map as_task list ≡ values (from_entries {R = slice_cmp nat_cmp} (map paired ts))
     listed os list ts are apart p up =
@@ -161,26 +172,30 @@ module _ {X : Type 0} (as_task : X → Task) where
         ∙ ap (map (λ e. e.1)) (sym (entries-with_value (slice_cmp nat_cmp) as_task nat_list_cmp_total (map keyed os)))
         ∙ ap (λ es. values (from_entries {R = slice_cmp nat_cmp} es)) (pairs-keyed os ∙ ap (map paired) are)
 
+-- orders sorted by a key, of which no two are equal, are what the map of the orders under their keys lists
 pub listed_tasks : (key : Task → List ℕ) (os list : List PhaseOrder) (ts : List Task) → map task_of os ≡ ts → IsDistinct (λ t u. eq_by_cmp (slice_cmp nat_cmp) (key t) (key u)) ts → IsPermutation os list
     → IsSortedByKey (λ o. key (task_of o)) (slice_cmp nat_cmp) list → map task_of list ≡ values (from_entries {R = slice_cmp nat_cmp} (map (λ t. (key t, t)) ts))
 listed_tasks = listed task_of
 
 module _ (is_of : Verb → Bool) (a : Arrangement) (aliases : Aliases) where
+  -- the orders of the readings in the map are those of the sorted readings
   tasks_of_all : (rs : List Reading) → IsStrictlySortedBy nat_cmp (map (λ r. r.faction) rs) → flat_map (λ e. tasks_for is_of (tasks_of aliases e.0 e.1)) (entries (by_faction rs)) ≡ all_tasks is_of aliases rs
   tasks_of_all rs h =
       ap (flat_map (λ e. tasks_for is_of (tasks_of aliases e.0 e.1))) (entries_of (map by_its_faction rs) (subst (IsStrictlySortedBy nat_cmp) (sym (keys_of-factions rs)) h))
       ∙ flat_map-map (λ e. tasks_for is_of (tasks_of aliases e.0 e.1)) by_its_faction rs
 
-  -- the map of them, from readings that are sorted
+  -- the map of a phase's orders lists the orders of all mailings under their keys, if the readings are sorted by faction
   pub orders_are : (rs : List Reading) → IsStrictlySortedBy nat_cmp (map (λ r. r.faction) rs) → values (orders_of is_of a aliases (by_faction rs)) ≡ values (from_entries {R = slice_cmp nat_cmp} (map (λ t. (key_of a t, t)) (all_tasks is_of aliases rs)))
   orders_are rs h = ap (λ us. values (from_entries {R = slice_cmp nat_cmp} (map (λ t. (key_of a t, t)) us))) (tasks_of_all rs h)
 
--- ---- the places of all orders
+-- ---- the indices of all orders
 
+-- indices sorted by their keys are sorted by the keys of their orders
 by_key : (a : Arrangement) (ms : List Mailing) (list : List OrderIndex) → IsSortedByKey (key_by a) (slice_cmp nat_cmp) list → IsSortedByKey (λ p. key_of a (task_at ms p)) (slice_cmp nat_cmp) list
 by_key ByUnit ms list up = up
 by_key ByFaction ms list up = up
 
+-- the indices of all orders that count, sorted by their keys, are the order indices of the arrangement
 pub sorted_places : (a : Arrangement) (aliases : Aliases) (ms : List Mailing) (os list : List OrderIndex) → AreByFaction ms → AreIndicesByMailing aliases ms os → IsPermutation os list → IsSortedByKey (key_by a) (slice_cmp nat_cmp) list
     → AreOrderIndices a aliases ms list
 sorted_places a aliases ms os list h are p up =

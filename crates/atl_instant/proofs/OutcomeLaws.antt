@@ -1,4 +1,4 @@
--- What is so where no fault fits, and where a test fits that doesn't.
+-- What follows of the tests of a list of faults, of which none applies.
 use Rattle.std.proofs.Common.{◌≡◌, ◌==◌, ℕ, ◌≤◌, Bool, true, false, not, ◌&&◌, List, ◌∷◌, None, refl, arith}
 use Rattle.std.specs.Prelude.{nat_lt}
 use Rattle.std.proofs.lemmas.Bool.{not-false}
@@ -9,17 +9,20 @@ use Rattle.atl_instant.specs.Outcomes.{first_fault}
 pub false_true : {P : Type 0} → false ≡ true → P
 false_true e = cc
 
--- the first of them doesn't, nor do the others
+-- if no fault of a list applies, the first doesn't, and none of the others does
 pub none_fits : (fits : Bool) (fault : EventFault) (more : List (Bool × EventFault)) → first_fault ((fits, fault) ∷ more) ≡ None → (fits ≡ false) × (first_fault more ≡ None)
 none_fits true fault more is = cc
 none_fits false fault more is = (refl, is)
 
+-- numbers of which the test for difference fails are equal
 pub not_apart : (a b : ℕ) → not (a == b) ≡ false → a ≡ b
 not_apart a b is = let same : (a == b) ≡ true = not-false (a == b) is in grind (arith, nat_tests)
 
+-- where the test `a < b` fails, b is at most a
 pub not_less : (a b : ℕ) → nat_lt a b ≡ false → b ≤ a
 not_less a b is = grind (arith, nat_tests)
 
+-- a test that counts only where a unit deals with another one fails there, if it fails as a whole
 pub unless_itself : (itself fits : Bool) → (not itself && fits) ≡ false → itself ≡ false → fits ≡ false
 unless_itself true fits is other = cc
 unless_itself false fits is other = is

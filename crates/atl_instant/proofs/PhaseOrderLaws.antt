@@ -1,4 +1,4 @@
--- Each order of a phase stands in a mailing.
+-- Each order of a phase is an entry of the mailing of its faction, and has a verb of the phase.
 use Rattle.std.proofs.Common.{◌≡◌, ℕ, suc, ◌+◌, Bool, true, false, ◌&&◌, cond, List, [], ◌∷◌, map, filter, flat_map, slice_get, Some, refl, sym, subst, arith}
 use Rattle.std.specs.declared.cmp.Ordering.{Ordering}
 use Rattle.std.specs.declared.cmp.Ordering.TheVariants.{Less, Equal, Greater}
@@ -22,9 +22,11 @@ use Rattle.atl_instant.proofs.MappedLaws.{no_entries}
 -- ---- what is so of each entry is so of each that a map lists
 
 module _ {K X : Type 0} (R : K → K → Ordering) (P : K → X → Type 0) where
+  -- P holds of each of these entries
   abbrev pub Entries : List (K × X) → Type 0
   Entries = AllByRecursion (λ e. P e.0 e.1)
 
+  -- if P holds of each entry, it does after one more is put among them, of which it holds
   entries-put : IsAntisymmetric R → (k : K) (v : X) (es : List (K × X)) → P k v → Entries es → Entries (put R k v es)
   entries-put anti k v [] h all = (h, tt)
   entries-put anti k v (e ∷ es) h all =
@@ -34,21 +36,23 @@ module _ {K X : Type 0} (R : K → K → Ordering) (P : K → X → Type 0) wher
         | Greater ↦ λ o. (all.0, entries-put anti k v es h all.1)
       ] refl
 
+  -- if P holds of each entry of a list, it holds of each entry of the map that they make
   pub entries-listed : IsTotalOrder R → IsAntisymmetric R → (es : List (K × X)) → Entries es → Entries (entries (from_entries {R = R} es))
   entries-listed o anti [] all = subst Entries (sym (no_entries R)) tt
   entries-listed o anti (e ∷ es) all =
       subst Entries (sym (entries-insert o (from_entries es) e.0 e.1)) (entries-put anti e.0 e.1 (entries (from_entries es)) all.0 (entries-listed o anti es all.1))
 
+  -- if P holds of each element and its key, it holds of the entries that they make
   pub keyed_entries : (key : X → K) (xs : List X) → AllByRecursion (λ x. P (key x) x) xs → Entries (map (λ x. (key x, x)) xs)
   keyed_entries key [] all = tt
   keyed_entries key (x ∷ xs) all = (all.0, keyed_entries key xs all.1)
 
--- and of each value
+-- if P holds of the value of each entry, it holds of each value
 unkeyed_values : {K X : Type 0} (P : X → Type 0) (es : List (K × X)) → AllByRecursion (λ e. P e.1) es → AllByRecursion P (map (λ e. e.1) es)
 unkeyed_values P [] all = tt
 unkeyed_values P (e ∷ es) all = (all.0, unkeyed_values P es all.1)
 
--- what is so of each order is so of each that is listed by keys
+-- if P holds of each order, it holds of each order that the map under their keys lists
 listed_orders : (P : Task → Type 0) (a : Arrangement) (ts : List Task) → AllByRecursion P ts → AllByRecursion P (values (from_entries {R = slice_cmp nat_cmp} (map (λ t. (key_of a t, t)) ts)))
 listed_orders P a ts all =
     let es = map (λ t. (key_of a t, t)) ts in
@@ -58,6 +62,7 @@ listed_orders P a ts all =
 -- ---- the orders of a mailing
 
 module _ (aliases : Aliases) (readings : FinMap nat_cmp Reading) where
+  -- each order of these entries of a faction's mailing is an entry there
   in_mailing : (p : Task → Bool) (f : ℕ) (r : Reading) → get readings f ≡ Some r → (place : ℕ) (es : List EntryValue) → ((j : ℕ) (e : EntryValue) → slice_get es j ≡ Some e → slice_get r.entries (place + j) ≡ Some e) →
       AllByRecursion (IsInMailing aliases readings) (filter p (tasks_from aliases f place es))
   in_mailing p f r h place [] whole = tt
@@ -79,6 +84,7 @@ module _ (aliases : Aliases) (readings : FinMap nat_cmp Reading) where
       kept ts t true h r = (h, r)
       kept ts t false h r = r
 
+  -- each order of these mailings that counts for the phase is an entry of its faction's mailing
   pub in_mailings : (is_of : _) (es : List (ℕ × Reading)) → EachOf (λ f r. get readings f ≡ Some r) es → AllByRecursion (IsInMailing aliases readings) (flat_map (λ e. tasks_for is_of (tasks_of aliases e.0 e.1)) es)
   in_mailings is_of [] h = tt
   in_mailings is_of (e ∷ es) h =
@@ -92,9 +98,11 @@ orders_are_in_mailings is_of a aliases readings =
 
 -- each order of a phase has one of its verbs
 module _ (is_of : Verb → Bool) (a : Arrangement) (aliases : Aliases) (readings : FinMap nat_cmp Reading) where
+  -- the order has a verb of the phase
   abbrev HasVerb : Task → Type 0
   HasVerb t = is_of t.order_value.verb ≡ true
 
+  -- of orders with a verb of the phase, those that pass another test have one
   passing : (q : Task → Bool) (ts : List Task) → AllByRecursion HasVerb (filter (λ t. is_of t.order_value.verb && q t) ts)
   passing q [] = tt
   passing q (t ∷ ts) = by_test (is_of t.order_value.verb) (q t) refl (filter (λ t. is_of t.order_value.verb && q t) ts) (passing q ts)
@@ -104,11 +112,13 @@ module _ (is_of : Verb → Bool) (a : Arrangement) (aliases : Aliases) (readings
       by_test true false is us rest = rest
       by_test false c is us rest = rest
 
+  -- the orders of some mailings for the phase have its verbs
   of_mailings : (es : List (ℕ × Reading)) → AllByRecursion HasVerb (flat_map (λ e. tasks_for is_of (tasks_of aliases e.0 e.1)) es)
   of_mailings [] = tt
   of_mailings (e ∷ es) =
       let ts = tasks_of aliases e.0 e.1 in
       append_each HasVerb (tasks_for is_of ts) (flat_map (λ e. tasks_for is_of (tasks_of aliases e.0 e.1)) es) (passing (stands ts) ts) (of_mailings es)
 
+  -- each order of a phase has a verb of the phase
   pub orders_have_verbs : AllByRecursion (λ t. is_of t.order_value.verb ≡ true) (values (orders_of is_of a aliases readings))
   orders_have_verbs = listed_orders HasVerb a _ (of_mailings (entries readings))

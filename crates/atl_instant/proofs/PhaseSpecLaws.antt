@@ -1,4 +1,4 @@
--- What follows for some phases, one after the other, from what is so of each.
+-- What holds of several phases in turn, if it holds of each.
 use Rattle.std.proofs.Common.{◌≡◌, ◌-◌, ◌+◌, ◌*◌, ◌≤◌, ℕ, Bool, true, false, List, [], ◌∷◌, refl, arith}
 use Rattle.std.specs.Prelude.{if◌then◌else◌}
 use Rattle.atl_records.specs.declared.books.Entry.{Entry}
@@ -8,17 +8,19 @@ use Rattle.atl_instant.specs.PhaseSpecs.{EachPhase, MovesItsOwn, PhaseSpec, keep
 use Rattle.atl_instant.specs.Unmailed.{starved_in}
 use Rattle.atl_instant.proofs.UnmailedLaws.{ClosesUnmailed, LeavesUnmailed, both_leave, then_closes}
 
+-- if P implies Q for every phase, it does so for all phases of a list
 pub each_also : {P Q : PhaseSpec → Type 0} → ((phase : PhaseSpec) → P phase → Q phase) → (phases : List PhaseSpec) → EachPhase P phases → EachPhase Q phases
 each_also also [] each = tt
 each_also also (phase ∷ rest) each = (also phase each.0, each_also also rest each.1)
 
 -- ---- the books
 
+-- the move of one phase and those of the others, by the number of phases that may move the amount
 counted : (b : Bool) (rest moved most : ℕ) → moved ≤ (if b then most_moved else 0) → rest ≤ most * most_moved → moved + rest ≤ ((if b then 1 else 0) + most) * most_moved
 counted true rest moved most one others = omega (arith, one, others)
 counted false rest moved most one others = omega (arith, one, others)
 
--- they move an amount so often at most as there are phases that may
+-- phases in turn move an amount by at most `most_moved` times the number of them that may move it
 pub moved_within : (phases : List PhaseSpec) → EachPhase MovesItsOwn phases → (e : Entry) (t : Thing) → moving_of phases e t ≤ moving_phases_of phases e t * most_moved
 moved_within [] each e t = omega arith
 moved_within (phase ∷ []) each e t = alone (may_move phase.moved e t) (each.0 e t)
@@ -30,21 +32,24 @@ moved_within (phase ∷ next ∷ rest) each e t = counted (may_move phase.moved 
 
 -- ---- a faction without a mailing
 
-abbrev pub Leaves : PhaseSpec → Type 0
-Leaves phase = LeavesUnmailed phase.meaning phase.keeps
+-- the phase leaves the units of factions without a mailing (`LeavesUnmailed`), by its effect and what it keeps
+abbrev pub PhaseLeavesUnmailed : PhaseSpec → Type 0
+PhaseLeavesUnmailed phase = LeavesUnmailed phase.meaning phase.keeps
 
--- each but the last leaves an unmailed faction its units, and the last one closes
+-- each phase but the last leaves the units of factions without a mailing, and the last one `ClosesUnmailed`
 abbrev pub CloseTogether : List PhaseSpec → Type 0
 CloseTogether [] = ⊥
 CloseTogether (phase ∷ []) = ClosesUnmailed phase.meaning phase.keeps
-CloseTogether (phase ∷ next ∷ rest) = Leaves phase × CloseTogether (next ∷ rest)
+CloseTogether (phase ∷ next ∷ rest) = PhaseLeavesUnmailed phase × CloseTogether (next ∷ rest)
 
+-- such phases in turn close together (`ClosesUnmailed`)
 pub closed_together : (phases : List PhaseSpec) → CloseTogether phases → ClosesUnmailed (meaning_of phases) (keeps_of phases)
 closed_together [] none = absurd none
 closed_together (phase ∷ []) closes = closes
 closed_together (phase ∷ next ∷ rest) each = then_closes each.0 (closed_together (next ∷ rest) each.1)
 
-pub leave_together : (phases : List PhaseSpec) → EachPhase Leaves phases → LeavesUnmailed (meaning_of phases) (keeps_of phases)
+-- phases that each leave the units of factions without a mailing do so in turn
+pub leave_together : (phases : List PhaseSpec) → EachPhase PhaseLeavesUnmailed phases → LeavesUnmailed (meaning_of phases) (keeps_of phases)
 leave_together [] each = record {
   readings = λ w c m. refl;
   told = λ w c m n. omega arith;

@@ -1,4 +1,4 @@
--- The orders of a phase, among all.
+-- The orders of one phase, picked from the gathered indices of all orders that count.
 use Rattle.std.proofs.Common.{◌≡◌, ℕ, ◌+◌, ◌<◌, ◌≤◌, Bool, true, false, cond, ◌&&◌, List, [], ◌∷◌, ◌++◌, map, filter, drop, length, get_or, IfOk, Result, Ok, Err, Vec, refl, sym, ap, subst, ◌∙◌}
 use Rattle.std.proofs.lemmas.List.{append-nil, append_assoc, drop_all, map-append}
 use Rattle.std.specs.Ordering.{nat_cmp, eq_by_cmp}
@@ -22,6 +22,7 @@ use Rattle.atl_instant.proofs.ListedLaws.{entries-passing}
 use Rattle.atl_instant.proofs.MonthLaws.{factions_read}
 use Rattle.atl_instant.proofs.OrderLaws.{all_apart, orders_are}
 
+-- two filters in turn are one filter by both tests
 filter-filter : {X : Type 0} (p q : X → Bool) (xs : List X) → filter p (filter q xs) ≡ filter (λ x. p x && q x) xs
 filter-filter p q [] = refl
 filter-filter p q (x ∷ xs) =
@@ -32,6 +33,7 @@ filter-filter p q (x ∷ xs) =
       | false ↦ elim (p x) as (λ b. filter p (filter q xs) ≡ cond (b && false) (x ∷ both) both) [ true ↦ rest | false ↦ rest ]
     ]
 
+-- a filter after a map is the map after a filter by the test of the mapped elements
 filter-map : {X Y : Type 0} (p : Y → Bool) (f : X → Y) (xs : List X) → filter p (map f xs) ≡ map f (filter (λ x. p (f x)) xs)
 filter-map p f [] = refl
 filter-map p f (x ∷ xs) =
@@ -42,14 +44,16 @@ filter-map p f (x ∷ xs) =
     ]
 
 module _ (a : Arrangement) where
+  -- an order with its key
   abbrev paired : Task → List ℕ × Task
   paired t = (key_of a t, t)
 
+  -- the keys of these pairs are the keys of the orders
   keys-paired : (ts : List Task) → keys_of (map paired ts) ≡ map (key_of a) ts
   keys-paired [] = refl
   keys-paired (t ∷ ts) = ap (λ ks. key_of a t ∷ ks) (keys-paired ts)
 
-  -- what the map lists of the tasks that pass a test
+  -- the map of the orders that pass a test lists those orders of the whole map that pass it
   values-passing : (p : Task → Bool) (ts : List Task) → IsDistinct (λ t u. eq_by_cmp (slice_cmp nat_cmp) (key_of a t) (key_of a u)) ts
       → values (from_entries {R = slice_cmp nat_cmp} (map paired (filter p ts))) ≡ filter p (values (from_entries {R = slice_cmp nat_cmp} (map paired ts)))
   values-passing p ts apart =
@@ -60,6 +64,7 @@ module _ (a : Arrangement) where
       ∙ sym (filter-map p (λ e. e.1) (entries (from_entries {R = slice_cmp nat_cmp} es)))
 
 module _ (is_of : Verb → Bool) (aliases : Aliases) where
+  -- the orders of a phase are those of all orders that have a verb of the phase
   tasks_of_phase : (rs : List Reading) → all_tasks is_of aliases rs ≡ filter (has_verb is_of) (all_tasks every_verb aliases rs)
   tasks_of_phase [] = refl
   tasks_of_phase (r ∷ rs) =
@@ -68,7 +73,7 @@ module _ (is_of : Verb → Bool) (aliases : Aliases) where
       ∙ ap (λ us. filter (has_verb is_of) (tasks_for every_verb ts) ++ us) (tasks_of_phase rs)
       ∙ sym (filter-append (has_verb is_of) (tasks_for every_verb ts) (all_tasks every_verb aliases rs))
 
-  -- those of the phase's verbs, among the places of all orders
+  -- the orders of the phase's verbs, picked from the indices of all orders, are those that the phase carries out
   pub picked_orders : (a : Arrangement) (ms : List Mailing) (places : List OrderIndex) (ts : List Task) → AreByFaction ms → AreOrderIndices a aliases ms places → ts ≡ tasks_picked is_of ms places
       → ts ≡ values (orders_of is_of a aliases (by_faction (map reading_of ms)))
   picked_orders a ms places ts h all are =
@@ -79,25 +84,29 @@ module _ (is_of : Verb → Bool) (aliases : Aliases) where
       ∙ ap (λ us. values (from_entries {R = slice_cmp nat_cmp} (map (paired a) us))) (sym (tasks_of_phase rs))
       ∙ sym (orders_are is_of a aliases rs rise)
 
+  -- so it is for the list that the code returns
   pub picked_list : {Z E : Type 0} (a : Arrangement) (ms : List Mailing) (places : List OrderIndex) (r : Result (Vec PhaseOrder Z) E) → AreByFaction ms → AreOrderIndices a aliases ms places → IfOk r (λ list. map task_of list.items ≡ tasks_picked is_of ms places)
       → IfOk r (λ list. map task_of list.items ≡ values (orders_of is_of a aliases (by_faction (map reading_of ms))))
   picked_list a ms places (Ok list) h all are = picked_orders a ms places (map task_of list.items) h all are
   picked_list a ms places (Err e) h all are = tt
 
--- ---- place by place
+-- ---- index by index
 
 module _ (is_of : Verb → Bool) (ms : List Mailing) (places : List OrderIndex) where
+  -- the orders to be picked from the indices from i on
   abbrev pub rest_from : ℕ → List Task
   rest_from i = tasks_picked is_of ms (drop i places)
 
+  -- the orders to be picked from i on are the one at i, if its verb is the phase's, and those from i + 1 on
   opened : (i : ℕ) (p : OrderIndex) → i < length places → p ≡ get_or places i p → rest_from i ≡ cond (has_verb is_of (task_at ms p)) (task_at ms p ∷ rest_from (i + 1)) (rest_from (i + 1))
   opened i p h at = ap (tasks_picked is_of ms) (next_of places i p h at)
 
-  -- whether an order that is read is of the phase
+  -- the code's test of an order is whether it has a verb of the phase
   read_verb : (p : OrderIndex) (o : PhaseOrder) (b : Bool) → task_of o ≡ task_at ms p → is_of o.order.now.verb ≡ b → has_verb is_of (task_at ms p) ≡ b
   read_verb p o b task verb = ap (has_verb is_of) (sym task) ∙ verb
 
   module _ (list : List PhaseOrder) (i : ℕ) (p : OrderIndex) (o : PhaseOrder) (ts : List Task) (h : i < length places) (at : p ≡ get_or places i p) (task : task_of o ≡ task_at ms p) (before : map task_of list ++ rest_from i ≡ ts) where
+    -- an order with a verb of the phase is added to the list
     pub taken : (new : List PhaseOrder) → is_of o.order.now.verb ≡ true → new ≡ list ++ o ∷ [] → map task_of new ++ rest_from (i + 1) ≡ ts
     taken new verb is =
         ap (λ os. map task_of os ++ rest_from (i + 1)) is
@@ -107,11 +116,13 @@ module _ (is_of : Verb → Bool) (ms : List Mailing) (places : List OrderIndex) 
         ∙ ap (λ us. map task_of list ++ us) (sym (opened i p h at ∙ ap (λ b. cond b (task_at ms p ∷ rest_from (i + 1)) (rest_from (i + 1))) (read_verb p o true task verb)))
         ∙ before
 
+    -- an order without one is left out
     pub left : (new : List PhaseOrder) → is_of o.order.now.verb ≡ false → new ≡ list → map task_of new ++ rest_from (i + 1) ≡ ts
     left new verb is =
         ap (λ os. map task_of os ++ rest_from (i + 1)) is
         ∙ ap (λ us. map task_of list ++ us) (sym (opened i p h at ∙ ap (λ b. cond b (task_at ms p ∷ rest_from (i + 1)) (rest_from (i + 1))) (read_verb p o false task verb))) ∙ before
 
+  -- after the last index the list has all orders to be picked
   pub all_picked : (list : List PhaseOrder) (i : ℕ) (ts : List Task) → length places ≤ i → map task_of list ++ rest_from i ≡ ts → map task_of list ≡ ts
   all_picked list i ts h before =
       sym (append-nil (map task_of list)) ∙ ap (λ ps. map task_of list ++ tasks_picked is_of ms ps) (sym (drop_all i places h)) ∙ before

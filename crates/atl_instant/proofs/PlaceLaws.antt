@@ -1,4 +1,4 @@
--- LEAVE, ENTER and PROMOTE leave a campaign well, and spare who doesn't order them.
+-- LEAVE, ENTER and PROMOTE leave a campaign well, and leave alone units without such an order.
 use Rattle.std.proofs.Common.{◌≡◌, ◌≢◌, ◌==◌, ℕ, Bool, true, false, not, List, [], ◌∷◌, Option, Some, None, refl, sym, ap, ◌∙◌, arith}
 use Rattle.std.proofs.lemmas.Bool.{true≢false}
 use Rattle.std.specs.Prelude.{IfSome, if◌then◌else◌}
@@ -37,7 +37,7 @@ use Rattle.atl_instant.proofs.StructureLaws.{at_number, get-changed, len-changed
 use Rattle.atl_instant.proofs.OrderEffectLaws.{no_worse_spares, well_same}
 use Rattle.atl_instant.proofs.UnbookedLaws.{same_total_of, stays_spared, unbooked_well}
 
--- an order that is none of the phase is passed over
+-- an order that is neither LEAVE, ENTER nor PROMOTE is passed over
 pub place_other : (w : WorldValue) (a : Aliases) (f n : ℕ) (text : List ℕ) (o : Operands Span) → (o ≡ operands.Nothing → ⊥) → ((s : ℕ) → o ≡ operands.Number s → ⊥) → ((to : UnitRef) → o ≡ operands.Unit to → ⊥)
     → place_effect w a f n (named text o) ≡ None
 place_other w a f n text operands.Nothing l b d = absurd (l refl)
@@ -46,22 +46,27 @@ place_other w a f n text (operands.Unit to) l b d = absurd (d to refl)
 place_other w a f n text other l b d = refl
 
 module _ (w : WorldValue) (c : CampaignValue) (n : ℕ) (u : Unit) (is : get c.units n ≡ Some u) (early : IsEarly w c) where
+  -- the change of the campaign is a step that leaves it well
   abbrev Well : CampaignValue → Type 0
   Well d = StepsWell IsEarly books_nothing w c d
 
+  -- the campaign as it is, is left well
   unchanged : Well c
   unchanged = well_same w c early
 
   -- ---- LEAVE
 
+  -- a unit on land that leaves its structure leaves the campaign well
   left_place : (u.structure == 0) ≡ false → is_land_at w u.region ≡ true → Well (with_place c n u.region 0)
   left_place some dry = place_well w c n u 0 is early (λ none. is_unequal u.structure 0 some none) (λ not_none. absurd (not_none refl)) (λ wet. absurd (true≢false (sym dry ∙ wet)))
 
+  -- LEAVE leaves the campaign well, by the tests of its faults
   without_leaver : (a b : Bool) → (u.structure == 0) ≡ a → is_land_at w u.region ≡ b → Well (unless c (first_fault ((a, NotInside) ∷ (not b, AtSea) ∷ [])) (with_place c n u.region 0, Done 0)).0
   without_leaver true b some dry = unchanged
   without_leaver false false some dry = unchanged
   without_leaver false true some dry = left_place some dry
 
+  -- LEAVE leaves the campaign well
   left_well : Well (leave w n c u).0
   unfolding leave
   left_well = without_leaver (u.structure == 0) (is_land_at w u.region) refl refl
@@ -127,6 +132,7 @@ module _ (w : WorldValue) (c : CampaignValue) (n : ℕ) (u : Unit) (is : get c.u
     unfolding promote
     promoted_well = promoted_by (u.structure == 0) (is_owned_by (get c.structures u.structure) n) (inside c to == u.structure) refl refl
 
+  -- an order of LEAVE, ENTER or PROMOTE leaves the campaign well
   order_well : (a : Aliases) (f : ℕ) (o : OperandsValue) → IfSome (place_effect w a f n o) (λ deed. Well (deed c u).0)
   order_well a f operands.Nothing = left_well
   order_well a f (operands.Number s) = entered_well s
@@ -136,17 +142,21 @@ module _ (w : WorldValue) (c : CampaignValue) (n : ℕ) (u : Unit) (is : get c.u
 -- ---- other units stay
 
 module _ (w : WorldValue) (a : Aliases) (c : CampaignValue) (f n : ℕ) (u : Unit) (k : ℕ) (apart : k ≢ n) where
+  -- unit k is in the changed campaign as it was
   abbrev Stays : CampaignValue → Type 0
   Stays d = get d.units k ≡ get c.units k
 
+  -- every other unit stays as it was, whether an order has a fault or not
   unless_stays : (o : Option EventFault) (d : CampaignValue) → Stays d → Stays (unless c o (d, Done 0)).0
   unless_stays (Some fault) d stay = refl
   unless_stays None d stay = stay
 
+  -- ENTER leaves every other unit as it was
   entered_stays : (s : ℕ) (b : Bool) → Stays (if b then c else with_place c n u.region s)
   entered_stays s true = refl
   entered_stays s false = place_stays c n u.region s k apart
 
+  -- an order of LEAVE, ENTER or PROMOTE leaves every other unit as it was
   order_stays : (o : OperandsValue) → IfSome (place_effect w a f n o) (λ deed. Stays (deed c u).0)
   unfolding leave enter promote
   order_stays operands.Nothing = unless_stays (leave_fault w u) (with_place c n u.region 0) (place_stays c n u.region 0 k apart)
@@ -154,6 +164,7 @@ module _ (w : WorldValue) (a : Aliases) (c : CampaignValue) (f n : ℕ) (u : Uni
   order_stays (operands.Unit to) = unless_stays (promote_fault c n (unit_of a f to) u) (with_owner c u.structure (unit_of a f to)) refl
   order_stays other = tt
 
+-- the step of LEAVE, ENTER and PROMOTE is orderly
 pub place_orderly : IsOrderly place_step IsEarly books_nothing moves_nothing IsOwnOrder IsNoWorse
 place_orderly = record {
   well = λ w a c t x early fit own. order_well w c t.unit x own.there early a t.faction t.order_value.operands;

@@ -1,4 +1,4 @@
--- How a campaign changes as a unit leaves a structure for another of its region, or for none.
+-- A campaign in which a unit goes from one structure to another of its region, or to none, stays well.
 use Rattle.std.proofs.Common.{◌≡◌, ◌≢◌, ◌==◌, ◌&&◌, ℕ, ◌≤◌, Bool, true, false, Option, Some, None, refl, sym, ap, subst, ◌∙◌, arith}
 use Rattle.std.proofs.lemmas.Bool.{true≢false}
 use Rattle.std.proofs.lemmas.Option.{same_Some}
@@ -23,17 +23,20 @@ use Rattle.atl_instant.specs.Bounds.{StepsWell, books_nothing}
 use Rattle.atl_instant.proofs.MeaningLaws.{same_month_by}
 use Rattle.atl_instant.proofs.OwnerLaws.{heir_owns, owner_stays}
 use Rattle.atl_instant.proofs.RefitLaws.{IsRefit, IsRelabelled, early-refitted, refitted, steady-refitted, total-refitted}
-use Rattle.atl_instant.proofs.StructureLaws.{changed_else, equal, get-after_handover, handed_is, handed_on, len-after_handover}
+use Rattle.atl_instant.proofs.StructureLaws.{changed_else, equal_passes, get-after_handover, handed_is, handed_on, len-after_handover}
 use Rattle.atl_instant.proofs.UnbookedLaws.{unbooked_well}
 
+-- a function taken of a looked-up value after another one is both in turn
 pub mapped_twice : {A : Type 0} (f g : A → A) (o : Option A) → option_map f (option_map g o) ≡ option_map (λ y. f (g y)) o
 mapped_twice f g None = refl
 mapped_twice f g (Some y) = refl
 
+-- a structure that may get another owner is the same but for the owner
 relabelled_if : (b : Bool) (to : ℕ) (y : Structure) → IsRelabelled y (if b then owned_by to y else y)
 relabelled_if true to y = record { kind = refl; region = refl; done = refl; name = λ old. old }
 relabelled_if false to y = record { kind = refl; region = refl; done = refl; name = λ old. old }
 
+-- a structure that is relabelled twice is relabelled
 relabelled_twice : (x y z : Structure) → IsRelabelled x y → IsRelabelled y z → IsRelabelled x z
 relabelled_twice x y z one two = record { kind = two.kind ∙ one.kind; region = two.region ∙ one.region; done = two.done ∙ one.done; name = λ old. two.name (one.name old) }
 
@@ -47,65 +50,80 @@ owns_no_other w c n u is steady q y there other own =
     other (sym inside ∙ ap (λ (x : Unit). x.structure) unit)
 
 module _ (w : WorldValue) (c : CampaignValue) (n : ℕ) (u : Unit) (s : ℕ) (is : get c.units n ≡ Some u) (steady : IsSteady w c) (apart : u.structure ≢ s) where
+  -- the structure that the unit leaves
   abbrev old_place : ℕ
   old_place = u.structure
 
+  -- the unit that owns that structure next
   abbrev next : ℕ
   next = heir c old_place n
 
+  -- the unit inside structure s
   abbrev moved : Unit
   moved = record u { structure = s }
 
+  -- the campaign with the unit inside structure s, before owners change
   abbrev begun : CampaignValue
   begun = placed c n u.region s
 
+  -- the campaign after the unit's old structure got its next owner
   abbrev gone_out : CampaignValue
   gone_out = after_handover begun old_place n next
 
+  -- the campaign after the unit owns its new structure too, if nobody did
   abbrev gone_in : CampaignValue
   gone_in = after_handover gone_out s 0 n
 
+  -- the structure of number q with its owner after both
   abbrev owner_behind : ℕ → Structure → Structure
   owner_behind q y = handed_on s 0 n q (handed_on old_place n next q y)
 
-  -- the campaign behind it
+  -- the campaign after the unit went
   abbrev pub behind : CampaignValue
   behind = refitted w c n u s is gone_in.structures owner_behind
 
+  -- `with_place` makes the campaign `gone_in`
   placed_is : with_place c n u.region s ≡ gone_in
   unfolding with_place
   placed_is = ap (with_place_at c n u.region s) is ∙ ap (λ b. if b then begun else gone_in) (other_number old_place s apart)
 
+  -- this campaign is `gone_in`, as a refitted campaign
   behind_is : gone_in ≡ behind
   behind_is =
       handed_is gone_out s 0 n ∙ ap (λ (d : CampaignValue). record d { structures = gone_in.structures }) (handed_is begun old_place n next)
       ∙ ap (λ m. record c { units = m; structures = gone_in.structures }) (changed-known (λ (x : Unit). record x { region = u.region; structure = s }) c.units n u is)
 
+  -- `with_place` makes this campaign
   pub place_is : with_place c n u.region s ≡ behind
   place_is = placed_is ∙ behind_is
 
+  -- a look-up of a structure after both handovers
   at : (q : ℕ) → get gone_in.structures q ≡ option_map (λ y. handed_on s 0 n q (handed_on old_place n next q y)) (get c.structures q)
   at q =
       get-after_handover gone_out s 0 n q ∙ ap (option_map (handed_on s 0 n q)) (get-after_handover begun old_place n next q)
       ∙ mapped_twice (handed_on s 0 n q) (handed_on old_place n next q) (get c.structures q)
 
+  -- a structure is the same but for its owner after both handovers
   same : (q : ℕ) (y : Structure) → IsRelabelled y (handed_on s 0 n q (handed_on old_place n next q y))
   same q y =
       let x = handed_on old_place n next q y in
       relabelled_twice y x (handed_on s 0 n q x) (relabelled_if (q == old_place && y.owner == n) next y) (relabelled_if (q == s && x.owner == 0) n x)
 
-  -- ---- who owns the structures then
+  -- ---- the owners of the structures after the move
 
+  -- unit numbers begin at 1
   low : Every (λ k v. 1 ≤ k) c.units
   low k v there = (steady.numbers.units k v there).0
 
+  -- every other unit stays as it was
   away : (k : ℕ) → k ≢ n → get behind.units k ≡ get c.units k
   away k other = get-insert_other c.units n k moved other
 
+  -- the unit is inside structure s
   stands : (v : Unit) → get behind.units n ≡ Some v → v.structure ≡ s
   stands v there = sym (ap (λ (x : Unit). x.structure) (same_Some moved v (sym (get-insert_same c.units n moved) ∙ there)))
 
-  -- a structure that keeps its owner
+  -- a structure keeps its owner if unit n doesn't own it, and doesn't enter it where nobody owns it
   still_owned : (q : ℕ) (y : Structure) → get c.structures q ≡ Some y → y.owner ≢ n → (y.owner ≡ 0 → s ≢ q) → IsOwned behind q y
   still_owned q y there other free = owner_stays c behind n away q y (steady.owners q y there) other (λ none v here inside. free none (sym (stands v here) ∙ inside))
 
@@ -113,16 +131,19 @@ module _ (w : WorldValue) (c : CampaignValue) (n : ℕ) (u : Unit) (s : ℕ) (is
   structure_in (Some x) v = x.structure
   structure_in None v = v.structure
 
+  -- structure s has its right owner after the unit entered it
   entered_owned : (q : ℕ) (y : Structure) → get c.structures q ≡ Some y → q ≢ old_place → q ≡ s → (z : Bool) → (y.owner == 0) ≡ z → IsOwned behind q (if z then owned_by n y else y)
   entered_owned q y there other here true t = record {
     owned = λ some. (moved, get-insert_same c.units n moved, sym here);
     ownerless = λ none. let least = low n u is in absurd (omega (arith, none, least));
   }
-  entered_owned q y there other here false t = still_owned q y there (owns_no_other w c n u is steady q y there other) (λ none. absurd (true≢false (sym (equal y.owner 0 none) ∙ t)))
+  entered_owned q y there other here false t = still_owned q y there (owns_no_other w c n u is steady q y there other) (λ none. absurd (true≢false (sym (equal_passes y.owner 0 none) ∙ t)))
 
+  -- the structure with its owner after both handovers, by the three tests
   abbrev given : (a e b : Bool) → Structure → Structure
   given a e b y = let x = if a && e then owned_by next y else y in if b && x.owner == 0 then owned_by n x else x
 
+  -- each structure has its right owner, by the three tests
   by_tests : (q : ℕ) (y : Structure) → get c.structures q ≡ Some y → (a e b : Bool) → (q == old_place) ≡ a → (y.owner == n) ≡ e → (q == s) ≡ b → IsOwned behind q (given a e b y)
   by_tests q y there true e true p r t = absurd (apart (sym (is_equal q old_place p) ∙ is_equal q s t))
   by_tests q y there true true false p r t = subst (λ k. IsOwned behind k (owned_by next y)) (sym (is_equal q old_place p)) (heir_owns c behind n away old_place (λ zero. is_no_zero c.structures c.next_structure steady.next.structures q y there (is_equal q old_place p ∙ zero)) low (λ v here inside. apart (sym inside ∙ stands v here)) y)
@@ -143,16 +164,20 @@ module _ (w : WorldValue) (c : CampaignValue) (n : ℕ) (u : Unit) (s : ℕ) (is
       afloat = afloat;
     }
 
+    -- the campaign stays steady when the unit's new structure is in its region, and a ship on water
     pub placed_steady : IsSteady w behind
     placed_steady = steady-refitted w c n u s is gone_in.structures owner_behind refit steady
 
+    -- it stays early too
     pub placed_early : IsEarly w c → IsEarly w behind
     placed_early early = early-refitted w c n u s is gone_in.structures owner_behind refit early
 
+    -- the totals stay the same
     pub placed_total : (t : Thing) → total behind t ≡ total c t
     placed_total = total-refitted w c n u s is gone_in.structures owner_behind
 
 module _ (w : WorldValue) (c : CampaignValue) (n : ℕ) (u : Unit) (s : ℕ) (is : get c.units n ≡ Some u) (early : IsEarly w c) (apart : u.structure ≢ s) where
+  -- so the move is a step that leaves the campaign well
   pub place_well : (s ≢ 0 → (x : Structure) × (get c.structures s ≡ Some x) × (x.region ≡ u.region)) → (is_land_at w u.region ≡ false → (x : Structure) × (get c.structures s ≡ Some x) × (is_ship w x ≡ true)) → StepsWell IsEarly books_nothing w c (with_place c n u.region s)
   place_well inside afloat =
       let steady = early.steady in
@@ -162,6 +187,7 @@ module _ (w : WorldValue) (c : CampaignValue) (n : ℕ) (u : Unit) (s : ℕ) (is
 
 -- ---- other units stay
 
+-- a handover of a structure changes no unit
 handed_units : (c : CampaignValue) (k from to : ℕ) → (after_handover c k from to).units ≡ c.units
 handed_units c k from to = by_test (is_owned_by (get c.structures k) from)
   where
@@ -169,6 +195,7 @@ handed_units c k from to = by_test (is_owned_by (get c.structures k) from)
     by_test true = refl
     by_test false = refl
 
+-- every other unit stays as it was
 pub place_stays : (c : CampaignValue) (n r s k : ℕ) → k ≢ n → get (with_place c n r s).units k ≡ get c.units k
 unfolding with_place
 place_stays c n r s k apart = by_unit (get c.units n)

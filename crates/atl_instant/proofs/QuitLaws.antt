@@ -1,4 +1,4 @@
--- QUIT leaves a campaign well.
+-- QUIT leaves a campaign well: units leave, what they had is booked as gone, and nothing else changes.
 use Rattle.std.proofs.Common.{◌≡◌, ◌≢◌, ◌==◌, ℕ, ◌+◌, ◌*◌, ◌≤◌, ◌<◌, not, Bool, true, false, cond, List, [], ◌∷◌, length, drop, get_or, Option, Some, None, sum_by, refl, sym, ap, subst, ◌∙◌, inl, inr, arith}
 use Rattle.std.specs.Prelude.{ℤ, pos, neg_ℤ, ◌+ℤ◌, IfSome, fold, unwrap_or, if◌then◌else◌}
 use Rattle.std.proofs.lemmas.Int.{ints}
@@ -61,14 +61,15 @@ use Rattle.atl_instant.proofs.StructureLaws.{handed_is}
 
 -- ---- things and entries
 
--- how much of a thing an amount of another is
+-- this amount if both things are one, and 0 otherwise
 abbrev pub part_of : Thing → Thing → ℕ → ℕ
 part_of s t amount = cond (thing_index s == thing_index t) amount 0
 
--- an amount that may be booked under an entry, as a thing that goes
+-- n if the entry is that for the loss of the thing, and 0 otherwise
 abbrev under : Entry → Thing → ℕ → ℕ
 under e t n = if entry_index e == entry_index (loss_entry t) then n else 0
 
+-- things with one number are one thing
 same_thing : (s t : Thing) → thing_index s ≡ thing_index t → s ≡ t
 same_thing Money Money e = refl
 same_thing Money People e = absurd (omega (arith, e))
@@ -80,6 +81,7 @@ same_thing (Item i) Money e = absurd (omega (arith, e))
 same_thing (Item i) People e = absurd (omega (arith, e))
 same_thing (Item i) (Item j) e = let same : i ≡ j = omega (arith, e) in ap Item same
 
+-- the bound on one loss is within `under`
 one_moves : (amount : ℕ) (t : Thing) (e : Entry) (s : Thing) → moves_only amount (loss_entry t) t e s ≤ under e s (part_of s t amount)
 one_moves amount t e s = by_number (amount_number e s == amount_number (loss_entry t) t) refl
   where
@@ -99,6 +101,7 @@ one_moves amount t e s = by_number (amount_number e s == amount_number (loss_ent
         at_place (entry_index e == entry_index (loss_entry s)) (thing_index s == thing_index t) (let f : (entry_index e == entry_index (loss_entry s)) ≡ true = grind (arith, nat_tests) in f) (let g : (thing_index s == thing_index t) ≡ true = grind (arith, nat_tests) in g)
     by_number false is = omega arith
 
+-- two amounts within `under` are together within it for the sum
 under_sum : (e : Entry) (s : Thing) (x y m n : ℕ) → x ≤ under e s m → y ≤ under e s n → x + y ≤ under e s (m + n)
 under_sum e s x y m n = by_test (entry_index e == entry_index (loss_entry s))
   where
@@ -108,10 +111,12 @@ under_sum e s x y m n = by_test (entry_index e == entry_index (loss_entry s))
 
 -- ---- what is booked of some items
 
+-- how much of a thing a list of items with amounts has
 abbrev pub owing_items : List (ℕ × ℕ) → Thing → ℕ
 owing_items [] s = 0
 owing_items (e ∷ es) s = part_of s (Item e.0) e.1 + owing_items es s
 
+-- the bound on the losses of some items is within `under`
 items_within : (es : List (ℕ × ℕ)) (e : Entry) (s : Thing) → moving_items es e s ≤ under e s (owing_items es s)
 items_within [] e s = omega arith
 items_within (x ∷ xs) e s = under_sum e s (moves_only x.1 Lost (Item x.0) e s) (moving_items xs e s) (part_of s (Item x.0) x.1) (owing_items xs s) (one_moves x.1 (Item x.0) e s) (items_within xs e s)
@@ -120,14 +125,17 @@ nothing_more : (b : Bool) (x y : ℕ) → b ≡ false → cond b x 0 + y ≡ y
 nothing_more true x y e = cc
 nothing_more false x y e = omega arith
 
+-- a list of items has no money
 pub no_money : (es : List (ℕ × ℕ)) → owing_items es Money ≡ 0
 no_money [] = refl
 no_money (e ∷ es) = nothing_more (0 == 2 + e.0) e.1 (owing_items es Money) (let apart : (0 == 2 + e.0) ≡ false = grind (arith, nat_tests) in apart) ∙ no_money es
 
+-- a list of items has no men
 pub no_people : (es : List (ℕ × ℕ)) → owing_items es People ≡ 0
 no_people [] = refl
 no_people (e ∷ es) = nothing_more (1 == 2 + e.0) e.1 (owing_items es People) (let apart : (1 == 2 + e.0) ≡ false = grind (arith, nat_tests) in apart) ∙ no_people es
 
+-- a sorted list of items has as much of an item as the search in it finds, or 0
 pub of_item : (j : ℕ) (es : List (ℕ × ℕ)) → is_sorted nat_cmp es ≡ true → owing_items es (Item j) ≡ unwrap_or (find nat_cmp j es) 0
 of_item j [] s = refl
 of_item j (e ∷ es) s =
@@ -147,12 +155,15 @@ of_item j (e ∷ es) s =
 
 -- ---- what is booked of all that is held
 
+-- how much of a thing a holding has: men, money, or an item
 abbrev owing : HoldingValue → Thing → ℕ
 owing h s = part_of s People h.men + (part_of s Money h.money + owing_items (entries h.items) s)
 
+-- the bound on the books for booking as gone all that a unit has
 abbrev pub held_moves : HoldingValue → BookBound
 held_moves h = both_move (moves_only h.men Left People) (both_move (moves_only h.money Lost Money) (moving_items (entries h.items)))
 
+-- all that a unit has of a thing is what it holds of it
 all_owed : (h : HoldingValue) (s : Thing) → owing h s ≡ unit_amount s h
 all_owed h Money = sum h.money (owing_items (entries h.items) Money) (no_money (entries h.items))
   where
@@ -171,6 +182,7 @@ all_owed h (Item j) =
     sum true d m n k e f = cc
     sum false true m n k e f = cc
 
+-- this bound is at most what `loss_under` says
 pub moves_what_leaves : (h : HoldingValue) (e : Entry) (s : Thing) → held_moves h e s ≤ loss_under e s h
 moves_what_leaves h e s =
     subst (λ n. held_moves h e s ≤ under e s n) (all_owed h s)
@@ -179,12 +191,15 @@ moves_what_leaves h e s =
 
 -- ---- a campaign in which so much is booked as gone
 
+-- The campaign d is c with `off` of each thing booked as gone, and only its books differ.
+-- It is steady, what the books have of a thing falls by this amount, and no amount of theirs moves further than `moving`.
 pub record BooksOff (w : WorldValue) (off : Thing → ℕ) (moving : BookBound) (c d : CampaignValue) : Type 0 where
   pub steady : IsSteady w d
   pub owed : (s : Thing) → booked c.books s ≡ booked d.books s +ℤ pos (off s)
   pub near : (e : Entry) (s : Thing) → IsNear (moving e s) (amount_in c.books e s) (amount_in d.books e s)
   pub same : d ≡ record c { books = d.books }
 
+-- two bookings off are one of both amounts
 off_twice : {o p : Thing → ℕ} {i j : BookBound} (w : WorldValue) (a b c : CampaignValue) → BooksOff w o i a b → BooksOff w p j b c → BooksOff w (λ s. o s + p s) (both_move i j) a c
 off_twice {o} {p} {i} {j} w a b c one two = record {
   steady = two.steady;
@@ -196,6 +211,7 @@ off_twice {o} {p} {i} {j} w a b c one two = record {
     grouped : (x y z : ℤ) (m n : ℕ) → x ≡ y +ℤ pos m → y ≡ z +ℤ pos n → x ≡ z +ℤ pos (m + n)
     grouped x y z m n e f = omega (arith, ints, e, f)
 
+-- one booking of a thing as gone
 pub off_one : (w : WorldValue) (c : CampaignValue) (t : Thing) (amount : ℕ) → thing_index t < things_of w → IsSteady w c → BooksOff w (λ s. part_of s t amount) (moves_only amount (loss_entry t) t) c (with_loss c t amount)
 off_one w c t amount inside steady = record {
   steady = steady-amount w c (loss_entry t) t (neg_ℤ (pos amount)) inside steady;
@@ -210,6 +226,7 @@ off_one w c t amount inside steady = record {
     less z true a = omega (arith, ints)
     less z false a = omega (arith, ints)
 
+-- the bookings of some items as lost
 off_items : (w : WorldValue) (c : CampaignValue) (es : List (ℕ × ℕ)) → EachOf (λ i a. i < length w.items) es → IsSteady w c → BooksOff w (owing_items es) (moving_items es) c (fold with_item_loss c es)
 off_items w c [] known steady = record {
   steady = steady;
@@ -224,6 +241,7 @@ off_items w c ((i, a) ∷ es) known steady =
     let one = off_one w c (Item i) a (omega (arith, known.0)) steady in
     off_twice w c (with_item_loss c (i, a)) (fold with_item_loss (with_item_loss c (i, a)) es) one (off_items w (with_item_loss c (i, a)) es known.1 one.steady)
 
+-- the bookings of all that a unit has as gone
 pub off_all : (w : WorldValue) (c : CampaignValue) (h : HoldingValue) → Every (λ i a. i < length w.items) h.items → IsSteady w c → BooksOff w (owing h) (held_moves h) c (with_all_losses c h)
 off_all w c h known steady =
     let men = with_loss c People h.men in
@@ -235,11 +253,13 @@ off_all w c h known steady =
 
 -- ---- what the code books, and marks
 
+-- all that changes when something is booked as gone is marked
 pub gone_marks : (c d : MarkedCampaign) (t : Thing) (amount : ℕ) → d.value ≡ with_loss c.value t amount → d.marks ≡ mark_amount c (loss_entry t) t → MarksChanges c d
 gone_marks c d t amount what marks =
     let all = marks-amount c (loss_entry t) t (neg_ℤ (pos amount)) in
     rw (what, marks) (record { stay = all.stay; covers = all.covers })
 
+-- books with room for a loss and what follows have room for the loss
 pub first_room : (t : Thing) (amount : ℕ) (next : BookBound) (c : CampaignValue) → HaveRoom (both_move (moves_only amount (loss_entry t) t) next) c → HasRoom amount (amount_in c.books (loss_entry t) t)
 first_room t amount next c room =
     less_room amount (moves_only amount (loss_entry t) t (loss_entry t) t + next (loss_entry t) t) (amount_in c.books (loss_entry t) t)
@@ -249,29 +269,30 @@ first_room t amount next c room =
     at_least true m t = omega arith
     at_least false m t = cc
 
+-- after that loss they have room for what follows
 pub rest_room : (t : Thing) (amount : ℕ) (next : BookBound) (c : CampaignValue) → HaveRoom (both_move (moves_only amount (loss_entry t) t) next) c → HaveRoom next (with_loss c t amount)
 rest_room t amount next c room = booked-room c.books (loss_entry t) t (neg_ℤ (pos amount)) amount (within-neg amount amount (omega arith)) next room
 
--- there is room for the items ahead, while the code goes through them
+-- books with room for the items from i on have room for the item at i and those after it
 pub room_ahead : (xs : List (ℕ × ℕ)) (i : ℕ) (c : CampaignValue) → i < length xs → HaveRoom (moving_items (drop i xs)) c
     → HaveRoom (moving_items (get_or xs i (0, 0) ∷ drop (i + 1) xs)) c
 room_ahead xs i c inside room = subst (λ l. HaveRoom (moving_items l) c) (drop_more xs i (0, 0) inside) room
 
--- and for the next of them
+-- books with room for the items from i on have room to book the item at i as lost
 pub next_room : (xs : List (ℕ × ℕ)) (i : ℕ) (c : CampaignValue) → i < length xs → HaveRoom (moving_items (drop i xs)) c
     → HasRoom (get_or xs i (0, 0)).1 (amount_in c.books Lost (Item (get_or xs i (0, 0)).0))
 next_room xs i c inside room = let x : ℕ × ℕ = get_or xs i (0, 0) in first_room (Item x.0) x.1 (moving_items (drop (i + 1) xs)) c (room_ahead xs i c inside room)
 
--- the items ahead are of the world
+-- if the items from i on are of the world, so are the item at i and those after it
 pub known_ahead : (w : WorldValue) (xs : List (ℕ × ℕ)) (i : ℕ) → i < length xs → EachOf (λ j a. j < length w.items) (drop i xs)
     → EachOf (λ j a. j < length w.items) (get_or xs i (0, 0) ∷ drop (i + 1) xs)
 known_ahead w xs i inside known = subst (EachOf (λ j a. j < length w.items)) (drop_more xs i (0, 0) inside) known
 
--- the items of a unit are
+-- the items that a unit holds are items of the world
 pub known_held : (w : WorldValue) (c : CampaignValue) (n : ℕ) (u : Unit) → get c.units n ≡ Some u → IsSteady w c → EachOf (λ j a. j < length w.items) (entries u.holding.items)
 known_held w c n u is steady = each-from_every (λ j a. j < length w.items) u.holding.items (steady.known.units n u is).items
 
--- there is room for what a unit has
+-- books with room for what may still be lost have room for all that a unit has
 pub held_room : (c : CampaignValue) (n : ℕ) (u : Unit) → get c.units n ≡ Some u → HaveRoom (quit_reserve c) c → HaveRoom (held_moves u.holding) c
 held_room c n u is room = room_less (held_moves u.holding) (quit_reserve c) c (λ e t. within (held_moves u.holding e t) (loss_under e t u.holding) (sum_over (λ (x : Unit). loss_under e t x.holding) (remove c.units n)) (quit_reserve c e t) (moves_what_leaves u.holding e t) (sum_over-remove c.units n (λ (x : Unit). loss_under e t x.holding) u is)) room
   where
@@ -280,26 +301,33 @@ held_room c n u is room = room_less (held_moves u.holding) (quit_reserve c) c (�
 
 -- ---- a unit that leaves
 
+-- other books leave the totals as they are
 total_books : (c : CampaignValue) (books : BooksValue) (t : Thing) → total (record c { books = books }) t ≡ total c t
 unfolding total
 total_books c books t = refl
 
 module _ (w : WorldValue) (c : CampaignValue) (n : ℕ) (u : Unit) (is : get c.units n ≡ Some u) (steady : IsSteady w c) where
+  -- the campaign with all that the unit has booked as gone
   abbrev off : CampaignValue
   off = with_all_losses c u.holding
 
+  -- the campaign after the unit left
   abbrev behind : CampaignValue
   behind = without_unit off n
 
+  -- the bookings are those of all that the unit has
   off_is : BooksOff w (owing u.holding) (held_moves u.holding) c off
   off_is = off_all w c u.holding (steady.known.units n u is).items steady
 
+  -- the unit is still there before it is removed
   there : get off.units n ≡ Some u
   there = ap (λ (s : CampaignValue). get s.units n) off_is.same ∙ is
 
+  -- the units after one has left are the others
   pub units_behind : behind.units ≡ remove c.units n
   units_behind = (only_reduced w off n u there).units ∙ ap (λ (s : CampaignValue). remove s.units n) off_is.same
 
+  -- the books balance after the unit left, where they did before
   balanced : Balances c → Balances behind
   balanced old t =
       let only = only_reduced w off n u there in
@@ -310,6 +338,7 @@ module _ (w : WorldValue) (c : CampaignValue) (n : ℕ) (u : Unit) (is : get c.u
       rest : (a h b d o : ℕ) (z y : ℤ) → a + h ≡ b → b ≡ d → o ≡ h → pos d ≡ z → z ≡ y +ℤ pos o → pos a ≡ y
       rest a h b d o z y e f g k l = omega (arith, ints, e, f, g, k, l)
 
+  -- the bookings use what the remaining bound falls
   drawn : (e : Entry) (t : Thing) → UsesBound (quit_reserve c e t) (quit_reserve behind e t) (amount_in c.books e t) (amount_in behind.books e t)
   drawn e t =
       let only = only_reduced w off n u there in
@@ -319,6 +348,7 @@ module _ (w : WorldValue) (c : CampaignValue) (n : ℕ) (u : Unit) (is : get c.u
       (drawn_near (loss_under e t u.holding) (quit_reserve c e t) (quit_reserve behind e t) (amount_in c.books e t) (amount_in off.books e t) reserves
       (near_more (held_moves u.holding e t) (loss_under e t u.holding) (amount_in c.books e t) (amount_in off.books e t) (moves_what_leaves u.holding e t) (off_is.near e t)))
 
+  -- a unit that leaves is a step that leaves the campaign well
   leaving_well : StepsWell IsSteady quit_reserve w c behind
   leaving_well =
       let only = only_reduced w off n u there in
@@ -334,6 +364,7 @@ module _ (w : WorldValue) (c : CampaignValue) (n : ℕ) (u : Unit) (is : get c.u
         drawn = drawn;
       }
 
+-- a unit that leaves with all that it has is a step that leaves the campaign well
 pub left_well : (w : WorldValue) (c : CampaignValue) (n : ℕ) → IsSteady w c → StepsWell IsSteady quit_reserve w c (after_leaving c n)
 unfolding after_leaving
 left_well w c n steady = by_unit (get c.units n) refl
@@ -342,7 +373,7 @@ left_well w c n steady = by_unit (get c.units n) refl
     by_unit None is = well_same w c steady
     by_unit (Some u) is = leaving_well w c n u is steady
 
--- another unit stays as it is
+-- removing a unit leaves every other unit as it was
 without_others : (c : CampaignValue) (n k : ℕ) → k ≢ n → get (without_unit c n).units k ≡ get c.units k
 unfolding without_unit
 without_others c n k apart = elim (get c.units n) as (λ o. get (without_unit_at c n o).units k ≡ get c.units k) [
@@ -351,10 +382,12 @@ without_others c n k apart = elim (get c.units n) as (λ o. get (without_unit_at
       ap (λ (d : CampaignValue). get d.units k) (handed_is (record c { units = remove c.units n }) u.structure n (heir c u.structure n)) ∙ get-remove_other c.units n k apart
 ]
 
+-- booking items as lost changes no unit
 booked_units : (c : CampaignValue) (es : List (ℕ × ℕ)) → (fold with_item_loss c es).units ≡ c.units
 booked_units c [] = refl
 booked_units c (e ∷ es) = booked_units (with_item_loss c e) es
 
+-- a unit that leaves with all that it has leaves every other unit as it was
 left_others : (c : CampaignValue) (n k : ℕ) → k ≢ n → get (after_leaving c n).units k ≡ get c.units k
 unfolding after_leaving
 left_others c n k apart = by_unit (get c.units n)
@@ -365,19 +398,21 @@ left_others c n k apart = by_unit (get c.units n)
 
 -- ---- all units of a faction
 
+-- units that leave one after another are a step that leaves the campaign well
 pub all_left_well : (w : WorldValue) (c : CampaignValue) (ns : List ℕ) → IsSteady w c → StepsWell IsSteady quit_reserve w c (fold after_leaving c ns)
 all_left_well w c [] steady = well_same w c steady
 all_left_well w c (n ∷ ns) steady =
     let one = left_well w c n steady in
     well_twice w c (after_leaving c n) (fold after_leaving (after_leaving c n) ns) one (all_left_well w (after_leaving c n) ns one.holds_still)
 
+-- units that leave one after another leave every other unit as it was
 pub all_left_others : (c : CampaignValue) (ns : List ℕ) (k : ℕ) → ((n : ℕ) → IsListed n ns → k ≢ n) → get (fold after_leaving c ns).units k ≡ get c.units k
 all_left_others c [] k apart = refl
 all_left_others c (n ∷ ns) k apart = all_left_others (after_leaving c n) ns k (λ m listed. apart m (inr listed)) ∙ left_others c n k (apart n (inl refl))
 
 -- ---- one order
 
--- what is so of the campaign as it is, and of that in which the faction's units left, is so of the campaign behind the order
+-- P holds of the campaign after an order of QUIT, if it holds without a change and after the faction's units left
 pub quit_cases : (P : CampaignValue → Type 0) (c : CampaignValue) (number : ℕ) (u : Unit) → P c → (number ≡ u.faction → P (fold after_leaving c (numbers_of u.faction c.units))) → P (quit number c u).0
 unfolding quit
 quit_cases P c number u same leave = by_fault (quit_fault number u) refl
@@ -386,9 +421,11 @@ quit_cases P c number u same leave = by_fault (quit_fault number u) refl
     by_fault (Some fault) e = same
     by_fault None e = leave (not_apart number u.faction (none_fits (not (number == u.faction)) WrongNumber [] e).0)
 
+-- an order of QUIT is a step that leaves the campaign well
 pub quit_well : (w : WorldValue) (c : CampaignValue) (number : ℕ) (u : Unit) → IsSteady w c → StepsWell IsSteady quit_reserve w c (quit number c u).0
 quit_well w c number u steady = quit_cases (λ d. StepsWell IsSteady quit_reserve w c d) c number u (well_same w c steady) (λ own. all_left_well w c (numbers_of u.faction c.units) steady)
 
+-- QUIT leaves no worse off a unit of another faction than the one that quits
 quit_spares : (w : WorldValue) (c : CampaignValue) (number : ℕ) (u : Unit) (k : ℕ) (x : Unit) → IsSteady w c → get c.units k ≡ Some x → (number ≡ u.faction → u.faction ≢ x.faction) → IsUnaffected IsNoWorse (quit number c u).0 k x
 quit_spares w c number u k x steady here other =
     quit_cases (λ d. IsUnaffected IsNoWorse d k x) c number u (record { unit = x; there = here; spared = no_worse x })
@@ -404,6 +441,7 @@ quit_spares w c number u k x steady here other =
 
 -- ---- the phase
 
+-- a sum of numbers of at most `most` is at most their count times `most`
 pub sum_within : {V : Type 0} (f : V → ℕ) (most : ℕ) (es : List (ℕ × V)) → EachOf (λ n v. f v ≤ most) es → sum_by (λ e. f e.1) es ≤ length es * most
 sum_within f most [] each = omega arith
 sum_within {V} f most (e ∷ es) each =
@@ -412,11 +450,13 @@ sum_within {V} f most (e ∷ es) each =
     more : (s x y a b m : ℕ) → s ≡ x + y → a ≡ b + m → x ≤ m → y ≤ b → s ≤ a
     more s x y a b m e f k l = omega (arith, e, f, k, l)
 
+-- a unit holds at most the limit of each thing
 within_limit : (t : Thing) (h : HoldingValue) → IsHolding h → unit_amount t h ≤ holding_limit
 within_limit Money h is = is.money
 within_limit People h is = omega (arith, is.men)
 within_limit (Item i) h is = amount_within h i is
 
+-- what all units hold of a thing is within the bound of the phase
 reserve_within : (w : WorldValue) (c : CampaignValue) → IsSteady w c → (e : Entry) (t : Thing) → quit_reserve c e t ≤ quit_moves e t
 reserve_within w c steady e t = by_test (entry_index e == entry_index (loss_entry t))
   where
@@ -434,6 +474,7 @@ reserve_within w c steady e t = by_test (entry_index e == entry_index (loss_entr
     by_test true = few (sum_over (λ (u : Unit). unit_amount t u.holding) c.units) (length (entries c.units)) (all_within true holding_limit (λ h is. within_limit t h is)) (omega (arith, len-entries c.units, steady.numbers.few_units))
     by_test false = none (sum_over (λ (u : Unit). 0) c.units) (length (entries c.units)) (all_within false 0 (λ h is. omega arith))
 
+-- the step of QUIT is orderly
 pub quit_orderly : IsOrderly quit_step IsSteady quit_reserve quit_moves quit_concerns IsNoWorse
 quit_orderly = record {
   well = λ w a c t x steady fit own. well w c x steady t.order_value.operands;

@@ -22,22 +22,25 @@ use Rattle.atl_state.specs.Totals.{total}
 use Rattle.atl_records.proofs.EveryLaws.{every-insert, get-insert_other, none_some}
 use Rattle.atl_state.proofs.RegionLaws.{same_len}
 
--- the same structure, but for its name, which is one, and its owner
+-- the same structure, but for its owner and its name, which is good if it was good before
 pub record IsRelabelled (before after : Structure) : Type 0 where
   pub kind : after.kind ≡ before.kind
   pub region : after.region ≡ before.region
   pub done : after.done ≡ before.done
   pub name : IsTrue (name_ok before.name) → IsTrue (name_ok after.name)
 
+-- a value found after a function was taken of each value comes of a value that was found before
 pub under : {A B : Type 0} (f : A → B) (o : Option A) (x : B) → option_map f o ≡ Some x → (v : A) × (o ≡ Some v) × (f v ≡ x)
 under f None x is = none_some x is
 under f (Some v) x is = let same : f v ≡ x = cc in (v, refl, same)
 
--- other units and structures, but as many
+-- a campaign with other units and structures
 module _ (c : CampaignValue) (units : FinMap nat_cmp Unit) (structures : FinMap nat_cmp Structure) where
+  -- the campaign with other units and structures
   abbrev pub replaced : CampaignValue
   replaced = record c { units = units; structures = structures }
 
+  -- numbers and amounts stay in their ranges, if there are as many units and structures, each in range
   pub in_range_replaced : (w : WorldValue) → len units ≡ len c.units → len structures ≡ len c.structures → Every (λ k x. (1 ≤ k) × IsHolding x.holding) units
       → Every (λ k x. (1 ≤ x.done) × (x.done ≤ size_of w x.kind)) structures → AreInRange w c → AreInRange w replaced
   in_range_replaced w unit_count structure_count new_units new_structures old = record {
@@ -55,9 +58,11 @@ module _ (c : CampaignValue) (units : FinMap nat_cmp Unit) (structures : FinMap 
     books = old.books;
   }
 
+  -- names stay good, if all units and structures have good ones
   pub named_replaced : Every (λ k x. IsTrue (name_ok x.holding.name)) units → Every (λ k x. IsTrue (name_ok x.name)) structures → AreNamed c → AreNamed replaced
   named_replaced new_units new_structures old = record { pass = old.pass; factions = old.factions; joined = old.joined; units = new_units; structures = new_structures }
 
+  -- the next numbers stay free, if no unit and no structure comes under a number that had none
   pub numbered_replaced : len structures ≡ len c.structures → ((k : ℕ) → get c.units k ≡ None → get units k ≡ None) → ((k : ℕ) → get c.structures k ≡ None → get structures k ≡ None)
       → AreNumbered c → AreNumbered replaced
   numbered_replaced count no_unit no_structure old = record {
@@ -67,16 +72,20 @@ module _ (c : CampaignValue) (units : FinMap nat_cmp Unit) (structures : FinMap 
   }
 
 module _ (w : WorldValue) (c : CampaignValue) (n : ℕ) (u : Unit) (s : ℕ) (is : get c.units n ≡ Some u) (structures : FinMap nat_cmp Structure) (g : ℕ → Structure → Structure) where
+  -- the unit inside structure s
   abbrev pub moved_unit : Unit
   moved_unit = record u { structure = s }
 
+  -- the units with this one inside structure s
   abbrev units : FinMap nat_cmp Unit
   units = insert c.units n moved_unit
 
+  -- the campaign with this unit inside structure s, and other structures
   abbrev pub refitted : CampaignValue
   refitted = record c { units = units; structures = structures }
 
-  -- g gives the structures, and each has the owner that it should have; the unit is in a structure of its region, and on water in a ship
+  -- g gives the structures, each relabelled and with its right owner.
+  -- The unit is inside a structure of its region, or none, and on water inside a ship.
   pub record IsRefit : Type 0 where
     pub at : (k : ℕ) → get structures k ≡ option_map (g k) (get c.structures k)
     pub count : len structures ≡ len c.structures
@@ -142,7 +151,7 @@ module _ (w : WorldValue) (c : CampaignValue) (n : ℕ) (u : Unit) (s : ℕ) (is
       structures = every_structure (λ k x. is_land_at w x.region ≡ false → (is_ship w x ≡ true) × (x.done ≡ size_of w x.kind)) (λ k y was. let r = refit.same k y was in rw (r.region, r.kind, r.done) (old.structures k y was));
     }
 
-    -- those that pass a test are still of one faction, where the test sees what a unit holds alone
+    -- units that pass a test still are of one faction in each region, if the moved unit passes it only as before
     module _ (test : Unit → Bool) (only : test moved_unit ≡ true → test u ≡ true) where
       abbrev Agree : Unit → Unit → Type 0
       Agree x y = test x ≡ true → test y ≡ true → x.region ≡ y.region → x.faction ≡ y.faction
@@ -153,6 +162,7 @@ module _ (w : WorldValue) (c : CampaignValue) (n : ℕ) (u : Unit) (s : ℕ) (is
           (every-insert (λ m y. Agree moved_unit y) c.units n moved_unit (λ g k same. refl) (λ m y there g k same. old n u is m y there (only g) k same))
           (λ k x here. every-insert (λ m y. Agree x y) c.units n moved_unit (λ g k2 same. old k x here n u is g (only k2) same) (old k x here))
 
+    -- a steady campaign stays steady when it is refitted
     pub steady-refitted : IsSteady w c → IsSteady w refitted
     steady-refitted old = record {
       numbers = numbers_kept old.numbers;
@@ -168,12 +178,14 @@ module _ (w : WorldValue) (c : CampaignValue) (n : ℕ) (u : Unit) (s : ℕ) (is
       guarded = of_one_faction_refitted guards (λ g. g) old.guarded;
     }
 
+    -- an early campaign stays early when it is refitted
     pub early-refitted : IsEarly w c → IsEarly w refitted
     early-refitted old = record { steady = steady-refitted old.steady; flags = of_one_faction_refitted (λ x. x.holding.guard) (λ g. g) old.flags }
 
   cancelled : (a b h r : ℕ) → a + h ≡ b + h → a + r ≡ b + r
   cancelled a b h r e = omega arith
 
+  -- the totals stay the same
   pub total-refitted : (t : Thing) → total refitted t ≡ total c t
   unfolding total
   total-refitted t =
@@ -181,16 +193,19 @@ module _ (w : WorldValue) (c : CampaignValue) (n : ℕ) (u : Unit) (s : ℕ) (is
       cancelled (sum_over stock units) (sum_over stock c.units) (unit_amount t u.holding) (sum_over (λ (r : Region). region_amount t r) c.regions)
       (sum_over-insert_known stock c.units n u moved_unit is)
 
--- structures alone change, while a unit is there
+-- a campaign in which structures alone change
 module _ (w : WorldValue) (c : CampaignValue) (n : ℕ) (u : Unit) (is : get c.units n ≡ Some u) (structures : FinMap nat_cmp Structure) (g : ℕ → Structure → Structure)
     (at : (k : ℕ) → get structures k ≡ option_map (g k) (get c.structures k)) (count : len structures ≡ len c.structures)
     (same : Every (λ k y. IsRelabelled y (g k y)) c.structures) (owned : Every (λ k y. IsOwned c k (g k y)) c.structures) where
+  -- the unit as it was
   abbrev as_it_was : Unit
   as_it_was = record u { structure = u.structure }
 
+  -- putting it back changes no unit
   units_stay : insert c.units n as_it_was ≡ c.units
   units_stay = put_same c.units n u as_it_was is refl
 
+  -- structures that are relabelled refit the campaign with the unit as it was
   relabelled_refit : IsEarly w c → IsRefit w c n u u.structure is structures g
   relabelled_refit old = record {
     at = at;
@@ -201,6 +216,7 @@ module _ (w : WorldValue) (c : CampaignValue) (n : ℕ) (u : Unit) (is : get c.u
     afloat = old.steady.water.units n u is;
   }
 
+  -- an early campaign stays early when only structures change, each relabelled and with its right owner
   pub early-relabelled : IsEarly w c → IsEarly w (record c { structures = structures })
   early-relabelled old =
       subst (λ (m : FinMap nat_cmp Unit). IsEarly w (record c { units = m; structures = structures })) units_stay

@@ -1,4 +1,4 @@
--- Who guards the regions: as all units are noted, what that tells, and once a unit begins to guard.
+-- The code's map of which faction guards each region is right: once it is made, and when a unit begins to guard.
 use Rattle.std.proofs.Common.{◌≡◌, ◌==◌, ℕ, Bool, true, false, not, ◌&&◌, ◌||◌, List, [], ◌∷◌, Option, Some, None, refl, sym, ap, subst, ◌∙◌, inl, inr, arith}
 use Rattle.std.specs.Prelude.{if◌then◌else◌, nat_lt}
 use Rattle.std.specs.List.{list_any}
@@ -25,17 +25,20 @@ use Rattle.atl_instant.proofs.GuardingLaws.{flagged, flagged_is, guarding, own_g
 -- ---- as units are noted
 
 module _ (c : CampaignValue) where
+  -- these entries are units of the campaign under their numbers
   abbrev AreUnits : List (ℕ × Unit) → Type 0
   AreUnits es = EachOf (λ n u. get c.units n ≡ Some u) es
 
+  -- a unit of this faction guards the region
   abbrev Held : (region faction : ℕ) → Type 0
   Held region faction = (n : ℕ) × (u : Unit) × (get c.units n ≡ Some u) × IsGuardOf region faction u
 
   module _ (region faction : ℕ) where
+    -- the unit is of this faction if it guards the region
     abbrev IsOwn : Unit → Type 0
     IsOwn u = guards u ≡ true → u.region ≡ region → u.faction ≡ faction
 
-    -- a faction that guards stays noted, where all that guard the region are its own
+    -- the map keeps the faction of a region, if all units that guard it are of that faction
     one_stays : (m : GuardMap) (u : Unit) → IsOwn u → get m region ≡ Some faction → get (with_guard_of m u) region ≡ Some faction
     one_stays m u own at = by_test (guards u) own
       where
@@ -64,6 +67,7 @@ module _ (c : CampaignValue) where
             ]
         by_test false on at = old at
 
+  -- a faction in the map of some units guards its region by one of them
   held_of : (m : GuardMap) (es : List (ℕ × Unit)) → AreUnits es → ((r f : ℕ) → get m r ≡ Some f → Held r f) → (r f : ℕ) → get (with_guards_of m es) r ≡ Some f → Held r f
   held_of m [] are old = old
   held_of m (e ∷ es) are old = held_of (with_guard_of m e.1) es are.1 (λ r f. held_more r f m e.0 e.1 are.0 (old r f))
@@ -82,7 +86,7 @@ module _ (c : CampaignValue) where
         by_test true on = get-insert_same m e.1.region e.1.faction
         by_test false on = cc
 
-    -- all of a campaign's units
+    -- the map of a campaign is right, if all units that guard a region are of one faction
     pub holders_are : AreRegionGuards c (guard_map_of c)
     holders_are =
         let are = each-from_every (λ n u. get c.units n ≡ Some u) c.units (λ n u is. is) in
@@ -91,8 +95,9 @@ module _ (c : CampaignValue) where
           held = held_of empty (entries c.units) are (λ r f at. none_some f (sym (get-empty nat_cmp r) ∙ at));
         }
 
--- ---- what the map tells
+-- ---- what the map says
 
+-- a list with an element that passes a test has some that does
 any_listed : (p : ℕ → Bool) (ns : List ℕ) (k : ℕ) → IsListed k ns → p k ≡ true → list_any p ns ≡ true
 any_listed p [] k listed t = absurd listed
 any_listed p (n ∷ ns) k (inl same) t = ap (λ b. b || list_any p ns) (ap p (sym same) ∙ t)
@@ -102,18 +107,21 @@ any_listed p (n ∷ ns) k (inr rest) t = either (p n) (any_listed p ns k rest t)
     either true t = refl
     either false t = t
 
+-- a list has none that passes a test, if no element of it does
 any_none : (p : ℕ → Bool) (ns : List ℕ) → ((k : ℕ) → IsListed k ns → p k ≡ false) → list_any p ns ≡ false
 any_none p [] none = refl
 any_none p (n ∷ ns) none = ap (λ b. b || list_any p ns) (none n (inl refl)) ∙ any_none p ns (λ k listed. none k (inr listed))
 
 module _ (c : CampaignValue) (m : GuardMap) (are : AreRegionGuards c m) (region faction : ℕ) where
+  -- whether unit n guards for another faction
   abbrev against : ℕ → Bool
   against n = guards_against faction (get c.units n)
 
+  -- whether a unit is in the region
   abbrev stands_here : Unit → Bool
   stands_here u = u.region == region
 
-  -- no unit on guard is of another faction
+  -- no other faction guards the region, if the faction that the map has for a unit there can only be this one
   all_own : ((u : Unit) → u.region ≡ region → get m u.region ≡ Some u.faction → u.faction ≡ faction) → is_guarded_against c region faction ≡ false
   all_own own = any_none against (numbers_in region c.units) (λ k listed. let (u, is, here) = listed_passing stands_here c.units k listed in ap (guards_against faction) is ∙ by_test u (guards u) (are.noted k u is) (is_equal u.region region here))
     where
@@ -121,7 +129,7 @@ module _ (c : CampaignValue) (m : GuardMap) (are : AreRegionGuards c m) (region 
       by_test u true noted here = ap (λ f. not (f == faction)) (own u here (noted refl)) ∙ ap not (equal_itself faction)
       by_test u false noted here = refl
 
-  -- what the map tells of other factions is so of the campaign
+  -- the map says of a region whether another faction guards it, as the campaign does
   pub holders_tell : has_other_guard faction (get m region) ≡ is_guarded_against c region faction
   holders_tell = by_holder (get m region) refl
     where
@@ -138,7 +146,7 @@ module _ (c : CampaignValue) (m : GuardMap) (are : AreRegionGuards c m) (region 
       by_holder None at = sym (all_own (λ u here noted. none_some u.faction (sym at ∙ ap (get m) (sym here) ∙ noted)))
       by_holder (Some holder) at = other_holder holder at (holder == faction) refl
 
--- why a unit can't guard, by what the map tells
+-- the fault of beginning to guard that the code finds by the map is the right one
 pub fault_told : (c : CampaignValue) (m : GuardMap) → AreRegionGuards c m → (u : Unit) (few held : Bool) → (u.holding.men == 0) ≡ few → has_other_guard u.faction (get m u.region) ≡ held
     → first_fault ((few, NoMen) ∷ (held, Guarded) ∷ []) ≡ guard_fault c u
 fault_told c m are u few held few_is held_is =
@@ -150,6 +158,7 @@ fault_told c m are u few held few_is held_is =
 has_men : (n : ℕ) → (n == 0) ≡ false → nat_lt 0 n ≡ true
 has_men n some = grind (arith, nat_tests)
 
+-- a unit that has no fault has men, and no other faction guards its region
 pub can_guard : (c : CampaignValue) (u : Unit) → guard_fault c u ≡ None → (is_guarded_against c u.region u.faction ≡ false) × (nat_lt 0 u.holding.men ≡ true)
 can_guard c u none =
     let one = none_fits (u.holding.men == 0) NoMen ((is_guarded_against c u.region u.faction, Guarded) ∷ []) none in
@@ -157,12 +166,15 @@ can_guard c u none =
     (two.0, has_men u.holding.men one.0)
 
 module _ (c : CampaignValue) (m : GuardMap) (n : ℕ) (u : Unit) (is : get c.units n ≡ Some u) (are : AreRegionGuards c m) where
+  -- the map with the unit's faction set for its region
   abbrev set_now : GuardMap
   set_now = insert m u.region u.faction
 
+  -- the campaign in which the unit guards
   abbrev behind : CampaignValue
   behind = flagged c n u is
 
+  -- each guard has its faction in this map
   set_noted : is_guarded_against c u.region u.faction ≡ false → Every (λ k v. guards v ≡ true → get set_now v.region ≡ Some v.faction) behind.units
   set_noted none =
       every-insert (λ k v. guards v ≡ true → get set_now v.region ≡ Some v.faction) c.units n (guarding c n u is) (λ on. get-insert_same m u.region u.faction) (λ k v there on. by_region k v there on)
@@ -174,6 +186,7 @@ module _ (c : CampaignValue) (m : GuardMap) (n : ℕ) (u : Unit) (is : get c.uni
             | inr apart ↦ get-insert_other m u.region v.region u.faction apart ∙ are.noted k v there on
           ]
 
+  -- each faction in this map guards its region
   set_held : nat_lt 0 u.holding.men ≡ true → (r f : ℕ) → get set_now r ≡ Some f → Held behind r f
   set_held men r f at =
       elim (cases_eq r u.region) [
@@ -185,5 +198,6 @@ module _ (c : CampaignValue) (m : GuardMap) (n : ℕ) (u : Unit) (is : get c.uni
             (k, v, get-insert_other c.units n k (guarding c n u is) (λ same. apart (sym guard.stands ∙ ap (λ (x : Unit). x.region) (same_Some _ _ (sym there ∙ ap (get c.units) same ∙ is)))) ∙ there, guard)
       ]
 
+  -- the map stays right when a unit begins to guard and its faction is set for its region
   pub holders_set : is_guarded_against c u.region u.faction ≡ false → nat_lt 0 u.holding.men ≡ true → AreRegionGuards (with_guard c n true) set_now
   holders_set none men = subst (λ d. AreRegionGuards d set_now) (sym (flagged_is c n u is)) (record { noted = set_noted none; held = set_held men })

@@ -1,4 +1,4 @@
--- Books have room for a phase that moves little.
+-- Books in which no amount passes 9*10^18 have room for one phase.
 use Rattle.std.proofs.Common.{ℕ, ◌≤◌, arith}
 use Rattle.std.specs.Prelude.{ℤ}
 use Rattle.std.proofs.lemmas.Int.{ints}
@@ -7,6 +7,7 @@ use Rattle.atl_instant.specs.Meaning.{most_moved}
 use Rattle.atl_instant.specs.Bounds.{HasRoom}
 use Rattle.atl_instant.specs.Room.{OnePhaseHasRoom, roomy_amount}
 
+-- an amount of at most 9*10^18 in size has room for a move of less than 10^14
 room : (moved : ℕ) (amount : ℤ) → moved ≤ most_moved → IsWithin roomy_amount amount → HasRoom moved amount
 room moved amount little within = record { above = omega (arith, ints, within.most); below = omega (arith, ints, within.least) }
 

@@ -1,4 +1,4 @@
--- At most one order of a slot stands.
+-- No two orders of a phase share a slot: at most one order of a slot counts for a unit in a faction's mailing.
 use Rattle.std.proofs.Common.{◌≡◌, ◌==◌, ℕ, suc, zero, ◌+◌, ◌<◌, Bool, true, false, ◌&&◌, cond, List, [], ◌∷◌, map, filter, flat_map, slice_get, Option, Some, None, refl, sym, ap, subst, ◌∙◌, arith}
 use Rattle.std.proofs.lemmas.Bool.{and_parts, false_from_ne_true}
 use Rattle.std.proofs.lemmas.Option.{same_Some}
@@ -29,12 +29,13 @@ use Rattle.atl_instant.proofs.PhaseOrderLaws.{entries-listed, in_mailings, keyed
 
 -- ---- lines
 
+-- an entry is on a line above n, if lines rise from n
 above : (n i : ℕ) (es : List EntryValue) (e : EntryValue) → LinesRise n es → slice_get es i ≡ Some e → n < e.line
 above n i [] e rise is = cc
 above n zero (x ∷ es) e rise is = let same = ap (λ (y : EntryValue). y.line) (same_Some x e is) in omega (arith, same, rise.0)
 above n (suc i) (x ∷ es) e rise is = let behind = above x.line i es e rise.1 is in omega (arith, behind, rise.0)
 
--- no two entries have one line
+-- two entries of one mailing on one line have one index, since lines rise
 same_place : (n : ℕ) (es : List EntryValue) (i j : ℕ) (d e : EntryValue) → LinesRise n es → slice_get es i ≡ Some d → slice_get es j ≡ Some e → d.line ≡ e.line → i ≡ j
 same_place n [] i j d e rise one two line = cc
 same_place n (x ∷ es) zero zero d e rise one two line = refl
@@ -50,6 +51,7 @@ same_place n (x ∷ es) (suc i) (suc j) d e rise one two line = ap suc (same_pla
 
 -- ---- slots
 
+-- slots with one number are one slot
 slots_are : (s o : Slot) → (slot_number s == slot_number o) ≡ true → s ≡ o
 slots_are MonthLong MonthLong same = refl
 slots_are Selling Selling same = refl
@@ -58,11 +60,12 @@ slots_are Taxing Taxing same = refl
 slots_are Recruiting Recruiting same = refl
 slots_are s o same = cc
 
--- orders that stand in one slot are on one line
+-- an order that counts in a slot is on the last line of the slot for its unit
 line_of : (ts : List Task) (t : Task) (s : Slot) (o : Option Slot) → o ≡ Some s → stands_in ts t o ≡ true → t.line ≡ last_line s t.unit ts
 line_of ts t s None is there = cc
 line_of ts t s (Some x) is there = is_equal t.line (last_line x t.unit ts) there ∙ ap (λ y. last_line y t.unit ts) (same_Some x s is)
 
+-- two orders that count, for one unit and in one slot of one mailing, are on one line
 one_line : (ts us : List Task) (t o : Task) → ts ≡ us → t.unit ≡ o.unit → are_of_slot (row_of t.order_value.verb).slot (row_of o.order_value.verb).slot ≡ true → stands ts t ≡ true → stands us o ≡ true → t.line ≡ o.line
 one_line ts us t o same unit share one two = by_slots (row_of t.order_value.verb).slot (row_of o.order_value.verb).slot refl refl share
   where
@@ -76,6 +79,7 @@ one_line ts us t o same unit share one two = by_slots (row_of t.order_value.verb
 -- ---- the orders of a phase
 
 module _ (w : WorldValue) (is_of : Verb → Bool) (a : Arrangement) (aliases : Aliases) (readings : FinMap nat_cmp Reading) where
+  -- the order counts in its faction's mailing
   abbrev Stands : Task → Type 0
   Stands t = (r : Reading) → get readings t.faction ≡ Some r → stands (tasks_of aliases t.faction r) t ≡ true
 
@@ -98,23 +102,25 @@ module _ (w : WorldValue) (is_of : Verb → Bool) (a : Arrangement) (aliases : A
         let first : Task = record { faction = f; unit = unit_of aliases f e.target; line = e.line; place = place; order_value = e.order_value } in
         kept first refl (tasks_from aliases f (place + 1) es) (stand_from (place + 1) es) (passes first) refl
 
+  -- the orders of these mailings for the phase count
   all_stand : (es : List (ℕ × Reading)) → EachOf (λ f r. get readings f ≡ Some r) es → AllByRecursion Stands (flat_map (λ e. tasks_for is_of (tasks_of aliases e.0 e.1)) es)
   all_stand [] there = tt
   all_stand (e ∷ es) there =
       append_each Stands (tasks_for is_of (tasks_of aliases e.0 e.1)) (flat_map (λ e. tasks_for is_of (tasks_of aliases e.0 e.1)) es) (stand_from e.0 e.1 there.0 0 e.1.entries) (all_stand es there.1)
 
-  -- an order that stands in its mailing, under its key
+  -- an order that counts in its mailing, under its key
   record IsKept (key : List ℕ) (t : Task) : Type 0 where
     keyed : key ≡ key_of a t
     there : IsInMailing aliases readings t
     kept : Stands t
 
+  -- orders that are entries and count are so under their keys
   both : (ts : List Task) → AllByRecursion (IsInMailing aliases readings) ts → AllByRecursion Stands ts → AllByRecursion (λ t. IsKept (key_of a t) t) ts
   both [] there kept = tt
   both (t ∷ ts) there kept = (record { keyed = refl; there = there.0; kept = kept.0 }, both ts there.1 kept.1)
 
   module _ (fit : AreFit w readings) where
-    -- two that share a slot are one
+    -- two kept orders that share a slot are one order
     are_one : (key other : List ℕ) (t o : Task) → IsKept key t → IsKept other o → share_slot t o ≡ true → t ≡ o
     are_one key other t o one two share =
         let first = and_parts _ _ share in

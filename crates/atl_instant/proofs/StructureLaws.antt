@@ -1,4 +1,4 @@
--- Structures that change their owners, under each number.
+-- The structure under each number after one of them got another owner.
 use Rattle.std.proofs.Common.{◌≡◌, ◌≢◌, ◌==◌, ◌&&◌, ℕ, Bool, true, false, Option, Some, None, refl, sym, ap, ◌∙◌, inl, inr, arith}
 use Rattle.std.specs.Prelude.{option_map, if◌then◌else◌}
 use Rattle.std.specs.Ordering.{nat_cmp}
@@ -13,50 +13,58 @@ use Rattle.atl_records.proofs.EveryLaws.{get-insert_other, other_number}
 use Rattle.atl_state.proofs.LeavingLaws.{owned_by}
 use Rattle.atl_state.proofs.RegionLaws.{get-insert_same, same_len}
 
-pub equal : (a b : ℕ) → a ≡ b → (a == b) ≡ true
-equal a b same = grind (arith, nat_tests)
+-- equal numbers pass the test for equality
+pub equal_passes : (a b : ℕ) → a ≡ b → (a == b) ≡ true
+equal_passes a b same = grind (arith, nat_tests)
 
 -- ---- a value of a map that is changed
 
 module _ {V : Type 0} (f : V → V) (m : FinMap nat_cmp V) (k : ℕ) where
-  -- f at the value under this number, and no other
+  -- f of the value under number k; every other value as it is
   abbrev pub at_number : ℕ → V → V
   at_number q v = if q == k then f v else v
 
+  -- f under the number itself is `at_number`
   mapped_here : (q : ℕ) → (q == k) ≡ true → (o : Option V) → option_map f o ≡ option_map (at_number q) o
   mapped_here q t None = refl
   mapped_here q t (Some v) = ap (λ b. Some (if b then f v else v)) (sym t)
 
+  -- nothing under any other number is `at_number`
   mapped_else : (q : ℕ) → (q == k) ≡ false → (o : Option V) → o ≡ option_map (at_number q) o
   mapped_else q t None = refl
   mapped_else q t (Some v) = ap (λ b. Some (if b then f v else v)) (sym t)
 
+  -- a look-up of the value that was changed finds f of it
   changed_here : (o : Option V) → get m k ≡ o → get (changed_at f m k o) k ≡ option_map f o
   changed_here None is = is
   changed_here (Some v) is = get-insert_same m k (f v)
 
+  -- a change of the value under k leaves the value under every other number
   pub changed_else : (q : ℕ) → q ≢ k → (o : Option V) → get (changed_at f m k o) q ≡ get m q
   changed_else q apart None = refl
   changed_else q apart (Some v) = get-insert_other m k q (f v) apart
 
+  -- a look-up after a change of the value under k
   pub get-changed : (q : ℕ) → get (changed f m k) q ≡ option_map (at_number q) (get m q)
   get-changed q = elim (cases_eq q k) [
     | inl same ↦
         ap (get (changed f m k)) same ∙ changed_here (get m k) refl ∙ ap (λ j. option_map f (get m j)) (sym same)
-        ∙ mapped_here q (equal q k same) (get m q)
+        ∙ mapped_here q (equal_passes q k same) (get m q)
     | inr apart ↦ changed_else q apart (get m k) ∙ mapped_else q (other_number q k apart) (get m q)
   ]
 
+  -- the number of values stays, by whether there is a value
   len_by : (o : Option V) → get m k ≡ o → len (changed_at f m k o) ≡ len m
   len_by None is = refl
   len_by (Some v) is = same_len m k v (f v) is
 
+  -- a change of the value under k leaves the number of values as it is
   pub len-changed : len (changed f m k) ≡ len m
   len-changed = len_by (get m k) refl
 
 -- ---- a structure that goes from one owner to another
 
--- the structure under a number, where it is this one and the former owner's
+-- the structure of number q, with the owner `to` if it is number k and its owner was `from`
 abbrev pub handed_on : (k from to q : ℕ) → Structure → Structure
 handed_on k from to q y = if q == k && y.owner == from then owned_by to y else y
 
@@ -64,14 +72,17 @@ module _ (c : CampaignValue) (k from to : ℕ) where
   abbrev after : Bool → CampaignValue
   after b = if b then with_owner c k to else c
 
+  -- structure k after the handover, by whether it was the owner's
   here_by : (y : Structure) → get c.structures k ≡ Some y → (b : Bool) → get (after b).structures k ≡ Some (if b then owned_by to y else y)
   here_by y is true = changed_here (owned_by to) c.structures k (get c.structures k) refl ∙ ap (option_map (owned_by to)) is
   here_by y is false = is
 
+  -- structure k after the handover
   here : (o : Option Structure) → get c.structures k ≡ o → get (after (is_owned_by o from)).structures k ≡ option_map (handed_on k from to k) o
   here None is = is
-  here (Some y) is = here_by y is (y.owner == from) ∙ ap (λ b. Some (if b && y.owner == from then owned_by to y else y)) (sym (equal k k refl))
+  here (Some y) is = here_by y is (y.owner == from) ∙ ap (λ b. Some (if b && y.owner == from then owned_by to y else y)) (sym (equal_passes k k refl))
 
+  -- every other structure stays as it was
   else_by : (q : ℕ) → q ≢ k → (b : Bool) → get (after b).structures q ≡ get c.structures q
   else_by q apart true = changed_else (owned_by to) c.structures k q apart (get c.structures k)
   else_by q apart false = refl
@@ -80,6 +91,7 @@ module _ (c : CampaignValue) (k from to : ℕ) where
   unmoved q apart None = refl
   unmoved q apart (Some y) = ap (λ b. Some (if b && y.owner == from then owned_by to y else y)) (sym (other_number q k apart))
 
+  -- a look-up after a handover of structure k finds the structure as `handed_on` gives it
   pub get-after_handover : (q : ℕ) → get (after_handover c k from to).structures q ≡ option_map (handed_on k from to q) (get c.structures q)
   get-after_handover q = elim (cases_eq q k) [
     | inl same ↦
@@ -88,6 +100,7 @@ module _ (c : CampaignValue) (k from to : ℕ) where
     | inr apart ↦ else_by q apart (is_owned_by (get c.structures k) from) ∙ unmoved q apart (get c.structures q)
   ]
 
+  -- a handover leaves the number of structures as it is
   pub len-after_handover : len (after_handover c k from to).structures ≡ len c.structures
   len-after_handover = by_test (is_owned_by (get c.structures k) from)
     where
@@ -95,7 +108,7 @@ module _ (c : CampaignValue) (k from to : ℕ) where
       by_test true = len-changed (owned_by to) c.structures k
       by_test false = refl
 
-  -- nothing but the structures changes
+  -- a handover changes nothing but the structures
   pub handed_is : after_handover c k from to ≡ record c { structures = (after_handover c k from to).structures }
   handed_is = by_test (is_owned_by (get c.structures k) from)
     where

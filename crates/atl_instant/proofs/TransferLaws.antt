@@ -1,4 +1,4 @@
--- TRANSFER leaves a campaign well.
+-- TRANSFER leaves a campaign well, and no unit but the sender worse off.
 use Rattle.std.proofs.Common.{◌≡◌, ◌≢◌, ◌==◌, ℕ, ◌+◌, ◌-◌, ◌*◌, ◌/◌, ◌≤◌, ◌<◌, Bool, true, false, not, ◌&&◌, [], ◌∷◌, ◌++◌, ◌⊎◌, length, Option, Some, None, refl, sym, ap, subst, ◌∙◌, inl, inr, arith}
 use Rattle.std.specs.Prelude.{IfSome, nat_lt, unwrap_or, if◌then◌else◌}
 use Rattle.std.proofs.lemmas.Bool.Decides.{nat_tests}
@@ -39,13 +39,14 @@ use Rattle.atl_instant.proofs.NoWorseLaws.{no_worse}
 use Rattle.atl_instant.proofs.OrderEffectLaws.{no_worse_spares, well_same}
 use Rattle.atl_instant.proofs.UnbookedLaws.{other_unit}
 
--- what is so of two units where no fault fits
+-- what holds of two units where a transfer has no fault
 pub record CanSend (n : ℕ) (itself : Bool) (u v : Unit) : Type 0 where
   pub here : v.region ≡ u.region
   pub own : v.faction ≡ u.faction
   pub enough : n ≤ u.holding.men
   pub room : itself ≡ false → v.holding.men + n ≤ men_limit
 
+-- where a transfer has no fault, `CanSend` holds of both units
 pub can_send : (n : ℕ) (itself : Bool) (u v : Unit) → transfer_fault n itself u (Some v) ≡ None → CanSend n itself u v
 can_send n itself u v is =
     let other = not (v.faction == u.faction) in
@@ -62,7 +63,7 @@ can_send n itself u v is =
       room = λ apart. not_less men_limit (v.holding.men + n) (unless_itself itself full four.0 apart);
     }
 
--- two units, one after the other
+-- setting first what the sender holds and then what the receiver holds makes the campaign `after_transfer`
 pub sent_is : (c d e : CampaignValue) (from to n : ℕ) (u v : Unit) (h k : HoldingValue) → to ≢ from → get c.units from ≡ Some u → get c.units to ≡ Some v
     → h ≡ with_fewer n u.holding → k ≡ with_more n u.holding v.holding
     → d ≡ with_held c from h (Some u) → (get d.units to ≡ Some v → e ≡ with_held d to k (Some v))
@@ -74,7 +75,7 @@ sent_is c d e from to n u v h k apart sender receiver h_is k_is first second =
 
 -- ---- days
 
--- at most so many days of a skill
+-- a unit has at most `most` days of any skill, if each that is listed has
 pub days_within : (all : FinMap nat_cmp ℕ) (most skill : ℕ) → Every (λ s days. (1 ≤ days) × (days ≤ most)) all → amount_of all skill ≤ most
 days_within all most skill each = by_option (get all skill) refl
   where
@@ -82,14 +83,14 @@ days_within all most skill each = by_option (get all skill) refl
     by_option None e = omega arith
     by_option (Some days) e = (each skill days e).1
 
--- the part that goes is at most what so many men may have
+-- the days that go with n men are at most 450 for each of the n
 pub going_most : (n men days : ℕ) → days ≤ most_days * men → days_going n men days ≤ most_days * n
 going_most n men days most = div-le_of_le-mul men (subst (λ x. days * n ≤ x) (turned most_days men n) (mul-le-mul_right n most))
   where
     turned : (k m l : ℕ) → (k * m) * l ≡ m * (k * l)
     turned k m l = grind arith
 
--- and so is the rest for those who stay
+-- of at most k days for each of s + n men, at most k for each of the s men stay when n go
 rest_within : (k s n d : ℕ) → 0 < s + n → d ≤ k * (s + n) → d - d * n / (s + n) ≤ k * s
 rest_within k s n d some most = elim (cases_lt (k * s) d) [
   | inl more ↦
@@ -115,8 +116,9 @@ rest_within k s n d some most = elim (cases_lt (k * s) d) [
     scaled : (y : ℕ) → y ≤ k * n → y * (s + n) ≤ (k * s + y) * n
     scaled y few = rw (turned k s n y, spread y s n) (sum (y * s) ((k * n) * s) (y * n) (mul-le-mul_right s few))
 
-pub rest_most : (n men days : ℕ) → n ≤ men → 1 ≤ days → days ≤ most_days * men → days - days_going n men days ≤ most_days * (men - n)
-rest_most n men days fewer some most =
+-- the days that stay when n men go are at most 450 for each man who stays
+pub staying_days_within : (n men days : ℕ) → n ≤ men → 1 ≤ days → days ≤ most_days * men → days - days_going n men days ≤ most_days * (men - n)
+staying_days_within n men days fewer some most =
     let whole : (men - n) + n ≡ men = omega arith in
     let men_there : 0 < men = some_men men days some most in
     subst (λ m. days - days * n / m ≤ most_days * (men - n)) whole (rest_within most_days (men - n) n days (omega arith) (subst (λ m. days ≤ most_days * m) (sym whole) most))
@@ -126,7 +128,7 @@ rest_most n men days fewer some most =
 
 -- ---- what both may hold
 
--- a skill of which there are days is known
+-- a skill of which a unit has days is a skill of the world
 known_skill : (w : WorldValue) (h : HoldingValue) (s : ℕ) → MayHave w h → 1 ≤ amount_of h.days s → s < length w.skills
 known_skill w h s may some = by_option (get h.days s) refl some
   where
@@ -134,9 +136,11 @@ known_skill w h s may some = by_option (get h.days s) refl some
     by_option None there l = absurd (omega (arith, l))
     by_option (Some d) there l = may.skills s d there
 
+-- a unit has at most 450 days of a skill for each man
 days_may : (w : WorldValue) (h : HoldingValue) (s : ℕ) → MayHave w h → amount_of h.days s ≤ most_days * h.men
 days_may w h s may = days_within h.days (most_days * h.men) s may.days
 
+-- what a unit holds after n of its men went is what a unit may have
 pub may_have_fewer : (w : WorldValue) (n : ℕ) (h : HoldingValue) → n ≤ h.men → MayHave w h → MayHave w (with_fewer n h)
 may_have_fewer w n h fewer may = record {
   limits = record { men = omega (arith, may.limits.men); money = may.limits.money; items = may.limits.items };
@@ -145,12 +149,13 @@ may_have_fewer w n h fewer may = record {
   skills = λ s d there. let (some, is) = each_said (staying_of n h) (keys h.days) s d there in known_skill w h s may (had (amount_of h.days s) (going_of n h s) d is some);
   days = λ s d there.
       let (some, is) = each_said (staying_of n h) (keys h.days) s d there in
-      (some, subst (λ x. x ≤ most_days * (h.men - n)) (sym is) (rest_most n h.men (amount_of h.days s) fewer (had (amount_of h.days s) (going_of n h s) d is some) (days_may w h s may)));
+      (some, subst (λ x. x ≤ most_days * (h.men - n)) (sym is) (staying_days_within n h.men (amount_of h.days s) fewer (had (amount_of h.days s) (going_of n h s) d is some) (days_may w h s may)));
 }
   where
     had : (a g d : ℕ) → d ≡ a - g → 1 ≤ d → 1 ≤ a
     had a g d is some = omega (arith, is, some)
 
+-- what a unit holds after n men came is what a unit may have, if there is room for the men
 pub may_have_more : (w : WorldValue) (n : ℕ) (other h : HoldingValue) → h.men + n ≤ men_limit → MayHave w other → MayHave w h → MayHave w (with_more n other h)
 may_have_more w n other h room from may = record {
   limits = record { men = room; money = may.limits.money; items = may.limits.items };
@@ -182,6 +187,7 @@ may_have_more w n other h room from may = record {
         spread : (k s n : ℕ) → k * (s + n) ≡ k * s + k * n
         spread k s n = grind arith
 
+-- sender and receiver together hold as much of each thing after as before
 pub both_hold : (n : ℕ) (h k : HoldingValue) → n ≤ h.men → (t : Thing) → unit_amount t (with_fewer n h) + unit_amount t (with_more n h k) ≡ unit_amount t h + unit_amount t k
 both_hold n h k l things.Money = refl
 both_hold n h k l things.People = omega (arith, l)
@@ -189,6 +195,7 @@ both_hold n h k l (things.Item i) = refl
 
 -- ---- no worse off
 
+-- a unit to which men come is no worse off
 pub better_off : (n : ℕ) (other : HoldingValue) (v : Unit) → IsNoWorse v (record v { holding = with_more n other v.holding })
 better_off n other v = record {
   faction = refl;
@@ -204,11 +211,11 @@ better_off n other v = record {
 
 -- ---- one order
 
--- the campaign behind men that went from one to another, or to itself
+-- the campaign after a transfer from one unit to another, or to itself
 abbrev behind : CampaignValue → (from to n : ℕ) → Unit → Unit → (itself : Bool) → CampaignValue
 behind c from to n u v itself = if itself then c else with_held (with_held c from (with_fewer n u.holding) (Some u)) to (with_more n u.holding v.holding) (Some v)
 
--- what is so of the campaign as it is, and of each in which men went from one unit to another, is so of the campaign behind the order
+-- P holds of the campaign after an order of TRANSFER, if it holds without a change and after men went to another unit
 pub transfer_cases : (P : CampaignValue → Type 0) (c : CampaignValue) (from to n : ℕ) (u : Unit) (sender : get c.units from ≡ Some u) → P c
     → ((v : Unit) (receiver : get c.units to ≡ Some v) (apart : to ≢ from) → CanSend n false u v
     → P (moved c from to u v (with_fewer n u.holding) (with_more n u.holding v.holding) sender receiver apart))
@@ -229,6 +236,7 @@ transfer_cases P c from to n u sender same move = by_receiver (get c.units to) r
     by_receiver (Some v) receiver = by_fault v receiver (transfer_fault n (to == from) u (Some v)) refl
 
 module _ (w : WorldValue) (c : CampaignValue) (early : IsEarly w c) (from to n : ℕ) (u : Unit) (sender : get c.units from ≡ Some u) where
+  -- an order of TRANSFER is a step that leaves the campaign well
   transfer_steps_well : StepsWell IsEarly (λ d e t. 0) w c (transfer from to n c u).0
   transfer_steps_well =
       transfer_cases (λ d. StepsWell IsEarly (λ d e t. 0) w c d) c from to n u sender (well_same w c early)
@@ -241,6 +249,7 @@ module _ (w : WorldValue) (c : CampaignValue) (early : IsEarly w c) (from to n :
       (may_have_more w n u.holding v.holding (can.room refl) from_may (may_have w c to v receiver early.steady)) (λ g. g) early)
       (both_hold n u.holding v.holding can.enough))
 
+  -- an order of TRANSFER leaves each unit but the sender no worse off
   transfer_spares : (k : ℕ) (x : Unit) → get c.units k ≡ Some x → k ≢ from → IsUnaffected IsNoWorse (transfer from to n c u).0 k x
   transfer_spares k x there other =
       transfer_cases (λ d. IsUnaffected IsNoWorse d k x) c from to n u sender (record { unit = x; there = there; spared = no_worse x })
@@ -248,6 +257,7 @@ module _ (w : WorldValue) (c : CampaignValue) (early : IsEarly w c) (from to n :
 
 -- ---- the phase
 
+-- the step of TRANSFER is orderly
 pub transfer_orderly : IsOrderly transfer_step IsEarly (λ c e t. 0) (λ e t. 0) IsOwnOrder IsNoWorse
 transfer_orderly = record {
   well = λ w a c t x early fit own. well w a c t x early own t.order_value.operands;

@@ -1,4 +1,4 @@
--- What phases leave to the units of a faction that sent no mailing.
+-- What phases leave to the units of a faction that sent no mailing: its men, less those who starve, and its items.
 use Rattle.std.proofs.Common.{◌≡◌, ◌≢◌, ◌==◌, ℕ, ◌+◌, ◌-◌, ◌≤◌, ◌<◌, Bool, true, false, List, [], ◌∷◌, ◌++◌, Option, Some, None, refl, sym, ap, subst, ◌∙◌, inl, inr, arith}
 use Rattle.std.proofs.lemmas.Option.{same_Some}
 use Rattle.std.specs.Prelude.{IfSome, fold, option_map, if◌then◌else◌}
@@ -37,19 +37,21 @@ use Rattle.atl_instant.proofs.PhaseOrderLaws.{orders_are_in_mailings}
 
 -- ---- phases one after the other
 
--- A phase keeps the mailings and takes back no event, and a unit whose faction sent no mailing stays, but for the men who starve in it.
+-- The phase keeps the mailings and takes back no Starved event.
+-- Each unit of a faction without a mailing is there after, with its name, its items, and exactly the men less who starve.
 pub record LeavesUnmailed (meaning : Meaning) (keeps : Frame) : Type 0 where
   pub readings : (w : WorldValue) (c : CampaignValue) (m : MonthValue) → (meaning w c m).1.readings ≡ m.readings
   pub told : (w : WorldValue) (c : CampaignValue) (m : MonthValue) (n : ℕ) → starved_in m.events n ≤ starved_in (meaning w c m).1.events n
   pub left : (w : WorldValue) (c : CampaignValue) (m : MonthValue) → keeps w m c (meaning w c m).0 →
       Every (λ n u. get m.readings u.faction ≡ None → IsUnaffected (IsLessBy (starved_in (meaning w c m).1.events n - starved_in m.events n)) (meaning w c m).0 n u) c.units
 
--- the same of phases behind which a unit may be gone whose men starved
+-- The same of a phase after which a unit may be gone of which all men starved; nothing is said of the mailings.
 pub record ClosesUnmailed (meaning : Meaning) (keeps : Frame) : Type 0 where
   pub told : (w : WorldValue) (c : CampaignValue) (m : MonthValue) (n : ℕ) → starved_in m.events n ≤ starved_in (meaning w c m).1.events n
   pub left : (w : WorldValue) (c : CampaignValue) (m : MonthValue) → keeps w m c (meaning w c m).0 →
       Every (λ n u. get m.readings u.faction ≡ None → IsLeft (starved_in (meaning w c m).1.events n - starved_in m.events n) (meaning w c m).0 n u) c.units
 
+-- a unit with y - x men less, and then z - y less, has z - x less
 less_twice : (x y z : ℕ) (u v t : Unit) → x ≤ y → y ≤ z → IsLessBy (y - x) u v → IsLessBy (z - y) v t → IsLessBy (z - x) u t
 less_twice x y z u v t l k one two = record {
   faction = two.faction ∙ one.faction;
@@ -61,13 +63,16 @@ less_twice x y z u v t l k one two = record {
     less : (a b d : ℕ) → b ≡ a - (y - x) → d ≡ b - (z - y) → d ≡ a - (z - x)
     less a b d e f = omega (arith, l, k)
 
+-- if fewer men starved in two changes than there were, fewer starved in the second than were left after the first
 some_left : (x y z a b : ℕ) → x ≤ y → y ≤ z → b ≡ a - (y - x) → z - x < a → z - y < b
 some_left x y z a b l k e some = omega arith
 
+-- a faction that sent no mailing has none after a phase either
 still_none : {first : Meaning} {early : Frame} → LeavesUnmailed first early → (w : WorldValue) (c : CampaignValue) (m : MonthValue) (f g : ℕ) → g ≡ f → get m.readings f ≡ None → get (first w c m).1.readings g ≡ None
 still_none one w c m f g same none = ap (λ (r : FinMap nat_cmp Reading). get r g) (one.readings w c m) ∙ ap (get m.readings) same ∙ none
 
 module _ {first second : Meaning} {early late : Frame} where
+  -- two phases that leave the units of factions without a mailing do so in turn
   pub both_leave : LeavesUnmailed first early → LeavesUnmailed second late → LeavesUnmailed (then_also first second) (both_keep first early late)
   both_leave one two = record {
     readings = λ w c m. two.readings w (first w c m).0 (first w c m).1 ∙ one.readings w c m;
@@ -79,6 +84,7 @@ module _ {first second : Meaning} {early late : Frame} where
         record { unit = b.unit; there = b.there; spared = less_twice _ _ _ u a.unit b.unit (one.told w c m n) (two.told w between.0 between.1 n) a.spared b.spared };
   }
 
+  -- so it is for a phase that leaves them, and then one that closes
   pub then_closes : LeavesUnmailed first early → ClosesUnmailed second late → ClosesUnmailed (then_also first second) (both_keep first early late)
   then_closes one two = record {
     told = λ w c m n. omega (arith, one.told w c m n, two.told w (first w c m).0 (first w c m).1 n);
@@ -94,28 +100,31 @@ module _ {first second : Meaning} {early late : Frame} where
 
 -- ---- a phase in which nobody starves: men and items
 
--- a unit with exactly its men
+-- the unit has the same faction and exactly its men
 pub record HasItsMen (before after : Unit) : Type 0 where
   pub faction : after.faction ≡ before.faction
   pub men : after.holding.men ≡ before.holding.men
 
--- each unit has
+-- each unit is there after, and has exactly its men
 abbrev pub HaveTheirMen : CampaignValue → CampaignValue → Type 0
 HaveTheirMen before after = Every (λ n u. IsUnaffected HasItsMen after n u) before.units
 
+-- all units of a campaign have their men in it
 pub men_stay : (c : CampaignValue) → HaveTheirMen c c
 men_stay c n u there = record { unit = u; there = there; spared = record { faction = refl; men = refl } }
 
+-- units that have their men after each of two changes have them after both
 pub men_twice : (a b c : CampaignValue) → HaveTheirMen a b → HaveTheirMen b c → HaveTheirMen a c
 men_twice a b c one two n u there =
     let x = one n u there in
     let y = two n x.unit x.there in
     record { unit = y.unit; there = y.there; spared = record { faction = y.spared.faction ∙ x.spared.faction; men = y.spared.men ∙ x.spared.men } }
 
+-- units that stay as they are have their men
 pub men_same : (c d : CampaignValue) → d.units ≡ c.units → HaveTheirMen c d
 men_same c d same n u there = record { unit = u; there = ap (λ (m : FinMap nat_cmp Unit). get m n) same ∙ there; spared = record { faction = refl; men = refl } }
 
--- a unit changes, and keeps its men
+-- all units have their men after a change of one of them that keeps its men
 pub men_changed : (f : Unit → Unit) → ((u : Unit) → HasItsMen u (f u)) → (c d : CampaignValue) (k : ℕ) → d.units ≡ changed f c.units k → HaveTheirMen c d
 men_changed f stay c d k same n u there =
     record { unit = at_number f c.units k n u; there = ap (λ (m : FinMap nat_cmp Unit). get m n) same ∙ get-changed f c.units k n ∙ ap (option_map (at_number f c.units k n)) there; spared = by_number (n == k) }
@@ -124,7 +133,7 @@ men_changed f stay c d k same n u there =
     by_number true = stay u
     by_number false = record { faction = refl; men = refl }
 
--- a unit is put back, with its men
+-- all units have their men after one is replaced by one with its men
 pub men_put : (c d : CampaignValue) (k : ℕ) (v x : Unit) → get c.units k ≡ Some v → HasItsMen v x → d.units ≡ insert c.units k x → HaveTheirMen c d
 men_put c d k v x here stay same n u there = elim (cases_eq n k) [
   | inl own ↦
@@ -134,28 +143,30 @@ men_put c d k v x here stay same n u there = elim (cases_eq n k) [
       record { unit = u; there = ap (λ (m : FinMap nat_cmp Unit). get m n) same ∙ get-insert_other c.units k n x apart ∙ there; spared = record { faction = refl; men = refl } }
 ]
 
--- steps in turn, each of which keeps the men
+-- all units have their men after steps each of which keeps them
 pub men_in_turn : {X : Type 0} (step : CampaignValue → X → CampaignValue) → ((c : CampaignValue) (x : X) → HaveTheirMen c (step c x)) → (c : CampaignValue) (xs : List X) → HaveTheirMen c (fold step c xs)
 men_in_turn step each c [] = men_stay c
 men_in_turn step each c (x ∷ xs) = men_twice c (step c x) (fold step (step c x) xs) (each c x) (men_in_turn step each (step c x) xs)
 
--- with a fault nothing changes
+-- all units have their men after an order, if they have where it has no fault
 pub men_unless : (c d : CampaignValue) (o : Outcome) (fault : Option EventFault) → HaveTheirMen c d → HaveTheirMen c (unless c fault (d, o)).0
 men_unless c d o (Some fault) h = men_stay c
 men_unless c d o None h = h
 
--- a unit with its name and no less of any item
+-- the unit has its name, and no less of any item
 pub record HasItsItems (before after : Unit) : Type 0 where
   pub name : after.holding.name ≡ before.holding.name
   pub items : (i : ℕ) → amount_of before.holding.items i ≤ amount_of after.holding.items i
 
+-- a unit that is no worse off has its name and items
 pub items_of_no_worse : (u v : Unit) → IsNoWorse u v → HasItsItems u v
 items_of_no_worse u v h = record { name = h.name; items = h.items }
 
--- what is so of each unit whose faction sent no mailing
+-- `spares` holds of each unit whose faction sent no mailing
 abbrev pub UnmailedAre : Unaffected → MonthValue → CampaignValue → CampaignValue → Type 0
 UnmailedAre spares m before after = Every (λ n u. get m.readings u.faction ≡ None → IsUnaffected spares after n u) before.units
 
+-- a unit with exactly its men, its name and its items has 0 men less
 whole : (x y : ℕ) (u v : Unit) → y ≡ x → HasItsMen u v → HasItsItems u v → IsLessBy (y - x) u v
 whole x y u v same men items = record { faction = men.faction; name = items.name; men = nobody u.holding.men v.holding.men men.men; items = items.items }
   where
@@ -166,6 +177,8 @@ module _ {meaning : Meaning} {keeps : Frame} (readings : (w : WorldValue) (c : C
     (nobody : (w : WorldValue) (c : CampaignValue) (m : MonthValue) (n : ℕ) → starved_in (meaning w c m).1.events n ≡ starved_in m.events n)
     (men : (w : WorldValue) (c : CampaignValue) (m : MonthValue) → keeps w m c (meaning w c m).0 → UnmailedAre HasItsMen m c (meaning w c m).0)
     (items : (w : WorldValue) (c : CampaignValue) (m : MonthValue) → keeps w m c (meaning w c m).0 → UnmailedAre HasItsItems m c (meaning w c m).0) where
+  -- A phase in which nobody starves leaves the units of factions without a mailing, if it keeps the mailings,
+  -- and these units keep their men and items.
   pub whole_leaves : LeavesUnmailed meaning keeps
   whole_leaves = record {
     readings = readings;
@@ -179,13 +192,13 @@ module _ {meaning : Meaning} {keeps : Frame} (readings : (w : WorldValue) (c : C
 
 -- ---- a phase whose orders are carried out one by one
 
--- no order of a phase is of a faction that sent no mailing
+-- a faction that sent no mailing wrote none of the orders of a phase
 pub none_ordered : (is_of : Verb → Bool) (arrangement : Arrangement) (m : MonthValue) (f : ℕ) → get m.readings f ≡ None → All (λ t. t.faction ≢ f) (values (orders_of is_of arrangement m.aliases m.readings))
 none_ordered is_of arrangement m f none k d l same =
     let h = orders_are_in_mailings is_of arrangement m.aliases m.readings k d l in
     none_some h.reading (sym none ∙ ap (get m.readings) (sym same) ∙ h.of_faction)
 
--- what came of an order tells of nobody who starved
+-- the event of an order says of nobody that they starved
 pub told_of_order : (events : List Event) (t : Task) (outcome : Outcome) (n : ℕ) → starved_in (events ++ event_for t outcome ∷ []) n ≡ starved_in events n
 told_of_order events t outcome n =
     sum_by_push (λ (e : Event). if e.unit == n then men_starved_by e.verb e.outcome else 0) events (event_for t outcome) ∙ by_unit (t.unit == n) (starved_in events n)
@@ -194,21 +207,24 @@ told_of_order events t outcome n =
     by_unit true x = omega arith
     by_unit false x = omega arith
 
--- units of other factions than this one have their men
+-- each unit of another faction than this one is there after, and has exactly its men
 abbrev pub OthersHaveMen : (faction : ℕ) → CampaignValue → CampaignValue → Type 0
 OthersHaveMen f c d = Every (λ n u. f ≢ u.faction → IsUnaffected HasItsMen d n u) c.units
 
+-- where all units have their men, those of other factions have
 pub others_men : (f : ℕ) (c d : CampaignValue) → HaveTheirMen c d → OthersHaveMen f c d
 others_men f c d men n u there other = men n u there
 
--- behind an order each unit of another faction than the one that wrote it has its men
+-- the step leaves each unit of another faction than the order's its men
 abbrev pub SparesMen : OrderMeaning → Type 0
 SparesMen step = (w : WorldValue) (a : Aliases) (c : CampaignValue) (t : Task) (x : Unit) → IsUnitOf c t x → IfSome (step w a t) (λ deed. OthersHaveMen t.faction c (deed c x).0)
 
 module _ (step : OrderMeaning) where
+  -- an order leaves units of other factions than the one that wrote it their men
   order_spares : SparesMen step → (w : WorldValue) (a : Aliases) (c : CampaignValue) (t : Task) → OthersHaveMen t.faction c (order_result (step w a t) c t.faction t.unit).0
   order_spares spares w a c t = ordered_cases (OthersHaveMen t.faction c) (step w a t) c t (others_men t.faction c c (men_stay c)) (λ x own. spares w a c t x own)
 
+  -- orders of other factions leave a unit its men
   orders_spare : SparesMen step → (w : WorldValue) (c : CampaignValue) (m : MonthValue) (ts : List Task) → (n : ℕ) (u : Unit) → get c.units n ≡ Some u → AllByRecursion (λ t. t.faction ≢ u.faction) ts → IsUnaffected HasItsMen (fold (one_order step w) (c, m) ts).0 n u
   orders_spare spares w c m [] n u there others = men_stay c n u there
   orders_spare spares w c m (t ∷ ts) n u there others =
@@ -217,10 +233,12 @@ module _ (step : OrderMeaning) where
       let two = orders_spare spares w next.0 next.1 ts n one.unit one.there (subst (λ f. AllByRecursion (λ t. t.faction ≢ f) ts) (sym one.spared.faction) others.1) in
       record { unit = two.unit; there = two.there; spared = record { faction = two.spared.faction ∙ one.spared.faction; men = two.spared.men ∙ one.spared.men } }
 
+  -- orders leave the readings as they are
   orders_readings : (w : WorldValue) (p : CampaignValue × MonthValue) (ts : List Task) → (fold (one_order step w) p ts).1.readings ≡ p.1.readings
   orders_readings w p [] = refl
   orders_readings w p (t ∷ ts) = orders_readings w (one_order step w p t) ts ∙ order_readings step w p t
 
+  -- an order says of nobody that they starved
   order_told : (w : WorldValue) (p : CampaignValue × MonthValue) (t : Task) (n : ℕ) → starved_in (one_order step w p t).1.events n ≡ starved_in p.1.events n
   order_told w p t n = by_outcome (order_result (step w p.1.aliases t) p.0 t.faction t.unit).1
     where
@@ -228,34 +246,41 @@ module _ (step : OrderMeaning) where
       by_outcome None = refl
       by_outcome (Some outcome) = told_of_order p.1.events t outcome n
 
+  -- orders say of nobody that they starved
   orders_told : (w : WorldValue) (p : CampaignValue × MonthValue) (ts : List Task) (n : ℕ) → starved_in (fold (one_order step w) p ts).1.events n ≡ starved_in p.1.events n
   orders_told w p [] n = refl
   orders_told w p (t ∷ ts) n = orders_told w (one_order step w p t) ts n ∙ order_told w p t n
 
   module _ (is_of : Verb → Bool) where
+    -- a phase that carries out its orders one by one keeps the readings
     pub carried_readings : (w : WorldValue) (c : CampaignValue) (m : MonthValue) → (meaning_by_orders step is_of w c m).1.readings ≡ m.readings
     unfolding meaning_by_orders
     carried_readings w c m = orders_readings w (c, m) (values (orders_of is_of ByUnit m.aliases m.readings))
 
+    -- nobody starves in it
     pub carried_told : (w : WorldValue) (c : CampaignValue) (m : MonthValue) (n : ℕ) → starved_in (meaning_by_orders step is_of w c m).1.events n ≡ starved_in m.events n
     unfolding meaning_by_orders
     carried_told w c m n = orders_told w (c, m) (values (orders_of is_of ByUnit m.aliases m.readings)) n
 
+    -- it leaves units of factions without a mailing their men, if its step spares men
     pub carried_men : SparesMen step → (w : WorldValue) (c : CampaignValue) (m : MonthValue) → UnmailedAre HasItsMen m c (meaning_by_orders step is_of w c m).0
     unfolding meaning_by_orders
     carried_men spares w c m n u there none =
         let ts = values (orders_of is_of ByUnit m.aliases m.readings) in
         orders_spare spares w c m ts n u there (recursion_from_All (λ t. t.faction ≢ u.faction) ts (none_ordered is_of ByUnit m u.faction none))
 
+    -- so it leaves the units of factions without a mailing, if it leaves them their items
     pub carried_leaves : {keeps : Frame} → SparesMen step → ((w : WorldValue) (c d : CampaignValue) (m : MonthValue) → keeps w m c d → UnmailedAre HasItsItems m c d) → LeavesUnmailed (meaning_by_orders step is_of) keeps
     carried_leaves {keeps} spares items =
         whole_leaves {meaning = meaning_by_orders step is_of} {keeps = keeps} carried_readings carried_told
         (λ w c m h. carried_men spares w c m) (λ w c m h. items w c (meaning_by_orders step is_of w c m).0 m h)
 
+-- an order that is a unit's own is written by its faction
 pub own_faction : (t : Task) (n f : ℕ) → IsOwnOrder t n f → t.faction ≡ f
 own_faction t n f h = h.faction
 
--- a phase that spares those whom no order of it concerns spares them, where only orders of its own faction concern a unit
+-- A phase that spares units which no order concerns leaves units of factions without a mailing their items,
+-- if only orders of a unit's own faction concern it.
 pub unmailed_spared : {concerns : Affects} {spares : Unaffected} (is_of : Verb → Bool) → ((t : Task) (n f : ℕ) → concerns t n f → t.faction ≡ f) → ((u v : Unit) → spares u v → HasItsItems u v)
     → (w : WorldValue) (c d : CampaignValue) (m : MonthValue) → spares_others concerns spares is_of w m c d → UnmailedAre HasItsItems m c d
 unmailed_spared {concerns} {spares} is_of own items w c d m h n u there none =

@@ -37,16 +37,18 @@ use Rattle.atl_instant.proofs.GiveLaws.{give_cases}
 use Rattle.atl_instant.proofs.MovingLaws.{moved, receiver_still}
 use Rattle.atl_instant.proofs.QuitLaws.{all_left_others}
 use Rattle.atl_instant.proofs.StructureLaws.{handed_is}
-use Rattle.atl_instant.proofs.PhaseSpecLaws.{Leaves}
+use Rattle.atl_instant.proofs.PhaseSpecLaws.{PhaseLeavesUnmailed}
 use Rattle.atl_instant.proofs.TransferLaws.{transfer_cases}
 use Rattle.atl_instant.proofs.UnmailedLaws.{HasItsMen, HaveTheirMen, LeavesUnmailed, OthersHaveMen, SparesMen, carried_leaves, items_of_no_worse, men_changed, men_put, men_same, men_stay, men_twice, men_unless, others_men, own_faction, told_of_order, unmailed_spared, whole_leaves}
 
 -- ---- FORM
 
+-- FORM keeps the readings
 form_readings : (p : CampaignValue × MonthValue) (ts : List Task) → (fold form_order p ts).1.readings ≡ p.1.readings
 form_readings p [] = refl
 form_readings p (t ∷ ts) = form_readings (form_order p t) ts
 
+-- nobody starves in FORM
 form_told : (p : CampaignValue × MonthValue) (ts : List Task) (n : ℕ) → starved_in (fold form_order p ts).1.events n ≡ starved_in p.1.events n
 form_told p [] n = refl
 form_told p (t ∷ ts) n = form_told (form_order p t) ts n ∙ told_of_order p.1.events t (form_by p.0 t.faction t.unit).1 n
@@ -62,18 +64,22 @@ form_leaves =
 
 -- ---- NAME and GUARD 0
 
+-- a unit keeps its men when its flag changes
 flag_men : (flag : Bool) (u : Unit) → HasItsMen u (record u { holding = record u.holding { guard = flag } })
 flag_men flag u = record { faction = refl; men = refl }
 
+-- a unit whose guard flag is set or cleared keeps its men
 pub guard_men : (c : CampaignValue) (n : ℕ) (flag : Bool) → HaveTheirMen c (with_guard c n flag)
 guard_men c n flag = men_changed (λ u. record u { holding = record u.holding { guard = flag } }) (flag_men flag) c (with_guard c n flag) n refl
 
+-- NAME leaves all units their men, whatever it names
 named_men : (w : WorldValue) (c : CampaignValue) (n f s : ℕ) (what : NameKind) (name : List ℕ) → HaveTheirMen c (name_result w c n f s what name).0
 named_men w c n f s kinds.Unit name = men_changed (λ u. record u { holding = record u.holding { name = name } }) (λ u. record { faction = refl; men = refl }) c (name_result w c n f s kinds.Unit name).0 n refl
 named_men w c n f s kinds.Faction name = men_same c (name_result w c n f s kinds.Faction name).0 refl
 named_men w c n f s kinds.Building name = men_unless c (with_structure_name c s name) (Done 0) _ (men_same c (with_structure_name c s name) refl)
 named_men w c n f s kinds.Ship name = men_unless c (with_structure_name c s name) (Done 0) _ (men_same c (with_structure_name c s name) refl)
 
+-- an order of NAME or GUARD 0 leaves units of other factions their men
 name_men : (w : WorldValue) (c : CampaignValue) (f n : ℕ) (x : Unit) (o : OperandsValue) → IfSome (name_effect w n o) (λ deed. OthersHaveMen f c (deed c x).0)
 name_men w c f n x (operands.Name what name) = others_men f c (naming w n what name c x).0 (named_men w c n x.faction x.structure what name)
 name_men w c f n x (operands.Flag false) = others_men f c (with_guard c n false) (guard_men c n false)
@@ -82,15 +88,16 @@ name_men w c f n x other = tt
 name_spares : SparesMen name_step
 name_spares w a c t x own = name_men w c t.faction t.unit x t.order_value.operands
 
-pub name_leaves : Leaves name_spec
+pub name_leaves : PhaseLeavesUnmailed name_spec
 name_leaves = carried_leaves name_step is_naming name_spares (unmailed_spared {concerns = name_concerns} is_naming (λ t n f h. own_faction t n f h.0) items_of_no_worse)
 
 -- ---- LEAVE, ENTER and PROMOTE
 
+-- a handover of a structure leaves all units their men
 handed_men : (c : CampaignValue) (s from to : ℕ) → HaveTheirMen c (after_handover c s from to)
 handed_men c s from to = men_same c (after_handover c s from to) (ap (λ (d : CampaignValue). d.units) (handed_is c s from to))
 
--- a unit goes to another place
+-- a unit that goes elsewhere keeps its men
 pub place_men : (c : CampaignValue) (n r s : ℕ) → HaveTheirMen c (with_place c n r s)
 unfolding with_place
 place_men c n r s = by_unit (get c.units n)
@@ -111,10 +118,12 @@ place_men c n r s = by_unit (get c.units n)
     by_unit None = men_stay c
     by_unit (Some u) = by_test u (u.structure == s)
 
+-- ENTER leaves all units their men
 entered_men : (c : CampaignValue) (n region s : ℕ) (b : Bool) → HaveTheirMen c (if b then c else with_place c n region s)
 entered_men c n region s true = men_stay c
 entered_men c n region s false = place_men c n region s
 
+-- an order of LEAVE, ENTER or PROMOTE leaves units of other factions their men
 places_men : (w : WorldValue) (a : Aliases) (c : CampaignValue) (f n : ℕ) (x : Unit) (o : OperandsValue) → IfSome (place_effect w a f n o) (λ deed. OthersHaveMen f c (deed c x).0)
 unfolding leave enter promote
 places_men w a c f n x operands.Nothing = others_men f c (leave w n c x).0 (men_unless c (with_place c n x.region 0) (Done 0) (leave_fault w x) (place_men c n x.region 0))
@@ -128,16 +137,17 @@ places_men w a c f n x other = tt
 place_spares : SparesMen place_step
 place_spares w a c t x own = places_men w a c t.faction t.unit x t.order_value.operands
 
-pub place_leaves : Leaves place_spec
+pub place_leaves : PhaseLeavesUnmailed place_spec
 place_leaves = carried_leaves place_step is_placing place_spares (unmailed_spared is_placing own_faction items_of_no_worse)
 
 -- ---- GIVE and PAY
 
+-- a unit keeps its men with another amount of the gift
 gift_men : (gift : Gift) (v : Unit) (n : ℕ) → HasItsMen v (record v { holding = with_held_of gift v.holding n })
 gift_men Money v n = record { faction = refl; men = refl }
 gift_men (Item i) v n = record { faction = refl; men = refl }
 
--- what goes from one unit to another, of whom both keep their men
+-- a move from one unit to another leaves all units their men, if both keep theirs
 men_moved : (c : CampaignValue) (from to : ℕ) (u v : Unit) (h k : HoldingValue) (giver : get c.units from ≡ Some u) (receiver : get c.units to ≡ Some v) (apart : to ≢ from)
     → HasItsMen u (record u { holding = h }) → HasItsMen v (record v { holding = k }) → HaveTheirMen c (moved c from to u v h k giver receiver apart)
 men_moved c from to u v h k giver receiver apart one two =
@@ -145,6 +155,7 @@ men_moved c from to u v h k giver receiver apart one two =
     men_twice c between (with_held between to k (Some v)) (men_put c between from u (record u { holding = h }) giver one refl)
     (men_put between (with_held between to k (Some v)) to v (record v { holding = k }) (receiver_still c from to u v h k giver receiver apart) two refl)
 
+-- a gift leaves all units their men
 give_men : (c : CampaignValue) (from to : ℕ) (gift : Gift) (n : ℕ) (u : Unit) → get c.units from ≡ Some u → HaveTheirMen c (give from to gift n c u).0
 give_men c from to gift n u giver =
     give_cases (HaveTheirMen c) c from to gift n u giver (men_stay c)
@@ -152,6 +163,7 @@ give_men c from to gift n u giver =
     men_moved c from to u v (with_held_of gift u.holding (held_of gift u.holding - n)) (with_held_of gift v.holding (held_of gift v.holding + n)) giver receiver apart
     (gift_men gift u (held_of gift u.holding - n)) (gift_men gift v (held_of gift v.holding + n)))
 
+-- an order of GIVE or PAY leaves units of other factions their men
 given_men : (a : Aliases) (c : CampaignValue) (f from : ℕ) (x : Unit) → get c.units from ≡ Some x → (o : OperandsValue) → IfSome (give_effect a f from o) (λ deed. OthersHaveMen f c (deed c x).0)
 given_men a c f from x here (operands.UnitAndGoods to n item) = others_men f c (give from (unit_of a f to) (Item item) n c x).0 (give_men c from (unit_of a f to) (Item item) n x here)
 given_men a c f from x here (operands.UnitAndNumber to n) = others_men f c (give from (unit_of a f to) Money n c x).0 (give_men c from (unit_of a f to) Money n x here)
@@ -160,11 +172,12 @@ given_men a c f from x here other = tt
 give_spares : SparesMen give_step
 give_spares w a c t x own = given_men a c t.faction t.unit x own.there t.order_value.operands
 
-pub give_leaves : Leaves give_spec
+pub give_leaves : PhaseLeavesUnmailed give_spec
 give_leaves = carried_leaves give_step is_giving give_spares (unmailed_spared is_giving own_faction items_of_no_worse)
 
 -- ---- TRANSFER
 
+-- a transfer leaves units of other factions their men
 transfer_others : (c : CampaignValue) (from to n : ℕ) (x : Unit) → get c.units from ≡ Some x → OthersHaveMen x.faction c (transfer from to n c x).0
 transfer_others c from to n x here =
     transfer_cases (OthersHaveMen x.faction c) c from to n x here (others_men x.faction c c (men_stay c))
@@ -182,6 +195,7 @@ transfer_others c from to n x here =
     same_unit : (k : ℕ) (y z : Unit) → get c.units k ≡ Some y → get c.units k ≡ Some z → y ≡ z
     same_unit k y z one two = let both : Some y ≡ Some z = sym one ∙ two in cc
 
+-- an order of TRANSFER leaves units of other factions their men
 transferred : (a : Aliases) (c : CampaignValue) (t : Task) (x : Unit) → IsUnitOf c t x → (o : OperandsValue) → IfSome (transfer_effect a t.faction t.unit o) (λ deed. OthersHaveMen t.faction c (deed c x).0)
 transferred a c t x own (operands.UnitAndNumber to n) = λ k y there other. transfer_others c t.unit (unit_of a t.faction to) n x own.there k y there (λ same. other (sym own.faction ∙ same))
 transferred a c t x own o = tt
@@ -189,15 +203,17 @@ transferred a c t x own o = tt
 transfer_spares : SparesMen transfer_step
 transfer_spares w a c t x own = transferred a c t x own t.order_value.operands
 
-pub transfer_leaves : Leaves transfer_spec
+pub transfer_leaves : PhaseLeavesUnmailed transfer_spec
 transfer_leaves = carried_leaves transfer_step is_transferring transfer_spares (unmailed_spared is_transferring own_faction items_of_no_worse)
 
 -- ---- GUARD 1
 
+-- beginning to guard leaves all units their men
 guarding_men : (c : CampaignValue) (n : ℕ) (u : Unit) → HaveTheirMen c (guard n c u).0
 unfolding guard
 guarding_men c n u = men_unless c (with_guard c n true) (Done 0) (guard_fault c u) (guard_men c n true)
 
+-- an order of GUARD 1 leaves units of other factions their men
 guarded_men : (c : CampaignValue) (f n : ℕ) (x : Unit) (o : OperandsValue) → IfSome (guard_effect n o) (λ deed. OthersHaveMen f c (deed c x).0)
 guarded_men c f n x (operands.Flag true) = others_men f c (guard n c x).0 (guarding_men c n x)
 guarded_men c f n x other = tt
@@ -205,11 +221,12 @@ guarded_men c f n x other = tt
 guard_spares : SparesMen guard_step
 guard_spares w a c t x own = guarded_men c t.faction t.unit x t.order_value.operands
 
-pub guard_leaves : Leaves guard_spec
+pub guard_leaves : PhaseLeavesUnmailed guard_spec
 guard_leaves = carried_leaves guard_step is_guarding guard_spares (unmailed_spared {concerns = guard_concerns} is_guarding (λ t n f h. own_faction t n f h.0) items_of_no_worse)
 
 -- ---- QUIT
 
+-- a faction that quits leaves units of other factions their men
 quit_others : (c : CampaignValue) (number : ℕ) (x : Unit) → OthersHaveMen x.faction c (quit number c x).0
 unfolding quit
 quit_others c number x k y there other = by_fault (quit_fault number x)
@@ -225,6 +242,7 @@ quit_others c number x k y there other = by_fault (quit_fault number x)
     by_fault (Some fault) = men_stay c k y there
     by_fault None = record { unit = y; there = all_left_others c (numbers_of x.faction c.units) k stays ∙ there; spared = record { faction = refl; men = refl } }
 
+-- an order of QUIT leaves units of other factions their men
 quitted : (c : CampaignValue) (t : Task) (x : Unit) → IsUnitOf c t x → (o : OperandsValue) → IfSome (quit_effect o) (λ deed. OthersHaveMen t.faction c (deed c x).0)
 quitted c t x own (operands.Number number) = λ k y there other. quit_others c number x k y there (λ same. other (sym own.faction ∙ same))
 quitted c t x own o = tt

@@ -22,56 +22,58 @@ use Rattle.atl_instant.specs.PhaseOrders.{Task}
 use Rattle.atl_instant.specs.Quit.{loss_entry}
 use Rattle.atl_instant.specs.Unbooked.{moves_nothing}
 
--- ---- how far the books may be moved
+-- ---- by how much the amounts of the books may move
 
--- so many steps, each of which may move the amounts so far
+-- the bound on the books of a number of steps, each of which moves the amounts by at most this bound
 abbrev pub moved_times : ℕ → BookBound → BookBound
 moved_times steps moving e t = steps * moving e t
 
--- no amount ever passes this in size
+-- the greatest size of an amount of the books, above or below 0: 9*10^18 + 99999999999999
 abbrev pub amount_limit : ℕ
 amount_limit = 9000000000000000000 + most_moved
 
--- an amount that may still be moved so far
+-- an amount that can move by `most`, up or down, without passing `amount_limit` in size
 pub record HasRoom (most : ℕ) (amount : ℤ) : Type 0 where
   pub above : (amount +ℤ pos most) ≤ℤ pos amount_limit
   pub below : pos most ≤ℤ (amount +ℤ pos amount_limit)
 
--- each amount of the books may: so it is where none passes 9*10^18 in size
+-- each amount of the books can move as far as its bound says without passing `amount_limit` in size
 abbrev pub HaveRoom : BookBound → CampaignValue → Type 0
 HaveRoom moving c = (e : Entry) (t : Thing) → HasRoom (moving e t) (amount_in c.books e t)
 
--- by how much the amounts of the books may still be moved, from a campaign on
+-- by how much each amount of the books may still be moved, as a function of the campaign so far
 abbrev pub RemainingBound : Type 0
 RemainingBound = CampaignValue → BookBound
 
--- an amount moves by what its reserve shrinks, at most
+-- an amount moves, up or down, by at most what its remaining bound falls: from `reserve` to `left`
 pub record UsesBound (reserve left : ℕ) (before after : ℤ) : Type 0 where
   pub above : (after +ℤ pos left) ≤ℤ (before +ℤ pos reserve)
   pub below : (before +ℤ pos left) ≤ℤ (after +ℤ pos reserve)
 
 -- ---- the step of one order
 
--- The campaign holds what it held and is of the same month, the books balance where they did before, and no amount of them moves further
--- than its reserve shrinks.
+-- After a step `holds` is so of the campaign, it is of the same month, and the books balance where they did before.
+-- No amount of the books moves further than its remaining bound falls.
 pub record StepsWell (holds : Condition) (reserve : RemainingBound) (w : WorldValue) (before after : CampaignValue) : Type 0 where
   pub holds_still : holds w after
   pub same_month : IsSameMonth before after
   pub balances : Balances before → Balances after
   pub drawn : (e : Entry) (t : Thing) → UsesBound (reserve before e t) (reserve after e t) (amount_in before.books e t) (amount_in after.books e t)
 
--- it stays as it is, or comes of two changes, and the unit's faction stays
+-- `spares` is reflexive and transitive, and relates only units of the same faction
 pub record IsUnaffectedRelation (spares : Unaffected) : Type 0 where
   pub same : (u : Unit) → spares u u
   pub again : (u v x : Unit) → spares u v → spares v x → spares u x
   pub faction : (u v : Unit) → spares u v → v.faction ≡ u.faction
 
--- the unit that an order is for, of the faction that wrote it
+-- unit u is there under the number that an order is for, and is of the faction that wrote the order
 pub record IsUnitOf (c : CampaignValue) (t : Task) (u : Unit) : Type 0 where
   pub there : get c.units t.unit ≡ Some u
   pub faction : u.faction ≡ t.faction
 
--- a phase that carries its orders out one by one: what has to be shown of its step
+-- What has to be shown of the step of a phase that carries its orders out one by one.
+-- Each order steps well, and leaves units that it doesn't concern as `spares` says.
+-- No remaining bound is above the bound of the phase.
 pub record IsOrderly (step : OrderMeaning) (holds : Condition) (reserve : RemainingBound) (moving : BookBound) (concerns : Affects) (spares : Unaffected) : Type 0 where
   pub well : (w : WorldValue) (a : Aliases) (c : CampaignValue) (t : Task) (x : Unit) → holds w c → IsOrderOf w t.order_value → IsUnitOf c t x →
       IfSome (step w a t) (λ deed. StepsWell holds reserve w c (deed c x).0)
@@ -82,19 +84,19 @@ pub record IsOrderly (step : OrderMeaning) (holds : Condition) (reserve : Remain
 
 -- ---- what is left of the bounds of single phases
 
--- nothing may be moved
+-- the remaining bound of a phase that books nothing: 0 for each amount
 abbrev pub books_nothing : RemainingBound
 books_nothing c = moves_nothing
 
--- so much of some items
+-- the bound on the books for a list of items with their amounts, each booked as lost
 abbrev pub moving_items : List (ℕ × ℕ) → BookBound
 moving_items [] e t = 0
 moving_items (x ∷ xs) e t = moves_only x.1 Lost (Item x.0) e t + moving_items xs e t
 
--- what is booked of a thing under an entry as all that is held goes
+-- how much of a thing is booked under an entry when a unit leaves with all that it holds
 abbrev pub loss_under : Entry → Thing → HoldingValue → ℕ
 loss_under e t h = if entry_index e == entry_index (loss_entry t) then unit_amount t h else 0
 
--- no more than all units hold
+-- the remaining bound of QUIT: what all units hold of a thing, under the entry for its loss
 abbrev pub quit_reserve : RemainingBound
 quit_reserve c e t = sum_over (λ u. loss_under e t u.holding) c.units

@@ -23,21 +23,22 @@ use Rattle.atl_instant.specs.OrderEffects.{event_for, is_of_faction}
 use Rattle.atl_instant.specs.declared.phase_order.Arrangement.TheVariants.{ByFaction}
 use Rattle.atl_instant.specs.PhaseSpecs.{PhaseSpec, books_none}
 
+-- whether a verb is FORM
 abbrev pub is_forming : Verb → Bool
 is_forming verbs.Form = true
 is_forming verb = false
 
 -- ---- one order
 
--- no further unit can come: the most that may stand do, or the last number is given
+-- whether no further unit can be formed: there are 100,000 units, or the last unit number is given
 abbrev pub is_unit_limit : CampaignValue → Bool
 is_unit_limit c = nat_le most_units (len c.units) || nat_lt last_unit c.next_unit
 
--- why a faction's order for a unit forms none
+-- the fault of an order of FORM from faction f for unit n: NotYours or UnitLimit; None where it has none
 abbrev pub form_fault : CampaignValue → (f n : ℕ) → Option EventFault
 form_fault c f n = first_fault ((not (is_of_faction f (get c.units n)), NotYours) ∷ (is_unit_limit c, UnitLimit) ∷ [])
 
--- a new unit, with a name and nothing else
+-- a new unit, named `Unit` and its number, without men, money, items, days or guard flag
 abbrev pub new_unit : (number faction region structure : ℕ) → Unit
 new_unit number faction region structure = record {
   faction = faction;
@@ -46,39 +47,42 @@ new_unit number faction region structure = record {
   holding = record { name = codes "Unit " ++ decimal number; men = 0; money = 0; guard = false; items = empty; days = empty };
 }
 
--- a unit of a faction forms one of its faction, where it is itself
+-- the campaign with a new unit of faction f, in the region of unit n and inside the same structure
 abbrev pub with_formed_unit : CampaignValue → (f n : ℕ) → CampaignValue
 with_formed_unit c f n = with_unit_begun c (new_unit c.next_unit f (region_of c n) (inside c n))
 
--- what an order makes of a campaign, and what came of it
+-- the campaign and the outcome after an order of FORM from faction f for unit n
 abbrev pub form_by : CampaignValue → (f n : ℕ) → CampaignValue × Outcome
 form_by c f n = unless c (form_fault c f n) (with_formed_unit c f n, Done c.next_unit)
 
 -- ---- the phase
 
--- the alias that an order gives
+-- the alias that an order of FORM gives; 0 for operands of any other form
 abbrev pub alias_of : OperandsValue → ℕ
 alias_of (operands.Alias alias) = alias
 alias_of order = 0
 
--- a unit that was formed stands under the alias
+-- the aliases after an order of FORM: if it is Done, the new unit has the alias
 abbrev pub aliases_after : Aliases → (f alias : ℕ) → Outcome → Aliases
 aliases_after aliases f alias (Done number) = with_alias aliases f alias number
 aliases_after aliases f alias outcome = aliases
 
+-- the campaign after an order of FORM, and the month with its event, and with its alias if a unit was formed
 abbrev pub with_form_result : MonthValue → Task → CampaignValue × Outcome → CampaignValue × MonthValue
 with_form_result m t (c, outcome) = (c, record m { aliases = aliases_after m.aliases t.faction (alias_of t.order_value.operands) outcome; events = m.events ++ event_for t outcome ∷ [] })
 
+-- the campaign and the month after one order of FORM
 abbrev pub form_order : CampaignValue × MonthValue → Task → CampaignValue × MonthValue
 form_order (c, m) t = with_form_result m t (form_by c t.faction t.unit)
 
--- by faction and line
+-- the effect of the phase: all orders of FORM, carried out by faction and then by line
 unfoldable pub form_meaning : Meaning
 form_meaning w c m = fold form_order (c, m) (values (orders_of is_forming ByFaction m.aliases m.readings))
 
--- each unit stays as it is
+-- what the phase keeps: each unit that was there is there as it was
 abbrev pub form_keeps : Frame
 form_keeps w m before after = Every (λ n u. get after.units n ≡ Some u) before.units
 
+-- the specification of the phase of FORM, which moves no amount of the books
 abbrev pub form_spec : PhaseSpec
 form_spec = books_none form_meaning form_keeps

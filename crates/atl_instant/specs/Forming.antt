@@ -1,4 +1,4 @@
--- For proofs alone: the orders of FORM apart from the month, which gets aliases as they are carried out.
+-- For proofs alone: the orders of FORM as copies outside of the month, which the code makes before it carries them out.
 use Rattle.std.specs.Prelude.{◌++◌, [], ◌∷◌}
 use Rattle.atl_records.specs.declared.event.Event.{Event}
 use Rattle.atl_records.specs.declared.event.EventVerb.TheVariants.{Order}
@@ -9,15 +9,18 @@ use Rattle.atl_instant.specs.Form.{alias_of, aliases_after, form_by}
 use Rattle.atl_instant.specs.Month.{MonthValue}
 use Rattle.atl_instant.specs.PhaseOrders.{Task}
 
+-- the copy of an order of FORM: its unit, line, faction, verb and alias
 abbrev pub forming_of : Task → Forming
 forming_of t = record { unit = t.unit; line = t.line; faction = t.faction; verb = t.order_value.verb; alias = alias_of t.order_value.operands }
 
+-- the event of a copied order, with its outcome
 abbrev pub forming_event : Forming → Outcome → Event
 forming_event o outcome = record { faction = o.faction; unit = o.unit; line = o.line; verb = Order o.verb; outcome = outcome }
 
+-- the campaign after a copied order, and the month with its event, and with its alias if a unit was formed
 abbrev pub with_forming_result : MonthValue → Forming → CampaignValue × Outcome → CampaignValue × MonthValue
 with_forming_result m o (c, outcome) = (c, record m { aliases = aliases_after m.aliases o.faction o.alias outcome; events = m.events ++ forming_event o outcome ∷ [] })
 
--- what such an order makes of a campaign and a month
+-- the campaign and the month after one copied order of FORM
 abbrev pub form_apart : CampaignValue × MonthValue → Forming → CampaignValue × MonthValue
 form_apart (c, m) o = with_forming_result m o (form_by c o.faction o.unit)

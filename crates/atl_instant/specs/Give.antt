@@ -23,6 +23,7 @@ use Rattle.atl_instant.specs.declared.give.Gift.{Gift}
 use Rattle.atl_instant.specs.declared.give.Gift.TheVariants.{Item, Money}
 use Rattle.atl_instant.specs.PhaseSpecs.{PhaseSpec, goes_by_orders}
 
+-- whether a verb is GIVE or PAY
 abbrev pub is_giving : Verb → Bool
 is_giving verbs.Give = true
 is_giving verbs.Pay = true
@@ -30,18 +31,20 @@ is_giving verb = false
 
 -- ---- what is given
 
--- how much of it is held
+-- how much a unit holds of what is given: of money, or of the item
 abbrev pub held_of : Gift → HoldingValue → ℕ
 held_of Money h = h.money
 held_of (Item i) h = amount_of h.items i
 
+-- what a unit holds, with n of what is given: of money, or of the item
 abbrev pub with_held_of : Gift → HoldingValue → ℕ → HoldingValue
 with_held_of Money h n = record h { money = n }
 with_held_of (Item i) h n = record h { items = with_amount_of h.items i n }
 
 -- ---- one order
 
--- NotHere, NotEnough, NoRoom: what a unit gives to itself it has room for
+-- The fault of giving n to a receiver: NotHere, NotEnough or NoRoom; None where it has none.
+-- A unit always has room for what it gives to itself.
 abbrev pub give_fault : Gift → (n : ℕ) → (itself : Bool) → Unit → Option Unit → Option EventFault
 give_fault gift n itself u None = Some NotHere
 give_fault gift n itself u (Some v) =
@@ -51,7 +54,8 @@ give_fault gift n itself u (Some v) =
     ∷ (not itself && nat_lt holding_limit (held_of gift v.holding + n), NoRoom)
     ∷ [])
 
--- The whole amount goes from one unit to another. To itself nothing changes.
+-- The campaign after n of the gift went from one unit to another.
+-- Nothing changes if both are one unit, or one of them isn't there.
 abbrev pub after_gift : CampaignValue → (from to : ℕ) → Gift → (n : ℕ) → Option Unit → Option Unit → CampaignValue
 after_gift c from to gift n (Some u) (Some v) =
     let less = with_held_of gift u.holding (held_of gift u.holding - n) in
@@ -59,22 +63,26 @@ after_gift c from to gift n (Some u) (Some v) =
     if to == from then c else with_held (with_held c from less (Some u)) to more (Some v)
 after_gift c from to gift n giver receiver = c
 
+-- the campaign and the outcome as unit u, under the number `from`, gives n to the receiver under `to`, if that is there
 abbrev pub give_to : CampaignValue → (from to : ℕ) → Gift → (n : ℕ) → Unit → Option Unit → CampaignValue × Outcome
 give_to c from to gift n u receiver = unless c (give_fault gift n (to == from) u receiver) (after_gift c from to gift n (Some u) receiver, Done n)
 
+-- the effect of an order by which unit `from` gives n to unit `to`
 unfoldable pub give : (from to : ℕ) → Gift → (n : ℕ) → OrderEffect
 give from to gift n c u = give_to c from to gift n u (get c.units to)
 
+-- the effect of an order of GIVE or PAY, by its operands; None for operands of any other form
 abbrev pub give_effect : Aliases → (f from : ℕ) → OperandsValue → Option OrderEffect
 give_effect aliases f from (operands.UnitAndGoods to n item) = Some (give from (unit_of aliases f to) (Item item) n)
 give_effect aliases f from (operands.UnitAndNumber to n) = Some (give from (unit_of aliases f to) Money n)
 give_effect aliases f from other = None
 
+-- the step of the phase: the effect of an order of GIVE or PAY
 abbrev pub give_step : OrderMeaning
 give_step w aliases t = give_effect aliases t.faction t.unit t.order_value.operands
 
 -- ---- the phase
 
--- a unit for which its own faction wrote no such order is no worse off
+-- the specification of the phase: a unit for which its own faction wrote no such order is no worse off
 abbrev pub give_spec : PhaseSpec
 give_spec = goes_by_orders give_step is_giving IsOwnOrder IsNoWorse

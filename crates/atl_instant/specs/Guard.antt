@@ -17,44 +17,47 @@ use Rattle.atl_instant.specs.NoWorse.{IsNoWorse}
 use Rattle.atl_instant.specs.OrderEffects.{Affects, IsOwnOrder, OrderEffect, OrderMeaning}
 use Rattle.atl_instant.specs.PhaseSpecs.{PhaseSpec, goes_by_orders}
 
+-- whether a verb is GUARD
 abbrev pub is_guarding : Verb → Bool
 is_guarding verbs.Guard = true
 is_guarding verb = false
 
 -- ---- guards of a region
 
--- a unit of another faction that is on guard
+-- whether a unit is there, guards, and is of another faction than this one
 abbrev pub guards_against : (faction : ℕ) → Option Unit → Bool
 guards_against faction None = false
 guards_against faction (Some v) = guards v && not (v.faction == faction)
 
--- whether one is in the region
+-- whether a unit of another faction than this one guards the region
 abbrev pub is_guarded_against : CampaignValue → (region faction : ℕ) → Bool
 is_guarded_against c region faction = list_any (λ n. guards_against faction (get c.units n)) (numbers_in region c.units)
 
 -- ---- one order
 
--- NoMen, Guarded
+-- why a unit can't begin to guard its region: NoMen or Guarded; None where it can
 abbrev pub guard_fault : CampaignValue → Unit → Option EventFault
 guard_fault c u = first_fault ((u.holding.men == 0, NoMen) ∷ (is_guarded_against c u.region u.faction, Guarded) ∷ [])
 
+-- the effect of GUARD 1: the guard flag of unit n is set, unless the order has a fault
 unfoldable pub guard : (n : ℕ) → OrderEffect
 guard n c u = unless c (guard_fault c u) (with_guard c n true, Done 0)
 
--- GUARD 1, and not GUARD 0
+-- the effect of an order of GUARD, by its operands: of GUARD 1; None for GUARD 0, which this phase passes over
 abbrev pub guard_effect : (n : ℕ) → OperandsValue → Option OrderEffect
 guard_effect n (operands.Flag true) = Some (guard n)
 guard_effect n other = None
 
+-- the step of the phase: the effect of an order of GUARD
 abbrev pub guard_step : OrderMeaning
 guard_step w aliases t = guard_effect t.unit t.order_value.operands
 
--- which units an order concerns: the one that is to guard
+-- an order concerns a unit if it is GUARD 1, and the unit's own faction wrote it for the unit
 abbrev pub guard_concerns : Affects
 guard_concerns t number faction = IsOwnOrder t number faction × (t.order_value.operands ≡ operands.Flag true)
 
 -- ---- the phase
 
--- a unit for which its own faction wrote no such order is no worse off
+-- the specification of the phase: a unit for which its own faction wrote no GUARD 1 is no worse off
 abbrev pub guard_spec : PhaseSpec
 guard_spec = goes_by_orders guard_step is_guarding guard_concerns IsNoWorse

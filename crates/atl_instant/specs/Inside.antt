@@ -1,13 +1,13 @@
--- The region and the structure that a unit is in.
+-- The region and the structure that a unit is in. See docs/RULES.md, "Place".
 use Rattle.std.specs.Prelude.{ℕ}
 use Rattle.std.specs.Option.{option_map_or}
 use Rattle.std.specs.FinMap.{get}
 use Rattle.atl_state.specs.Campaign.{CampaignValue}
 
--- the structure that a unit is inside; 0 where it is inside none
+-- the number of the structure that a unit is inside; 0 where it is inside none, or isn't there
 abbrev pub inside : CampaignValue → ℕ → ℕ
 inside c n = option_map_or (λ u. u.structure) (get c.units n) 0
 
--- the region where a unit stands; 0 where there is no such unit
+-- the number of the region that a unit is in; 0 where there is no such unit
 abbrev pub region_of : CampaignValue → ℕ → ℕ
 region_of c n = option_map_or (λ u. u.region) (get c.units n) 0

@@ -19,23 +19,25 @@ use Rattle.atl_orders.specs.Orders.{OrderValue}
 use Rattle.atl_records.specs.declared.event.Event.{Event}
 use Rattle.atl_records.specs.contracts.event.Event as event
 
--- the units that FORM made, by faction and then by alias
+-- the numbers of the units that FORM made, by faction and then by alias
 abbrev pub Aliases : Type 0
 Aliases = FinMap nat_cmp (FinMap nat_cmp ℕ)
 
--- What was read, by faction, the units that FORM made, the words of the dice, and the events so far.
+-- What the phases of a month hand on, as contracts see it.
+-- It has what was read of each faction's mailing, the aliases, the words of the dice, and the events so far.
 pub record MonthValue : Type 0 where
   pub readings : FinMap nat_cmp Reading
   pub aliases : Aliases
   pub words : List ℕ
   pub events : List Event
 
--- ---- how the logic stores it
+-- ---- the encoding of a month for the logic
 
--- an order whose name is a text
+-- the encoding of an order whose names are texts
 abbrev pub said_code : Coded OrderValue
 said_code = (order.the_row (sequence.the_row u8)).coded
 
+-- the encoding of an entry of a mailing: its line, its target and its order
 abbrev pub entry_code : Coded EntryValue
 entry_code =
     code_by (ℕ × (UnitRef × OrderValue)) (coded× coded_ℕ (coded× target.the_row.coded said_code))
@@ -43,6 +45,7 @@ entry_code =
     (λ p. record { line = p.0; target = p.1.0; order_value = p.1.1 })
     (λ _. refl)
 
+-- the encoding of what was read of a mailing: its faction, its entries and its faulty lines
 abbrev pub reading_code : Coded Reading
 reading_code =
     code_by (ℕ × (List EntryValue × List FaultyLine)) (coded× coded_ℕ (coded× (coded_list entry_code) (coded_list faulty.the_row.coded)))
@@ -50,6 +53,7 @@ reading_code =
     (λ p. record { faction = p.0; entries = p.1.0; faults = p.1.1 })
     (λ _. refl)
 
+-- the encoding of a month: its readings, aliases, words and events
 abbrev pub month_code : Coded MonthValue
 month_code =
     code_by (FinMap nat_cmp Reading × (Aliases × (List ℕ × List Event)))
@@ -60,31 +64,31 @@ month_code =
 
 -- ---- aliases
 
--- the unit that a faction's FORM made under an alias
+-- the number of the unit that a faction's FORM made under an alias; None where there is none
 abbrev pub alias_unit : Aliases → ℕ → ℕ → Option ℕ
 alias_unit aliases faction alias = get (group_of aliases faction) alias
 
--- the aliases with one unit more
+-- the aliases with one more: this unit, under this alias of this faction
 abbrev pub with_alias : Aliases → ℕ → ℕ → ℕ → Aliases
 with_alias aliases faction alias unit = insert aliases faction (insert (group_of aliases faction) alias unit)
 
 -- ---- events
 
--- the month with further events
+-- the month with these events after those that it has
 abbrev pub with_events : MonthValue → List Event → MonthValue
 with_events m events = record m { events = m.events ++ events }
 
 -- ---- mailings
 
--- no two mailings are of one faction
+-- no two of these mailings are of one faction
 abbrev pub HaveOwnFactions : List Mailing → Type 0
 HaveOwnFactions mailings = IsDistinct (eq_by_cmp nat_cmp) (map (λ m. m.faction) mailings)
 
--- readings by their factions
+-- the map from each faction to its reading
 abbrev pub by_faction : List Reading → FinMap nat_cmp Reading
 by_faction readings = from_entries (map (λ r. (r.faction, r)) readings)
 
--- in which order mailings come isn't seen
+-- A law: mailings of different factions, listed in another order, give the same map of readings.
 abbrev pub HaveNoOrder : Type 0
 HaveNoOrder =
     (mailings others : List Mailing) → HaveOwnFactions mailings → IsPermutation mailings others →

@@ -7,11 +7,11 @@ use Rattle.atl_records.specs.Holdings.{amount_of}
 use Rattle.atl_state.specs.Campaign.{CampaignValue}
 use Rattle.atl_instant.specs.Meaning.{Frame}
 
--- a unit that stays as it is
+-- the unit is the same before and after
 abbrev pub IsUnchanged : Unit → Unit → Type 0
 IsUnchanged before after = after ≡ before
 
--- a unit in its place, with its name and its flag, and with no less of anything
+-- The unit has the same faction, region, structure, name and guard flag, and no less men, money, items or days than before.
 pub record IsNoWorse (before after : Unit) : Type 0 where
   pub faction : after.faction ≡ before.faction
   pub region : after.region ≡ before.region
@@ -27,6 +27,6 @@ pub record IsNoWorse (before after : Unit) : Type 0 where
 abbrev pub AreNoWorse : CampaignValue → CampaignValue → Type 0
 AreNoWorse before after = Every (λ n u. (v : Unit) × (get after.units n ≡ Some v) × IsNoWorse u v) before.units
 
--- a phase that takes nothing from any unit
+-- what a phase keeps that takes nothing from any unit: no unit is worse off
 abbrev pub spares_all : Frame
 spares_all w m before after = AreNoWorse before after

@@ -6,12 +6,12 @@ use Rattle.atl_records.specs.declared.event.Outcome.TheVariants.{Fault}
 use Rattle.atl_records.specs.Events.{event_fault_number}
 use Rattle.atl_state.specs.Campaign.{CampaignValue}
 
--- the first that fits of some faults
+-- the first fault of the list whose test is true; None where there is none
 abbrev pub first_fault : List (Bool × EventFault) → Option EventFault
 first_fault [] = None
 first_fault ((fits, fault) ∷ more) = if fits then Some fault else first_fault more
 
--- with a fault nothing changes
+-- with a fault the campaign as it was, and the fault as the outcome; without one what was done
 abbrev pub unless : CampaignValue → Option EventFault → CampaignValue × Outcome → CampaignValue × Outcome
 unless c (Some fault) done = (c, Fault (event_fault_number fault))
 unless c None done = done

@@ -24,6 +24,7 @@ use Rattle.atl_instant.specs.PhaseSpecs.{PhaseSpec, goes_by_orders}
 
 -- ---- which orders are of the phase
 
+-- whether a verb is LEAVE, ENTER or PROMOTE
 abbrev pub is_placing : Verb → Bool
 is_placing verbs.Leave = true
 is_placing verbs.Enter = true
@@ -32,33 +33,37 @@ is_placing verb = false
 
 -- ---- LEAVE
 
--- why a unit doesn't leave the structure that it is inside
+-- why a unit can't leave the structure that it is inside: NotInside or AtSea; None where it can
 abbrev pub leave_fault : WorldValue → Unit → Option EventFault
 leave_fault w u = first_fault ((u.structure == 0, NotInside) ∷ (not (is_land_at w u.region), AtSea) ∷ [])
 
+-- the effect of LEAVE: unit n is inside no structure, unless the order has a fault
 unfoldable pub leave : WorldValue → (n : ℕ) → OrderEffect
 leave w n c u = unless c (leave_fault w u) (with_place c n u.region 0, Done 0)
 
 -- ---- ENTER
 
--- whether a structure is there, and in a region
+-- whether a structure is there, and in this region
 abbrev pub is_in : ℕ → Option Structure → Bool
 is_in region None = false
 is_in region (Some s) = s.region == region
 
+-- why a unit can't enter structure s: NotHere; None where it can
 abbrev pub enter_fault : CampaignValue → (s : ℕ) → Unit → Option EventFault
 enter_fault c s u = first_fault ((not (is_in u.region (get c.structures s)), NotHere) ∷ [])
 
--- a unit that is inside already stays; else it leaves the structure that it was inside
+-- the campaign with unit n, which was inside `from`, inside structure s; nothing changes where both are one
 abbrev pub with_unit_inside : CampaignValue → (n region from s : ℕ) → CampaignValue
 with_unit_inside c n region from s = if from == s then c else with_place c n region s
 
+-- the effect of ENTER: unit n is inside structure s, unless the order has a fault
 unfoldable pub enter : (n s : ℕ) → OrderEffect
 enter n s c u = unless c (enter_fault c s u) (with_unit_inside c n u.region u.structure s, Done 0)
 
 -- ---- PROMOTE
 
--- why a unit doesn't make another the owner of the structure that it is inside
+-- why unit n can't make unit `to` the owner of the structure that n is inside: NotInside, NotOwner or NotHere;
+-- None where it can
 abbrev pub promote_fault : CampaignValue → (n to : ℕ) → Unit → Option EventFault
 promote_fault c n to u = first_fault (
     (u.structure == 0, NotInside)
@@ -66,22 +71,25 @@ promote_fault c n to u = first_fault (
     ∷ (not (inside c to == u.structure), NotHere)
     ∷ [])
 
+-- the effect of PROMOTE: unit `to` owns the structure that unit n is inside, unless the order has a fault
 unfoldable pub promote : (n to : ℕ) → OrderEffect
 promote n to c u = unless c (promote_fault c n to u) (with_owner c u.structure to, Done 0)
 
 -- ---- the step
 
+-- the effect of an order of LEAVE, ENTER or PROMOTE, by the form of its operands; None for any other form
 abbrev pub place_effect : WorldValue → Aliases → (f n : ℕ) → OperandsValue → Option OrderEffect
 place_effect w a f n operands.Nothing = Some (leave w n)
 place_effect w a f n (operands.Number s) = Some (enter n s)
 place_effect w a f n (operands.Unit to) = Some (promote n (unit_of a f to))
 place_effect w a f n other = None
 
+-- the step of the phase: the effect of an order of LEAVE, ENTER or PROMOTE
 abbrev pub place_step : OrderMeaning
 place_step w a t = place_effect w a t.faction t.unit t.order_value.operands
 
 -- ---- the phase
 
--- who gives no order of the phase stays
+-- the specification of the phase: a unit for which its own faction wrote no such order is no worse off
 abbrev pub place_spec : PhaseSpec
 place_spec = goes_by_orders place_step is_placing IsOwnOrder IsNoWorse

@@ -24,77 +24,85 @@ use Rattle.atl_instant.specs.NoWorse.{IsNoWorse}
 use Rattle.atl_instant.specs.OrderEffects.{Affects, OrderEffect, OrderMeaning, is_own, meaning_by_orders, spares_others}
 use Rattle.atl_instant.specs.PhaseSpecs.{PhaseSpec}
 
+-- whether a verb is QUIT
 abbrev pub is_quitting : Verb → Bool
 is_quitting verbs.Quit = true
 is_quitting verb = false
 
 -- ---- a unit that leaves
 
--- men are booked as left, money and items as lost
+-- the entry under which what a leaving unit has is booked: left for men, lost for money and items
 abbrev pub loss_entry : Thing → Entry
 loss_entry People = Left
 loss_entry thing = Lost
 
--- so much of a thing is gone
+-- the campaign with this amount of a thing booked as gone
 abbrev pub with_loss : CampaignValue → Thing → ℕ → CampaignValue
 with_loss c t amount = with_amount c (loss_entry t) t (neg_ℤ (pos amount))
 
+-- the campaign with this amount of an item booked as lost
 abbrev pub with_item_loss : CampaignValue → ℕ × ℕ → CampaignValue
 with_item_loss c (item, amount) = with_loss c (Item item) amount
 
--- all that a unit has is gone
+-- the campaign with all that a unit has booked as gone: its men, its money and each of its items
 abbrev pub with_all_losses : CampaignValue → HoldingValue → CampaignValue
 with_all_losses c h = fold with_item_loss (with_loss (with_loss c People h.men) Money h.money) (entries h.items)
 
+-- the campaign without unit n, if it is there, and with all that it had booked as gone
 abbrev pub without_leaver : CampaignValue → (n : ℕ) → Option Unit → CampaignValue
 without_leaver c n None = c
 without_leaver c n (Some u) = without_unit (with_all_losses c u.holding) n
 
--- the campaign once a unit has left it
+-- the campaign after the unit of number n left with all that it had; unchanged where it isn't there
 unfoldable pub after_leaving : CampaignValue → (n : ℕ) → CampaignValue
 after_leaving c n = without_leaver c n (get c.units n)
 
 -- ---- one order
 
--- WrongNumber where it isn't the faction's own number
+-- why a unit's faction can't quit by this number: WrongNumber where it is another one; None where it can
 abbrev pub quit_fault : (number : ℕ) → Unit → Option EventFault
 quit_fault number u = first_fault ((not (number == u.faction), WrongNumber) ∷ [])
 
--- All units of the faction leave, in the order of their numbers.
+-- The effect of QUIT: all units of the unit's faction leave, in the order of their numbers, unless the order has a fault.
 unfoldable pub quit : (number : ℕ) → OrderEffect
 quit number c u = unless c (quit_fault number u) (fold after_leaving c (numbers_of u.faction c.units), Done 0)
 
+-- the effect of an order of QUIT, by its operands; None for operands of any other form
 abbrev pub quit_effect : OperandsValue → Option OrderEffect
 quit_effect (operands.Number number) = Some (quit number)
 quit_effect other = None
 
+-- the step of the phase: the effect of an order of QUIT
 abbrev pub quit_step : OrderMeaning
 quit_step w aliases t = quit_effect t.order_value.operands
 
 -- ---- the phase
 
+-- the effect of the phase: the orders of QUIT, one by one
 abbrev pub quit_meaning : Meaning
 quit_meaning = meaning_by_orders quit_step is_quitting
 
--- which units an order of a unit's own faction concerns: those of the faction that quits
+-- an order concerns a unit if the unit's own faction wrote it with its own number, for whatever unit
 abbrev pub quit_concerns : Affects
 quit_concerns t number faction = (t.faction ≡ faction) × (t.order_value.operands ≡ operands.Number faction)
 
--- an order by which the faction of a unit quits, for a unit that is its own as the phase begins
+-- order t is one of QUIT with the number of faction f, which wrote it for a unit that was its own as the phase began
 pub record QuitsFrom (begun : CampaignValue) (t : Task) (n f : ℕ) : Type 0 where
   pub own : is_own begun t ≡ true
   pub faction : t.faction ≡ f
   pub said : t.order_value.operands ≡ operands.Number f
 
--- a unit whose faction doesn't quit is no worse off
+-- what the phase keeps: a unit whose faction doesn't quit by such an order is no worse off
 abbrev pub quit_keeps : Frame
 quit_keeps w m before after = spares_others (QuitsFrom before) IsNoWorse is_quitting w m before after
 
--- ---- how far it moves the books
+-- ---- by how much the phase moves the books
 
+-- the bound on the books: each thing may move by less than 10^14 under the entry of its loss, and nothing else
 abbrev pub quit_moves : BookBound
 quit_moves e t = if entry_index e == entry_index (loss_entry t) then most_moved else 0
 
+-- the specification of the phase of QUIT
 abbrev pub quit_spec : PhaseSpec
 quit_spec = record {
   meaning = quit_meaning;

@@ -7,32 +7,34 @@ use Rattle.atl_records.specs.Every.{Every}
 use Rattle.atl_state.specs.Good.{guards}
 use Rattle.atl_state.specs.Campaign.{CampaignValue}
 
--- the factions that guard, by region
+-- the number of the faction that guards each region, by region
 abbrev pub GuardMap : Type 0
 GuardMap = FinMap nat_cmp ℕ
 
--- the faction of a unit on guard is noted
+-- the map with the faction of a unit under its region, if the unit guards
 abbrev pub with_guard_of : GuardMap → Unit → GuardMap
 with_guard_of m u = if guards u then insert m u.region u.faction else m
 
+-- the map with the factions of those of these units that guard, one after another
 abbrev pub with_guards_of : GuardMap → List (ℕ × Unit) → GuardMap
 with_guards_of m es = fold (λ held e. with_guard_of held e.1) m es
 
+-- the map of which faction guards each region of a campaign
 abbrev pub guard_map_of : CampaignValue → GuardMap
 guard_map_of c = with_guards_of empty (entries c.units)
 
--- whether it is another faction
+-- whether there is a guarding faction, and it is another one than this
 abbrev pub has_other_guard : (faction : ℕ) → Option ℕ → Bool
 has_other_guard faction None = false
 has_other_guard faction (Some holder) = not (holder == faction)
 
--- a unit that guards a region for a faction
+-- unit u guards this region, and is of this faction
 pub record IsGuardOf (region faction : ℕ) (u : Unit) : Type 0 where
   pub on_guard : guards u ≡ true
   pub stands : u.region ≡ region
   pub belongs : u.faction ≡ faction
 
--- each unit on guard is of the faction under its region, and for each region with one there is such a unit
+-- the map has the faction of each unit that guards under its region, and no region that no unit guards
 pub record AreRegionGuards (c : CampaignValue) (m : GuardMap) : Type 0 where
   pub noted : Every (λ n u. guards u ≡ true → get m u.region ≡ Some u.faction) c.units
   pub held : (region faction : ℕ) → get m region ≡ Some faction → (n : ℕ) × (u : Unit) × (get c.units n ≡ Some u) × IsGuardOf region faction u

@@ -1,4 +1,4 @@
--- A law: of the verbs that share a slot, at most one order stands for a unit in a faction's mailing. See docs/RULES.md, "Orders of a month".
+-- A law: of the verbs that share a slot, at most one order counts for a unit in a faction's mailing. See docs/RULES.md, "Orders of a month".
 use Rattle.std.specs.Prelude.{Bool, false, ◌&&◌, ◌==◌, Option, Some, None}
 use Rattle.std.specs.List.{IsDistinct}
 use Rattle.std.specs.Ordering.{nat_cmp}
@@ -13,16 +13,16 @@ use Rattle.atl_instant.specs.Month.{Aliases}
 use Rattle.atl_instant.specs.Fit.{AreFit}
 use Rattle.atl_instant.specs.PhaseOrders.{Task, is_slot, orders_of}
 
--- both verbs take a slot, and it is the same
+-- whether both verbs have a slot, and the same one
 abbrev pub are_of_slot : Option Slot → Option Slot → Bool
 are_of_slot None other = false
 are_of_slot (Some slot) other = is_slot slot other
 
--- two orders of one faction for one unit in one slot
+-- whether two orders are of one faction, for one unit and in one slot
 abbrev pub share_slot : Task → Task → Bool
 share_slot t o = t.unit == o.unit && (t.faction == o.faction && are_of_slot (row_of t.order_value.verb).slot (row_of o.order_value.verb).slot)
 
--- no two orders of a phase are, in mailings as they can be read
+-- no two orders that a phase carries out share a slot, where the mailings can be read with the world
 abbrev pub OneOrderStands : Type 0
 OneOrderStands =
     (w : WorldValue) (is_of : Verb → Bool) (arrangement : Arrangement) (aliases : Aliases) (readings : FinMap nat_cmp Reading) → AreFit w readings →

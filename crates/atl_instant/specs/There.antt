@@ -1,4 +1,4 @@
--- Changes of a campaign for one unit or one region; without it nothing changes.
+-- Changes of a campaign for one unit or one region; where that isn't there, nothing changes.
 use Rattle.std.specs.Prelude.{ℕ}
 use Rattle.std.specs.Option.{option_map_or}
 use Rattle.std.specs.FinMap.{get}
@@ -6,10 +6,10 @@ use Rattle.atl_records.specs.declared.records.Region.{Region}
 use Rattle.atl_records.specs.declared.records.Unit.{Unit}
 use Rattle.atl_state.specs.Campaign.{CampaignValue}
 
--- what a change makes of a campaign for a unit, by its number; nothing changes where it isn't there
+-- the campaign that a change makes of unit n; the campaign as it was where there is no such unit
 abbrev pub at_unit : CampaignValue → ℕ → (Unit → CampaignValue) → CampaignValue
 at_unit c n change = option_map_or change (get c.units n) c
 
--- the same for a region
+-- the campaign that a change makes of region n; the campaign as it was where there is no such region
 abbrev pub at_region : CampaignValue → ℕ → (Region → CampaignValue) → CampaignValue
 at_region c n change = option_map_or change (get c.regions n) c

@@ -22,47 +22,52 @@ use Rattle.atl_instant.specs.NoWorse.{IsNoWorse}
 use Rattle.atl_instant.specs.OrderEffects.{IsOwnOrder, OrderEffect, OrderMeaning}
 use Rattle.atl_instant.specs.PhaseSpecs.{PhaseSpec, goes_by_orders}
 
+-- whether a verb is TRANSFER
 abbrev pub is_transferring : Verb → Bool
 is_transferring verbs.Transfer = true
 is_transferring verb = false
 
 -- ---- men and their days
 
--- the days of a skill that go with n of so many men
+-- the days of a skill that go with n of `men` men who have `days` together: their part, rounded down
 abbrev pub days_going : (n men days : ℕ) → ℕ
 days_going n men days = days * n / men
 
--- those that go with n of a unit's men, and those that stay
+-- the days of a skill that go with n of a unit's men
 abbrev pub going_of : (n : ℕ) → HoldingValue → (skill : ℕ) → ℕ
 going_of n h s = days_going n h.men (amount_of h.days s)
 
+-- the days of a skill that stay with a unit as n of its men go
 abbrev pub staying_of : (n : ℕ) → HoldingValue → (skill : ℕ) → ℕ
 staying_of n h s = amount_of h.days s - going_of n h s
 
--- those of a unit to which n men of another come
+-- the days of a skill that a unit has as n men of the other one come
 abbrev pub raised_of : (n : ℕ) → (other h : HoldingValue) → (skill : ℕ) → ℕ
 raised_of n other h s = amount_of h.days s + going_of n other s
 
--- n men less
+-- what a unit holds as n of its men go with their days
 abbrev pub with_fewer : (n : ℕ) → HoldingValue → HoldingValue
 with_fewer n h = record h { men = h.men - n; days = amounts_for (staying_of n h) (keys h.days) }
 
--- n men of another unit more
+-- what a unit holds as n men of the other one come with their days
 abbrev pub with_more : (n : ℕ) → (other h : HoldingValue) → HoldingValue
 with_more n other h = record h { men = h.men + n; days = amounts_for (raised_of n other h) (keys h.days ++ keys other.days) }
 
--- ---- a law: so both have of any skill, once n men went
+-- ---- a law: the days that both units have of each skill after n men went
 
+-- after n men went, both units have the days of a skill that `staying_of` and `raised_of` give
 pub record HaveDaysOf (n : ℕ) (other h : HoldingValue) (skill : ℕ) : Type 0 where
   pub stay : amount_of (with_fewer n other).days skill ≡ staying_of n other skill
   pub come : amount_of (with_more n other h).days skill ≡ raised_of n other h skill
 
+-- A law: it is so for each number of men, any two units and each skill.
 abbrev pub DaysGoWithMen : Type 0
 DaysGoWithMen = (n : ℕ) (other h : HoldingValue) (skill : ℕ) → HaveDaysOf n other h skill
 
 -- ---- one order
 
--- NotHere, NotYours, NotEnough, NoRoom: those that a unit sends to itself it has room for
+-- The fault of sending n men to a receiver: NotHere, NotYours, NotEnough or NoRoom; None where it has none.
+-- A unit always has room for men that it sends to itself.
 abbrev pub transfer_fault : (n : ℕ) → (itself : Bool) → Unit → Option Unit → Option EventFault
 transfer_fault n itself u None = Some NotHere
 transfer_fault n itself u (Some v) =
@@ -73,27 +78,32 @@ transfer_fault n itself u (Some v) =
     ∷ (not itself && nat_lt men_limit (v.holding.men + n), NoRoom)
     ∷ [])
 
--- Men go from one unit to another. To itself nothing changes.
+-- The campaign after n men went from one unit to another.
+-- Nothing changes if both are one unit, or one of them isn't there.
 abbrev pub after_transfer : CampaignValue → (from to n : ℕ) → Option Unit → Option Unit → CampaignValue
 after_transfer c from to n (Some u) (Some v) =
     if to == from then c else with_held (with_held c from (with_fewer n u.holding) (Some u)) to (with_more n u.holding v.holding) (Some v)
 after_transfer c from to n sender receiver = c
 
+-- the campaign and the outcome as unit u, under the number `from`, sends n men to the receiver under `to`, if that is there
 abbrev pub transfer_to : CampaignValue → (from to n : ℕ) → Unit → Option Unit → CampaignValue × Outcome
 transfer_to c from to n u receiver = unless c (transfer_fault n (to == from) u receiver) (after_transfer c from to n (Some u) receiver, Done n)
 
+-- the effect of an order by which unit `from` sends n men to unit `to`
 unfoldable pub transfer : (from to n : ℕ) → OrderEffect
 transfer from to n c u = transfer_to c from to n u (get c.units to)
 
+-- the effect of an order of TRANSFER, by its operands; None for operands of any other form
 abbrev pub transfer_effect : Aliases → (f from : ℕ) → OperandsValue → Option OrderEffect
 transfer_effect aliases f from (operands.UnitAndNumber to n) = Some (transfer from (unit_of aliases f to) n)
 transfer_effect aliases f from other = None
 
+-- the step of the phase: the effect of an order of TRANSFER
 abbrev pub transfer_step : OrderMeaning
 transfer_step w aliases t = transfer_effect aliases t.faction t.unit t.order_value.operands
 
 -- ---- the phase
 
--- a unit for which its own faction wrote no such order is no worse off
+-- the specification of the phase: a unit for which its own faction wrote no such order is no worse off
 abbrev pub transfer_spec : PhaseSpec
 transfer_spec = goes_by_orders transfer_step is_transferring IsOwnOrder IsNoWorse

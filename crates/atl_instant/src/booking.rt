@@ -1,4 +1,4 @@
-//! Books an amount that a phase takes out of the campaign.
+//! Books an amount that a phase takes out of the campaign. See docs/RULES.md, "Books".
 ghost use Rattle.std.specs.Prelude.{pos, neg_ℤ, ◌≡◌, ◌<◌};
 ghost use Rattle.atl_records.specs.Books.{amount_in, thing_index};
 ghost use Rattle.atl_state.specs.Marking.{mark_amount};
@@ -7,7 +7,8 @@ ghost use Rattle.atl_instant.specs.Bounds.{HasRoom};
 
 use atl_state::{Campaign, Entry, Thing};
 
-/// Books that so much of a thing is taken away, under an entry of the books. It takes no memory.
+/// Books under an entry that this amount of a thing is taken out of the campaign. It takes no
+/// memory.
 pub fn book_taken(campaign: &mut Campaign, entry: Entry, thing: Thing, amount: u32)
     requires there { thing_index thing < campaign.old.value.books.things }
     requires room { HasRoom amount (amount_in campaign.old.value.books entry thing) }

@@ -24,18 +24,19 @@ use atl_state::{
 use atl_tables::{Numbered, Text, World};
 use std::alloc::{AllocError, Global};
 
-/// Units form new ones, which have a name and nothing else. See docs/RULES.md, "Form".
+/// The phase of FORM: units form new units, which have a name and nothing else.
+/// See docs/RULES.md, "Form".
 #[derive(Drop, Clone, Copy)]
 pub struct FormPhase;
 
-/// Whether no further unit can come.
+/// Whether no further unit can be formed: there are 100,000, or the last unit number is given.
 fn is_unit_limit(campaign: &Campaign) -> bool
     ensures { result ≡ is_unit_limit campaign.now.value }
 {
     campaign.unit_count() >= MOST_UNITS || campaign.next_unit() > LAST_UNIT
 }
 
-/// Why a faction's order for a unit forms none.
+/// The fault of an order of FORM from a faction for a unit; None where it has none.
 fn form_fault(campaign: &Campaign, faction: u32, unit: u32) -> Option<EventFault>
     ensures { result ≡ form_fault campaign.now.value faction unit }
 {
@@ -48,7 +49,7 @@ fn form_fault(campaign: &Campaign, faction: u32, unit: u32) -> Option<EventFault
     }
 }
 
-/// A new unit, with a name and nothing else.
+/// A new unit, with a name and nothing else. AllocError without memory for the name.
 fn new_unit(
     alloc: Global,
     number: u32,
@@ -67,7 +68,7 @@ fn new_unit(
     })
 }
 
-/// A unit of a faction forms one of its faction, where it is itself. The answer is the new one's number.
+/// Adds a new unit of a faction, where its parent is, to the campaign. Returns its number.
 fn begin(
     alloc: Global,
     campaign: &mut Campaign,
@@ -88,7 +89,7 @@ fn begin(
     campaign.begin_unit(unit)
 }
 
-/// Forms a unit by an order of a faction for a unit, and notes it under its alias.
+/// Carries out an order of FORM, and notes the new unit under its alias. Returns the outcome.
 fn form(
     alloc: Global,
     campaign: &mut Campaign,
@@ -115,7 +116,7 @@ fn form(
     }
 }
 
-/// The alias that an order gives, or 0.
+/// The alias that an order of FORM gives; 0 for operands of any other form.
 fn alias_of(what: &Operands) -> u32
     ensures { (text : List ℕ) → result ≡ alias_of (named text what.now) }
 {
@@ -125,7 +126,8 @@ fn alias_of(what: &Operands) -> u32
     }
 }
 
-/// An order apart from the month, which gets aliases as orders are carried out.
+/// A copy of an order of FORM, which doesn't borrow the month: the month gets aliases as orders are
+/// carried out.
 #[derive(Drop, Clone, Copy)]
 pub(crate) struct Forming {
     unit: u32,
@@ -135,7 +137,7 @@ pub(crate) struct Forming {
     alias: u32,
 }
 
-/// An order apart from the month.
+/// Copies an order of FORM out of the month.
 fn forming_of(order: PhaseOrder<'_>) -> Forming
     ensures { result ≡ forming_of (task_of order.entry) }
 {
@@ -148,7 +150,7 @@ fn forming_of(order: PhaseOrder<'_>) -> Forming
     }
 }
 
-/// The orders of a month apart from it, by faction and line.
+/// Copies of all orders of FORM of a month, by faction and then by line.
 fn formings(alloc: Global, month: &Month) -> Result<Vec<Forming>, AllocError>
     ensures { IfOk result (λ list. list.items
         ≡ each forming_of (map.values
@@ -162,7 +164,7 @@ fn formings(alloc: Global, month: &Month) -> Result<Vec<Forming>, AllocError>
     Ok(list)
 }
 
-/// Carries out an order, and tells of it.
+/// Carries out one order of FORM, and adds its event to the month.
 fn form_one(
     alloc: Global,
     campaign: &mut Campaign,

@@ -22,7 +22,8 @@ use atl_state::{Campaign, EventFault, HOLDING_LIMIT, Holding, Outcome, Unit};
 use atl_tables::World;
 use std::alloc::{AllocError, Global};
 
-/// Units give money and items to units of their region, each the whole amount or nothing. See docs/RULES.md, "Giving".
+/// The phase of GIVE and PAY: units give items and money to units of their region, each the whole
+/// amount or nothing. See docs/RULES.md, "Giving".
 #[derive(Drop, Clone, Copy)]
 pub struct GivePhase;
 
@@ -33,7 +34,7 @@ pub(crate) enum Gift {
     Item(u16),
 }
 
-/// How much of it is held.
+/// How much a unit holds of what is given: of money, or of the item.
 fn held_of(gift: Gift, holding: &Holding) -> u32
     ensures { result ≡ held_of gift holding.now }
 {
@@ -43,14 +44,14 @@ fn held_of(gift: Gift, holding: &Holding) -> u32
     }
 }
 
-/// Whether a unit that has so much can't hold so much more.
+/// Whether a unit that has this much of something can't hold this amount more.
 fn is_too_much(have: u32, amount: u32) -> bool
     ensures { result ≡ nat_lt holding_limit (have + amount) }
 {
     u64::from(have) + u64::from(amount) > u64::from(HOLDING_LIMIT)
 }
 
-/// Why so much can't go from a unit to another.
+/// The fault of giving this amount to a receiver; None where it has none.
 fn give_fault(
     gift: Gift,
     amount: u32,
@@ -75,7 +76,7 @@ fn give_fault(
     None
 }
 
-/// Sets how much of a gift a unit holds, where it is there.
+/// Sets how much a unit holds of what is given; nothing changes where the unit isn't there.
 fn set_held(campaign: &mut Campaign, number: u32, gift: Gift, amount: u32) -> Result<(), AllocError>
     requires { amount ≤ holding_limit }
     ensures { OnOk result (ChangesHolding campaign.old campaign.new number
@@ -90,7 +91,7 @@ fn set_held(campaign: &mut Campaign, number: u32, gift: Gift, amount: u32) -> Re
     }
 }
 
-/// So much goes from one unit to another.
+/// Moves this amount from one unit to another, if both are there.
 fn hand_over(
     campaign: &mut Campaign,
     from: u32,
@@ -118,7 +119,7 @@ fn hand_over(
     set_held(campaign, to, gift, more)
 }
 
-/// Gives so much, or nothing where a fault fits.
+/// Carries out an order of GIVE or PAY, or changes nothing where it has a fault.
 #[tactic(auto, unfolding(crate::specs::Give::give))]
 fn give(
     campaign: &mut Campaign,

@@ -21,11 +21,11 @@ use atl_state::{Campaign, Event, EventFault, Outcome, Unit};
 use atl_tables::World;
 use std::alloc::{AllocError, Global};
 
-/// Units begin to guard their regions by GUARD 1. See docs/RULES.md, "Guarding".
+/// The phase of GUARD 1: units begin to guard their regions. See docs/RULES.md, "Guarding".
 #[derive(Drop, Clone, Copy)]
 pub struct GuardPhase;
 
-/// Why a unit can't guard, in a campaign whose regions are so held.
+/// Why a unit can't begin to guard its region, by the map of guards; None where it can.
 fn guard_fault(holders: &RegionGuards, unit: &Unit) -> Option<EventFault>
     ensures { (c : CampaignValue) → AreRegionGuards c holders.now
         → result ≡ guard_fault c unit.now }
@@ -39,7 +39,7 @@ fn guard_fault(holders: &RegionGuards, unit: &Unit) -> Option<EventFault>
     None
 }
 
-/// A unit begins to guard, or nothing changes where a fault fits.
+/// Carries out GUARD 1: sets the guard flag of the unit, or changes nothing where a fault fits.
 #[tactic(auto, unfolding(crate::specs::Guard::guard))]
 fn guard(
     campaign: &mut Campaign,
@@ -65,7 +65,7 @@ fn guard(
     Ok(Outcome::Done(0))
 }
 
-/// What comes of an order, or None where it is passed over, as GUARD 0 is.
+/// Carries out an order of GUARD. Returns its outcome, or None for GUARD 0, which is passed over.
 fn carry_out(
     campaign: &mut Campaign,
     holders: &mut RegionGuards,
@@ -85,7 +85,7 @@ fn carry_out(
     }
 }
 
-/// Carries out an order, and puts what came of it behind other events.
+/// Carries out an order of GUARD, and adds its event, if it has one, to those of earlier orders.
 fn guard_one(
     campaign: &mut Campaign,
     holders: &mut RegionGuards,

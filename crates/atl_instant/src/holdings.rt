@@ -1,4 +1,4 @@
-//! Sets the men of a unit together with its days.
+//! Sets the number of men of a unit together with its days of study.
 ghost use Rattle.std.specs.Prelude.{◌≡◌, ◌≤◌, OnOk};
 ghost use Rattle.atl_records.specs.Limits.{men_limit};
 ghost use Rattle.atl_instant.specs.Holdings.{ChangesHolding, with_days};
@@ -6,7 +6,7 @@ ghost use Rattle.atl_instant.specs.Holdings.{ChangesHolding, with_days};
 use atl_state::Campaign;
 use std::alloc::AllocError;
 
-/// Sets the days of some skills of a unit, each over all men.
+/// Sets the days that a unit has of each listed skill, over all its men.
 fn set_each(campaign: &mut Campaign, unit: u32, list: &[(u32, u32)]) -> Result<(), AllocError>
     ensures what { OnOk result
         (ChangesHolding campaign.old campaign.new unit
@@ -19,9 +19,10 @@ fn set_each(campaign: &mut Campaign, unit: u32, list: &[(u32, u32)]) -> Result<(
     Ok(())
 }
 
-/// Sets how many men a unit has, at most MEN_LIMIT, and its days of some skills over all men, each skill by its number. It
-/// marks the unit's row and these skills, none of its items. Where the unit isn't there nothing changes. AllocError without
-/// memory; the campaign may then be changed in part.
+/// Sets the number of men of a unit, at most MEN_LIMIT, and its days of the listed skills. The days
+/// are over all men, each skill by its number. It marks the unit's row and these skills, and none
+/// of its items. Where the unit isn't there nothing changes. AllocError without memory; the
+/// campaign may then be changed in part.
 pub fn set_people(
     campaign: &mut Campaign,
     unit: u32,

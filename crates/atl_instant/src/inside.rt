@@ -1,10 +1,10 @@
-//! The region and the structure that a unit is in.
+//! The region and the structure that a unit is in. See docs/RULES.md, "Place".
 ghost use Rattle.std.specs.Prelude.{◌≡◌};
 ghost use Rattle.atl_instant.specs.Inside.{inside, region_of};
 
 use atl_state::Campaign;
 
-/// The structure that a unit is inside, or 0.
+/// The number of the structure that a unit is inside; 0 where it is in none, or isn't there.
 pub(crate) fn structure_of(campaign: &Campaign, unit: u32) -> u32
     ensures { result ≡ inside campaign.now.value unit }
 {
@@ -14,7 +14,7 @@ pub(crate) fn structure_of(campaign: &Campaign, unit: u32) -> u32
     }
 }
 
-/// The number of the region where a unit stands; 0 where there is no such unit. It takes no memory.
+/// The number of the region that a unit is in; 0 where there is no such unit. It takes no memory.
 pub fn region_of(campaign: &Campaign, unit: u32) -> u32
     ensures { result ≡ region_of campaign.now.value unit }
 {

@@ -7,7 +7,8 @@ use atl_state::Holding;
 use atl_tables::World;
 use std::alloc::{AllocError, Global};
 
-/// How much a unit holds of each item of the world, by the items' numbers in rising order. It takes memory for each of them.
+/// Each item that a unit holds, by its number, with its amount, in rising order of the numbers.
+/// It takes memory for each of them.
 pub fn items_of(
     alloc: Global,
     world: &World,

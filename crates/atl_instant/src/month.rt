@@ -16,8 +16,9 @@ use atl_tables::{Numbered, let_go};
 use std::alloc::{AllocError, Global};
 use std::marker::Model;
 
-/// The mailings of a month, the units that FORM made by their aliases, the words of the dice, and what came of the orders
-/// so far. In which order the mailings were given isn't seen.
+/// What the phases of a month hand on: the mailings, the units that FORM made by their aliases, the
+/// words of the dice, and the events of the orders so far. Nothing shows in which order the
+/// mailings were given.
 pub struct Month {
     // By faction, no two of one faction.
     mailings: Vec<Mailing>,
@@ -25,7 +26,7 @@ pub struct Month {
     aliases: Numbered<Numbered<u32>>,
     words: Vec<u32>,
     events: Vec<Event>,
-    // The places of the orders that stand by these aliases, by unit, line and faction; None until they are gathered.
+    // The indices of the orders that count, by unit, line and faction; None until gathered.
     standing: Option<Vec<OrderIndex>>,
 }
 
@@ -39,7 +40,7 @@ impl Model for Month {
     ghost use Rattle.std.specs.Prelude.{map};
     ghost use Rattle.atl_orders.specs.Mailing.{reading_of};
     ghost use Rattle.atl_instant.specs.Month.{MonthValue, month_code, by_faction};
-    ghost use Rattle.atl_instant.specs.OrderIndices.{IsReady};
+    ghost use Rattle.atl_instant.specs.OrderIndices.{IsSortedMonth};
 
     ghost Value = { MonthValue };
 
@@ -52,11 +53,12 @@ impl Model for Month {
       events = a.events.items;
     } };
 
-    ghost invariant = { λ a. IsReady a.aliases a.mailings.items a.standing };
+    ghost invariant = { λ a. IsSortedMonth a.aliases a.mailings.items a.standing };
 }
 
 impl Month {
-    /// A month with these mailings, no two of one faction, and these words, before its first phase. It takes no memory.
+    /// A month before its first phase, with these mailings, no two of one faction, and these words.
+    /// It takes no memory.
     pub fn new(alloc: Global, mut mailings: Vec<Mailing>, words: Vec<u32>) -> Month
         requires { HaveOwnFactions mailings.items }
         ensures { result ≡ record {
@@ -84,14 +86,14 @@ impl Month {
         &self.words
     }
 
-    /// What came of the orders so far.
+    /// The events so far.
     pub fn events(&self) -> &[Event]
         ensures { result.now ≡ self.now.events }
     {
         &self.events
     }
 
-    /// What came of the orders.
+    /// The events of the whole month; the rest of the month is dropped.
     pub fn into_events(self) -> Vec<Event>
         ensures { result.items ≡ self.events }
     {
@@ -105,7 +107,7 @@ impl Month {
         events
     }
 
-    /// Notes what came of an order. Without memory the month stays as it is.
+    /// Adds the event of an order. Without memory the month stays as it is.
     pub fn add_event(&mut self, event: Event) -> Result<(), AllocError>
         ensures ok { OnOk result
             (self.new ≡ record self.old { events = self.old.events ++ event ∷ [] }) }
@@ -115,7 +117,8 @@ impl Month {
         Ok(())
     }
 
-    /// Notes the unit that a faction's FORM made under an alias. Without memory the month stays as it is.
+    /// Notes the unit that a faction's FORM made under an alias. Without memory the month stays as
+    /// it is.
     pub fn set_alias(
         &mut self,
         alloc: Global,
@@ -132,7 +135,8 @@ impl Month {
         self.aliases.insert_under(alloc, faction, alias, unit)
     }
 
-    /// Gathers the orders that stand, for all phases until an alias is set. The month stays the same, also without memory.
+    /// Gathers the indices of the orders that count, for all phases until an alias is set.
+    /// The month's value stays the same, also without memory.
     pub(crate) fn gather(&mut self, alloc: Global) -> Result<(), AllocError>
         ensures { self.new ≡ self.old }
     {
@@ -141,9 +145,10 @@ impl Month {
         Ok(())
     }
 
-    /// The orders of a phase that stand, in the arrangement of the phase. It takes memory for each of them. If the month's
-    /// orders aren't gathered, or not in this arrangement, it also takes memory for each order of all mailings, and n log n
-    /// steps for n of them. See docs/RULES.md, "Orders of a month".
+    /// The orders that a phase carries out, in the order of the arrangement. It takes memory for
+    /// each of them. If the month's orders aren't gathered, or not in this arrangement, it also
+    /// takes memory for each order of all mailings, and n log n steps for n of them. See
+    /// docs/RULES.md, "Orders of a month".
     pub fn orders<P: PhaseVerbs>(
         &self,
         alloc: Global,
@@ -163,21 +168,22 @@ impl Month {
         )
     }
 
-    /// The mailing of a faction.
+    /// The mailing of a faction; None where it sent none.
     pub fn mailing(&self, faction: u32) -> Option<&Mailing>
         ensures { option_map reading_of (option_copied result) ≡ get self.now.readings faction }
     {
         mailing_of(&self.mailings, faction)
     }
 
-    /// The unit that a faction names; 0 for an alias under which no unit was made.
+    /// The number of the unit that a faction's order names; 0 for an alias under which no unit was
+    /// made.
     pub fn unit(&self, faction: u32, target: UnitRef) -> u32
         ensures { result ≡ unit_of self.now.aliases faction target }
     {
         unit_of(&self.aliases, faction, target)
     }
 
-    /// The number of the unit that a faction's FORM made under an alias.
+    /// The number of the unit that a faction's FORM made under an alias; None where there is none.
     pub fn alias(&self, faction: u32, alias: u32) -> Option<u32>
         ensures { result ≡ alias_unit self.now.aliases faction alias }
     {
@@ -185,7 +191,7 @@ impl Month {
     }
 }
 
-/// Notes what came of orders. Without memory some of the events may have come to the month.
+/// Adds the events of orders to a month. Without memory some of them may be added.
 pub fn add_events(month: &mut Month, events: &[Event]) -> Result<(), AllocError>
     ensures { OnOk result (month.new ≡ with_events month.old events.now) }
 {
@@ -205,7 +211,7 @@ fn sort(mailings: &mut Vec<Mailing>)
     mailings.sort_unstable_by_key(|mailing| mailing.faction);
 }
 
-/// The mailing of a faction, of mailings that are sorted by their factions.
+/// The mailing of a faction, by binary search in mailings that are sorted by faction.
 fn mailing_of(mailings: &[Mailing], faction: u32) -> Option<&Mailing>
     requires { AreByFaction mailings.now }
     ensures { option_map reading_of (option_copied result)
@@ -217,14 +223,15 @@ fn mailing_of(mailings: &[Mailing], faction: u32) -> Option<&Mailing>
     }
 }
 
-/// The number of the unit that a faction's FORM made under an alias.
+/// The number of the unit that a faction's FORM made under an alias; None where there is none.
 pub(crate) fn unit_under(aliases: &Numbered<Numbered<u32>>, faction: u32, alias: u32) -> Option<u32>
     ensures { result ≡ alias_unit aliases.now faction alias }
 {
     aliases.get_under(faction, alias).copied()
 }
 
-/// Mailings in another order are the same mailings.
+/// Does nothing. Its clause is a law: mailings of different factions, listed in another order, give
+/// the same map of readings.
 pub fn mailings_have_no_order()
     ensures { HaveNoOrder }
 {}

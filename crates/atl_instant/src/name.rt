@@ -19,12 +19,12 @@ use atl_state::{Campaign, EventFault, Outcome, Structure};
 use atl_tables::{Text, World};
 use std::alloc::{AllocError, Global};
 
-/// Names that units give to themselves, their factions and their structures, and guards that they leave. See docs/RULES.md,
-/// "Name".
+/// The phase of NAME and GUARD 0: units name themselves, their factions and structures, and stop
+/// guarding. See docs/RULES.md, "Name".
 #[derive(Drop, Clone, Copy)]
 pub struct NamePhase;
 
-/// The name that an order gives, copied from its mailing.
+/// The name that an order gives, copied from its mailing's text.
 fn name_of(alloc: Global, mailing: &Mailing, span: Span) -> Result<Text, AllocError>
     requires { IsTrue (name_ok (name_in mailing.now.text span)) }
     ensures { IfOk result (λ name. name ≡ name_in mailing.now.text span) }
@@ -34,7 +34,7 @@ fn name_of(alloc: Global, mailing: &Mailing, span: Span) -> Result<Text, AllocEr
     Ok(Text::from_string(letters))
 }
 
-/// A unit that is there takes a name.
+/// Sets the name of a unit, if it is there.
 fn name_unit(campaign: &mut Campaign, unit: u32, name: Text)
     ensures what { campaign.new.value ≡ with_unit_name campaign.old.value unit name }
     ensures marks { MarksChanges campaign.old campaign.new }
@@ -42,7 +42,7 @@ fn name_unit(campaign: &mut Campaign, unit: u32, name: Text)
     campaign.set_unit_name(unit, name);
 }
 
-/// A faction shows another name.
+/// Sets the name that a faction shows.
 fn name_faction(campaign: &mut Campaign, faction: u32, name: Text)
     ensures what { campaign.new.value ≡ with_faction_name campaign.old.value faction name }
     ensures marks { MarksChanges campaign.old campaign.new }
@@ -50,7 +50,7 @@ fn name_faction(campaign: &mut Campaign, faction: u32, name: Text)
     campaign.set_faction_name(faction, name);
 }
 
-/// Whether a structure is a ship, or else a building.
+/// Whether a structure is a ship, where `ship` is true, and a building otherwise.
 fn is_of_kind(world: &World, ship: bool, structure: &Structure) -> bool
     ensures { result ≡ is_of_kind world.now ship structure.now }
 {
@@ -61,7 +61,7 @@ fn is_of_kind(world: &World, ship: bool, structure: &Structure) -> bool
     is_ship == ship
 }
 
-/// Why a unit doesn't name the structure that it is inside.
+/// Why a unit can't name the structure that it is inside; None where it can.
 fn structure_fault(
     world: &World,
     campaign: &Campaign,
@@ -80,7 +80,7 @@ fn structure_fault(
     }
 }
 
-/// A unit inside a structure names it.
+/// Sets the name of the structure that a unit is inside, or changes nothing where a fault fits.
 fn name_structure(
     world: &World,
     campaign: &mut Campaign,
@@ -102,7 +102,7 @@ fn name_structure(
     }
 }
 
-/// A unit leaves its guard.
+/// Clears the guard flag of a unit.
 fn clear_guard(campaign: &mut Campaign, unit: u32)
     ensures what { campaign.new.value ≡ with_guard campaign.old.value unit false }
     ensures marks { MarksChanges campaign.old campaign.new }
@@ -110,7 +110,7 @@ fn clear_guard(campaign: &mut Campaign, unit: u32)
     campaign.set_guard(unit, false);
 }
 
-/// Clears the flag of a unit of the order's faction.
+/// Carries out GUARD 0: clears the guard flag of the order's unit, if that is the faction's own.
 fn leave_guard(campaign: &mut Campaign, order: PhaseOrder<'_>) -> Outcome
     ensures what { (campaign.new.value, result)
         ≡ faction_effect (leave_guard order.entry.unit) campaign.old.value order.entry.faction
@@ -124,7 +124,7 @@ fn leave_guard(campaign: &mut Campaign, order: PhaseOrder<'_>) -> Outcome
     Outcome::Done(0)
 }
 
-/// A unit of a faction, inside a structure or none, gives a name.
+/// Sets the name of a unit, its faction or the structure that it is inside, by the kind of NAME.
 fn name(
     world: &World,
     campaign: &mut Campaign,
@@ -147,7 +147,7 @@ fn name(
     Outcome::Done(0)
 }
 
-/// A unit of the order's faction gives a name.
+/// Carries out NAME for the order's unit, if that is the faction's own.
 fn give_name(
     alloc: Global,
     world: &World,

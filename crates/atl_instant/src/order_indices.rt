@@ -1,4 +1,4 @@
-//! Finds the orders of all mailings that count, and sorts where they are. See docs/RULES.md,
+//! Finds the orders of all mailings that count, and sorts their indices. See docs/RULES.md,
 //! "Orders of a month".
 ghost use Rattle.std.specs.Prelude.{◌≡◌, ◌<◌, length, IfOk, OnOk};
 ghost use Rattle.std.specs.List.Sorted.{IsPermutation, IsSortedByKey};
@@ -12,23 +12,23 @@ use atl_orders::Mailing;
 use atl_tables::Numbered;
 use std::alloc::{AllocError, Global};
 
-/// Where an order that stands is, with the numbers that orders are sorted by.
+/// The index of an order that counts, with the numbers that orders are sorted by.
 #[derive(Drop, Clone, Copy)]
 pub(crate) struct OrderIndex {
-    /// The unit that the order is for, or 0.
+    /// The unit that the order is for; 0 for an alias under which no unit was made.
     pub unit: u32,
     /// The line of the mailing.
     pub line: u32,
-    /// The faction that the mailing is of.
+    /// The faction that sent the mailing.
     pub faction: u32,
-    /// The mailing's place among the month's, from 0 on.
+    /// The index of the mailing among those of the month, from 0 on.
     pub mailing: usize,
-    /// The order's place among the mailing's, from 0 on.
+    /// The index of the order among those of its mailing, from 0 on.
     pub place: usize,
 }
 
 impl OrderIndex {
-    /// What orders are sorted by.
+    /// The numbers that orders are sorted by in this arrangement; the last is the order's index.
     fn key(&self, arrangement: Arrangement) -> [usize; 4]
         ensures { result ≡ key_by arrangement self.now }
     {
@@ -42,7 +42,7 @@ impl OrderIndex {
     }
 }
 
-/// Adds the places of a mailing's orders that stand.
+/// Adds the indices of those orders of a mailing that count by these last lines.
 fn add_standing(
     aliases: &Numbered<Numbered<u32>>,
     mailings: &[Mailing],
@@ -72,7 +72,7 @@ fn add_standing(
     Ok(())
 }
 
-/// Adds the places of the orders that stand in one of the mailings.
+/// Adds the indices of the orders of one mailing that count.
 fn add_mailing(
     alloc: Global,
     aliases: &Numbered<Numbered<u32>>,
@@ -87,7 +87,7 @@ fn add_mailing(
     add_standing(aliases, mailings, at, &lines, list)
 }
 
-/// The places of the orders that stand, mailing by mailing.
+/// The indices of all orders that count, mailing by mailing.
 fn indices_by_mailing(
     alloc: Global,
     aliases: &Numbered<Numbered<u32>>,
@@ -102,8 +102,9 @@ fn indices_by_mailing(
     Ok(list)
 }
 
-/// The places of the orders that stand, in an arrangement, from mailings that are sorted by faction, no two of one faction.
-/// It takes memory for each order, and n log n steps.
+/// The indices of all orders that count, sorted as the arrangement says.
+/// The mailings are sorted by faction, no two of one faction. It takes memory for each order, and
+/// n log n steps.
 pub(crate) fn order_indices(
     alloc: Global,
     arrangement: Arrangement,
@@ -119,7 +120,7 @@ pub(crate) fn order_indices(
     Ok(list)
 }
 
-/// Sorts the places of orders.
+/// Sorts indices of orders by their keys in this arrangement.
 fn sort(list: &mut Vec<OrderIndex>, arrangement: Arrangement)
     ensures moved { IsPermutation list.old.items list.new.items }
     ensures sorted { IsSortedByKey (key_by arrangement) (slice_cmp nat_cmp) list.new.items }

@@ -1,4 +1,5 @@
-//! A phase that carries out its orders one by one. See docs/RULES.md, "Orders of a month".
+//! Phases that carry out their orders one by one, and the loop over the orders. See docs/RULES.md,
+//! "Orders of a month".
 ghost use Rattle.std.specs.Prelude.{◌≡◌, IfOk, IfSome, OnOk, Some};
 ghost use Rattle.std.specs.FinMap.{get};
 ghost use Rattle.std.specs.Option.{option_copied};
@@ -21,29 +22,29 @@ use atl_state::{Campaign, Event, Outcome, Unit};
 use atl_tables::World;
 use std::alloc::{AllocError, Global};
 
-/// A phase that carries its orders out one by one, each over what the one before left.
+/// A phase that carries out its orders one by one, each on the campaign that the one before left.
 pub trait OrderPhase: PhaseVerbs {
     // What an order does for a unit of its own faction, if the phase doesn't pass it over.
     ghost step: { Self → OrderMeaning };
 
-    // What is so of the campaign before each order, and after it.
+    // What holds of the campaign before each order, and after it.
     ghost holds: { Condition };
 
-    // By how much the amounts of the books may still be moved. Most phases book nothing.
+    // By how much each amount of the books may still be moved. Most phases book nothing.
     ghost reserve: { RemainingBound } = { books_nothing };
 
-    // And by how much in all.
+    // By how much the whole phase may move each amount of the books.
     ghost moving: { BookBound } = { moves_nothing };
 
-    // Which units an order concerns, and what stays of the others. With most phases it concerns the unit that it is for, and
-    // the others are no worse off.
+    // Which units an order concerns, and what stays of the others. With most phases it concerns
+    // the unit that it is for, and the others are no worse off.
     ghost concerns: { Affects } = { IsOwnOrder };
 
     ghost spares: { Unaffected } = { IsNoWorse };
 
-    /// Carries out an order of its verbs: what came of it, or None where it passes the order over. An order for a unit that
-    /// isn't the faction's own changes nothing. AllocError without memory; the campaign may then be changed in part. See
-    /// docs/RULES.md, "Orders of a month".
+    /// Carries out an order of the phase's verbs. Returns its outcome, or None where it is passed
+    /// over. An order for a unit that isn't the faction's own changes nothing. AllocError without
+    /// memory; the campaign may then be changed in part. See docs/RULES.md, "Orders of a month".
     fn carry_out(
         &self,
         alloc: Global,
@@ -61,12 +62,12 @@ pub trait OrderPhase: PhaseVerbs {
             campaign.old.value order.entry.faction order.entry.unit) }
         ensures marks { OnOk result (MarksChanges campaign.old campaign.new) };
 
-    /// What each step leaves, and what it spares.
+    /// Does nothing. Its clause says what each step of the phase leaves, and which units it spares.
     fn is_orderly(&self)
         ensures { IsOrderly (step self.now) holds reserve moving concerns spares };
 }
 
-/// Whether a unit is there, and of a faction.
+/// Whether a unit is there, and of this faction.
 pub fn is_of_faction(campaign: &Campaign, unit: u32, faction: u32) -> bool
     ensures { result ≡ is_of_faction faction (get campaign.now.value.units unit) }
 {
@@ -89,7 +90,7 @@ pub fn own_unit<'c>(campaign: &'c Campaign, order: PhaseOrder<'_>) -> Option<&'c
     }
 }
 
-/// Carries out an order, and puts what came of it behind other events.
+/// Carries out an order, and adds its event, if it has one, to those of earlier orders.
 fn carry_one<P: OrderPhase>(
     alloc: Global,
     phase: &P,
@@ -114,8 +115,9 @@ fn carry_one<P: OrderPhase>(
     Ok(())
 }
 
-/// Carries out the orders of a phase, by unit, line and faction, each over what the one before left, and tells of each.
-/// AllocError without memory; campaign and month may then be changed in part. See docs/RULES.md, "Orders of a month".
+/// Carries out the orders of a phase one by one, by unit, line and faction, and adds their events.
+/// AllocError without memory; campaign and month may then be changed in part. See docs/RULES.md,
+/// "Orders of a month".
 pub fn carry_out_orders<P: OrderPhase>(
     alloc: Global,
     phase: &P,
@@ -148,12 +150,12 @@ pub fn carry_out_orders<P: OrderPhase>(
     Ok(())
 }
 
-/// A phase that is nothing but its orders, each of which it carries out alike whatever its own value.
+/// A phase that is nothing but its orders: its step is the same for each value of the type.
 pub trait PlainPhase: OrderPhase {
     // What an order does for a unit of its own faction, if the phase doesn't pass it over.
     ghost makes: { OrderMeaning };
 
-    /// That the step of each value is this one.
+    /// Does nothing. Its clause says that the step of each value is `makes`.
     fn is_plain(&self)
         ensures { Self.step self.now ≡ makes };
 }

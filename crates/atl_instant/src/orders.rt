@@ -7,7 +7,7 @@ ghost use Rattle.atl_orders.specs.Mailing.{reading_of};
 ghost use Rattle.atl_instant.specs.Month.{by_faction};
 ghost use Rattle.atl_instant.specs.PhaseOrders.{OrdersAreInMailings, is_month_long, task_of, orders_of};
 ghost use Rattle.atl_instant.specs.StandOnce.{OneOrderStands};
-ghost use Rattle.atl_instant.specs.OrderIndices.{IsReady, IsThere, task_at, tasks_picked};
+ghost use Rattle.atl_instant.specs.OrderIndices.{IsSortedMonth, IsThere, task_at, tasks_picked};
 
 use crate::order_indices::{OrderIndex, order_indices};
 use crate::phase_order::{Arrangement, PhaseOrder};
@@ -16,18 +16,18 @@ use atl_orders::{Mailing, Slot, Verb};
 use atl_tables::Numbered;
 use std::alloc::{AllocError, Global};
 
-/// The verbs of a phase.
+/// The verbs of the orders that a phase carries out.
 pub trait PhaseVerbs {
     // Whether a verb is one of them.
     ghost is_of: { Verb → Bool };
 
-    /// Whether a verb is one of them.
+    /// Whether a verb is one of the phase's.
     fn has(&self, verb: Verb) -> bool
         ensures { result ≡ is_of verb };
 }
 
-/// The verbs that take the whole month. With these a month has one order for each unit to which a mailing gives such an
-/// order: the one that stands.
+/// The verbs that take the whole month. With these, `Month::orders` gives at most one order for
+/// each unit from each mailing: the one that counts.
 pub struct MonthLongVerbs;
 
 impl PhaseVerbs for MonthLongVerbs {
@@ -38,7 +38,7 @@ impl PhaseVerbs for MonthLongVerbs {
     }
 }
 
-/// The order at a place.
+/// The order that an index names.
 fn order_at<'m>(mailings: &'m [Mailing], placed: &OrderIndex) -> PhaseOrder<'m>
     requires { IsThere mailings.now placed.now }
     ensures { task_of result ≡ task_at mailings.now placed.now }
@@ -55,7 +55,7 @@ fn order_at<'m>(mailings: &'m [Mailing], placed: &OrderIndex) -> PhaseOrder<'m>
     }
 }
 
-/// The orders at places that are of a phase.
+/// The orders that these indices name and that have a verb of the phase.
 fn phase_orders_at<'m, P: PhaseVerbs>(
     alloc: Global,
     phase: &P,
@@ -76,9 +76,9 @@ fn phase_orders_at<'m, P: PhaseVerbs>(
     Ok(list)
 }
 
-/// The orders of a phase that stand, in the arrangement of the phase, from mailings that are sorted by faction, no two of
-/// one faction. By unit they are picked from the places that were gathered, if these are there. Else it gathers all orders
-/// for this call alone.
+/// The orders that a phase carries out, in the order of the arrangement. The mailings are sorted by
+/// faction, no two of one faction. By unit the orders are picked from the gathered indices, if
+/// there are any. Otherwise all orders are gathered for this call alone.
 pub(crate) fn orders_of<'m, P: PhaseVerbs>(
     alloc: Global,
     phase: &P,
@@ -87,7 +87,7 @@ pub(crate) fn orders_of<'m, P: PhaseVerbs>(
     mailings: &'m [Mailing],
     standing: &Option<Vec<OrderIndex>>,
 ) -> Result<Vec<PhaseOrder<'m>>, AllocError>
-    requires { IsReady aliases.now mailings.now standing.now }
+    requires { IsSortedMonth aliases.now mailings.now standing.now }
     ensures { IfOk result (λ list. map task_of list.items
         ≡ values (orders_of P.is_of arrangement aliases.now
         (by_faction (map reading_of mailings.now)))) }
@@ -101,13 +101,14 @@ pub(crate) fn orders_of<'m, P: PhaseVerbs>(
     }
 }
 
-/// Each order of a phase stands in the mailing of its faction, at its place there.
+/// Does nothing. Its clause is a law: each order of a phase is an entry of the mailing of its
+/// faction, at its index there.
 pub fn orders_are_in_mailings()
     ensures { OrdersAreInMailings }
 {}
 
-/// Of the verbs that share a slot, at most one order stands for a unit in a faction's mailing. See docs/RULES.md, "Orders of a
-/// month".
+/// Does nothing. Its clause is a law: of the verbs that share a slot, at most one order counts for
+/// a unit in a faction's mailing. See docs/RULES.md, "Orders of a month".
 pub fn one_order_stands()
     ensures { OneOrderStands }
 {}

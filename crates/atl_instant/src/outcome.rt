@@ -1,11 +1,11 @@
-//! The outcome of an order that failed.
+//! The outcome of an order that has a fault. See docs/RULES.md, "Events".
 ghost use Rattle.std.specs.Prelude.{◌≡◌};
 ghost use Rattle.atl_records.specs.Events.{event_fault_number};
 ghost use Rattle.atl_records.specs.declared.event.Outcome.TheVariants.{Fault};
 
 use atl_state::{EventFault, Outcome};
 
-/// An order that isn't carried out.
+/// The outcome of an order with this fault: the fault by its number.
 pub fn fault_outcome(fault: EventFault) -> Outcome
     ensures { result ≡ Fault (event_fault_number fault) }
 {

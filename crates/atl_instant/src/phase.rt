@@ -17,23 +17,23 @@ pub type PhaseResult = Result<(Campaign, Month), AllocError>;
 
 /// A phase of the month, or some phases one after the other: `(first, second)` is a phase too.
 pub trait Phase {
-    // What it makes of a campaign and of what the month carries.
+    // Its effect: the campaign and the month after it.
     ghost meaning: { Meaning };
 
-    // What it needs of a campaign, and what it leaves: a steady one, with most phases.
+    // What the campaign must be before it, and what it is after it: with most phases steady.
     ghost needs: { Condition } = { IsSteady };
 
     ghost leaves: { Condition } = { IsSteady };
 
-    // By how much it may move each amount of the books: by less than 10^14 for a phase, and so far for each of some phases.
-    // Where nothing is said it moves none.
+    // By how much it may move each amount of the books: by less than 10^14 for a phase, and by the
+    // sum of their bounds for several. By default it moves none.
     ghost moving: { BookBound } = { moves_nothing };
 
-    // What it leaves to the units whose own faction wrote no order of it.
+    // What it keeps: what is left to the units whose own faction wrote no order of it.
     ghost keeps: { Frame };
 
-    /// Runs the phase, with orders as they can be read with the world. AllocError without memory; the campaign and the
-    /// month are then given up.
+    /// Runs the phase, with orders as they can be read with the world. AllocError without memory;
+    /// the campaign and the month are then given up.
     fn run(&self, alloc: Global, world: &World, campaign: Campaign, month: Month) -> PhaseResult
         requires needs { needs world.now campaign.value }
         requires room { HaveRoom moving campaign.value }

@@ -6,7 +6,7 @@ ghost use Rattle.atl_instant.specs.OrderEffects.{event_for};
 use atl_orders::{Mailing, Order};
 use atl_state::{Event, EventVerb, Outcome};
 
-/// In which order a phase carries its orders out.
+/// The order in which a phase carries out its orders.
 #[derive(Drop, Clone, Copy, Debug, PartialEq, Eq)]
 pub enum Arrangement {
     /// By unit, then by line, then by faction.
@@ -15,16 +15,16 @@ pub enum Arrangement {
     ByFaction,
 }
 
-/// An order of a phase: for whom it is, where it stands, and what it says.
+/// An order as a phase gets it: the unit that it is for, its line and faction, and what it says.
 #[derive(Drop, Clone, Copy)]
 pub struct PhaseOrder<'m> {
     /// The unit that the order is for, from 1 on; 0 for an alias under which no unit was made.
     pub unit: u32,
     /// The line of the mailing.
     pub line: u32,
-    /// The faction that the mailing is of.
+    /// The faction that sent the mailing.
     pub faction: u32,
-    /// The place among the mailing's orders, from 0 on.
+    /// The index of the order among those of its mailing, from 0 on.
     pub place: usize,
     /// The mailing, which has the name that the order gives.
     pub mailing: &'m Mailing,
@@ -33,7 +33,7 @@ pub struct PhaseOrder<'m> {
 }
 
 impl<'m> PhaseOrder<'m> {
-    /// What is told of the order.
+    /// The event of the order with this outcome.
     pub fn event(self, outcome: Outcome) -> Event
         ensures { result ≡ event_for (task_of self.entry) outcome }
     {

@@ -20,12 +20,12 @@ use atl_state::{Campaign, EventFault, Outcome, Unit};
 use atl_tables::World;
 use std::alloc::{AllocError, Global};
 
-/// Units leave the structures that they are inside, enter others of their region, and make others owners. See docs/RULES.md,
-/// "Place".
+/// The phase of LEAVE, ENTER and PROMOTE: units leave structures, enter others of their region, and
+/// make others their owners. See docs/RULES.md, "Place".
 #[derive(Drop, Clone, Copy)]
 pub struct PlacePhase;
 
-/// Whether a structure is there, and in a region.
+/// Whether a structure is there, and in this region.
 fn is_in(campaign: &Campaign, structure: u32, region: u32) -> bool
     ensures { result ≡ is_in region (map.get campaign.now.value.structures structure) }
 {
@@ -45,7 +45,7 @@ fn is_owned_by(campaign: &Campaign, structure: u32, unit: u32) -> bool
     }
 }
 
-/// Puts a unit inside a structure of its region, or inside none, where that is 0.
+/// Puts a unit inside a structure of its region, or inside none where `structure` is 0.
 fn put_inside(
     campaign: &mut Campaign,
     unit: u32,
@@ -59,7 +59,7 @@ fn put_inside(
     campaign.place(unit, region, structure)
 }
 
-/// Why a unit doesn't leave the structure that it is inside.
+/// Why a unit can't leave the structure that it is inside; None where it can.
 fn leave_fault(world: &World, unit: &Unit) -> Option<EventFault>
     ensures { result ≡ leave_fault world.now unit.now }
 {
@@ -72,7 +72,7 @@ fn leave_fault(world: &World, unit: &Unit) -> Option<EventFault>
     }
 }
 
-/// A unit leaves the structure that it is inside.
+/// Carries out LEAVE: the unit leaves its structure, or nothing changes where a fault fits.
 #[tactic(auto, unfolding(crate::specs::Place::leave))]
 fn leave(
     world: &World,
@@ -96,7 +96,7 @@ fn leave(
     Ok(Outcome::Done(0))
 }
 
-/// A unit that is inside a structure, or none, enters another.
+/// Puts a unit inside a structure, unless it is inside that already.
 fn enter_other(
     campaign: &mut Campaign,
     unit: u32,
@@ -115,7 +115,7 @@ fn enter_other(
     }
 }
 
-/// A unit enters a structure of its region.
+/// Carries out ENTER: the unit enters a structure, or nothing changes where a fault fits.
 #[tactic(auto, unfolding(crate::specs::Place::enter))]
 fn enter(
     campaign: &mut Campaign,
@@ -139,7 +139,7 @@ fn enter(
     Ok(Outcome::Done(0))
 }
 
-/// Why a unit doesn't make another the owner of the structure that it is inside.
+/// Why a unit can't make another the owner of its structure; None where it can.
 fn promote_fault(campaign: &Campaign, number: u32, to: u32, unit: &Unit) -> Option<EventFault>
     ensures { result ≡ promote_fault campaign.now.value number to unit.now }
 {
@@ -154,7 +154,7 @@ fn promote_fault(campaign: &Campaign, number: u32, to: u32, unit: &Unit) -> Opti
     }
 }
 
-/// A structure gets an owner.
+/// Sets the owner of a structure.
 fn give_to(campaign: &mut Campaign, structure: u32, owner: u32)
     ensures what { campaign.new.value ≡ with_owner campaign.old.value structure owner }
     ensures marks { MarksChanges campaign.old campaign.new }
@@ -162,7 +162,7 @@ fn give_to(campaign: &mut Campaign, structure: u32, owner: u32)
     campaign.set_owner(structure, owner);
 }
 
-/// A unit makes another the owner of the structure that both are inside.
+/// Carries out PROMOTE: another unit gets the structure, or nothing changes where a fault fits.
 #[tactic(auto, unfolding(crate::specs::Place::promote))]
 fn promote(campaign: &mut Campaign, order: PhaseOrder<'_>, to: u32) -> Outcome
     ensures what { (campaign.new.value, result)

@@ -26,11 +26,12 @@ use atl_state::{Campaign, Entry, EventFault, Outcome, Thing, Unit};
 use atl_tables::World;
 use std::alloc::{AllocError, Global};
 
-/// Factions quit, and all their units leave with all that they have. See docs/RULES.md, "Quitting".
+/// The phase of QUIT: all units of a faction leave with all that they have.
+/// See docs/RULES.md, "Quitting".
 #[derive(Drop, Clone, Copy)]
 pub struct QuitPhase;
 
-/// What a thing that goes is booked under.
+/// The entry under which what a leaving unit has is booked: left for men, else lost.
 fn loss_entry(thing: Thing) -> Entry
     ensures { result ≡ loss_entry thing }
 {
@@ -40,7 +41,7 @@ fn loss_entry(thing: Thing) -> Entry
     }
 }
 
-/// Books that so much of a thing is gone.
+/// Books that this amount of a thing is gone.
 fn book_loss(campaign: &mut Campaign, thing: Thing, amount: u32)
     requires there { thing_index thing < campaign.old.value.books.things }
     requires room { HasRoom amount (amount_in campaign.old.value.books (loss_entry thing) thing) }
@@ -50,7 +51,7 @@ fn book_loss(campaign: &mut Campaign, thing: Thing, amount: u32)
     book_taken(campaign, loss_entry(thing), thing, amount);
 }
 
-/// Books that items are gone.
+/// Books that these amounts of items are lost.
 fn book_items(world: &World, campaign: &mut Campaign, items: &[(u16, u32)])
     requires things { campaign.old.value.books.things ≡ things_of world.now }
     requires known { EachOf (λ i amount. i < length world.now.items) items.now }
@@ -63,7 +64,7 @@ fn book_items(world: &World, campaign: &mut Campaign, items: &[(u16, u32)])
     }
 }
 
-/// Books that all that a unit has is gone.
+/// Books that all that a unit has is gone: its men, its money and its items.
 fn book_off(world: &World, campaign: &mut Campaign, men: u32, money: u32, items: &[(u16, u32)])
     requires things { campaign.old.value.books.things ≡ things_of world.now }
     requires known { EachOf (λ i amount. i < length world.now.items) items.now }
@@ -80,7 +81,7 @@ fn book_off(world: &World, campaign: &mut Campaign, men: u32, money: u32, items:
     book_items(world, campaign, items);
 }
 
-/// A unit leaves with all that it has.
+/// Removes a unit, and books all that it has as gone; nothing changes where it isn't there.
 #[tactic(auto, unfolding(crate::specs::Quit::after_leaving))]
 fn leave(
     alloc: Global,
@@ -104,7 +105,7 @@ fn leave(
     Ok(())
 }
 
-/// Units leave.
+/// Removes these units one after another, and books all that they have as gone.
 fn leave_all(
     alloc: Global,
     world: &World,
@@ -123,7 +124,7 @@ fn leave_all(
     Ok(())
 }
 
-/// Why a unit's faction can't quit by this number.
+/// Why a unit's faction can't quit by this number; None where it can.
 fn quit_fault(number: u32, unit: &Unit) -> Option<EventFault>
     ensures { result ≡ quit_fault number unit.now }
 {
@@ -133,7 +134,7 @@ fn quit_fault(number: u32, unit: &Unit) -> Option<EventFault>
     None
 }
 
-/// The units of a unit's faction leave, or nothing changes where a fault fits.
+/// Carries out QUIT: all units of the faction leave, or nothing changes where a fault fits.
 #[tactic(auto, unfolding(crate::specs::Quit::quit))]
 fn quit(
     alloc: Global,

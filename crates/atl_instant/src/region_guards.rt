@@ -8,7 +8,7 @@ use atl_tables::Numbered;
 use std::alloc::{AllocError, Global};
 use std::marker::Model;
 
-/// The factions that guard regions, by region.
+/// The number of the faction that guards each region, by region.
 #[derive(Drop)]
 pub(crate) struct RegionGuards {
     factions: Numbered<u32>,
@@ -27,7 +27,7 @@ impl Model for RegionGuards {
 }
 
 impl RegionGuards {
-    /// Those of a campaign, from one pass over its units.
+    /// The map of a campaign, made in one pass over its units. AllocError without memory.
     pub(crate) fn of(alloc: Global, campaign: &Campaign) -> Result<RegionGuards, AllocError>
         ensures { IfOk result (λ holders. holders ≡ guard_map_of campaign.now.value) }
     {
@@ -40,7 +40,7 @@ impl RegionGuards {
         Ok(holders)
     }
 
-    /// Notes a unit's faction, if the unit is on guard.
+    /// Sets the faction of a unit for its region, if the unit guards.
     fn note(&mut self, unit: &Unit) -> Result<(), AllocError>
         ensures { OnOk result (self.new ≡ with_guard_of self.old unit.now) }
     {

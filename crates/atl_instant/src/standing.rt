@@ -10,7 +10,7 @@ use atl_orders::{Mailing, Slot, UnitRef};
 use atl_tables::Numbered;
 use std::alloc::{AllocError, Global};
 
-/// The slot's number, from 0 on.
+/// The number of a slot, from 0 on.
 fn number_of(slot: Slot) -> u32
     ensures { result ≡ slot_number slot }
 {
@@ -23,7 +23,7 @@ fn number_of(slot: Slot) -> u32
     }
 }
 
-/// Whether a slot is the other.
+/// Whether there is a second slot, and it is the first one.
 pub(crate) fn is_slot(slot: Slot, other: Option<Slot>) -> bool
     ensures { result ≡ is_slot slot other }
 {
@@ -33,7 +33,8 @@ pub(crate) fn is_slot(slot: Slot, other: Option<Slot>) -> bool
     }
 }
 
-/// The number of the unit that an order is for, or 0.
+/// The number of the unit that a faction's order names; 0 for an alias under which no unit was
+/// made.
 pub(crate) fn unit_of(aliases: &Numbered<Numbered<u32>>, faction: u32, target: UnitRef) -> u32
     ensures { result ≡ unit_of aliases.now faction target }
 {
@@ -43,10 +44,10 @@ pub(crate) fn unit_of(aliases: &Numbered<Numbered<u32>>, faction: u32, target: U
     }
 }
 
-/// The greatest line of a mailing's orders in each slot, by slot and then by unit.
+/// The greatest line of a mailing's orders in each slot, by the slot's number and then by unit.
 pub(crate) type LastLines = Numbered<Numbered<u32>>;
 
-/// The greatest line of a unit's orders in a slot, or 0.
+/// The greatest line in a slot for a unit; 0 where there is none.
 fn line_in(lines: &LastLines, slot: Slot, unit: u32) -> u32
     ensures { result ≡ line_in lines.now (slot_number slot) unit }
 {
@@ -56,7 +57,7 @@ fn line_in(lines: &LastLines, slot: Slot, unit: u32) -> u32
     }
 }
 
-/// Notes a line of a unit's orders in a slot.
+/// Notes the line of one more order in a slot for a unit.
 fn note(
     alloc: Global,
     lines: &mut LastLines,
@@ -70,7 +71,7 @@ fn note(
     lines.insert_under(alloc, number_of(slot), unit, last)
 }
 
-/// The greatest line of a mailing's orders in each slot, of each unit.
+/// The greatest line of a mailing's orders in each slot, for each unit.
 pub(crate) fn last_lines(
     alloc: Global,
     aliases: &Numbered<Numbered<u32>>,
@@ -89,7 +90,7 @@ pub(crate) fn last_lines(
     Ok(lines)
 }
 
-/// Whether an order stands.
+/// Whether an order counts: its line is the greatest in its slot, or it has no slot.
 pub(crate) fn stands(lines: &LastLines, unit: u32, line: u32, slot: Option<Slot>) -> bool
     ensures { result ≡ stands_by lines.now unit line slot }
 {

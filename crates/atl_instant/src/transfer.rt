@@ -22,11 +22,12 @@ use atl_state::{Campaign, EventFault, Holding, MEN_LIMIT, Outcome, Unit};
 use atl_tables::World;
 use std::alloc::{AllocError, Global};
 
-/// Men go to units of their faction in their region, with their part of the days of study. See docs/RULES.md, "Transferring".
+/// The phase of TRANSFER: men go to other units of their faction and region, with their part of the
+/// days of study. See docs/RULES.md, "Transferring".
 #[derive(Drop, Clone, Copy)]
 pub struct TransferPhase;
 
-/// The days of a skill that go with so many of a unit's men.
+/// The days of a skill that go with `going` of a unit's men: their part, rounded down.
 fn days_going(going: u32, men: u32, days: u32) -> u32
     requires some { 1 ≤ men }
     requires fewer { going ≤ men }
@@ -36,7 +37,7 @@ fn days_going(going: u32, men: u32, days: u32) -> u32
     (u64::from(days) * u64::from(going) / u64::from(men)) as u32
 }
 
-/// The days of each skill that stay as so many of a unit's men go.
+/// The days of each skill that stay with a unit as `going` of its men go.
 fn days_left(alloc: Global, going: u32, holding: &Holding) -> Result<Vec<(u32, u32)>, AllocError>
     requires fewer { going ≤ holding.now.men }
     requires days { Every (λ s days. (1 ≤ days) × (days ≤ most_days * holding.now.men))
@@ -51,7 +52,7 @@ fn days_left(alloc: Global, going: u32, holding: &Holding) -> Result<Vec<(u32, u
     Ok(list)
 }
 
-/// The days that a unit has, once so many men of another come to it, of each skill of these.
+/// The days that the receiver has of each of the sender's skills once `going` men came.
 fn days_raised(
     alloc: Global,
     going: u32,
@@ -76,7 +77,7 @@ fn days_raised(
     Ok(list)
 }
 
-/// So many men go from one unit to another with their days.
+/// Moves `going` men with their days from one unit to another, if both are there.
 fn send(
     alloc: Global,
     campaign: &mut Campaign,
@@ -106,7 +107,7 @@ fn send(
     set_people(campaign, to, more, &raised)
 }
 
-/// Why so many men can't go from a unit to another.
+/// The fault of sending `going` men to a receiver; None where it has none.
 fn transfer_fault(
     going: u32,
     itself: bool,
@@ -133,7 +134,7 @@ fn transfer_fault(
     None
 }
 
-/// Sends so many men, or nobody where a fault fits.
+/// Carries out an order of TRANSFER, or changes nothing where it has a fault.
 #[tactic(auto, unfolding(crate::specs::Transfer::transfer))]
 fn transfer(
     alloc: Global,
@@ -201,7 +202,8 @@ impl PlainPhase for TransferPhase {
     fn is_plain(&self) {}
 }
 
-/// Of each skill so many days go from the one unit to the other as go with the men.
+/// Does nothing. Its clause is a law: each skill's days leave the one unit and come to the other as
+/// the definitions of TRANSFER say.
 pub fn days_go_with_men()
     ensures { DaysGoWithMen }
 {}

@@ -17,7 +17,7 @@ use Rattle.atl_records.specs.Holdings.{amount_of, with_amount_of}
 use Rattle.atl_state.specs.Owners.{with_place}
 use Rattle.atl_state.specs.Campaign.{CampaignValue, with_amount, with_item}
 use Rattle.atl_state.proofs.RegionLaws.{changed-known}
-use Rattle.atl_instant.proofs.PhaseSpecLaws.{Leaves}
+use Rattle.atl_instant.proofs.PhaseSpecLaws.{PhaseLeavesUnmailed}
 use Rattle.atl_instant.proofs.UnmailedLaws.{HaveTheirMen, OthersHaveMen, SparesMen, carried_leaves, items_of_no_worse, men_put, men_same, men_stay, men_twice, men_unless, others_men, own_faction, unmailed_spared}
 use Rattle.atl_instant.proofs.UnmailedStepLaws.{place_men}
 use Rattle.atl_market.specs.Build.{after_building_on, after_start, begin, begin_fault, build_effect, build_spec, build_step, go_on, go_on_at, inside_fault, is_building, outside_fault, size_added, with_kind, with_new}
@@ -78,7 +78,7 @@ built_men w c f n x other = tt
 build_spares : SparesMen build_step
 build_spares w a c t x own = built_men w c t.faction t.unit x t.order_value.operands
 
-pub build_leaves : Leaves build_spec
+pub build_leaves : PhaseLeavesUnmailed build_spec
 build_leaves = carried_leaves build_step is_building build_spares (unmailed_spared is_building own_faction items_of_no_worse)
 
 -- ---- PRODUCE
@@ -99,7 +99,7 @@ produced_men asked w c e =
     (by_option (HaveTheirMen c) (λ r. with_used c e.0 r (e.1 * x.raw_count)) x.raw c (men_stay c) (λ r raw. used_men c e.0 r (e.1 * x.raw_count)))
     (made_men used e.0 i e.1)))
 
-pub produce_leaves : Leaves produce.produce_spec
+pub produce_leaves : PhaseLeavesUnmailed produce.produce_spec
 produce_leaves =
     shared_leave produce.produce_pots (ordered_for produce.is_produce)
     (paid_men produce.produce_pots (ordered_for produce.is_produce) (λ w items. produced_men items w))

@@ -20,7 +20,7 @@ use Rattle.atl_instant.specs.PhaseOrders.{Task, orders_by_unit}
 use Rattle.atl_instant.specs.NoWorse.{AreNoWorse}
 use Rattle.atl_instant.specs.Unmailed.{men_starved_by, starved_in}
 use Rattle.atl_instant.specs.declared.phase_order.Arrangement.TheVariants.{ByUnit}
-use Rattle.atl_instant.proofs.PhaseSpecLaws.{Leaves}
+use Rattle.atl_instant.proofs.PhaseSpecLaws.{PhaseLeavesUnmailed}
 use Rattle.atl_instant.proofs.UnmailedLaws.{HasItsItems, HasItsMen, HaveTheirMen, LeavesUnmailed, UnmailedAre, items_of_no_worse, men_changed, men_in_turn, men_stay, none_ordered, whole_leaves}
 use Rattle.atl_market.specs.PotPhase.{PotMeaning, after_sharing, event_of, events_by, given_by, items_by, pots_meaning}
 use Rattle.atl_market.specs.Recruit.{is_recruit, recruit_pots, recruit_spec, recruits_at}
@@ -90,7 +90,7 @@ tax_men w c e =
     men_changed (λ v. record v { holding = record v.holding { money = u.holding.money + e.1 } }) (λ v. record { faction = refl; men = refl })
     c (with_region_money (with_money c e.0 (u.holding.money + e.1)) u.region (q.money - e.1)) e.0 refl))
 
-pub tax_leaves : Leaves tax_spec
+pub tax_leaves : PhaseLeavesUnmailed tax_spec
 tax_leaves = shared_leave tax_pots (ordered_for is_tax) (paid_men tax_pots (ordered_for is_tax) (λ w items. tax_men w)) none_worse
 
 -- ---- WORK
@@ -103,7 +103,7 @@ work_men w c e =
     men_changed (λ v. record v { holding = record v.holding { money = u.holding.money + wages } }) (λ v. record { faction = refl; men = refl })
     c (with_amount (with_money c e.0 (u.holding.money + wages)) Wages Money (pos wages)) e.0 refl)
 
-pub work_leaves : Leaves work_spec
+pub work_leaves : PhaseLeavesUnmailed work_spec
 work_leaves = shared_leave work_pots work_orders (paid_men work_pots work_orders (λ w items. work_men w)) none_worse
 
 -- ---- RECRUIT
@@ -127,7 +127,7 @@ module _ (is_of : Verb → Bool) (m : MonthValue) where
   pub others_items : (c d : CampaignValue) → OthersAreNoWorse (orders_by_unit is_of m) c d → UnmailedAre HasItsItems m c d
   others_items c d h n u there none = let (v, behind, better) = h n u there (unordered n u none) in record { unit = v; there = behind; spared = items_of_no_worse u v better }
 
-pub recruit_leaves : Leaves recruit_spec
+pub recruit_leaves : PhaseLeavesUnmailed recruit_spec
 recruit_leaves =
     shared_leave recruit_pots (ordered_for is_recruit)
     (λ w c m n u there none.
@@ -152,8 +152,8 @@ module _ (trade : Trade) where
       })
       (λ w c d m. others_items (is_trade trade) m c d)
 
-pub sell_leaves : Leaves sell_spec
+pub sell_leaves : PhaseLeavesUnmailed sell_spec
 sell_leaves = trade_leaves Sell
 
-pub buy_leaves : Leaves buy_spec
+pub buy_leaves : PhaseLeavesUnmailed buy_spec
 buy_leaves = trade_leaves Buy

@@ -14,7 +14,7 @@ use Rattle.atl_instant.specs.Meaning.{BookBound, both_move, most_moved, moves_on
 use Rattle.atl_instant.specs.Quit.{quit_spec}
 use Rattle.atl_instant.specs.PhaseSpecs.{EachPhase, MovedEntries, MovesItsOwn, PhaseSpec, may_move, no_moved_entries}
 use Rattle.atl_instant.specs.Unbooked.{moves_nothing}
-use Rattle.atl_instant.proofs.PhaseSpecLaws.{CloseTogether, Leaves}
+use Rattle.atl_instant.proofs.PhaseSpecLaws.{CloseTogether, PhaseLeavesUnmailed}
 use Rattle.atl_instant.proofs.UnmailedStepLaws.{form_leaves, give_leaves, guard_leaves, name_leaves, place_leaves, quit_leaves, transfer_leaves}
 use Rattle.atl_action.proofs.UnmailedLearnLaws.{learn_leaves}
 use Rattle.atl_action.proofs.UnmailedTravelLaws.{sail_leaves, walk_leaves}
@@ -120,9 +120,9 @@ sweep_alone e (Item i) = both_hold (entry_index e == entry_index entries.Lost) (
 
 pub record IsPhase (phase : PhaseSpec) : Type 0 where
   pub moves : MovesItsOwn phase
-  pub leaves : Leaves phase
+  pub leaves : PhaseLeavesUnmailed phase
 
-is_phase : (phase : PhaseSpec) → MovesItsOwn phase → Leaves phase → IsPhase phase
+is_phase : (phase : PhaseSpec) → MovesItsOwn phase → PhaseLeavesUnmailed phase → IsPhase phase
 is_phase phase moves leaves = record { moves = moves; leaves = leaves }
 
 -- what is so of one phase, and what is so of the others

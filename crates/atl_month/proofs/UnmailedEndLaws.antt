@@ -16,7 +16,7 @@ use Rattle.atl_state.proofs.RegionLaws.{get-insert_same}
 use Rattle.atl_instant.specs.Month.{MonthValue}
 use Rattle.atl_instant.specs.OrderEffects.{IsUnaffected}
 use Rattle.atl_instant.specs.Unmailed.{IsLessBy, men_starved_by, starved_in}
-use Rattle.atl_instant.proofs.StructureLaws.{equal}
+use Rattle.atl_instant.proofs.StructureLaws.{equal_passes}
 use Rattle.atl_instant.proofs.UnmailedLaws.{ClosesUnmailed, LeavesUnmailed, men_same, whole_leaves}
 use Rattle.atl_month.specs.declared.upkeep_sharing.UpkeepResult.{UpkeepResult}
 use Rattle.atl_month.specs.Season.{season_keeps, season_meaning}
@@ -67,7 +67,7 @@ supplied_at c s n u there = elim (cases_eq n s.unit) [
   | inl own ↦
       let here : get c.units s.unit ≡ Some u = ap (get c.units) (sym own) ∙ there in
       let behind : get (upkeep_at c s).units n ≡ Some (supplied_unit s u) = ap (λ k. get (upkeep_at c s).units k) own ∙ ap (λ o. get (upkeep_in c s o).units s.unit) here ∙ get-insert_same c.units s.unit (supplied_unit s u) in
-      record { unit = supplied_unit s u; there = behind; spared = subst (λ b. IsLessBy (if b then s.starved else 0) u (supplied_unit s u)) (sym (equal s.unit n (sym own))) (fewer_by s u) }
+      record { unit = supplied_unit s u; there = behind; spared = subst (λ b. IsLessBy (if b then s.starved else 0) u (supplied_unit s u)) (sym (equal_passes s.unit n (sym own))) (fewer_by s u) }
   | inr apart ↦
       record { unit = u; there = by_unit apart (get c.units s.unit) ∙ there; spared = subst (λ b. IsLessBy (if b then s.starved else 0) u u) (sym (other_number s.unit n (λ same. apart (sym same)))) (nobody_less u) }
 ]
