@@ -65,8 +65,8 @@ abbrev pub marked_code : Coded MarkedCampaign
 marked_code = code_by (CampaignValue × Marks) (coded× campaign_code marks_code) (λ m. (m.value, m.marks)) (λ p. record { value = p.0; marks = p.1 }) (λ _. refl)
 
 -- a campaign of nothing
-abbrev pub nothing : CampaignValue
-nothing = record {
+abbrev pub empty_campaign : CampaignValue
+empty_campaign = record {
   month = 0;
   pass = [];
   next_faction = 1;
@@ -82,7 +82,7 @@ nothing = record {
 }
 
 abbrev pub blank : MarkedCampaign
-blank = record { value = nothing; marks = no_marks }
+blank = record { value = empty_campaign; marks = no_marks }
 
 -- the numbers of the factions that aren't gone, in rising order
 abbrev pub active : CampaignValue → List ℕ

@@ -37,27 +37,27 @@ rule_number Books = 11
 rule_number Mail = 12
 
 -- what a rule says of the rows of a format, and of the campaign that they say
-abbrev pub Keeps : Format → WorldValue → Parts → Rule → Type 0
-Keeps f w p OneRow = IsTrue (is_one_campaign_row f p.campaign) × IsTrue (are_of_format f p.markets)
-Keeps f w p Ranges = AreRowsInRange w p
-Keeps f w p Names = AreRowsNamed p
-Keeps f w p Known = AreKnown w (campaign_of w p) × IsTrue (list_all (is_of_unit (campaign_of w p)) p.has) × IsTrue (list_all (is_of_market w) p.markets)
-Keeps f w p Next = AreNumbered (campaign_of w p)
-Keeps f w p Days = AreDays (campaign_of w p)
-Keeps f w p Gone = GoneHaveNone (campaign_of w p) × NoneAreGone (campaign_of w p)
-Keeps f w p Owners = AreOwned (campaign_of w p)
-Keeps f w p Water = AreAfloat w (campaign_of w p)
-Keeps f w p Guards = AreOfOneFaction guards (campaign_of w p)
-Keeps f w p Books = IsTrue (list_all (is_booked f w) p.books) × Balances (campaign_of w p)
-Keeps f w p Mail = IsMail (campaign_of w p) × AreReported (campaign_of w p)
+abbrev pub KeepsRule : Format → WorldValue → Parts → Rule → Type 0
+KeepsRule f w p OneRow = IsTrue (is_one_campaign_row f p.campaign) × IsTrue (are_of_format f p.markets)
+KeepsRule f w p Ranges = AreRowsInRange w p
+KeepsRule f w p Names = AreRowsNamed p
+KeepsRule f w p Known = AreKnown w (campaign_of w p) × IsTrue (list_all (is_of_unit (campaign_of w p)) p.has) × IsTrue (list_all (is_of_market w) p.markets)
+KeepsRule f w p Next = AreNumbered (campaign_of w p)
+KeepsRule f w p Days = AreDays (campaign_of w p)
+KeepsRule f w p Gone = GoneHaveNone (campaign_of w p) × NoneAreGone (campaign_of w p)
+KeepsRule f w p Owners = AreOwned (campaign_of w p)
+KeepsRule f w p Water = AreAfloat w (campaign_of w p)
+KeepsRule f w p Guards = AreOfOneFaction guards (campaign_of w p)
+KeepsRule f w p Books = IsTrue (list_all (is_booked f w) p.books) × Balances (campaign_of w p)
+KeepsRule f w p Mail = IsMail (campaign_of w p) × AreReported (campaign_of w p)
 
-abbrev pub KeepsBelow : Format → WorldValue → Parts → ℕ → Type 0
-KeepsBelow f w p n = (r : Rule) → rule_number r < n → Keeps f w p r
+abbrev pub KeepsRulesBelow : Format → WorldValue → Parts → ℕ → Type 0
+KeepsRulesBelow f w p n = (r : Rule) → rule_number r < n → KeepsRule f w p r
 
 -- the rules before it hold, and it doesn't
 pub record IsFirstBroken (f : Format) (w : WorldValue) (p : Parts) (r : Rule) : Type 0 where
-  pub before : KeepsBelow f w p (rule_number r)
-  pub broken : ¬ Keeps f w p r
+  pub before : KeepsRulesBelow f w p (rule_number r)
+  pub broken : ¬ KeepsRule f w p r
 
 -- a campaign that has nothing in stock, and no amounts under the entries of markets
 pub record IsWithoutMarkets (c : CampaignValue) : Type 0 where
@@ -90,6 +90,6 @@ GivesBack f w p (Err Memory) = ⊤
 
 -- For proofs alone: the rules below a number hold, or one of them is the first that is broken.
 abbrev pub Passes : Format → WorldValue → Parts → ℕ → Result (Prim.Unit {0}) CheckFault → Type 0
-Passes f w p n (Ok u) = KeepsBelow f w p n
+Passes f w p n (Ok u) = KeepsRulesBelow f w p n
 Passes f w p n (Err (Damaged r)) = IsFirstBroken f w p r
 Passes f w p n (Err Memory) = ⊤

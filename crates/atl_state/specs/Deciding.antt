@@ -29,6 +29,6 @@ one_holder faction holder [] = true
 one_holder faction holder (n ∷ ns) = agree (faction n) holder && one_holder faction (option_or holder (faction n)) ns
 
 -- no two of the factions joined under one name
-abbrev pub Differ : List (ℕ × Faction) → Type 0
-Differ [] = ⊤
-Differ (e ∷ es) = EachOf (λ n f. e.1.joined_as ≢ f.joined_as) es × Differ es
+abbrev pub JoinedNamesDiffer : List (ℕ × Faction) → Type 0
+JoinedNamesDiffer [] = ⊤
+JoinedNamesDiffer (e ∷ es) = EachOf (λ n f. e.1.joined_as ≢ f.joined_as) es × JoinedNamesDiffer es

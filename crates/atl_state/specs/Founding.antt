@@ -8,7 +8,7 @@ use Rattle.atl_records.specs.declared.books.Entry.TheVariants.{Founding}
 use Rattle.atl_records.specs.declared.books.Thing.TheVariants.{Money, People}
 use Rattle.atl_records.specs.declared.records.Region.{Region}
 use Rattle.atl_records.specs.Books.{after_booking, no_amounts}
-use Rattle.atl_state.specs.Campaign.{CampaignValue, nothing}
+use Rattle.atl_state.specs.Campaign.{CampaignValue, empty_campaign}
 
 -- a region as it is founded, with nothing in stock
 abbrev pub founded_region : RegionPlan → Region
@@ -20,7 +20,7 @@ things_of w = 2 + length w.items
 
 -- month 0 has been closed; the regions hold what the world gives them, which is booked; and nobody is there
 unfoldable pub founded_of : WorldValue → List ℕ → CampaignValue
-founded_of w pass = let regions = mapped founded_region w.regions in record nothing {
+founded_of w pass = let regions = mapped founded_region w.regions in record empty_campaign {
   pass = pass;
   regions = regions;
   books = after_booking (after_booking (no_amounts (things_of w)) Founding Money (pos (sum_over (λ r. r.money) regions))) Founding People (pos (sum_over (λ r. r.peasants) regions));

@@ -89,15 +89,15 @@ abbrev pub region_of : List StoredMarket → StoredRegion → Region
 region_of markets r = region_with r (stocks_of (as_u32 r.number) markets)
 
 -- the books with the amount of a row, where its entry and its thing are there
-abbrev pub with_row : BooksValue → StoredBooks → BooksValue
-with_row books r =
+abbrev pub with_books_row : BooksValue → StoredBooks → BooksValue
+with_books_row books r =
     option_map_or (λ e. if nat_lt (as_u32 r.thing) books.things then with_amount books e (thing_at (as_u32 r.thing)) r.amount else books)
     (entry_numbered (as_u32 r.entry)) books
 
 -- the books with the amount of each row, one after another
 abbrev pub put_amounts : List StoredBooks → BooksValue → BooksValue
 put_amounts [] books = books
-put_amounts (r ∷ rs) books = put_amounts rs (with_row books r)
+put_amounts (r ∷ rs) books = put_amounts rs (with_books_row books r)
 
 -- ---- all of them
 

@@ -2,8 +2,8 @@
 use Rattle.std.specs.Prelude.{ℕ, List, map}
 use Rattle.atl_state.specs.declared.index.IndexEntry.{IndexEntry}
 
-abbrev pub numbers_of : List IndexEntry → List ℕ
-numbers_of = map (λ p. p.number)
+abbrev pub index_numbers : List IndexEntry → List ℕ
+index_numbers = map (λ p. p.number)
 
 abbrev pub slots_of : List IndexEntry → List (ℕ × ℕ)
 slots_of = map (λ p. (p.number, p.slot))

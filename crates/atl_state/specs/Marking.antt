@@ -63,8 +63,8 @@ abbrev pub mark_structure : MarkedCampaign → ℕ → Marks
 mark_structure c n = record c.marks { structures = marked_with c.marks.structures n (get c.value.structures n) }
 
 -- the campaign's own row
-abbrev pub mark_row : MarkedCampaign → Marks
-mark_row c = record c.marks { row = true }
+abbrev pub mark_campaign_row : MarkedCampaign → Marks
+mark_campaign_row c = record c.marks { row = true }
 
 -- a structure that was begun
 abbrev pub mark_structure_begun : MarkedCampaign → Marks
@@ -116,8 +116,8 @@ abbrev pub mark_mail : MarkedCampaign → ℕ → Marks
 mark_mail c n = record c.marks { mail = insert c.marks.mail n }
 
 -- a faction that joined, with its unit, what it booked, and the numbers that come next
-abbrev pub join_marked : MarkedCampaign → Marks
-join_marked c = record c.marks {
+abbrev pub mark_join : MarkedCampaign → Marks
+mark_join c = record c.marks {
   factions = insert c.marks.factions c.value.next_faction;
   units = insert c.marks.units c.value.next_unit;
   rows = insert c.marks.rows c.value.next_unit;

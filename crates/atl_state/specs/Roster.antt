@@ -45,8 +45,8 @@ abbrev pub with_unit_at : Roster → ℕ → Unit → Roster
 with_unit_at r n u = record (all_marked r n) { values = map.insert r.values n u }
 
 -- a unit whose row changed, and none of its goods
-abbrev pub with_row : (Unit → Unit) → Roster → ℕ → Roster
-with_row f r n = record r { values = changed f r.values n; marks = marked_with r.marks n (map.get r.values n); rows = marked_with r.rows n (map.get r.values n) }
+abbrev pub with_unit_row : (Unit → Unit) → Roster → ℕ → Roster
+with_unit_row f r n = record r { values = changed f r.values n; marks = marked_with r.marks n (map.get r.values n); rows = marked_with r.rows n (map.get r.values n) }
 
 -- a unit of which one item changed, or one skill, and nothing else
 abbrev pub with_item_at : (Unit → Unit) → Roster → ℕ → ℕ → Roster

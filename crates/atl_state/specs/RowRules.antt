@@ -166,12 +166,12 @@ abbrev pub are_named : Parts → Bool
 are_named p = ((pass_ok (campaign_row_of p).pass && list_all faction_named p.factions) && list_all (λ r. name_ok r.name) p.units) && list_all (λ r. name_ok r.name) p.structures
 
 -- no two factions joined under one name
-abbrev pub HaveJoined : List StoredFaction → Type 0
-HaveJoined rows = IsDistinct (eq_by_cmp (slice_cmp nat_cmp)) (map (λ r. r.joined_as) rows)
+abbrev pub AreJoinedNamesDistinct : List StoredFaction → Type 0
+AreJoinedNamesDistinct rows = IsDistinct (eq_by_cmp (slice_cmp nat_cmp)) (map (λ r. r.joined_as) rows)
 
 pub record AreRowsNamed (p : Parts) : Type 0 where
   pub texts : IsTrue (are_named p)
-  pub joined : HaveJoined p.factions
+  pub joined : AreJoinedNamesDistinct p.factions
 
 -- ---- what rows say of other rows
 

@@ -81,12 +81,12 @@ abbrev pub amount_rows : {R : Type 0} → (R → ℤ) → (ℕ → ℕ → R) �
 amount_rows amount row es = filter (λ r. not (is_zero (amount r))) (rows_by row es)
 
 -- what a unit has of a sort, where it is not 0
-abbrev pub kind_rows : ℕ → ℕ → List (ℕ × ℕ) → List StoredHas
-kind_rows n sort es = amount_rows (λ r. r.amount) (has_row n sort) es
+abbrev pub rows_of_sort : ℕ → ℕ → List (ℕ × ℕ) → List StoredHas
+rows_of_sort n sort es = amount_rows (λ r. r.amount) (has_row n sort) es
 
 -- what a unit has: items, then days of study
 abbrev pub held_rows : ℕ → HoldingValue → List StoredHas
-held_rows n h = kind_rows n 0 (entries h.items) ++ kind_rows n 1 (entries h.days)
+held_rows n h = rows_of_sort n 0 (entries h.items) ++ rows_of_sort n 1 (entries h.days)
 
 abbrev pub has_rows : List (ℕ × Unit) → List StoredHas
 has_rows es = flat_map (λ e. held_rows e.0 e.1.holding) es

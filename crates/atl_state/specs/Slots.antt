@@ -23,11 +23,11 @@ module _ {V : Type 0} where
   AreInUse es s = EachOf (λ n k. is_some (slab.get s k) ≡ true) es
 
   -- and no other number leads there
-  pub record AreLodged (i : FinMap nat_cmp ℕ) (s : slab.Slab V) : Type 0 where
+  pub record HaveOwnSlots (i : FinMap nat_cmp ℕ) (s : slab.Slab V) : Type 0 where
     pub in_use : (n k : ℕ) → get i n ≡ Some k → is_some (slab.get s k) ≡ true
     pub by_one : (n m k : ℕ) → get i n ≡ Some k → get i m ≡ Some k → n ≡ m
 
   -- and no slot is in use to which no number leads
   pub record IsArena (i : FinMap nat_cmp ℕ) (s : slab.Slab V) : Type 0 where
-    pub slots_used : AreLodged i s
+    pub slots_used : HaveOwnSlots i s
     pub none_idle : slab.slab_len s ≡ len i

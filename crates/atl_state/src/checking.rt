@@ -5,7 +5,7 @@ ghost use Rattle.std.specs.List.{list_all};
 ghost use Rattle.atl_tables.specs.Worlds.{IsWorld};
 ghost use Rattle.atl_tables.specs.declared.format.Format.TheVariants.{Second};
 ghost use Rattle.atl_state.specs.declared.checking.Rule.TheVariants as rule;
-ghost use Rattle.atl_state.specs.Checking.{rule_number, Keeps, KeepsBelow, Passes, Checks, GivesBack};
+ghost use Rattle.atl_state.specs.Checking.{rule_number, KeepsRule, KeepsRulesBelow, Passes, Checks, GivesBack};
 ghost use Rattle.atl_state.specs.FromRows.{campaign_of};
 ghost use Rattle.atl_state.specs.Good.{AreKnown, IsMail, AreReported};
 ghost use Rattle.atl_records.specs.Limits.{entries_in};
@@ -175,8 +175,8 @@ fn keeps_known(world: &World, parts: &Parts, campaign: &Campaign) -> bool
 
 fn keeps_books(format: Format, world: &World, parts: &Parts, campaign: &Campaign) -> bool
     requires what { campaign.now.value ≡ campaign_of world.now parts.now }
-    requires before { KeepsBelow format world.now parts.now 11 }
-    ensures { IsTrue result ↔ (Keeps format world.now parts.now rule.Books) }
+    requires before { KeepsRulesBelow format world.now parts.now 11 }
+    ensures { IsTrue result ↔ (KeepsRule format world.now parts.now rule.Books) }
 {
     are_booked(format, world, parts) && are_balanced(world, campaign)
 }
@@ -197,7 +197,7 @@ fn check_places(
     campaign: &Campaign,
 ) -> Result<(), CheckFault>
     requires what { campaign.now.value ≡ campaign_of world.now parts.now }
-    requires before { KeepsBelow format world.now parts.now 4 }
+    requires before { KeepsRulesBelow format world.now parts.now 4 }
     ensures { Passes format world.now parts.now 8 result }
 {
     if !keeps_known(world, parts, campaign) {
@@ -223,7 +223,7 @@ fn check_holders(
     campaign: &Campaign,
 ) -> Result<(), CheckFault>
     requires what { campaign.now.value ≡ campaign_of world.now parts.now }
-    requires before { KeepsBelow format world.now parts.now 8 }
+    requires before { KeepsRulesBelow format world.now parts.now 8 }
     ensures { Passes format world.now parts.now 13 result }
 {
     if !are_owned(campaign) {

@@ -5,7 +5,7 @@ ghost use Rattle.std.specs.List.Sorted.{IsStrictlySortedBy};
 ghost use Rattle.std.specs.Slice.Iter.{iter_rest};
 ghost use Rattle.std.specs.FinMap as map;
 ghost use Rattle.atl_tables.specs.SortedNumbers.{IsAt, BelongsAt};
-ghost use Rattle.atl_state.specs.Index.{numbers_of, slots_of};
+ghost use Rattle.atl_state.specs.Index.{index_numbers, slots_of};
 
 use crate::gap_vec::GapVec;
 use std::alloc::{AllocError, Global};
@@ -32,7 +32,7 @@ impl Model for Index {
     ghost use Rattle.std.specs.List.Sorted.{IsStrictlySortedBy};
     ghost use Rattle.std.specs.Coded.{coded_ℕ};
     ghost use Rattle.std.specs.FinMap as map;
-    ghost use Rattle.atl_state.specs.Index.{numbers_of, slots_of};
+    ghost use Rattle.atl_state.specs.Index.{index_numbers, slots_of};
 
     ghost Value = { map.FinMap nat_cmp ℕ };
 
@@ -40,7 +40,7 @@ impl Model for Index {
 
     ghost view = { λ a. map.from_entries (slots_of a.places) };
 
-    ghost invariant = { λ a. IsStrictlySortedBy nat_cmp (numbers_of a.places) };
+    ghost invariant = { λ a. IsStrictlySortedBy nat_cmp (index_numbers a.places) };
 }
 
 impl Index {
@@ -120,7 +120,7 @@ impl Index {
 
 /// The place of a number that comes so far behind the first as its place says, which it does where none between is missing.
 fn guess_position(places: &[IndexEntry], number: u32) -> Option<usize>
-    ensures { IfSome result (λ place. IsAt (numbers_of places.now) number place) }
+    ensures { IfSome result (λ place. IsAt (index_numbers places.now) number place) }
 {
     let first = places.first()?;
     let place = number.checked_sub(first.number)? as usize;
@@ -132,8 +132,8 @@ fn guess_position(places: &[IndexEntry], number: u32) -> Option<usize>
 
 /// Whether a number is above all of places whose numbers rise.
 fn is_above(places: &[IndexEntry], number: u32) -> bool
-    requires { IsStrictlySortedBy nat_cmp (numbers_of places.now) }
-    ensures { result ≡ true → BelongsAt (numbers_of places.now) number (length places.now) }
+    requires { IsStrictlySortedBy nat_cmp (index_numbers places.now) }
+    ensures { result ≡ true → BelongsAt (index_numbers places.now) number (length places.now) }
 {
     match places.last() {
         Some(last) => last.number < number,
@@ -144,9 +144,9 @@ fn is_above(places: &[IndexEntry], number: u32) -> bool
 /// Where a number stands in places whose numbers rise, or else where it belongs. It is searched for only where it is among
 /// them and some before it are missing.
 fn position_of(places: &[IndexEntry], number: u32) -> Result<usize, usize>
-    requires { IsStrictlySortedBy nat_cmp (numbers_of places.now) }
-    ensures found { IfOk result (λ place. IsAt (numbers_of places.now) number place) }
-    ensures missing { IfErr result (λ place. BelongsAt (numbers_of places.now) number place) }
+    requires { IsStrictlySortedBy nat_cmp (index_numbers places.now) }
+    ensures found { IfOk result (λ place. IsAt (index_numbers places.now) number place) }
+    ensures missing { IfErr result (λ place. BelongsAt (index_numbers places.now) number place) }
 {
     if let Some(place) = guess_position(places, number) {
         return Ok(place);

@@ -5,7 +5,7 @@ ghost use Rattle.std.specs.List.{flat_map};
 ghost use Rattle.atl_tables.specs.declared.format.Format.TheVariants.{First, Second};
 ghost use Rattle.atl_records.specs.Limits.{possible_things};
 ghost use Rattle.atl_records.specs.Grids.{accounts_under};
-ghost use Rattle.atl_state.specs.Rows.{flag, rows_by, campaign_row, faction_row, region_row, unit_row, structure_row, mail_row, report_row, has_row, books_row, market_row, kind_rows, held_rows, has_rows, stock_rows, market_rows, rows_under, books_rows, rows_of};
+ghost use Rattle.atl_state.specs.Rows.{flag, rows_by, campaign_row, faction_row, region_row, unit_row, structure_row, mail_row, report_row, has_row, books_row, market_row, rows_of_sort, held_rows, has_rows, stock_rows, market_rows, rows_under, books_rows, rows_of};
 
 use crate::campaign::Campaign;
 use crate::parts::{
@@ -210,7 +210,7 @@ fn add_kind(
     sort: u32,
     things: Entries<'_, u32>,
 ) -> Result<(), AllocError>
-    ensures { OnOk result (rows.new ≡ rows.old ++ kind_rows number sort things.entry) }
+    ensures { OnOk result (rows.new ≡ rows.old ++ rows_of_sort number sort things.entry) }
 {
     for (thing, amount) in things {
         if *amount != 0 {

@@ -6,7 +6,7 @@ ghost use Rattle.atl_tables.specs.Tracking.{Lists};
 ghost use Rattle.atl_records.specs.Limits.{holding_limit, men_limit, most_numbered};
 ghost use Rattle.atl_records.specs.Holdings.{with_amount_of};
 ghost use Rattle.atl_state.specs.Marks.{AreWithin};
-ghost use Rattle.atl_state.specs.Roster.{no_units, unmarked_units, with_unit_at, with_row, with_item_at, with_skill_at, without_unit_at, item_marked_at, skill_marked_at};
+ghost use Rattle.atl_state.specs.Roster.{no_units, unmarked_units, with_unit_at, with_unit_row, with_item_at, with_skill_at, without_unit_at, item_marked_at, skill_marked_at};
 
 use crate::arena::{Arena, SlotEntries};
 use atl_records::Unit;
@@ -183,8 +183,8 @@ impl Units {
 
     /// Sets a unit's name, and marks its row. It takes no memory.
     pub(crate) fn set_name(&mut self, number: u32, name: Text)
-        ensures { self.new ≡ with_row (λ u. record u { holding = record u.holding { name = name } })
-            self.old number }
+        ensures { self.new ≡ with_unit_row
+            (λ u. record u { holding = record u.holding { name = name } }) self.old number }
     {
         if let Some(unit) = self.row_mut(number) {
             unit.holding.set_name(name);
@@ -194,7 +194,7 @@ impl Units {
     /// Sets how many men a unit has, at most 999,999, and marks its row. It takes no memory.
     pub(crate) fn set_men(&mut self, number: u32, men: u32)
         requires { men ≤ men_limit }
-        ensures { self.new ≡ with_row (λ u. record u { holding = record u.holding { men = men } })
+        ensures { self.new ≡ with_unit_row (λ u. record u { holding = record u.holding { men = men } })
             self.old number }
     {
         if let Some(unit) = self.row_mut(number) {
@@ -205,7 +205,7 @@ impl Units {
     /// Sets a unit's money, at most 999,999,999, and marks its row. It takes no memory.
     pub(crate) fn set_money(&mut self, number: u32, money: u32)
         requires { money ≤ holding_limit }
-        ensures { self.new ≡ with_row
+        ensures { self.new ≡ with_unit_row
             (λ u. record u { holding = record u.holding { money = money } }) self.old number }
     {
         if let Some(unit) = self.row_mut(number) {
@@ -215,7 +215,7 @@ impl Units {
 
     /// Sets or clears a unit's guard flag, and marks its row. It takes no memory.
     pub(crate) fn set_guard(&mut self, number: u32, guard: bool)
-        ensures { self.new ≡ with_row
+        ensures { self.new ≡ with_unit_row
             (λ u. record u { holding = record u.holding { guard = guard } }) self.old number }
     {
         if let Some(unit) = self.row_mut(number) {
@@ -225,7 +225,7 @@ impl Units {
 
     /// Puts a unit in a region and a structure, and marks its row. It takes no memory.
     pub(crate) fn set_place(&mut self, number: u32, region: u32, structure: u32)
-        ensures { self.new ≡ with_row (λ u. record u { region = region; structure = structure })
+        ensures { self.new ≡ with_unit_row (λ u. record u { region = region; structure = structure })
             self.old number }
     {
         if let Some(unit) = self.row_mut(number) {

@@ -1,7 +1,7 @@
 //! Builds the books from their rows.
 ghost use Rattle.std.specs.Prelude.{◌≡◌, ◌≤◌, IfOk};
 ghost use Rattle.atl_records.specs.Limits.{possible_things};
-ghost use Rattle.atl_state.specs.FromRows.{with_row, put_amounts};
+ghost use Rattle.atl_state.specs.FromRows.{with_books_row, put_amounts};
 ghost use Rattle.atl_records.specs.Books.{no_amounts};
 
 use crate::parts::StoredBooks;
@@ -11,7 +11,7 @@ use std::alloc::{AllocError, Global};
 
 /// Puts the amount of a row, where there is such an entry and such a thing.
 fn put_row(books: &mut Books, row: &StoredBooks)
-    ensures { books.new ≡ with_row books.old row.now }
+    ensures { books.new ≡ with_books_row books.old row.now }
 {
     let Some(entry) = Entry::of_number(as_u32(row.entry)) else {
         return;

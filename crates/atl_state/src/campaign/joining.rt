@@ -13,7 +13,7 @@ ghost use Rattle.atl_records.specs.Books.{amount_in, after_booking, IsSmall};
 ghost use Rattle.atl_state.specs.Good.{IsGood, IsSound};
 ghost use Rattle.atl_state.specs.Joining.{name_taken, is_full, home_of, new_faction, joined, Joins};
 ghost use Rattle.atl_records.specs.Limits.{holding_limit, last_unit};
-ghost use Rattle.atl_state.specs.Marking.{join_marked};
+ghost use Rattle.atl_state.specs.Marking.{mark_join};
 
 use super::Campaign;
 use atl_orders::LAST_FACTION;
@@ -136,7 +136,7 @@ impl Campaign {
         ensures definition { Joins world.now name.now pass.now word self.old.value result
             self.new.value }
         ensures sound { IsSound world.now self.new.value }
-        ensures marks { OnOk result (self.new.marks ≡ join_marked self.old) }
+        ensures marks { OnOk result (self.new.marks ≡ mark_join self.old) }
         ensures err { OnErr result (self.new ≡ self.old) }
     {
         if self.is_name_taken(name) {
@@ -168,7 +168,7 @@ impl Campaign {
         ensures numbers { IfOk result
             (λ numbers. numbers ≡ (self.old.value.next_faction, self.old.value.next_unit)) }
         ensures err { OnErr result (self.new ≡ self.old) }
-        ensures marks { OnOk result (self.new.marks ≡ join_marked self.old) }
+        ensures marks { OnOk result (self.new.marks ≡ mark_join self.old) }
         ensures world { IsWorld world.now }
     {
         let faction = self.next_faction;

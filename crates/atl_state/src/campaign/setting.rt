@@ -5,7 +5,7 @@ ghost use Rattle.std.specs.Int.{w64};
 ghost use Rattle.std.specs.Int.RustNames.{FitsSigned};
 ghost use Rattle.atl_records.specs.Books.{amount_in, thing_index};
 ghost use Rattle.atl_records.specs.Limits.{holding_limit, men_limit};
-ghost use Rattle.atl_state.specs.Marking.{mark_row, mark_faction, mark_region, mark_stock, mark_structure, mark_unit_row, mark_item, mark_skill, item_marked, skill_marked, mark_amount, mark_all_mail};
+ghost use Rattle.atl_state.specs.Marking.{mark_campaign_row, mark_faction, mark_region, mark_stock, mark_structure, mark_unit_row, mark_item, mark_skill, item_marked, skill_marked, mark_amount, mark_all_mail};
 ghost use Rattle.atl_state.specs.Campaign.{with_month, with_faction_name, with_gone, with_peasants, with_region_money, with_stock, with_unit_name, with_men, with_money, with_item, with_skill, with_guard, with_done, with_structure_name, with_structure_region, with_owner, with_amount, without_mail};
 
 use super::Campaign;
@@ -17,7 +17,7 @@ impl Campaign {
     /// Sets the month last closed, from 0 to LAST_MONTH, and marks the campaign's row.
     pub fn set_month(&mut self, month: u32)
         ensures what { self.new.value ≡ with_month self.old.value month }
-        ensures marks { self.new.marks ≡ mark_row self.old }
+        ensures marks { self.new.marks ≡ mark_campaign_row self.old }
     {
         self.month = month;
         self.row_marked = true;

@@ -2,7 +2,7 @@
 ghost use Rattle.std.specs.Prelude.{◌≡◌, IfOk, length, map, ◌↔◌, IsTrue};
 ghost use Rattle.std.specs.List.{list_all};
 ghost use Rattle.atl_tables.specs.Names.{name_ok};
-ghost use Rattle.atl_state.specs.RowRules.{faction_named, are_named, HaveJoined, AreRowsNamed};
+ghost use Rattle.atl_state.specs.RowRules.{faction_named, are_named, AreJoinedNamesDistinct, AreRowsNamed};
 
 use super::head::campaign_row_of;
 use super::keys::are_distinct;
@@ -59,7 +59,7 @@ fn joined_names(alloc: Global, rows: &[StoredFaction]) -> Result<Vec<&[u8]>, All
 
 /// Whether no two factions joined under one name.
 fn have_joined(alloc: Global, rows: &[StoredFaction]) -> Result<bool, AllocError>
-    ensures { IfOk result (λ yes. IsTrue yes ↔ (HaveJoined rows.now)) }
+    ensures { IfOk result (λ yes. IsTrue yes ↔ (AreJoinedNamesDistinct rows.now)) }
 {
     let names = joined_names(alloc, rows)?;
     are_distinct(alloc, &names)
