@@ -14,11 +14,11 @@ use Rattle.atl_state.specs.Campaign.{CampaignValue, empty_campaign}
 abbrev pub founded_region : RegionPlan → Region
 founded_region plan = record { peasants = plan.peasants; money = plan.money; stocks = empty }
 
--- how many things a world books: money, people, and each item
+-- how many things the books of a world count: money, people, and each item
 abbrev pub things_of : WorldValue → ℕ
 things_of w = 2 + length w.items
 
--- month 0 has been closed; the regions hold what the world gives them, which is booked; and nobody is there
+-- the campaign right after founding: month 0, the world's regions, what they hold booked, and no faction
 unfoldable pub founded_of : WorldValue → List ℕ → CampaignValue
 founded_of w pass = let regions = mapped founded_region w.regions in record empty_campaign {
   pass = pass;
