@@ -9,7 +9,7 @@ use crate::row_rules::as_u32;
 use atl_records::{Books, Entry, Thing};
 use std::alloc::{AllocError, Global};
 
-/// Puts the amount of a row, where there is such an entry and such a thing.
+/// Sets an amount of the books to that of a row, where its entry and its thing are there.
 fn put_row(books: &mut Books, row: &StoredBooks)
     ensures { books.new ≡ with_books_row books.old row.now }
 {
@@ -22,7 +22,7 @@ fn put_row(books: &mut Books, row: &StoredBooks)
     }
 }
 
-/// The books of rows, for so many things.
+/// The books of rows, for this many things.
 pub(crate) fn books_of(
     alloc: Global,
     things: usize,

@@ -50,12 +50,14 @@ fn unit_in_range(row: &StoredUnit) -> bool
         && is_from(0, 1, row.guard)
 }
 
+/// Whether the sort is 0 or 1, and the amount of an item is in its range; days aren't judged.
 fn has_in_range(row: &StoredHas) -> bool
     ensures { result ≡ has_in_range row.now }
 {
     is_from(1, 1, row.sort) || is_from(0, 0, row.sort) && is_from(1, HOLDING_LIMIT, row.amount)
 }
 
+/// Whether a structure's number is in its range, and at most the size of its kind is done.
 fn structure_in_range(world: &World, row: &StoredStructure) -> bool
     ensures { result ≡ structure_in_range world.now row.now }
 {
@@ -63,13 +65,14 @@ fn structure_in_range(world: &World, row: &StoredStructure) -> bool
     is_from(1, MOST_STRUCTURES, row.number) && is_from(1, size, row.done)
 }
 
+/// Whether an amount of the books is not 0, and without its sign at most the bound.
 fn books_in_range(bound: u128, row: &StoredBooks) -> bool
     ensures { result ≡ books_in_range bound row.now }
 {
     is_set(row.amount) && is_within(bound, row.amount)
 }
 
-/// Whether the market has room for the stock.
+/// Whether a stock is from 1 to its market's limit, or to MOST_AMOUNT where there is no market.
 fn market_in_range(world: &World, row: &StoredMarket) -> bool
     ensures { result ≡ market_in_range world.now row.now }
 {
@@ -122,6 +125,7 @@ fn markets_in_range(world: &World, rows: &[StoredMarket]) -> bool
     rows.iter().all(|row| market_in_range(world, row))
 }
 
+/// Whether there are not too many factions, regions, units and structures.
 fn are_few(parts: &Parts) -> bool
     ensures { result ≡ are_few parts.now }
 {
@@ -131,6 +135,7 @@ fn are_few(parts: &Parts) -> bool
         && parts.structures.len() <= MOST_STRUCTURES as usize
 }
 
+/// Whether each row of factions, regions, units and what they have is in its ranges.
 fn people_in_range(parts: &Parts) -> bool
     ensures { result ≡ people_in_range parts.now }
 {
@@ -140,7 +145,7 @@ fn people_in_range(parts: &Parts) -> bool
         && all_has_in_range(parts.has.as_slice())
 }
 
-/// The size that no amount of the books is above.
+/// How large an amount of the books may be, without its sign.
 fn books_bound(parts: &Parts) -> u128
     requires { length parts.now.campaign ≡ 1 }
     ensures { result ≡ books_bound parts.now }
@@ -149,6 +154,7 @@ fn books_bound(parts: &Parts) -> u128
     MOST_IN_MONTH * months + MOST_IN_JOINING * parts.factions.len() as u128
 }
 
+/// Whether each number of each row is in its range.
 fn numbers_in_range(world: &World, parts: &Parts) -> bool
     requires { length parts.now.campaign ≡ 1 }
     ensures { result ≡ numbers_in_range world.now parts.now }
@@ -160,7 +166,7 @@ fn numbers_in_range(world: &World, parts: &Parts) -> bool
         && markets_in_range(world, parts.markets.as_slice())
 }
 
-/// Whether no two rows of a table have one key, each number is in its range and there are not too many rows.
+/// Whether rows keep the rule on keys, on ranges, and on how many rows there may be.
 pub(crate) fn rows_in_range(alloc: Global, world: &World, parts: &Parts) -> Result<bool, AllocError>
     requires { length parts.now.campaign ≡ 1 }
     ensures { IfOk result (λ yes. IsTrue yes ↔ (AreRowsInRange world.now parts.now)) }
