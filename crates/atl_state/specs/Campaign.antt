@@ -104,7 +104,7 @@ numbers_of f units = numbers_where (λ u. u.faction == f) units
 abbrev pub numbers_inside : ℕ → FinMap nat_cmp Unit → List ℕ
 numbers_inside s units = if s == 0 then [] else numbers_where (λ u. u.structure == s) units
 
--- ---- one entry changed. Where there is none under the number nothing is
+-- ---- one entry changed; where there is none under the number nothing changes
 
 -- the campaign with f applied to the faction of this number
 abbrev pub faction_changed : (Faction → Faction) → CampaignValue → ℕ → CampaignValue

@@ -81,7 +81,7 @@ mark_amount c e t = record c.marks { books = amount_marked c.marks.books e t }
 abbrev pub mark_all_mail : MarkedCampaign → Marks
 mark_all_mail c = record c.marks { mail = union c.marks.mail (from_list (keys c.value.mail)) }
 
--- ---- places: each step with what it marks
+-- ---- where units are: the campaign after each step, with its marks
 
 -- the campaign with structure s handed from one owner to another and marked, where the former owns it
 abbrev pub handed_marked : MarkedCampaign → ℕ → ℕ → ℕ → MarkedCampaign

@@ -37,7 +37,7 @@ abbrev pub is_from : ℕ → ℕ → ℤ → Bool
 is_from low high (pos n) = nat_le low n && nat_le n high
 is_from low high (negsuc n) = false
 
--- ---- the campaign's own row
+-- ---- the campaign row
 
 -- whether there is exactly one campaign row, with the id 1 and the number of this format
 abbrev pub is_one_campaign_row : Format → List StoredCampaignRow → Bool

@@ -1,4 +1,4 @@
-//! Sums over all units and regions.
+//! How much all units hold together, and how much all regions do.
 ghost use Rattle.std.specs.Prelude.{◌≡◌, ◌≤◌, ◌*◌, length};
 ghost use Rattle.std.specs.FinMap as map;
 ghost use Rattle.atl_tables.specs.Sums.{sum_over};

@@ -130,7 +130,7 @@ fn marked_map_of_factions(
 }
 
 /// The regions of rows with their stocks, and nothing marked.
-fn marked_regions(
+fn unmarked_regions(
     alloc: Global,
     rows: &[StoredRegion],
     markets: &[StoredMarket],
@@ -187,7 +187,7 @@ pub(crate) fn campaign_maps_of(alloc: Global, parts: &Parts) -> Result<CampaignM
     ensures { IfOk result (λ tables. tables ≡ campaign_maps_of parts.now) }
 {
     let factions = marked_map_of_factions(alloc, parts.factions.as_slice())?;
-    let regions = marked_regions(alloc, parts.regions.as_slice(), parts.markets.as_slice())?;
+    let regions = unmarked_regions(alloc, parts.regions.as_slice(), parts.markets.as_slice())?;
     let structures = marked_map_of_structures(alloc, parts.structures.as_slice())?;
     let mail = marked_map_of_mail(alloc, parts.mail.as_slice())?;
     let reports = marked_map_of_reports(alloc, parts.reports.as_slice())?;

@@ -1,4 +1,4 @@
-//! Checks the keys, ranges and counts of all rows.
+//! The rule on ranges: keys that differ, numbers in their ranges, and not too many rows.
 ghost use Rattle.std.specs.Prelude.{◌≡◌, IfOk, length, ◌↔◌, IsTrue};
 ghost use Rattle.std.specs.List.{list_all};
 ghost use Rattle.atl_state.specs.RowRules.{campaign_row_in_range, faction_in_range, region_in_range, unit_in_range, has_in_range, structure_in_range, books_bound, books_in_range, market_in_range, are_few, people_in_range, numbers_in_range, AreRowsInRange};
@@ -20,6 +20,7 @@ use atl_tables::World;
 use atl_tables::limits::{MOST_AMOUNT, MOST_REGIONS};
 use std::alloc::{AllocError, Global};
 
+/// Whether the month and the next numbers of the campaign row are in their ranges.
 fn campaign_row_in_range(head: &StoredCampaignRow) -> bool
     ensures { result ≡ campaign_row_in_range head.now }
 {
@@ -29,18 +30,21 @@ fn campaign_row_in_range(head: &StoredCampaignRow) -> bool
         && is_from(1, MOST_STRUCTURES + 1, head.next_structure)
 }
 
+/// Whether the number and the flag `gone` of a faction are in their ranges.
 fn faction_in_range(row: &StoredFaction) -> bool
     ensures { result ≡ faction_in_range row.now }
 {
     is_from(1, LAST_FACTION, row.number) && is_from(0, 1, row.gone)
 }
 
+/// Whether the peasants and the money of a region are in their ranges.
 fn region_in_range(row: &StoredRegion) -> bool
     ensures { result ≡ region_in_range row.now }
 {
     is_from(0, MOST_AMOUNT, row.peasants) && is_from(0, MOST_AMOUNT, row.money)
 }
 
+/// Whether the number, men, money and guard flag of a unit are in their ranges.
 fn unit_in_range(row: &StoredUnit) -> bool
     ensures { result ≡ unit_in_range row.now }
 {
@@ -101,6 +105,7 @@ fn units_in_range(rows: &[StoredUnit]) -> bool
     rows.iter().all(|row| unit_in_range(row))
 }
 
+/// Whether each row of `has` is in its ranges.
 fn all_has_in_range(rows: &[StoredHas]) -> bool
     ensures { result ≡ list_all has_in_range rows.now }
 {
@@ -113,6 +118,7 @@ fn structures_in_range(world: &World, rows: &[StoredStructure]) -> bool
     rows.iter().all(|row| structure_in_range(world, row))
 }
 
+/// Whether no amount of these rows of `books` is 0, and all are within the bound.
 fn all_books_in_range(bound: u128, rows: &[StoredBooks]) -> bool
     ensures { result ≡ list_all (books_in_range bound) rows.now }
 {

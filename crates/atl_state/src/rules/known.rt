@@ -17,12 +17,14 @@ fn is_faction(campaign: &Campaign, number: u32) -> bool
     campaign.faction(number).is_some()
 }
 
+/// Whether a region of the campaign has this number.
 fn is_region(campaign: &Campaign, number: u32) -> bool
     ensures { IsTrue result ↔ (IsThere campaign.now.value.regions number) }
 {
     campaign.region(number).is_some()
 }
 
+/// Whether a unit of the campaign has this number.
 fn is_unit(campaign: &Campaign, number: u32) -> bool
     ensures { IsTrue result ↔ (IsThere campaign.now.value.units number) }
 {
