@@ -65,7 +65,7 @@ impl Drop for Campaign {
 
 impl Model for Campaign {
     ghost use Rattle.atl_state.specs.Campaign.{MarkedCampaign, marked_code};
-    ghost use Rattle.atl_state.specs.Kept.{AreKept};
+    ghost use Rattle.atl_state.specs.KeptLists.{AreKept};
 
     ghost Value = { MarkedCampaign };
 

@@ -1,5 +1,4 @@
-//! A vector with free room at both ends, in which whatever comes or goes moves the nearer side
-//! only.
+//! A vector with free room at both ends: to insert or remove moves the nearer side only.
 ghost use Rattle.std.specs.Prelude.{◌≡◌, ◌+◌, ◌-◌, ◌<◌, ◌≤◌, ◌^◌, OnOk, OnErr, IfOk, [], length, drop};
 ghost use Rattle.std.specs.List.{insert, remove};
 

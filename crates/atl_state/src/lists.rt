@@ -1,7 +1,7 @@
 //! Sorted lists of units, one for each region, faction and structure.
 ghost use Rattle.std.specs.Prelude.{◌≡◌, OnOk, OnErr};
 ghost use Rattle.std.specs.FinMap as map;
-ghost use Rattle.atl_state.specs.Kept.{list_of, list_keys_of, listed_apart, unlisted_apart, relisted_inside, AreUnitLists, SameLists, ListsUnit, KeepsLists, KeepsAll, UnlistsUnit, RelistsUnit};
+ghost use Rattle.atl_state.specs.KeptLists.{list_of, list_keys_of, listed_apart, unlisted_apart, relisted_inside, AreUnitLists, SameLists, ListsUnit, KeepsLists, KeepsAll, UnlistsUnit, RelistsUnit};
 ghost use Rattle.atl_state.specs.Ordered.{put_number, take_number};
 
 use crate::numbers::Numbers;

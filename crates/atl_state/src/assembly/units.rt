@@ -2,7 +2,7 @@
 ghost use Rattle.std.specs.Prelude.{◌≡◌, IfOk, true};
 ghost use Rattle.std.specs.List.{list_all};
 ghost use Rattle.atl_tables.specs.Names.{name_ok};
-ghost use Rattle.atl_state.specs.Kept.{AreUnitLists};
+ghost use Rattle.atl_state.specs.KeptLists.{AreUnitLists};
 ghost use Rattle.atl_state.specs.Assembling.{bare_unit};
 ghost use Rattle.atl_state.specs.FromRows.{as_u32, by_number, unit_of};
 ghost use Rattle.atl_state.specs.Roster.{unmarked_units};

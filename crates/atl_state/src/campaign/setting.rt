@@ -1,5 +1,4 @@
-//! Calls that set one entry of a campaign. Where there is no entry under the number nothing
-//! changes.
+//! Calls that set one entry of a campaign; without an entry under the number nothing changes.
 //! Only `set_stock`, `set_item` and `set_days` take memory.
 ghost use Rattle.std.specs.Prelude.{◌≡◌, ◌≤◌, ◌<◌, ◌⊎◌, ◌+ℤ◌, IsOk, OnErr, OnOk};
 ghost use Rattle.std.specs.Int.{w64};
