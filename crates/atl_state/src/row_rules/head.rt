@@ -1,5 +1,4 @@
-//! The rule that there is one campaign row, of a given format, and no rows that the format doesn't
-//! have.
+//! The rule that there is one campaign row of a given format, and no rows unknown to that format.
 ghost use Rattle.std.specs.Prelude.{◌≡◌, length};
 ghost use Rattle.atl_state.specs.FromRows.{campaign_row_of};
 ghost use Rattle.atl_state.specs.RowRules.{is_one_campaign_row, are_of_format};

@@ -61,7 +61,7 @@ fn has_in_range(row: &StoredHas) -> bool
     is_from(1, 1, row.sort) || is_from(0, 0, row.sort) && is_from(1, HOLDING_LIMIT, row.amount)
 }
 
-/// Whether a structure's number is in its range, and at most the size of its kind is done.
+/// Whether a structure's number is in its range, and `done` is from 1 to the size of its kind.
 fn structure_in_range(world: &World, row: &StoredStructure) -> bool
     ensures { result ≡ structure_in_range world.now row.now }
 {

@@ -1,4 +1,4 @@
-//! The rule that all mail is of factions that aren't gone, and of their length and header.
+//! The rule that mail is of factions that aren't gone, and has the right length and header.
 ghost use Rattle.std.specs.Prelude.{◌↔◌, IsTrue};
 ghost use Rattle.atl_orders.specs.Mailing.{IsMailingOf};
 ghost use Rattle.atl_state.specs.Good.{IsActive, IsMail};

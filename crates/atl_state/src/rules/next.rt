@@ -14,7 +14,7 @@ fn are_between<V>(mut entries: Entries<'_, V>, least: u32, next: u32) -> bool
     entries.all(|(number, _)| least <= number && number < next)
 }
 
-/// Whether `next` is the count and one.
+/// Whether `next` is one more than the count.
 fn is_behind(next: u32, count: usize) -> bool
     ensures { IsTrue result ↔ (next ≡ count + 1) }
 {
