@@ -160,7 +160,7 @@ pub record IsOwnedAmong (units : FinMap nat_cmp Unit) (n : ℕ) (s : Structure) 
   pub owned : s.owner ≢ 0 → (u : Unit) × (get units s.owner ≡ Some u) × (u.structure ≡ n)
   pub ownerless : s.owner ≡ 0 → Every (λ m u. u.structure ≢ n) units
 
--- the same, with the units of a campaign
+-- the owner of structure n is one of the campaign's units inside it; it is 0 where no unit is inside
 abbrev pub IsOwned : CampaignValue → ℕ → Structure → Type 0
 IsOwned c n s = IsOwnedAmong c.units n s
 
