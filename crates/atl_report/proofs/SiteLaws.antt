@@ -8,7 +8,7 @@ use Rattle.atl_tables.specs.Sums.{numbers_among}
 use Rattle.atl_tables.proofs.SumLaws.{chosen-cons}
 use Rattle.atl_tables.proofs.GeneralLaws.{is_equal, key_turned}
 use Rattle.atl_records.specs.declared.records.Structure.{Structure}
-use Rattle.atl_state.specs.Kept.{list_of}
+use Rattle.atl_state.specs.KeptLists.{list_of}
 use Rattle.atl_report.specs.Sites.{with_site}
 
 -- the list of a region once a structure is put at the end of that of another, or of this one

@@ -1,6 +1,6 @@
 //! The structures of each region.
 ghost use Rattle.std.specs.Prelude.{◌≡◌, IfOk, OnOk};
-ghost use Rattle.atl_state.specs.Kept.{list_of};
+ghost use Rattle.atl_state.specs.KeptLists.{list_of};
 ghost use Rattle.atl_report.specs.Sites.{AreSites, with_site};
 
 use atl_state::Campaign;

@@ -25,7 +25,7 @@ use Rattle.atl_state.specs.Covers.{MarksChanges}
 use Rattle.atl_records.specs.Every.{EachOf, IsThere}
 use Rattle.atl_state.specs.Good.{IsGood}
 use Rattle.atl_records.specs.Limits.{most_things}
-use Rattle.atl_state.specs.Marking.{mark_all_mail, mark_report, mark_row}
+use Rattle.atl_state.specs.Marking.{mark_all_mail, mark_campaign_row, mark_report}
 use Rattle.atl_state.specs.Marks.{Marks}
 use Rattle.atl_state.specs.Campaign.{CampaignValue, MarkedCampaign, active, with_month, without_mail}
 use Rattle.atl_state.proofs.CoverLaws.{marks-trans}
@@ -150,8 +150,8 @@ closed_is w c after events words faults is wrong =
 marked_as : (c d : MarkedCampaign) (what : CampaignValue) (marks : Marks) → d.value ≡ what → d.marks ≡ marks → MarksChanges c (record { value = what; marks = marks }) → MarksChanges c d
 marked_as c d what marks is m h = subst (MarksChanges c) (sym (ap₂ (λ s n. record { value = s; marks = n }) is m)) h
 
-pub month_marked : (c d : MarkedCampaign) (n : ℕ) → d.value ≡ with_month c.value n → d.marks ≡ mark_row c → MarksChanges c d
-month_marked c d n is m = marked_as c d (with_month c.value n) (mark_row c) is m (marks-month c n)
+pub month_marked : (c d : MarkedCampaign) (n : ℕ) → d.value ≡ with_month c.value n → d.marks ≡ mark_campaign_row c → MarksChanges c d
+month_marked c d n is m = marked_as c d (with_month c.value n) (mark_campaign_row c) is m (marks-month c n)
 
 pub mail_marked : (c d : MarkedCampaign) → d.value ≡ without_mail c.value → d.marks ≡ mark_all_mail c → MarksChanges c d
 mail_marked c d is m = marked_as c d (without_mail c.value) (mark_all_mail c) is m (marks-no_mail c)
@@ -160,7 +160,7 @@ pub report_marked : (w : WorldValue) (c d : MarkedCampaign) (n : ℕ) (faults : 
 report_marked w c d n faults events is m = marked_as c d (reported_with w c.value n faults events) (mark_report c n) is m (marks-report c n (report_of w (view_of w c.value n) faults events))
 
 -- a month that was run, and is counted, with its mail taken away
-pub turned_marked : (a b c d : MarkedCampaign) (n : ℕ) → MarksChanges a b → c.value ≡ with_month b.value n → c.marks ≡ mark_row b → d.value ≡ without_mail c.value → d.marks ≡ mark_all_mail c → MarksChanges a d
+pub turned_marked : (a b c d : MarkedCampaign) (n : ℕ) → MarksChanges a b → c.value ≡ with_month b.value n → c.marks ≡ mark_campaign_row b → d.value ≡ without_mail c.value → d.marks ≡ mark_all_mail c → MarksChanges a d
 turned_marked a b c d n run is m taken t = marks-trans a b d run (marks-trans b c d (month_marked b c n is m) (mail_marked c d taken t))
 
 -- a report that could be stored

@@ -9,7 +9,7 @@ use Rattle.std.specs.FinSet as set
 use Rattle.atl_tables.specs.RoomySets.{RoomySet}
 use Rattle.atl_tables.proofs.SetLaws.{len-below}
 use Rattle.atl_records.specs.Books.{thing_index, amount_number}
-use Rattle.atl_state.specs.Kept.{MarksAmounts}
+use Rattle.atl_state.specs.KeptLists.{MarksAmounts}
 use Rattle.atl_records.specs.Limits.{entry_count}
 use Rattle.atl_state.specs.Marks.{AreOfThings, amount_marked}
 use Rattle.atl_records.specs.declared.books.Entry.{Entry}

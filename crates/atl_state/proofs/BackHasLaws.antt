@@ -13,7 +13,7 @@ use Rattle.atl_records.specs.declared.records.Unit.{Unit}
 use Rattle.atl_state.specs.FromRows.{as_u32, is_of, things_had}
 use Rattle.atl_records.specs.Every.{Every}
 use Rattle.atl_state.specs.RowRules.{has_key, HaveKeys}
-use Rattle.atl_state.specs.Rows.{is_zero, has_row, kind_rows, held_rows, has_rows}
+use Rattle.atl_state.specs.Rows.{is_zero, has_row, rows_of_sort, held_rows, has_rows}
 use Rattle.atl_state.proofs.BackLaws.{each_permuted, read_whole, written_whole, apart_keys, append_each, each_appended, append_apart, flat_apart, entries_rise, keys_permuted, same_size}
 use Rattle.atl_state.proofs.AssemblyLaws.{is_same}
 use Rattle.atl_state.proofs.BackGroupLaws.{groups_each, each_group, lines_each, each_line, lines_apart, amounts_back}
@@ -33,7 +33,7 @@ abbrev held : ℕ × Unit → List StoredHas
 held e = held_rows e.0 e.1.holding
 
 -- of a unit and a sort no thing has two rows
-sort_apart : (n sort : ℕ) (m : FinMap nat_cmp ℕ) → IsDistinct (λ a b. same (has_key a) (has_key b)) (kind_rows n sort (entries m))
+sort_apart : (n sort : ℕ) (m : FinMap nat_cmp ℕ) → IsDistinct (λ a b. same (has_key a) (has_key b)) (rows_of_sort n sort (entries m))
 sort_apart n sort m =
     lines_apart none (has_row n sort) m (λ a b. same (has_key a) (has_key b)) (λ i k a b l. apart_keys (has_key (has_row n sort i a)) (has_key (has_row n sort k b)) (λ keys. let one = same_size i k keys.third in omega arith))
 
@@ -41,12 +41,12 @@ module _ (units : FinMap nat_cmp Unit) where
   -- what is so of everything that a unit has is so of each row
   pub has_each : (P : StoredHas → Type 0) → Every (λ n u. (s : ℕ) → s < 2 → Every (λ i a. is_zero (pos a) ≡ false → P (has_row n s i a)) (goods_of s u)) units → AllByRecursion P (has_rows (entries units))
   has_each P h = groups_each held P units (λ n u is.
-      append_each P (kind_rows n 0 (entries u.holding.items)) (kind_rows n 1 (entries u.holding.days)) (lines_each none (has_row n 0) u.holding.items P (h n u is 0 (omega arith))) (lines_each none (has_row n 1) u.holding.days P (h n u is 1 (omega arith))))
+      append_each P (rows_of_sort n 0 (entries u.holding.items)) (rows_of_sort n 1 (entries u.holding.days)) (lines_each none (has_row n 0) u.holding.items P (h n u is 0 (omega arith))) (lines_each none (has_row n 1) u.holding.days P (h n u is 1 (omega arith))))
 
   pub each_had : (P : StoredHas → Type 0) → AllByRecursion P (has_rows (entries units)) → Every (λ n u. (s : ℕ) → s < 2 → Every (λ i a. is_zero (pos a) ≡ false → P (has_row n s i a)) (goods_of s u)) units
-  each_had P h n u is = of_sort (each_appended P (kind_rows n 0 (entries u.holding.items)) (kind_rows n 1 (entries u.holding.days)) (each_group held P units h n u is))
+  each_had P h n u is = of_sort (each_appended P (rows_of_sort n 0 (entries u.holding.items)) (rows_of_sort n 1 (entries u.holding.days)) (each_group held P units h n u is))
     where
-      of_sort : AllByRecursion P (kind_rows n 0 (entries u.holding.items)) × AllByRecursion P (kind_rows n 1 (entries u.holding.days)) → (s : ℕ) → s < 2 → Every (λ i a. is_zero (pos a) ≡ false → P (has_row n s i a)) (goods_of s u)
+      of_sort : AllByRecursion P (rows_of_sort n 0 (entries u.holding.items)) × AllByRecursion P (rows_of_sort n 1 (entries u.holding.days)) → (s : ℕ) → s < 2 → Every (λ i a. is_zero (pos a) ≡ false → P (has_row n s i a)) (goods_of s u)
       of_sort both zero l = each_line none (has_row n 0) u.holding.items P both.0
       of_sort both (suc zero) l = each_line none (has_row n 1) u.holding.days P both.1
       of_sort both (suc (suc s)) l = absurd (omega arith)
@@ -61,14 +61,14 @@ module _ (units : FinMap nat_cmp Unit) where
 
   held_apart : (n : ℕ) (u : Unit) → IsDistinct (λ a b. same (has_key a) (has_key b)) (held_rows n u.holding)
   held_apart n u =
-      append_apart (λ a b. same (has_key a) (has_key b)) (kind_rows n 0 (entries u.holding.items)) (kind_rows n 1 (entries u.holding.days)) (sort_apart n 0 u.holding.items) (sort_apart n 1 u.holding.days)
-      (all_differ (kind_rows n 0 (entries u.holding.items)) (kind_rows n 1 (entries u.holding.days)) (lines_each none (has_row n 0) u.holding.items (λ r. r.sort ≡ pos 0) (λ i a is some. refl)) (lines_each none (has_row n 1) u.holding.days (λ r. r.sort ≡ pos 1) (λ i a is some. refl)))
+      append_apart (λ a b. same (has_key a) (has_key b)) (rows_of_sort n 0 (entries u.holding.items)) (rows_of_sort n 1 (entries u.holding.days)) (sort_apart n 0 u.holding.items) (sort_apart n 1 u.holding.days)
+      (all_differ (rows_of_sort n 0 (entries u.holding.items)) (rows_of_sort n 1 (entries u.holding.days)) (lines_each none (has_row n 0) u.holding.items (λ r. r.sort ≡ pos 0) (λ i a is some. refl)) (lines_each none (has_row n 1) u.holding.days (λ r. r.sort ≡ pos 1) (λ i a is some. refl)))
 
   has_apart : IsDistinct (λ a b. same (has_key a) (has_key b)) (has_rows (entries units))
   has_apart =
       flat_apart (λ a b. same (has_key a) (has_key b)) (λ (e : ℕ × Unit). held_rows e.0 e.1.holding) (λ e f. e.0 < f.0) (λ e r. r.unit ≡ pos e.0)
       (λ x y a b l mine yours. apart_keys (has_key a) (has_key b) (λ k. let one = same_size x.0 y.0 (sym mine ∙ k.first ∙ yours) in omega arith))
-      (λ e. append_each (λ r. r.unit ≡ pos e.0) (kind_rows e.0 0 (entries e.1.holding.items)) (kind_rows e.0 1 (entries e.1.holding.days)) (lines_each none (has_row e.0 0) e.1.holding.items (λ r. r.unit ≡ pos e.0) (λ i a is some. refl)) (lines_each none (has_row e.0 1) e.1.holding.days (λ r. r.unit ≡ pos e.0) (λ i a is some. refl)))
+      (λ e. append_each (λ r. r.unit ≡ pos e.0) (rows_of_sort e.0 0 (entries e.1.holding.items)) (rows_of_sort e.0 1 (entries e.1.holding.days)) (lines_each none (has_row e.0 0) e.1.holding.items (λ r. r.unit ≡ pos e.0) (λ i a is some. refl)) (lines_each none (has_row e.0 1) e.1.holding.days (λ r. r.unit ≡ pos e.0) (λ i a is some. refl)))
       (λ e. held_apart e.0 e.1) (entries units) (entries_rise units)
 
   -- what units have is written and read as it is

@@ -14,7 +14,7 @@ use Rattle.std.proofs.lemmas.List.{append-nil}
 use Rattle.std.proofs.lemmas.List.Sorted.{IsPermutation-map, IsPermutation-refl, IsPermutation-sym, IsPermutation-trans, IsPermutation-append_left, IsPermutation-append_right, IsPermutation-middle}
 use Rattle.atl_state.specs.declared.parts.StoredBooks.{StoredBooks}
 use Rattle.atl_records.specs.Books.{Account, BooksValue, account_cmp, AreBooks, entry_index, entry_numbered, no_amounts, thing_at, thing_index, with_amount}
-use Rattle.atl_state.specs.FromRows.{as_u32, with_row, put_amounts}
+use Rattle.atl_state.specs.FromRows.{as_u32, with_books_row, put_amounts}
 use Rattle.atl_records.specs.Limits.{entry_count}
 use Rattle.atl_state.specs.RowRules.{Key, books_key}
 use Rattle.atl_state.specs.Rows.{amounts_rows, books_row, books_rows}
@@ -79,7 +79,7 @@ booked_row things r entry thing least most there some =
 pub account_there : (things : ℕ) (r : StoredBooks) (h : IsBooked things r) → thing_index h.account.1 < things
 account_there things r h = let is = sym (ap thing_index h.numbered) ∙ place_at (as_u32 r.thing) in omega (arith, is, h.there)
 
-pub with_booked_row : (things : ℕ) (books : BooksValue) (r : StoredBooks) → AreBooks things books → (h : IsBooked things r) → with_row books r ≡ with_amount books h.account.0 h.account.1 r.amount
+pub with_booked_row : (things : ℕ) (books : BooksValue) (r : StoredBooks) → AreBooks things books → (h : IsBooked things r) → with_books_row books r ≡ with_amount books h.account.0 h.account.1 r.amount
 with_booked_row things books r are h =
     let few : nat_lt (as_u32 r.thing) books.things ≡ true = let l : as_u32 r.thing < books.things = omega (arith, are.count, h.there) in grind (arith, nat_tests) in
     ap (λ o. option_map_or (λ e. cond (nat_lt (as_u32 r.thing) books.things) (with_amount books e (thing_at (as_u32 r.thing)) r.amount) books) o books) h.named

@@ -14,7 +14,7 @@ use Rattle.atl_records.specs.declared.books.Entry.{Entry}
 use Rattle.atl_records.specs.declared.books.Thing.{Thing}
 use Rattle.atl_state.specs.declared.parts.StoredBooks.{StoredBooks}
 use Rattle.atl_state.specs.declared.parts.StoredCampaignRow.{StoredCampaignRow}
-use Rattle.atl_state.specs.Checking.{rule_number, Keeps, KeepsBelow, IsFirstBroken, Fits}
+use Rattle.atl_state.specs.Checking.{rule_number, KeepsRule, KeepsRulesBelow, IsFirstBroken, Fits}
 use Rattle.std.specs.List.{list_all, AllByRecursion}
 use Rattle.atl_records.specs.Books.{BooksValue, amount_in, AreBooks, entry_index, no_amounts}
 use Rattle.atl_state.specs.Founding.{things_of}
@@ -69,22 +69,22 @@ no_amount books listed e t l =
     ] refl
 
 module _ (f : Format) (w : WorldValue) (p : Parts) where
-  pub below_first : KeepsBelow f w p 1
+  pub below_first : KeepsRulesBelow f w p 1
   below_first r h = absurd (omega (arith, from_one r))
 
   -- one rule more that holds
-  pub below_next : (r : Rule) → KeepsBelow f w p (rule_number r) → Keeps f w p r → KeepsBelow f w p (rule_number r + 1)
+  pub below_next : (r : Rule) → KeepsRulesBelow f w p (rule_number r) → KeepsRule f w p r → KeepsRulesBelow f w p (rule_number r + 1)
   below_next r before holds s h =
       elim (cases_eq (rule_number s) (rule_number r)) [
-        | inl e ↦ subst (Keeps f w p) (sym (same_rule s r e)) holds
+        | inl e ↦ subst (KeepsRule f w p) (sym (same_rule s r e)) holds
         | inr apart ↦ before s (omega arith)
       ]
 
   -- the first that doesn't
-  pub first_broken : (r : Rule) (b : Bool) → KeepsBelow f w p (rule_number r) → Decides b (Keeps f w p r) → b ≡ false → IsFirstBroken f w p r
+  pub first_broken : (r : Rule) (b : Bool) → KeepsRulesBelow f w p (rule_number r) → Decides b (KeepsRule f w p r) → b ≡ false → IsFirstBroken f w p r
   first_broken r b before d e = record { before = before; broken = λ holds. false≢true (sym e ∙ d.1 holds) }
 
-  pub rows_keep : IsWorld w → KeepsBelow f w p 12 → RowsKeep f w p
+  pub rows_keep : IsWorld w → KeepsRulesBelow f w p 12 → RowsKeep f w p
   rows_keep world k = record {
     world = world;
     one = (k OneRow (omega arith)).0;
@@ -97,11 +97,11 @@ module _ (f : Format) (w : WorldValue) (p : Parts) where
     booked = (k Books (omega arith)).0;
   }
 
-  fewer : KeepsBelow f w p 13 → KeepsBelow f w p 12
+  fewer : KeepsRulesBelow f w p 13 → KeepsRulesBelow f w p 12
   fewer k r h = k r (omega arith)
 
   -- rows that keep all rules are those of the campaign that they say, each once
-  pub checked-rows : IsWorld w → KeepsBelow f w p 13 → AreRowsOf f (campaign_of w p) p
+  pub checked-rows : IsWorld w → KeepsRulesBelow f w p 13 → AreRowsOf f (campaign_of w p) p
   checked-rows world k = rows_said f w p (rows_keep world (fewer k))
 
   no_stocks : f ≡ First → RowsKeep f w p → HasNoStocks (campaign_of w p)
@@ -116,13 +116,13 @@ module _ (f : Format) (w : WorldValue) (p : Parts) where
       (each_passes (is_booked f w) (λ r. is_entry_in First (as_u32 r.entry) ≡ true) (λ r h. subst (λ g. is_entry_in g (as_u32 r.entry) ≡ true) is (and_parts (is_entry_in f (as_u32 r.entry)) (nat_lt (as_u32 r.thing) (things_of w)) h).0) p.books rows.booked))
 
   -- the format can hold it
-  pub checked-fits : IsWorld w → KeepsBelow f w p 13 → Fits f (campaign_of w p)
+  pub checked-fits : IsWorld w → KeepsRulesBelow f w p 13 → Fits f (campaign_of w p)
   checked-fits world k =
       let rows = rows_keep world (fewer k) in
       elim f as (λ g. f ≡ g → Fits g (campaign_of w p)) [ First ↦ λ is. record { stocks = no_stocks is rows; entries = first_entries is rows } | Second ↦ λ is. tt ] refl
 
   -- and it is good
-  pub checked-good : IsWorld w → KeepsBelow f w p 13 → IsGood w (campaign_of w p)
+  pub checked-good : IsWorld w → KeepsRulesBelow f w p 13 → IsGood w (campaign_of w p)
   checked-good world k =
       let rows = rows_keep world (fewer k) in
       let range = k Ranges (omega arith) in
@@ -150,25 +150,25 @@ module _ (f : Format) (w : WorldValue) (p : Parts) where
 
   -- ---- what judging the later rules asks
 
-  pub few-said : KeepsBelow f w p 11 → IsCountable (campaign_of w p)
+  pub few-said : KeepsRulesBelow f w p 11 → IsCountable (campaign_of w p)
   few-said k = let range = AreInRange-said w p (k Ranges (omega arith)) in omega (arith, range.few_units, range.few_regions)
 
-  pub books-said : KeepsBelow f w p 11 → AreBooks (things_of w) (campaign_of w p).books
+  pub books-said : KeepsRulesBelow f w p 11 → AreBooks (things_of w) (campaign_of w p).books
   books-said k = (AreInRange-said w p (k Ranges (omega arith))).books
 
-  pub items-said : KeepsBelow f w p 11 → Every (λ n u. Every (λ i amount. i < length w.items) u.holding.items) (campaign_of w p).units
+  pub items-said : KeepsRulesBelow f w p 11 → Every (λ n u. Every (λ i amount. i < length w.items) u.holding.items) (campaign_of w p).units
   items-said k n u is = ((k Known (omega arith)).0.units n u is).items
 
-  pub stocks-said : KeepsBelow f w p 11 → Every (λ n r. AreOfMarkets w n r.stocks) (campaign_of w p).regions
+  pub stocks-said : KeepsRulesBelow f w p 11 → Every (λ n r. AreOfMarkets w n r.stocks) (campaign_of w p).regions
   stocks-said k = (k Known (omega arith)).0.markets
 
-  pub places-said : KeepsBelow f w p 8 → Every (λ n u. IsThere (campaign_of w p).regions u.region) (campaign_of w p).units
+  pub places-said : KeepsRulesBelow f w p 8 → Every (λ n u. IsThere (campaign_of w p).regions u.region) (campaign_of w p).units
   places-said k n u is = ((k Known (omega arith)).0.units n u is).region
 
-  pub one-said : KeepsBelow f w p 4 → length p.campaign ≡ 1
+  pub one-said : KeepsRulesBelow f w p 4 → length p.campaign ≡ 1
   one-said k = only_one f p.campaign (k OneRow (omega arith)).0
 
-  pub people-said : KeepsBelow f w p 4 → people_in_range p ≡ true
+  pub people-said : KeepsRulesBelow f w p 4 → people_in_range p ≡ true
   people-said k =
       let head = campaign_row_in_range (campaign_row_of p) in
       let people = people_in_range p in

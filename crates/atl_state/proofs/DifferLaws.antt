@@ -4,11 +4,11 @@ use Rattle.std.proofs.lemmas.Bool.{and_parts}
 use Rattle.std.specs.Ordering.{nat_cmp}
 use Rattle.std.specs.FinMap.{FinMap, find, entries, get-entries, is_sorted}
 use Rattle.atl_records.specs.declared.records.Faction.{Faction}
-use Rattle.atl_state.specs.Deciding.{Differ}
+use Rattle.atl_state.specs.Deciding.{JoinedNamesDiffer}
 use Rattle.atl_records.specs.Every.{Every}
 use Rattle.atl_records.proofs.EveryLaws.{none_some, each_of, later, first, not_below, sorted}
 
-differ_of : (es : List (ℕ × Faction)) → is_sorted nat_cmp es ≡ true → ((n k : ℕ) (f g : Faction) → find nat_cmp n es ≡ Some f → find nat_cmp k es ≡ Some g → f.joined_as ≡ g.joined_as → n ≡ k) → Differ es
+differ_of : (es : List (ℕ × Faction)) → is_sorted nat_cmp es ≡ true → ((n k : ℕ) (f g : Faction) → find nat_cmp n es ≡ Some f → find nat_cmp k es ≡ Some g → f.joined_as ≡ g.joined_as → n ≡ k) → JoinedNamesDiffer es
 differ_of [] s h = tt
 differ_of (e ∷ es) s h = (
   each_of (λ _ f. e.1.joined_as ≢ f.joined_as) es (and_parts _ _ s).1 (λ n f is same.
@@ -20,5 +20,5 @@ differ_of (e ∷ es) s h = (
 abbrev pub AllDiffer : FinMap nat_cmp Faction → Type 0
 AllDiffer m = Every (λ n f. Every (λ k g. f.joined_as ≡ g.joined_as → n ≡ k) m) m
 
-pub entries_differ : (m : FinMap nat_cmp Faction) → AllDiffer m → Differ (entries m)
+pub entries_differ : (m : FinMap nat_cmp Faction) → AllDiffer m → JoinedNamesDiffer (entries m)
 entries_differ m every = differ_of (entries m) (sorted m) (λ n k f g is js same. every n f (get-entries m n ∙ is) k g (get-entries m k ∙ js) same)

@@ -21,7 +21,7 @@ use Rattle.atl_records.specs.declared.records.Region.{Region}
 use Rattle.atl_records.specs.declared.records.Structure.{Structure}
 use Rattle.atl_records.specs.declared.records.Unit.{Unit}
 use Rattle.atl_records.specs.Books.{amount_in, booked, no_amounts, after_booking, AreBooks, IsWithin}
-use Rattle.atl_state.specs.Kept.{AreUnitLists, AreKept}
+use Rattle.atl_state.specs.KeptLists.{AreUnitLists, AreKept}
 use Rattle.atl_tables.specs.Names.{name_ok, pass_ok}
 use Rattle.atl_tables.specs.declared.world.RegionPlan.{RegionPlan}
 use Rattle.atl_tables.specs.ByNumber.{is_land_at, market_of, size_of}

@@ -24,7 +24,7 @@ use Rattle.atl_state.specs.declared.parts.StoredMarket.{StoredMarket}
 use Rattle.atl_records.specs.declared.books.Entry.{Entry}
 use Rattle.atl_records.specs.Books.{AreBooks, BooksValue, entry_numbered, no_amounts, thing_at, with_amount}
 use Rattle.atl_state.specs.Founding.{things_of}
-use Rattle.atl_state.specs.FromRows.{clamp, as_u32, as_u16, put_rows, by_number, faction_of, stocks_of, region_of, structure_of, unit_of, with_row, put_amounts, campaign_row_of, campaign_of}
+use Rattle.atl_state.specs.FromRows.{clamp, as_u32, as_u16, put_rows, by_number, faction_of, stocks_of, region_of, structure_of, unit_of, with_books_row, put_amounts, campaign_row_of, campaign_of}
 use Rattle.atl_records.specs.Every.{Every}
 use Rattle.atl_state.specs.Good.{IsRegion, AreInRange, HaveMen}
 use Rattle.atl_records.specs.Holdings.{IsHolding}
@@ -95,13 +95,13 @@ row_put things books e r true inside are =
     AreBooks-with_amount books e (thing_at (as_u32 r.thing)) r.amount things are (omega (arith, few, place, are.count))
 row_put things books e r false inside are = are
 
-row_read : (things : ℕ) (books : BooksValue) (r : StoredBooks) → AreBooks things books → AreBooks things (with_row books r)
+row_read : (things : ℕ) (books : BooksValue) (r : StoredBooks) → AreBooks things books → AreBooks things (with_books_row books r)
 row_read things books r are =
     let put = λ (e : Entry). cond (nat_lt (as_u32 r.thing) books.things) (with_amount books e (thing_at (as_u32 r.thing)) r.amount) books in
     elim (entry_numbered (as_u32 r.entry)) as (λ o. AreBooks things (option_map_or put o books)) [ None ↦ are | Some e ↦ row_put things books e r (nat_lt (as_u32 r.thing) books.things) refl are ]
 
 -- a row of a thing that is not there says nothing
-pub row_unread : (books : BooksValue) (r : StoredBooks) → books.things ≤ as_u32 r.thing → with_row books r ≡ books
+pub row_unread : (books : BooksValue) (r : StoredBooks) → books.things ≤ as_u32 r.thing → with_books_row books r ≡ books
 row_unread books r past =
     let none : nat_lt (as_u32 r.thing) books.things ≡ false = grind (arith, nat_tests) in
     let put = λ (e : Entry). with_amount books e (thing_at (as_u32 r.thing)) r.amount in
@@ -109,7 +109,7 @@ row_unread books r past =
 
 pub put-books : (things : ℕ) (rows : List StoredBooks) (books : BooksValue) → AreBooks things books → AreBooks things (put_amounts rows books)
 put-books things [] books are = are
-put-books things (r ∷ rows) books are = put-books things rows (with_row books r) (row_read things books r are)
+put-books things (r ∷ rows) books are = put-books things rows (with_books_row books r) (row_read things books r are)
 
 -- ---- the ranges
 

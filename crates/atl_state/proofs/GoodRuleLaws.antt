@@ -29,9 +29,9 @@ use Rattle.atl_state.specs.declared.parts.StoredCampaignRow.{StoredCampaignRow}
 use Rattle.atl_state.specs.declared.parts.StoredFaction.{StoredFaction}
 use Rattle.atl_records.specs.declared.records.Faction.{Faction}
 use Rattle.atl_records.specs.Books.{amount_in, entry_index, thing_index, IsWithin}
-use Rattle.atl_state.specs.Checking.{Keeps, IsWithoutMarkets, Fits, Checks, GivesBack}
+use Rattle.atl_state.specs.Checking.{KeepsRule, IsWithoutMarkets, Fits, Checks, GivesBack}
 use Rattle.atl_records.specs.Every.{EachOf}
-use Rattle.atl_state.specs.Deciding.{Differ}
+use Rattle.atl_state.specs.Deciding.{JoinedNamesDiffer}
 use Rattle.atl_state.specs.Founding.{things_of}
 use Rattle.atl_state.specs.FromRows.{as_u32, faction_of, region_of, structure_of, unit_of, campaign_row_of, campaign_of}
 use Rattle.atl_state.specs.Good.{AreKnown, AreNumbered, AreDays, GoneHaveNone, NoneAreGone, AreOwned, AreAfloat, AreOfOneFaction, guards, IsMail, AreReported, amount_bound, IsGood}
@@ -86,7 +86,7 @@ others_named : (f : Faction) (es : List (ℕ × Faction)) → EachOf (λ n g. f.
 others_named f [] h = tt
 others_named f (e ∷ es) h = (text_apart f.joined_as e.1.joined_as h.0, others_named f es h.1)
 
-named_apart : (es : List (ℕ × Faction)) → Differ es → IsDistinct (λ (a b : StoredFaction). same_text a.joined_as b.joined_as) (rows_by faction_row es)
+named_apart : (es : List (ℕ × Faction)) → JoinedNamesDiffer es → IsDistinct (λ (a b : StoredFaction). same_text a.joined_as b.joined_as) (rows_by faction_row es)
 unfolding IsDistinct
 named_apart [] h = tt
 named_apart (e ∷ es) h = (others_named e.1 es h.0, named_apart es h.1)
@@ -273,7 +273,7 @@ module _ (f : Format) (w : WorldValue) (world : IsWorld w) (c : CampaignValue) (
   said P h = subst P (sym back) h
 
   -- every rule is kept
-  pub keeps : (r : Rule) → Keeps f w p r
+  pub keeps : (r : Rule) → KeepsRule f w p r
   keeps OneRow = (one_row, of_format)
   keeps Ranges = in_ranges
   keeps Names = named

@@ -14,7 +14,7 @@ use Rattle.atl_state.specs.declared.parts.StoredUnit.{StoredUnit}
 use Rattle.atl_records.specs.declared.records.Unit.{Unit}
 use Rattle.atl_state.specs.FromRows.{as_u32, is_of, things_had, unit_of, by_number}
 use Rattle.atl_state.specs.RowRules.{Key, key_cmp, has_key}
-use Rattle.atl_state.specs.Rows.{is_zero, has_row, kind_rows, held_rows, has_rows}
+use Rattle.atl_state.specs.Rows.{is_zero, has_row, rows_of_sort, held_rows, has_rows}
 use Rattle.atl_state.proofs.AssemblyLaws.{is_same}
 use Rattle.atl_state.proofs.GroupLaws as group
 use Rattle.atl_state.proofs.GroupLaws.{filter_both, filter_each, gathered, lines_order, of_group}
@@ -95,16 +95,16 @@ ties_itself k = (eq_by_cmp_equiv (then_total (then_total (on_total (λ (t : Key)
 pub things_apart : (n sort : ℕ) (has : List StoredHas) → AllByRecursion IsKeyed has → IsDistinct same (map has_key has) → Apart thing_of (filter (is_of n sort) has)
 things_apart n sort = group.things_apart has_key same ties_itself thing_of (is_of n sort) IsKeyed (same_key n sort)
 
-sort_order : (n sort : ℕ) (has : List StoredHas) → AllByRecursion IsExact has → IsDistinct same (map has_key has) → IsPermutation (kind_rows n sort (entries (things_had n sort has))) (filter (is_of n sort) has)
+sort_order : (n sort : ℕ) (has : List StoredHas) → AllByRecursion IsExact has → IsDistinct same (map has_key has) → IsPermutation (rows_of_sort n sort (entries (things_had n sort has))) (filter (is_of n sort) has)
 sort_order n sort has all d =
     lines_order thing_of amount_of (has_row n sort) (λ h. not (is_zero h.amount)) (filter (is_of n sort) has) (things_apart n sort has (each_so IsExact IsKeyed (λ h one. one.keys) has all) d)
     (each_so (λ h. IsExact h × (is_of n sort h ≡ true)) (λ h. (has_row n sort (thing_of h) (amount_of h) ≡ h) × (not (is_zero h.amount) ≡ true)) (λ h had. (same_row n sort h (had.0.keys, had.1) had.0.amount, ap not had.0.some)) (filter (is_of n sort) has) (group.all_mine has_key same ties_itself thing_of (is_of n sort) IsExact has all))
 
 unit_order : (n : ℕ) (has : List StoredHas) → AllByRecursion (λ h. (as_u32 h.sort ≡ 0) ⊎ (as_u32 h.sort ≡ 1)) has → AllByRecursion IsExact has → IsDistinct same (map has_key has)
-    → IsPermutation (kind_rows n 0 (entries (things_had n 0 has)) ++ kind_rows n 1 (entries (things_had n 1 has))) (rows_of_unit n has)
+    → IsPermutation (rows_of_sort n 0 (entries (things_had n 0 has)) ++ rows_of_sort n 1 (entries (things_had n 1 has))) (rows_of_unit n has)
 unit_order n has sorts all d =
-    let items = kind_rows n 0 (entries (things_had n 0 has)) in
-    let days = kind_rows n 1 (entries (things_had n 1 has)) in
+    let items = rows_of_sort n 0 (entries (things_had n 0 has)) in
+    let days = rows_of_sort n 1 (entries (things_had n 1 has)) in
     let rows = filter (is_of n 0) has ++ filter (is_of n 1) has in
     IsPermutation-trans (items ++ days) rows (rows_of_unit n has) (IsPermutation-append items (filter (is_of n 0) has) days (filter (is_of n 1) has) (sort_order n 0 has all d) (sort_order n 1 has all d)) (by_sort n has sorts)
 

@@ -23,13 +23,13 @@ use Rattle.atl_tables.proofs.Maps.{entries_of, len_of}
 use Rattle.atl_tables.proofs.SumLaws.{taken_back}
 use Rattle.atl_tables.proofs.TrackLaws.{there_itself, remove_none}
 use Rattle.atl_state.specs.declared.index.IndexEntry.{IndexEntry}
-use Rattle.atl_state.specs.Index.{numbers_of, slots_of}
+use Rattle.atl_state.specs.Index.{index_numbers, slots_of}
 
 pub some_none : {X : Type 0} (x : X) {P : Type 0} → Some x ≡ None → P
 some_none x e = cc
 
 abbrev IsSorted : List IndexEntry → Type 0
-IsSorted ps = IsStrictlySortedBy nat_cmp (numbers_of ps)
+IsSorted ps = IsStrictlySortedBy nat_cmp (index_numbers ps)
 
 -- the map that the places are
 abbrev pub as_map : List IndexEntry → finmap.FinMap nat_cmp ℕ
@@ -54,7 +54,7 @@ module _ {X Y : Type 0} (f : X → Y) where
   map-remove (y ∷ xs) zero = refl
   map-remove (y ∷ xs) (suc i) = ap (λ ys. f y ∷ ys) (map-remove xs i)
 
-keys_are : (ps : List IndexEntry) → keys_of (slots_of ps) ≡ numbers_of ps
+keys_are : (ps : List IndexEntry) → keys_of (slots_of ps) ≡ index_numbers ps
 keys_are [] = refl
 keys_are (p ∷ ps) = ap (λ ns. p.number ∷ ns) (keys_are ps)
 
@@ -91,55 +91,55 @@ pub nothing : {X : Type 0} (o : Option X) → is_some o ≡ false → o ≡ None
 nothing None h = refl
 nothing (Some x) h = absurd (false≢true (sym h))
 
-unlisted : (ps : List IndexEntry) (n : ℕ) → set.contains {R = nat_cmp} (set.from_list (numbers_of ps)) n ≡ false → finmap.get (as_map ps) n ≡ None
+unlisted : (ps : List IndexEntry) (n : ℕ) → set.contains {R = nat_cmp} (set.from_list (index_numbers ps)) n ≡ false → finmap.get (as_map ps) n ≡ None
 unlisted ps n h =
     finmap.get-from_entries nat_cmp_total (slots_of ps) n
-    ∙ nothing _ (is_some-find nat_cmp n (slots_of ps) ∙ ap (list_any (eq_by_cmp nat_cmp n)) (keys_are ps) ∙ sym (set.contains-from_list nat_cmp_total (numbers_of ps) n) ∙ h)
+    ∙ nothing _ (is_some-find nat_cmp n (slots_of ps) ∙ ap (list_any (eq_by_cmp nat_cmp n)) (keys_are ps) ∙ sym (set.contains-from_list nat_cmp_total (index_numbers ps) n) ∙ h)
 
-pub get-belongs : (ps : List IndexEntry) (n i : ℕ) → IsSorted ps → BelongsAt (numbers_of ps) n i → finmap.get (as_map ps) n ≡ None
-get-belongs ps n i s b = unlisted ps n (contains-belongs (numbers_of ps) n i s b)
+pub get-belongs : (ps : List IndexEntry) (n i : ℕ) → IsSorted ps → BelongsAt (index_numbers ps) n i → finmap.get (as_map ps) n ≡ None
+get-belongs ps n i s b = unlisted ps n (contains-belongs (index_numbers ps) n i s b)
 
 taken : (t : set.FinSet nat_cmp) (n : ℕ) → set.contains (set.remove t n) n ≡ false
 taken t n = set.contains-remove nat_cmp_total t n n ∙ ap (λ b. not b && set.contains t n) (key_itself n)
 
-gone : (ps : List IndexEntry) (n i : ℕ) → IsSorted ps → IsAt (numbers_of ps) n i → finmap.get (as_map (remove ps i)) n ≡ None
+gone : (ps : List IndexEntry) (n i : ℕ) → IsSorted ps → IsAt (index_numbers ps) n i → finmap.get (as_map (remove ps i)) n ≡ None
 gone ps n i s h =
-    unlisted (remove ps i) n (ap (λ ns. set.contains {R = nat_cmp} (set.from_list ns) n) (map-remove (λ (p : IndexEntry). p.number) ps i) ∙ ap (λ t. set.contains t n) (from_list-remove (numbers_of ps) n i s h) ∙ taken (set.from_list (numbers_of ps)) n)
+    unlisted (remove ps i) n (ap (λ ns. set.contains {R = nat_cmp} (set.from_list ns) n) (map-remove (λ (p : IndexEntry). p.number) ps i) ∙ ap (λ t. set.contains t n) (from_list-remove (index_numbers ps) n i s h) ∙ taken (set.from_list (index_numbers ps)) n)
 
-inside : (ps : List IndexEntry) (n i : ℕ) → IsAt (numbers_of ps) n i → i < length ps
+inside : (ps : List IndexEntry) (n i : ℕ) → IsAt (index_numbers ps) n i → i < length ps
 inside ps n i h = let size = length-map ps (λ (p : IndexEntry). p.number) in let l = h.within in omega (arith, size, l)
 
-number-stands : (ps : List IndexEntry) (n i : ℕ) (d : IndexEntry) → IsAt (numbers_of ps) n i → (get_or ps i d).number ≡ n
+number-stands : (ps : List IndexEntry) (n i : ℕ) (d : IndexEntry) → IsAt (index_numbers ps) n i → (get_or ps i d).number ≡ n
 number-stands ps n i d h =
-    sym (get_or-map (λ (p : IndexEntry). p.number) ps i d d.number (inside ps n i h)) ∙ get_or_default (numbers_of ps) i d.number 0 h.within ∙ h.is
+    sym (get_or-map (λ (p : IndexEntry). p.number) ps i d d.number (inside ps n i h)) ∙ get_or_default (index_numbers ps) i d.number 0 h.within ∙ h.is
 
-put_again : (ps : List IndexEntry) (n i : ℕ) (d : IndexEntry) → IsSorted ps → IsAt (numbers_of ps) n i → as_map ps ≡ finmap.insert (as_map (remove ps i)) n (get_or ps i d).slot
+put_again : (ps : List IndexEntry) (n i : ℕ) (d : IndexEntry) → IsSorted ps → IsAt (index_numbers ps) n i → as_map ps ≡ finmap.insert (as_map (remove ps i)) n (get_or ps i d).slot
 put_again ps n i d s h =
     let p = get_or ps i d in
     sym (ap as_map (put_back ps i d (inside ps n i h))) ∙ ap from_entries (map-insert (λ (p : IndexEntry). (p.number, p.slot)) (remove ps i) i p)
     ∙ ap (λ k. from_entries (insert (slots_of (remove ps i)) i (k, p.slot))) (number-stands ps n i d h) ∙ from_entries-insert (slots_of (remove ps i)) i n p.slot (gone ps n i s h)
 
-pub get-stands : (ps : List IndexEntry) (n i : ℕ) (d : IndexEntry) → IsSorted ps → IsAt (numbers_of ps) n i → finmap.get (as_map ps) n ≡ Some (get_or ps i d).slot
+pub get-stands : (ps : List IndexEntry) (n i : ℕ) (d : IndexEntry) → IsSorted ps → IsAt (index_numbers ps) n i → finmap.get (as_map ps) n ≡ Some (get_or ps i d).slot
 get-stands ps n i d s h = ap (λ m. finmap.get m n) (put_again ps n i d s h) ∙ there_itself (as_map (remove ps i)) n (get_or ps i d).slot
 
 -- ---- a place that comes
-pub map-added : (ps : List IndexEntry) (n i k : ℕ) → IsSorted ps → BelongsAt (numbers_of ps) n i → as_map (insert ps i (record { number = n; slot = k })) ≡ finmap.insert (as_map ps) n k
+pub map-added : (ps : List IndexEntry) (n i k : ℕ) → IsSorted ps → BelongsAt (index_numbers ps) n i → as_map (insert ps i (record { number = n; slot = k })) ≡ finmap.insert (as_map ps) n k
 map-added ps n i k s b =
     ap from_entries (map-insert (λ (p : IndexEntry). (p.number, p.slot)) ps i (record { number = n; slot = k })) ∙ from_entries-insert (slots_of ps) i n k (get-belongs ps n i s b)
 
-pub rising-added : (ps : List IndexEntry) (n i k : ℕ) → IsSorted ps → BelongsAt (numbers_of ps) n i → IsSorted (insert ps i (record { number = n; slot = k }))
-rising-added ps n i k s b = rw (map-insert (λ (p : IndexEntry). p.number) ps i (record { number = n; slot = k })) (rising-insert (numbers_of ps) n i s b)
+pub rising-added : (ps : List IndexEntry) (n i k : ℕ) → IsSorted ps → BelongsAt (index_numbers ps) n i → IsSorted (insert ps i (record { number = n; slot = k }))
+rising-added ps n i k s b = rw (map-insert (λ (p : IndexEntry). p.number) ps i (record { number = n; slot = k })) (rising-insert (index_numbers ps) n i s b)
 
 -- ---- a place that goes
-pub map-without : (ps : List IndexEntry) (n i : ℕ) → IsSorted ps → IsAt (numbers_of ps) n i → as_map (remove ps i) ≡ finmap.remove (as_map ps) n
+pub map-without : (ps : List IndexEntry) (n i : ℕ) → IsSorted ps → IsAt (index_numbers ps) n i → as_map (remove ps i) ≡ finmap.remove (as_map ps) n
 map-without ps n i s h =
     let d : IndexEntry = record { number = 0; slot = 0 } in
     sym (ap (λ m. finmap.remove m n) (put_again ps n i d s h) ∙ taken_back (as_map (remove ps i)) n (get_or ps i d).slot (gone ps n i s h))
 
-pub rising-without : (ps : List IndexEntry) (n i : ℕ) → IsSorted ps → IsAt (numbers_of ps) n i → IsSorted (remove ps i)
-rising-without ps n i s h = rw (map-remove (λ (p : IndexEntry). p.number) ps i) (rising-remove (numbers_of ps) i s h.within)
+pub rising-without : (ps : List IndexEntry) (n i : ℕ) → IsSorted ps → IsAt (index_numbers ps) n i → IsSorted (remove ps i)
+rising-without ps n i s h = rw (map-remove (λ (p : IndexEntry). p.number) ps i) (rising-remove (index_numbers ps) i s h.within)
 
-pub map-missing : (ps : List IndexEntry) (n i : ℕ) → IsSorted ps → BelongsAt (numbers_of ps) n i → as_map ps ≡ finmap.remove (as_map ps) n
+pub map-missing : (ps : List IndexEntry) (n i : ℕ) → IsSorted ps → BelongsAt (index_numbers ps) n i → as_map ps ≡ finmap.remove (as_map ps) n
 map-missing ps n i s b = sym (remove_none (as_map ps) n (get-belongs ps n i s b))
 
 -- ---- all of them
@@ -153,7 +153,7 @@ pub len-places : (ps : List IndexEntry) → IsSorted ps → finmap.len (as_map p
 len-places ps s = len_of (slots_of ps) (rw (keys_are ps) s) ∙ length-map ps (λ (p : IndexEntry). (p.number, p.slot))
 
 -- ---- where a search says that a number stands, or belongs
-pub found-by_search : (ps : List IndexEntry) (n : ℕ) (r : Result ℕ ℕ) → IsSearchInRange r (length ps) → IsBinarySearchResult (λ p. nat_cmp p.number n) ps r → IfOk r (λ i. IsAt (numbers_of ps) n i)
+pub found-by_search : (ps : List IndexEntry) (n : ℕ) (r : Result ℕ ℕ) → IsSearchInRange r (length ps) → IsBinarySearchResult (λ p. nat_cmp p.number n) ps r → IfOk r (λ i. IsAt (index_numbers ps) n i)
 found-by_search ps n (Ok i) l h =
     let d : IndexEntry = record { number = 0; slot = 0 } in
     let size = length-map ps (λ (p : IndexEntry). p.number) in
@@ -165,19 +165,19 @@ found-by_search ps n (Err i) l h = tt
 
 searchable : (ps : List IndexEntry) (n : ℕ) → IsSorted ps → IsNonDecreasingBy (λ (p : IndexEntry). ordering_index (nat_cmp p.number n)) ps
 searchable ps n s = searchable_from_sorted nat_cmp_total (λ (p : IndexEntry). p.number) ps n (λ k d low h.
-    let ns = numbers_of ps in
+    let ns = index_numbers ps in
     let size : length ns ≡ length ps = length-map ps (λ (p : IndexEntry). p.number) in
     let at : (i : ℕ) → i < length ps → get_or ns i d.number ≡ (get_or ps i d).number = λ i l. get_or-map (λ (p : IndexEntry). p.number) ps i d d.number l in
     let up = Less-from_sorted nat_cmp ns k (k + 1) d.number s (omega arith) (omega arith) in
     ap is_lt (λ i. nat_cmp (sym (at (k + 1) h) i) (sym (at k (omega arith)) i)) ∙ ap is_lt (nat_cmp_total.antisymm (get_or ns (k + 1) d.number) (get_or ns k d.number)) ∙ ap (λ r. is_lt (ordering_reverse r)) up)
 
-pub missing-by_search : (ps : List IndexEntry) (n : ℕ) (r : Result ℕ ℕ) → IsSorted ps → IsSearchInRange r (length ps) → IsBinarySearchResult (λ p. nat_cmp p.number n) ps r → IfErr r (λ i. BelongsAt (numbers_of ps) n i)
+pub missing-by_search : (ps : List IndexEntry) (n : ℕ) (r : Result ℕ ℕ) → IsSorted ps → IsSearchInRange r (length ps) → IsBinarySearchResult (λ p. nat_cmp p.number n) ps r → IfErr r (λ i. BelongsAt (index_numbers ps) n i)
 missing-by_search ps n (Ok i) s l h = tt
 missing-by_search ps n (Err i) s l h =
     let d : IndexEntry = record { number = 0; slot = 0 } in
     let size = length-map ps (λ (p : IndexEntry). p.number) in
     let parts = h (searchable ps n s) in
-    let at : (k : ℕ) → k < length ps → get_or (numbers_of ps) k 0 ≡ (get_or ps k d).number = λ k m. get_or-map (λ (p : IndexEntry). p.number) ps k d 0 m in
+    let at : (k : ℕ) → k < length ps → get_or (index_numbers ps) k 0 ≡ (get_or ps k d).number = λ k m. get_or-map (λ (p : IndexEntry). p.number) ps k d 0 m in
     record {
       within = omega (arith, size, l);
       before = λ k m. let less = ranked (get_or ps k d).number n Less (sym (parts.0 k d (omega arith) m)) in let same = at k (omega (arith, m, l)) in omega (arith, less, same);
@@ -185,7 +185,7 @@ missing-by_search ps n (Err i) s l h =
     }
 
 -- a number that is above the last one is above all
-pub BelongsAt-above : (ps : List IndexEntry) (p : IndexEntry) (n : ℕ) → IsSorted ps → slice_get ps (length ps - 1) ≡ Some p → p.number < n → BelongsAt (numbers_of ps) n (length ps)
+pub BelongsAt-above : (ps : List IndexEntry) (p : IndexEntry) (n : ℕ) → IsSorted ps → slice_get ps (length ps - 1) ≡ Some p → p.number < n → BelongsAt (index_numbers ps) n (length ps)
 BelongsAt-above ps p n s is above =
     record {
       within = omega (arith, size);
@@ -194,7 +194,7 @@ BelongsAt-above ps p n s is above =
     }
   where
     ns : List ℕ
-    ns = numbers_of ps
+    ns = index_numbers ps
 
     size : length ns ≡ length ps
     size = length-map ps (λ (p : IndexEntry). p.number)

@@ -10,7 +10,7 @@ use Rattle.atl_tables.proofs.SumLaws.{numbers_where-insert_other, numbers_where-
 use Rattle.atl_tables.specs.Sums.{changed, changed_at, numbers_where}
 use Rattle.atl_tables.proofs.Maps.{entries-empty}
 use Rattle.atl_state.specs.Ordered.{put_number, take_number}
-use Rattle.atl_state.specs.Kept.{AreInsideLists, AreLists, AreUnitLists, SameLists, ListsUnit, UnlistsUnit, list_of, list_keys_of, listed_apart, relisted_inside, unlisted_apart}
+use Rattle.atl_state.specs.KeptLists.{AreInsideLists, AreLists, AreUnitLists, SameLists, ListsUnit, UnlistsUnit, list_of, list_keys_of, listed_apart, relisted_inside, unlisted_apart}
 use Rattle.atl_state.specs.declared.lists.ListKeys.{ListKeys}
 use Rattle.atl_state.specs.declared.lists.UnitLists.{UnitLists}
 use Rattle.atl_records.specs.declared.records.Unit.{Unit}

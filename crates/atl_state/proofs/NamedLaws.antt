@@ -24,7 +24,7 @@ use Rattle.atl_records.specs.Books.{account_cmp, amount_in, AreBooks, BooksValue
 use Rattle.atl_state.specs.Founding.{things_of}
 use Rattle.atl_state.specs.FromRows.{as_u32, faction_of, structure_of, unit_of, by_number, put_amounts, campaign_row_of, campaign_of}
 use Rattle.atl_state.specs.Good.{AreNamed, AreAmountsWithin, amount_bound}
-use Rattle.atl_state.specs.RowRules.{faction_named, books_in_range, books_bound, is_within, HaveJoined, AreRowsNamed}
+use Rattle.atl_state.specs.RowRules.{faction_named, books_in_range, books_bound, is_within, AreJoinedNamesDistinct, AreRowsNamed}
 use Rattle.atl_state.specs.Rows.{is_zero}
 use Rattle.atl_records.proofs.BookLaws.{amount-no_amounts, amount-with_amount, AreBooks-no_amounts, AreBooks-with_amount}
 use Rattle.atl_state.proofs.BooksRowLaws.{IsBooked, account_there, with_booked_row}
@@ -62,7 +62,7 @@ module _ (m : FinMap nat_cmp Faction) where
   clash : (a b : List ℕ) → a ≡ b → same_text a b ≡ false → ⊥
   clash a b e d = false≢true (sym (ap (same_text a) e ∙ d) ∙ text_itself a)
 
-  one_name : (rows : List StoredFaction) (n k : ℕ) (f g : Faction) → HaveJoined rows → AllByRecursion Found rows → HasNumber number rows n → HasNumber number rows k → get m n ≡ Some f → get m k ≡ Some g → f.joined_as ≡ g.joined_as → n ≡ k
+  one_name : (rows : List StoredFaction) (n k : ℕ) (f g : Faction) → AreJoinedNamesDistinct rows → AllByRecursion Found rows → HasNumber number rows n → HasNumber number rows k → get m n ≡ Some f → get m k ≡ Some g → f.joined_as ≡ g.joined_as → n ≡ k
   unfolding IsDistinct
   one_name [] n k f g d all a b is at e = absurd a
   one_name (r ∷ rows) n k f g d all (inl x) (inl y) is at e = sym x ∙ y

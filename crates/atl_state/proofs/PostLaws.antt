@@ -5,15 +5,15 @@ use Rattle.std.specs.Cmp.{nat_cmp_total}
 use Rattle.std.specs.FinMap.{FinMap, get, get-empty, keys, empty, contains_key, contains_key-keys}
 use Rattle.std.specs.FinSet.{FinSet, contains, contains-union, contains-from_list, from_list, union}
 use Rattle.atl_state.specs.Covers.{MarksChanges, SameBut, StaysMarked}
-use Rattle.atl_state.specs.Marking.{mark_all_mail, mark_report, mark_row}
+use Rattle.atl_state.specs.Marking.{mark_all_mail, mark_campaign_row, mark_report}
 use Rattle.atl_state.specs.Campaign.{MarkedCampaign, with_month, with_report, without_mail}
 use Rattle.atl_state.proofs.CoverLaws.{Mail, Reports, Row, Stays, Tells, apart_by, part_by_part, put_stays}
 use Rattle.atl_records.proofs.EveryLaws.{get-insert_other}
 
 -- the month that is counted
-pub marks-month : (c : MarkedCampaign) (n : ℕ) → MarksChanges c (record { value = with_month c.value n; marks = mark_row c })
+pub marks-month : (c : MarkedCampaign) (n : ℕ) → MarksChanges c (record { value = with_month c.value n; marks = mark_campaign_row c })
 marks-month c n =
-    let next : MarkedCampaign = record { value = with_month c.value n; marks = mark_row c } in
+    let next : MarkedCampaign = record { value = with_month c.value n; marks = mark_campaign_row c } in
     part_by_part c next
     (λ p. elim p as (Stays c.marks next.marks) [ Row ↦ λ k h. refl | _ ↦ λ k h. h ])
     (λ p. elim p as (Tells next.marks c.value next.value) [ Row ↦ λ k free. absurd (true≢false free) | _ ↦ λ k free. refl ])

@@ -9,7 +9,7 @@ use Rattle.atl_records.specs.declared.books.Entry.{Entry}
 use Rattle.atl_records.specs.Books.{Account, BooksValue, amount_in, is_zero, thing_at}
 use Rattle.atl_records.specs.Grids.{accounts_under, listed_of}
 use Rattle.atl_records.proofs.BookLaws.{zero_not}
-use Rattle.atl_state.specs.Rows.{has_row, amounts_rows, books_row, amount_rows, kind_rows, rows_under}
+use Rattle.atl_state.specs.Rows.{has_row, amounts_rows, books_row, amount_rows, rows_of_sort, rows_under}
 
 same_size : {m n : ℕ} → pos m ≡ pos n → m ≡ n
 same_size e = cc
@@ -22,7 +22,7 @@ module _ {R : Type 0} (shown : R → ℤ) (row : ℕ → ℕ → R) (shows : (th
       ap (λ b. cond (not b) (row thing amount ∷ amount_rows shown row es) (amount_rows shown row es)) (ap is_zero (shows thing amount) ∙ zero_not (pos amount) (λ e. h (same_size e)))
 
 -- of what a unit has
-pub sort_rows_one : (n sort thing amount : ℕ) (es : List (ℕ × ℕ)) → amount ≢ 0 → kind_rows n sort ((thing, amount) ∷ es) ≡ has_row n sort thing amount ∷ kind_rows n sort es
+pub sort_rows_one : (n sort thing amount : ℕ) (es : List (ℕ × ℕ)) → amount ≢ 0 → rows_of_sort n sort ((thing, amount) ∷ es) ≡ has_row n sort thing amount ∷ rows_of_sort n sort es
 sort_rows_one n sort = amount_rows_one (λ r. r.amount) (has_row n sort) (λ i a. refl)
 
 -- ---- rows of the books

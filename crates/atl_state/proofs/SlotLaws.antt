@@ -15,7 +15,7 @@ use Rattle.std.specs.FinMap.Entries.{below_all}
 use Rattle.atl_tables.proofs.MadeLaws.{is_less}
 use Rattle.atl_tables.proofs.Maps.{entries-empty, entries_of}
 use Rattle.slab.specs.Slab as slab
-use Rattle.atl_state.specs.Slots.{slot_entries, slot_entry_at, values_of, AreInUse, AreLodged, IsArena}
+use Rattle.atl_state.specs.Slots.{slot_entries, slot_entry_at, values_of, AreInUse, HaveOwnSlots, IsArena}
 use Rattle.atl_records.proofs.EveryLaws.{sorted, each-from_every}
 use Rattle.atl_state.proofs.IndexLaws.{some_none}
 
@@ -50,29 +50,29 @@ module _ {V : Type 0} where
       lodged_step e.0 q (slab.get s e.1) (slot_entries es s) h.0 ∙ ap (cond (eq_by_cmp nat_cmp q e.0) (slab.get s e.1)) (find_lodged s q es h.1)
       ∙ through_cond (eq_by_cmp nat_cmp q e.0) s e.1 (find nat_cmp q es)
 
-  pub all_in_use : (i : FinMap nat_cmp ℕ) (s : slab.Slab V) → AreLodged i s → AreInUse (entries i) s
+  pub all_in_use : (i : FinMap nat_cmp ℕ) (s : slab.Slab V) → HaveOwnSlots i s → AreInUse (entries i) s
   all_in_use i s held = each-from_every (λ n k. is_some (slab.get s k) ≡ true) i held.in_use
 
   -- what stands under a number
-  pub get_values : (i : FinMap nat_cmp ℕ) (s : slab.Slab V) → AreLodged i s → (q : ℕ) → get (values_of i s) q ≡ through s (get i q)
+  pub get_values : (i : FinMap nat_cmp ℕ) (s : slab.Slab V) → HaveOwnSlots i s → (q : ℕ) → get (values_of i s) q ≡ through s (get i q)
   get_values i s held q =
       get-from_entries nat_cmp_total (slot_entries (entries i) s) q
       ∙ find_lodged s q (entries i) (all_in_use i s held)
       ∙ ap (through s) (sym (get-entries i q))
 
-  pub value_under : (i : FinMap nat_cmp ℕ) (s : slab.Slab V) (m : FinMap nat_cmp V) (n : ℕ) (o : Option ℕ) → AreLodged i s → values_of i s ≡ m → o ≡ get i n → through s o ≡ get m n
+  pub value_under : (i : FinMap nat_cmp ℕ) (s : slab.Slab V) (m : FinMap nat_cmp V) (n : ℕ) (o : Option ℕ) → HaveOwnSlots i s → values_of i s ≡ m → o ≡ get i n → through s o ≡ get m n
   value_under i s m n o held is there = ap (through s) there ∙ sym (get_values i s held n) ∙ ap (λ v. get v n) is
 
   empty_slot : (o : Option V) → is_some o ≡ true → o ≡ None → ⊥
   empty_slot None h e = false≢true h
   empty_slot (Some x) h e = some_none x e
 
-  leads_nowhere : (i : FinMap nat_cmp ℕ) (s : slab.Slab V) (n : ℕ) (o : Option ℕ) → get i n ≡ o → AreLodged i s → through s o ≡ None → o ≡ None
+  leads_nowhere : (i : FinMap nat_cmp ℕ) (s : slab.Slab V) (n : ℕ) (o : Option ℕ) → get i n ≡ o → HaveOwnSlots i s → through s o ≡ None → o ≡ None
   leads_nowhere i s n None e held h = refl
   leads_nowhere i s n (Some k) e held h = absurd (empty_slot (slab.get s k) (held.in_use n k e) h)
 
   -- a number without a value leads to no slot
-  pub unindexed : (i : FinMap nat_cmp ℕ) (s : slab.Slab V) (n : ℕ) → AreLodged i s → get (values_of i s) n ≡ None → get i n ≡ None
+  pub unindexed : (i : FinMap nat_cmp ℕ) (s : slab.Slab V) (n : ℕ) → HaveOwnSlots i s → get (values_of i s) n ≡ None → get i n ≡ None
   unindexed i s n held h = leads_nowhere i s n (get i n) refl held (sym (get_values i s held n) ∙ h)
 
   vacant_slot : (s : slab.Slab V) (j k : ℕ) → j ≡ k → slab.get s k ≡ None → is_some (slab.get s j) ≡ true → ⊥
@@ -88,8 +88,8 @@ module _ {V : Type 0} where
   kept s t k x (Some j) u h = u.others j (h j refl)
 
   -- ---- a value changed in its slot
-  pub AreLodged-changed : (i : FinMap nat_cmp ℕ) (s t : slab.Slab V) (k : ℕ) (x : V) → slab.Updates s t k (Some x) → AreLodged i s → AreLodged i t
-  AreLodged-changed i s t k x u held = record {
+  pub HaveOwnSlots-changed : (i : FinMap nat_cmp ℕ) (s t : slab.Slab V) (k : ℕ) (x : V) → slab.Updates s t k (Some x) → HaveOwnSlots i s → HaveOwnSlots i t
+  HaveOwnSlots-changed i s t k x u held = record {
     in_use = λ n j h. elim (cases_eq j k) [
       | inl same ↦ ap (λ m. is_some (slab.get t m)) same ∙ ap is_some u.changed
       | inr apart ↦ ap is_some (u.others j apart) ∙ held.in_use n j h
@@ -97,17 +97,17 @@ module _ {V : Type 0} where
     by_one = held.by_one;
   }
 
-  pub values_changed : (i : FinMap nat_cmp ℕ) (s t : slab.Slab V) (n k : ℕ) (x : V) → slab.Updates s t k (Some x) → AreLodged i s → get i n ≡ Some k → values_of i t ≡ insert (values_of i s) n x
+  pub values_changed : (i : FinMap nat_cmp ℕ) (s t : slab.Slab V) (n k : ℕ) (x : V) → slab.Updates s t k (Some x) → HaveOwnSlots i s → get i n ≡ Some k → values_of i t ≡ insert (values_of i s) n x
   values_changed i s t n k x u held is = same_map nat_cmp_total nat_cmp-IsAntisymmetric _ _ (λ q.
-      get_values i t (AreLodged-changed i s t k x u held) q
+      get_values i t (HaveOwnSlots-changed i s t k x u held) q
       ∙ by_number q n (λ b. through t (get i q) ≡ cond b (Some x) (through s (get i q)))
       (λ same. ap (λ m. through t (get i m)) same ∙ ap (through t) is ∙ u.changed)
       (λ apart. kept s t k (Some x) (get i q) u (λ j h same. apart (held.by_one q n k (h ∙ ap Some same) is)))
       ∙ sym (get-insert nat_cmp_total (values_of i s) n x q ∙ ap (cond (eq_by_cmp nat_cmp q n) (Some x)) (get_values i s held q)))
 
   -- ---- a value put in
-  pub AreLodged-added : (i : FinMap nat_cmp ℕ) (s t : slab.Slab V) (n k : ℕ) (x : V) → slab.Updates s t k (Some x) → slab.get s k ≡ None → AreLodged i s → AreLodged (insert i n k) t
-  AreLodged-added i s t n k x u vacant held = record {
+  pub HaveOwnSlots-added : (i : FinMap nat_cmp ℕ) (s t : slab.Slab V) (n k : ℕ) (x : V) → slab.Updates s t k (Some x) → slab.get s k ≡ None → HaveOwnSlots i s → HaveOwnSlots (insert i n k) t
+  HaveOwnSlots-added i s t n k x u vacant held = record {
     in_use = λ m j h. by_number m n (λ b. cond b (Some k) (get i m) ≡ Some j → is_some (slab.get t j) ≡ true)
         (λ same e. ap (λ m. is_some (slab.get t m)) (same_some e refl) ∙ ap is_some u.changed)
         (λ apart e. ap is_some (u.others j (λ same. vacant_slot s j k same vacant (held.in_use m j e))) ∙ held.in_use m j e)
@@ -124,17 +124,17 @@ module _ {V : Type 0} where
         (sym (get-insert nat_cmp_total i n k a) ∙ h);
   }
 
-  pub values_added : (i : FinMap nat_cmp ℕ) (s t : slab.Slab V) (n k : ℕ) (x : V) → slab.Updates s t k (Some x) → slab.get s k ≡ None → AreLodged i s → values_of (insert i n k) t ≡ insert (values_of i s) n x
+  pub values_added : (i : FinMap nat_cmp ℕ) (s t : slab.Slab V) (n k : ℕ) (x : V) → slab.Updates s t k (Some x) → slab.get s k ≡ None → HaveOwnSlots i s → values_of (insert i n k) t ≡ insert (values_of i s) n x
   values_added i s t n k x u vacant held = same_map nat_cmp_total nat_cmp-IsAntisymmetric _ _ (λ q.
-      get_values (insert i n k) t (AreLodged-added i s t n k x u vacant held) q ∙ ap (through t) (get-insert nat_cmp_total i n k q)
+      get_values (insert i n k) t (HaveOwnSlots-added i s t n k x u vacant held) q ∙ ap (through t) (get-insert nat_cmp_total i n k q)
       ∙ by_number q n (λ b. through t (cond b (Some k) (get i q)) ≡ cond b (Some x) (through s (get i q)))
       (λ same. u.changed)
       (λ apart. kept s t k (Some x) (get i q) u (λ j h same. vacant_slot s j k same vacant (held.in_use q j h)))
       ∙ sym (get-insert nat_cmp_total (values_of i s) n x q ∙ ap (cond (eq_by_cmp nat_cmp q n) (Some x)) (get_values i s held q)))
 
   -- ---- a value taken out
-  pub AreLodged-removed : (i : FinMap nat_cmp ℕ) (s t : slab.Slab V) (n k : ℕ) → slab.Updates s t k None → get i n ≡ Some k → AreLodged i s → AreLodged (remove i n) t
-  AreLodged-removed i s t n k u is held = record {
+  pub HaveOwnSlots-removed : (i : FinMap nat_cmp ℕ) (s t : slab.Slab V) (n k : ℕ) → slab.Updates s t k None → get i n ≡ Some k → HaveOwnSlots i s → HaveOwnSlots (remove i n) t
+  HaveOwnSlots-removed i s t n k u is held = record {
     in_use = λ m j h. by_number m n (λ b. cond b None (get i m) ≡ Some j → is_some (slab.get t j) ≡ true)
         (λ same e. some_none j (sym e))
         (λ apart e. ap is_some (u.others j (λ same. apart (held.by_one m n k (e ∙ ap Some same) is))) ∙ held.in_use m j e)
@@ -148,9 +148,9 @@ module _ {V : Type 0} where
         (sym (get-remove nat_cmp_total i n a) ∙ h);
   }
 
-  pub values_removed : (i : FinMap nat_cmp ℕ) (s t : slab.Slab V) (n k : ℕ) → slab.Updates s t k None → get i n ≡ Some k → AreLodged i s → values_of (remove i n) t ≡ remove (values_of i s) n
+  pub values_removed : (i : FinMap nat_cmp ℕ) (s t : slab.Slab V) (n k : ℕ) → slab.Updates s t k None → get i n ≡ Some k → HaveOwnSlots i s → values_of (remove i n) t ≡ remove (values_of i s) n
   values_removed i s t n k u is held = same_map nat_cmp_total nat_cmp-IsAntisymmetric _ _ (λ q.
-      get_values (remove i n) t (AreLodged-removed i s t n k u is held) q ∙ ap (through t) (get-remove nat_cmp_total i n q)
+      get_values (remove i n) t (HaveOwnSlots-removed i s t n k u is held) q ∙ ap (through t) (get-remove nat_cmp_total i n q)
       ∙ by_number q n (λ b. through t (cond b None (get i q)) ≡ cond b None (through s (get i q)))
       (λ same. refl)
       (λ apart. kept s t k None (get i q) u (λ j h same. apart (held.by_one q n k (h ∙ ap Some same) is)))
@@ -160,8 +160,8 @@ module _ {V : Type 0} where
   pub nothing_changed : (i : FinMap nat_cmp ℕ) (s t : slab.Slab V) → slab.SameValues s t → values_of i t ≡ values_of i s
   nothing_changed i s t same = ap from_entries (lodged_same (entries i) s t same)
 
-  pub AreLodged-same : (i : FinMap nat_cmp ℕ) (s t : slab.Slab V) → slab.SameValues s t → AreLodged i s → AreLodged i t
-  AreLodged-same i s t same held = record { in_use = λ n k h. ap is_some (same k) ∙ held.in_use n k h; by_one = held.by_one }
+  pub HaveOwnSlots-same : (i : FinMap nat_cmp ℕ) (s t : slab.Slab V) → slab.SameValues s t → HaveOwnSlots i s → HaveOwnSlots i t
+  HaveOwnSlots-same i s t same held = record { in_use = λ n k h. ap is_some (same k) ∙ held.in_use n k h; by_one = held.by_one }
 
   pub put_back : (s t r : slab.Slab V) (k : ℕ) (x : V) → slab.get s k ≡ None → slab.Updates s t k (Some x) → slab.Updates t r k None → slab.SameValues s r
   put_back s t r k x vacant u v j = elim (cases_eq j k) [
@@ -182,8 +182,8 @@ module _ {V : Type 0} where
 pub no_values : {V : Type 0} (s : slab.Slab V) → values_of empty s ≡ empty
 no_values s = rw (entries-empty {X = ℕ}) refl
 
-pub AreLodged-empty : {V : Type 0} (s : slab.Slab V) → AreLodged empty s
-AreLodged-empty s = record {
+pub HaveOwnSlots-empty : {V : Type 0} (s : slab.Slab V) → HaveOwnSlots empty s
+HaveOwnSlots-empty s = record {
   in_use = λ n k h. some_none k (sym h ∙ get-empty nat_cmp n);
   by_one = λ n m k h g. some_none k (sym h ∙ get-empty nat_cmp n);
 }
@@ -201,23 +201,23 @@ module _ {V : Type 0} where
   IsArena-added i s t n k x u vacant more fresh held =
       let same = held.none_idle in
       let size : len (insert i n k) ≡ len i + 1 = len-insert nat_cmp_total i n k ∙ ap (λ o. cond (is_some o) (len i) (len i + 1)) fresh in
-      record { slots_used = AreLodged-added i s t n k x u vacant held.slots_used; none_idle = omega (arith, same, size, more) }
+      record { slots_used = HaveOwnSlots-added i s t n k x u vacant held.slots_used; none_idle = omega (arith, same, size, more) }
 
   pub IsArena-removed : (i : FinMap nat_cmp ℕ) (s t : slab.Slab V) (n k : ℕ) → slab.Updates s t k None → slab.slab_len t + 1 ≡ slab.slab_len s → get i n ≡ Some k → IsArena i s → IsArena (remove i n) t
   IsArena-removed i s t n k u less is held =
       let same = held.none_idle in
       let size : len (remove i n) ≡ len i - 1 = len-remove nat_cmp_total i n ∙ ap (λ o. cond (is_some o) (len i - 1) (len i)) is in
-      record { slots_used = AreLodged-removed i s t n k u is held.slots_used; none_idle = omega (arith, same, size, less) }
+      record { slots_used = HaveOwnSlots-removed i s t n k u is held.slots_used; none_idle = omega (arith, same, size, less) }
 
   pub IsArena-changed : (i : FinMap nat_cmp ℕ) (s : slab.Slab V) (k : ℕ) (w : V) → is_some (slab.get s k) ≡ true → IsArena i s → IsArena i (slab.with_value s k w)
-  IsArena-changed i s k w used held = record { slots_used = AreLodged-changed i s (slab.with_value s k w) k w (written s k w used) held.slots_used; none_idle = len_written s k w used ∙ held.none_idle }
+  IsArena-changed i s k w used held = record { slots_used = HaveOwnSlots-changed i s (slab.with_value s k w) k w (written s k w used) held.slots_used; none_idle = len_written s k w used ∙ held.none_idle }
 
   -- what was put in and taken out again
   pub IsArena-same : (i : FinMap nat_cmp ℕ) (s t : slab.Slab V) → slab.SameValues s t → slab.slab_len t ≡ slab.slab_len s → IsArena i s → IsArena i t
-  IsArena-same i s t same as_many held = record { slots_used = AreLodged-same i s t same held.slots_used; none_idle = as_many ∙ held.none_idle }
+  IsArena-same i s t same as_many held = record { slots_used = HaveOwnSlots-same i s t same held.slots_used; none_idle = as_many ∙ held.none_idle }
 
   pub IsArena-empty : (s : slab.Slab V) → s.slots ≡ [] → IsArena empty s
-  IsArena-empty s none = record { slots_used = AreLodged-empty s; none_idle = ap (count_by is_some) none ∙ sym (len-empty nat_cmp ℕ) }
+  IsArena-empty s none = record { slots_used = HaveOwnSlots-empty s; none_idle = ap (count_by is_some) none ∙ sym (len-empty nat_cmp ℕ) }
 
 pub on_err : {A E P : Type 0} (r : Result A E) → P → OnErr r P
 on_err (Ok a) p = tt
@@ -246,10 +246,10 @@ module _ {V : Type 0} (s : slab.Slab V) where
   keys_lodged [] h = refl
   keys_lodged (e ∷ es) h = key_step e.0 (slab.get s e.1) (slot_entries es s) h.0 ∙ ap (λ ns. e.0 ∷ ns) (keys_lodged es h.1)
 
-  pub entries_values : (i : FinMap nat_cmp ℕ) → AreLodged i s → entries (values_of i s) ≡ slot_entries (entries i) s
+  pub entries_values : (i : FinMap nat_cmp ℕ) → HaveOwnSlots i s → entries (values_of i s) ≡ slot_entries (entries i) s
   entries_values i held = entries_of (slot_entries (entries i) s) (rw (keys_lodged (entries i) (all_in_use i s held)) (keys_rise (entries i) (sorted i)))
 
-  pub len_values : (i : FinMap nat_cmp ℕ) → AreLodged i s → len (values_of i s) ≡ len i
+  pub len_values : (i : FinMap nat_cmp ℕ) → HaveOwnSlots i s → len (values_of i s) ≡ len i
   len_values i held =
       len-entries (values_of i s) ∙ ap length (entries_values i held)
       ∙ sym (length-map (slot_entries (entries i) s) (λ (e : ℕ × V). e.0)) ∙ ap length (keys_lodged (entries i) (all_in_use i s held)) ∙ length-map (entries i) (λ (e : ℕ × ℕ). e.0)

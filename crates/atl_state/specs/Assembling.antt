@@ -1,4 +1,4 @@
--- For proofs alone: how a campaign is built from rows: maps without marks, then goods and stocks row by row.
+-- For proofs alone: how a campaign is built from rows: maps with nothing marked, then goods and stocks row by row.
 use Rattle.std.specs.Prelude.{ℕ, ◌==◌, List, [], ◌∷◌, if◌then◌else◌}
 use Rattle.std.specs.Ordering.{nat_cmp}
 use Rattle.std.specs.FinMap.{FinMap, empty, insert}
@@ -16,9 +16,11 @@ use Rattle.atl_records.specs.declared.records.Unit.{Unit}
 use Rattle.atl_state.specs.FromRows.{as_u32, by_number, faction_of, region_of, region_with, structure_of, unit_with}
 use Rattle.atl_state.specs.Regions.{unmarked_regions}
 
+-- a map with none of its numbers marked
 abbrev pub without_marks : {V : Type 0} → FinMap nat_cmp V → MarkedMapValue V
 without_marks m = record { values = m; marks = set.empty }
 
+-- the maps of the campaign that rows say, but for its units, with nothing marked
 abbrev pub campaign_maps_of : Parts → CampaignMaps
 campaign_maps_of p = record {
   factions = without_marks (by_number (λ r. as_u32 r.number) faction_of p.factions);
@@ -30,15 +32,17 @@ campaign_maps_of p = record {
 
 -- ---- what has nothing as yet
 
+-- the unit of a row, without items and days of study
 abbrev pub bare_unit : StoredUnit → Unit
 bare_unit r = unit_with r empty empty
 
+-- the region of a row, with nothing in stock
 abbrev pub bare_region : StoredRegion → Region
 bare_region r = region_with r empty
 
 -- ---- row by row
 
--- a unit with what a row says: an item, or days of a skill
+-- a unit with what a row of `has` says put in: an item (sort 0) or days of a skill (sort 1)
 abbrev pub holding_more : StoredHas → Unit → Unit
 holding_more r u =
     if as_u32 r.sort == 0
@@ -47,11 +51,11 @@ holding_more r u =
     then record u { holding = record u.holding { days = insert u.holding.days (as_u32 r.thing) (as_u32 r.amount) } }
     else u
 
--- a region with the stock of a row
+-- a region with the stock of a row of `market` put in
 abbrev pub stocking_more : StoredMarket → Region → Region
 stocking_more r x = record x { stocks = insert x.stocks (as_u32 r.item) (as_u32 r.stock) }
 
--- the values with what each row makes of its owner, where there is one
+-- the map after `more` changed, row by row, the value under the number `owner` of the row, where there is one
 abbrev pub give : {R V : Type 0} → (R → ℕ) → (R → V → V) → List R → FinMap nat_cmp V → FinMap nat_cmp V
 give owner more [] m = m
 give owner more (r ∷ rows) m = give owner more rows (changed (more r) m (owner r))

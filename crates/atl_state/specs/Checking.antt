@@ -1,5 +1,4 @@
--- The rules of the tables, by number, and which rule is the first that rows break. See docs/FORMATS.md, "Rules of the
--- tables".
+-- The twelve rules of the tables, and what `check` may answer. See docs/FORMATS.md, "Rules of the tables".
 use Rattle.std.specs.Prelude.{◌≡◌, ◌≤◌, ℕ, ◌<◌, pos, IsTrue, Result, Ok, Err, ⊤}
 use Rattle.std.specs.List.{list_all}
 use Rattle.atl_tables.specs.Worlds.{WorldValue}
@@ -22,6 +21,7 @@ use Rattle.atl_state.specs.Rows.{AreRowsOf}
 use Rattle.atl_state.specs.Campaign.{CampaignValue, MarkedCampaign}
 use Rattle.atl_state.specs.Totals.{Balances}
 
+-- the number of a rule, from 1 to 12
 abbrev pub rule_number : Rule → ℕ
 rule_number OneRow = 1
 rule_number Ranges = 2
@@ -36,60 +36,61 @@ rule_number Guards = 10
 rule_number Books = 11
 rule_number Mail = 12
 
--- what a rule says of the rows of a format, and of the campaign that they say
-abbrev pub Keeps : Format → WorldValue → Parts → Rule → Type 0
-Keeps f w p OneRow = IsTrue (is_one_campaign_row f p.campaign) × IsTrue (are_of_format f p.markets)
-Keeps f w p Ranges = AreRowsInRange w p
-Keeps f w p Names = AreRowsNamed p
-Keeps f w p Known = AreKnown w (campaign_of w p) × IsTrue (list_all (is_of_unit (campaign_of w p)) p.has) × IsTrue (list_all (is_of_market w) p.markets)
-Keeps f w p Next = AreNumbered (campaign_of w p)
-Keeps f w p Days = AreDays (campaign_of w p)
-Keeps f w p Gone = GoneHaveNone (campaign_of w p) × NoneAreGone (campaign_of w p)
-Keeps f w p Owners = AreOwned (campaign_of w p)
-Keeps f w p Water = AreAfloat w (campaign_of w p)
-Keeps f w p Guards = AreOfOneFaction guards (campaign_of w p)
-Keeps f w p Books = IsTrue (list_all (is_booked f w) p.books) × Balances (campaign_of w p)
-Keeps f w p Mail = IsMail (campaign_of w p) × AreReported (campaign_of w p)
+-- the rows p of format f keep this rule, which speaks of the rows, or of the campaign that they say
+abbrev pub KeepsRule : Format → WorldValue → Parts → Rule → Type 0
+KeepsRule f w p OneRow = IsTrue (is_one_campaign_row f p.campaign) × IsTrue (are_of_format f p.markets)
+KeepsRule f w p Ranges = AreRowsInRange w p
+KeepsRule f w p Names = AreRowsNamed p
+KeepsRule f w p Known = AreKnown w (campaign_of w p) × IsTrue (list_all (is_of_unit (campaign_of w p)) p.has) × IsTrue (list_all (is_of_market w) p.markets)
+KeepsRule f w p Next = AreNumbered (campaign_of w p)
+KeepsRule f w p Days = AreDays (campaign_of w p)
+KeepsRule f w p Gone = GoneHaveNone (campaign_of w p) × NoneAreGone (campaign_of w p)
+KeepsRule f w p Owners = AreOwned (campaign_of w p)
+KeepsRule f w p Water = AreAfloat w (campaign_of w p)
+KeepsRule f w p Guards = AreOfOneFaction guards (campaign_of w p)
+KeepsRule f w p Books = IsTrue (list_all (is_booked f w) p.books) × Balances (campaign_of w p)
+KeepsRule f w p Mail = IsMail (campaign_of w p) × AreReported (campaign_of w p)
 
-abbrev pub KeepsBelow : Format → WorldValue → Parts → ℕ → Type 0
-KeepsBelow f w p n = (r : Rule) → rule_number r < n → Keeps f w p r
+-- the rows keep each rule whose number is below n
+abbrev pub KeepsRulesBelow : Format → WorldValue → Parts → ℕ → Type 0
+KeepsRulesBelow f w p n = (r : Rule) → rule_number r < n → KeepsRule f w p r
 
--- the rules before it hold, and it doesn't
+-- the rows break this rule, and keep all rules before it
 pub record IsFirstBroken (f : Format) (w : WorldValue) (p : Parts) (r : Rule) : Type 0 where
-  pub before : KeepsBelow f w p (rule_number r)
-  pub broken : ¬ Keeps f w p r
+  pub before : KeepsRulesBelow f w p (rule_number r)
+  pub broken : ¬ KeepsRule f w p r
 
--- a campaign that has nothing in stock, and no amounts under the entries of markets
+-- nothing is in stock, and no amount is booked under the entries of markets
 pub record IsWithoutMarkets (c : CampaignValue) : Type 0 where
   pub stocks : HasNoStocks c
   pub entries : (e : Entry) (t : Thing) → first_entry_count ≤ entry_index e → amount_in c.books e t ≡ pos 0
 
--- what the tables of a format can hold
+-- the tables of the format can hold the campaign: the first format one without markets, the second any
 abbrev pub Fits : Format → CampaignValue → Type 0
 Fits First c = IsWithoutMarkets c
 Fits Second c = ⊤
 
--- a good campaign with these rows, each once, and nothing marked
+-- a good campaign that has exactly these rows, and nothing marked
 pub record IsChecked (f : Format) (w : WorldValue) (p : Parts) (c : MarkedCampaign) : Type 0 where
   pub rows : AreRowsOf f c.value p
   pub fits : Fits f c.value
   pub good : IsGood w c.value
   pub marks : c.marks ≡ no_marks
 
--- what checking rows may answer
+-- what `check_as` may answer: a good campaign with just these rows, the first rule that they break, or Memory
 abbrev pub Checks : Format → WorldValue → Parts → Result MarkedCampaign CheckFault → Type 0
 Checks f w p (Ok c) = IsChecked f w p c
 Checks f w p (Err (Damaged r)) = IsFirstBroken f w p r
 Checks f w p (Err Memory) = ⊤
 
--- of the rows of a good campaign that the format can hold it answers that campaign, or Memory
+-- if the rows are those of a good campaign that the format can hold, the answer is that campaign, or Memory
 abbrev pub GivesBack : Format → WorldValue → Parts → Result MarkedCampaign CheckFault → Type 0
 GivesBack f w p (Ok c) = (d : CampaignValue) → IsGood w d → Fits f d → AreRowsOf f d p → c.value ≡ d
 GivesBack f w p (Err (Damaged r)) = (d : CampaignValue) → IsGood w d → Fits f d → ¬ (AreRowsOf f d p)
 GivesBack f w p (Err Memory) = ⊤
 
--- For proofs alone: the rules below a number hold, or one of them is the first that is broken.
+-- For proofs alone: Ok if the rows keep each rule below n, else the first rule that they break, or Memory.
 abbrev pub Passes : Format → WorldValue → Parts → ℕ → Result (Prim.Unit {0}) CheckFault → Type 0
-Passes f w p n (Ok u) = KeepsBelow f w p n
+Passes f w p n (Ok u) = KeepsRulesBelow f w p n
 Passes f w p n (Err (Damaged r)) = IsFirstBroken f w p r
 Passes f w p n (Err Memory) = ⊤

@@ -1,9 +1,10 @@
--- A law: good campaigns suit the phases up to RECRUIT.
+-- The laws that good and sound campaigns are early, as the first phases of a month require.
 use Rattle.atl_tables.specs.Worlds.{WorldValue}
 use Rattle.atl_state.specs.Campaign.{CampaignValue}
 use Rattle.atl_state.specs.Good.{IsEarly, IsGood, IsSound}
 
--- A sound campaign is early: its units have men, so those with a flag guard, and all flags of a region are of one faction.
+-- A sound campaign is early: its units have men, so each set flag is of a guard, and guards of a region are of one
+-- faction.
 abbrev pub SoundAreEarly : Type 0
 SoundAreEarly = (w : WorldValue) (c : CampaignValue) → IsSound w c → IsEarly w c
 

@@ -1,4 +1,4 @@
--- The campaign that rows stand for, whether or not they keep the rules.
+-- The campaign that rows say, also where they break rules. See docs/FORMATS.md, "Tables".
 use Rattle.std.specs.Prelude.{ℕ, ℤ, pos, negsuc, Bool, not, ◌==◌, ◌&&◌, nat_lt, min, List, [], ◌∷◌, filter, slice_index_or, if◌then◌else◌}
 use Rattle.std.specs.Option.{option_map_or}
 use Rattle.std.specs.Ordering.{nat_cmp}
@@ -25,47 +25,53 @@ use Rattle.atl_state.specs.Campaign.{CampaignValue}
 
 -- ---- one value
 
--- a number from 0 to the most; any other is read as the most
+-- a number from 0 to `most` as it is, and `most` for any other
 abbrev pub clamp : ℕ → ℤ → ℕ
 clamp most (pos n) = min n most
 clamp most (negsuc n) = most
 
--- of 32 bits: what doesn't fit is greater than all limits, and so stands for nothing
+-- a number of a row read as one of 32 bits; one that doesn't fit is read as the largest, which is above all limits
 abbrev pub as_u32 : ℤ → ℕ
 as_u32 z = clamp most_u32 z
 
+-- a number of a row read as one of 16 bits; one that doesn't fit is read as the largest
 abbrev pub as_u16 : ℤ → ℕ
 as_u16 z = clamp most_u16 z
 
+-- whether a flag of a row is set: any number but 0
 abbrev pub is_set : ℤ → Bool
 is_set z = not (is_zero z)
 
 -- ---- one row
 
+-- the faction of a row
 abbrev pub faction_of : StoredFaction → Faction
 faction_of r = record { number = as_u32 r.number; joined_as = r.joined_as; name = r.name; pass = r.pass; gone = is_set r.gone }
 
+-- the structure of a row
 abbrev pub structure_of : StoredStructure → Structure
 structure_of r = record { kind = as_u16 r.kind; name = r.name; region = as_u32 r.region; done = as_u32 r.done; owner = as_u32 r.owner }
 
 -- ---- the rows of a table
 
--- the map with each row's value put under its number, one after another
+-- the map with each row's value put under its number, in the order of the rows; a later row replaces an earlier one
 abbrev pub put_rows : {R V : Type 0} → (R → ℕ) → (R → V) → List R → FinMap nat_cmp V → FinMap nat_cmp V
 put_rows number value [] m = m
 put_rows number value (r ∷ rs) m = put_rows number value rs (insert m (number r) (value r))
 
+-- the values of rows by their numbers; of several rows with one number the last counts
 abbrev pub by_number : {R V : Type 0} → (R → ℕ) → (R → V) → List R → FinMap nat_cmp V
 by_number number value rows = put_rows number value rows empty
 
--- of a unit, and of one sort
+-- whether a row of `has` is of unit n and of this sort: 0 items, 1 skills
 abbrev pub is_of : ℕ → ℕ → StoredHas → Bool
 is_of n sort r = (as_u32 r.unit == n) && (as_u32 r.sort == sort)
 
+-- what the rows of `has` give to unit n of a sort: amounts by the numbers of the things
 abbrev pub things_had : ℕ → ℕ → List StoredHas → FinMap nat_cmp ℕ
 things_had n sort has = by_number (λ r. as_u32 r.thing) (λ r. as_u32 r.amount) (filter (is_of n sort) has)
 
--- a unit with these items and days of study
+-- the unit of a row, with these items and days of study
 abbrev pub unit_with : StoredUnit → FinMap nat_cmp ℕ → FinMap nat_cmp ℕ → Unit
 unit_with r items days = record {
   faction = as_u32 r.faction;
@@ -74,40 +80,44 @@ unit_with r items days = record {
   holding = record { name = r.name; men = as_u32 r.men; money = as_u32 r.money; guard = is_set r.guard; items = items; days = days };
 }
 
+-- the unit of a row, with the items and days of study that the rows of `has` give to it
 abbrev pub unit_of : List StoredHas → StoredUnit → Unit
 unit_of has r = unit_with r (things_had (as_u32 r.number) 0 has) (things_had (as_u32 r.number) 1 has)
 
--- what is in stock in a region
+-- what the rows of `market` have in stock in region n: amounts by the numbers of the items
 abbrev pub stocks_of : ℕ → List StoredMarket → FinMap nat_cmp ℕ
 stocks_of n markets = by_number (λ r. as_u32 r.item) (λ r. as_u32 r.stock) (filter (λ r. as_u32 r.region == n) markets)
 
--- a region with these stocks
+-- the region of a row, with these stocks
 abbrev pub region_with : StoredRegion → FinMap nat_cmp ℕ → Region
 region_with r stocks = record { peasants = as_u32 r.peasants; money = as_u32 r.money; stocks = stocks }
 
+-- the region of a row, with the stocks that the rows of `market` give to it
 abbrev pub region_of : List StoredMarket → StoredRegion → Region
 region_of markets r = region_with r (stocks_of (as_u32 r.number) markets)
 
--- the books with the amount of a row, where its entry and its thing are there
-abbrev pub with_row : BooksValue → StoredBooks → BooksValue
-with_row books r =
+-- the books with the amount of a row put in, where its entry and its thing are there
+abbrev pub with_books_row : BooksValue → StoredBooks → BooksValue
+with_books_row books r =
     option_map_or (λ e. if nat_lt (as_u32 r.thing) books.things then with_amount books e (thing_at (as_u32 r.thing)) r.amount else books)
     (entry_numbered (as_u32 r.entry)) books
 
--- the books with the amount of each row, one after another
+-- the books with the amount of each row put in, in the order of the rows
 abbrev pub put_amounts : List StoredBooks → BooksValue → BooksValue
 put_amounts [] books = books
-put_amounts (r ∷ rs) books = put_amounts rs (with_row books r)
+put_amounts (r ∷ rs) books = put_amounts rs (with_books_row books r)
 
 -- ---- all of them
 
--- what counts where there is no row of the campaign's own
+-- what is read where there is no campaign row: all numbers 0, and no pass text
 abbrev pub no_campaign_row : StoredCampaignRow
 no_campaign_row = record { id = pos 0; format = pos 0; month = pos 0; next_faction = pos 0; next_unit = pos 0; next_structure = pos 0; pass = [] }
 
+-- the campaign row: the first row of the table `campaign`
 abbrev pub campaign_row_of : Parts → StoredCampaignRow
 campaign_row_of p = slice_index_or p.campaign 0 no_campaign_row
 
+-- the campaign that rows say, whatever they are
 unfoldable pub campaign_of : WorldValue → Parts → CampaignValue
 campaign_of w p = record {
   month = as_u32 (campaign_row_of p).month;

@@ -1,4 +1,5 @@
 -- The invariants of a campaign: after each command, and within a month. Each record is one rule.
+-- See docs/FORMATS.md, "Rules of the tables".
 use Rattle.std.specs.Prelude.{◌≡◌, ◌≢◌, ◌≤◌, ◌<◌, ◌+◌, ◌*◌, ◌&&◌, ◌↔◌, ℕ, Bool, List, [], IsTrue, true, false, nat_lt, length, Some, None, IsSome}
 use Rattle.std.specs.Ordering.{nat_cmp}
 use Rattle.std.specs.FinMap.{FinMap, empty, get, len}
@@ -24,26 +25,27 @@ use Rattle.atl_state.specs.Stocks.{stock_limit}
 use Rattle.atl_state.specs.Totals.{Balances}
 use Rattle.atl_records.specs.Every.{Every, IsThere}
 
--- this faction is there, and not gone
+-- the faction of this number is there, and not gone
 abbrev pub IsActive : CampaignValue → ℕ → Type 0
 IsActive c n = (f : Faction) × (get c.factions n ≡ Some f) × (f.gone ≡ false)
 
 -- ---- of numbers: each is in its range, and there are not too many things
 
--- no amount of the books is greater in size
+-- how large an amount of the books may be, without its sign: 2*10^14*(month + 1) + 10^9*factions
 abbrev pub amount_bound : CampaignValue → ℕ
 amount_bound c = most_in_month * (c.month + 1) + most_in_joining * len c.factions
 
--- an item that is listed is in stock, up to the limit of the market in the region of this number
+-- each item that is listed in the stocks of region n is there at least once, and up to the limit of its market
 abbrev pub AreStocks : WorldValue → ℕ → FinMap nat_cmp ℕ → Type 0
 AreStocks w n stocks = Every (λ i amount. (1 ≤ amount) × (amount ≤ stock_limit w n i)) stocks
 
+-- the peasants, money and stocks of region n are in their ranges
 pub record IsRegion (w : WorldValue) (n : ℕ) (r : Region) : Type 0 where
   pub peasants : r.peasants ≤ most_amount
   pub money : r.money ≤ most_amount
   pub stocks : AreStocks w n r.stocks
 
--- men from 0
+-- there are not too many things, and each number is in its range; units may be without men
 pub record AreInRange (w : WorldValue) (c : CampaignValue) : Type 0 where
   pub month : c.month ≤ last_month
   pub few_factions : len c.factions ≤ last_faction
@@ -58,14 +60,17 @@ pub record AreInRange (w : WorldValue) (c : CampaignValue) : Type 0 where
   pub structures : Every (λ n s. (1 ≤ s.done) × (s.done ≤ size_of w s.kind)) c.structures
   pub books : AreBooks (things_of w) c.books
 
+-- each amount of the books, without its sign, is at most `amount_bound`
 abbrev pub AreAmountsWithin : CampaignValue → Type 0
 AreAmountsWithin c = (e : Entry) (t : Thing) → IsWithin (amount_bound c) (amount_in c.books e t)
 
+-- each unit has a man at least
 abbrev pub HaveMen : CampaignValue → Type 0
 HaveMen c = Every (λ n u. 1 ≤ u.holding.men) c.units
 
 -- ---- of names
 
+-- names and pass texts keep their rules, and no two factions joined under the same name
 pub record AreNamed (c : CampaignValue) : Type 0 where
   pub pass : IsTrue (pass_ok c.pass)
   pub factions : Every (λ n f. IsTrue (name_ok f.joined_as) × IsTrue (name_ok f.name) × IsTrue (pass_ok f.pass)) c.factions
@@ -75,7 +80,7 @@ pub record AreNamed (c : CampaignValue) : Type 0 where
 
 -- ---- of what is named by its number: all of it is there
 
--- a unit's faction and region, its structure, which stands in the region, and what it holds and studied
+-- the faction, region, items and skills of a unit are there, and its structure, which is in the unit's region
 pub record IsPlacedAmong (w : WorldValue) (factions : FinMap nat_cmp Faction) (regions : FinMap nat_cmp Region) (structures : FinMap nat_cmp Structure) (u : Unit) : Type 0 where
   pub faction : IsThere factions u.faction
   pub region : IsThere regions u.region
@@ -83,31 +88,34 @@ pub record IsPlacedAmong (w : WorldValue) (factions : FinMap nat_cmp Faction) (r
   pub items : Every (λ i amount. i < length w.items) u.holding.items
   pub skills : Every (λ s days. s < length w.skills) u.holding.days
 
+-- the faction, region, structure, items and skills of a unit of the campaign are there
 abbrev pub IsPlaced : WorldValue → CampaignValue → Unit → Type 0
 IsPlaced w c u = IsPlacedAmong w c.factions c.regions c.structures u
 
--- a structure's kind and region, and its owner
+-- the kind and region of a structure are there, and its owner, where it isn't 0
 pub record IsBuiltAmong (w : WorldValue) (regions : FinMap nat_cmp Region) (units : FinMap nat_cmp Unit) (s : Structure) : Type 0 where
   pub kind : s.kind < length w.kinds
   pub region : IsThere regions s.region
   pub owner : s.owner ≢ 0 → IsThere units s.owner
 
+-- the kind, region and owner of a structure of the campaign are there
 abbrev pub IsBuilt : WorldValue → CampaignValue → Structure → Type 0
 IsBuilt w c s = IsBuiltAmong w c.regions c.units s
 
--- each of these stocks is of a market that the world has in the region of this number
+-- each item that is listed in the stocks of region n has a market there in the world
 abbrev pub AreOfMarkets : WorldValue → ℕ → FinMap nat_cmp ℕ → Type 0
 AreOfMarkets w n stocks = Every (λ i amount. IsSome (market_of w n i)) stocks
 
--- mail and reports are of factions that are there
+-- all mail and reports are of factions that are there
 pub record AreOfFactions (factions : FinMap nat_cmp Faction) (sent told : FinMap nat_cmp (List ℕ)) : Type 0 where
   pub mail : Every (λ n text. IsThere factions n) sent
   pub reports : Every (λ n text. IsThere factions n) told
 
+-- all mail and reports of the campaign are of factions that are there
 abbrev pub ArePosted : CampaignValue → Type 0
 ArePosted c = AreOfFactions c.factions c.mail c.reports
 
--- and the regions are the world's, with stocks of their markets
+-- the regions are the world's, and everything that is named by a number is there
 pub record AreKnown (w : WorldValue) (c : CampaignValue) : Type 0 where
   pub regions : (n : ℕ) → IsThere c.regions n ↔ IsThere w.regions n
   pub markets : Every (λ n r. AreOfMarkets w n r.stocks) c.regions
@@ -117,68 +125,81 @@ pub record AreKnown (w : WorldValue) (c : CampaignValue) : Type 0 where
 
 -- ---- of the numbers that come next
 
--- numbered from 1 without a gap, so that this number is next
+-- the numbers of the map are those from 1 to `next - 1`, without a gap
 pub record IsNumbered {V : Type 0} (m : FinMap nat_cmp V) (next : ℕ) : Type 0 where
   pub first : get m 0 ≡ None
   pub count : next ≡ len m + 1
   pub free : (n : ℕ) → next ≤ n → get m n ≡ None
 
+-- factions and structures are numbered from 1 without a gap, and no unit has the next unit number or a greater one
 pub record AreNumbered (c : CampaignValue) : Type 0 where
   pub factions : IsNumbered c.factions c.next_faction
   pub structures : IsNumbered c.structures c.next_structure
   pub units : (n : ℕ) → c.next_unit ≤ n → get c.units n ≡ None
 
 -- ---- of days: 1 to 450 for each man
+
+-- each skill that is listed of a unit has at least 1 day, and at most 450 for each of its men
 abbrev pub AreDays : CampaignValue → Type 0
 AreDays c = Every (λ n u. Every (λ s days. (1 ≤ days) × (days ≤ most_days * u.holding.men)) u.holding.days) c.units
 
 -- ---- of factions that are gone: they have no unit, and no other faction is without
+
+-- each faction that is gone has no unit
 abbrev pub GoneHaveNone : CampaignValue → Type 0
 GoneHaveNone c = Every (λ n f. f.gone ≡ true → numbers_of n c.units ≡ []) c.factions
 
+-- each faction without units is gone
 abbrev pub NoneAreGone : CampaignValue → Type 0
 NoneAreGone c = Every (λ n f. numbers_of n c.units ≡ [] → f.gone ≡ true) c.factions
 
 -- ---- of owners
 
--- nobody owns a structure without units; else one of them does
+-- the owner of structure n is a unit inside it; it is 0 where no unit is inside
 pub record IsOwnedAmong (units : FinMap nat_cmp Unit) (n : ℕ) (s : Structure) : Type 0 where
   pub owned : s.owner ≢ 0 → (u : Unit) × (get units s.owner ≡ Some u) × (u.structure ≡ n)
   pub ownerless : s.owner ≡ 0 → Every (λ m u. u.structure ≢ n) units
 
+-- the owner of structure n is one of the campaign's units inside it; it is 0 where no unit is inside
 abbrev pub IsOwned : CampaignValue → ℕ → Structure → Type 0
 IsOwned c n s = IsOwnedAmong c.units n s
 
+-- each structure is owned by a unit inside it, or by nobody where no unit is inside
 abbrev pub AreOwned : CampaignValue → Type 0
 AreOwned c = Every (λ n s. IsOwned c n s) c.structures
 
 -- ---- of water: a unit is inside a ship there, and a structure is a complete ship
 
+-- whether the kind of a structure is a ship
 abbrev pub is_ship : WorldValue → Structure → Bool
 is_ship w s = of_world.is_ship w s.kind
 
+-- the structure that a unit is inside is there, and is a ship
 abbrev pub IsAboard : WorldValue → CampaignValue → Unit → Type 0
 IsAboard w c u = (s : Structure) × (get c.structures u.structure ≡ Some s) × (is_ship w s ≡ true)
 
+-- each unit on water is inside a ship, and each structure on water is a complete ship
 pub record AreAfloat (w : WorldValue) (c : CampaignValue) : Type 0 where
   pub units : Every (λ n u. is_land_at w u.region ≡ false → IsAboard w c u) c.units
   pub structures : Every (λ n s. is_land_at w s.region ≡ false → (is_ship w s ≡ true) × (s.done ≡ size_of w s.kind)) c.structures
 
 -- ---- of guards
 
--- a unit on guard has the flag set, and men
+-- whether a unit guards: its guard flag is set, and it has men
 abbrev pub guards : Unit → Bool
 guards u = u.holding.guard && nat_lt 0 u.holding.men
 
--- all units of a region that pass the test are of one faction
+-- in each region, all units that pass the test are of one faction
 abbrev pub AreOfOneFaction : (Unit → Bool) → CampaignValue → Type 0
 AreOfOneFaction test c = Every (λ n u. Every (λ m v. test u ≡ true → test v ≡ true → u.region ≡ v.region → u.faction ≡ v.faction) c.units) c.units
 
 -- ---- of mail and reports
 
+-- each mail is of a faction that is there and not gone, is short enough, and has a header with the faction's number
 abbrev pub IsMail : CampaignValue → Type 0
 IsMail c = Every (λ n text. IsMailingOf n text × IsActive c n) c.mail
 
+-- each faction has a report
 abbrev pub AreReported : CampaignValue → Type 0
 AreReported c = Every (λ n f. IsThere c.reports n) c.factions
 
@@ -190,7 +211,7 @@ HasNoStocks c = Every (λ n r. r.stocks ≡ empty) c.regions
 
 -- ---- the campaigns
 
--- within a month: a unit may be left without men, and a faction without units
+-- a campaign within a month: a unit may be without men, and a faction without units before it is gone
 pub record IsSteady (w : WorldValue) (c : CampaignValue) : Type 0 where
   pub numbers : AreInRange w c
   pub names : AreNamed c
@@ -202,12 +223,12 @@ pub record IsSteady (w : WorldValue) (c : CampaignValue) : Type 0 where
   pub water : AreAfloat w c
   pub guarded : AreOfOneFaction guards c
 
--- and all flags that are set in a region are of one faction, men or no men
+-- a steady campaign in which all guard flags set in a region are of one faction, also those of units without men
 pub record IsEarly (w : WorldValue) (c : CampaignValue) : Type 0 where
   pub steady : IsSteady w c
   pub flags : AreOfOneFaction (λ u. u.holding.guard) c
 
--- between commands, but for the report of a faction that has just joined
+-- a campaign between commands, except that the faction that has just joined may lack its report
 pub record IsSound (w : WorldValue) (c : CampaignValue) : Type 0 where
   pub steady : IsSteady w c
   pub men : HaveMen c
@@ -216,7 +237,7 @@ pub record IsSound (w : WorldValue) (c : CampaignValue) : Type 0 where
   pub balances : Balances c
   pub mail : IsMail c
 
--- between commands
+-- a campaign between commands: a sound one in which each faction has a report
 pub record IsGood (w : WorldValue) (c : CampaignValue) : Type 0 where
   pub sound : IsSound w c
   pub reported : AreReported c

@@ -2,8 +2,10 @@
 use Rattle.std.specs.Prelude.{ℕ, List, map}
 use Rattle.atl_state.specs.declared.index.IndexEntry.{IndexEntry}
 
-abbrev pub numbers_of : List IndexEntry → List ℕ
-numbers_of = map (λ p. p.number)
+-- the numbers of the entries of an index, in their order
+abbrev pub index_numbers : List IndexEntry → List ℕ
+index_numbers = map (λ p. p.number)
 
+-- the entries of an index as pairs of number and slot, in their order
 abbrev pub slots_of : List IndexEntry → List (ℕ × ℕ)
 slots_of = map (λ p. (p.number, p.slot))

@@ -6,7 +6,7 @@ pub mod Early
 pub mod Founding
 pub mod FromRows
 pub mod Good
-pub mod Kept
+pub mod KeptLists
 pub mod Joining
 pub mod Lending
 pub mod Marking

@@ -1,4 +1,4 @@
--- What each change of a campaign marks.
+-- What is marked, as rows to be written, after each change of a campaign.
 use Rattle.std.specs.Prelude.{◌==◌, ℕ, true, Option, Some, None, if◌then◌else◌}
 use Rattle.std.specs.FinMap.{get, remove, keys}
 use Rattle.std.specs.FinSet.{insert, union, from_list}
@@ -13,111 +13,119 @@ use Rattle.atl_state.specs.Owners.{heir, is_owned_by, placed}
 use Rattle.atl_state.specs.Campaign.{MarkedCampaign, with_owner}
 use Rattle.atl_state.specs.Stocks.{stock_of}
 
--- the marks with those of a unit that is there, of its row and of all its goods
+-- the marks with unit n, its row and all its goods marked too, where the unit u is there
 abbrev pub whole_marked : Marks → ℕ → Option Unit → Marks
 whole_marked m n u = record m { units = marked_with m.units n u; rows = marked_with m.rows n u; goods = marked_with m.goods n u }
 
--- a unit that was lent, with its goods, where it is there
+-- the marks after unit n was lent or removed: it, its row and all its goods, where it was there
 abbrev pub mark_unit : MarkedCampaign → ℕ → Marks
 mark_unit c n = whole_marked c.marks n (get c.value.units n)
 
--- a unit that came, with its goods
+-- the marks after unit n was added: it, its row and all its goods
 abbrev pub mark_unit_added : MarkedCampaign → ℕ → Marks
 mark_unit_added c n = record c.marks { units = insert c.marks.units n; rows = insert c.marks.rows n; goods = insert c.marks.goods n }
 
--- a unit that came under the number that comes next
+-- the marks after a unit was added under the next unit number: it, its row, all its goods and the campaign row
 abbrev pub mark_unit_begun : MarkedCampaign → Marks
 mark_unit_begun c = record (mark_unit_added c c.value.next_unit) { row = true }
 
--- a unit's row, and none of its goods
+-- the marks after the row of unit n changed: the unit and its row, and none of its goods
 abbrev pub mark_unit_row : MarkedCampaign → ℕ → Marks
 mark_unit_row c n = record c.marks { units = marked_with c.marks.units n (get c.value.units n); rows = marked_with c.marks.rows n (get c.value.units n) }
 
--- an item of a unit that is there, and neither its row nor another of its goods
+-- the marks after an item of unit n changed: the unit and that item, neither its row nor another of its goods
 abbrev pub mark_item : MarkedCampaign → ℕ → ℕ → Marks
 mark_item c n item = record c.marks { units = marked_with c.marks.units n (get c.value.units n); items = thing_marked c.marks.items n item (get c.value.units n) }
 
--- likewise a skill
+-- the marks after a skill of unit n changed: the unit and that skill, neither its row nor another of its goods
 abbrev pub mark_skill : MarkedCampaign → ℕ → ℕ → Marks
 mark_skill c n skill = record c.marks { units = marked_with c.marks.units n (get c.value.units n); skills = thing_marked c.marks.skills n skill (get c.value.units n) }
 
--- a campaign of which nothing changed, with the mark of an item, or of a skill
+-- the same campaign with an item of unit n marked
 abbrev pub item_marked : MarkedCampaign → ℕ → ℕ → MarkedCampaign
 item_marked c n item = record c { marks = mark_item c n item }
 
+-- the same campaign with a skill of unit n marked
 abbrev pub skill_marked : MarkedCampaign → ℕ → ℕ → MarkedCampaign
 skill_marked c n skill = record c { marks = mark_skill c n skill }
 
+-- the marks after faction n changed, where it is there
 abbrev pub mark_faction : MarkedCampaign → ℕ → Marks
 mark_faction c n = record c.marks { factions = marked_with c.marks.factions n (get c.value.factions n) }
 
--- a region's row, and none of its stocks
+-- the marks after the row of region n changed: its row, and none of its stocks
 abbrev pub mark_region : MarkedCampaign → ℕ → Marks
 mark_region c n = record c.marks { regions = marked_with c.marks.regions n (get c.value.regions n) }
 
--- the stocks of a region that is there, where one of them becomes another amount
+-- the marks after a stock of region n was set: its stocks, where that stock was another amount
 abbrev pub mark_stock : MarkedCampaign → (region item : ℕ) → ℕ → Marks
 mark_stock c n item amount = record c.marks { stocks = if stock_of c.value n item == amount then c.marks.stocks else marked_with c.marks.stocks n (get c.value.regions n) }
 
+-- the marks after structure n changed, where it is there
 abbrev pub mark_structure : MarkedCampaign → ℕ → Marks
 mark_structure c n = record c.marks { structures = marked_with c.marks.structures n (get c.value.structures n) }
 
--- the campaign's own row
-abbrev pub mark_row : MarkedCampaign → Marks
-mark_row c = record c.marks { row = true }
+-- the marks with the campaign row marked too
+abbrev pub mark_campaign_row : MarkedCampaign → Marks
+mark_campaign_row c = record c.marks { row = true }
 
--- a structure that was begun
+-- the marks after a structure was added under the next structure number: it, and the campaign row
 abbrev pub mark_structure_begun : MarkedCampaign → Marks
 mark_structure_begun c = record c.marks { structures = insert c.marks.structures c.value.next_structure; row = true }
 
--- an amount of the books
+-- the marks after something was booked: the amount of that entry and thing
 abbrev pub mark_amount : MarkedCampaign → Entry → Thing → Marks
 mark_amount c e t = record c.marks { books = amount_marked c.marks.books e t }
 
--- all mail that was taken away
+-- the marks after all mail was removed: the mail of each faction that had some
 abbrev pub mark_all_mail : MarkedCampaign → Marks
 mark_all_mail c = record c.marks { mail = union c.marks.mail (from_list (keys c.value.mail)) }
 
--- ---- places: each step with what it marks
+-- ---- where units are: the campaign after each step, with its marks
 
+-- the campaign with structure s handed from one owner to another and marked, where the former owns it
 abbrev pub handed_marked : MarkedCampaign → ℕ → ℕ → ℕ → MarkedCampaign
 handed_marked c s from to = if is_owned_by (get c.value.structures s) from then record { value = with_owner c.value s to; marks = mark_structure c s } else c
 
+-- the campaign with unit n put in region r and structure s, and its row marked; no owner changes
 abbrev pub put_marked : MarkedCampaign → ℕ → ℕ → ℕ → MarkedCampaign
 put_marked c n r s = record { value = placed c.value n r s; marks = mark_unit_row c n }
 
+-- `place_marked` with the unit of number n, or None, given
 abbrev pub place_marked_at : MarkedCampaign → ℕ → ℕ → ℕ → Option Unit → MarkedCampaign
 place_marked_at c n r s None = c
 place_marked_at c n r s (Some u) = if u.structure == s then put_marked c n r s else handed_marked (handed_marked (put_marked c n r s) u.structure n (heir c.value u.structure n)) s 0 n
 
--- a unit in another place: its row, and each structure that gets another owner
+-- the campaign with unit n put in region r and structure s: its row is marked, and structures that get another owner
 unfoldable pub place_marked : MarkedCampaign → ℕ → ℕ → ℕ → MarkedCampaign
 place_marked c n r s = place_marked_at c n r s (get c.value.units n)
 
+-- the campaign without unit n, which is marked with its row and all its goods; no owner changes
 abbrev pub taken_marked : MarkedCampaign → ℕ → MarkedCampaign
 taken_marked c n = record { value = record c.value { units = remove c.value.units n }; marks = mark_unit c n }
 
+-- `gone_marked` with the unit of number n, or None, given
 abbrev pub gone_marked_at : MarkedCampaign → ℕ → Option Unit → MarkedCampaign
 gone_marked_at c n None = c
 gone_marked_at c n (Some u) = handed_marked (taken_marked c n) u.structure n (heir c.value u.structure n)
 
--- a unit that went: its row, its goods, and its structure, where that gets another owner
+-- the campaign without unit n: it, its row and goods are marked, and its structure where that gets another owner
 unfoldable pub gone_marked : MarkedCampaign → ℕ → MarkedCampaign
 gone_marked c n = gone_marked_at c n (get c.value.units n)
 
 -- ---- mail, reports and joining
 
--- a report that was set
+-- the marks after a report of faction n was stored
 abbrev pub mark_report : MarkedCampaign → ℕ → Marks
 mark_report c n = record c.marks { reports = insert c.marks.reports n }
 
--- a mail that was set
+-- the marks after a mailing of faction n was stored
 abbrev pub mark_mail : MarkedCampaign → ℕ → Marks
 mark_mail c n = record c.marks { mail = insert c.marks.mail n }
 
--- a faction that joined, with its unit, what it booked, and the numbers that come next
-abbrev pub join_marked : MarkedCampaign → Marks
-join_marked c = record c.marks {
+-- the marks after a join: the faction, its unit with row and goods, the two amounts booked, and the campaign row
+abbrev pub mark_join : MarkedCampaign → Marks
+mark_join c = record c.marks {
   factions = insert c.marks.factions c.value.next_faction;
   units = insert c.marks.units c.value.next_unit;
   rows = insert c.marks.rows c.value.next_unit;

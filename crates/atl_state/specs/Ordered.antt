@@ -2,19 +2,19 @@
 use Rattle.std.specs.Prelude.{ℕ, ◌≤◌, nat_le, ⊤, List, [], ◌∷◌, ◌++◌, take, drop}
 use Rattle.std.specs.List.{AllByRecursion, position_or_len, remove}
 
--- no number is below one before it
+-- no number is below one before it in the list
 abbrev pub IsSorted : List ℕ → Type 0
 IsSorted [] = ⊤
 IsSorted (x ∷ xs) = AllByRecursion (λ y. x ≤ y) xs × IsSorted xs
 
--- the place of the first number that is not below another
+-- the index of the first number of a list that is not below n; the length where there is none
 abbrev pub first_above : ℕ → List ℕ → ℕ
 first_above n xs = position_or_len (nat_le n) xs
 
--- the list with a number at its place
+-- the list with n put in before the first number that is not below it
 unfoldable pub put_number : ℕ → List ℕ → List ℕ
 put_number n xs = take (first_above n xs) xs ++ n ∷ drop (first_above n xs) xs
 
--- the list without what stands at a number's place
+-- the list without the first number that is not below n, which is n where the list has it
 unfoldable pub take_number : ℕ → List ℕ → List ℕ
 take_number n xs = remove xs (first_above n xs)

@@ -5,51 +5,56 @@ use Rattle.atl_records.specs.declared.records.Structure.{Structure}
 use Rattle.atl_records.specs.declared.records.Unit.{Unit}
 use Rattle.atl_state.specs.Campaign.{CampaignValue, numbers_inside, unit_changed, with_owner}
 
+-- the first of some numbers, or 0 where there is none
 abbrev pub first_or_zero : List ℕ → ℕ
 first_or_zero [] = 0
 first_or_zero (n ∷ ns) = n
 
--- the first of some numbers but for one, or 0
+-- the first of some numbers that isn't `leaving`, or 0 where there is none
 abbrev pub first_other : List ℕ → ℕ → ℕ
 first_other ns leaving = first_or_zero (filter (λ n. not (n == leaving)) ns)
 
--- who is next to own a structure that a unit leaves: the lowest-numbered other unit inside, or 0
+-- the next owner of structure s when its owner leaves: the lowest-numbered other unit inside, or 0
 abbrev pub heir : CampaignValue → ℕ → ℕ → ℕ
 heir c s leaving = first_other (numbers_inside s c.units) leaving
 
+-- `owner_after` with the structure of number s, or None, given
 abbrev pub owner_after_at : CampaignValue → ℕ → ℕ → Option Structure → ℕ
 owner_after_at c s leaving None = 0
 owner_after_at c s leaving (Some x) = if x.owner == leaving then heir c s leaving else x.owner
 
--- who owns a structure once a unit has left it
+-- the owner of structure s once unit `leaving` has left it; 0 where there is no such structure
 abbrev pub owner_after : CampaignValue → ℕ → ℕ → ℕ
 owner_after c s leaving = owner_after_at c s leaving (get c.structures s)
 
--- whether a structure is there, and this one owns it: a unit, or nobody, where it is 0
+-- whether a structure is there, and its owner is n: a unit, or 0 for nobody
 abbrev pub is_owned_by : Option Structure → ℕ → Bool
 is_owned_by None n = false
 is_owned_by (Some x) n = x.owner == n
 
--- a structure that goes from one owner to another, where the former owns it
+-- the campaign with structure s handed from one owner to another, where the former owns it
 abbrev pub after_handover : CampaignValue → ℕ → ℕ → ℕ → CampaignValue
 after_handover c s from to = if is_owned_by (get c.structures s) from then with_owner c s to else c
 
--- the unit's place alone
+-- the campaign with unit n in region r and structure s; no owner changes
 abbrev pub placed : CampaignValue → ℕ → ℕ → ℕ → CampaignValue
 placed c n r s = unit_changed (λ u. record u { region = r; structure = s }) c n
 
+-- `with_place` with the unit of number n, or None, given
 abbrev pub with_place_at : CampaignValue → ℕ → ℕ → ℕ → Option Unit → CampaignValue
 with_place_at c n r s None = c
 with_place_at c n r s (Some u) = if u.structure == s then placed c n r s else after_handover (after_handover (placed c n r s) u.structure n (heir c u.structure n)) s 0 n
 
--- a unit in another place. Where it leaves a structure that it owns, another owns it; where it enters one without an owner, the unit owns it
+-- the campaign with unit n put in region r and structure s, or in no structure where s is 0.
+-- A structure that it owned and leaves gets its next owner. Where it enters one without an owner, it owns that.
 unfoldable pub with_place : CampaignValue → ℕ → ℕ → ℕ → CampaignValue
 with_place c n r s = with_place_at c n r s (get c.units n)
 
+-- `without_unit` with the unit of number n, or None, given
 abbrev pub without_unit_at : CampaignValue → ℕ → Option Unit → CampaignValue
 without_unit_at c n None = c
 without_unit_at c n (Some u) = after_handover (record c { units = remove c.units n }) u.structure n (heir c u.structure n)
 
--- the campaign without a unit, which leaves its structure
+-- the campaign without unit n; where that owned its structure, this gets its next owner
 unfoldable pub without_unit : CampaignValue → ℕ → CampaignValue
 without_unit c n = without_unit_at c n (get c.units n)

@@ -1,4 +1,5 @@
--- Rules that are checked on rows, before a campaign is made: one campaign row, numbers in range, names.
+-- Rules that are said of rows themselves: rules 1 to 3, and parts of rules 4 and 11.
+-- See docs/FORMATS.md, "Rules of the tables".
 use Rattle.std.specs.Prelude.{◌+◌, ◌*◌, ◌==◌, ℕ, ℤ, pos, negsuc, Bool, false, true, not, ◌&&◌, ◌||◌, nat_le, nat_lt, nat_abs, is_some, IsTrue, List, [], ◌∷◌, length, map}
 use Rattle.std.specs.List.{list_all, IsDistinct}
 use Rattle.std.specs.declared.cmp.Ordering.{Ordering}
@@ -31,103 +32,121 @@ use Rattle.std.specs.FinMap.{get}
 use Rattle.atl_state.specs.Rows.{is_zero}
 use Rattle.atl_state.specs.Stocks.{stock_limit}
 
--- a number from low to high
+-- whether a number is from low to high
 abbrev pub is_from : ℕ → ℕ → ℤ → Bool
 is_from low high (pos n) = nat_le low n && nat_le n high
 is_from low high (negsuc n) = false
 
--- ---- the campaign's own row
+-- ---- the campaign row
 
--- there is one, its id is 1, and its format is this one
+-- whether there is exactly one campaign row, with the id 1 and the number of this format
 abbrev pub is_one_campaign_row : Format → List StoredCampaignRow → Bool
 is_one_campaign_row f [] = false
 is_one_campaign_row f (h ∷ []) = is_from 1 1 h.id && is_from (format_number f) (format_number f) h.format
 is_one_campaign_row f (h ∷ other ∷ rows) = false
 
--- the first format has no rows of markets
+-- whether the format may have these rows of `market`: the first none, the second any
 abbrev pub are_of_format : Format → List StoredMarket → Bool
 are_of_format First rows = length rows == 0
 are_of_format Second rows = true
 
 -- ---- numbers in their ranges
 
--- a number from -bound to bound
+-- whether a number is from -bound to bound
 abbrev pub is_within : ℕ → ℤ → Bool
 is_within bound z = nat_le (nat_abs z) bound
 
+-- whether the month and the next numbers of the campaign row are in their ranges
 abbrev pub campaign_row_in_range : StoredCampaignRow → Bool
 campaign_row_in_range h = ((is_from 0 last_month h.month && is_from 1 (last_faction + 1) h.next_faction) && is_from 1 (last_unit + 1) h.next_unit) && is_from 1 (most_structures + 1) h.next_structure
 
+-- whether the number and the flag `gone` of a row of `faction` are in their ranges
 abbrev pub faction_in_range : StoredFaction → Bool
 faction_in_range r = is_from 1 last_faction r.number && is_from 0 1 r.gone
 
+-- whether the peasants and the money of a row of `region` are in their ranges
 abbrev pub region_in_range : StoredRegion → Bool
 region_in_range r = is_from 0 most_amount r.peasants && is_from 0 most_amount r.money
 
+-- whether the number, men, money and guard flag of a row of `unit` are in their ranges
 abbrev pub unit_in_range : StoredUnit → Bool
 unit_in_range r = ((is_from 1 last_unit r.number && is_from 1 men_limit r.men) && is_from 0 holding_limit r.money) && is_from 0 1 r.guard
 
--- days of study have a rule of their own
+-- whether the sort of a row of `has` is 0 or 1, and the amount of an item in its range; days are judged by rule 6
 abbrev pub has_in_range : StoredHas → Bool
 has_in_range r = is_from 1 1 r.sort || (is_from 0 0 r.sort && is_from 1 holding_limit r.amount)
 
+-- whether the number of a row of `structure` and how much is done, up to its kind's size, are in their ranges
 abbrev pub structure_in_range : WorldValue → StoredStructure → Bool
 structure_in_range w r = is_from 1 most_structures r.number && is_from 1 (size_of w (as_u16 r.kind)) r.done
 
--- no amount of the books is greater in size
+-- how large an amount of the books may be, without its sign
 abbrev pub books_bound : Parts → ℕ
 books_bound p = most_in_month * (as_u32 (campaign_row_of p).month + 1) + most_in_joining * length p.factions
 
+-- whether the amount of a row of `books` is not 0, and without its sign at most the bound
 abbrev pub books_in_range : ℕ → StoredBooks → Bool
 books_in_range bound r = not (is_zero r.amount) && is_within bound r.amount
 
--- in the region of its row the market of the item has room for so much
+-- whether the stock of a row of `market` is from 1 to the limit of its market
 abbrev pub market_in_range : WorldValue → StoredMarket → Bool
 market_in_range w r = is_from 1 (stock_limit w (as_u32 r.region) (as_u32 r.item)) r.stock
 
 -- ---- keys
 
--- the key of a row: up to three numbers
+-- the key of a row as three numbers; those that its table's key doesn't have are 0
 abbrev pub Key : Type 0
 Key = ℤ × ℤ × ℤ
 
+-- the order of keys: by the first number, then by the second, then by the third
 abbrev pub key_cmp : Key → Key → Ordering
 key_cmp a b = ordering_then (ordering_then (int_cmp a.0 b.0) (int_cmp a.1 b.1)) (int_cmp a.2 b.2)
 
+-- a key of one number
 abbrev pub one_key : ℤ → Key
 one_key n = (n, pos 0, pos 0)
 
+-- the key of a row of `faction`: its number
 abbrev pub faction_key : StoredFaction → Key
 faction_key r = one_key r.number
 
+-- the key of a row of `region`: its number
 abbrev pub region_key : StoredRegion → Key
 region_key r = one_key r.number
 
+-- the key of a row of `unit`: its number
 abbrev pub unit_key : StoredUnit → Key
 unit_key r = one_key r.number
 
+-- the key of a row of `has`: its unit, sort and thing
 abbrev pub has_key : StoredHas → Key
 has_key r = (r.unit, r.sort, r.thing)
 
+-- the key of a row of `structure`: its number
 abbrev pub structure_key : StoredStructure → Key
 structure_key r = one_key r.number
 
+-- the key of a row of `mail`: its faction
 abbrev pub mail_key : StoredMail → Key
 mail_key r = one_key r.faction
 
+-- the key of a row of `report`: its faction
 abbrev pub report_key : StoredReport → Key
 report_key r = one_key r.faction
 
+-- the key of a row of `books`: its entry and thing
 abbrev pub books_key : StoredBooks → Key
 books_key r = (r.entry, r.thing, pos 0)
 
+-- the key of a row of `market`: its region and item
 abbrev pub market_key : StoredMarket → Key
 market_key r = (r.region, r.item, pos 0)
 
--- no two rows have one key
+-- no two rows of a table have the same key
 abbrev pub HaveKeys : {R : Type 0} → (R → Key) → List R → Type 0
 HaveKeys key rows = IsDistinct (eq_by_cmp key_cmp) (map key rows)
 
+-- in none of the tables but `campaign` do two rows have the same key
 pub record AreKeyed (p : Parts) : Type 0 where
   pub factions : HaveKeys faction_key p.factions
   pub regions : HaveKeys region_key p.regions
@@ -141,16 +160,19 @@ pub record AreKeyed (p : Parts) : Type 0 where
 
 -- ---- all of them
 
+-- whether there are at most 9,999 factions, 10,000 regions, 100,000 units and 10,000 structures
 abbrev pub are_few : Parts → Bool
 are_few p = ((nat_le (length p.factions) last_faction && nat_le (length p.regions) most_regions) && nat_le (length p.units) most_units) && nat_le (length p.structures) most_structures
 
--- factions, regions, units with what they have
+-- whether each row of `faction`, `region`, `unit` and `has` is in its ranges
 abbrev pub people_in_range : Parts → Bool
 people_in_range p = ((list_all faction_in_range p.factions && list_all region_in_range p.regions) && list_all unit_in_range p.units) && list_all has_in_range p.has
 
+-- whether each number of each row is in its range
 abbrev pub numbers_in_range : WorldValue → Parts → Bool
 numbers_in_range w p = (((campaign_row_in_range (campaign_row_of p) && people_in_range p) && list_all (structure_in_range w) p.structures) && list_all (books_in_range (books_bound p)) p.books) && list_all (market_in_range w) p.markets
 
+-- rule 2: no two rows of a table have the same key, there are not too many rows, and each number is in its range
 pub record AreRowsInRange (w : WorldValue) (p : Parts) : Type 0 where
   pub keys : AreKeyed p
   pub few : IsTrue (are_few p)
@@ -158,35 +180,37 @@ pub record AreRowsInRange (w : WorldValue) (p : Parts) : Type 0 where
 
 -- ---- names
 
+-- whether both names and the pass text of a row of `faction` keep their rules
 abbrev pub faction_named : StoredFaction → Bool
 faction_named r = (name_ok r.joined_as && name_ok r.name) && pass_ok r.pass
 
--- each is a name or a pass text
+-- whether each name and each pass text of the rows keeps its rule
 abbrev pub are_named : Parts → Bool
 are_named p = ((pass_ok (campaign_row_of p).pass && list_all faction_named p.factions) && list_all (λ r. name_ok r.name) p.units) && list_all (λ r. name_ok r.name) p.structures
 
--- no two factions joined under one name
-abbrev pub HaveJoined : List StoredFaction → Type 0
-HaveJoined rows = IsDistinct (eq_by_cmp (slice_cmp nat_cmp)) (map (λ r. r.joined_as) rows)
+-- no two factions joined under the same name
+abbrev pub AreJoinedNamesDistinct : List StoredFaction → Type 0
+AreJoinedNamesDistinct rows = IsDistinct (eq_by_cmp (slice_cmp nat_cmp)) (map (λ r. r.joined_as) rows)
 
+-- rule 3: names and pass texts keep their rules, and no two factions joined under the same name
 pub record AreRowsNamed (p : Parts) : Type 0 where
   pub texts : IsTrue (are_named p)
-  pub joined : HaveJoined p.factions
+  pub joined : AreJoinedNamesDistinct p.factions
 
 -- ---- what rows say of other rows
 
--- of a unit that is there
+-- whether a row of `has` is of a unit that is there
 abbrev pub is_of_unit : CampaignValue → StoredHas → Bool
 is_of_unit c r = is_some (get c.units (as_u32 r.unit))
 
--- of a market of the world
+-- whether a row of `market` is of a market of the world
 abbrev pub is_of_market : WorldValue → StoredMarket → Bool
 is_of_market w r = is_some (market_of w (as_u32 r.region) (as_u32 r.item))
 
--- of an entry that the books of this format have; entries are counted from 1
+-- whether the books of a format have an entry of this number; entries are counted from 1
 abbrev pub is_entry_in : Format → ℕ → Bool
 is_entry_in f n = nat_le 1 n && nat_le n (entries_in f)
 
--- of an entry and a thing that are there
+-- whether a row of `books` is of an entry of the format and of a thing of the world
 abbrev pub is_booked : Format → WorldValue → StoredBooks → Bool
 is_booked f w r = is_entry_in f (as_u32 r.entry) && nat_lt (as_u32 r.thing) (things_of w)

@@ -1,4 +1,4 @@
--- The rows that a campaign has in each table of a format, in the order of their keys.
+-- The rows that a campaign has in each table of a format, in the order of their keys. See docs/FORMATS.md, "Tables".
 use Rattle.std.specs.Prelude.{◌+◌, ◌++◌, ℕ, ℤ, pos, Bool, true, false, not, List, [], ◌∷◌, map, filter}
 use Rattle.std.specs.List.{flat_map}
 use Rattle.std.specs.List.Sorted.{IsPermutation}
@@ -29,81 +29,88 @@ use Rattle.atl_records.specs.Grids.{listed_of}
 use Rattle.atl_records.specs.declared.books.Entry.{Entry}
 use Rattle.atl_records.specs.declared.books.Thing.{Thing}
 
--- 1 where a flag is set
+-- a flag as the number of a row: 1 where it is set, else 0
 abbrev pub flag : Bool → ℤ
 flag true = pos 1
 flag false = pos 0
 
 -- ---- one row
 
--- the campaign's own row: its id is 1
+-- the campaign row, whose id is 1
 abbrev pub campaign_row : Format → CampaignValue → StoredCampaignRow
 campaign_row f c = record { id = pos 1; format = pos (format_number f); month = pos c.month; next_faction = pos c.next_faction; next_unit = pos c.next_unit; next_structure = pos c.next_structure; pass = c.pass }
 
+-- the row of faction n
 abbrev pub faction_row : ℕ → Faction → StoredFaction
 faction_row n f = record { number = pos n; joined_as = f.joined_as; name = f.name; pass = f.pass; gone = flag f.gone }
 
+-- the row of region n, without its stocks
 abbrev pub region_row : ℕ → Region → StoredRegion
 region_row n r = record { number = pos n; peasants = pos r.peasants; money = pos r.money }
 
+-- the row of unit n, without its items and days of study
 abbrev pub unit_row : ℕ → Unit → StoredUnit
 unit_row n u = record { number = pos n; faction = pos u.faction; name = u.holding.name; region = pos u.region; structure = pos u.structure; men = pos u.holding.men; money = pos u.holding.money; guard = flag u.holding.guard }
 
+-- the row of structure n
 abbrev pub structure_row : ℕ → Structure → StoredStructure
 structure_row n s = record { number = pos n; kind = pos s.kind; name = s.name; region = pos s.region; done = pos s.done; owner = pos s.owner }
 
+-- the row of the mail of faction n
 abbrev pub mail_row : ℕ → List ℕ → StoredMail
 mail_row n text = record { faction = pos n; text = text }
 
+-- the row of the report of faction n
 abbrev pub report_row : ℕ → List ℕ → StoredReport
 report_row n text = record { faction = pos n; text = text }
 
--- of a unit, and of sort 0 for items or 1 for skills
+-- the row of `has` for unit n and one thing of a sort: 0 an item, 1 a skill
 abbrev pub has_row : ℕ → ℕ → ℕ → ℕ → StoredHas
 has_row n sort thing amount = record { unit = pos n; sort = pos sort; thing = pos thing; amount = pos amount }
 
--- entries are counted from 1
+-- the row of `books` for an entry and a thing; entries are counted from 1
 abbrev pub books_row : Entry → Thing → ℤ → StoredBooks
 books_row entry thing amount = record { entry = pos (entry_index entry + 1); thing = pos (thing_index thing); amount = amount }
 
--- of a region and an item
+-- the row of `market` for a region and an item
 abbrev pub market_row : ℕ → ℕ → ℕ → StoredMarket
 market_row region item stock = record { region = pos region; item = pos item; stock = pos stock }
 
 -- ---- the rows of a table
 
--- a row for each entry of a map
+-- a row for each of these entries of a map, in their order
 abbrev pub rows_by : {V R : Type 0} → (ℕ → V → R) → List (ℕ × V) → List R
 rows_by row es = map (λ e. row e.0 e.1) es
 
--- a row for each amount, where it is not 0
+-- a row for each of these amounts that is not 0
 abbrev pub amount_rows : {R : Type 0} → (R → ℤ) → (ℕ → ℕ → R) → List (ℕ × ℕ) → List R
 amount_rows amount row es = filter (λ r. not (is_zero (amount r))) (rows_by row es)
 
--- what a unit has of a sort, where it is not 0
-abbrev pub kind_rows : ℕ → ℕ → List (ℕ × ℕ) → List StoredHas
-kind_rows n sort es = amount_rows (λ r. r.amount) (has_row n sort) es
+-- the rows of `has` for what unit n has of a sort (0 items, 1 skills), where it is not 0
+abbrev pub rows_of_sort : ℕ → ℕ → List (ℕ × ℕ) → List StoredHas
+rows_of_sort n sort es = amount_rows (λ r. r.amount) (has_row n sort) es
 
--- what a unit has: items, then days of study
+-- the rows of `has` for what unit n has: items, then days of study
 abbrev pub held_rows : ℕ → HoldingValue → List StoredHas
-held_rows n h = kind_rows n 0 (entries h.items) ++ kind_rows n 1 (entries h.days)
+held_rows n h = rows_of_sort n 0 (entries h.items) ++ rows_of_sort n 1 (entries h.days)
 
+-- the rows of `has` of these units, one unit after another
 abbrev pub has_rows : List (ℕ × Unit) → List StoredHas
 has_rows es = flat_map (λ e. held_rows e.0 e.1.holding) es
 
--- a row for each account with its amount
+-- a row of `books` for each of these accounts, with its amount
 abbrev pub amounts_rows : List (Account × ℤ) → List StoredBooks
 amounts_rows xs = map (λ x. books_row x.0.0 x.0.1 x.1) xs
 
--- a row for each amount of the books
+-- a row of `books` for each amount of the books that is listed
 abbrev pub books_rows : BooksValue → List StoredBooks
 books_rows books = amounts_rows (entries books.amounts)
 
--- the stocks of a region, where they are not 0
+-- a row of `market` for each stock of region n that is not 0
 abbrev pub stock_rows : ℕ → List (ℕ × ℕ) → List StoredMarket
 stock_rows n es = amount_rows (λ r. r.stock) (market_row n) es
 
--- the first format has no rows of markets
+-- the rows of `market` of these regions; in the first format none
 abbrev pub market_rows : Format → List (ℕ × Region) → List StoredMarket
 market_rows First es = []
 market_rows Second es = flat_map (λ e. stock_rows e.0 (entries e.1.stocks)) es
@@ -125,7 +132,7 @@ rows_of f c = record {
   markets = market_rows f (entries c.regions);
 }
 
--- the same rows, table by table, in any order
+-- both have the same rows in each table, in any order
 pub record AreSameRows (some others : Parts) : Type 0 where
   pub campaign : IsPermutation some.campaign others.campaign
   pub factions : IsPermutation some.factions others.factions
@@ -138,10 +145,10 @@ pub record AreSameRows (some others : Parts) : Type 0 where
   pub books : IsPermutation some.books others.books
   pub markets : IsPermutation some.markets others.markets
 
--- the rows of a campaign, each once, in any order
+-- these are the rows of a campaign in a format, each once, in any order
 abbrev pub AreRowsOf : Format → CampaignValue → Parts → Type 0
 AreRowsOf f c parts = AreSameRows (rows_of f c) parts
 
--- For proofs alone: a row for each of these accounts that has an amount.
+-- For proofs alone: a row of `books` for each of these accounts whose amount is not 0.
 abbrev pub rows_under : BooksValue → List Account → List StoredBooks
 rows_under books accounts = amounts_rows (listed_of (λ a. amount_in books a.0 a.1) accounts)

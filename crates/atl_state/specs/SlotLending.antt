@@ -1,4 +1,4 @@
--- For proofs alone: what slots hold after a write through a value that they lent.
+-- For proofs alone: what an arena holds after a write through a value that it lent.
 use Rattle.std.specs.Prelude.{ℕ, Option}
 use Rattle.std.specs.Ordering.{nat_cmp}
 use Rattle.std.specs.FinMap as map
@@ -6,6 +6,6 @@ use Rattle.std.specs.Borrow.{LendsIf, MutBor, Fml}
 use denote.RattleType.{RattleType}
 use Rattle.atl_state.specs.contracts.arena.Arena.{the_row}
 
--- m ends with the last value behind r under the number, or as it was
+-- after the loan r, arena m has the last value of r under the number; without a loan it is as it was
 abbrev pub LendsSlot : (V : RattleType) → MutBor (map.FinMap nat_cmp V.Denot) → ℕ → Option (MutBor V.Denot) → Fml
 LendsSlot V m number r = LendsIf (the_row V) V m r (λ w. map.insert m.now number w) m.now

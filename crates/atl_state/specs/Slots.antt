@@ -1,4 +1,4 @@
--- For proofs alone: a map whose values are in slots.
+-- For proofs alone: a map whose values are in slots, to which an index leads from the numbers.
 use Rattle.std.specs.Prelude.{◌≡◌, ℕ, true, is_some, List, [], ◌∷◌, Option, Some, None}
 use Rattle.std.specs.Ordering.{nat_cmp}
 use Rattle.std.specs.FinMap.{FinMap, get, entries, len, from_entries}
@@ -6,28 +6,30 @@ use Rattle.slab.specs.Slab as slab
 use Rattle.atl_records.specs.Every.{EachOf}
 
 module _ {V : Type 0} where
+  -- the entries `rest` with n and the value of its slot in front, where the slot has one
   abbrev pub slot_entry_at : ℕ → Option V → List (ℕ × V) → List (ℕ × V)
   slot_entry_at n None rest = rest
   slot_entry_at n (Some v) rest = (n, v) ∷ rest
 
-  -- each number with the value in its slot
+  -- each number with the value in its slot, where the slot has one
   abbrev pub slot_entries : List (ℕ × ℕ) → slab.Slab V → List (ℕ × V)
   slot_entries [] s = []
   slot_entries (e ∷ es) s = slot_entry_at e.0 (slab.get s e.1) (slot_entries es s)
 
+  -- the map from the numbers of index i to the values in their slots
   abbrev pub values_of : FinMap nat_cmp ℕ → slab.Slab V → FinMap nat_cmp V
   values_of i s = from_entries (slot_entries (entries i) s)
 
-  -- each slot that a number leads to has a value
+  -- each slot that one of these numbers leads to has a value
   abbrev pub AreInUse : List (ℕ × ℕ) → slab.Slab V → Type 0
   AreInUse es s = EachOf (λ n k. is_some (slab.get s k) ≡ true) es
 
-  -- and no other number leads there
-  pub record AreLodged (i : FinMap nat_cmp ℕ) (s : slab.Slab V) : Type 0 where
+  -- each number of the index leads to a slot that has a value, and no two lead to the same one
+  pub record HaveOwnSlots (i : FinMap nat_cmp ℕ) (s : slab.Slab V) : Type 0 where
     pub in_use : (n k : ℕ) → get i n ≡ Some k → is_some (slab.get s k) ≡ true
     pub by_one : (n m k : ℕ) → get i n ≡ Some k → get i m ≡ Some k → n ≡ m
 
-  -- and no slot is in use to which no number leads
+  -- each number of the index leads to a slot of its own that has a value, and no other slot has one
   pub record IsArena (i : FinMap nat_cmp ℕ) (s : slab.Slab V) : Type 0 where
-    pub slots_used : AreLodged i s
+    pub slots_used : HaveOwnSlots i s
     pub none_idle : slab.slab_len s ≡ len i

@@ -10,14 +10,14 @@ use Rattle.atl_records.specs.declared.records.Region.{Region}
 use Rattle.atl_records.specs.Holdings.{amount_of}
 use Rattle.atl_state.specs.Campaign.{CampaignValue}
 
--- how much of an item a region of these has in stock
+-- how many pieces of an item a region of these has in stock; 0 where there is no such region
 abbrev pub stock_in : FinMap nat_cmp Region → (region item : ℕ) → ℕ
 stock_in regions region item = option_map_or (λ r. amount_of r.stocks item) (get regions region) 0
 
--- how much of an item a region has in stock
+-- how many pieces of an item a region has in stock; 0 where there is no such region
 abbrev pub stock_of : CampaignValue → (region item : ℕ) → ℕ
 stock_of c region item = stock_in c.regions region item
 
--- the largest stock of an item in a region, which is that of any amount where there is no market
+-- the largest stock of an item in a region: the limit of its market, or 999,999,999 where there is none
 abbrev pub stock_limit : WorldValue → (region item : ℕ) → ℕ
 stock_limit w region item = option_map_or (λ m. m.limit) (market_of w region item) most_amount

@@ -7,14 +7,14 @@ use Rattle.atl_state.specs.Campaign.{CampaignValue}
 use Rattle.atl_records.specs.Books.{booked}
 use Rattle.atl_records.specs.Amounts.{region_amount, unit_amount}
 
--- the sum over all units and regions
+-- how much there is of a thing: the sum over all units and all regions, with their stocks
 unfoldable pub total : CampaignValue → Thing → ℕ
 total c t = sum_over (λ u. unit_amount t u.holding) c.units + sum_over (λ r. region_amount t r) c.regions
 
--- few enough units and regions for a total to be counted
+-- there are at most 1,000,000 units and regions together
 abbrev pub IsCountable : CampaignValue → Type 0
 IsCountable c = len c.units + len c.regions ≤ 1000000
 
--- for each thing the total is the sum of its entries
+-- for each thing the total is the sum of the amounts that are booked under its entries
 abbrev pub Balances : CampaignValue → Type 0
 Balances c = (t : Thing) → pos (total c t) ≡ booked c.books t

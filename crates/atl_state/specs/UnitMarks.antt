@@ -1,4 +1,4 @@
--- For proofs alone: how marks on units and on their goods are stored.
+-- For proofs alone: what becomes of the units after a write through one that they lend, and what is marked then.
 use Rattle.std.specs.Prelude.{ℕ, Option}
 use Rattle.std.specs.FinMap as map
 use Rattle.std.specs.FinSet as set
@@ -8,10 +8,11 @@ use Rattle.atl_records.specs.contracts.records.Unit as unit
 use Rattle.atl_state.specs.contracts.units.Units.{the_row}
 use Rattle.atl_state.specs.Roster.{Roster, with_unit_at}
 
--- r ends with the last value behind u under the number, or as it was
+-- after the loan u, roster r has its last value under n, with row and all goods marked; without a loan nothing
+-- changes
 abbrev pub LendsUnit : MutBor Roster → ℕ → Option (MutBor Unit) → Fml
 LendsUnit r n u = LendsIf the_row unit.the_row r u (with_unit_at r.now n) r.now
 
--- r ends with the last value behind u under the number, of which the row alone is marked, or as it was
+-- after the loan u, roster r has its last value under n, with its row alone marked; without a loan nothing changes
 abbrev pub LendsRow : MutBor Roster → ℕ → Option (MutBor Unit) → Fml
 LendsRow r n u = LendsIf the_row unit.the_row r u (λ w. record r.now { values = map.insert r.now.values n w; marks = set.insert r.now.marks n; rows = set.insert r.now.rows n }) r.now

@@ -1,4 +1,4 @@
-//! Values under numbers, in slots that are used again.
+//! A map by number whose values are in slots that are used again.
 ghost use Rattle.std.specs.Prelude.{◌≡◌, ◌<◌, ◌^◌, IfOk, OnOk, OnErr, None, option_copied};
 ghost use Rattle.std.specs.FinMap as map;
 
@@ -8,8 +8,8 @@ use std::alloc::{AllocError, Global};
 use std::marker::Model;
 use std::slice::Iter;
 
-/// A map from numbers to values. Each value keeps its slot until it is taken out; the slot is then the first to be used
-/// again.
+/// A map from numbers to values, each in a slot that it keeps until it is removed. The slot that
+/// was last freed is the first to be used again.
 pub(crate) struct Arena<V> {
     index: Index,
     slots: Slab<V>,
@@ -41,7 +41,7 @@ impl<V: Drop> Arena<V> {
     ghost use Rattle.std.specs.Borrow.{sem};
     ghost use Rattle.atl_state.specs.SlotLending.{LendsSlot};
 
-    /// A map of nothing. It takes no memory.
+    /// An empty map. It takes no memory.
     pub(crate) fn new(alloc: Global) -> Self
         ensures { result ≡ map.empty }
     {
@@ -51,7 +51,7 @@ impl<V: Drop> Arena<V> {
         }
     }
 
-    /// A map of nothing, and room for so many values.
+    /// An empty map with room for this many values.
     pub(crate) fn with_room(alloc: Global, room: usize) -> Result<Self, AllocError>
         ensures { IfOk result (λ arena. arena ≡ map.empty) }
     {
@@ -101,7 +101,8 @@ impl<V: Drop> Arena<V> {
         }
     }
 
-    /// Puts a value under a number, in the place of the one that stood there. Without memory for it nothing changes.
+    /// Puts a value under a number, instead of the one that is there. Without memory for it nothing
+    /// changes.
     pub(crate) fn put(&mut self, number: u32, value: V) -> Result<(), AllocError>
         ensures ok { OnOk result (self.new ≡ map.insert self.old number value) }
         ensures err { OnErr result (self.new ≡ self.old) }
@@ -115,7 +116,8 @@ impl<V: Drop> Arena<V> {
         Ok(())
     }
 
-    /// Takes out the value under a number, and says whether there was one. Its slot is then free. It takes no memory.
+    /// Removes the value under a number, and says whether there was one. Its slot is then free. It
+    /// takes no memory.
     pub(crate) fn remove(&mut self, number: u32) -> bool
         ensures there { result ≡ map.contains_key self.old number }
         ensures taken { self.new ≡ map.remove self.old number }
@@ -148,7 +150,7 @@ impl<V: Drop> Arena<V> {
     }
 }
 
-/// The numbers with their values that are left to come, in rising order.
+/// An iterator over the numbers with their values, in rising order: those still to come.
 #[derive(Drop)]
 pub struct SlotEntries<'a, V> {
     places: Iter<'a, IndexEntry>,

@@ -31,8 +31,7 @@ pub use founding::founded;
 use std::alloc::{AllocError, Global};
 use std::marker::Model;
 
-/// A whole campaign, with a mark on each part that changed since it was last written. Two campaigns are equal where they
-/// are equal but for the marks.
+/// A whole campaign, with a mark on each part that changed since it was last written.
 pub struct Campaign {
     alloc: Global,
     month: u32,
@@ -49,7 +48,7 @@ pub struct Campaign {
     books: Books,
     // The numbers of the amounts of the books that changed, with room for each.
     amounts_marked: Marks,
-    // Whether the month or a number that comes next changed.
+    // Whether the campaign row is marked: the month or a next number changed.
     row_marked: bool,
     // The numbers of the units by what they belong to.
     lists: UnitLists,
@@ -66,7 +65,7 @@ impl Drop for Campaign {
 
 impl Model for Campaign {
     ghost use Rattle.atl_state.specs.Campaign.{MarkedCampaign, marked_code};
-    ghost use Rattle.atl_state.specs.Kept.{AreKept};
+    ghost use Rattle.atl_state.specs.KeptLists.{AreKept};
 
     ghost Value = { MarkedCampaign };
 
@@ -127,7 +126,7 @@ impl Campaign {
         &self.pass
     }
 
-    /// The number of the faction that joins next, from 1; one more than atl_orders' LAST_FACTION where no more can join.
+    /// The number of the faction that joins next, from 1 to one more than atl_orders' LAST_FACTION.
     pub fn next_faction(&self) -> u32
         ensures { result ≡ self.now.value.next_faction }
     {
@@ -280,7 +279,8 @@ impl Campaign {
         self.reports.iter()
     }
 
-    /// How many things are booked: money, people, and each item of the world. No amount of another thing is marked.
+    /// How many things are booked: money, people, and each item of the world. No amount of another
+    /// thing is marked.
     pub fn things(&self) -> usize
         ensures count { result ≡ self.now.value.books.things }
         ensures few { result ≤ possible_things }
@@ -290,14 +290,15 @@ impl Campaign {
         self.books.len()
     }
 
-    /// All that is booked.
+    /// The books: the amount of each thing under each entry.
     pub(crate) fn books(&self) -> &Books
         ensures { result.now ≡ self.now.value.books }
     {
         &self.books
     }
 
-    /// What came in of a thing under an entry so far, less what went: money, men and peasants, or pieces of an item.
+    /// What came in of a thing under an entry so far, less what went. The thing is money, men and
+    /// peasants, or pieces of an item.
     pub fn booked(&self, entry: Entry, thing: Thing) -> i64
         requires { thing_index thing < self.now.value.books.things }
         ensures { result ≡ amount_in self.now.value.books entry thing }
@@ -305,11 +306,12 @@ impl Campaign {
         self.books.amount(entry, thing)
     }
 
+    /// The allocator of all that the campaign holds.
     pub(crate) fn alloc(&self) -> Global {
         self.alloc
     }
 
-    /// The numbers of the units that stand in a region, in rising order; none where there is no such region.
+    /// The numbers of the units in a region, in rising order; none where there is no such region.
     pub fn in_region(&self, region: u32) -> &[u32]
         ensures { result.now ≡ numbers_in region self.now.value.units }
     {
@@ -330,8 +332,8 @@ impl Campaign {
         numbers_under(&self.lists.by_structure, structure)
     }
 
-    /// Lends a unit's holding, and marks the unit's row and all its goods; None, and no mark, where no unit has the number. Nothing else
-    /// changes. It takes no memory.
+    /// Lends a unit's holding, and marks the unit, its row and all its goods. None, and no mark,
+    /// where no unit has the number. Nothing else changes. It takes no memory.
     pub fn unit_mut(&mut self, number: u32) -> Option<&mut Holding>
         ensures* writes_back { sem 𝓛 (LendsHolding self.entry number result) }
         ensures value { option_copied_mut result
@@ -343,8 +345,8 @@ impl Campaign {
         }
     }
 
-    /// Stores a faction's mail for the month to come in the place of an older one, and marks it. AllocError without memory,
-    /// and then the campaign and its marks stay as they are.
+    /// Stores a faction's mail for the month to come instead of an older one, and marks it.
+    /// AllocError without memory, and then the campaign and its marks stay as they are.
     pub fn set_mail(&mut self, faction: u32, text: Sequence<u8>) -> Result<(), AllocError>
         ensures ok { OnOk result (self.new.value ≡ with_mail self.old.value faction text) }
         ensures err { OnErr result (self.new ≡ self.old) }
@@ -354,8 +356,8 @@ impl Campaign {
         Ok(())
     }
 
-    /// Stores a faction's report in the place of an older one, and marks it. AllocError without memory, and then the campaign
-    /// and its marks stay as they are.
+    /// Stores a faction's report instead of an older one, and marks it. AllocError without memory,
+    /// and then the campaign and its marks stay as they are.
     pub fn set_report(&mut self, faction: u32, report: Text) -> Result<(), AllocError>
         ensures ok { OnOk result (self.new.value ≡ with_report self.old.value faction report) }
         ensures err { OnErr result (self.new ≡ self.old) }
@@ -365,7 +367,8 @@ impl Campaign {
         Ok(())
     }
 
-    /// The money, the people (peasants and men) or the pieces of an item of all units and regions. It takes no memory.
+    /// How much there is of a thing in all units and regions, with their stocks. It counts money,
+    /// men and peasants, or pieces of an item. It takes no memory.
     #[tactic(auto, unfolding(crate::specs::Totals::total))]
     pub fn total(&self, thing: Thing) -> u64
         requires { IsCountable self.now.value }

@@ -5,7 +5,7 @@ ghost use Rattle.std.specs.List.{list_all};
 ghost use Rattle.atl_tables.specs.Worlds.{IsWorld};
 ghost use Rattle.atl_tables.specs.declared.format.Format.TheVariants.{Second};
 ghost use Rattle.atl_state.specs.declared.checking.Rule.TheVariants as rule;
-ghost use Rattle.atl_state.specs.Checking.{rule_number, Keeps, KeepsBelow, Passes, Checks, GivesBack};
+ghost use Rattle.atl_state.specs.Checking.{rule_number, KeepsRule, KeepsRulesBelow, Passes, Checks, GivesBack};
 ghost use Rattle.atl_state.specs.FromRows.{campaign_of};
 ghost use Rattle.atl_state.specs.Good.{AreKnown, IsMail, AreReported};
 ghost use Rattle.atl_records.specs.Limits.{entries_in};
@@ -26,20 +26,20 @@ use std::alloc::Global;
 use std::error::Error;
 use std::fmt;
 
-/// A rule that the rows of a campaign's tables keep. Each is read of rows that keep the rules before it. See
+/// A rule of the tables, by its number. Each is judged of rows that keep the rules before it. See
 /// docs/FORMATS.md, "Rules of the tables".
 #[derive(Drop, Clone, Copy, Debug, PartialEq, Eq)]
 pub enum Rule {
-    /// There is one row of the campaign's own, whose id is 1 and whose format is the one that is asked for; in the first
+    /// There is one campaign row, with the id 1 and the format that is asked for. In the first
     /// format there are no rows of markets.
     OneRow = 1,
     /// Keys differ, each number is in its range, and there are not too many rows.
     Ranges = 2,
-    /// Names and pass texts keep their rules, and joined names differ.
+    /// Names and pass texts keep their rules, and no two factions joined under the same name.
     Names = 3,
     /// The regions are the world's, and all that a row names is there, markets too.
     Known = 4,
-    /// The numbers that come next are those after the last.
+    /// Factions and structures are numbered from 1 without a gap, and all next numbers are free.
     Next = 5,
     /// A unit has at least 1 day in each skill that it studied, and at most MOST_DAYS for each man.
     Days = 6,
@@ -53,7 +53,8 @@ pub enum Rule {
     Guards = 10,
     /// The amounts of the books are of entries and things that are there, and the books balance.
     Books = 11,
-    /// Mail is of factions that are not gone, and every faction has a report.
+    /// Mail is of factions that aren't gone, and in order; each faction has a report. It is in
+    /// order with at most 65,536 bytes, and a header with the faction's number.
     Mail = 12,
 }
 
@@ -66,12 +67,12 @@ impl Rule {
     }
 }
 
-/// Why rows are not those of a good campaign.
+/// Why rows are not accepted as those of a good campaign.
 #[derive(Drop, Clone, Copy, Debug, PartialEq, Eq)]
 pub enum CheckFault {
     /// The first rule that the rows break.
     Damaged(Rule),
-    /// There is no memory for it.
+    /// There was no memory for the check.
     Memory,
 }
 
@@ -87,6 +88,7 @@ impl fmt::Display for CheckFault {
 
 impl Error for CheckFault {}
 
+/// Whether rows keep rule 1.
 fn keeps_one_row(format: Format, parts: &Parts) -> bool
     ensures { IsTrue result ↔
         (IsTrue (is_one_campaign_row format parts.now.campaign)
@@ -96,7 +98,7 @@ fn keeps_one_row(format: Format, parts: &Parts) -> bool
         && are_of_format(format, parts.markets.as_slice())
 }
 
-/// The rules that are judged before a campaign is made of the rows.
+/// Checks rules 1 to 3, which are judged before a campaign is made of the rows.
 fn check_rows(alloc: Global, world: &World, parts: &Parts, format: Format) -> Result<(), CheckFault>
     ensures { Passes format world.now parts.now 4 result }
 {
@@ -115,7 +117,7 @@ fn check_rows(alloc: Global, world: &World, parts: &Parts, format: Format) -> Re
     }
 }
 
-/// Whether what units have is of units that are there.
+/// Whether all rows of `has` are of units that are there.
 fn are_of_units(parts: &Parts, campaign: &Campaign) -> bool
     ensures { result ≡ list_all (is_of_unit campaign.now.value) parts.now.has }
 {
@@ -136,6 +138,7 @@ fn entries_in(format: Format) -> usize
     }
 }
 
+/// Whether a row of `books` is of an entry of the format and of a thing of the world.
 fn is_booked(format: Format, world: &World, row: &StoredBooks) -> bool
     ensures { result ≡ is_booked format world.now row.now }
 {
@@ -144,6 +147,7 @@ fn is_booked(format: Format, world: &World, row: &StoredBooks) -> bool
     1 <= entry && entry <= entries_in(format) && (as_u32(row.thing) as usize) < things
 }
 
+/// Whether all rows of `books` are of entries of the format and of things of the world.
 fn are_booked(format: Format, world: &World, parts: &Parts) -> bool
     ensures { result ≡ list_all (is_booked format world.now) parts.now.books }
 {
@@ -154,7 +158,7 @@ fn are_booked(format: Format, world: &World, parts: &Parts) -> bool
         .all(|row| is_booked(format, world, row))
 }
 
-/// Whether the rows that say how much there is of a thing name units and markets that are there.
+/// Whether rows of `has` and `market` are of units that are there, and of the world's markets.
 fn are_goods_known(world: &World, parts: &Parts, campaign: &Campaign) -> bool
     ensures { IsTrue result ↔
         (IsTrue (list_all (is_of_unit campaign.now.value) parts.now.has)
@@ -163,6 +167,7 @@ fn are_goods_known(world: &World, parts: &Parts, campaign: &Campaign) -> bool
     are_of_units(parts, campaign) && are_of_markets(world, parts.markets.as_slice())
 }
 
+/// Whether rows keep rule 4. The campaign is the one that they say.
 fn keeps_known(world: &World, parts: &Parts, campaign: &Campaign) -> bool
     requires { campaign.now.value ≡ campaign_of world.now parts.now }
     ensures { IsTrue result ↔
@@ -173,14 +178,16 @@ fn keeps_known(world: &World, parts: &Parts, campaign: &Campaign) -> bool
     are_known(world, campaign) && are_goods_known(world, parts, campaign)
 }
 
+/// Whether rows keep rule 11, if they keep those before. The campaign is the one that they say.
 fn keeps_books(format: Format, world: &World, parts: &Parts, campaign: &Campaign) -> bool
     requires what { campaign.now.value ≡ campaign_of world.now parts.now }
-    requires before { KeepsBelow format world.now parts.now 11 }
-    ensures { IsTrue result ↔ (Keeps format world.now parts.now rule.Books) }
+    requires before { KeepsRulesBelow format world.now parts.now 11 }
+    ensures { IsTrue result ↔ (KeepsRule format world.now parts.now rule.Books) }
 {
     are_booked(format, world, parts) && are_balanced(world, campaign)
 }
 
+/// Whether rows keep rule 12. The campaign is the one that they say.
 fn keeps_mail(world: &World, parts: &Parts, campaign: &Campaign) -> bool
     requires { campaign.now.value ≡ campaign_of world.now parts.now }
     ensures { IsTrue result ↔
@@ -189,7 +196,7 @@ fn keeps_mail(world: &World, parts: &Parts, campaign: &Campaign) -> bool
     are_mailings(campaign) && are_reported(campaign)
 }
 
-/// What is there, and whose numbers and days are right.
+/// Checks rules 4 to 7: what is there, the next numbers, the days, and which factions are gone.
 fn check_places(
     world: &World,
     parts: &Parts,
@@ -197,7 +204,7 @@ fn check_places(
     campaign: &Campaign,
 ) -> Result<(), CheckFault>
     requires what { campaign.now.value ≡ campaign_of world.now parts.now }
-    requires before { KeepsBelow format world.now parts.now 4 }
+    requires before { KeepsRulesBelow format world.now parts.now 4 }
     ensures { Passes format world.now parts.now 8 result }
 {
     if !keeps_known(world, parts, campaign) {
@@ -215,7 +222,7 @@ fn check_places(
     Ok(())
 }
 
-/// Who owns and guards, what floats, what is booked and what is sent.
+/// Checks rules 8 to 12: owners, water, guards, books and mail.
 fn check_holders(
     world: &World,
     parts: &Parts,
@@ -223,7 +230,7 @@ fn check_holders(
     campaign: &Campaign,
 ) -> Result<(), CheckFault>
     requires what { campaign.now.value ≡ campaign_of world.now parts.now }
-    requires before { KeepsBelow format world.now parts.now 8 }
+    requires before { KeepsRulesBelow format world.now parts.now 8 }
     ensures { Passes format world.now parts.now 13 result }
 {
     if !are_owned(campaign) {
@@ -244,7 +251,7 @@ fn check_holders(
     Ok(())
 }
 
-/// The rules one after another.
+/// Checks the rules one after another, and makes the campaign of the rows.
 fn check_parts(
     alloc: Global,
     world: &World,
@@ -263,9 +270,11 @@ fn check_parts(
     Ok(campaign)
 }
 
-/// The campaign of these rows, each of which counts once, in any order, with nothing marked; it is good. Damaged tells the
-/// first rule that the rows break: the rows of a good campaign break none, in the first format where it has no stocks and no
-/// amounts under the entries of markets. See docs/FORMATS.md, "Rules of the tables".
+/// The campaign of these rows of a format, with nothing marked, or the first rule that they break.
+/// The rows may be in any order, each counts once, and the campaign is good. The rows of a good
+/// campaign break no rule, in the first format where it has no stocks and no amounts under the
+/// entries of markets.
+/// See docs/FORMATS.md, "Rules of the tables".
 pub fn check_as(
     alloc: Global,
     world: &World,

@@ -1,12 +1,12 @@
-//! A vector with free room at both ends: a gap is closed from its nearer end.
+//! A vector with free room at both ends: to insert or remove moves the nearer side only.
 ghost use Rattle.std.specs.Prelude.{◌≡◌, ◌+◌, ◌-◌, ◌<◌, ◌≤◌, ◌^◌, OnOk, OnErr, IfOk, [], length, drop};
 ghost use Rattle.std.specs.List.{insert, remove};
 
 use std::alloc::{AllocError, Global};
 use std::marker::Model;
 
-/// A list that stands behind free places, which are at most half of all. To put something in, or to take it out, takes the
-/// time in which what stands on the nearer side of it moves.
+/// A vector whose first `free` items are unused, at most half of all. The list is those after them.
+/// To insert or remove an item takes the time in which the items on its nearer side move.
 #[derive(Drop, Debug)]
 pub(crate) struct GapVec<T> {
     items: Vec<T>,
@@ -23,8 +23,8 @@ impl<T> Model for GapVec<T> {
     ghost invariant = { λ a. a.free + a.free ≤ length a.items.items };
 }
 
-/// Makes free places before a list that has none and is not empty, half as many as it has things and one. Tells how many.
-/// Without memory nothing changes.
+/// Adds unused items in front of a vector that has none and isn't empty; returns how many. They are
+/// half as many as its items, and one. Without memory nothing changes.
 fn make_room<T: Copy + Drop>(items: &mut Vec<T>) -> Result<usize, AllocError>
     requires { 0 < length items.old.items }
     ensures some { IfOk result (λ free. 0 < free) }
@@ -39,7 +39,8 @@ fn make_room<T: Copy + Drop>(items: &mut Vec<T>) -> Result<usize, AllocError>
     Ok(free)
 }
 
-/// Puts a thing at a place behind the free ones, of which it takes the last. What stands before that place moves.
+/// Inserts a thing at an index of the list, by moving the items before it one to the front. The
+/// last unused item is used for that.
 fn put_before<T: Copy + Drop>(items: &mut Vec<T>, free: usize, place: usize, thing: T)
     requires some { 0 < free }
     requires within { free + place ≤ length items.old.items }
@@ -52,8 +53,8 @@ fn put_before<T: Copy + Drop>(items: &mut Vec<T>, free: usize, place: usize, thi
     items[first + place] = thing;
 }
 
-/// Puts a thing at a place behind the free ones, and moves what stands on the nearer side of it. Tells how many are free then.
-/// Without memory nothing changes.
+/// Inserts a thing at an index of the list, and returns how many items are unused then. The items
+/// on the nearer side move. Without memory nothing changes.
 fn open<T: Copy + Drop>(
     items: &mut Vec<T>,
     free: usize,
@@ -76,8 +77,8 @@ fn open<T: Copy + Drop>(
     Ok(free - 1)
 }
 
-/// Takes out what stands at a place behind the free ones, and moves what stands on the nearer side of it. Tells how many
-/// are free then.
+/// Removes the thing at an index of the list, and returns how many items are unused then. The items
+/// on the nearer side move.
 fn close<T: Copy + Drop>(items: &mut Vec<T>, free: usize, place: usize) -> usize
     requires { free + place < length items.old.items }
     ensures part { drop result items.new.items ≡ remove (drop free items.old.items) place }
@@ -92,7 +93,8 @@ fn close<T: Copy + Drop>(items: &mut Vec<T>, free: usize, place: usize) -> usize
     free
 }
 
-/// Moves what stands behind the free places to the front, where more than half are free. Tells how many are free then.
+/// Moves the list to the front where more than half of the items are unused. Returns how many are
+/// unused then.
 fn compact<T: Copy + Drop>(items: &mut Vec<T>, free: usize) -> usize
     requires { free ≤ length items.old.items }
     ensures part { drop result items.new.items ≡ drop free items.old.items }
@@ -108,7 +110,7 @@ fn compact<T: Copy + Drop>(items: &mut Vec<T>, free: usize) -> usize
 }
 
 impl<T: Copy + Drop> GapVec<T> {
-    /// Nothing. It takes no memory.
+    /// An empty vector. It takes no memory.
     pub(crate) fn new(alloc: Global) -> Self
         ensures { result ≡ [] }
     {
@@ -118,7 +120,7 @@ impl<T: Copy + Drop> GapVec<T> {
         }
     }
 
-    /// Nothing, and room for so many things.
+    /// An empty vector with room for this many things.
     pub(crate) fn with_room(alloc: Global, room: usize) -> Result<Self, AllocError>
         ensures { IfOk result (λ shelf. shelf ≡ []) }
     {
@@ -128,7 +130,7 @@ impl<T: Copy + Drop> GapVec<T> {
         })
     }
 
-    /// Puts a thing at a place. Without memory nothing changes.
+    /// Inserts a thing at an index. Without memory nothing changes.
     pub(crate) fn insert(&mut self, place: usize, thing: T) -> Result<(), AllocError>
         requires { place ≤ length self.old }
         ensures ok { OnOk result (self.new ≡ insert self.old place thing) }
@@ -138,7 +140,7 @@ impl<T: Copy + Drop> GapVec<T> {
         Ok(())
     }
 
-    /// Takes out what stands at a place. It takes no memory.
+    /// Removes the thing at an index. It takes no memory.
     pub(crate) fn remove(&mut self, place: usize)
         requires { place < length self.old }
         ensures { self.new ≡ remove self.old place }

@@ -1,11 +1,11 @@
-//! An index: the slot of each number.
+//! An index: the slot of each number, in a sorted vector.
 ghost use Rattle.std.specs.Prelude.{◌≡◌, ◌<◌, ◌^◌, true, length, IfOk, IfErr, IfSome, OnOk, OnErr, None};
 ghost use Rattle.std.specs.Ordering.{nat_cmp};
 ghost use Rattle.std.specs.List.Sorted.{IsStrictlySortedBy};
 ghost use Rattle.std.specs.Slice.Iter.{iter_rest};
 ghost use Rattle.std.specs.FinMap as map;
 ghost use Rattle.atl_tables.specs.SortedNumbers.{IsAt, BelongsAt};
-ghost use Rattle.atl_state.specs.Index.{numbers_of, slots_of};
+ghost use Rattle.atl_state.specs.Index.{index_numbers, slots_of};
 
 use crate::gap_vec::GapVec;
 use std::alloc::{AllocError, Global};
@@ -19,10 +19,10 @@ pub(crate) struct IndexEntry {
     pub(crate) slot: usize,
 }
 
-/// The slots by their numbers. To find one takes a single search.
+/// A map from numbers to slots, as a vector of entries in the order of their numbers.
 #[derive(Drop)]
 pub(crate) struct Index {
-    // The numbers rise.
+    // Sorted by number, and no number twice.
     places: GapVec<IndexEntry>,
 }
 
@@ -32,7 +32,7 @@ impl Model for Index {
     ghost use Rattle.std.specs.List.Sorted.{IsStrictlySortedBy};
     ghost use Rattle.std.specs.Coded.{coded_ℕ};
     ghost use Rattle.std.specs.FinMap as map;
-    ghost use Rattle.atl_state.specs.Index.{numbers_of, slots_of};
+    ghost use Rattle.atl_state.specs.Index.{index_numbers, slots_of};
 
     ghost Value = { map.FinMap nat_cmp ℕ };
 
@@ -40,11 +40,11 @@ impl Model for Index {
 
     ghost view = { λ a. map.from_entries (slots_of a.places) };
 
-    ghost invariant = { λ a. IsStrictlySortedBy nat_cmp (numbers_of a.places) };
+    ghost invariant = { λ a. IsStrictlySortedBy nat_cmp (index_numbers a.places) };
 }
 
 impl Index {
-    /// An index of nothing. It takes no memory.
+    /// An empty index. It takes no memory.
     pub(crate) fn new(alloc: Global) -> Index
         ensures { result ≡ map.empty }
     {
@@ -53,7 +53,7 @@ impl Index {
         }
     }
 
-    /// An index of nothing, and room for so many numbers.
+    /// An empty index with room for this many numbers.
     pub(crate) fn with_room(alloc: Global, room: usize) -> Result<Index, AllocError>
         ensures { IfOk result (λ index. index ≡ map.empty) }
     {
@@ -62,7 +62,7 @@ impl Index {
         })
     }
 
-    /// The slot that a number leads to, where it leads to one.
+    /// The slot that a number leads to; None where it leads to none.
     pub(crate) fn get(&self, number: u32) -> Option<usize>
         ensures { result ≡ map.get self.now number }
     {
@@ -73,7 +73,7 @@ impl Index {
         }
     }
 
-    /// Leads a number to a slot that led to none. Without memory for it nothing changes.
+    /// Adds a number that isn't there yet, with its slot. Without memory for it nothing changes.
     pub(crate) fn insert(&mut self, number: u32, slot: usize) -> Result<(), AllocError>
         requires { map.get self.old number ≡ None }
         ensures ok { OnOk result (self.new ≡ map.insert self.old number slot) }
@@ -86,7 +86,7 @@ impl Index {
         Ok(())
     }
 
-    /// Leads a number to no slot any more, and says to which it led, where it led to one. It takes no memory.
+    /// Removes a number, and returns the slot that it led to, or None. It takes no memory.
     pub(crate) fn remove(&mut self, number: u32) -> Option<usize>
         ensures slot { result ≡ map.get self.old number }
         ensures taken { self.new ≡ map.remove self.old number }
@@ -102,7 +102,7 @@ impl Index {
         }
     }
 
-    /// How many numbers lead to a slot.
+    /// How many numbers there are.
     pub(crate) fn len(&self) -> usize
         ensures value { result ≡ map.len self.now }
         ensures small { result < 2 ^ 63 }
@@ -118,9 +118,10 @@ impl Index {
     }
 }
 
-/// The place of a number that comes so far behind the first as its place says, which it does where none between is missing.
+/// The index of a number's entry, if no number is missing between the first entry and it. So the
+/// index is the number less the first one.
 fn guess_position(places: &[IndexEntry], number: u32) -> Option<usize>
-    ensures { IfSome result (λ place. IsAt (numbers_of places.now) number place) }
+    ensures { IfSome result (λ place. IsAt (index_numbers places.now) number place) }
 {
     let first = places.first()?;
     let place = number.checked_sub(first.number)? as usize;
@@ -130,10 +131,10 @@ fn guess_position(places: &[IndexEntry], number: u32) -> Option<usize>
     }
 }
 
-/// Whether a number is above all of places whose numbers rise.
+/// Whether a number is above the numbers of all these sorted entries.
 fn is_above(places: &[IndexEntry], number: u32) -> bool
-    requires { IsStrictlySortedBy nat_cmp (numbers_of places.now) }
-    ensures { result ≡ true → BelongsAt (numbers_of places.now) number (length places.now) }
+    requires { IsStrictlySortedBy nat_cmp (index_numbers places.now) }
+    ensures { result ≡ true → BelongsAt (index_numbers places.now) number (length places.now) }
 {
     match places.last() {
         Some(last) => last.number < number,
@@ -141,12 +142,12 @@ fn is_above(places: &[IndexEntry], number: u32) -> bool
     }
 }
 
-/// Where a number stands in places whose numbers rise, or else where it belongs. It is searched for only where it is among
-/// them and some before it are missing.
+/// The index of a number's entry in sorted entries, or as Err the index where it belongs. It is
+/// searched for only where it is not above all, and some number before it is missing.
 fn position_of(places: &[IndexEntry], number: u32) -> Result<usize, usize>
-    requires { IsStrictlySortedBy nat_cmp (numbers_of places.now) }
-    ensures found { IfOk result (λ place. IsAt (numbers_of places.now) number place) }
-    ensures missing { IfErr result (λ place. BelongsAt (numbers_of places.now) number place) }
+    requires { IsStrictlySortedBy nat_cmp (index_numbers places.now) }
+    ensures found { IfOk result (λ place. IsAt (index_numbers places.now) number place) }
+    ensures missing { IfErr result (λ place. BelongsAt (index_numbers places.now) number place) }
 {
     if let Some(place) = guess_position(places, number) {
         return Ok(place);

@@ -1,7 +1,7 @@
 //! Sorted lists of units, one for each region, faction and structure.
 ghost use Rattle.std.specs.Prelude.{◌≡◌, OnOk, OnErr};
 ghost use Rattle.std.specs.FinMap as map;
-ghost use Rattle.atl_state.specs.Kept.{list_of, list_keys_of, listed_apart, unlisted_apart, relisted_inside, AreUnitLists, SameLists, ListsUnit, KeepsLists, KeepsAll, UnlistsUnit, RelistsUnit};
+ghost use Rattle.atl_state.specs.KeptLists.{list_of, list_keys_of, listed_apart, unlisted_apart, relisted_inside, AreUnitLists, SameLists, ListsUnit, KeepsLists, KeepsAll, UnlistsUnit, RelistsUnit};
 ghost use Rattle.atl_state.specs.Ordered.{put_number, take_number};
 
 use crate::numbers::Numbers;
@@ -9,8 +9,8 @@ use atl_records::Unit;
 use atl_tables::{Numbered, let_go};
 use std::alloc::{AllocError, Global};
 
-/// The numbers of the units of each region, of each faction and of each structure, in rising order. Under the structure 0
-/// stands nobody: units with that one are inside none.
+/// The numbers of the units of each region, each faction and each structure, in rising order.
+/// Structure 0 has no list: units with it are inside none.
 pub(crate) struct UnitLists {
     pub(crate) by_region: Numbered<Numbers>,
     pub(crate) by_faction: Numbered<Numbers>,
@@ -23,7 +23,7 @@ impl Drop for UnitLists {
     }
 }
 
-/// Where a unit is listed.
+/// The keys of the lists that a unit is in: its faction, region and structure.
 #[derive(Drop, Clone, Copy)]
 pub(crate) struct ListKeys {
     pub(crate) faction: u32,
@@ -31,6 +31,7 @@ pub(crate) struct ListKeys {
     pub(crate) structure: u32,
 }
 
+/// The keys of the lists that a unit is in.
 pub(crate) fn list_keys_of(unit: &Unit) -> ListKeys
     ensures { result ≡ list_keys_of unit.now }
 {
@@ -42,7 +43,7 @@ pub(crate) fn list_keys_of(unit: &Unit) -> ListKeys
 }
 
 impl UnitLists {
-    /// The lists of nobody.
+    /// No lists, as of no units.
     pub(crate) fn new(alloc: Global) -> UnitLists
         ensures { AreUnitLists map.empty result }
     {
@@ -53,7 +54,8 @@ impl UnitLists {
         }
     }
 
-    /// Lists a unit. Without memory for it nothing changes.
+    /// Adds a unit to the lists of its region, faction and structure. Without memory for it nothing
+    /// changes.
     pub(crate) fn add(
         &mut self,
         alloc: Global,
@@ -81,7 +83,7 @@ impl UnitLists {
         }
     }
 
-    /// Takes a unit off its lists. It takes no memory.
+    /// Removes a unit from its lists. It takes no memory.
     pub(crate) fn remove(&mut self, number: u32, listing: ListKeys)
         ensures { UnlistsUnit number listing self.old self.new }
     {
@@ -90,7 +92,8 @@ impl UnitLists {
         unlist_apart(&mut self.by_structure, number, listing.structure, 0);
     }
 
-    /// Lists a unit in another region and structure. Without memory for it nothing changes.
+    /// Moves a unit into the lists of another region and structure. Without memory for it nothing
+    /// changes.
     pub(crate) fn relist(
         &mut self,
         alloc: Global,
@@ -141,7 +144,7 @@ fn relist_inside(
     Ok(())
 }
 
-/// Puts a number into the list under a key, where that is another than a second one. Without memory for it nothing
+/// Puts a number into the list under `key`, unless `key` is `other`. Without memory for it nothing
 /// changes.
 fn list_apart(
     alloc: Global,
@@ -159,7 +162,7 @@ fn list_apart(
     list_number(alloc, lists, key, number)
 }
 
-/// Takes a number out of the list under a key, where that is another than a second one. It takes no memory.
+/// Takes a number out of the list under `key`, unless `key` is `other`. It takes no memory.
 fn unlist_apart(lists: &mut Numbered<Numbers>, number: u32, key: u32, other: u32)
     ensures { SameLists lists.new (unlisted_apart lists.old number key other) }
 {
@@ -199,7 +202,7 @@ pub(crate) fn unlist_number(lists: &mut Numbered<Numbers>, key: u32, number: u32
     }
 }
 
-/// The numbers in the list under a key.
+/// The numbers in the list under a key; none where there is no list.
 pub(crate) fn numbers_under(lists: &Numbered<Numbers>, key: u32) -> &[u32]
     ensures { result.now ≡ list_of lists.now key }
 {

@@ -6,6 +6,7 @@ use crate::gap_vec::GapVec;
 use std::alloc::{AllocError, Global};
 use std::marker::Model;
 
+/// A sorted list of numbers, in a vector with free room at both ends.
 #[derive(Drop, Debug)]
 pub(crate) struct Numbers {
     items: GapVec<u32>,
@@ -22,7 +23,7 @@ impl Model for Numbers {
     ghost invariant = { λ a. IsSorted a.items };
 }
 
-/// The place of the first number of a sorted list that is not below another.
+/// The index of the first number of a sorted list that is not below another; the length if none.
 fn first_above(items: &[u32], number: u32) -> usize
     requires { IsSorted items.now }
     ensures place { result ≡ first_above number items.now }
@@ -40,7 +41,7 @@ impl Numbers {
         }
     }
 
-    /// Puts a number at its place in a sorted list.
+    /// Inserts a number before the first one that is not below it. Without memory nothing changes.
     #[tactic(auto, unfolding(crate::specs::Ordered::put_number))]
     pub(crate) fn put(&mut self, number: u32) -> Result<(), AllocError>
         ensures ok { OnOk result (self.new ≡ put_number number self.old) }
@@ -51,7 +52,8 @@ impl Numbers {
         Ok(())
     }
 
-    /// Takes out what stands at a number's place. It takes no memory.
+    /// Removes the first number that is not below another: that one, where the list has it. It
+    /// takes no memory.
     #[tactic(auto, unfolding(crate::specs::Ordered::take_number))]
     pub(crate) fn take(&mut self, number: u32)
         ensures { self.new ≡ take_number number self.old }

@@ -1,13 +1,13 @@
-//! The parts of a campaign as tables hold them, whoever wrote them: rows of 64-bit numbers, texts and bytes. Nothing here
-//! is sure to keep a range or a rule; what each number has to be is said for rows that keep them. See docs/FORMATS.md,
-//! "Rules of the tables".
+//! The rows of a campaign's tables, whoever wrote them: 64-bit numbers, texts and bytes. They may
+//! break any range or rule; what is said of a number holds for rows that keep the rules.
+//! See docs/FORMATS.md, "Rules of the tables".
 
 use atl_tables::{Sequence, Text, let_go};
 
 /// The rows of a campaign's tables, in any order. See docs/FORMATS.md, "Tables".
 #[derive(Debug)]
 pub struct Parts {
-    /// The campaign's own row, of which there is one.
+    /// The campaign row, of which there is one.
     pub campaign: Sequence<StoredCampaignRow>,
     /// A row for each faction that ever joined.
     pub factions: Sequence<StoredFaction>,
@@ -35,7 +35,7 @@ impl Drop for Parts {
     }
 }
 
-/// The campaign's own row as it stands in its table, but for the world text.
+/// A row of the table `campaign`, but for the world text: the campaign row.
 #[derive(Debug)]
 pub struct StoredCampaignRow {
     /// Always 1.
@@ -60,7 +60,7 @@ impl Drop for StoredCampaignRow {
     }
 }
 
-/// A faction as it stands in its table.
+/// A row of the table `faction`.
 #[derive(Debug)]
 pub struct StoredFaction {
     /// From 1 to atl_orders' LAST_FACTION.
@@ -81,7 +81,7 @@ impl Drop for StoredFaction {
     }
 }
 
-/// A region as it stands in its table.
+/// A row of the table `region`.
 #[derive(Debug, Drop)]
 pub struct StoredRegion {
     /// The number that the world gives it.
@@ -92,7 +92,7 @@ pub struct StoredRegion {
     pub money: i64,
 }
 
-/// A unit as it stands in its table, but for its items and days of study, which are rows of their own.
+/// A row of the table `unit`; its items and days of study are rows of `has`.
 #[derive(Debug)]
 pub struct StoredUnit {
     /// From 1 to LAST_UNIT.
@@ -101,7 +101,7 @@ pub struct StoredUnit {
     pub faction: i64,
     /// The name that is shown.
     pub name: Sequence<u8>,
-    /// The number of the region where it stands.
+    /// The number of the region where it is.
     pub region: i64,
     /// The number of the structure that it is inside, or 0 where it is inside none.
     pub structure: i64,
@@ -119,16 +119,16 @@ impl Drop for StoredUnit {
     }
 }
 
-/// A structure as it stands in its table.
+/// A row of the table `structure`.
 #[derive(Debug)]
 pub struct StoredStructure {
     /// From 1 to MOST_STRUCTURES.
     pub number: i64,
-    /// The place of its kind in the list of the world's kinds.
+    /// The index of its kind in the list of the world's kinds, from 0.
     pub kind: i64,
     /// The name that is shown.
     pub name: Sequence<u8>,
-    /// The number of the region where it stands.
+    /// The number of the region where it is.
     pub region: i64,
     /// How much of it is built, from 1 to the size of its kind.
     pub done: i64,
@@ -142,7 +142,7 @@ impl Drop for StoredStructure {
     }
 }
 
-/// A faction's mail for the month to come as it stands in its table.
+/// A row of the table `mail`: a faction's mail for the month to come.
 #[derive(Debug)]
 pub struct StoredMail {
     /// The number of the faction that sent it.
@@ -157,7 +157,7 @@ impl Drop for StoredMail {
     }
 }
 
-/// A faction's last report as it stands in its table.
+/// A row of the table `report`: a faction's last report.
 #[derive(Debug)]
 pub struct StoredReport {
     /// The number of the faction whose report it is.
@@ -172,21 +172,21 @@ impl Drop for StoredReport {
     }
 }
 
-/// What a unit has of an item or a skill as it stands in its table.
+/// A row of the table `has`: what a unit has of an item or a skill.
 #[derive(Debug, Drop)]
 pub struct StoredHas {
     /// The unit's number.
     pub unit: i64,
     /// 0 of an item, 1 of a skill.
     pub sort: i64,
-    /// The place of the item, or of the skill, in the world's list of them.
+    /// The index of the item, or of the skill, in the world's list of them, from 0.
     pub thing: i64,
     /// How many pieces of the item, from 1 to HOLDING_LIMIT; or the days of the skill over all men, at least 1 and at most
     /// MOST_DAYS for each man.
     pub amount: i64,
 }
 
-/// What is booked of a thing under an entry as it stands in its table.
+/// A row of the table `books`: what is booked of a thing under an entry.
 #[derive(Debug, Drop)]
 pub struct StoredBooks {
     /// The entry's number, from 1 to ENTRY_COUNT. See docs/RULES.md, "Books".
@@ -197,12 +197,12 @@ pub struct StoredBooks {
     pub amount: i64,
 }
 
-/// The stock of a market as it stands in its table.
+/// A row of the table `market`: the stock of an item in a region.
 #[derive(Debug, Drop)]
 pub struct StoredMarket {
     /// The number of the region.
     pub region: i64,
-    /// The place of the item in the world's list of them.
+    /// The index of the item in the world's list of them, from 0.
     pub item: i64,
     /// How many pieces are in stock, from 1 to the market's limit.
     pub stock: i64,

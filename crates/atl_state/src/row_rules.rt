@@ -1,4 +1,5 @@
 //! Rules that are checked on rows, before a campaign is made of them.
+//! See docs/FORMATS.md, "Rules of the tables".
 mod head;
 mod keys;
 mod markets;

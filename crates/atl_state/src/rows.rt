@@ -1,11 +1,11 @@
-//! The rows of a campaign in a format.
+//! The rows of a campaign in a format. See docs/FORMATS.md, "Tables".
 ghost use Rattle.std.specs.Prelude.{◌≡◌, ◌≤◌, ◌<◌, ◌++◌, ◌∷◌, [], IfOk, OnOk};
 ghost use Rattle.std.specs.FinMap as map;
 ghost use Rattle.std.specs.List.{flat_map};
 ghost use Rattle.atl_tables.specs.declared.format.Format.TheVariants.{First, Second};
 ghost use Rattle.atl_records.specs.Limits.{possible_things};
 ghost use Rattle.atl_records.specs.Grids.{accounts_under};
-ghost use Rattle.atl_state.specs.Rows.{flag, rows_by, campaign_row, faction_row, region_row, unit_row, structure_row, mail_row, report_row, has_row, books_row, market_row, kind_rows, held_rows, has_rows, stock_rows, market_rows, rows_under, books_rows, rows_of};
+ghost use Rattle.atl_state.specs.Rows.{flag, rows_by, campaign_row, faction_row, region_row, unit_row, structure_row, mail_row, report_row, has_row, books_row, market_row, rows_of_sort, held_rows, has_rows, stock_rows, market_rows, rows_under, books_rows, rows_of};
 
 use crate::campaign::Campaign;
 use crate::parts::{
@@ -16,27 +16,30 @@ use atl_records::{Books, Entry, Faction, Holding, Structure, Thing, Unit};
 use atl_tables::{Entries, Format, Sequence, Text};
 use std::alloc::{AllocError, Global};
 
-/// The sort of a row that is of an item.
+/// The `sort` of a row of `has` for an item.
 pub(crate) const ITEM_SORT: u32 = 0;
 
-/// The sort of a row that is of a skill.
+/// The `sort` of a row of `has` for a skill.
 pub(crate) const SKILL_SORT: u32 = 1;
 
-/// The id of a campaign's own row.
+/// The id of the campaign row.
 const CAMPAIGN_ID: i64 = 1;
 
+/// A copy of the bytes of a text.
 fn bytes_of(alloc: Global, text: &Text) -> Result<Sequence<u8>, AllocError>
     ensures { IfOk result (λ bytes. bytes ≡ text.now) }
 {
     Sequence::from_slice(alloc, text.as_bytes())
 }
 
+/// A flag as the number of a row: 1 where it is set, else 0.
 fn flag(set: bool) -> i64
     ensures { result ≡ flag set }
 {
     if set { 1 } else { 0 }
 }
 
+/// The campaign row.
 fn campaign_row(
     alloc: Global,
     format: Format,
@@ -56,6 +59,7 @@ fn campaign_row(
     })
 }
 
+/// The row of a faction.
 fn faction_row(alloc: Global, number: u32, faction: &Faction) -> Result<StoredFaction, AllocError>
     ensures { IfOk result (λ row. row ≡ faction_row number faction.now) }
 {
@@ -71,6 +75,7 @@ fn faction_row(alloc: Global, number: u32, faction: &Faction) -> Result<StoredFa
     })
 }
 
+/// The row of a unit, without its items and days of study.
 fn unit_row(alloc: Global, number: u32, unit: &Unit) -> Result<StoredUnit, AllocError>
     ensures { IfOk result (λ row. row ≡ unit_row number unit.now) }
 {
@@ -87,6 +92,7 @@ fn unit_row(alloc: Global, number: u32, unit: &Unit) -> Result<StoredUnit, Alloc
     })
 }
 
+/// The row of a structure.
 fn structure_row(
     alloc: Global,
     number: u32,
@@ -105,6 +111,7 @@ fn structure_row(
     })
 }
 
+/// The rows of the table `campaign`: the campaign row alone.
 fn campaign_rows(
     alloc: Global,
     format: Format,
@@ -117,6 +124,7 @@ fn campaign_rows(
     Ok(rows)
 }
 
+/// A row for each faction, in the order of their numbers.
 fn faction_rows(alloc: Global, campaign: &Campaign) -> Result<Sequence<StoredFaction>, AllocError>
     ensures { IfOk result (λ rows. rows
         ≡ rows_by faction_row (map.entries campaign.now.value.factions)) }
@@ -128,6 +136,7 @@ fn faction_rows(alloc: Global, campaign: &Campaign) -> Result<Sequence<StoredFac
     Ok(rows)
 }
 
+/// A row for each region, in the order of their numbers.
 fn region_rows(alloc: Global, campaign: &Campaign) -> Result<Sequence<StoredRegion>, AllocError>
     ensures { IfOk result (λ rows. rows
         ≡ rows_by region_row (map.entries campaign.now.value.regions)) }
@@ -143,6 +152,7 @@ fn region_rows(alloc: Global, campaign: &Campaign) -> Result<Sequence<StoredRegi
     Ok(rows)
 }
 
+/// A row for each unit, in the order of their numbers.
 fn unit_rows(alloc: Global, campaign: &Campaign) -> Result<Sequence<StoredUnit>, AllocError>
     ensures { IfOk result (λ rows. rows ≡ rows_by unit_row (map.entries campaign.now.value.units)) }
 {
@@ -153,6 +163,7 @@ fn unit_rows(alloc: Global, campaign: &Campaign) -> Result<Sequence<StoredUnit>,
     Ok(rows)
 }
 
+/// A row for each structure, in the order of their numbers.
 fn structure_rows(
     alloc: Global,
     campaign: &Campaign,
@@ -167,6 +178,7 @@ fn structure_rows(
     Ok(rows)
 }
 
+/// A row for each mailing, in the order of their factions' numbers.
 fn mail_rows(alloc: Global, campaign: &Campaign) -> Result<Sequence<StoredMail>, AllocError>
     ensures { IfOk result (λ rows. rows ≡ rows_by mail_row (map.entries campaign.now.value.mail)) }
 {
@@ -179,6 +191,7 @@ fn mail_rows(alloc: Global, campaign: &Campaign) -> Result<Sequence<StoredMail>,
     Ok(rows)
 }
 
+/// A row for each report, in the order of their factions' numbers.
 fn report_rows(alloc: Global, campaign: &Campaign) -> Result<Sequence<StoredReport>, AllocError>
     ensures { IfOk result (λ rows. rows
         ≡ rows_by report_row (map.entries campaign.now.value.reports)) }
@@ -192,6 +205,7 @@ fn report_rows(alloc: Global, campaign: &Campaign) -> Result<Sequence<StoredRepo
     Ok(rows)
 }
 
+/// The row of one item, or of the days of one skill, of a unit.
 fn has_row(number: u32, sort: u32, thing: u32, amount: u32) -> StoredHas
     ensures { result ≡ has_row number sort thing amount }
 {
@@ -203,14 +217,14 @@ fn has_row(number: u32, sort: u32, thing: u32, amount: u32) -> StoredHas
     }
 }
 
-/// Adds what a unit has of a sort.
+/// Adds a row for each thing of one sort, items or skills, of which a unit has more than 0.
 fn add_kind(
     rows: &mut Sequence<StoredHas>,
     number: u32,
     sort: u32,
     things: Entries<'_, u32>,
 ) -> Result<(), AllocError>
-    ensures { OnOk result (rows.new ≡ rows.old ++ kind_rows number sort things.entry) }
+    ensures { OnOk result (rows.new ≡ rows.old ++ rows_of_sort number sort things.entry) }
 {
     for (thing, amount) in things {
         if *amount != 0 {
@@ -220,7 +234,7 @@ fn add_kind(
     Ok(())
 }
 
-/// Adds what a unit has.
+/// Adds the rows of a unit's items, and then of its days of study.
 fn add_held(
     rows: &mut Sequence<StoredHas>,
     number: u32,
@@ -232,6 +246,7 @@ fn add_held(
     add_kind(rows, number, SKILL_SORT, holding.days())
 }
 
+/// The rows of the items and days of study of all units.
 fn has_rows(alloc: Global, campaign: &Campaign) -> Result<Sequence<StoredHas>, AllocError>
     ensures { IfOk result (λ rows. rows ≡ has_rows (map.entries campaign.now.value.units)) }
 {
@@ -242,6 +257,7 @@ fn has_rows(alloc: Global, campaign: &Campaign) -> Result<Sequence<StoredHas>, A
     Ok(rows)
 }
 
+/// The row of the stock of an item in a region.
 fn market_row(region: u32, item: u32, stock: u32) -> StoredMarket
     ensures { result ≡ market_row region item stock }
 {
@@ -252,7 +268,7 @@ fn market_row(region: u32, item: u32, stock: u32) -> StoredMarket
     }
 }
 
-/// Adds the stocks of a region.
+/// Adds a row for each stock of a region that is not 0.
 fn add_stocks(
     rows: &mut Sequence<StoredMarket>,
     region: u32,
@@ -268,7 +284,7 @@ fn add_stocks(
     Ok(())
 }
 
-/// The stocks of all regions.
+/// The rows of the stocks of all regions.
 fn stocks_rows(alloc: Global, campaign: &Campaign) -> Result<Sequence<StoredMarket>, AllocError>
     ensures { IfOk result (λ rows. rows
         ≡ market_rows Second (map.entries campaign.now.value.regions)) }
@@ -280,6 +296,7 @@ fn stocks_rows(alloc: Global, campaign: &Campaign) -> Result<Sequence<StoredMark
     Ok(rows)
 }
 
+/// The rows of the table `market`: the stocks of all regions, and none in the first format.
 fn market_rows(
     alloc: Global,
     format: Format,
@@ -294,6 +311,7 @@ fn market_rows(
     }
 }
 
+/// The row of what is booked of a thing under an entry.
 fn books_row(entry: Entry, thing: Thing, amount: i64) -> StoredBooks
     ensures { result ≡ books_row entry thing amount }
 {
@@ -304,7 +322,7 @@ fn books_row(entry: Entry, thing: Thing, amount: i64) -> StoredBooks
     }
 }
 
-/// Adds the amounts of an entry, for so many things.
+/// Adds a row for each amount of an entry that is not 0. `things` is how many things are booked.
 fn add_entry(
     rows: &mut Sequence<StoredBooks>,
     books: &Books,
@@ -326,7 +344,7 @@ fn add_entry(
     Ok(())
 }
 
-/// Adds the amounts of these entries, one entry after another.
+/// Adds a row for each amount of these entries that is not 0, one entry after another.
 fn add_entries(
     rows: &mut Sequence<StoredBooks>,
     books: &Books,
@@ -344,6 +362,7 @@ fn add_entries(
     Ok(())
 }
 
+/// A row for each amount of the books that is not 0.
 fn books_rows(alloc: Global, books: &Books) -> Result<Sequence<StoredBooks>, AllocError>
     ensures { IfOk result (λ rows. rows ≡ books_rows books.now) }
 {
@@ -354,14 +373,16 @@ fn books_rows(alloc: Global, books: &Books) -> Result<Sequence<StoredBooks>, All
 }
 
 impl Campaign {
-    /// The rows that stand for the campaign in the second format. See docs/FORMATS.md, "Tables".
+    /// The rows of the campaign in the second format, in the order of their keys. See
+    /// docs/FORMATS.md, "Tables".
     pub fn parts(&self) -> Result<Parts, AllocError>
         ensures { IfOk result (λ parts. parts ≡ rows_of Second self.now.value) }
     {
         self.parts_as(Format::Second)
     }
 
-    /// The rows that stand for the campaign in a format, in the order of their keys. See docs/FORMATS.md, "Tables".
+    /// The rows of the campaign in a format, in the order of their keys. See docs/FORMATS.md,
+    /// "Tables".
     #[tactic(auto, unfolding(crate::specs::Rows::rows_of))]
     pub fn parts_as(&self, format: Format) -> Result<Parts, AllocError>
         ensures { IfOk result (λ parts. parts ≡ rows_of format self.now.value) }

@@ -1,5 +1,6 @@
-//! Whether a campaign keeps the rules of the tables, each rule by a function of its own. None of them changes anything. See
-//! docs/RULES.md.
+//! Whether a campaign keeps rules 4 to 12 of the tables, each rule by a function of its own. None
+//! of them changes anything.
+//! See docs/FORMATS.md, "Rules of the tables".
 mod balances;
 mod days;
 mod gone;

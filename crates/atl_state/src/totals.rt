@@ -1,4 +1,4 @@
-//! Sums over all units and regions.
+//! How much all units hold together, and how much all regions do.
 ghost use Rattle.std.specs.Prelude.{◌≡◌, ◌≤◌, ◌*◌, length};
 ghost use Rattle.std.specs.FinMap as map;
 ghost use Rattle.atl_tables.specs.Sums.{sum_over};
@@ -9,7 +9,7 @@ use crate::regions::Regions;
 use crate::units::Units;
 use atl_records::{Thing, region_amount, unit_amount};
 
-/// What the units hold of a thing.
+/// How much of a thing all units hold together.
 pub(crate) fn units_total(units: &Units, thing: Thing) -> u64
     requires { length (map.entries units.now.values) ≤ 1000000 }
     ensures value { result ≡ sum_over (λ u. unit_amount thing u.holding) units.now.values }
@@ -23,7 +23,7 @@ pub(crate) fn units_total(units: &Units, thing: Thing) -> u64
     sum
 }
 
-/// What the regions hold of a thing.
+/// How much of a thing all regions hold together, with their stocks.
 pub(crate) fn regions_total(regions: &Regions, thing: Thing) -> u64
     requires { length (map.entries regions.now.values) ≤ 1000000 }
     ensures value { result ≡ sum_over (λ r. region_amount thing r) regions.now.values }

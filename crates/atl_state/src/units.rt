@@ -6,7 +6,7 @@ ghost use Rattle.atl_tables.specs.Tracking.{Lists};
 ghost use Rattle.atl_records.specs.Limits.{holding_limit, men_limit, most_numbered};
 ghost use Rattle.atl_records.specs.Holdings.{with_amount_of};
 ghost use Rattle.atl_state.specs.Marks.{AreWithin};
-ghost use Rattle.atl_state.specs.Roster.{no_units, unmarked_units, with_unit_at, with_row, with_item_at, with_skill_at, without_unit_at, item_marked_at, skill_marked_at};
+ghost use Rattle.atl_state.specs.Roster.{no_units, unmarked_units, with_unit_at, with_unit_row, with_item_at, with_skill_at, without_unit_at, item_marked_at, skill_marked_at};
 
 use crate::arena::{Arena, SlotEntries};
 use atl_records::Unit;
@@ -14,12 +14,12 @@ use atl_tables::{Entries, MarkedNumbers, Marks, Numbered, Text, let_go};
 use std::alloc::{AllocError, Global};
 use std::marker::Model;
 
-/// The units by their numbers. Of each its row, all of its goods, or single items and skills can be marked; the unit is then
-/// marked itself.
+/// The units by number, with marks on units, rows, goods, and single items and skills. A unit of
+/// which a part is marked is marked itself.
 pub(crate) struct Units {
     units: Arena<Unit>,
-    // The units of which something is marked, those whose rows are, and those all of whose goods are, each with room for
-    // every unit.
+    // The units of which something is marked, those whose rows are, and those all of whose goods
+    // are, each with room for every unit.
     marks: Marks,
     rows: Marks,
     goods: Marks,
@@ -82,6 +82,7 @@ impl Units {
         })
     }
 
+    /// The unit of a number, where there is one.
     pub(crate) fn get(&self, number: u32) -> Option<&Unit>
         ensures { option_copied result ≡ map.get self.now.values number }
     {
@@ -118,14 +119,14 @@ impl Units {
         self.marks.iter()
     }
 
-    /// The numbers whose rows are marked, in rising order.
+    /// The numbers of the units whose rows are marked, in rising order.
     pub(crate) fn marked_rows(&self) -> MarkedNumbers<'_>
         ensures { Lists self.now.rows result }
     {
         self.rows.iter()
     }
 
-    /// The numbers whose goods are all marked, in rising order.
+    /// The numbers of the units all of whose goods are marked, in rising order.
     pub(crate) fn marked_goods(&self) -> MarkedNumbers<'_>
         ensures { Lists self.now.goods result }
     {
@@ -146,7 +147,7 @@ impl Units {
         self.skills.iter()
     }
 
-    /// Lends a unit, and marks its row and all its goods. It takes no memory.
+    /// Lends a unit, and marks it, its row and all its goods. It takes no memory.
     pub(crate) fn get_mut(&mut self, number: u32) -> Option<&mut Unit>
         ensures* writes_back { sem 𝓛 (LendsUnit self.entry number result) }
         ensures value { option_copied_mut result ≡ map.get self.old.values number }
@@ -164,7 +165,7 @@ impl Units {
         }
     }
 
-    /// Lends a unit, and marks its row. It takes no memory.
+    /// Lends a unit, and marks it and its row. It takes no memory.
     fn row_mut(&mut self, number: u32) -> Option<&mut Unit>
         ensures* writes_back { sem 𝓛 (LendsRow self.entry number result) }
         ensures value { option_copied_mut result ≡ map.get self.old.values number }
@@ -183,8 +184,8 @@ impl Units {
 
     /// Sets a unit's name, and marks its row. It takes no memory.
     pub(crate) fn set_name(&mut self, number: u32, name: Text)
-        ensures { self.new ≡ with_row (λ u. record u { holding = record u.holding { name = name } })
-            self.old number }
+        ensures { self.new ≡ with_unit_row
+            (λ u. record u { holding = record u.holding { name = name } }) self.old number }
     {
         if let Some(unit) = self.row_mut(number) {
             unit.holding.set_name(name);
@@ -194,8 +195,8 @@ impl Units {
     /// Sets how many men a unit has, at most 999,999, and marks its row. It takes no memory.
     pub(crate) fn set_men(&mut self, number: u32, men: u32)
         requires { men ≤ men_limit }
-        ensures { self.new ≡ with_row (λ u. record u { holding = record u.holding { men = men } })
-            self.old number }
+        ensures { self.new ≡ with_unit_row
+            (λ u. record u { holding = record u.holding { men = men } }) self.old number }
     {
         if let Some(unit) = self.row_mut(number) {
             unit.holding.set_men(men);
@@ -205,7 +206,7 @@ impl Units {
     /// Sets a unit's money, at most 999,999,999, and marks its row. It takes no memory.
     pub(crate) fn set_money(&mut self, number: u32, money: u32)
         requires { money ≤ holding_limit }
-        ensures { self.new ≡ with_row
+        ensures { self.new ≡ with_unit_row
             (λ u. record u { holding = record u.holding { money = money } }) self.old number }
     {
         if let Some(unit) = self.row_mut(number) {
@@ -215,7 +216,7 @@ impl Units {
 
     /// Sets or clears a unit's guard flag, and marks its row. It takes no memory.
     pub(crate) fn set_guard(&mut self, number: u32, guard: bool)
-        ensures { self.new ≡ with_row
+        ensures { self.new ≡ with_unit_row
             (λ u. record u { holding = record u.holding { guard = guard } }) self.old number }
     {
         if let Some(unit) = self.row_mut(number) {
@@ -225,8 +226,8 @@ impl Units {
 
     /// Puts a unit in a region and a structure, and marks its row. It takes no memory.
     pub(crate) fn set_place(&mut self, number: u32, region: u32, structure: u32)
-        ensures { self.new ≡ with_row (λ u. record u { region = region; structure = structure })
-            self.old number }
+        ensures { self.new ≡ with_unit_row
+            (λ u. record u { region = region; structure = structure }) self.old number }
     {
         if let Some(unit) = self.row_mut(number) {
             unit.region = region;
@@ -234,8 +235,8 @@ impl Units {
         }
     }
 
-    /// Sets how many pieces of an item a unit has, at most 999,999,999, and marks that item of it alone. Without memory the
-    /// units are as they were, but for that mark.
+    /// Sets how many pieces of an item a unit has, at most 999,999,999, and marks that item. Its
+    /// row isn't marked. Without memory the units are as they were, but for that mark.
     pub(crate) fn set_item(
         &mut self,
         alloc: Global,
@@ -261,8 +262,8 @@ impl Units {
         unit.holding.set_amount(item, amount)
     }
 
-    /// Sets a unit's days of a skill over all men, and marks that skill of it alone. Without memory the units are as they were,
-    /// but for that mark.
+    /// Sets a unit's days of a skill over all men, and marks that skill. Its row isn't marked.
+    /// Without memory the units are as they were, but for that mark.
     pub(crate) fn set_days(
         &mut self,
         alloc: Global,
@@ -287,7 +288,8 @@ impl Units {
         unit.holding.set_days(skill, days)
     }
 
-    /// Puts a unit under a number that has none, and marks its row and all its goods. Without memory for it nothing changes.
+    /// Puts a unit under a number that has none, and marks its row and all its goods. Without
+    /// memory for it nothing changes.
     pub(crate) fn insert(&mut self, number: u32, unit: Unit) -> Result<(), AllocError>
         requires { map.get self.old.values number ≡ None }
         ensures ok { OnOk result (self.new ≡ with_unit_at self.old number unit) }
@@ -304,7 +306,7 @@ impl Units {
         Ok(())
     }
 
-    /// Takes a unit out, where there is one, and marks its row and all its goods. It takes no memory.
+    /// Removes a unit, where there is one, and marks its row and all its goods. It takes no memory.
     pub(crate) fn remove(&mut self, number: u32)
         ensures { self.new ≡ without_unit_at self.old number }
     {
@@ -315,7 +317,7 @@ impl Units {
         }
     }
 
-    /// Leaves nothing marked. It takes no memory.
+    /// Clears all marks. It takes no memory.
     pub(crate) fn unmark(&mut self)
         ensures { self.new ≡ unmarked_units self.old.values }
     {

@@ -124,21 +124,21 @@ module _ {R : Type 0} (amount : R → ℤ) (row : ℕ → ℕ → R) (is : (thin
 
 -- ---- what units have
 
-sort_made : (n sort : ℕ) (es : List (ℕ × ℕ)) (s : StoredHas) → Has (made.kind_rows n sort es) s → (e : ℕ × ℕ) × Has es e × (e.1 ≢ 0) × (s ≡ made.has_row n sort e.0 e.1)
+sort_made : (n sort : ℕ) (es : List (ℕ × ℕ)) (s : StoredHas) → Has (made.rows_of_sort n sort es) s → (e : ℕ × ℕ) × Has es e × (e.1 ≢ 0) × (s ≡ made.has_row n sort e.0 e.1)
 sort_made n sort = amount_made (λ (r : StoredHas). r.amount) (made.has_row n sort) (λ thing count. refl)
 
-made_sort : (n sort : ℕ) (es : List (ℕ × ℕ)) (thing amount : ℕ) → Has es (thing, amount) → amount ≢ 0 → Has (made.kind_rows n sort es) (made.has_row n sort thing amount)
+made_sort : (n sort : ℕ) (es : List (ℕ × ℕ)) (thing amount : ℕ) → Has es (thing, amount) → amount ≢ 0 → Has (made.rows_of_sort n sort es) (made.has_row n sort thing amount)
 made_sort n sort = made_amount (λ (r : StoredHas). r.amount) (made.has_row n sort) (λ thing count. refl)
 
 goods_made : (n : ℕ) (held : HoldingValue) (s : StoredHas) → Has (made.held_rows n held) s → (sort : ThingKind) × (e : ℕ × ℕ) × Has (entries (things_of sort held)) e × (e.1 ≢ 0) × (s ≡ made.has_row n (sort_number sort) e.0 e.1)
-goods_made n held s there = elim (has_either (made.kind_rows n 0 (entries held.items)) (made.kind_rows n 1 (entries held.days)) s there) [
+goods_made n held s there = elim (has_either (made.rows_of_sort n 0 (entries held.items)) (made.rows_of_sort n 1 (entries held.days)) s there) [
   | inl item ↦ let e = sort_made n 0 (entries held.items) s item in (Item, e.0, e.1, e.2, e.3)
   | inr skill ↦ let e = sort_made n 1 (entries held.days) s skill in (Skill, e.0, e.1, e.2, e.3)
 ]
 
 made_goods : (n : ℕ) (held : HoldingValue) (sort : ThingKind) (thing amount : ℕ) → Has (entries (things_of sort held)) (thing, amount) → amount ≢ 0 → Has (made.held_rows n held) (made.has_row n (sort_number sort) thing amount)
-made_goods n held Item thing amount there some = has_left (made.kind_rows n 0 (entries held.items)) (made.kind_rows n 1 (entries held.days)) _ (made_sort n 0 (entries held.items) thing amount there some)
-made_goods n held Skill thing amount there some = has_right (made.kind_rows n 0 (entries held.items)) (made.kind_rows n 1 (entries held.days)) _ (made_sort n 1 (entries held.days) thing amount there some)
+made_goods n held Item thing amount there some = has_left (made.rows_of_sort n 0 (entries held.items)) (made.rows_of_sort n 1 (entries held.days)) _ (made_sort n 0 (entries held.items) thing amount there some)
+made_goods n held Skill thing amount there some = has_right (made.rows_of_sort n 0 (entries held.items)) (made.rows_of_sort n 1 (entries held.days)) _ (made_sort n 1 (entries held.days) thing amount there some)
 
 row_of_goods : (units : FinMap nat_cmp Unit) (r : Row) (n : ℕ) (unit : Unit) → Has (entries units) (n, unit) → (a : StoredHas) → r ≡ has_values a → (sort : ThingKind) (e : ℕ × ℕ) → Has (entries (things_of sort unit.holding)) e → e.1 ≢ 0 → a ≡ made.has_row n (sort_number sort) e.0 e.1 → HasRowsOf units r
 row_of_goods units r n unit there a is sort e has some made_is = (n, unit, entry_got units n unit there, sort, e.0, e.1, entry_got (things_of sort unit.holding) e.0 e.1 has, some, is ∙ ap has_values made_is)

@@ -1,7 +1,7 @@
 //! Builds the books from their rows.
 ghost use Rattle.std.specs.Prelude.{◌≡◌, ◌≤◌, IfOk};
 ghost use Rattle.atl_records.specs.Limits.{possible_things};
-ghost use Rattle.atl_state.specs.FromRows.{with_row, put_amounts};
+ghost use Rattle.atl_state.specs.FromRows.{with_books_row, put_amounts};
 ghost use Rattle.atl_records.specs.Books.{no_amounts};
 
 use crate::parts::StoredBooks;
@@ -9,9 +9,9 @@ use crate::row_rules::as_u32;
 use atl_records::{Books, Entry, Thing};
 use std::alloc::{AllocError, Global};
 
-/// Puts the amount of a row, where there is such an entry and such a thing.
+/// Sets an amount of the books to that of a row, where its entry and its thing are there.
 fn put_row(books: &mut Books, row: &StoredBooks)
-    ensures { books.new ≡ with_row books.old row.now }
+    ensures { books.new ≡ with_books_row books.old row.now }
 {
     let Some(entry) = Entry::of_number(as_u32(row.entry)) else {
         return;
@@ -22,7 +22,7 @@ fn put_row(books: &mut Books, row: &StoredBooks)
     }
 }
 
-/// The books of rows, for so many things.
+/// The books of rows, for this many things.
 pub(crate) fn books_of(
     alloc: Global,
     things: usize,

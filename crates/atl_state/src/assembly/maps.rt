@@ -18,7 +18,7 @@ use atl_records::{Faction, Region, Structure};
 use atl_tables::{MarkedMap, Numbered, Sequence, Text};
 use std::alloc::{AllocError, Global};
 
-/// The factions of rows with good names.
+/// The factions of rows whose names and pass texts keep their rules, by number.
 pub(crate) fn factions_of(
     alloc: Global,
     rows: &[StoredFaction],
@@ -35,6 +35,7 @@ pub(crate) fn factions_of(
     Ok(factions)
 }
 
+/// The regions of rows by number, with nothing in stock.
 fn bare_regions(alloc: Global, rows: &[StoredRegion]) -> Result<Numbered<Region>, AllocError>
     ensures { IfOk result (λ regions. regions
         ≡ by_number (λ r. as_u32 r.number) bare_region rows.now) }
@@ -46,7 +47,7 @@ fn bare_regions(alloc: Global, rows: &[StoredRegion]) -> Result<Numbered<Region>
     Ok(regions)
 }
 
-/// The regions of rows, with what they have in stock.
+/// The regions of rows by number, with what the rows of markets have in stock there.
 pub(crate) fn regions_of(
     alloc: Global,
     rows: &[StoredRegion],
@@ -60,7 +61,7 @@ pub(crate) fn regions_of(
     Ok(regions)
 }
 
-/// The structures of rows with good names.
+/// The structures of rows whose names keep the name rule, by number.
 pub(crate) fn structures_of(
     alloc: Global,
     rows: &[StoredStructure],
@@ -77,7 +78,7 @@ pub(crate) fn structures_of(
     Ok(structures)
 }
 
-/// The mail of rows.
+/// The mail of rows, by the factions' numbers.
 pub(crate) fn mail_of(
     alloc: Global,
     rows: &[StoredMail],
@@ -93,7 +94,7 @@ pub(crate) fn mail_of(
     Ok(mail)
 }
 
-/// The reports of rows.
+/// The reports of rows, by the factions' numbers.
 pub(crate) fn reports_of(alloc: Global, rows: &[StoredReport]) -> Result<Numbered<Text>, AllocError>
     ensures { IfOk result (λ reports. reports
         ≡ by_number (λ r. as_u32 r.faction) (λ r. r.text) rows.now) }
@@ -106,7 +107,7 @@ pub(crate) fn reports_of(alloc: Global, rows: &[StoredReport]) -> Result<Numbere
     Ok(reports)
 }
 
-/// The maps of a campaign but for its units, with nothing marked.
+/// The maps of a campaign that rows say, but for its units; nothing in them is marked.
 pub(crate) struct CampaignMaps {
     pub(crate) factions: MarkedMap<Faction>,
     pub(crate) regions: Regions,
@@ -115,6 +116,7 @@ pub(crate) struct CampaignMaps {
     pub(crate) reports: MarkedMap<Text>,
 }
 
+/// The factions of rows, with nothing marked; names and pass texts keep their rules.
 fn marked_map_of_factions(
     alloc: Global,
     rows: &[StoredFaction],
@@ -127,7 +129,8 @@ fn marked_map_of_factions(
     MarkedMap::of(alloc, factions)
 }
 
-fn marked_regions(
+/// The regions of rows with their stocks, and nothing marked.
+fn unmarked_regions(
     alloc: Global,
     rows: &[StoredRegion],
     markets: &[StoredMarket],
@@ -139,6 +142,7 @@ fn marked_regions(
     Regions::of(alloc, regions)
 }
 
+/// The structures of rows, with nothing marked; their names keep the name rule.
 fn marked_map_of_structures(
     alloc: Global,
     rows: &[StoredStructure],
@@ -151,6 +155,7 @@ fn marked_map_of_structures(
     MarkedMap::of(alloc, structures)
 }
 
+/// The mail of rows, with nothing marked.
 fn marked_map_of_mail(
     alloc: Global,
     rows: &[StoredMail],
@@ -162,6 +167,7 @@ fn marked_map_of_mail(
     MarkedMap::of(alloc, mail)
 }
 
+/// The reports of rows, with nothing marked.
 fn marked_map_of_reports(
     alloc: Global,
     rows: &[StoredReport],
@@ -173,14 +179,15 @@ fn marked_map_of_reports(
     MarkedMap::of(alloc, reports)
 }
 
-/// The maps but for the units, of rows with good names.
+/// The maps of the campaign that rows say, but for its units, with nothing marked. Names and pass
+/// texts keep their rules.
 pub(crate) fn campaign_maps_of(alloc: Global, parts: &Parts) -> Result<CampaignMaps, AllocError>
     requires factions { list_all faction_named parts.now.factions ≡ true }
     requires structures { list_all (λ r. name_ok r.name) parts.now.structures ≡ true }
     ensures { IfOk result (λ tables. tables ≡ campaign_maps_of parts.now) }
 {
     let factions = marked_map_of_factions(alloc, parts.factions.as_slice())?;
-    let regions = marked_regions(alloc, parts.regions.as_slice(), parts.markets.as_slice())?;
+    let regions = unmarked_regions(alloc, parts.regions.as_slice(), parts.markets.as_slice())?;
     let structures = marked_map_of_structures(alloc, parts.structures.as_slice())?;
     let mail = marked_map_of_mail(alloc, parts.mail.as_slice())?;
     let reports = marked_map_of_reports(alloc, parts.reports.as_slice())?;

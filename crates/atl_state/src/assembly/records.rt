@@ -1,4 +1,4 @@
-//! The factions, regions and structures of single rows.
+//! Builds one faction, region or structure, and one name or pass text, from a row.
 ghost use Rattle.std.specs.Prelude.{◌≡◌, IfOk, true};
 ghost use Rattle.atl_tables.specs.Names.{name_ok, pass_ok};
 ghost use Rattle.atl_state.specs.Assembling.{bare_region};
@@ -11,6 +11,7 @@ use atl_records::{Faction, Region, Structure};
 use atl_tables::{Numbered, Sequence, Text};
 use std::alloc::{AllocError, Global};
 
+/// The text of a name's bytes, which keep the name rule.
 pub(super) fn name_of(alloc: Global, bytes: &Sequence<u8>) -> Result<Text, AllocError>
     requires { name_ok bytes.now ≡ true }
     ensures { IfOk result (λ name. name ≡ bytes.now) }
@@ -18,7 +19,7 @@ pub(super) fn name_of(alloc: Global, bytes: &Sequence<u8>) -> Result<Text, Alloc
     Text::from_utf8(alloc, bytes.as_slice())
 }
 
-/// A pass text.
+/// The text of a pass text's bytes, which keep the rule of pass texts.
 pub(crate) fn pass_of(alloc: Global, bytes: &Sequence<u8>) -> Result<Text, AllocError>
     requires { pass_ok bytes.now ≡ true }
     ensures { IfOk result (λ pass. pass ≡ bytes.now) }
@@ -26,6 +27,7 @@ pub(crate) fn pass_of(alloc: Global, bytes: &Sequence<u8>) -> Result<Text, Alloc
     Text::from_utf8(alloc, bytes.as_slice())
 }
 
+/// The faction of a row whose names and pass text keep their rules.
 pub(super) fn faction_of(alloc: Global, row: &StoredFaction) -> Result<Faction, AllocError>
     requires { faction_named row.now ≡ true }
     ensures { IfOk result (λ faction. faction ≡ faction_of row.now) }
@@ -53,6 +55,7 @@ pub(super) fn bare_region(alloc: Global, row: &StoredRegion) -> Region
     }
 }
 
+/// The structure of a row whose name keeps the name rule.
 pub(super) fn structure_of(alloc: Global, row: &StoredStructure) -> Result<Structure, AllocError>
     requires { name_ok row.now.name ≡ true }
     ensures { IfOk result (λ structure. structure ≡ structure_of row.now) }

@@ -2,7 +2,7 @@
 ghost use Rattle.std.specs.Prelude.{◌≡◌, IfOk, true};
 ghost use Rattle.std.specs.List.{list_all};
 ghost use Rattle.atl_tables.specs.Names.{name_ok};
-ghost use Rattle.atl_state.specs.Kept.{AreUnitLists};
+ghost use Rattle.atl_state.specs.KeptLists.{AreUnitLists};
 ghost use Rattle.atl_state.specs.Assembling.{bare_unit};
 ghost use Rattle.atl_state.specs.FromRows.{as_u32, by_number, unit_of};
 ghost use Rattle.atl_state.specs.Roster.{unmarked_units};
@@ -19,7 +19,7 @@ use atl_records::{Holding, Unit};
 use atl_tables::Numbered;
 use std::alloc::{AllocError, Global};
 
-/// The unit of a row, with nothing.
+/// The unit of a row, without items and days of study.
 fn bare_unit(alloc: Global, row: &StoredUnit) -> Result<Unit, AllocError>
     requires named { name_ok row.now.name ≡ true }
     requires range { unit_in_range row.now ≡ true }
@@ -38,6 +38,7 @@ fn bare_unit(alloc: Global, row: &StoredUnit) -> Result<Unit, AllocError>
     })
 }
 
+/// The units of rows by number, without items and days of study.
 fn bare_units(alloc: Global, rows: &[StoredUnit]) -> Result<Arena<Unit>, AllocError>
     requires named { list_all (λ r. name_ok r.name) rows.now ≡ true }
     requires range { list_all unit_in_range rows.now ≡ true }
@@ -51,7 +52,8 @@ fn bare_units(alloc: Global, rows: &[StoredUnit]) -> Result<Arena<Unit>, AllocEr
     Ok(units)
 }
 
-/// The units of rows with good names and numbers in their ranges, with what they have.
+/// The units of rows by number, with what the rows of `has` give to them. Names keep the name rule,
+/// and numbers are in their ranges.
 pub(crate) fn units_of(
     alloc: Global,
     rows: &[StoredUnit],
@@ -68,7 +70,8 @@ pub(crate) fn units_of(
     Ok(units)
 }
 
-/// The units of rows with good names and numbers in their ranges, with nothing marked.
+/// The units of rows with their items and days of study, and nothing marked. Names keep the name
+/// rule, and numbers are in their ranges.
 pub(crate) fn roster_of(alloc: Global, parts: &Parts) -> Result<Units, AllocError>
     requires named { list_all (λ r. name_ok r.name) parts.now.units ≡ true }
     requires range { list_all unit_in_range parts.now.units ≡ true }
@@ -81,7 +84,7 @@ pub(crate) fn roster_of(alloc: Global, parts: &Parts) -> Result<Units, AllocErro
     Units::of(alloc, units)
 }
 
-/// The lists of units.
+/// The lists of these units by region, faction and structure.
 pub(crate) fn lists_of(alloc: Global, units: &Units) -> Result<UnitLists, AllocError>
     ensures { IfOk result (λ lists. AreUnitLists units.now.values lists) }
 {

@@ -1,4 +1,4 @@
-//! Makes a campaign of checked rows.
+//! Builds a campaign from rows that keep the rules on the campaign row, ranges and names.
 ghost use Rattle.std.specs.Prelude.{◌≡◌, IfOk, length, true};
 ghost use Rattle.atl_tables.specs.Worlds.{IsWorld};
 ghost use Rattle.atl_state.specs.FromRows.{campaign_of};
@@ -13,7 +13,7 @@ use atl_records::{ENTRY_COUNT, FIRST_ITEM};
 use atl_tables::{Marks, World};
 use std::alloc::{AllocError, Global};
 
-/// The campaign that rows say, with nothing marked.
+/// The campaign that rows say, with nothing marked. AllocError without memory.
 #[tactic(auto, unfolding(crate::specs::FromRows::campaign_of))]
 pub(crate) fn assemble(alloc: Global, world: &World, parts: &Parts) -> Result<Campaign, AllocError>
     requires one { length parts.now.campaign ≡ 1 }

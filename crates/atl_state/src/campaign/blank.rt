@@ -1,4 +1,4 @@
-//! An empty campaign.
+//! An empty campaign, without factions, regions and units.
 ghost use Rattle.std.specs.Prelude.{◌≡◌};
 ghost use Rattle.atl_state.specs.Campaign.{blank};
 
@@ -11,8 +11,8 @@ use atl_tables::{MarkedMap, Marks, Text};
 use std::alloc::Global;
 
 impl Campaign {
-    /// A campaign of nothing, with nothing marked. It stands where a campaign was taken out, and is none that a founding
-    /// gives. It takes no memory.
+    /// An empty campaign, with nothing marked. It is put where a campaign was taken out, and
+    /// founding never gives it. It takes no memory.
     pub fn blank(alloc: Global) -> Campaign
         ensures { result ≡ blank }
     {

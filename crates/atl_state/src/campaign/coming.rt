@@ -1,4 +1,4 @@
-//! Adds units and structures to a campaign.
+//! Adds units and structures to a campaign under new numbers.
 ghost use Rattle.std.specs.Prelude.{◌≡◌, ◌≤◌, IfOk, OnOk, OnErr, None};
 ghost use Rattle.std.specs.FinMap as map;
 ghost use Rattle.atl_records.specs.Limits.{last_unit, most_structures};
@@ -11,7 +11,8 @@ use atl_records::{Structure, Unit};
 use std::alloc::AllocError;
 
 impl Campaign {
-    /// Adds a unit under a number that no unit has, and marks it and its goods. Without memory for it nothing changes.
+    /// Adds a unit under a number that no unit has, and marks it and its goods. Without memory for
+    /// it nothing changes.
     fn add_unit(&mut self, number: u32, unit: Unit) -> Result<(), AllocError>
         requires { map.get self.old.value.units number ≡ None }
         ensures ok { OnOk result
@@ -33,9 +34,10 @@ impl Campaign {
         }
     }
 
-    /// A unit comes. It gets the number that comes next for units, which is at most LAST_UNIT, and rises by one. The answer
-    /// is its number. The unit, its goods and the campaign's row are marked. AllocError without memory, and then nothing
-    /// changes. See docs/RULES.md, "Limits".
+    /// Adds a unit under the next unit number, and returns that number. It is at most LAST_UNIT,
+    /// and the next one is one more. The unit, its goods and the campaign row are marked.
+    /// AllocError without memory, and then nothing changes.
+    /// See docs/RULES.md, "Limits".
     pub fn begin_unit(&mut self, unit: Unit) -> Result<u32, AllocError>
         requires fresh { map.get self.old.value.units self.old.value.next_unit ≡ None }
         requires room { self.old.value.next_unit ≤ last_unit }
@@ -51,9 +53,9 @@ impl Campaign {
         Ok(number)
     }
 
-    /// A structure is begun. It gets the number that comes next for structures, which is at most MOST_STRUCTURES, and rises
-    /// by one. The answer is its number. The structure and the campaign's row are marked. AllocError without memory, and
-    /// then nothing changes.
+    /// Adds a structure under the next structure number, and returns that number. It is at most
+    /// MOST_STRUCTURES, and the next one is one more. The structure and the campaign row are
+    /// marked. AllocError without memory, and then nothing changes.
     /// See docs/RULES.md, "Limits".
     pub fn begin_structure(&mut self, structure: Structure) -> Result<u32, AllocError>
         requires fresh { map.get self.old.value.structures self.old.value.next_structure ≡ None }

@@ -21,7 +21,7 @@ use atl_records::{Books, ENTRY_COUNT, Entry, FIRST_ITEM, Region, Thing};
 use atl_tables::{Marks, Numbered, RegionPlan, Text, World};
 use std::alloc::{AllocError, Global};
 
-/// The regions as they are founded.
+/// The regions of a campaign right after founding, with nothing in stock and nothing marked.
 fn make_regions(alloc: Global, plans: &Numbered<RegionPlan>) -> Result<Regions, AllocError>
     ensures { IfOk result (λ regions. regions
         ≡ unmarked_regions (mapped founded_region plans.now)) }
@@ -38,7 +38,7 @@ fn make_regions(alloc: Global, plans: &Numbered<RegionPlan>) -> Result<Regions, 
     Regions::of(alloc, regions)
 }
 
-/// What the books say at founding, for so many things.
+/// The books right after founding, of this many things: what the regions hold, under Founding.
 fn founding_books(alloc: Global, things: usize, regions: &Regions) -> Result<Books, AllocError>
     requires few { length (map.entries regions.now.values) ≤ most_regions }
     requires some { 2 ≤ things }
@@ -61,8 +61,9 @@ fn founding_books(alloc: Global, things: usize, regions: &Regions) -> Result<Boo
     Ok(books)
 }
 
-/// A campaign as it is founded: month 0 is closed, the regions are as the world has them, and nobody is there. The
-/// books say what the regions hold. Nothing is marked. See docs/RULES.md, "Founding".
+/// The campaign right after founding: month 0 is closed, and there are no factions. The regions are
+/// the world's, and the books say what they hold. Nothing is marked. AllocError without memory.
+/// See docs/RULES.md, "Founding".
 pub fn founded(alloc: Global, world: &World, pass: &[u8]) -> Result<Campaign, AllocError>
     requires pass { IsTrue (pass_ok pass.now) }
     ensures definition { IfOk result (λ c. c.value ≡ founded_of world.now pass.now) }

@@ -13,7 +13,7 @@ ghost use Rattle.atl_records.specs.Books.{amount_in, after_booking, IsSmall};
 ghost use Rattle.atl_state.specs.Good.{IsGood, IsSound};
 ghost use Rattle.atl_state.specs.Joining.{name_taken, is_full, home_of, new_faction, joined, Joins};
 ghost use Rattle.atl_records.specs.Limits.{holding_limit, last_unit};
-ghost use Rattle.atl_state.specs.Marking.{join_marked};
+ghost use Rattle.atl_state.specs.Marking.{mark_join};
 
 use super::Campaign;
 use atl_orders::LAST_FACTION;
@@ -23,6 +23,7 @@ use atl_records::{
 use atl_tables::{MarkedMap, Numbered, Text, World};
 use std::alloc::{AllocError, Global};
 
+/// Whether one of these factions, gone or not, joined under exactly this name.
 fn is_taken(factions: &MarkedMap<Faction>, name: &[u8]) -> bool
     ensures { result ≡ list_any (λ e. pointwise nat_eq e.1.joined_as name.now)
         (map.entries factions.now.values) }
@@ -35,7 +36,7 @@ fn is_taken(factions: &MarkedMap<Faction>, name: &[u8]) -> bool
     false
 }
 
-/// The region where a faction begins.
+/// The number of the land region where a faction begins, as the word of the dice picks it.
 fn home(world: &World, word: u32) -> u32
     ensures { result ≡ home_of world.now word }
 {
@@ -43,6 +44,7 @@ fn home(world: &World, word: u32) -> u32
     land[word as usize % land.len()]
 }
 
+/// The first unit of a faction: one man with this money, called `Unit` and its number.
 fn make_unit(
     alloc: Global,
     number: u32,
@@ -76,6 +78,7 @@ fn make_unit(
     })
 }
 
+/// A faction as it joins: not gone, and showing the name that it joins under.
 fn make_faction(alloc: Global, number: u32, name: &[u8], pass: &[u8]) -> Result<Faction, AllocError>
     requires name { IsUtf8 name.now }
     requires pass { IsUtf8 pass.now }
@@ -90,7 +93,7 @@ fn make_faction(alloc: Global, number: u32, name: &[u8], pass: &[u8]) -> Result<
     })
 }
 
-/// Books what a faction brings.
+/// Books the money and the one man of a faction that joins, under Joining.
 fn book_joining(books: &mut Books, money: u32)
     requires things { 2 ≤ books.old.things }
     requires money { IsSmall (amount_in books.old Joining Money) }
@@ -103,14 +106,14 @@ fn book_joining(books: &mut Books, money: u32)
 }
 
 impl Campaign {
-    /// Whether some faction ever joined under a name.
+    /// Whether a faction, gone or not, joined under exactly this name.
     fn is_name_taken(&self, name: &[u8]) -> bool
         ensures { result ≡ name_taken self.now.value name.now }
     {
         is_taken(&self.factions, name)
     }
 
-    /// Whether no faction, or no unit, more can come.
+    /// Whether there is no room for another faction, for another unit, or in the numbers of units.
     fn is_full(&self) -> bool
         ensures { result ≡ is_full self.now.value }
     {
@@ -119,9 +122,9 @@ impl Campaign {
             || self.next_unit > LAST_UNIT
     }
 
-    /// A faction joins, with one unit: one man with the start money, in the land region that the word picks. What it
-    /// brings is booked. The answer is the number of the faction and that of its unit. On a fault the campaign stays as
-    /// it is, its marks too. See docs/RULES.md, "Joining".
+    /// Adds a faction with one unit, and returns the numbers of both. The unit is one man with the
+    /// start money, in the land region that the word of the dice picks. What it brings is booked.
+    /// On a fault the campaign stays as it is, its marks too. See docs/RULES.md, "Joining".
     #[tactic(auto, unfolding(crate::specs::Joining::join_of))]
     pub fn join(
         &mut self,
@@ -136,7 +139,7 @@ impl Campaign {
         ensures definition { Joins world.now name.now pass.now word self.old.value result
             self.new.value }
         ensures sound { IsSound world.now self.new.value }
-        ensures marks { OnOk result (self.new.marks ≡ join_marked self.old) }
+        ensures marks { OnOk result (self.new.marks ≡ mark_join self.old) }
         ensures err { OnErr result (self.new ≡ self.old) }
     {
         if self.is_name_taken(name) {
@@ -151,7 +154,7 @@ impl Campaign {
         }
     }
 
-    /// The joining of a faction for which there is room.
+    /// Adds a faction with its unit, where there is room for both, and returns their numbers.
     fn enroll(
         &mut self,
         world: &World,
@@ -168,7 +171,7 @@ impl Campaign {
         ensures numbers { IfOk result
             (λ numbers. numbers ≡ (self.old.value.next_faction, self.old.value.next_unit)) }
         ensures err { OnErr result (self.new ≡ self.old) }
-        ensures marks { OnOk result (self.new.marks ≡ join_marked self.old) }
+        ensures marks { OnOk result (self.new.marks ≡ mark_join self.old) }
         ensures world { IsWorld world.now }
     {
         let faction = self.next_faction;

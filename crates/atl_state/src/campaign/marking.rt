@@ -1,4 +1,4 @@
-//! Reads and clears the change marks of a campaign.
+//! Reads and clears the marks of a campaign: what is to be written.
 ghost use Rattle.std.specs.Prelude.{◌≡◌, ◌<◌};
 ghost use Rattle.std.specs.FinMap as map;
 ghost use Rattle.std.specs.FinSet as set;
@@ -11,8 +11,9 @@ use atl_records::{Entry, Thing, amount_number};
 use atl_tables::{Entries, MarkedNumbers, Numbered};
 
 impl Campaign {
-    /// How many things are marked. The campaign's own row is one, so is a unit, whatever of it is marked, and so are the
-    /// stocks of a region. It takes no memory.
+    /// How many factions, regions, units and other things are marked as to be written. A unit
+    /// counts once, whatever of it is marked; so do the stocks of a region, and so does the
+    /// campaign row. It takes no memory.
     pub fn marks(&self) -> usize
         ensures value { result ≡ marks_in self.now.marks }
         ensures units { AreWithin self.now.marks.units self.now.marks.rows self.now.marks.goods
@@ -45,37 +46,40 @@ impl Campaign {
         self.regions.marked_stocks()
     }
 
-    /// The numbers of the units of which something is marked, of those too that are gone, in rising order. It takes no memory.
+    /// The numbers of the units of which something is marked, in rising order. Units that are gone
+    /// are among them. It takes no memory.
     pub fn marked_units(&self) -> MarkedNumbers<'_>
         ensures { Lists self.now.marks.units result }
     {
         self.units.marked_numbers()
     }
 
-    /// The numbers of the units whose rows are marked, of those too that are gone, in rising order. It takes no memory.
+    /// The numbers of the units whose rows are marked, in rising order. Units that are gone are
+    /// among them. It takes no memory.
     pub fn marked_rows(&self) -> MarkedNumbers<'_>
         ensures { Lists self.now.marks.rows result }
     {
         self.units.marked_rows()
     }
 
-    /// The numbers of the units all of whose goods are marked, of those too that are gone, in rising order. It takes no memory.
+    /// The numbers of the units all of whose goods are marked, in rising order. Units that are gone
+    /// are among them. It takes no memory.
     pub fn marked_goods(&self) -> MarkedNumbers<'_>
         ensures { Lists self.now.marks.goods result }
     {
         self.units.marked_goods()
     }
 
-    /// The single items that are marked, by the numbers of their units, in rising order; also of what is gone. It takes no
-    /// memory.
+    /// The single items that are marked, by the numbers of their units, in rising order. Units that
+    /// are gone are among them. It takes no memory.
     pub fn marked_items(&self) -> Entries<'_, Numbered<()>>
         ensures { result ≡ map.entries self.now.marks.items }
     {
         self.units.marked_items()
     }
 
-    /// The single skills that are marked, by the numbers of their units, in rising order; also of what is gone. It takes no
-    /// memory.
+    /// The single skills that are marked, by the numbers of their units, in rising order. Units
+    /// that are gone are among them. It takes no memory.
     pub fn marked_skills(&self) -> Entries<'_, Numbered<()>>
         ensures { result ≡ map.entries self.now.marks.skills }
     {
@@ -89,7 +93,8 @@ impl Campaign {
         self.structures.marked_numbers()
     }
 
-    /// The numbers of the factions whose mail is marked, of those too whose mail was taken away, in rising order. It takes no memory.
+    /// The numbers of the factions whose mail is marked, in rising order. Factions whose mail was
+    /// removed are among them. It takes no memory.
     pub fn marked_mail(&self) -> MarkedNumbers<'_>
         ensures { Lists self.now.marks.mail result }
     {
@@ -111,14 +116,14 @@ impl Campaign {
         self.amounts_marked.contains(amount_number(entry, thing))
     }
 
-    /// Whether the campaign's own row is marked: the month or a number that comes next changed.
+    /// Whether the campaign row is marked: the month or a next number changed.
     pub fn is_row_marked(&self) -> bool
         ensures { result ≡ self.now.marks.row }
     {
         self.row_marked
     }
 
-    /// Leaves nothing marked, and changes nothing else. It takes no memory.
+    /// Clears all marks, and changes nothing else. It takes no memory.
     pub fn unmark(&mut self)
         ensures { self.new ≡ record self.old { marks = no_marks } }
     {

@@ -1,5 +1,5 @@
-//! Moves units, and keeps the owners of the structures that they leave and enter. See
-//! docs/RULES.md, "Owners".
+//! Moves and removes units, and finds the next owners of the structures that they leave and enter.
+//! See docs/RULES.md, "Owners".
 ghost use Rattle.std.specs.Prelude.{◌≡◌, OnOk, OnErr};
 ghost use Rattle.std.specs.FinMap as map;
 ghost use Rattle.atl_state.specs.Marking.{handed_marked, put_marked, place_marked, taken_marked, gone_marked};
@@ -9,7 +9,7 @@ use super::Campaign;
 use crate::lists::{ListKeys, list_keys_of};
 use std::alloc::AllocError;
 
-/// The first of some numbers but for one, or 0.
+/// The first of some numbers that isn't `leaving`, or 0 where there is none.
 fn first_other(numbers: &[u32], leaving: u32) -> u32
     ensures { result ≡ first_other numbers.now leaving }
 {
@@ -22,9 +22,9 @@ fn first_other(numbers: &[u32], leaving: u32) -> u32
 }
 
 impl Campaign {
-    /// The owner of a structure once a unit has left it: as it is where that unit isn't the owner, else the
-    /// lowest-numbered other unit inside, or 0 where there is none. It is 0 where there is no such structure. It takes no
-    /// memory. See docs/RULES.md, "Owners".
+    /// The owner of a structure once a unit has left it; 0 where there is no such structure. It is
+    /// the owner as before where that unit isn't it, else the lowest-numbered other unit inside, or
+    /// 0 where there is none. It takes no memory. See docs/RULES.md, "Owners".
     pub fn owner_after(&self, structure: u32, leaving: u32) -> u32
         ensures { result ≡ owner_after self.now.value structure leaving }
     {
@@ -35,14 +35,14 @@ impl Campaign {
         }
     }
 
-    /// Who is next to own a structure that a unit leaves, or 0.
+    /// The next owner of a structure once its owner leaves: the lowest other unit inside, or 0.
     fn heir(&self, structure: u32, leaving: u32) -> u32
         ensures { result ≡ heir self.now.value structure leaving }
     {
         first_other(self.inside(structure), leaving)
     }
 
-    /// Whether a structure is there, and this unit owns it, or nobody, where it is 0.
+    /// Whether a structure is there, and its owner is this unit, or nobody for 0.
     fn is_owned_by(&self, structure: u32, unit: u32) -> bool
         ensures { result ≡ is_owned_by (map.get self.now.value.structures structure) unit }
     {
@@ -61,7 +61,8 @@ impl Campaign {
         }
     }
 
-    /// Puts a unit in a region and a structure. Without memory for it nothing changes.
+    /// Puts a unit in a region and a structure, and marks its row; no owner changes. Without memory
+    /// for it nothing changes.
     fn put(&mut self, number: u32, region: u32, structure: u32) -> Result<(), AllocError>
         ensures ok { OnOk result (self.new ≡ put_marked self.old number region structure) }
         ensures err { OnErr result (self.new ≡ self.old) }
@@ -80,10 +81,10 @@ impl Campaign {
         Ok(())
     }
 
-    /// Puts a unit in a region, and inside a structure there, or inside none, where that is 0. Where it leaves a structure
-    /// that it owns, that gets another owner; where it enters one without an owner, the unit owns it. The unit's row is
-    /// marked, and each structure that got another owner. Where there is no such unit nothing changes; without memory
-    /// neither. See docs/RULES.md, "Owners".
+    /// Puts a unit in a region, and inside a structure there, or inside none for 0. A structure
+    /// that it owned and leaves gets its next owner; where it enters one without an owner, the unit
+    /// owns it. The unit's row is marked, and each structure that got another owner. Where there is
+    /// no such unit, or no memory, nothing changes. See docs/RULES.md, "Owners".
     pub fn place(&mut self, number: u32, region: u32, structure: u32) -> Result<(), AllocError>
         ensures ok { OnOk result
             (self.new.value ≡ with_place self.old.value number region structure) }
@@ -104,7 +105,7 @@ impl Campaign {
         Ok(())
     }
 
-    /// Takes a unit out.
+    /// Removes a unit, and marks it and its goods; no owner changes.
     fn take_unit(&mut self, number: u32)
         ensures { self.new ≡ taken_marked self.old number }
     {
@@ -116,9 +117,9 @@ impl Campaign {
         self.units.remove(number);
     }
 
-    /// Removes a unit with all that it holds. Where it owned the structure that it was inside, that gets another owner.
-    /// The unit and its goods are marked, and that structure. Where there is no such unit nothing changes. It takes no
-    /// memory. See docs/RULES.md, "Owners".
+    /// Removes a unit with all that it holds. Where it owned the structure that it was inside, that
+    /// gets its next owner. The unit and its goods are marked, and that structure. Where there is
+    /// no such unit nothing changes. It takes no memory. See docs/RULES.md, "Owners".
     pub fn remove_unit(&mut self, number: u32)
         ensures what { self.new.value ≡ without_unit self.old.value number }
         ensures marks { self.new.marks ≡ (gone_marked self.old number).marks }

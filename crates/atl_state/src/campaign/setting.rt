@@ -1,11 +1,11 @@
-//! Calls that set one entry of a campaign. Where nothing stands under the number, nothing changes. Only `set_stock`,
-//! `set_item` and `set_days` take memory.
+//! Calls that set one entry of a campaign; without an entry under the number nothing changes.
+//! Only `set_stock`, `set_item` and `set_days` take memory.
 ghost use Rattle.std.specs.Prelude.{◌≡◌, ◌≤◌, ◌<◌, ◌⊎◌, ◌+ℤ◌, IsOk, OnErr, OnOk};
 ghost use Rattle.std.specs.Int.{w64};
 ghost use Rattle.std.specs.Int.RustNames.{FitsSigned};
 ghost use Rattle.atl_records.specs.Books.{amount_in, thing_index};
 ghost use Rattle.atl_records.specs.Limits.{holding_limit, men_limit};
-ghost use Rattle.atl_state.specs.Marking.{mark_row, mark_faction, mark_region, mark_stock, mark_structure, mark_unit_row, mark_item, mark_skill, item_marked, skill_marked, mark_amount, mark_all_mail};
+ghost use Rattle.atl_state.specs.Marking.{mark_campaign_row, mark_faction, mark_region, mark_stock, mark_structure, mark_unit_row, mark_item, mark_skill, item_marked, skill_marked, mark_amount, mark_all_mail};
 ghost use Rattle.atl_state.specs.Campaign.{with_month, with_faction_name, with_gone, with_peasants, with_region_money, with_stock, with_unit_name, with_men, with_money, with_item, with_skill, with_guard, with_done, with_structure_name, with_structure_region, with_owner, with_amount, without_mail};
 
 use super::Campaign;
@@ -14,10 +14,10 @@ use atl_tables::Text;
 use std::alloc::AllocError;
 
 impl Campaign {
-    /// Sets the month last closed, from 0 to LAST_MONTH, and marks the campaign's row.
+    /// Sets the month last closed, from 0 to LAST_MONTH, and marks the campaign row.
     pub fn set_month(&mut self, month: u32)
         ensures what { self.new.value ≡ with_month self.old.value month }
-        ensures marks { self.new.marks ≡ mark_row self.old }
+        ensures marks { self.new.marks ≡ mark_campaign_row self.old }
     {
         self.month = month;
         self.row_marked = true;
@@ -33,7 +33,7 @@ impl Campaign {
         }
     }
 
-    /// A faction leaves the campaign, and is marked.
+    /// Sets a faction's flag `gone`, and marks the faction.
     pub fn set_gone(&mut self, number: u32)
         ensures what { self.new.value ≡ with_gone self.old.value number }
         ensures marks { self.new.marks ≡ mark_faction self.old number }
@@ -43,8 +43,8 @@ impl Campaign {
         }
     }
 
-    /// Sets how many peasants a region has, from 0 to atl_tables' MOST_AMOUNT in a good campaign, and marks its row; its stocks
-    /// stay unmarked.
+    /// Sets how many peasants a region has, and marks its row; its stocks stay unmarked. In a good
+    /// campaign there are 0 to atl_tables' MOST_AMOUNT.
     pub fn set_peasants(&mut self, region: u32, peasants: u32)
         ensures what { self.new.value ≡ with_peasants self.old.value region peasants }
         ensures marks { self.new.marks ≡ mark_region self.old region }
@@ -52,8 +52,8 @@ impl Campaign {
         self.regions.set_peasants(region, peasants);
     }
 
-    /// Sets how much money a region has, from 0 to atl_tables' MOST_AMOUNT in a good campaign, and marks its row; its stocks
-    /// stay unmarked.
+    /// Sets how much money a region has, and marks its row; its stocks stay unmarked. In a good
+    /// campaign it is 0 to atl_tables' MOST_AMOUNT.
     pub fn set_region_money(&mut self, region: u32, money: u32)
         ensures what { self.new.value ≡ with_region_money self.old.value region money }
         ensures marks { self.new.marks ≡ mark_region self.old region }
@@ -61,9 +61,10 @@ impl Campaign {
         self.regions.set_money(region, money);
     }
 
-    /// Sets how many pieces of an item a region has in stock, in a good campaign up to the limit of its market there. It marks
-    /// the region's stocks if there were more or fewer, and never its row. Where they are 0 the item is listed no more, which
-    /// takes no memory. AllocError without memory, and then the campaign is as it was, but for that mark.
+    /// Sets how many pieces of an item a region has in stock. In a good campaign it is at most the
+    /// limit of its market there. The region's stocks are marked if there were more or fewer, and
+    /// never its row. An item of which there is 0 isn't listed, which takes no memory. AllocError
+    /// without memory, and then the campaign is as it was, but for that mark.
     pub fn set_stock(&mut self, region: u32, item: u32, amount: u32) -> Result<(), AllocError>
         ensures ok { OnOk result (self.new.value ≡ with_stock self.old.value region item amount) }
         ensures err { OnErr result (self.new.value ≡ self.old.value) }
@@ -73,7 +74,7 @@ impl Campaign {
         self.regions.set_stock(region, item, amount)
     }
 
-    /// Sets the name that a unit shows, and marks its row; its goods stay unmarked.
+    /// Sets the name of a unit, and marks its row; its goods stay unmarked.
     pub fn set_unit_name(&mut self, unit: u32, name: Text)
         ensures what { self.new.value ≡ with_unit_name self.old.value unit name }
         ensures marks { self.new.marks ≡ mark_unit_row self.old unit }
@@ -81,8 +82,8 @@ impl Campaign {
         self.units.set_name(unit, name);
     }
 
-    /// Sets how many men a unit has, at most MEN_LIMIT, and marks its row; its goods stay unmarked, and its days of study
-    /// stay.
+    /// Sets how many men a unit has, at most MEN_LIMIT, and marks its row. Its goods stay unmarked,
+    /// and its days of study stay as they are.
     pub fn set_men(&mut self, unit: u32, men: u32)
         requires { men ≤ men_limit }
         ensures what { self.new.value ≡ with_men self.old.value unit men }
@@ -100,8 +101,9 @@ impl Campaign {
         self.units.set_money(unit, money);
     }
 
-    /// Sets how many pieces of an item a unit has, at most HOLDING_LIMIT, and marks that item of the unit alone, neither its row
-    /// nor another of its goods. AllocError without memory, and then the campaign is as it was, but for that mark.
+    /// Sets how many pieces of an item a unit has, at most HOLDING_LIMIT, and marks that item.
+    /// Neither the unit's row nor another of its goods is marked. AllocError without memory, and
+    /// then the campaign is as it was, but for that mark.
     pub fn set_item(&mut self, unit: u32, item: u32, amount: u32) -> Result<(), AllocError>
         requires { amount ≤ holding_limit }
         ensures ok { OnOk result (self.new.value ≡ with_item self.old.value unit item amount) }
@@ -112,8 +114,9 @@ impl Campaign {
         self.units.set_item(self.alloc, unit, item, amount)
     }
 
-    /// Sets a unit's days of study of a skill over all men, and marks that skill of the unit alone, neither its row nor another
-    /// of its goods. AllocError without memory, and then the campaign is as it was, but for that mark.
+    /// Sets a unit's days of study of a skill over all men, and marks that skill. Neither the
+    /// unit's row nor another of its goods is marked. AllocError without memory, and then the
+    /// campaign is as it was, but for that mark.
     pub fn set_days(&mut self, unit: u32, skill: u32, days: u32) -> Result<(), AllocError>
         ensures ok { OnOk result (self.new.value ≡ with_skill self.old.value unit skill days) }
         ensures err { OnErr result
@@ -131,7 +134,8 @@ impl Campaign {
         self.units.set_guard(unit, guard);
     }
 
-    /// Sets how much of a structure is built, from 1 to the size of its kind in a good campaign, and marks the structure.
+    /// Sets how much of a structure is done, and marks the structure. In a good campaign it is 1 to
+    /// the size of its kind.
     pub fn set_done(&mut self, structure: u32, done: u32)
         ensures what { self.new.value ≡ with_done self.old.value structure done }
         ensures marks { self.new.marks ≡ mark_structure self.old structure }
@@ -151,7 +155,8 @@ impl Campaign {
         }
     }
 
-    /// Sets the region where a structure stands, and marks the structure. The units inside stay where they are.
+    /// Sets the region of a structure, and marks the structure. The units inside stay where they
+    /// are.
     pub fn set_structure_region(&mut self, structure: u32, region: u32)
         ensures what { self.new.value ≡ with_structure_region self.old.value structure region }
         ensures marks { self.new.marks ≡ mark_structure self.old structure }
@@ -171,8 +176,9 @@ impl Campaign {
         }
     }
 
-    /// Books so much more of a thing under an entry (money, men and peasants, or pieces of an item), or less where it is
-    /// negative, and marks that amount. See docs/RULES.md, "Books".
+    /// Adds an amount to what is booked of a thing under an entry, and marks that amount. It counts
+    /// money, men and peasants, or pieces of an item, and may be negative. See docs/RULES.md,
+    /// "Books".
     pub fn book(&mut self, entry: Entry, thing: Thing, amount: i64)
         requires there { thing_index thing < self.old.value.books.things }
         requires fits { FitsSigned w64 (amount_in self.old.value.books entry thing +ℤ amount) }
@@ -183,7 +189,7 @@ impl Campaign {
         self.amounts_marked.add(amount_number(entry, thing));
     }
 
-    /// Takes all mail away, and marks the mail of each faction that had some.
+    /// Removes all mail, and marks the mail of each faction that had some.
     pub fn clear_mail(&mut self)
         ensures what { self.new.value ≡ without_mail self.old.value }
         ensures marks { self.new.marks ≡ mark_all_mail self.old }

@@ -1,4 +1,4 @@
-//! Checks that there is one campaign row, with a known format.
+//! The rule that there is one campaign row of a given format, and no rows unknown to that format.
 ghost use Rattle.std.specs.Prelude.{◌≡◌, length};
 ghost use Rattle.atl_state.specs.FromRows.{campaign_row_of};
 ghost use Rattle.atl_state.specs.RowRules.{is_one_campaign_row, are_of_format};
@@ -7,7 +7,7 @@ use super::numbers::is_from;
 use crate::parts::{Parts, StoredCampaignRow, StoredMarket};
 use atl_tables::Format;
 
-/// Whether there is one row of the campaign's own, whose id is 1 and whose format is this one.
+/// Whether there is exactly one campaign row, with the id 1 and the number of this format.
 pub(crate) fn is_one_campaign_row(format: Format, rows: &[StoredCampaignRow]) -> bool
     ensures { result ≡ is_one_campaign_row format rows.now }
 {
@@ -19,7 +19,7 @@ pub(crate) fn is_one_campaign_row(format: Format, rows: &[StoredCampaignRow]) ->
     is_from(1, 1, head.id) && is_from(number, number, head.format)
 }
 
-/// Whether these rows of markets may be there: in the first format there are none.
+/// Whether the format may have these rows of `market`: the first none, the second any.
 pub(crate) fn are_of_format(format: Format, rows: &[StoredMarket]) -> bool
     ensures { result ≡ are_of_format format rows.now }
 {
@@ -29,7 +29,7 @@ pub(crate) fn are_of_format(format: Format, rows: &[StoredMarket]) -> bool
     }
 }
 
-/// The campaign's own row.
+/// The campaign row of rows that have exactly one.
 pub(crate) fn campaign_row_of(parts: &Parts) -> &StoredCampaignRow
     requires { length parts.now.campaign ≡ 1 }
     ensures { result.now ≡ campaign_row_of parts.now }

@@ -1,4 +1,4 @@
-//! Whether no two rows of a table have one key.
+//! The rule that no two rows of a table have the same key.
 ghost use Rattle.std.specs.Prelude.{◌≡◌, IfOk, map, true, ◌↔◌, IsTrue};
 ghost use Rattle.std.specs.List.{IsDistinct};
 ghost use Rattle.std.specs.List.Sorted.{IsStrictlySortedBy};
@@ -13,10 +13,11 @@ use std::alloc::{AllocError, Global};
 use std::cmp::Ordering;
 use std::collections::BTreeSet;
 
-/// A row with a key.
+/// A row of a table, with its key as three numbers.
 trait Keyed {
     ghost key_of: { Self → Key };
 
+    /// The key: numbers that the table's key doesn't have are 0.
     fn key(&self) -> (i64, i64, i64)
         ensures { result ≡ key_of self.now };
 }
@@ -93,6 +94,7 @@ impl Keyed for StoredMarket {
     }
 }
 
+/// The keys of rows, in their order.
 fn keys_of<R: Keyed>(alloc: Global, rows: &[R]) -> Result<Vec<(i64, i64, i64)>, AllocError>
     ensures { IfOk result (λ keys. keys.items ≡ map R.key_of rows.now) }
 {
@@ -116,7 +118,8 @@ fn are_sorted<K: Ord + Drop>(keys: &[K]) -> bool
     true
 }
 
-/// Whether no two of the values are equal. Where they don't rise it takes memory for each, and n log n steps.
+/// Whether no two of the values are equal. Where they aren't sorted, it takes memory for each, and
+/// n log n steps.
 pub fn are_distinct<K: Ord + Copy + Drop>(alloc: Global, keys: &[K]) -> Result<bool, AllocError>
     ensures { IfOk result (λ yes. IsTrue yes ↔ (IsDistinct (eq_by_cmp K.cmp) keys.now)) }
 {
@@ -132,7 +135,7 @@ pub fn are_distinct<K: Ord + Copy + Drop>(alloc: Global, keys: &[K]) -> Result<b
     Ok(true)
 }
 
-/// Whether no two rows have one key.
+/// Whether no two rows of a table have the same key.
 fn have_keys<R: Keyed>(alloc: Global, rows: &[R]) -> Result<bool, AllocError>
     ensures { IfOk result (λ yes. IsTrue yes ↔ (HaveKeys R.key_of rows.now)) }
 {
@@ -140,7 +143,7 @@ fn have_keys<R: Keyed>(alloc: Global, rows: &[R]) -> Result<bool, AllocError>
     are_distinct(alloc, &keys)
 }
 
-/// Whether in no table two rows have one key.
+/// Whether in no table two rows have the same key.
 pub(super) fn are_keyed(alloc: Global, parts: &Parts) -> Result<bool, AllocError>
     ensures { IfOk result (λ yes. IsTrue yes ↔ (AreKeyed parts.now)) }
 {

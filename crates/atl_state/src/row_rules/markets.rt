@@ -1,4 +1,4 @@
-//! Checks that the markets of rows are in the world.
+//! The rule that rows of `market` are of markets of the world.
 ghost use Rattle.std.specs.Prelude.{◌≡◌};
 ghost use Rattle.std.specs.List.{list_all};
 ghost use Rattle.std.specs.Option.{option_copied};
@@ -10,7 +10,7 @@ use super::numbers::as_u32;
 use crate::parts::StoredMarket;
 use atl_tables::{Market, World};
 
-/// The market whose stock a row is, where there is one.
+/// The market of the world for the region and item of a row, where there is one.
 pub(super) fn market_of<'w>(world: &'w World, row: &StoredMarket) -> Option<&'w Market>
     ensures { option_copied result
         ≡ market_of world.now (as_u32 row.now.region) (as_u32 row.now.item) }
@@ -19,6 +19,7 @@ pub(super) fn market_of<'w>(world: &'w World, row: &StoredMarket) -> Option<&'w 
     plan.markets.get(as_u32(row.item))
 }
 
+/// Whether a row is of a market of the world.
 fn is_of_market(world: &World, row: &StoredMarket) -> bool
     ensures { result ≡ is_of_market world.now row.now }
 {

@@ -2,7 +2,7 @@
 ghost use Rattle.std.specs.Prelude.{◌≡◌, IfOk, length, map, ◌↔◌, IsTrue};
 ghost use Rattle.std.specs.List.{list_all};
 ghost use Rattle.atl_tables.specs.Names.{name_ok};
-ghost use Rattle.atl_state.specs.RowRules.{faction_named, are_named, HaveJoined, AreRowsNamed};
+ghost use Rattle.atl_state.specs.RowRules.{faction_named, are_named, AreJoinedNamesDistinct, AreRowsNamed};
 
 use super::head::campaign_row_of;
 use super::keys::are_distinct;
@@ -10,6 +10,7 @@ use crate::parts::{Parts, StoredFaction, StoredStructure, StoredUnit};
 use atl_tables::{name_ok, pass_ok};
 use std::alloc::{AllocError, Global};
 
+/// Whether both names and the pass text of a faction keep their rules.
 fn faction_named(row: &StoredFaction) -> bool
     ensures { result ≡ faction_named row.now }
 {
@@ -18,24 +19,28 @@ fn faction_named(row: &StoredFaction) -> bool
         && pass_ok(row.pass.as_slice())
 }
 
+/// Whether the names and pass texts of all factions keep their rules.
 fn factions_named(rows: &[StoredFaction]) -> bool
     ensures { result ≡ list_all faction_named rows.now }
 {
     rows.iter().all(|row| faction_named(row))
 }
 
+/// Whether the names of all units keep the name rule.
 fn units_named(rows: &[StoredUnit]) -> bool
     ensures { result ≡ list_all (λ r. name_ok r.name) rows.now }
 {
     rows.iter().all(|row| name_ok(row.name.as_slice()))
 }
 
+/// Whether the names of all structures keep the name rule.
 fn structures_named(rows: &[StoredStructure]) -> bool
     ensures { result ≡ list_all (λ r. name_ok r.name) rows.now }
 {
     rows.iter().all(|row| name_ok(row.name.as_slice()))
 }
 
+/// Whether each name and each pass text of the rows keeps its rule.
 fn are_named(parts: &Parts) -> bool
     requires { length parts.now.campaign ≡ 1 }
     ensures { result ≡ are_named parts.now }
@@ -46,6 +51,7 @@ fn are_named(parts: &Parts) -> bool
         && structures_named(parts.structures.as_slice())
 }
 
+/// The names that factions joined under, in the order of the rows.
 fn joined_names(alloc: Global, rows: &[StoredFaction]) -> Result<Vec<&[u8]>, AllocError>
     ensures { IfOk result (λ names. map (λ name. name.now) names.items
         ≡ map (λ r. r.joined_as) rows.now) }
@@ -57,15 +63,15 @@ fn joined_names(alloc: Global, rows: &[StoredFaction]) -> Result<Vec<&[u8]>, All
     Ok(names)
 }
 
-/// Whether no two factions joined under one name.
+/// Whether no two factions joined under the same name.
 fn have_joined(alloc: Global, rows: &[StoredFaction]) -> Result<bool, AllocError>
-    ensures { IfOk result (λ yes. IsTrue yes ↔ (HaveJoined rows.now)) }
+    ensures { IfOk result (λ yes. IsTrue yes ↔ (AreJoinedNamesDistinct rows.now)) }
 {
     let names = joined_names(alloc, rows)?;
     are_distinct(alloc, &names)
 }
 
-/// Whether names, joined names and pass texts keep their rules, and no two factions joined under one name.
+/// Whether names and pass texts keep their rules, and no two factions joined under the same name.
 pub(crate) fn rows_named(alloc: Global, parts: &Parts) -> Result<bool, AllocError>
     requires { length parts.now.campaign ≡ 1 }
     ensures { IfOk result (λ yes. IsTrue yes ↔ (AreRowsNamed parts.now)) }

@@ -23,18 +23,21 @@ pub(crate) fn as_u16(number: i64) -> u16
     }
 }
 
+/// Whether a flag of a row is set: any number but 0.
 pub(crate) fn is_set(number: i64) -> bool
     ensures { result ≡ is_set number }
 {
     number != 0
 }
 
+/// Whether a number is from low to high.
 pub(super) fn is_from(low: u32, high: u32, number: i64) -> bool
     ensures { result ≡ is_from low high number }
 {
     i64::from(low) <= number && number <= i64::from(high)
 }
 
+/// Whether a number, without its sign, is at most the bound.
 pub(super) fn is_within(bound: u128, number: i64) -> bool
     ensures { result ≡ is_within bound number }
 {

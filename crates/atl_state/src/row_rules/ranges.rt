@@ -1,4 +1,4 @@
-//! Checks the keys, ranges and counts of all rows.
+//! The rule on ranges: keys that differ, numbers in their ranges, and not too many rows.
 ghost use Rattle.std.specs.Prelude.{◌≡◌, IfOk, length, ◌↔◌, IsTrue};
 ghost use Rattle.std.specs.List.{list_all};
 ghost use Rattle.atl_state.specs.RowRules.{campaign_row_in_range, faction_in_range, region_in_range, unit_in_range, has_in_range, structure_in_range, books_bound, books_in_range, market_in_range, are_few, people_in_range, numbers_in_range, AreRowsInRange};
@@ -20,6 +20,7 @@ use atl_tables::World;
 use atl_tables::limits::{MOST_AMOUNT, MOST_REGIONS};
 use std::alloc::{AllocError, Global};
 
+/// Whether the month and the next numbers of the campaign row are in their ranges.
 fn campaign_row_in_range(head: &StoredCampaignRow) -> bool
     ensures { result ≡ campaign_row_in_range head.now }
 {
@@ -29,18 +30,21 @@ fn campaign_row_in_range(head: &StoredCampaignRow) -> bool
         && is_from(1, MOST_STRUCTURES + 1, head.next_structure)
 }
 
+/// Whether the number and the flag `gone` of a faction are in their ranges.
 fn faction_in_range(row: &StoredFaction) -> bool
     ensures { result ≡ faction_in_range row.now }
 {
     is_from(1, LAST_FACTION, row.number) && is_from(0, 1, row.gone)
 }
 
+/// Whether the peasants and the money of a region are in their ranges.
 fn region_in_range(row: &StoredRegion) -> bool
     ensures { result ≡ region_in_range row.now }
 {
     is_from(0, MOST_AMOUNT, row.peasants) && is_from(0, MOST_AMOUNT, row.money)
 }
 
+/// Whether the number, men, money and guard flag of a unit are in their ranges.
 fn unit_in_range(row: &StoredUnit) -> bool
     ensures { result ≡ unit_in_range row.now }
 {
@@ -50,12 +54,14 @@ fn unit_in_range(row: &StoredUnit) -> bool
         && is_from(0, 1, row.guard)
 }
 
+/// Whether the sort is 0 or 1, and the amount of an item is in its range; days aren't judged.
 fn has_in_range(row: &StoredHas) -> bool
     ensures { result ≡ has_in_range row.now }
 {
     is_from(1, 1, row.sort) || is_from(0, 0, row.sort) && is_from(1, HOLDING_LIMIT, row.amount)
 }
 
+/// Whether a structure's number is in its range, and `done` is from 1 to the size of its kind.
 fn structure_in_range(world: &World, row: &StoredStructure) -> bool
     ensures { result ≡ structure_in_range world.now row.now }
 {
@@ -63,13 +69,14 @@ fn structure_in_range(world: &World, row: &StoredStructure) -> bool
     is_from(1, MOST_STRUCTURES, row.number) && is_from(1, size, row.done)
 }
 
+/// Whether an amount of the books is not 0, and without its sign at most the bound.
 fn books_in_range(bound: u128, row: &StoredBooks) -> bool
     ensures { result ≡ books_in_range bound row.now }
 {
     is_set(row.amount) && is_within(bound, row.amount)
 }
 
-/// Whether the market has room for the stock.
+/// Whether a stock is from 1 to its market's limit, or to MOST_AMOUNT where there is no market.
 fn market_in_range(world: &World, row: &StoredMarket) -> bool
     ensures { result ≡ market_in_range world.now row.now }
 {
@@ -98,6 +105,7 @@ fn units_in_range(rows: &[StoredUnit]) -> bool
     rows.iter().all(|row| unit_in_range(row))
 }
 
+/// Whether each row of `has` is in its ranges.
 fn all_has_in_range(rows: &[StoredHas]) -> bool
     ensures { result ≡ list_all has_in_range rows.now }
 {
@@ -110,6 +118,7 @@ fn structures_in_range(world: &World, rows: &[StoredStructure]) -> bool
     rows.iter().all(|row| structure_in_range(world, row))
 }
 
+/// Whether no amount of these rows of `books` is 0, and all are within the bound.
 fn all_books_in_range(bound: u128, rows: &[StoredBooks]) -> bool
     ensures { result ≡ list_all (books_in_range bound) rows.now }
 {
@@ -122,6 +131,7 @@ fn markets_in_range(world: &World, rows: &[StoredMarket]) -> bool
     rows.iter().all(|row| market_in_range(world, row))
 }
 
+/// Whether there are not too many factions, regions, units and structures.
 fn are_few(parts: &Parts) -> bool
     ensures { result ≡ are_few parts.now }
 {
@@ -131,6 +141,7 @@ fn are_few(parts: &Parts) -> bool
         && parts.structures.len() <= MOST_STRUCTURES as usize
 }
 
+/// Whether each row of factions, regions, units and what they have is in its ranges.
 fn people_in_range(parts: &Parts) -> bool
     ensures { result ≡ people_in_range parts.now }
 {
@@ -140,7 +151,7 @@ fn people_in_range(parts: &Parts) -> bool
         && all_has_in_range(parts.has.as_slice())
 }
 
-/// The size that no amount of the books is above.
+/// How large an amount of the books may be, without its sign.
 fn books_bound(parts: &Parts) -> u128
     requires { length parts.now.campaign ≡ 1 }
     ensures { result ≡ books_bound parts.now }
@@ -149,6 +160,7 @@ fn books_bound(parts: &Parts) -> u128
     MOST_IN_MONTH * months + MOST_IN_JOINING * parts.factions.len() as u128
 }
 
+/// Whether each number of each row is in its range.
 fn numbers_in_range(world: &World, parts: &Parts) -> bool
     requires { length parts.now.campaign ≡ 1 }
     ensures { result ≡ numbers_in_range world.now parts.now }
@@ -160,7 +172,7 @@ fn numbers_in_range(world: &World, parts: &Parts) -> bool
         && markets_in_range(world, parts.markets.as_slice())
 }
 
-/// Whether no two rows of a table have one key, each number is in its range and there are not too many rows.
+/// Whether rows keep the rule on keys, on ranges, and on how many rows there may be.
 pub(crate) fn rows_in_range(alloc: Global, world: &World, parts: &Parts) -> Result<bool, AllocError>
     requires { length parts.now.campaign ≡ 1 }
     ensures { IfOk result (λ yes. IsTrue yes ↔ (AreRowsInRange world.now parts.now)) }

@@ -1,4 +1,4 @@
-//! Whether the books say what units and regions hold.
+//! The rule that the books balance: what is booked is what units and regions hold.
 ghost use Rattle.std.specs.Prelude.{◌≡◌, ◌<◌, ℕ, length, pos, ◌↔◌, IsTrue};
 ghost use Rattle.atl_tables.specs.Worlds.{IsWorld};
 ghost use Rattle.atl_records.specs.Books.{booked, thing_index, AreBooks};

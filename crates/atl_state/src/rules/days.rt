@@ -1,4 +1,4 @@
-//! The rule for days of study.
+//! The rule for days of study. See docs/RULES.md, "Levels and loads".
 ghost use Rattle.std.specs.Prelude.{◌≤◌, ◌*◌, ◌↔◌, IsTrue};
 ghost use Rattle.atl_records.specs.Every.{Every};
 ghost use Rattle.atl_state.specs.Good.{AreDays};
@@ -7,7 +7,7 @@ ghost use Rattle.atl_records.specs.Limits.{most_days};
 use crate::campaign::Campaign;
 use atl_records::{Holding, MOST_DAYS};
 
-/// Whether there is at least 1 day in each skill that is studied, and at most MOST_DAYS for each man.
+/// Whether each skill listed of a unit has at least 1 day, and at most MOST_DAYS for each man.
 fn has_days(holding: &Holding) -> bool
     ensures { IsTrue result ↔
         (Every (λ s days. (1 ≤ days) × (days ≤ most_days * holding.now.men)) holding.now.days) }
@@ -16,8 +16,8 @@ fn has_days(holding: &Holding) -> bool
     holding.days().all(|(_, days)| 1 <= *days && *days <= most)
 }
 
-/// Whether each unit has at least 1 day in each skill that it studied, and at most MOST_DAYS for each man. It takes no
-/// memory.
+/// Whether each skill listed of each unit has at least 1 day, and at most MOST_DAYS for each man.
+/// It takes no memory.
 pub(crate) fn are_days(campaign: &Campaign) -> bool
     ensures { IsTrue result ↔ (AreDays campaign.now.value) }
 {

@@ -7,7 +7,7 @@ ghost use Rattle.atl_state.specs.Campaign.{numbers_in};
 
 use crate::campaign::Campaign;
 
-/// The faction of a unit that is there and guards.
+/// The faction of a unit, where the unit is there and guards.
 fn guard_of(campaign: &Campaign, number: u32) -> Option<u32>
     ensures { result ≡ guard_of campaign.now.value number }
 {
@@ -17,7 +17,7 @@ fn guard_of(campaign: &Campaign, number: u32) -> Option<u32>
     }
 }
 
-/// Whether two factions are the same, where both are there.
+/// Whether two factions are equal, or one of them is None.
 fn agree(one: Option<u32>, other: Option<u32>) -> bool
     ensures { result ≡ agree one other }
 {

@@ -10,31 +10,35 @@ use crate::campaign::Campaign;
 use atl_records::{Holding, Region, Structure, Unit};
 use atl_tables::{Entries, World};
 
+/// Whether a faction has this number, gone or not.
 fn is_faction(campaign: &Campaign, number: u32) -> bool
     ensures { IsTrue result ↔ (IsThere campaign.now.value.factions number) }
 {
     campaign.faction(number).is_some()
 }
 
+/// Whether a region of the campaign has this number.
 fn is_region(campaign: &Campaign, number: u32) -> bool
     ensures { IsTrue result ↔ (IsThere campaign.now.value.regions number) }
 {
     campaign.region(number).is_some()
 }
 
+/// Whether a unit of the campaign has this number.
 fn is_unit(campaign: &Campaign, number: u32) -> bool
     ensures { IsTrue result ↔ (IsThere campaign.now.value.units number) }
 {
     campaign.unit(number).is_some()
 }
 
+/// Whether a region of the world has this number.
 fn is_of_world(world: &World, number: u32) -> bool
     ensures { IsTrue result ↔ (IsThere world.now.regions number) }
 {
     world.region(number).is_some()
 }
 
-/// Whether each region is one of the world's.
+/// Whether each region of the campaign is one of the world's.
 fn are_of_world(world: &World, campaign: &Campaign) -> bool
     ensures { IsTrue result ↔
         (Every (λ n r. IsThere world.now.regions n) campaign.now.value.regions) }
@@ -44,7 +48,7 @@ fn are_of_world(world: &World, campaign: &Campaign) -> bool
         .all(|(number, _)| is_of_world(world, number))
 }
 
-/// Whether each of the world's regions is there.
+/// Whether the campaign has each region of the world.
 fn are_all_there(world: &World, campaign: &Campaign) -> bool
     ensures { IsTrue result ↔
         (Every (λ n p. IsThere campaign.now.value.regions n) world.now.regions) }
@@ -102,14 +106,14 @@ fn are_stocks_known(world: &World, campaign: &Campaign) -> bool
     are_regions_known(world, campaign) && are_of_markets(world, campaign)
 }
 
-/// Whether all numbers are below a count.
+/// Whether all numbers of the entries are below a count.
 fn are_below(mut entries: Entries<'_, u32>, count: usize) -> bool
     ensures { IsTrue result ↔ (EachOf (λ n amount. n < count) entries.entry) }
 {
     entries.all(|(number, _)| (number as usize) < count)
 }
 
-/// Whether the items held and the skills studied are the world's.
+/// Whether the items and skills listed of a unit are the world's.
 fn holds_known(world: &World, holding: &Holding) -> bool
     ensures { IsTrue result ↔
         (Every (λ i amount. i < length world.now.items) holding.now.items
@@ -145,7 +149,7 @@ fn is_somewhere(campaign: &Campaign, unit: &Unit) -> bool
     is_faction(campaign, unit.faction) && is_region(campaign, unit.region)
 }
 
-/// Whether a unit's structure, and what it holds and studied, are there.
+/// Whether a unit's structure is 0 or one of its region, and its items and skills are the world's.
 fn is_at_home(world: &World, campaign: &Campaign, unit: &Unit) -> bool
     ensures { IsTrue result ↔
         ((unit.now.structure ≢ 0
@@ -158,14 +162,14 @@ fn is_at_home(world: &World, campaign: &Campaign, unit: &Unit) -> bool
     is_inside_here(campaign, unit) && holds_known(world, &unit.holding)
 }
 
-/// Whether all that a unit names is there.
+/// Whether a unit's faction, region, structure, items and skills are there.
 fn is_placed(world: &World, campaign: &Campaign, unit: &Unit) -> bool
     ensures { IsTrue result ↔ (IsPlaced world.now campaign.now.value unit.now) }
 {
     is_somewhere(campaign, unit) && is_at_home(world, campaign, unit)
 }
 
-/// Whether all that the units name is there.
+/// Whether each unit's faction, region, structure, items and skills are there.
 fn are_placed(world: &World, campaign: &Campaign) -> bool
     ensures { IsTrue result ↔
         (Every (λ n u. IsPlaced world.now campaign.now.value u) campaign.now.value.units) }
@@ -184,7 +188,7 @@ fn is_standing(world: &World, campaign: &Campaign, structure: &Structure) -> boo
     usize::from(structure.kind) < world.kinds().len() && is_region(campaign, structure.region)
 }
 
-/// Whether nobody owns a structure, or a unit that is there.
+/// Whether a structure's owner is nobody, or a unit that is there.
 fn is_owner_there(campaign: &Campaign, structure: &Structure) -> bool
     ensures { IsTrue result ↔
         (structure.now.owner ≢ 0 → IsThere campaign.now.value.units structure.now.owner) }
@@ -192,14 +196,14 @@ fn is_owner_there(campaign: &Campaign, structure: &Structure) -> bool
     structure.owner == 0 || is_unit(campaign, structure.owner)
 }
 
-/// Whether all that a structure names is there.
+/// Whether a structure's kind, region and owner are there.
 fn is_built(world: &World, campaign: &Campaign, structure: &Structure) -> bool
     ensures { IsTrue result ↔ (IsBuilt world.now campaign.now.value structure.now) }
 {
     is_standing(world, campaign, structure) && is_owner_there(campaign, structure)
 }
 
-/// Whether all that the structures name is there.
+/// Whether each structure's kind, region and owner are there.
 fn are_built(world: &World, campaign: &Campaign) -> bool
     ensures { IsTrue result ↔
         (Every (λ n s. IsBuilt world.now campaign.now.value s) campaign.now.value.structures) }

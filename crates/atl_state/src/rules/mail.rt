@@ -1,4 +1,4 @@
-//! The rule for stored mail.
+//! The rule that mail is of factions that aren't gone, and has the right length and header.
 ghost use Rattle.std.specs.Prelude.{◌↔◌, IsTrue};
 ghost use Rattle.atl_orders.specs.Mailing.{IsMailingOf};
 ghost use Rattle.atl_state.specs.Good.{IsActive, IsMail};
@@ -17,7 +17,7 @@ fn is_active(campaign: &Campaign, number: u32) -> bool
     }
 }
 
-/// Whether a text is a mailing of a faction that is not gone.
+/// Whether a text is a mailing of this faction, and the faction is there and not gone.
 fn is_kept(campaign: &Campaign, number: u32, text: &Sequence<u8>) -> bool
     ensures { IsTrue result ↔ (IsMailingOf number text.now × IsActive campaign.now.value number) }
 {

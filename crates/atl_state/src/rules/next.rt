@@ -1,4 +1,4 @@
-//! The rule for the numbers that are given next.
+//! The rule for the numbers that factions, structures and units get next.
 ghost use Rattle.std.specs.Prelude.{◌≡◌, ◌≤◌, ◌<◌, ◌+◌, ℕ, None, ◌↔◌, IsTrue};
 ghost use Rattle.std.specs.FinMap as map;
 ghost use Rattle.atl_records.specs.Every.{EachOf};
@@ -7,21 +7,21 @@ ghost use Rattle.atl_state.specs.Good.{AreNumbered, IsNumbered};
 use crate::campaign::Campaign;
 use atl_tables::Entries;
 
-/// Whether all numbers are from the least one on and before the next.
+/// Whether all numbers of the entries are at least `least` and below `next`.
 fn are_between<V>(mut entries: Entries<'_, V>, least: u32, next: u32) -> bool
     ensures { IsTrue result ↔ (EachOf (λ n v. (least ≤ n) × (n < next)) entries.entry) }
 {
     entries.all(|(number, _)| least <= number && number < next)
 }
 
-/// Whether a number is the next one behind so many, numbered from 1.
+/// Whether `next` is one more than the count.
 fn is_behind(next: u32, count: usize) -> bool
     ensures { IsTrue result ↔ (next ≡ count + 1) }
 {
     1 <= next && (next - 1) as usize == count
 }
 
-/// Whether the factions are numbered from 1 without a gap, and the next number is the one behind.
+/// Whether the factions are numbered from 1 without a gap, and the next number follows.
 fn are_factions_numbered(campaign: &Campaign) -> bool
     ensures { IsTrue result ↔
         (IsNumbered campaign.now.value.factions campaign.now.value.next_faction) }
@@ -30,7 +30,7 @@ fn are_factions_numbered(campaign: &Campaign) -> bool
     are_between(campaign.factions(), 1, next) && is_behind(next, campaign.faction_count())
 }
 
-/// Whether the structures are numbered from 1 without a gap, and the next number is the one behind.
+/// Whether the structures are numbered from 1 without a gap, and the next number follows.
 fn are_structures_numbered(campaign: &Campaign) -> bool
     ensures { IsTrue result ↔
         (IsNumbered campaign.now.value.structures campaign.now.value.next_structure) }
@@ -39,7 +39,7 @@ fn are_structures_numbered(campaign: &Campaign) -> bool
     are_between(campaign.structures(), 1, next) && is_behind(next, campaign.structure_count())
 }
 
-/// Whether no unit has the number that comes next, or a later one.
+/// Whether each unit's number is below the next one.
 fn are_units_before(campaign: &Campaign) -> bool
     ensures { IsTrue result ↔
         ((n : ℕ) → campaign.now.value.next_unit ≤ n → map.get campaign.now.value.units n ≡ None) }
@@ -48,8 +48,8 @@ fn are_units_before(campaign: &Campaign) -> bool
     campaign.units().all(|(number, _)| number < next)
 }
 
-/// Whether the numbers that come next are greater than all of their sort, and no faction and no structure is missing
-/// before them. It takes no memory.
+/// Whether the next numbers follow: factions and structures are numbered from 1 without a gap. All
+/// units' numbers are below the next one. It takes no memory.
 pub(crate) fn are_numbered(campaign: &Campaign) -> bool
     ensures { IsTrue result ↔ (AreNumbered campaign.now.value) }
 {

@@ -9,7 +9,7 @@ ghost use Rattle.atl_state.specs.Good.{AreOwned};
 use crate::campaign::Campaign;
 use atl_records::{Structure, Unit};
 
-/// Whether nobody owns a structure, or a unit inside.
+/// Whether a structure's owner is nobody, or a unit inside.
 fn is_owner_inside(campaign: &Campaign, number: u32, structure: &Structure) -> bool
     ensures { IsTrue result ↔ (HasOwnerInside campaign.now.value number structure.now) }
 {
@@ -22,7 +22,7 @@ fn is_owner_inside(campaign: &Campaign, number: u32, structure: &Structure) -> b
     }
 }
 
-/// Whether each structure that has an owner has one inside.
+/// Whether each structure's owner is nobody, or a unit inside.
 fn are_owners_inside(campaign: &Campaign) -> bool
     ensures { IsTrue result ↔
         (Every (HasOwnerInside campaign.now.value) campaign.now.value.structures) }

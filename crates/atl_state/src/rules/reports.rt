@@ -5,6 +5,7 @@ ghost use Rattle.atl_state.specs.Good.{AreReported};
 
 use crate::campaign::Campaign;
 
+/// Whether a report of this faction is stored.
 fn has_report(campaign: &Campaign, number: u32) -> bool
     ensures { IsTrue result ↔ (IsThere campaign.now.value.reports number) }
 {

@@ -1,4 +1,4 @@
-//! The rule for units and structures on water.
+//! The rule that units on water are inside ships, and structures on water are complete ships.
 ghost use Rattle.std.specs.Prelude.{◌≡◌, false, true, ◌↔◌, IsTrue};
 ghost use Rattle.atl_records.specs.Every.{Every};
 ghost use Rattle.atl_state.specs.Good.{AreAfloat, IsAboard, is_ship};

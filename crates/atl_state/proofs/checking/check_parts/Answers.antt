@@ -1,5 +1,5 @@
 use Rattle.std.proofs.Common.{sym, subst, arith}
-use Rattle.atl_state.specs.Checking.{KeepsBelow, Fits}
+use Rattle.atl_state.specs.Checking.{KeepsRulesBelow, Fits}
 use Rattle.atl_state.specs.Good.{IsGood}
 use Rattle.atl_state.specs.Rows.{AreRowsOf}
 use Rattle.atl_state.specs.Campaign.{CampaignValue}
@@ -11,7 +11,7 @@ pub assemble-requires-clause-one : goal.assemble-requires-clause-one
 assemble-requires-clause-one c = one-said c.args.format c.args.world.now c.args.parts c.in_ok-check_rows.ensures
 
 pub assemble-requires-clause-named : goal.assemble-requires-clause-named
-assemble-requires-clause-named c = let before : KeepsBelow c.args.format c.args.world.now c.args.parts 4 = c.in_ok-check_rows.ensures in (before Names (omega arith)).texts
+assemble-requires-clause-named c = let before : KeepsRulesBelow c.args.format c.args.world.now c.args.parts 4 = c.in_ok-check_rows.ensures in (before Names (omega arith)).texts
 
 pub assemble-requires-clause-people : goal.assemble-requires-clause-people
 assemble-requires-clause-people c = people-said c.args.format c.args.world.now c.args.parts c.in_ok-check_rows.ensures
@@ -21,7 +21,7 @@ returns c =
     let w = c.args.world.now in
     let p = c.args.parts in
     let f = c.args.format in
-    let all : KeepsBelow f w p 13 = c.in_ok-check_holders.ensures in
+    let all : KeepsRulesBelow f w p 13 = c.in_ok-check_holders.ensures in
     let what = c.in-Ok.ensures.what in
     record {
       rows = subst (λ (s : CampaignValue). AreRowsOf f s p) (sym what) (checked-rows f w p c.assemble.ensures.world all);
