@@ -10,8 +10,8 @@ use atl_tables::variants;
 use std::alloc::{AllocError, Global};
 use std::marker::Model;
 
-/// An entry of the books: why an amount of a thing came in or went. A move between holders has no entry. See
-/// docs/RULES.md, "Books".
+/// An entry of the books: why an amount of a thing came in or went.
+/// A move between holders has no entry. See docs/RULES.md, "Books".
 #[derive(Drop, Clone, Copy, Debug, PartialEq, Eq)]
 pub enum Entry {
     /// The money and the peasants that the regions begin with.
@@ -127,7 +127,8 @@ impl Thing {
     }
 }
 
-/// The number of an account, by which dirty amounts are kept: 16 times the thing's number, plus the entry's less 1.
+/// The number of an account, by which dirty amounts are kept:
+/// 16 times the thing's number, plus the entry's number, less 1.
 pub fn amount_number(entry: Entry, thing: Thing) -> u32
     ensures { result ≡ amount_number entry thing }
 {
@@ -167,8 +168,8 @@ impl Model for Books {
 }
 
 impl Books {
-    /// Books of so many things, all amounts 0: money, people, and at most one item for each number of 16 bits.
-    /// AllocError without memory.
+    /// Books of so many things, all amounts 0. The things are money, people, and at most one item for
+    /// each number of 16 bits. AllocError without memory.
     pub fn new(alloc: Global, things: usize) -> Result<Books, AllocError>
         requires { things ≤ possible_things }
         ensures { IfOk result (λ made. made ≡ no_amounts things) }

@@ -51,8 +51,8 @@ pub fn amount_under(amounts: &Numbered<u32>, number: u32) -> u32
     }
 }
 
-/// Sets the amount under a number; with 0 the number is listed no more, which takes no memory. Without memory
-/// nothing changes.
+/// Sets the amount under a number; with 0 the number is listed no more, which takes no memory.
+/// Without memory nothing changes.
 pub fn put_amount(amounts: &mut Numbered<u32>, number: u32, amount: u32) -> Result<(), AllocError>
     ensures ok { OnOk result (amounts.new ≡ with_amount_of amounts.old number amount) }
     ensures err { OnErr result (amounts.new ≡ amounts.old) }
@@ -187,7 +187,8 @@ impl Holding {
         put_amount(&mut self.days, skill, days)
     }
 
-    /// Sets how many pieces of an item are held, at least 1, as a stored row says. Without memory nothing changes.
+    /// Sets how many pieces of an item are held, at least 1, as a stored row says.
+    /// Without memory nothing changes.
     pub fn put_item(&mut self, item: u32, amount: u32) -> Result<(), AllocError>
         requires { (1 ≤ amount) × (amount ≤ holding_limit) }
         ensures ok { OnOk result
@@ -197,8 +198,8 @@ impl Holding {
         self.items.insert(item, amount)
     }
 
-    /// Sets the days of a skill over all men, as a stored row says; days of 0 are listed too. Without memory nothing
-    /// changes.
+    /// Sets the days of a skill over all men, as a stored row says; days of 0 are listed too.
+    /// Without memory nothing changes.
     pub fn put_days(&mut self, skill: u32, days: u32) -> Result<(), AllocError>
         ensures ok { OnOk result
             (self.new ≡ record self.old { days = map.insert self.old.days skill days }) }
@@ -222,7 +223,8 @@ impl Holding {
         self.guard = guard;
     }
 
-    /// Replaces all days of study by others: of each skill over all men, where they are not 0. It takes no memory.
+    /// Replaces all days of study: of each skill over all men, where they are not 0.
+    /// It takes no memory.
     pub fn set_all_days(&mut self, days: Numbered<u32>)
         ensures { self.new ≡ record self.old { days = days } }
     {

@@ -35,8 +35,8 @@ pub fn level(days: u32, men: u32) -> u32
     level
 }
 
-/// The level of a unit's men in a skill, by the days that they have studied it. It takes no memory. See docs/RULES.md,
-/// "Levels and loads".
+/// The level of a unit's men in a skill, by the days that they have studied it.
+/// It takes no memory. See docs/RULES.md, "Levels and loads".
 pub fn level_in(holding: &Holding, skill: u16) -> u32
     ensures value { result ≡ level_in holding.now skill }
     ensures small { result ≤ last_level }

@@ -21,7 +21,8 @@ pub const FIRST_ENTRY_COUNT: usize = 13;
 /// The number of the first item among the things of the books: money has 0, and people have 1.
 pub const FIRST_ITEM: usize = 2;
 
-/// The number of the last month that can be closed; the first is 1. A campaign without a closed month is at 0.
+/// The number of the last month that can be closed; the first is 1.
+/// A campaign without a closed month is at 0.
 pub const LAST_MONTH: u32 = 9_999;
 
 /// The most men in a unit.

@@ -85,8 +85,8 @@ pub struct Structure {
     pub owner: u32,
 }
 
-/// Why a faction does not join. The campaign is then unchanged, and no dirty flag is set. See docs/RULES.md,
-/// "Joining".
+/// Why a faction does not join. The campaign is then unchanged, and no dirty flag is set.
+/// See docs/RULES.md, "Joining".
 #[derive(Drop, Clone, Copy, Debug, PartialEq, Eq)]
 pub enum JoinFault {
     /// Some faction joined under this name.

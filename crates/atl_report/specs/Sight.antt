@@ -34,7 +34,7 @@ shown_name faction = option_map_or (λ f. f.name) faction []
 
 -- ---- units
 
--- each item that is held, in the order of the world
+-- the view of an item that an own unit holds: its index in the world, and how many pieces
 abbrev pub item_view : ℕ × ℕ → ItemView
 item_view (item, amount) = record { item = item; amount = amount }
 
@@ -42,7 +42,7 @@ item_view (item, amount) = record { item = item; amount = amount }
 abbrev pub item_views : HoldingValue → List ItemView
 item_views h = map item_view (entries h.items)
 
--- each skill with days, in the order of the world, with the level that so many men have
+-- the view of a skill that an own unit studied: its index in the world, the level of so many men, and their days
 abbrev pub skill_view : ℕ → ℕ × ℕ → SkillView
 skill_view men (skill, days) = record { skill = skill; level = level_of days men; days = days }
 
@@ -56,6 +56,7 @@ side_of c faction u =
     if u.faction == faction then Own u.holding.money (item_views u.holding) (skill_views u.holding)
     else Other u.faction (shown_name (get c.factions u.faction))
 
+-- the view that a faction has of a unit that it sees
 abbrev pub unit_view : CampaignValue → ℕ → ℕ → Unit → UnitView
 unit_view c faction number u = record { number = number; name = u.holding.name; men = u.holding.men; guard = guards u; structure = u.structure; side = side_of c faction u }
 
@@ -77,6 +78,7 @@ structures_in region structures = numbers_where (λ s. s.region == region) struc
 abbrev pub shown_owner : WorldValue → CampaignValue → Watch → Structure → ℕ
 shown_owner w c watch s = if is_seen_there w watch (get c.units s.owner) then s.owner else 0
 
+-- the view of a structure, whose owner is 0 where he isn't seen
 abbrev pub structure_view : WorldValue → CampaignValue → Watch → ℕ → Structure → StructureView
 structure_view w c watch number s = record { number = number; kind = s.kind; name = s.name; done = s.done; owner = shown_owner w c watch s }
 
@@ -86,7 +88,7 @@ structure_views w c watch = filter_map (λ n. option_map (structure_view w c wat
 
 -- ---- markets
 
--- the stock of an item, and what its limit leaves room for
+-- the view of a market: its stock, and how many more pieces its limit leaves room for
 abbrev pub market_view : Region → ℕ × Market → MarketView
 market_view r (item, m) = record { item = m.item; stock = amount_of r.stocks item; wanted = m.limit - amount_of r.stocks item }
 
@@ -100,6 +102,7 @@ region_market_views r plan = option_map_or (market_views r) plan []
 
 -- ---- the whole
 
+-- the view of a region: peasants, money, markets, all structures, and the units that are seen
 abbrev pub region_view : WorldValue → CampaignValue → Watch → Region → RegionView
 region_view w c watch r = record { number = watch.region; peasants = r.peasants; money = r.money; markets = region_market_views r (get w.regions watch.region); structures = structure_views w c watch; units = unit_views w c watch }
 

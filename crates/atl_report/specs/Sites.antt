@@ -1,4 +1,4 @@
--- For proofs alone: the numbers of the structures of each region, as the code lists them.
+-- The lists of the structures of each region, as the code makes them.
 use Rattle.std.specs.Prelude.{◌≡◌, ◌++◌, ℕ, List, [], ◌∷◌}
 use Rattle.std.specs.Ordering.{nat_cmp}
 use Rattle.std.specs.FinMap.{FinMap, insert}

@@ -34,7 +34,7 @@ fn write_thing(out: &mut String, world: &World, thing: Thing) -> Result<(), Allo
     }
 }
 
-/// Writes the word `item` and an item's name in quotes; nothing where the world does not have the item.
+/// Writes the word `item` and an item's name in quotes; nothing for an item not in the world.
 fn write_item(out: &mut String, world: &World, item: u16) -> Result<(), AllocError>
     ensures { OnOk result (string_bytes out.new
         ≡ string_bytes out.old ++ item_name (slice_get world.now.items item)) }

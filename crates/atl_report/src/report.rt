@@ -50,7 +50,7 @@ fn write_header(out: &mut String, view: &View) -> Result<(), AllocError>
     )
 }
 
-/// Writes the beginning of a unit's line: number, name, another's faction, men, and an own unit's money.
+/// Writes the start of a unit's line: number, name, another's faction, men, an own unit's money.
 fn write_head(out: &mut String, unit: &UnitView) -> Result<(), AllocError>
     ensures { OnOk result (string_bytes out.new
         ≡ string_bytes out.old ++ unit_head unit.now unit.now.side) }
@@ -274,7 +274,7 @@ fn write_known_exits(out: &mut String, plan: &RegionPlan) -> Result<(), AllocErr
     Ok(())
 }
 
-/// Writes the line with the exits of a region; nothing where the world does not have the region.
+/// Writes the line of a region's exits; nothing where the world does not have the region.
 #[tactic(auto, unfolding(crate::specs::Report::exits_line))]
 fn write_exits(out: &mut String, world: &World, region: &RegionView) -> Result<(), AllocError>
     ensures { OnOk result (string_bytes out.new

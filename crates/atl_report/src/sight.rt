@@ -53,7 +53,8 @@ fn skill_views(alloc: Global, holding: &Holding) -> Result<Sequence<SkillView>, 
     Ok(skills)
 }
 
-/// What only one side's units show: an own unit its money, items and skills, another's its faction's number and name.
+/// What one side's units show alone.
+/// An own unit shows money, items and skills, another's its faction's number and name.
 fn side_of(
     alloc: Global,
     campaign: &Campaign,
@@ -192,7 +193,7 @@ fn market_views(
     Ok(markets)
 }
 
-/// The views of all markets of a region, by item; none where the world does not have the region.
+/// The views of all markets of a region, by item; none where the world lacks the region.
 fn region_market_views(
     alloc: Global,
     world: &World,

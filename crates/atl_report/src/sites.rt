@@ -7,11 +7,12 @@ use atl_state::Campaign;
 use atl_tables::{Numbered, Sequence};
 use std::alloc::{AllocError, Global};
 
-/// The numbers of each region's structures, sorted, by the region's number. A region without structures may have no
-/// list.
+/// The numbers of each region's structures, sorted, by the region's number.
+/// A region without structures may have no list.
 pub type Sites = Numbered<Sequence<u32>>;
 
-/// Adds a structure's number at the end of a region's list. After an AllocError the lists must not be used further.
+/// Adds a structure's number at the end of a region's list.
+/// After an AllocError the lists must not be used further.
 fn add_site(alloc: Global, sites: &mut Sites, region: u32, number: u32) -> Result<(), AllocError>
     ensures { OnOk result (sites.new ≡ with_site sites.old region number) }
 {
@@ -25,8 +26,8 @@ fn add_site(alloc: Global, sites: &mut Sites, region: u32, number: u32) -> Resul
     }
 }
 
-/// The numbers of each region's structures, from one pass over the campaign. They stay right until a structure is built or
-/// moves. AllocError without memory.
+/// The numbers of each region's structures, from one pass over the campaign.
+/// They stay right until a structure is built or moves. AllocError without memory.
 pub fn sites_of(alloc: Global, campaign: &Campaign) -> Result<Sites, AllocError>
     ensures { IfOk result (AreSites campaign.now.value.structures) }
 {

@@ -73,7 +73,8 @@ fn is_identified(world: &World, watch: Watch, unit: &Unit) -> bool
     level_in_any(&unit.holding, world.rules().stealth) <= watch.observation
 }
 
-/// Whether a unit in the watch's region is seen: it is the faction's own, guards, or its stealth level is low enough.
+/// Whether a unit in the watch's region is seen: it is the faction's own, guards,
+/// or its stealth level is at most the watch's observation level.
 pub(crate) fn is_seen(world: &World, watch: Watch, unit: &Unit) -> bool
     ensures { result ≡ is_seen world.now watch unit.now }
 {
