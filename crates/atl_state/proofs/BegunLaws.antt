@@ -92,7 +92,7 @@ module _ (w : WorldValue) (c : CampaignValue) (s : Structure) (fresh : IsFresh w
     posts = old.known.posts;
   }
 
-  -- the numbers still come from 1 up to the next
+  -- factions and structures are still numbered without a gap, and no unit has a number from the next on
   next_kept : AreNumbered raised
   next_kept =
       let numbered = old.next.structures in
@@ -227,7 +227,7 @@ module _ (w : WorldValue) (c : CampaignValue) (k : ℕ) (s : Structure) (done : 
     apart_free : (j : ℕ) → get c.structures j ≡ None → get built.structures j ≡ None
     apart_free j none = get-insert_other c.structures k j further (λ same. none_some s (sym none ∙ ap (get c.structures) same ∙ is)) ∙ none
 
-    -- the numbers still come from 1 up to the next
+    -- factions and structures are still numbered without a gap, and no unit has a number from the next on
     next_built : AreNumbered built
     next_built = record {
       factions = was.next.factions;
