@@ -14,7 +14,7 @@ module _ {A : Type 0} (xs : List A) (free place : ℕ) where
   count : free + place - free ≡ place
   count = omega arith
 
-  -- ---- what stood before a place moved, towards it or away from it
+  -- ---- the elements before an index moved, towards it or away from it
   -- moving the elements before an index one up removes the element at it
   pub closed : free + place < length xs → drop (free + 1) (copy_within xs free (free + place) (free + 1)) ≡ remove (drop free xs) place
   closed l =
@@ -29,7 +29,7 @@ module _ {A : Type 0} (xs : List A) (free place : ℕ) where
       rw (drop-set-add (free - 1) (copy_within xs free (free + place) (free - 1)) place x, copied xs free (free + place) (free - 1) (omega arith), count, drop_more xs (free - 1 + place) x (omega arith), behind)
       (set_at (take place (drop free xs)) (get_or xs (free - 1 + place) x) (drop (free + place) xs) x place (length-take-le place (drop free xs) long) ∙ ap (λ ys. take place (drop free xs) ++ x ∷ ys) (sym (drop-drop place free xs)))
 
-  -- ---- what stands behind it moved
+  -- ---- the elements after it moved
   -- removing behind the free slots removes among the elements
   pub removed : free + place ≤ length xs → drop free (remove xs (free + place)) ≡ remove (drop free xs) place
   removed l =

@@ -19,7 +19,7 @@ listed_is_inside s units k listed =
       | false ↦ λ h. let (v, is, t) = listed_passing (λ u. u.structure == s) units k h in (v, is, is_equal v.structure s t)
     ] listed
 
--- a unit inside the structure is on its list
+-- a unit inside a structure other than 0 is on its list
 pub inside_is_listed : (s : ℕ) (units : FinMap nat_cmp Unit) → s ≢ 0 → Every (λ k v. v.structure ≡ s → IsListed k (numbers_inside s units)) units
 inside_is_listed s units some k v is inside = rw (other_number s 0 some) (passing_listed (λ u. u.structure == s) units k v is (ap (λ q. q == s) inside ∙ same_number s))
 
