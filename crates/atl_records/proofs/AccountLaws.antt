@@ -46,6 +46,7 @@ same_account e f t u entries things i = (same_entry e f entries i, same_thing t 
 
 -- ---- their order
 
+-- account_cmp is a total order
 pub account_total : IsTotalOrder account_cmp
 account_total = then_total (on_total (λ (a : Account). entry_index a.0) nat_cmp_total) (on_total (λ (a : Account). thing_index a.1) nat_cmp_total)
 

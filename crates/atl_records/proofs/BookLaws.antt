@@ -45,9 +45,10 @@ listed_some z x is =
       | false ↦ λ some e. let same : z ≡ x = cc in (same, λ none. not_zero z some (same ∙ none))
     ] refl is
 
--- ---- an amount in the place of another
+-- ---- an amount set
 
 module _ (books : BooksValue) (e : Entry) (t : Thing) (z : ℤ) where
+  -- once an amount is set, the books list it under its account if it isn't 0, and others as before
   pub get-with_amount : (a : Account) → get (with_amount books e t z).amounts a ≡ cond (eq_by_cmp account_cmp a (e, t)) (listed z) (get books.amounts a)
   get-with_amount a =
       elim (is_zero z) as (λ b. get (cond b (remove books.amounts (e, t)) (insert books.amounts (e, t) z)) a ≡ cond (eq_by_cmp account_cmp a (e, t)) (cond b None (Some z)) (get books.amounts a)) [
@@ -55,6 +56,7 @@ module _ (books : BooksValue) (e : Entry) (t : Thing) (z : ℤ) where
         | false ↦ get-insert account_total books.amounts (e, t) z a
       ]
 
+  -- once an amount is set, it is read back under its account, and others are as before
   pub amount-with_amount : (f : Entry) (u : Thing) → amount_in (with_amount books e t z) f u ≡ cond (eq_by_cmp account_cmp (f, u) (e, t)) z (amount_in books f u)
   amount-with_amount f u =
       ap (λ o. unwrap_or o (pos 0)) (get-with_amount (f, u)) ∙ elim (eq_by_cmp account_cmp (f, u) (e, t)) as (λ b. unwrap_or (cond b (listed z) (get books.amounts (f, u))) (pos 0) ≡ cond b z (amount_in books f u)) [
@@ -70,6 +72,7 @@ module _ (books : BooksValue) (e : Entry) (t : Thing) (z : ℤ) where
   pub other_amount : (f : Entry) (u : Thing) → eq_by_cmp account_cmp (f, u) (e, t) ≡ false → amount_in (with_amount books e t z) f u ≡ amount_in books f u
   other_amount f u apart = amount-with_amount f u ∙ ap (λ b. cond b z (amount_in books f u)) apart
 
+  -- books of these things stay so once an amount of one of them is set
   pub AreBooks-with_amount : (things : ℕ) → AreBooks things books → thing_index t < things → AreBooks things (with_amount books e t z)
   AreBooks-with_amount things old there =
       record {
@@ -83,6 +86,7 @@ module _ (books : BooksValue) (e : Entry) (t : Thing) (z : ℤ) where
         ];
       }
 
+-- books of these things stay so once an amount of one of them is booked
 pub AreBooks-after_booking : (things : ℕ) (books : BooksValue) (e : Entry) (t : Thing) (n : ℤ) → AreBooks things books → thing_index t < things → AreBooks things (after_booking books e t n)
 AreBooks-after_booking things books e t n old there = AreBooks-with_amount books e t (amount_in books e t +ℤ n) things old there
 
@@ -163,6 +167,7 @@ module _ (books : BooksValue) (e : Entry) (u : Thing) (n : ℤ) where
 
 -- ---- books with nothing in them
 
+-- every amount of empty books is 0
 pub amount-no_amounts : (things : ℕ) (e : Entry) (t : Thing) → amount_in (no_amounts things) e t ≡ pos 0
 amount-no_amounts things e t = ap (λ o. unwrap_or o (pos 0)) (get-empty {X = ℤ} account_cmp (e, t))
 
@@ -171,9 +176,11 @@ none_booked : (books : BooksValue) (t : Thing) → ((e : Entry) → amount_in bo
 unfolding booked
 none_booked books t none i = sum_of (map (λ e. none e i) all_entries)
 
+-- the sum of each thing of empty books is 0
 pub booked-no_amounts : (things : ℕ) (t : Thing) → booked (no_amounts things) t ≡ pos 0
 booked-no_amounts things t = none_booked (no_amounts things) t (λ e. amount-no_amounts things e t)
 
+-- empty books of so many things are books of these
 pub AreBooks-no_amounts : (things : ℕ) → AreBooks things (no_amounts things)
 AreBooks-no_amounts things = record { count = refl; listed = λ e t amount is. none_some amount (sym (get-empty {X = ℤ} account_cmp (e, t)) ∙ is) }
 
@@ -220,6 +227,7 @@ grows z y bound n more e h l = record { most = omega (arith, ints, h.most); leas
 stays : (z y : ℤ) (bound n more : ℕ) → y ≡ z → IsWithin bound z → bound + n ≤ more → IsWithin more y
 stays z y bound n more e h l = record { most = omega (arith, ints, h.most); least = omega (arith, ints, h.least) }
 
+-- amounts within bound are within bound + n once n is booked
 pub IsWithin-after_booking : (books : BooksValue) (e : Entry) (u : Thing) (n bound more : ℕ) → ((f : Entry) (t : Thing) → IsWithin bound (amount_in books f t)) → bound + n ≤ more → (f : Entry) (t : Thing)
     → IsWithin more (amount_in (after_booking books e u (pos n)) f t)
 IsWithin-after_booking books e u n bound more old l f t =

@@ -13,6 +13,7 @@ use Rattle.atl_tables.proofs.SumLaws.{chosen-cons}
 use Rattle.atl_records.specs.Every.{EachOf, Every, IsThere}
 use Rattle.std.proofs.lemmas.Bool.Decides.{nat_tests}
 
+-- a test that holds as a type is true
 pub is_true : (b : Bool) → T b → b ≡ true
 is_true true h = refl
 is_true false h = absurd h
@@ -24,9 +25,11 @@ none_some x e = cc
 -- ---- a value put in
 
 module _ {V : Type 0} where
+  -- anything is so of every value of the empty map
   pub every-empty : (P : ℕ → V → Type 0) → Every P (empty {X = V} {R = nat_cmp})
   every-empty P n v is = none_some v (sym (get-empty nat_cmp n) ∙ is)
 
+  -- what is so of the value put in, and of every value before, is so of every value
   pub every-insert : (P : ℕ → V → Type 0) (m : FinMap nat_cmp V) (k : ℕ) (v : V) → P k v → Every P m → Every P (insert m k v)
   every-insert P m k v here old n x is =
       elim (nat_cmp n k) as (λ o. nat_cmp n k ≡ o → cond (is_eq o) (Some v) (get m n) ≡ Some x → P n x) [
@@ -181,9 +184,11 @@ module _ {V W : Type 0} (f : V → W) where
   under None x is = none_some x is
   under (Some v) x is = let same : f v ≡ x = cc in (v, refl, same)
 
+  -- what is so of f of every value is so of every value of the mapped map
   pub every-mapped : (P : ℕ → W → Type 0) (m : FinMap nat_cmp V) → Every (λ n v. P n (f v)) m → Every P (mapped f m)
   every-mapped P m h n x is = let (v, there, same) = under (get m n) x (sym (get-mapped f m n) ∙ is) in subst (P n) same (h n v there)
 
+  -- a mapped map has values under the same numbers
   pub there-mapped : (m : FinMap nat_cmp V) (n : ℕ) → IsThere (mapped f m) n ↔ IsThere m n
   there-mapped m n = (back, forth)
     where

@@ -110,6 +110,7 @@ get-as_books rows a =
 pub amount-as_books : (rows : List (List ℤ)) (e : Entry) (t : Thing) → amount_in (as_books rows) e t ≡ cell rows (e, t)
 amount-as_books rows e t = ap (λ o. unwrap_or o (pos 0)) (get-as_books rows (e, t)) ∙ amount_listed (cell rows (e, t))
 
+-- rows stand for books of as many things as there are rows
 pub AreBooks-as_books : (rows : List (List ℤ)) → AreBooks (length rows) (as_books rows)
 AreBooks-as_books rows =
     record {
@@ -140,13 +141,14 @@ cell-replicate things a =
       | inr h ↦ let past : things ≤ thing_index a.1 = h in cell_past (replicate things no_row) a (rw length-replicate past)
     ]
 
+-- rows of 0 stand for books in which every amount is 0
 pub as_books-replicate : (things : ℕ) → as_books (replicate things (replicate entry_count (pos 0))) ≡ no_amounts things
 as_books-replicate things =
     let rows = replicate things no_row in
     same_value (as_books rows) (no_amounts things) (things-as_books rows ∙ length-replicate things no_row)
     (same_map account_total account_same (as_books rows).amounts (no_amounts things).amounts (λ a. get-as_books rows a ∙ ap listed (cell-replicate things a) ∙ sym (get-empty {X = ℤ} account_cmp a)))
 
--- ---- another amount at a place
+-- ---- another amount in a cell
 
 module _ (rows : List (List ℤ)) (grid : IsGrid rows) (e : Entry) (t : Thing) (z : ℤ) (there : thing_index t < length rows) where
   -- the thing's row with z in the entry's column
@@ -157,6 +159,7 @@ module _ (rows : List (List ℤ)) (grid : IsGrid rows) (e : Entry) (t : Thing) (
   wide : length (row_of rows t) ≡ entry_count
   wide = grid.wide (thing_index t) [] there
 
+  -- a grid stays one once a cell is written
   pub IsGrid-with_cell : IsGrid (with_cell rows e t z)
   IsGrid-with_cell =
       record {
@@ -188,6 +191,7 @@ module _ (rows : List (List ℤ)) (grid : IsGrid rows) (e : Entry) (t : Thing) (
             ap (λ r. get_or r (entry_index a.0) (pos 0)) (get_or-set_other rows (thing_index t) (thing_index a.1) new [] apart) ∙ sym (ap choice (apart_things a (e, t) apart))
       ]
 
+  -- rows with a cell written stand for the books with that amount set
   pub as_books-with_cell : as_books (with_cell rows e t z) ≡ with_amount (as_books rows) e t z
   as_books-with_cell =
       same_value (as_books (with_cell rows e t z)) (with_amount (as_books rows) e t z) (things-as_books (with_cell rows e t z) ∙ length-set rows (thing_index t) new ∙ sym (things-as_books rows))

@@ -82,6 +82,7 @@ held_people a p h = omega (arith, ints)
 held_items : (a b i m p : ℕ) → a ≡ 0 → b ≡ 0 → (2 + i == 0) ≡ false → (2 + i == 1) ≡ false → pos (a + b) ≡ cond (2 + i == 0) (pos m) (pos 0) +ℤ cond (2 + i == 1) (pos p) (pos 0)
 held_items a b i m p h g e f = ap (λ n. pos (n + b)) h ∙ ap (λ n. pos (0 + n)) g ∙ sym (ap (λ q. cond q (pos m) (pos 0) +ℤ cond (2 + i == 1) (pos p) (pos 0)) e ∙ ap (λ q. pos 0 +ℤ cond q (pos p) (pos 0)) f)
 
+-- the books of a founded campaign balance
 pub founded-balances : (w : WorldValue) (pass : List ℕ) → Balances (founded_of w pass)
 unfolding founded_of total
 founded-balances w pass Money = held_money _ _ (nobody Money) ∙ sym (founding_booked (things_of w) _ _ Money)
@@ -116,6 +117,7 @@ module _ (w : WorldValue) (pass : List ℕ) (world : IsWorld w) where
   abbrev people : ℕ
   people = sum_over (λ (r : Region). region_amount People r) regions
 
+  -- a founded campaign is in range
   founded-numbers : AreInRange w (founded_of w pass)
   unfolding founded_of
   founded-numbers = record {
@@ -133,6 +135,7 @@ module _ (w : WorldValue) (pass : List ℕ) (world : IsWorld w) where
     books = AreBooks-founding (things_of w) money people (omega arith);
   }
 
+  -- a founded campaign has good names, if its pass text is good
   founded-names : IsTrue (pass_ok pass) → AreNamed (founded_of w pass)
   unfolding founded_of
   founded-names passes = record {
@@ -143,6 +146,7 @@ module _ (w : WorldValue) (pass : List ℕ) (world : IsWorld w) where
     structures = every-empty (λ n s. IsTrue (name_ok s.name));
   }
 
+  -- what a founded campaign names by number exists
   founded-known : AreKnown w (founded_of w pass)
   unfolding founded_of
   founded-known = record {
@@ -153,6 +157,7 @@ module _ (w : WorldValue) (pass : List ℕ) (world : IsWorld w) where
     posts = posted-nobody;
   }
 
+  -- a founded campaign is steady, if its pass text is good
   founded-steady : IsTrue (pass_ok pass) → IsSteady w (founded_of w pass)
   unfolding founded_of
   founded-steady passes = record {
@@ -170,6 +175,7 @@ module _ (w : WorldValue) (pass : List ℕ) (world : IsWorld w) where
     guarded = every-empty (λ n u. Every (λ m v. guards u ≡ true → guards v ≡ true → u.region ≡ v.region → u.faction ≡ v.faction) empty);
   }
 
+  -- the amounts of a founded campaign are within their bound, if money and people are at most 10^14
   founded-amounts : money ≤ 100000000000000 → people ≤ 100000000000000 → AreAmountsWithin (founded_of w pass)
   unfolding founded_of
   founded-amounts few_money few_people =
@@ -177,6 +183,7 @@ module _ (w : WorldValue) (pass : List ℕ) (world : IsWorld w) where
       let one = after_booking (no_amounts things) Founding Money (pos money) in
       IsWithin-after_booking one Founding People people money _ (IsWithin-after_booking (no_amounts things) Founding Money money 0 money (none_within things) (omega arith)) (omega arith)
 
+  -- a founded campaign is good, if its pass text is good, and money and people are at most 10^14
   pub founded-good : IsTrue (pass_ok pass) → money ≤ 100000000000000 → people ≤ 100000000000000 → IsGood w (founded_of w pass)
   unfolding founded_of
   founded-good passes few_money few_people = record {

@@ -37,6 +37,7 @@ module _ (w : WorldValue) (c : CampaignValue) (month : ℕ) (mail reports : FinM
   abbrev posted : CampaignValue
   posted = record c { month = month; mail = mail; reports = reports }
 
+  -- the campaign stays in range, in a month up to the last
   posted-numbers : month ≤ last_month → AreInRange w c → AreInRange w posted
   posted-numbers early old = record {
     month = early;
@@ -53,13 +54,16 @@ module _ (w : WorldValue) (c : CampaignValue) (month : ℕ) (mail reports : FinM
     books = old.books;
   }
 
+  -- names stay good with other mail and reports
   posted-names : AreNamed c → AreNamed posted
   posted-names old = record { pass = old.pass; factions = old.factions; joined = old.joined; units = old.units; structures = old.structures }
 
   module _ (early : month ≤ last_month) (posts : AreOfFactions c.factions mail reports) where
+    -- what is named by number exists, with mail and reports of factions that are there
     posted-known : AreKnown w c → AreKnown w posted
     posted-known old = record { regions = old.regions; markets = old.markets; units = old.units; structures = old.structures; posts = posts }
 
+    -- the campaign stays steady, in a month up to the last, with mail and reports of factions that are there
     pub posted-steady : IsSteady w c → IsSteady w posted
     posted-steady old = record {
       numbers = posted-numbers early old.numbers;

@@ -64,7 +64,7 @@ keys_are : (ps : List IndexEntry) → keys_of (slots_of ps) ≡ numbers_of ps
 keys_are [] = refl
 keys_are (p ∷ ps) = ap (λ ns. p.number ∷ ns) (keys_are ps)
 
--- ---- an entry whose number is new, at any place of a list
+-- ---- an entry whose number is new, at any index of a list
 module _ {X : Type 0} where
   -- where a choice of Some or o is None, it is not the Some
   first_apart : (b : Bool) (x : X) (o : Option X) → cond b (Some x) o ≡ None → b ≡ false
@@ -142,7 +142,7 @@ put_again ps n i d s h =
 pub get-stands : (ps : List IndexEntry) (n i : ℕ) (d : IndexEntry) → IsSorted ps → IsAt (numbers_of ps) n i → finmap.get (as_map ps) n ≡ Some (get_or ps i d).slot
 get-stands ps n i d s h = ap (λ m. finmap.get m n) (put_again ps n i d s h) ∙ there_itself (as_map (remove ps i)) n (get_or ps i d).slot
 
--- ---- a place that comes
+-- ---- an entry that is inserted
 -- inserting an entry where its number belongs puts it into the map
 pub map-added : (ps : List IndexEntry) (n i k : ℕ) → IsSorted ps → BelongsAt (numbers_of ps) n i → as_map (insert ps i (record { number = n; slot = k })) ≡ finmap.insert (as_map ps) n k
 map-added ps n i k s b =
@@ -152,7 +152,7 @@ map-added ps n i k s b =
 pub rising-added : (ps : List IndexEntry) (n i k : ℕ) → IsSorted ps → BelongsAt (numbers_of ps) n i → IsSorted (insert ps i (record { number = n; slot = k }))
 rising-added ps n i k s b = rw (map-insert (λ (p : IndexEntry). p.number) ps i (record { number = n; slot = k })) (rising-insert (numbers_of ps) n i s b)
 
--- ---- a place that goes
+-- ---- an entry that is removed
 -- removing the entry at a number's index removes the number from the map
 pub map-without : (ps : List IndexEntry) (n i : ℕ) → IsSorted ps → IsAt (numbers_of ps) n i → as_map (remove ps i) ≡ finmap.remove (as_map ps) n
 map-without ps n i s h =
@@ -180,7 +180,7 @@ entries-places ps s = entries_of (slots_of ps) (rw (keys_are ps) s)
 pub len-places : (ps : List IndexEntry) → IsSorted ps → finmap.len (as_map ps) ≡ length ps
 len-places ps s = len_of (slots_of ps) (rw (keys_are ps) s) ∙ length-map ps (λ (p : IndexEntry). (p.number, p.slot))
 
--- ---- where a search says that a number stands, or belongs
+-- ---- the index that a search gives: of a number, or where it belongs
 -- where the binary search finds an index, the number is at it
 pub found-by_search : (ps : List IndexEntry) (n : ℕ) (r : Result ℕ ℕ) → IsSearchInRange r (length ps) → IsBinarySearchResult (λ p. nat_cmp p.number n) ps r → IfOk r (λ i. IsAt (numbers_of ps) n i)
 found-by_search ps n (Ok i) l h =

@@ -141,6 +141,7 @@ module _ (w : WorldValue) (name pass : List ℕ) (word : ℕ) (c : CampaignValue
   abbrev units : FinMap nat_cmp Unit
   units = insert c.units c.next_unit unit
 
+  -- a campaign that a faction joined is in range
   joined-numbers : is_full c ≡ false → IsWorld w → AreNumbered c → AreInRange w c → AreInRange w (joined w name pass word c)
   unfolding joined
   joined-numbers full world next old =
@@ -161,6 +162,7 @@ module _ (w : WorldValue) (name pass : List ℕ) (word : ℕ) (c : CampaignValue
         books = AreBooks-after_booking (things_of w) one Joining People (pos 1) (AreBooks-after_booking (things_of w) c.books Joining Money (pos w.rules.start_money) old.books (omega arith)) (omega arith);
       }
 
+  -- a campaign that a faction joined has good names, if the new ones are good and the name is free
   joined-names : is_full c ≡ false → name_taken c name ≡ false → IsTrue (name_ok name) → IsTrue (pass_ok pass) → AreNamed c → AreNamed (joined w name pass word c)
   unfolding joined
   joined-names full free named passes old =
@@ -179,6 +181,7 @@ module _ (w : WorldValue) (name pass : List ℕ) (word : ℕ) (c : CampaignValue
   home_there : IsWorld w → (p : RegionPlan) × (get w.regions (home_of w word) ≡ Some p) × (is_land w.terrains p ≡ true)
   home_there world = passes-listed (is_land w.terrains) w.regions (word % length (land_of w)) 0 (omega (arith, world.some_land))
 
+  -- what a campaign that a faction joined names by number exists
   joined-known : IsWorld w → AreKnown w c → AreKnown w (joined w name pass word c)
   unfolding joined
   joined-known world old =
@@ -203,6 +206,7 @@ module _ (w : WorldValue) (name pass : List ℕ) (word : ℕ) (c : CampaignValue
         posts = posted-there (λ n. there-insert c.factions c.next_faction n member) old.posts;
       }
 
+  -- a campaign that a faction joined is numbered, with the next numbers one higher
   joined-next : AreNumbered c → AreNumbered (joined w name pass word c)
   unfolding joined
   joined-next old = record {
@@ -211,6 +215,7 @@ module _ (w : WorldValue) (name pass : List ℕ) (word : ℕ) (c : CampaignValue
     units = still_free c.units (c.next_unit + 1) c.next_unit unit (λ q l. old.units q (omega arith)) (omega arith);
   }
 
+  -- days of study stay within their limits when a faction joins
   joined-days : AreDays c → AreDays (joined w name pass word c)
   unfolding joined
   joined-days old = every-insert (λ n u. Every (λ s days. (1 ≤ days) × (days ≤ most_days * u.holding.men)) u.holding.days) c.units c.next_unit unit (every-empty (λ s days. (1 ≤ days) × (days ≤ most_days * 1))) old
@@ -228,6 +233,7 @@ module _ (w : WorldValue) (name pass : List ℕ) (word : ℕ) (c : CampaignValue
     same_units : (n : ℕ) (f : Faction) → get c.factions n ≡ Some f → numbers_of n units ≡ numbers_of n c.units
     same_units n f is = numbers_where-insert_other (λ (u : Unit). u.faction == n) c.units c.next_unit unit free_unit (other_key c.factions c.next_faction n f free_faction is)
 
+    -- factions that are gone still have no units when another joins
     joined-gone : GoneHaveNone c → GoneHaveNone (joined w name pass word c)
     unfolding joined
     joined-gone old = every-insert (λ n f. f.gone ≡ true → numbers_of n units ≡ []) c.factions c.next_faction member (λ e. absurd (false≢true e)) (λ n f is gone. same_units n f is ∙ old n f is gone)
@@ -238,10 +244,12 @@ module _ (w : WorldValue) (name pass : List ℕ) (word : ℕ) (c : CampaignValue
         let same : (c.next_faction == c.next_faction) ≡ true = grind (arith, nat_tests) in
         some_put c.next_unit (numbers_of c.next_faction c.units) (sym (numbers_where-insert_new (λ (u : Unit). u.faction == c.next_faction) c.units c.next_unit unit free_unit same) ∙ none)
 
+    -- factions without units are gone, once a faction joined
     joined-none : NoneAreGone c → NoneAreGone (joined w name pass word c)
     unfolding joined
     joined-none old = every-insert (λ n f. numbers_of n units ≡ [] → f.gone ≡ true) c.factions c.next_faction member own_unit (λ n f is none. old n f is (sym (same_units n f is) ∙ none))
 
+    -- structures are still owned by units inside them when a faction joins
     joined-owners : AreOwned c → AreOwned (joined w name pass word c)
     unfolding joined
     joined-owners old n s is = let o = old n s is in record {
@@ -249,10 +257,12 @@ module _ (w : WorldValue) (name pass : List ℕ) (word : ℕ) (c : CampaignValue
       ownerless = λ none. every-insert (λ m u. u.structure ≢ n) c.units c.next_unit unit (λ same. none_some s (sym next.structures.first ∙ ap (get c.structures) same ∙ is)) (o.ownerless none);
     }
 
+    -- mail is still good when a faction joins
     joined-mail : IsMail c → IsMail (joined w name pass word c)
     unfolding joined
     joined-mail old n text is = let (own, active) = old n text is in let (f, there, stays) = active in (own, (f, still_there c.factions c.next_faction n member f free_faction there, stays))
 
+  -- what is on water is still afloat when a faction joins
   joined-water : IsWorld w → AreAfloat w c → AreAfloat w (joined w name pass word c)
   unfolding joined
   joined-water world old =
@@ -263,15 +273,18 @@ module _ (w : WorldValue) (name pass : List ℕ) (word : ℕ) (c : CampaignValue
         structures = old.structures;
       }
 
+  -- guards stay of one faction in each region when a faction joins
   joined-guarded : AreOfOneFaction guards c → AreOfOneFaction guards (joined w name pass word c)
   unfolding joined
   joined-guarded old = every-insert (λ n u. Every (λ m v. guards u ≡ true → guards v ≡ true → u.region ≡ v.region → u.faction ≡ v.faction) units) c.units c.next_unit unit (λ m v is e. absurd (true≢false (sym e)))
       (λ n u is. every-insert (λ m v. guards u ≡ true → guards v ≡ true → u.region ≡ v.region → u.faction ≡ v.faction) c.units c.next_unit unit (λ _ e. absurd (true≢false (sym e))) (old n u is))
 
+  -- every unit has men, once a faction joined
   joined-men : HaveMen c → HaveMen (joined w name pass word c)
   unfolding joined
   joined-men old = every-insert (λ n u. 1 ≤ u.holding.men) c.units c.next_unit unit (omega arith) old
 
+  -- amounts of the books are within their bound, once a faction joined
   joined-amounts : IsWorld w → AreNumbered c → AreAmountsWithin c → AreAmountsWithin (joined w name pass word c)
   unfolding joined
   joined-amounts world next old =
@@ -281,6 +294,7 @@ module _ (w : WorldValue) (name pass : List ℕ) (word : ℕ) (c : CampaignValue
       (IsWithin-after_booking c.books Joining Money w.rules.start_money (amount_bound c) (amount_bound c + w.rules.start_money) old (omega arith)) (omega (arith, more, world.rules.start_money))
 
   module _ (full : is_full c ≡ false) (free : name_taken c name ≡ false) (named : IsTrue (name_ok name)) (passes : IsTrue (pass_ok pass)) (world : IsWorld w) where
+    -- a campaign stays steady when a faction joins
     joined-steady : IsSteady w c → IsSteady w (joined w name pass word c)
     joined-steady old = record {
       numbers = joined-numbers full world old.next old.numbers;

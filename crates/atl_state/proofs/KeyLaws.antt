@@ -70,16 +70,19 @@ module _ {A B : Type 0} (f : A → B) (e : B → B → Bool) where
   each_of_map x [] h = tt
   each_of_map x (y ∷ xs) h = (h.0, each_of_map x xs h.1)
 
+  -- what is distinct by f is distinct once mapped by f
   pub IsDistinct-map : (xs : List A) → IsDistinct (λ x y. e (f x) (f y)) xs → IsDistinct e (map f xs)
   unfolding IsDistinct
   IsDistinct-map [] h = tt
   IsDistinct-map (x ∷ xs) h = (each_map x xs h.0, IsDistinct-map xs h.1)
 
+  -- what is distinct once mapped by f is distinct by f
   pub IsDistinct-of_map : (xs : List A) → IsDistinct e (map f xs) → IsDistinct (λ x y. e (f x) (f y)) xs
   unfolding IsDistinct
   IsDistinct-of_map [] h = tt
   IsDistinct-of_map (x ∷ xs) h = (each_of_map x xs h.0, IsDistinct-of_map xs h.1)
 
+-- an answer that decides P decides Q, if P and Q follow from each other
 pub IfOk-decided : {E P Q : Type 0} (r : Result Bool E) → (P → Q) → (Q → P) → IfOk r (λ yes. Decides yes P) → IfOk r (λ yes. Decides yes Q)
 IfOk-decided (Ok answer) there back h = (λ e. there (h.0 e), λ q. h.1 (back q))
 IfOk-decided (Err x) there back h = tt

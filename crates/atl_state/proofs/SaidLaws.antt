@@ -402,11 +402,11 @@ module _ (f : Format) (w : WorldValue) (p : Parts) (k : RowsKeep f w p) where
   their_men : Every (λ n u. u.holding.men ≤ men_limit) units
   their_men = by_number-every (λ r. as_u32 r.number) (unit_of p.has) (λ n u. u.holding.men ≤ men_limit) unit_in_range (λ r h. (in_range 1 men_limit most_u32 r.men (omega arith) (unit_ranges r h).men).1) p.units ranges.units
 
-  -- where the unit of a row of goods exists, the row's thing is among what the rows say the unit has
+  -- the thing of a row of goods is among what the rows say unit n has of this kind
   abbrev ThingThere : ℕ → ℕ → StoredHas → Type 0
   ThingThere n sort h = IsThere (things_had n sort p.has) (as_u32 h.thing)
 
-  -- ThingThere holds of each row of goods
+  -- the thing of each row of goods is among what the rows say its unit has of its kind
   things_there : AllByRecursion (λ h. (n : ℕ) → (sort : ℕ) → is_of n sort h ≡ true → ThingThere n sort h) p.has
   things_there = all_forall (λ n h. (sort : ℕ) → is_of n sort h ≡ true → ThingThere n sort h) p.has (λ n. all_forall (λ sort h. is_of n sort h ≡ true → ThingThere n sort h) p.has (λ sort.
       unkept (is_of n sort) (ThingThere n sort) p.has (rows_there (λ h. as_u32 h.thing) (λ h. as_u32 h.amount) (filter (is_of n sort) p.has))))
@@ -461,7 +461,7 @@ module _ (f : Format) (w : WorldValue) (p : Parts) (k : RowsKeep f w p) where
   abbrev IsFound : ℕ → ℕ → StoredHas → Type 0
   IsFound n sort h = get (things_had n sort p.has) (as_u32 h.thing) ≡ Some (as_u32 h.amount)
 
-  -- IsFound holds of each row of goods
+  -- the amount of each row of goods is found under its thing among what the rows say its unit has
   all_found : AllByRecursion (λ h. (n : ℕ) → (sort : ℕ) → is_of n sort h ≡ true → IsFound n sort h) p.has
   all_found = all_forall (λ n h. (sort : ℕ) → is_of n sort h ≡ true → IsFound n sort h) p.has (λ n. all_forall (λ sort h. is_of n sort h ≡ true → IsFound n sort h) p.has (λ sort.
       unkept (is_of n sort) (IsFound n sort) p.has (rows_found (λ h. as_u32 h.thing) (λ h. as_u32 h.amount) (filter (is_of n sort) p.has) (things_apart n sort p.has all_keyed k.range.keys.has))))
@@ -488,7 +488,7 @@ module _ (f : Format) (w : WorldValue) (p : Parts) (k : RowsKeep f w p) where
   exact : (h : StoredHas) → KeyedPlaced h → ((n : ℕ) → (sort : ℕ) → is_of n sort h ≡ true → IsFound n sort h) → IsExact h
   exact h (keys, (there, range)) found = let amount = exact_of h there (sort_of h range).1 found in record { keys = keys; amount = amount.0; some = amount.1 }
 
-  -- this is so of each row of goods
+  -- the key and amount of each row of goods are read as they are, with an amount other than 0
   all_exact : AllByRecursion IsExact p.has
   all_exact = each_with KeyedPlaced (λ h. (n : ℕ) → (sort : ℕ) → is_of n sort h ≡ true → IsFound n sort h) IsExact exact p.has (each_with IsKeyed Placed KeyedPlaced (λ h a b. (a, b)) p.has all_keyed all_placed) all_found
 
@@ -521,7 +521,7 @@ module _ (f : Format) (w : WorldValue) (p : Parts) (k : RowsKeep f w p) where
       let stock = from_range 1 (stock_limit w (as_u32 m.region) (as_u32 m.item)) m.stock (omega (arith, limit_few)) range in
       record { keys = record { region = whole_below m.region (omega arith); item = whole_below m.item (omega arith) }; stock = stock.0; some = whole_not_zero m.stock stock.0 stock.1 }
 
-  -- this is so of each row of a market
+  -- the key and stock of each row of a market are read as they are, with a stock other than 0
   exact_markets : AllByRecursion market.IsExact p.markets
   exact_markets =
       each_with (λ m. is_of_market w m ≡ true) (λ m. market_in_range w m ≡ true) market.IsExact exact_market p.markets (each_passes (is_of_market w) (λ m. is_of_market w m ≡ true) (λ m e. e) p.markets k.stocked)
@@ -576,7 +576,7 @@ module _ (f : Format) (w : WorldValue) (p : Parts) (k : RowsKeep f w p) where
       let some = not_zero r.amount (not-true (is_zero r.amount) (and_parts (not (is_zero r.amount)) (is_within (books_bound p) r.amount) range).0) in
       booked_row (things_of w) r (whole_below r.entry (omega arith)) (whole_below r.thing (omega arith)) entry.0 entry.1 there some
 
-  -- this is so of each row of books
+  -- each row of books is of an account of the world's things, as IsBooked says
   pub all_booked : AllByRecursion (IsBooked (things_of w)) p.books
   all_booked =
       each_with (λ r. is_booked f w r ≡ true) (λ r. books_in_range (books_bound p) r ≡ true) (IsBooked (things_of w)) its_account p.books (each_passes (is_booked f w) (λ r. is_booked f w r ≡ true) (λ r h. h) p.books k.booked)

@@ -164,6 +164,7 @@ module _ {V : Type 0} where
         (sym (get-remove nat_cmp_total i n a) ∙ h);
   }
 
+  -- giving up a number and its slot removes the value under the number
   pub values_removed : (i : FinMap nat_cmp ℕ) (s t : slab.Slab V) (n k : ℕ) → slab.Updates s t k None → get i n ≡ Some k → AreLodged i s → values_of (remove i n) t ≡ remove (values_of i s) n
   values_removed i s t n k u is held = same_map nat_cmp_total nat_cmp-IsAntisymmetric _ _ (λ q.
       get_values (remove i n) t (AreLodged-removed i s t n k u is held) q ∙ ap (through t) (get-remove nat_cmp_total i n q)
@@ -176,15 +177,18 @@ module _ {V : Type 0} where
   pub nothing_changed : (i : FinMap nat_cmp ℕ) (s t : slab.Slab V) → slab.SameValues s t → values_of i t ≡ values_of i s
   nothing_changed i s t same = ap from_entries (lodged_same (entries i) s t same)
 
+  -- numbers still lead to slots of their own in a slab with the same values
   pub AreLodged-same : (i : FinMap nat_cmp ℕ) (s t : slab.Slab V) → slab.SameValues s t → AreLodged i s → AreLodged i t
   AreLodged-same i s t same held = record { in_use = λ n k h. ap is_some (same k) ∙ held.in_use n k h; by_one = held.by_one }
 
+  -- a slab with a value put into a vacant slot and taken out again has the same values
   pub put_back : (s t r : slab.Slab V) (k : ℕ) (x : V) → slab.get s k ≡ None → slab.Updates s t k (Some x) → slab.Updates t r k None → slab.SameValues s r
   put_back s t r k x vacant u v j = elim (cases_eq j k) [
     | inl same ↦ ap (slab.get r) same ∙ v.changed ∙ sym (ap (slab.get s) same ∙ vacant)
     | inr apart ↦ v.others j apart ∙ u.others j apart
   ]
 
+  -- a slot in use is one of the slab's
   inside : (s : slab.Slab V) (k : ℕ) → is_some (slab.get s k) ≡ true → k < length s.slots
   inside s k h = elim (cases_lt k (length s.slots)) [
     | inl l ↦ l
@@ -195,6 +199,7 @@ module _ {V : Type 0} where
   pub written : (s : slab.Slab V) (k : ℕ) (x : V) → is_some (slab.get s k) ≡ true → slab.Updates s (slab.with_value s k x) k (Some x)
   written s k x h = record { changed = get_or-set_same s.slots k (Some x) None (inside s k h); others = λ j ne. get_or-set_other s.slots k j (Some x) None ne }
 
+-- no numbers have no values
 pub no_values : {V : Type 0} (s : slab.Slab V) → values_of empty s ≡ empty
 no_values s = rw (entries-empty {X = ℕ}) refl
 
