@@ -32,7 +32,7 @@ at_place (Item i) = item_at (2 + i) i (omega arith)
 pub same_thing : (t u : Thing) → thing_index t ≡ thing_index u → t ≡ u
 same_thing t u h = sym (at_place t) ∙ ap thing_at h ∙ at_place u
 
--- Some tells values apart
+-- equal Some's have equal entries
 inside : (d e : Entry) → Some d ≡ Some e → d ≡ e
 inside d e h = cc
 

@@ -85,7 +85,7 @@ pub struct Structure {
     pub owner: u32,
 }
 
-/// Why a faction does not join. The campaign is then unchanged, and no dirty flag is set.
+/// Why a faction does not join. The campaign, its marks too, is then unchanged.
 /// See docs/RULES.md, "Joining".
 #[derive(Drop, Clone, Copy, Debug, PartialEq, Eq)]
 pub enum JoinFault {

@@ -90,7 +90,7 @@ item_amount r h sort =
 good_amount : (n : ℕ) (r : StoredHas) → has_in_range r ≡ true → is_of n 0 r ≡ true → (1 ≤ amount_of r) × (amount_of r ≤ holding_limit)
 good_amount n r h of = item_amount r h (is_same (as_u32 r.sort) 0 (and_parts (as_u32 r.unit == n) (as_u32 r.sort == 0) of).1)
 
--- Some of equal numbers are of equal numbers
+-- equal Some's have equal numbers
 some_same : (a b : ℕ) → Some a ≡ Some b → a ≡ b
 some_same a b e = cc
 

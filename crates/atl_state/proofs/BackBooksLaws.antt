@@ -97,7 +97,7 @@ others_apart x (y ∷ es) h =
       others_apart x es parts.1,
     )
 
--- the rows of sorted entries have keys of their own
+-- the rows of sorted entries have distinct keys
 entries_apart : (es : List (Account × ℤ)) → is_sorted account_cmp es ≡ true → IsDistinct (λ a b. same (books_key a) (books_key b)) (amounts_rows es)
 unfolding IsDistinct
 entries_apart [] h = tt
@@ -121,7 +121,7 @@ module _ (things : ℕ) (few : things ≤ 4294967294) (books : BooksValue) (are 
       })
 
   module _ (rows : List StoredBooks) (h : IsPermutation (books_rows books) rows) where
-    -- rows of books, in any order, have keys of their own
+    -- rows of books, in any order, have distinct keys
     pub books_keys : HaveKeys books_key rows
     books_keys = keys_permuted books_key (books_rows books) rows h (entries_apart (entries books.amounts) (amounts_sorted books.amounts))
 

@@ -64,13 +64,13 @@ module _ (units : FinMap nat_cmp Unit) where
   all_differ [] ys h k = tt
   all_differ (a ∷ xs) ys h k = (sorts_differ a ys h.0 k, all_differ xs ys h.1 k)
 
-  -- the rows of one unit have keys of their own
+  -- the rows of one unit have distinct keys
   held_apart : (n : ℕ) (u : Unit) → IsDistinct (λ a b. same (has_key a) (has_key b)) (held_rows n u.holding)
   held_apart n u =
       append_apart (λ a b. same (has_key a) (has_key b)) (kind_rows n 0 (entries u.holding.items)) (kind_rows n 1 (entries u.holding.days)) (sort_apart n 0 u.holding.items) (sort_apart n 1 u.holding.days)
       (all_differ (kind_rows n 0 (entries u.holding.items)) (kind_rows n 1 (entries u.holding.days)) (lines_each none (has_row n 0) u.holding.items (λ r. r.sort ≡ pos 0) (λ i a is some. refl)) (lines_each none (has_row n 1) u.holding.days (λ r. r.sort ≡ pos 1) (λ i a is some. refl)))
 
-  -- the rows of all units have keys of their own
+  -- the rows of all units have distinct keys
   has_apart : IsDistinct (λ a b. same (has_key a) (has_key b)) (has_rows (entries units))
   has_apart =
       flat_apart (λ a b. same (has_key a) (has_key b)) (λ (e : ℕ × Unit). held_rows e.0 e.1.holding) (λ e f. e.0 < f.0) (λ e r. r.unit ≡ pos e.0)
@@ -84,7 +84,7 @@ module _ (units : FinMap nat_cmp Unit) where
     pub goods : Every (λ n u. (s : ℕ) → s < 2 → Every (λ i a. (i ≤ most_u32) × (1 ≤ a) × (a ≤ most_u32)) (goods_of s u)) units
 
   module _ (had : AreHad) (rows : List StoredHas) (h : IsPermutation (has_rows (entries units)) rows) where
-    -- the rows, in any order, have keys of their own
+    -- the rows, in any order, have distinct keys
     pub has_keys : HaveKeys has_key rows
     has_keys = keys_permuted has_key (has_rows (entries units)) rows h has_apart
 
@@ -101,7 +101,7 @@ module _ (units : FinMap nat_cmp Unit) where
     nonzero : (a : ℕ) → 1 ≤ a → is_zero (pos a) ≡ false
     nonzero a l = grind (arith, nat_tests)
 
-    -- Some tells units apart
+    -- equal Some's have equal units
     some_same : (u v : Unit) → Some u ≡ Some v → u ≡ v
     some_same u v e = cc
 

@@ -165,7 +165,7 @@ same_key a b h =
 pub apart_keys : (a b : Key) → ¬ (SameKey a b) → same a b ≡ false
 apart_keys a b h = elim (same a b) as (λ t. same a b ≡ t → same a b ≡ false) [ true ↦ λ e. absurd (h (same_key a b e)) | false ↦ λ e. e ] refl
 
--- equal whole numbers are of equal numbers
+-- pos m ≡ pos n gives m ≡ n
 pub same_size : (m n : ℕ) → pos m ≡ pos n → m ≡ n
 same_size m n e = cc
 
@@ -257,6 +257,6 @@ module _ {V R : Type 0} (row : ℕ → V → R) (e : R → R → Bool) (apart : 
 same_symm : (a b : Key) → same a b ≡ same b a
 same_symm = (eq_by_cmp_equiv (then_total (then_total (on_total (λ (t : Key). t.0) int_cmp_total) (on_total (λ (t : Key). t.1) int_cmp_total)) (on_total (λ (t : Key). t.2) int_cmp_total))).symm
 
--- rows with keys of their own have them in any order
+-- rows with distinct keys have them in any order
 pub keys_permuted : {R : Type 0} (key : R → Key) (xs ys : List R) → IsPermutation xs ys → IsDistinct (λ a b. same (key a) (key b)) xs → HaveKeys key ys
 keys_permuted key xs ys h d = IsDistinct-map key same ys (IsDistinct-IsPermutation (λ a b. same (key a) (key b)) (λ a b. same_symm (key a) (key b)) xs ys h d)

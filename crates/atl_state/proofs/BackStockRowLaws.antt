@@ -37,7 +37,7 @@ region_apart n stocks =
 nonzero : (a : ℕ) → 1 ≤ a → is_zero (pos a) ≡ false
 nonzero a l = grind (arith, nat_tests)
 
--- Some tells regions apart
+-- equal Some's have equal regions
 some_same : (r s : Region) → Some r ≡ Some s → r ≡ s
 some_same r s e = cc
 
@@ -54,7 +54,7 @@ module _ (regions : FinMap nat_cmp Region) where
   each_stock : (P : StoredMarket → Type 0) → AllByRecursion P (market_rows Second (entries regions)) → Every (λ n r. Every (λ i a. is_zero (pos a) ≡ false → P (market_row n i a)) r.stocks) regions
   each_stock P h n r is = each_line none (market_row n) r.stocks P (each_group stocked P regions h n r is)
 
-  -- the rows of all regions' stocks have keys of their own
+  -- the rows of all regions' stocks have distinct keys
   stocks_apart : IsDistinct (λ a b. same (market_key a) (market_key b)) (market_rows Second (entries regions))
   stocks_apart =
       flat_apart (λ a b. same (market_key a) (market_key b)) stocked (λ e f. e.0 < f.0) (λ e m. m.region ≡ pos e.0)
@@ -67,7 +67,7 @@ module _ (regions : FinMap nat_cmp Region) where
     pub stocks : Every (λ n r. Every (λ i a. (i ≤ most_u32) × (1 ≤ a) × (a ≤ most_u32)) r.stocks) regions
 
   module _ (few : AreStocked) (rows : List StoredMarket) (h : IsPermutation (market_rows Second (entries regions)) rows) where
-    -- the rows, in any order, have keys of their own
+    -- the rows, in any order, have distinct keys
     pub market_keys : HaveKeys market_key rows
     market_keys = keys_permuted market_key (market_rows Second (entries regions)) rows h stocks_apart
 

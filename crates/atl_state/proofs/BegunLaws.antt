@@ -79,7 +79,7 @@ module _ (w : WorldValue) (c : CampaignValue) (s : Structure) (fresh : IsFresh w
   nobody : {P : Type 0} → s.owner ≢ 0 → P
   nobody some = absurd (some fresh.ownerless)
 
-  -- all numbers that are named still exist
+  -- everything that is named by its number still exists
   known_kept : AreKnown w raised
   known_kept = record {
     regions = old.known.regions;
@@ -210,7 +210,7 @@ module _ (w : WorldValue) (c : CampaignValue) (k : ℕ) (s : Structure) (done : 
       books = was.numbers.books;
     }
 
-    -- all numbers that are named still exist
+    -- everything that is named by its number still exists
     known_built : AreKnown w built
     known_built = record {
       regions = was.known.regions;

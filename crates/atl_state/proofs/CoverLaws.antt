@@ -38,7 +38,7 @@ without_marks false b stays free = refl
 pub was_unmarked : (before after : FinSet nat_cmp) → StaysMarked before after → (n : ℕ) → contains after n ≡ false → contains before n ≡ false
 was_unmarked before after stays n free = without_marks (contains before n) (contains after n) (stays n) free
 
--- marks that stay twice stay
+-- StayMarked is transitive
 pub stay-trans : {a b c : Marks} → StayMarked a b → StayMarked b c → StayMarked a c
 stay-trans one two = record {
   factions = λ n h. two.factions n (one.factions n h);
@@ -72,7 +72,7 @@ covers-trans {m} {n} a b c stay one two = record {
   row = λ free. two.row free ∙ one.row (without_marks m.row n.row stay.row free);
 }
 
--- two changes that are marked are one change that is marked
+-- MarksChanges is transitive
 pub marks-trans : (a b c : MarkedCampaign) → MarksChanges a b → MarksChanges b c → MarksChanges a c
 marks-trans a b c one two = record { stay = stay-trans one.stay two.stay; covers = covers-trans a.value b.value c.value two.stay one.covers two.covers }
 
@@ -246,7 +246,7 @@ Stays m n p = (k : Mark p) → is_marked p m k ≡ true → is_marked p n k ≡ 
 abbrev pub Tells : Marks → CampaignValue → CampaignValue → Part → Type 0
 Tells m before after p = (k : IndexEntry p) → is_marked p m (mark_at p k) ≡ false → shown p after k ≡ shown p before k
 
--- a change is marked if, of each part, marks stay and what is not marked is the same
+-- MarksChanges holds if, of each part, marks stay and what is not marked is the same
 pub part_by_part : (a b : MarkedCampaign) → ((p : Part) → Stays a.marks b.marks p) → ((p : Part) → Tells b.marks a.value b.value p) → MarksChanges a b
 part_by_part a b stays tells = record {
   stay = record {
@@ -279,7 +279,7 @@ part_by_part a b stays tells = record {
   };
 }
 
--- no change is a change that is marked
+-- MarksChanges holds of a campaign and itself
 pub marks-refl : (a : MarkedCampaign) → MarksChanges a a
 marks-refl a = part_by_part a a (λ p k h. h) (λ p k free. refl)
 
@@ -292,7 +292,7 @@ changed_there {V} P f values n none some = by_value (get values n) refl
     by_value None is = none
     by_value (Some v) is = some v is
 
--- a change of faction n alone, with its mark, is marked
+-- a change of faction n alone, with its mark, satisfies MarksChanges
 pub marks-faction : (f : Faction → Faction) (c : MarkedCampaign) (n : ℕ) → MarksChanges c (record { value = faction_changed f c.value n; marks = mark_faction c n })
 marks-faction f c n =
     let after : FinMap nat_cmp Faction → Option Faction → MarkedCampaign = λ m o. record { value = record c.value { factions = m }; marks = record c.marks { factions = marked_with c.marks.factions n o } } in
@@ -314,7 +314,7 @@ shown_still shows values n k v w is same = ap shows (get-insert nat_cmp_total va
 abbrev in_stock : ℕ → Option Region → ℕ
 in_stock item o = option_map_or (λ r. amount_of r.stocks item) o 0
 
--- a change of a region but for its stocks, with its mark, is marked
+-- a change of a region but for its stocks, with its mark, satisfies MarksChanges
 pub marks-region : (f : Region → Region) → ((r : Region) → (f r).stocks ≡ r.stocks) → (c : MarkedCampaign) (n : ℕ) → MarksChanges c (record { value = region_changed f c.value n; marks = mark_region c n })
 marks-region f same c n =
     let after : FinMap nat_cmp Region → Option Region → MarkedCampaign = λ m o. record { value = record c.value { regions = m }; marks = record c.marks { regions = marked_with c.marks.regions n o } } in
@@ -359,7 +359,7 @@ module _ (c : MarkedCampaign) (n item amount : ℕ) where
         | _ ↦ λ k free. refl
       ])
 
-  -- setting a stock, with the mark of the region's stocks, is marked
+  -- setting a stock, with the mark of the region's stocks, satisfies MarksChanges
   stock_changes : (v : Region) → get c.value.regions n ≡ Some v → MarksChanges c (there_after false v)
   stock_changes v is = part_by_part c (there_after false v)
       (λ p. elim p as (Stays c.marks (there_after false v).marks) [ Stocks ↦ put_stays c.marks.stocks n | _ ↦ λ k h. h ])
@@ -369,7 +369,7 @@ module _ (c : MarkedCampaign) (n item amount : ℕ) where
         | _ ↦ λ k free. refl
       ])
 
-  -- setting a stock, with its mark, is marked
+  -- setting a stock, with its mark, satisfies MarksChanges
   pub marks-stock : MarksChanges c (record { value = with_stock c.value n item amount; marks = mark_stock c n item amount })
   marks-stock = by_amount (stock_of c.value n item == amount) refl
     where
@@ -383,7 +383,7 @@ module _ (c : MarkedCampaign) (n item amount : ℕ) where
       by_amount true same = changed_there (λ m o. MarksChanges c (after_stock true m o)) stocked c.value.regions n (marks-refl c) (λ v is. stock_stays v is (was v is same))
       by_amount false other = changed_there (λ m o. MarksChanges c (after_stock false m o)) stocked c.value.regions n (marks-refl c) stock_changes
 
--- a change of unit n alone, with the marks of its row and goods, is marked
+-- a change of unit n alone, with the marks of its row and goods, satisfies MarksChanges
 pub marks-unit : (c : MarkedCampaign) (units : FinMap nat_cmp Unit) (n : ℕ) → ((k : ℕ) → k ≢ n → get units k ≡ get c.value.units k)
     → MarksChanges c (record { value = record c.value { units = units }; marks = mark_unit_added c n })
 marks-unit c units n others =
@@ -404,7 +404,7 @@ marks-unit c units n others =
       | _ ↦ λ k free. refl
     ])
 
--- setting an amount of the books, with its mark, is marked
+-- setting an amount of the books, with its mark, satisfies MarksChanges
 pub marks-amount : (c : MarkedCampaign) (f : Entry) (u : Thing) (z : ℤ) → MarksChanges c (record { value = with_amount c.value f u z; marks = mark_amount c f u })
 marks-amount c f u z =
     let next : MarkedCampaign = record { value = with_amount c.value f u z; marks = mark_amount c f u } in

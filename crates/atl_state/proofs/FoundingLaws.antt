@@ -50,7 +50,7 @@ AreBooks-founding : (things money people : ℕ) → 2 ≤ things → AreBooks th
 AreBooks-founding things money people l =
     AreBooks-after_booking things (after_booking (no_amounts things) Founding Money (pos money)) Founding People (pos people) (AreBooks-after_booking things (no_amounts things) Founding Money (pos money) (AreBooks-no_amounts things) (omega arith)) (omega arith)
 
--- no units hold nothing of a thing
+-- the sum over no units is 0
 nobody : (t : Thing) → sum_over (λ (u : Unit). unit_amount t u.holding) (empty {X = Unit} {R = nat_cmp}) ≡ 0
 nobody t = rw (entries-empty {X = Unit}) refl
 

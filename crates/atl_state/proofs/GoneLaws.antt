@@ -77,7 +77,7 @@ module _ (c : CampaignValue) (n : ℕ) (x : Faction) (is : get c.factions n ≡ 
     structures = old.structures;
   }
 
-  -- all numbers that are named still exist
+  -- everything that is named by its number still exists
   known_kept : (w : WorldValue) → AreKnown w c → AreKnown w left
   known_kept w old = record {
     regions = old.regions;
@@ -146,6 +146,6 @@ pub total-gone : (c : CampaignValue) (n : ℕ) (t : Thing) → total (with_gone 
 unfolding total
 total-gone c n t = refl
 
--- setting a faction gone, with its mark, is marked
+-- setting a faction gone, with its mark, satisfies MarksChanges
 pub marks-gone_faction : (c : MarkedCampaign) (n : ℕ) → MarksChanges c (record { value = with_gone c.value n; marks = mark_faction c n })
 marks-gone_faction = marks-faction as_gone

@@ -28,7 +28,7 @@ posted-there stays posts = record { mail = λ n text is. stays n (posts.mail n t
 pub posted-unsent : {factions : FinMap nat_cmp Faction} {mail reports : FinMap nat_cmp (List ℕ)} → AreOfFactions factions mail reports → AreOfFactions factions empty reports
 posted-unsent posts = record { mail = every-empty _; reports = posts.reports }
 
--- no mail and no reports are of factions that are there
+-- empty mail and empty reports satisfy AreOfFactions
 pub posted-nobody : {factions : FinMap nat_cmp Faction} → AreOfFactions factions empty empty
 posted-nobody = record { mail = every-empty _; reports = every-empty _ }
 

@@ -128,7 +128,7 @@ module _ {V R : Type 0} (row : ℕ → V → R) (key : R → ℤ) (value : R →
   apart : (n k : ℕ) (v u : V) → n < k → same (one_key (key (row n v))) (one_key (key (row k u))) ≡ false
   apart n k v u l = ap (λ z. same (one_key z) (one_key (key (row k u)))) (keyed n v) ∙ ap (λ z. same (one_key (pos n)) (one_key z)) (keyed k u) ∙ apart_numbers n k l
 
-  -- the table's rows, in any order, have keys of their own
+  -- the table's rows, in any order, have distinct keys
   pub table_keys : HaveKeys (λ r. one_key (key r)) rows
   table_keys = keys_permuted (λ r. one_key (key r)) (rows_by row (entries m)) rows h (rows_apart row (λ a b. same (one_key (key a)) (one_key (key b))) apart (entries m) (entries_rise m))
 
@@ -356,12 +356,12 @@ module _ (w : WorldValue) (world : IsWorld w) (c : CampaignValue) (good : IsGood
       | Second ↦ λ listed. each_permuted P (market_rows Second (entries c.regions)) p.markets listed (stocks_each c.regions P (λ n r there i a is some. h n r there i a is))
     ] markets_listed
 
-    -- no rows have keys of their own
+    -- the empty list of rows has distinct keys
     no_keys : HaveKeys market_key []
     unfolding IsDistinct
     no_keys = tt
 
-    -- the rows of markets have keys of their own
+    -- the rows of markets have distinct keys
     pub markets_keyed : HaveKeys market_key p.markets
     markets_keyed = elim f as (λ g. IsPermutation (market_rows g (entries c.regions)) p.markets → HaveKeys market_key p.markets) [
       | First ↦ λ listed. subst (HaveKeys market_key) (sym (none_listed p.markets listed)) no_keys

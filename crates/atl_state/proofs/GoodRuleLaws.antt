@@ -128,7 +128,7 @@ module _ (f : Format) (w : WorldValue) (world : IsWorld w) (c : CampaignValue) (
 
   -- ---- ranges
 
-  -- the rows of each table have keys of their own
+  -- the rows of each table have distinct keys
   keys : AreKeyed p
   keys = record {
     factions = row.table_keys faction_row (λ r. r.number) faction_of (λ n f. refl) c.factions (row.factions_whole w world c good f fits p rows) p.factions (row.factions_listed w world c good f fits p rows);

@@ -59,7 +59,7 @@ module _ {V : Type 0} (p : V → Bool) where
 
 -- ---- those who hold
 
--- Some of equal numbers are of equal numbers
+-- equal Some's have equal numbers
 same_value : (x y : ℕ) → Some x ≡ Some y → x ≡ y
 same_value x y e = cc
 

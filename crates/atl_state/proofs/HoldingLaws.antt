@@ -87,7 +87,7 @@ module _ (w : WorldValue) (c : CampaignValue) (n : ℕ) (u : Unit) (h : HoldingV
     books = old.books;
   }
 
-  -- all numbers that are named still exist, if items and skills are of the world
+  -- everything that is named by its number still exists, if items and skills are of the world
   pub known_kept : Every (λ i amount. i < length w.items) h.items → Every (λ s days. s < length w.skills) h.days → AreKnown w c → AreKnown w supplied
   known_kept items skills old = record {
     regions = old.regions;
@@ -190,7 +190,7 @@ module _ (w : WorldValue) (c : CampaignValue) (n : ℕ) (u : Unit) (h : HoldingV
 abbrev goods_of : Unit → FinMap nat_cmp ℕ × FinMap nat_cmp ℕ
 goods_of u = (u.holding.items, u.holding.days)
 
--- a change of a unit but for its goods, with the mark of its row, is marked
+-- a change of a unit but for its goods, with the mark of its row, satisfies MarksChanges
 pub marks-unit_row : (f : Unit → Unit) → ((u : Unit) → goods_of (f u) ≡ goods_of u) → (c : MarkedCampaign) (n : ℕ) → MarksChanges c (record { value = unit_changed f c.value n; marks = mark_unit_row c n })
 marks-unit_row f same c n =
     let after : FinMap nat_cmp Unit → Option Unit → MarkedCampaign = λ m o. record { value = record c.value { units = m }; marks = record c.marks { units = marked_with c.marks.units n o; rows = marked_with c.marks.rows n o } } in
@@ -205,7 +205,7 @@ marks-unit_row f same c n =
       | _ ↦ λ k free. refl
     ]))
 
--- setting an item of a unit, with its mark, is marked
+-- setting an item of a unit, with its mark, satisfies MarksChanges
 pub marks-item : (c : MarkedCampaign) (n item amount : ℕ) → MarksChanges c (record { value = with_item c.value n item amount; marks = mark_item c n item })
 marks-item c n item amount =
     let with_other : Unit → Unit = λ u. record u { holding = record u.holding { items = with_amount_of u.holding.items item amount } } in
@@ -221,7 +221,7 @@ marks-item c n item amount =
       | _ ↦ λ k free. refl
     ]))
 
--- setting the days of a skill of a unit, with its mark, is marked
+-- setting the days of a skill of a unit, with its mark, satisfies MarksChanges
 pub marks-skill : (c : MarkedCampaign) (n skill days : ℕ) → MarksChanges c (record { value = with_skill c.value n skill days; marks = mark_skill c n skill })
 marks-skill c n skill days =
     let with_other : Unit → Unit = λ u. record u { holding = record u.holding { days = with_amount_of u.holding.days skill days } } in

@@ -168,7 +168,7 @@ pub map-missing : (ps : List IndexEntry) (n i : ℕ) → IsSorted ps → Belongs
 map-missing ps n i s b = sym (remove_none (as_map ps) n (get-belongs ps n i s b))
 
 -- ---- all of them
--- no entries are sorted
+-- the empty list of entries is sorted
 pub rising-none : IsSorted []
 rising-none = rising-empty
 

@@ -174,11 +174,11 @@ AreInsideLists-kept units lists n u v there same is =
     bare_inside (insert units n v) lists (whole units lists is) (whole_bare units lists is) (AreLists-kept (λ w. w.structure) units _ n u v there same (whole_listed units lists is))
 
 -- ---- nobody is listed
--- no lists are right where there are no units
+-- empty lists are right where there are no units
 nobody_listed : (belongs_to : Unit → ℕ) → AreLists belongs_to empty empty
 nobody_listed belongs_to k = ap (λ o. unwrap_or o []) (get-empty nat_cmp k) ∙ sym (ap (λ es. map (λ e. e.0) (filter (λ e. belongs_to e.1 == k) es)) entries-empty)
 
--- no lists are bare of no lists
+-- AreBare holds of empty lists
 nobody_bare : AreBare empty empty
 nobody_bare k = elim (k == 0) as (λ b. list_of empty k ≡ cond b [] (list_of empty k)) [
   | true ↦ ap (λ o. unwrap_or o []) (get-empty nat_cmp k)

@@ -22,7 +22,7 @@ cleared marks = record marks { numbers = set.empty }
 abbrev marking : FinMap nat_cmp Region → RoomySet → ℕ → RoomySet
 marking regions marks n = record marks { numbers = marked_with marks.numbers n (get regions n) }
 
--- no regions need no room
+-- without regions empty dirty sets need no room
 pub AreRegions-none : AreRegions empty (nothing_marked 0) (nothing_marked 0)
 AreRegions-none = record { rows_fit = Room-empty Region; stocks_fit = Room-empty Region }
 

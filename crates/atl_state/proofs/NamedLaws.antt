@@ -42,7 +42,7 @@ same_text a b = eq_by_cmp (slice_cmp nat_cmp) a b
 text_itself : (a : List ℕ) → same_text a a ≡ true
 text_itself a = (eq_by_cmp_equiv nat_list_cmp_total).refl a
 
--- Some tells factions apart
+-- equal Some's have equal factions
 some_same : (f g : Faction) → Some f ≡ Some g → f ≡ g
 some_same f g e = cc
 

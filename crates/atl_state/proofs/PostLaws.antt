@@ -10,7 +10,7 @@ use Rattle.atl_state.specs.Campaign.{MarkedCampaign, with_month, with_report, wi
 use Rattle.atl_state.proofs.CoverLaws.{Mail, Reports, Row, Stays, Tells, apart_by, part_by_part, put_stays}
 use Rattle.atl_records.proofs.EveryLaws.{get-insert_other}
 
--- setting the month, with the mark of the campaign's row, is marked
+-- setting the month, with the mark of the campaign's row, satisfies MarksChanges
 pub marks-month : (c : MarkedCampaign) (n : ℕ) → MarksChanges c (record { value = with_month c.value n; marks = mark_row c })
 marks-month c n =
     let next : MarkedCampaign = record { value = with_month c.value n; marks = mark_row c } in
@@ -18,7 +18,7 @@ marks-month c n =
     (λ p. elim p as (Stays c.marks next.marks) [ Row ↦ λ k h. refl | _ ↦ λ k h. h ])
     (λ p. elim p as (Tells next.marks c.value next.value) [ Row ↦ λ k free. absurd (true≢false free) | _ ↦ λ k free. refl ])
 
--- storing a report, with its mark, is marked
+-- storing a report, with its mark, satisfies MarksChanges
 pub marks-report : (c : MarkedCampaign) (n : ℕ) (text : List ℕ) → MarksChanges c (record { value = with_report c.value n text; marks = mark_report c n })
 marks-report c n text =
     let next : MarkedCampaign = record { value = with_report c.value n text; marks = mark_report c n } in
@@ -47,7 +47,7 @@ module _ (marks : FinSet nat_cmp) (mail : FinMap nat_cmp (List ℕ)) where
   all_gone : SameBut (union marks (from_list (keys mail))) mail empty
   all_gone k free = get-empty nat_cmp k ∙ none_there (contains marks k) (contains_key mail k) (get mail k) refl (sym (either k) ∙ free)
 
--- removing all mail, with the marks of all that had some, is marked
+-- removing all mail, with the marks of all that had some, satisfies MarksChanges
 pub marks-no_mail : (c : MarkedCampaign) → MarksChanges c (record { value = without_mail c.value; marks = mark_all_mail c })
 marks-no_mail c =
     let next : MarkedCampaign = record { value = without_mail c.value; marks = mark_all_mail c } in

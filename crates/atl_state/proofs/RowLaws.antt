@@ -11,7 +11,7 @@ use Rattle.atl_records.specs.Grids.{accounts_under, listed_of}
 use Rattle.atl_records.proofs.BookLaws.{zero_not}
 use Rattle.atl_state.specs.Rows.{has_row, amounts_rows, books_row, amount_rows, kind_rows, rows_under}
 
--- equal whole numbers are of equal numbers
+-- pos m ≡ pos n gives m ≡ n
 same_size : {m n : ℕ} → pos m ≡ pos n → m ≡ n
 same_size e = cc
 

@@ -99,7 +99,7 @@ module _ {V : Type 0} where
   kept s t k x (Some j) u h = u.others j (h j refl)
 
   -- ---- a value changed in its slot
-  -- numbers still lead to slots of their own when the value in one changes
+  -- numbers still lead to distinct slots in use when the value in one changes
   pub AreLodged-changed : (i : FinMap nat_cmp ℕ) (s t : slab.Slab V) (k : ℕ) (x : V) → slab.Updates s t k (Some x) → AreLodged i s → AreLodged i t
   AreLodged-changed i s t k x u held = record {
     in_use = λ n j h. elim (cases_eq j k) [
@@ -119,7 +119,7 @@ module _ {V : Type 0} where
       ∙ sym (get-insert nat_cmp_total (values_of i s) n x q ∙ ap (cond (eq_by_cmp nat_cmp q n) (Some x)) (get_values i s held q)))
 
   -- ---- a value put in
-  -- numbers still lead to slots of their own when a vacant slot is used for a number
+  -- numbers still lead to distinct slots in use when a vacant slot is used for a number
   pub AreLodged-added : (i : FinMap nat_cmp ℕ) (s t : slab.Slab V) (n k : ℕ) (x : V) → slab.Updates s t k (Some x) → slab.get s k ≡ None → AreLodged i s → AreLodged (insert i n k) t
   AreLodged-added i s t n k x u vacant held = record {
     in_use = λ m j h. by_number m n (λ b. cond b (Some k) (get i m) ≡ Some j → is_some (slab.get t j) ≡ true)
@@ -148,7 +148,7 @@ module _ {V : Type 0} where
       ∙ sym (get-insert nat_cmp_total (values_of i s) n x q ∙ ap (cond (eq_by_cmp nat_cmp q n) (Some x)) (get_values i s held q)))
 
   -- ---- a value taken out
-  -- numbers still lead to slots of their own when a number and its slot are given up
+  -- numbers still lead to distinct slots in use when a number and its slot are given up
   pub AreLodged-removed : (i : FinMap nat_cmp ℕ) (s t : slab.Slab V) (n k : ℕ) → slab.Updates s t k None → get i n ≡ Some k → AreLodged i s → AreLodged (remove i n) t
   AreLodged-removed i s t n k u is held = record {
     in_use = λ m j h. by_number m n (λ b. cond b None (get i m) ≡ Some j → is_some (slab.get t j) ≡ true)
@@ -173,11 +173,11 @@ module _ {V : Type 0} where
       (λ apart. kept s t k None (get i q) u (λ j h same. apart (held.by_one q n k (h ∙ ap Some same) is)))
       ∙ sym (get-remove nat_cmp_total (values_of i s) n q ∙ ap (cond (eq_by_cmp nat_cmp q n) None) (get_values i s held q)))
 
-  -- what was put in and taken out again
+  -- a slab with the same values gives the same map of values
   pub nothing_changed : (i : FinMap nat_cmp ℕ) (s t : slab.Slab V) → slab.SameValues s t → values_of i t ≡ values_of i s
   nothing_changed i s t same = ap from_entries (lodged_same (entries i) s t same)
 
-  -- numbers still lead to slots of their own in a slab with the same values
+  -- numbers still lead to distinct slots in use in a slab with the same values
   pub AreLodged-same : (i : FinMap nat_cmp ℕ) (s t : slab.Slab V) → slab.SameValues s t → AreLodged i s → AreLodged i t
   AreLodged-same i s t same held = record { in_use = λ n k h. ap is_some (same k) ∙ held.in_use n k h; by_one = held.by_one }
 
@@ -195,15 +195,15 @@ module _ {V : Type 0} where
     | inr l ↦ absurd (false≢true (sym (ap is_some (get_or_past s.slots k None l)) ∙ h))
   ]
 
-  -- a write through `get_mut`
+  -- writing a value into a slot in use updates that slot alone
   pub written : (s : slab.Slab V) (k : ℕ) (x : V) → is_some (slab.get s k) ≡ true → slab.Updates s (slab.with_value s k x) k (Some x)
   written s k x h = record { changed = get_or-set_same s.slots k (Some x) None (inside s k h); others = λ j ne. get_or-set_other s.slots k j (Some x) None ne }
 
--- no numbers have no values
+-- the empty map of numbers gives the empty map of values
 pub no_values : {V : Type 0} (s : slab.Slab V) → values_of empty s ≡ empty
 no_values s = rw (entries-empty {X = ℕ}) refl
 
--- no numbers lead to slots of their own
+-- the empty map of numbers satisfies AreLodged
 pub AreLodged-empty : {V : Type 0} (s : slab.Slab V) → AreLodged empty s
 AreLodged-empty s = record {
   in_use = λ n k h. some_none k (sym h ∙ get-empty nat_cmp n);
@@ -242,7 +242,7 @@ module _ {V : Type 0} where
   pub IsArena-same : (i : FinMap nat_cmp ℕ) (s t : slab.Slab V) → slab.SameValues s t → slab.slab_len t ≡ slab.slab_len s → IsArena i s → IsArena i t
   IsArena-same i s t same as_many held = record { slots_used = AreLodged-same i s t same held.slots_used; none_idle = as_many ∙ held.none_idle }
 
-  -- no numbers and no slots are an arena
+  -- the empty map of numbers and a slab without slots are an arena
   pub IsArena-empty : (s : slab.Slab V) → s.slots ≡ [] → IsArena empty s
   IsArena-empty s none = record { slots_used = AreLodged-empty s; none_idle = ap (count_by is_some) none ∙ sym (len-empty nat_cmp ℕ) }
 

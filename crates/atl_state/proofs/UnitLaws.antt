@@ -102,7 +102,7 @@ cleared marks = record marks { numbers = set.empty }
 abbrev nothing_marked : ℕ → RoomySet
 nothing_marked room = record { numbers = set.empty; room = room }
 
--- no units need no room
+-- without units empty dirty sets need no room
 pub AreUnits-none : AreUnits empty (nothing_marked 0) (nothing_marked 0) (nothing_marked 0) empty empty
 AreUnits-none = record { within = within-none; marks_fit = Room-empty Unit; rows_fit = Room-empty Unit; goods_fit = Room-empty Unit }
 
