@@ -118,6 +118,6 @@ pub record IsWithin (bound : ℕ) (amount : ℤ) : Type 0 where
   pub most : amount ≤ℤ pos bound
   pub least : pos 0 ≤ℤ (amount +ℤ pos bound)
 
--- the number of an account, by which dirty amounts are kept: 16 * (the thing's number) + the entry's index
+-- the number of an account in the dirty set of the books: 16 * (the thing's number) + the entry's index
 abbrev pub amount_number : Entry → Thing → ℕ
 amount_number e t = entry_count * thing_index t + entry_index e

@@ -127,7 +127,7 @@ impl Thing {
     }
 }
 
-/// The number of an account, by which dirty amounts are kept:
+/// The number of an account in the dirty set of the books:
 /// 16 times the thing's number, plus the entry's number, less 1.
 pub fn amount_number(entry: Entry, thing: Thing) -> u32
     ensures { result ≡ amount_number entry thing }
@@ -135,7 +135,7 @@ pub fn amount_number(entry: Entry, thing: Thing) -> u32
     ENTRY_COUNT as u32 * thing.number() + entry.number() - 1
 }
 
-/// Returns the sum of a thing's row of amounts.
+/// The sum of a thing's row of amounts.
 fn row_sum(row: &[i64; ENTRY_COUNT]) -> i128
     ensures { result ≡ sum_of row.now }
 {
@@ -168,8 +168,9 @@ impl Model for Books {
 }
 
 impl Books {
-    /// Books of so many things, all amounts 0. The things are money, people, and at most one item for
-    /// each number of 16 bits. AllocError without memory.
+    /// Books of so many things, all amounts 0.
+    /// The things are money, people, and at most one item for each number of 16 bits.
+    /// AllocError without memory.
     pub fn new(alloc: Global, things: usize) -> Result<Books, AllocError>
         requires { things ≤ possible_things }
         ensures { IfOk result (λ made. made ≡ no_amounts things) }

@@ -168,7 +168,7 @@ OthersEventsAreNotTold =
     → own_events v.faction events ≡ own_events v.faction others
     → report_of w v faults events ≡ report_of w v faults others
 
--- two campaigns of one world of which a faction sees the same give it one report, if its faulty lines and own events are the same
+-- two campaigns of one world of which a faction sees the same give it one report, if faulty lines and own events are the same
 abbrev pub OnlyWhatIsSeenIsTold : Type 0
 OnlyWhatIsSeenIsTold =
     (w : WorldValue) (c d : CampaignValue) (faction : ℕ) (faults : List FaultyLine) (events others : List Event)

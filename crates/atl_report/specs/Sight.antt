@@ -50,7 +50,7 @@ skill_view men (skill, days) = record { skill = skill; level = level_of days men
 abbrev pub skill_views : HoldingValue → List SkillView
 skill_views h = map (skill_view h.men) (entries h.days)
 
--- what only one side's units show: an own unit its money, items and skills, another's its faction's number and name
+-- the side of a unit: money, items and skills of an own one, number and name of another's faction
 abbrev pub side_of : CampaignValue → ℕ → Unit → Side
 side_of c faction u =
     if u.faction == faction then Own u.holding.money (item_views u.holding) (skill_views u.holding)

@@ -53,8 +53,7 @@ fn skill_views(alloc: Global, holding: &Holding) -> Result<Sequence<SkillView>, 
     Ok(skills)
 }
 
-/// What one side's units show alone.
-/// An own unit shows money, items and skills, another's its faction's number and name.
+/// The side of a unit: money, items and skills of an own one, number and name of another's faction.
 fn side_of(
     alloc: Global,
     campaign: &Campaign,

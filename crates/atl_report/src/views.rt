@@ -80,7 +80,7 @@ impl Drop for UnitView {
     }
 }
 
-/// Whose unit is seen, and what only that side's units show.
+/// Whether a unit is the faction's own, with its goods, or another's, with that faction's name.
 pub enum Side {
     /// The faction's own, with its money, and with its items and skills in the order of the world.
     Own {
