@@ -33,7 +33,7 @@ use Rattle.atl_state.proofs.NamedLaws.{AreNamed-said, AreAmountsWithin-said}
 use Rattle.atl_state.proofs.OrderLaws.{each_passes}
 use Rattle.atl_state.proofs.SaidLaws.{RowsKeep, ranges, none_in_first, books_said, rows_said}
 
--- the rule with a number from 1 to 12
+-- the rule with a number from 1 to 12; the last rule for any other number
 abbrev rule_at : ℕ → Rule
 rule_at n =
     cond (n == 1) OneRow (cond (n == 2) Ranges (cond (n == 3) Names (cond (n == 4) Known (cond (n == 5) Next (cond (n == 6) Days (cond (n == 7) Gone (cond (n == 8) Owners (cond (n == 9) Water (cond (n == 10) Guards (cond (n == 11) Books Mail))))))))))
