@@ -1,4 +1,4 @@
--- Accounts: each thing and each entry has its number, and accounts are in an order.
+-- Laws of accounts: numbers tell entries and things apart, and account_cmp is a total order.
 use Rattle.std.proofs.Common.{◌≡◌, ◌≢◌, ◌+◌, ℕ, zero, suc, true, false, Some, refl, sym, ap, ◌∙◌, ◌⊎◌, inl, inr, arith}
 use Rattle.std.specs.List.{slice_get}
 use Rattle.std.specs.declared.cmp.Ordering.TheVariants.{Less, Equal, Greater}
@@ -11,11 +11,13 @@ use Rattle.atl_records.specs.declared.books.Thing.TheVariants.{Money, People, It
 use Rattle.atl_records.specs.Books.{Account, account_cmp, all_entries, entry_index, thing_at, thing_index}
 use Rattle.atl_records.proofs.EveryEntryLaws.{entry_there}
 
+-- the thing with number i has number i
 pub place_at : (i : ℕ) → thing_index (thing_at i) ≡ i
 place_at zero = refl
 place_at (suc zero) = refl
 place_at (suc (suc i)) = omega arith
 
+-- the thing with the number of t is t
 pub at_place : (t : Thing) → thing_at (thing_index t) ≡ t
 at_place Money = refl
 at_place People = refl
@@ -26,29 +28,37 @@ at_place (Item i) = item_at (2 + i) i (omega arith)
 
 -- ---- numbers tell them apart
 
+-- things with the same number are equal
 pub same_thing : (t u : Thing) → thing_index t ≡ thing_index u → t ≡ u
 same_thing t u h = sym (at_place t) ∙ ap thing_at h ∙ at_place u
 
+-- equal Some's have equal entries
 inside : (d e : Entry) → Some d ≡ Some e → d ≡ e
 inside d e h = cc
 
+-- entries with the same index are equal
 pub same_entry : (d e : Entry) → entry_index d ≡ entry_index e → d ≡ e
 same_entry d e h = inside d e (sym (entry_there d) ∙ ap (slice_get all_entries) h ∙ entry_there e)
 
+-- accounts whose entries have the same index, and whose things the same number, are equal
 pub same_account : (e f : Entry) (t u : Thing) → entry_index e ≡ entry_index f → thing_index t ≡ thing_index u → ◌≡◌ {A = Account} (e, t) (f, u)
 same_account e f t u entries things i = (same_entry e f entries i, same_thing t u things i)
 
 -- ---- their order
 
+-- account_cmp is a total order
 pub account_total : IsTotalOrder account_cmp
 account_total = then_total (on_total (λ (a : Account). entry_index a.0) nat_cmp_total) (on_total (λ (a : Account). thing_index a.1) nat_cmp_total)
 
+-- Less is not Equal
 less_equal : {P : Type 0} → Less ≡ Equal → P
 less_equal e = cc
 
+-- Greater is not Equal
 greater_equal : {P : Type 0} → Greater ≡ Equal → P
 greater_equal e = cc
 
+-- accounts that compare equal are equal
 pub account_same : IsAntisymmetric account_cmp
 account_same a b is =
     elim (nat_cmp (entry_index a.0) (entry_index b.0)) as (λ o. nat_cmp (entry_index a.0) (entry_index b.0) ≡ o → ordering_then o (nat_cmp (thing_index a.1) (thing_index b.1)) ≡ Equal → a ≡ b) [
@@ -57,6 +67,7 @@ account_same a b is =
       | Greater ↦ λ _ e. greater_equal e
     ] refl is
 
+-- two accounts are equal, or do not compare equal
 pub cases_account : (a b : Account) → (a ≡ b) ⊎ (eq_by_cmp account_cmp a b ≡ false)
 cases_account a b =
     elim (account_cmp a b) as (λ o. account_cmp a b ≡ o → (a ≡ b) ⊎ (is_eq o ≡ false)) [
@@ -65,11 +76,14 @@ cases_account a b =
       | Greater ↦ λ _. inr refl
     ] refl
 
+-- an account compares equal to itself
 pub account_itself : (a : Account) → eq_by_cmp account_cmp a a ≡ true
 account_itself a = ap is_eq (tied_itself account_total a)
 
+-- accounts with different entries do not compare equal
 pub apart_entries : (a b : Account) → entry_index a.0 ≢ entry_index b.0 → eq_by_cmp account_cmp a b ≡ false
 apart_entries a b h = elim (cases_account a b) [ inl same ↦ absurd (h (ap (λ (c : Account). entry_index c.0) same)) | inr apart ↦ apart ]
 
+-- accounts with different things do not compare equal
 pub apart_things : (a b : Account) → thing_index a.1 ≢ thing_index b.1 → eq_by_cmp account_cmp a b ≡ false
 apart_things a b h = elim (cases_account a b) [ inl same ↦ absurd (h (ap (λ (c : Account). thing_index c.1) same)) | inr apart ↦ apart ]

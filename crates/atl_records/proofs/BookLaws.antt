@@ -1,4 +1,4 @@
--- How the books change as an amount is booked.
+-- Laws of the books: what a booking and another amount change, and how great amounts become.
 use Rattle.std.proofs.Common.{◌≡◌, ◌≢◌, ◌==◌, ℕ, zero, suc, ◌≤◌, ◌<◌, ◌+◌, true, false, cond, List, [], ◌∷◌, map, Option, Some, None, refl, sym, ap, ◌∙◌, arith, inl, inr, ◌⊎◌}
 use Rattle.std.specs.Prelude.{ℤ, pos, negsuc, ◌+ℤ◌, unwrap_or}
 use Rattle.std.specs.Ordering.{eq_by_cmp}
@@ -15,24 +15,29 @@ use Rattle.atl_records.proofs.EveryLaws.{none_some}
 
 -- ---- amounts of 0
 
+-- an amount for which is_zero is true is 0
 pub zero_is : (z : ℤ) → is_zero z ≡ true → z ≡ pos 0
 zero_is (pos zero) h = refl
 zero_is (pos (suc n)) h = let none : (suc n == 0) ≡ false = grind (arith, nat_tests) in absurd (false≢true (sym none ∙ h))
 zero_is (negsuc n) h = absurd (false≢true h)
 
+-- is_zero is false for an amount other than 0
 pub zero_not : (z : ℤ) → z ≢ pos 0 → is_zero z ≡ false
 zero_not z h = elim (is_zero z) as (λ b. is_zero z ≡ b → b ≡ false) [ true ↦ λ is. absurd (h (zero_is z is)) | false ↦ λ _. refl ] refl
 
+-- an amount for which is_zero is false is not 0
 pub not_zero : (z : ℤ) → is_zero z ≡ false → z ≢ pos 0
 not_zero z h is = false≢true (sym h ∙ ap is_zero is)
 
--- what is listed of an amount
+-- how the books list an amount: None where it is 0
 abbrev pub listed : ℤ → Option ℤ
 listed z = cond (is_zero z) None (Some z)
 
+-- an amount is read back from how the books list it
 pub amount_listed : (z : ℤ) → unwrap_or (listed z) (pos 0) ≡ z
 amount_listed z = elim (is_zero z) as (λ b. is_zero z ≡ b → unwrap_or (cond b None (Some z)) (pos 0) ≡ z) [ true ↦ λ is. sym (zero_is z is) | false ↦ λ _. refl ] refl
 
+-- an amount that is listed as x is x, and x is not 0
 pub listed_some : (z x : ℤ) → listed z ≡ Some x → (z ≡ x) × (x ≢ pos 0)
 listed_some z x is =
     elim (is_zero z) as (λ b. is_zero z ≡ b → cond b None (Some z) ≡ Some x → (z ≡ x) × (x ≢ pos 0)) [
@@ -40,9 +45,10 @@ listed_some z x is =
       | false ↦ λ some e. let same : z ≡ x = cc in (same, λ none. not_zero z some (same ∙ none))
     ] refl is
 
--- ---- an amount in the place of another
+-- ---- an amount set
 
 module _ (books : BooksValue) (e : Entry) (t : Thing) (z : ℤ) where
+  -- once an amount is set, the books list it under its account if it isn't 0, and others as before
   pub get-with_amount : (a : Account) → get (with_amount books e t z).amounts a ≡ cond (eq_by_cmp account_cmp a (e, t)) (listed z) (get books.amounts a)
   get-with_amount a =
       elim (is_zero z) as (λ b. get (cond b (remove books.amounts (e, t)) (insert books.amounts (e, t) z)) a ≡ cond (eq_by_cmp account_cmp a (e, t)) (cond b None (Some z)) (get books.amounts a)) [
@@ -50,6 +56,7 @@ module _ (books : BooksValue) (e : Entry) (t : Thing) (z : ℤ) where
         | false ↦ get-insert account_total books.amounts (e, t) z a
       ]
 
+  -- once an amount is set, it is read back under its account, and others are as before
   pub amount-with_amount : (f : Entry) (u : Thing) → amount_in (with_amount books e t z) f u ≡ cond (eq_by_cmp account_cmp (f, u) (e, t)) z (amount_in books f u)
   amount-with_amount f u =
       ap (λ o. unwrap_or o (pos 0)) (get-with_amount (f, u)) ∙ elim (eq_by_cmp account_cmp (f, u) (e, t)) as (λ b. unwrap_or (cond b (listed z) (get books.amounts (f, u))) (pos 0) ≡ cond b z (amount_in books f u)) [
@@ -57,12 +64,15 @@ module _ (books : BooksValue) (e : Entry) (t : Thing) (z : ℤ) where
         | false ↦ refl
       ]
 
+  -- the amount that was set is read back
   pub its_amount : amount_in (with_amount books e t z) e t ≡ z
   its_amount = amount-with_amount e t ∙ ap (λ b. cond b z (amount_in books e t)) (account_itself (e, t))
 
+  -- the amounts of other accounts stay
   pub other_amount : (f : Entry) (u : Thing) → eq_by_cmp account_cmp (f, u) (e, t) ≡ false → amount_in (with_amount books e t z) f u ≡ amount_in books f u
   other_amount f u apart = amount-with_amount f u ∙ ap (λ b. cond b z (amount_in books f u)) apart
 
+  -- books of these things stay so once an amount of one of them is set
   pub AreBooks-with_amount : (things : ℕ) → AreBooks things books → thing_index t < things → AreBooks things (with_amount books e t z)
   AreBooks-with_amount things old there =
       record {
@@ -76,34 +86,40 @@ module _ (books : BooksValue) (e : Entry) (t : Thing) (z : ℤ) where
         ];
       }
 
+-- books of these things stay so once an amount of one of them is booked
 pub AreBooks-after_booking : (things : ℕ) (books : BooksValue) (e : Entry) (t : Thing) (n : ℤ) → AreBooks things books → thing_index t < things → AreBooks things (after_booking books e t n)
 AreBooks-after_booking things books e t n old there = AreBooks-with_amount books e t (amount_in books e t +ℤ n) things old there
 
 -- ---- what is booked of a thing
 
--- what a booking adds to what is booked of a thing
+-- what a booking of n for thing u adds to the sum of thing t: n where t is u, else 0
 abbrev pub share_of : Thing → Thing → ℤ → ℤ
 share_of t u n = cond (thing_index t == thing_index u) n (pos 0)
 
--- and to an amount of that thing
+-- what a booking of n under entry e adds to the amount under entry f: n where f is e, else 0
 abbrev under : Entry → ℤ → Entry → ℤ
 under e n f = cond (entry_index f == entry_index e) n (pos 0)
 
+-- adding 0 changes nothing
 nothing : (z : ℤ) → z ≡ z +ℤ pos 0
 nothing z = omega (arith, ints)
 
+-- the sum of two sums, regrouped
 regroup : (x y z w : ℤ) → (x +ℤ y) +ℤ (z +ℤ w) ≡ (x +ℤ z) +ℤ (y +ℤ w)
 regroup x y z w = omega (arith, ints)
 
+-- the sum of sums over a list of entries is the sum of both sums
 sum_of-raised : (a b : Entry → ℤ) (es : List Entry) → sum_of (map (λ e. a e +ℤ b e) es) ≡ sum_of (map a es) +ℤ sum_of (map b es)
 sum_of-raised a b [] = nothing (pos 0)
 sum_of-raised a b (e ∷ es) = ap (λ z. (a e +ℤ b e) +ℤ z) (sum_of-raised a b es) ∙ regroup (a e) (b e) (sum_of (map a es)) (sum_of (map b es))
 
+-- a booking under one entry counts once in the sum over all entries
 once : (e : Entry) (n : ℤ) → sum_of (map (under e n) all_entries) ≡ n
 once Founding n = omega (arith, ints)
 once _ n = omega (arith, ints)
 
 module _ (books : BooksValue) (e : Entry) (u : Thing) (n : ℤ) where
+  -- a booking of a thing raises its amount under each entry by `under`
   raised : (f : Entry) → amount_in (after_booking books e u n) f u ≡ amount_in books f u +ℤ under e n f
   raised f =
       elim (cases_eq (entry_index f) (entry_index e)) [
@@ -118,12 +134,14 @@ module _ (books : BooksValue) (e : Entry) (u : Thing) (n : ℤ) where
             ∙ ap (λ b. amount_in books f u +ℤ cond b n (pos 0)) (sym tested)
       ]
 
+  -- a booking of a thing raises the sum of its amounts by what is booked
   raised_sum : booked (after_booking books e u n) u ≡ booked books u +ℤ n
   unfolding booked
   raised_sum =
       let each : (f : Entry) → amount_in (after_booking books e u n) f u ≡ amount_in books f u +ℤ under e n f = raised in
       (λ i. sum_of (map (λ f. each f i) all_entries)) ∙ sum_of-raised (λ f. amount_in books f u) (under e n) all_entries ∙ ap (λ z. booked books u +ℤ z) (once e n)
 
+  -- a booking raises the sum of a thing's amounts by share_of
   pub booked-after_booking : (t : Thing) → booked (after_booking books e u n) t ≡ booked books t +ℤ share_of t u n
   unfolding booked
   booked-after_booking t =
@@ -149,22 +167,27 @@ module _ (books : BooksValue) (e : Entry) (u : Thing) (n : ℤ) where
 
 -- ---- books with nothing in them
 
+-- every amount of empty books is 0
 pub amount-no_amounts : (things : ℕ) (e : Entry) (t : Thing) → amount_in (no_amounts things) e t ≡ pos 0
 amount-no_amounts things e t = ap (λ o. unwrap_or o (pos 0)) (get-empty {X = ℤ} account_cmp (e, t))
 
+-- the sum of a thing whose amounts are all 0 is 0
 none_booked : (books : BooksValue) (t : Thing) → ((e : Entry) → amount_in books e t ≡ pos 0) → booked books t ≡ pos 0
 unfolding booked
 none_booked books t none i = sum_of (map (λ e. none e i) all_entries)
 
+-- the sum of each thing of empty books is 0
 pub booked-no_amounts : (things : ℕ) (t : Thing) → booked (no_amounts things) t ≡ pos 0
 booked-no_amounts things t = none_booked (no_amounts things) t (λ e. amount-no_amounts things e t)
 
+-- empty books of so many things are books of these
 pub AreBooks-no_amounts : (things : ℕ) → AreBooks things (no_amounts things)
 AreBooks-no_amounts things = record { count = refl; listed = λ e t amount is. none_some amount (sym (get-empty {X = ℤ} account_cmp (e, t)) ∙ is) }
 
 -- ---- what books list
 
 module _ (things : ℕ) (books : BooksValue) (are : AreBooks things books) where
+  -- the books list each amount that is not 0, and no other
   pub get-listed : (e : Entry) (t : Thing) → get books.amounts (e, t) ≡ listed (amount_in books e t)
   get-listed e t =
       elim (get books.amounts (e, t)) as (λ o. get books.amounts (e, t) ≡ o → o ≡ listed (unwrap_or o (pos 0))) [
@@ -172,7 +195,7 @@ module _ (things : ℕ) (books : BooksValue) (are : AreBooks things books) where
         | Some z ↦ λ is. ap (λ b. cond b None (Some z)) (sym (zero_not z (are.listed e t z is).1))
       ] refl
 
-  -- nothing is booked of what is not there
+  -- the amounts of a thing whose number is not below the number of things are 0
   pub none_past : (e : Entry) (t : Thing) → things ≤ thing_index t → amount_in books e t ≡ pos 0
   none_past e t past =
       elim (get books.amounts (e, t)) as (λ o. get books.amounts (e, t) ≡ o → unwrap_or o (pos 0) ≡ pos 0) [
@@ -180,13 +203,15 @@ module _ (things : ℕ) (books : BooksValue) (are : AreBooks things books) where
         | Some z ↦ λ is. let there = (are.listed e t z is).0 in absurd (omega arith)
       ] refl
 
+  -- the sum of a thing whose number is not below the number of things is 0
   pub booked_past : (t : Thing) → things ≤ thing_index t → booked books t ≡ pos 0
   booked_past t past = none_booked books t (λ e. none_past e t past)
 
+-- books with the same two fields are equal
 pub same_value : (a b : BooksValue) → a.things ≡ b.things → a.amounts ≡ b.amounts → a ≡ b
 same_value a b things amounts i = record { things = things i; amounts = amounts i }
 
--- books with the same amounts are the same
+-- books of as many things with the same amounts are equal
 pub same_books : (things : ℕ) (a b : BooksValue) → AreBooks things a → AreBooks things b → ((e : Entry) (t : Thing) → amount_in a e t ≡ amount_in b e t) → a ≡ b
 same_books things a b are also same =
     same_value a b (are.count ∙ sym also.count) (same_map account_total account_same a.amounts b.amounts (λ c.
@@ -194,12 +219,15 @@ same_books things a b are also same =
 
 -- ---- how great the amounts are
 
+-- an amount within bound, raised by n, is within bound + n
 grows : (z y : ℤ) (bound n more : ℕ) → y ≡ z +ℤ pos n → IsWithin bound z → bound + n ≤ more → IsWithin more y
 grows z y bound n more e h l = record { most = omega (arith, ints, h.most); least = omega (arith, ints, h.least) }
 
+-- an amount within bound is within each larger bound
 stays : (z y : ℤ) (bound n more : ℕ) → y ≡ z → IsWithin bound z → bound + n ≤ more → IsWithin more y
 stays z y bound n more e h l = record { most = omega (arith, ints, h.most); least = omega (arith, ints, h.least) }
 
+-- amounts within bound are within bound + n once n is booked
 pub IsWithin-after_booking : (books : BooksValue) (e : Entry) (u : Thing) (n bound more : ℕ) → ((f : Entry) (t : Thing) → IsWithin bound (amount_in books f t)) → bound + n ≤ more → (f : Entry) (t : Thing)
     → IsWithin more (amount_in (after_booking books e u (pos n)) f t)
 IsWithin-after_booking books e u n bound more old l f t =
@@ -208,5 +236,6 @@ IsWithin-after_booking books e u n bound more old l f t =
       | inr is ↦ stays _ _ bound n more is (old f t) l
     ]
 
+-- an amount within at most 4 * 10^18 is small
 pub IsSmall-within : (z : ℤ) (bound : ℕ) → IsWithin bound z → bound ≤ 4000000000000000000 → IsSmall z
 IsSmall-within z bound h l = (omega (arith, ints, h.most), omega (arith, ints, h.least))

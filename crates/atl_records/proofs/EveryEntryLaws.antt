@@ -1,4 +1,4 @@
--- The entries of the books, each at its place: what a test says of all of them is so of each.
+-- Laws of the 16 entries: each is in all_entries at its index, and a test of all of them is one of each.
 use Rattle.std.proofs.Common.{◌≡◌, ◌+◌, ◌<◌, ℕ, Bool, true, get_or, Some, refl, sym, ap, ◌∙◌, inl, inr, arith}
 use Rattle.std.specs.List.{list_all, slice_get}
 use Rattle.std.proofs.lemmas.Bool.{cases_Bool, true≢false}
@@ -11,28 +11,31 @@ use Rattle.atl_records.specs.Limits.{entry_count}
 use Rattle.atl_records.specs.declared.books.Entry.{Entry}
 use Rattle.atl_records.specs.declared.books.Entry.TheVariants.{Founding}
 
+-- an entry is in all_entries at its index
 pub entry_there : (e : Entry) → slice_get all_entries (entry_index e) ≡ Some e
 entry_there Founding = refl
 entry_there _ = refl
 
+-- the entry with the number of e is e
 pub numbered_entry : (e : Entry) → entry_numbered (entry_index e + 1) ≡ Some e
 numbered_entry Founding = refl
 numbered_entry _ = refl
 
--- there is a place for each
+-- the index of an entry is below entry_count
 pub entry_small : (e : Entry) → entry_index e < entry_count
 entry_small e = slice_get_within all_entries (entry_index e) e (entry_there e)
 
--- and at each place stands one
+-- the entry at index n of all_entries has index n
 pub entry_in_place : (n : ℕ) → n < entry_count → entry_index (get_or all_entries n Founding) ≡ n
 entry_in_place n l =
     let place : entry_index (get_or all_entries n Founding) ≡ 0 + n = sym (get_or-map entry_index all_entries n Founding 0 l) ∙ get_or-range_with_len 0 entry_count n 0 l in
     omega (arith, place)
 
+-- each index below entry_count is that of an entry
 pub entry_at : (n : ℕ) → n < entry_count → (e : Entry) × (entry_index e ≡ n)
 entry_at n l = (get_or all_entries n Founding, entry_in_place n l)
 
--- what a test finds of all of them is so of each
+-- a test that all_entries pass is passed by each entry
 pub each_entry : (test : Entry → Bool) → list_all test all_entries ≡ true → (e : Entry) → test e ≡ true
 each_entry test all e = elim (cases_Bool (test e)) [
   | inl is ↦ is

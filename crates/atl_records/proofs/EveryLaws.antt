@@ -1,4 +1,4 @@
--- What is so of every value of a map: as one is put in, and by the list of its entries.
+-- Laws of Every, IsThere and EachOf: for a map with a value put in, by the list of its entries, and mapped.
 use Rattle.std.proofs.Common.{◌≡◌, ◌≢◌, ◌==◌, ◌↔◌, ℕ, zero, suc, ◌<◌, T, Bool, true, false, ◌||◌, cond, List, [], ◌∷◌, length, get_or, map, filter, Option, Some, None, option_map, refl, sym, ap, ◌∙◌, subst, arith}
 use Rattle.std.specs.declared.cmp.Ordering.TheVariants.{Less, Equal, Greater}
 use Rattle.std.specs.List.{list_any}
@@ -13,19 +13,23 @@ use Rattle.atl_tables.proofs.SumLaws.{chosen-cons}
 use Rattle.atl_records.specs.Every.{EachOf, Every, IsThere}
 use Rattle.std.proofs.lemmas.Bool.Decides.{nat_tests}
 
+-- a test that holds as a type is true
 pub is_true : (b : Bool) → T b → b ≡ true
 is_true true h = refl
 is_true false h = absurd h
 
+-- None is not Some
 pub none_some : {A P : Type 0} (x : A) → None ≡ Some x → P
 none_some x e = cc
 
 -- ---- a value put in
 
 module _ {V : Type 0} where
+  -- anything is so of every value of the empty map
   pub every-empty : (P : ℕ → V → Type 0) → Every P (empty {X = V} {R = nat_cmp})
   every-empty P n v is = none_some v (sym (get-empty nat_cmp n) ∙ is)
 
+  -- what is so of the value put in, and of every value before, is so of every value
   pub every-insert : (P : ℕ → V → Type 0) (m : FinMap nat_cmp V) (k : ℕ) (v : V) → P k v → Every P m → Every P (insert m k v)
   every-insert P m k v here old n x is =
       elim (nat_cmp n k) as (λ o. nat_cmp n k ≡ o → cond (is_eq o) (Some v) (get m n) ≡ Some x → P n x) [
@@ -34,12 +38,15 @@ module _ {V : Type 0} where
         | Greater ↦ λ _. old n x
       ] refl (sym (get-insert nat_cmp_total m k v n) ∙ is)
 
+  -- what a map has under n once v is under k
   abbrev at_or : FinMap nat_cmp V → ℕ → V → ℕ → Option V
   at_or m k v n = cond (is_eq (nat_cmp n k)) (Some v) (get m n)
 
+  -- a number that has a value by at_or has one in the map with v under k
   there_by : (m : FinMap nat_cmp V) (k n : ℕ) (v : V) → (x : V) × (at_or m k v n ≡ Some x) → IsThere (insert m k v) n
   there_by m k n v (x, is) = (x, get-insert nat_cmp_total m k v n ∙ is)
 
+  -- a map with a value put under k has a value under k
   pub there-new : (m : FinMap nat_cmp V) (k : ℕ) (v : V) → IsThere (insert m k v) k
   there-new m k v =
       there_by m k k v (elim (nat_cmp k k) as (λ o. nat_cmp k k ≡ o → (x : V) × (cond (is_eq o) (Some v) (get m k) ≡ Some x)) [
@@ -48,11 +55,12 @@ module _ {V : Type 0} where
         | Greater ↦ λ e. let l = ranked k k Greater (sym e) in absurd (omega arith)
       ] refl)
 
+  -- a number that had a value still has one once another is put in
   pub there-insert : (m : FinMap nat_cmp V) (k n : ℕ) (v : V) → IsThere m n → IsThere (insert m k v) n
   there-insert m k n v (x, is) =
       there_by m k n v (elim (nat_cmp n k) as (λ o. (y : V) × (cond (is_eq o) (Some v) (get m n) ≡ Some y)) [ Less ↦ (x, is) | Equal ↦ (v, refl) | Greater ↦ (x, is) ])
 
-  -- nothing changes under a number other than the one that is put
+  -- a value put under k changes nothing under another number
   pub get-insert_other : (m : FinMap nat_cmp V) (k n : ℕ) (v : V) → n ≢ k → get (insert m k v) n ≡ get m n
   get-insert_other m k n v apart =
       get-insert nat_cmp_total m k v n ∙ elim (nat_cmp n k) as (λ o. nat_cmp n k ≡ o → cond (is_eq o) (Some v) (get m n) ≡ get m n) [
@@ -63,6 +71,7 @@ module _ {V : Type 0} where
 
   -- ---- the entries of a map
 
+  -- a number below all numbers of a list is not found in it
   pub not_below : (k : ℕ) (es : List (ℕ × V)) → below_all nat_cmp k es ≡ true → find nat_cmp k es ≡ None
   not_below k [] h = refl
   not_below k (e ∷ es) h =
@@ -72,7 +81,7 @@ module _ {V : Type 0} where
         | Greater ↦ λ g. absurd (false≢true g)
       ] (and_parts _ _ h).0
 
-  -- what is found behind the first entry is found
+  -- what is found after the first entry of a sorted list is found in the whole list
   pub later : (e : ℕ × V) (es : List (ℕ × V)) (n : ℕ) (v : V) → is_sorted nat_cmp (e ∷ es) ≡ true → find nat_cmp n es ≡ Some v → find nat_cmp n (e ∷ es) ≡ Some v
   later e es n v s is =
       elim (nat_cmp n e.0) as (λ o. nat_cmp n e.0 ≡ o → cond (is_eq o) (Some e.1) (find nat_cmp n es) ≡ Some v) [
@@ -81,6 +90,7 @@ module _ {V : Type 0} where
         | Greater ↦ λ _. is
       ] refl
 
+  -- the number of the first entry is found with its value
   pub first : (e : ℕ × V) (es : List (ℕ × V)) → find nat_cmp e.0 (e ∷ es) ≡ Some e.1
   first e es =
       elim (nat_cmp e.0 e.0) as (λ o. nat_cmp e.0 e.0 ≡ o → cond (is_eq o) (Some e.1) (find nat_cmp e.0 es) ≡ Some e.1) [
@@ -89,6 +99,7 @@ module _ {V : Type 0} where
         | Greater ↦ λ o. let l = ranked e.0 e.0 Greater (sym o) in absurd (omega arith)
       ] refl
 
+  -- what EachOf says of the entries of a list is so of each value that is found in it
   pub found_of : (P : ℕ → V → Type 0) (es : List (ℕ × V)) (n : ℕ) (v : V) → EachOf P es → find nat_cmp n es ≡ Some v → P n v
   found_of P [] n v h is = none_some v is
   found_of P (e ∷ es) n v h is =
@@ -98,20 +109,24 @@ module _ {V : Type 0} where
         | Greater ↦ λ _. found_of P es n v h.1
       ] refl is
 
+  -- what is so of each value that is found in a sorted list is so of each of its entries
   pub each_of : (P : ℕ → V → Type 0) (es : List (ℕ × V)) → is_sorted nat_cmp es ≡ true → ((n : ℕ) (v : V) → find nat_cmp n es ≡ Some v → P n v) → EachOf P es
   each_of P [] s h = tt
   each_of P (e ∷ es) s h = (h e.0 e.1 (first e es), each_of P es (and_parts _ _ s).1 (λ n v is. h n v (later e es n v s is)))
 
+  -- the entries of a map are sorted
   pub sorted : (m : FinMap nat_cmp V) → is_sorted nat_cmp (entries m) ≡ true
   sorted m = is_true _ (entries_sorted m)
 
-  -- what is so of each entry is so of every value
+  -- what is so of each entry of a map is so of every value
   pub every-from_each : (P : ℕ → V → Type 0) (m : FinMap nat_cmp V) → EachOf P (entries m) → Every P m
   every-from_each P m h n v is = found_of P (entries m) n v h (sym (get-entries m n) ∙ is)
 
+  -- what is so of every value of a map is so of each entry
   pub each-from_every : (P : ℕ → V → Type 0) (m : FinMap nat_cmp V) → Every P m → EachOf P (entries m)
   each-from_every P m h = each_of P (entries m) (sorted m) (λ n v is. h n v (get-entries m n ∙ is))
 
+  -- a value found in a list, of which no entry passes a test, fails it
   fails : (p : V → Bool) (es : List (ℕ × V)) (n : ℕ) (v : V) → list_any (λ e. p e.1) es ≡ false → find nat_cmp n es ≡ Some v → p v ≡ false
   fails p [] n v h is = none_some v is
   fails p (e ∷ es) n v h is =
@@ -133,21 +148,26 @@ module _ {V : Type 0} where
   -- ---- the numbers whose values pass a test
 
   module _ (p : V → Bool) where
+    -- the numbers of the entries that pass the test
     abbrev chosen : List (ℕ × V) → List ℕ
     chosen es = map (λ e. e.0) (filter (λ e. p e.1) es)
 
+    -- the list has under n a value that passes the test
     abbrev Passing : List (ℕ × V) → ℕ → Type 0
     Passing es n = (v : V) × (find nat_cmp n es ≡ Some v) × (p v ≡ true)
 
+    -- a number that passes in the rest of a sorted list passes in the list
     behind : (e : ℕ × V) (es : List (ℕ × V)) (n : ℕ) → is_sorted nat_cmp (e ∷ es) ≡ true → Passing es n → Passing (e ∷ es) n
     behind e es n s (v, is, h) = (v, later e es n v s is, h)
 
+    -- a chosen number passes, by whether the first entry does
     listed_in : (b : Bool) (e : ℕ × V) (es : List (ℕ × V)) → p e.1 ≡ b → is_sorted nat_cmp (e ∷ es) ≡ true → (d : ℕ) → ((i : ℕ) → i < length (chosen es) → Passing es (get_or (chosen es) i d))
         → (i : ℕ) → i < length (cond b (e.0 ∷ chosen es) (chosen es)) → Passing (e ∷ es) (get_or (cond b (e.0 ∷ chosen es) (chosen es)) i d)
     listed_in true e es t s d rest zero h = (e.1, first e es, t)
     listed_in true e es t s d rest (suc i) h = behind e es (get_or (chosen es) i d) s (rest i (omega arith))
     listed_in false e es t s d rest i h = behind e es (get_or (chosen es) i d) s (rest i h)
 
+    -- each chosen number of a sorted list passes
     listed : (es : List (ℕ × V)) → is_sorted nat_cmp es ≡ true → (d i : ℕ) → i < length (chosen es) → Passing es (get_or (chosen es) i d)
     listed [] s d i h = absurd (omega arith)
     listed (e ∷ es) s d i h = subst (λ (ns : List ℕ). i < length ns → Passing (e ∷ es) (get_or ns i d)) (sym (chosen-cons p e es)) (listed_in (p e.1) e es refl s d (listed es (and_parts _ _ s).1 d) i) h
@@ -159,13 +179,16 @@ module _ {V : Type 0} where
 -- ---- a map with f at each value
 
 module _ {V W : Type 0} (f : V → W) where
+  -- a mapped value is f of a value that was there
   under : (o : Option V) (x : W) → option_map f o ≡ Some x → (v : V) × (o ≡ Some v) × (f v ≡ x)
   under None x is = none_some x is
   under (Some v) x is = let same : f v ≡ x = cc in (v, refl, same)
 
+  -- what is so of f of every value is so of every value of the mapped map
   pub every-mapped : (P : ℕ → W → Type 0) (m : FinMap nat_cmp V) → Every (λ n v. P n (f v)) m → Every P (mapped f m)
   every-mapped P m h n x is = let (v, there, same) = under (get m n) x (sym (get-mapped f m n) ∙ is) in subst (P n) same (h n v there)
 
+  -- a mapped map has values under the same numbers
   pub there-mapped : (m : FinMap nat_cmp V) (n : ℕ) → IsThere (mapped f m) n ↔ IsThere m n
   there-mapped m n = (back, forth)
     where
@@ -177,8 +200,10 @@ module _ {V W : Type 0} (f : V → W) where
 
 -- ---- numbers compared
 
+-- a number equals itself, as a test
 pub same_number : (a : ℕ) → (a == a) ≡ true
 same_number a = grind (arith, nat_tests)
 
+-- different numbers are not equal, as a test
 pub other_number : (a b : ℕ) → a ≢ b → (a == b) ≡ false
 other_number a b ne = grind (arith, nat_tests)

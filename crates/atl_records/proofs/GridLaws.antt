@@ -1,4 +1,4 @@
--- The books that rows say: each amount stands at the place of its account.
+-- Laws of the grid: the books that its rows stand for, when it is made, read, written and summed.
 use Rattle.std.proofs.Common.{◌≡◌, ◌==◌, ℕ, zero, suc, ◌≤◌, ◌<◌, ◌+◌, Bool, true, false, cond, ◌||◌, List, [], ◌∷◌, ◌++◌, map, length, get_or, set, refl, sym, ap, subst, ◌∙◌, arith, inl, inr}
 use Rattle.std.specs.Prelude.{ℤ, pos, replicate, unwrap_or}
 use Rattle.std.specs.List.{flat_map, list_any, range_with_len}
@@ -20,20 +20,24 @@ use Rattle.atl_records.proofs.EveryEntryLaws.{entry_in_place, entry_small}
 
 -- ---- accounts among those of so many things
 
+-- an or is true if its second part is
 or_later : (x y : Bool) → y ≡ true → (x || y) ≡ true
 or_later true y h = refl
 or_later false y h = h
 
 module _ {A : Type 0} (p : A → Bool) where
+  -- what some element of a list passes, some element of it and more passes
   any_first : (xs ys : List A) → list_any p xs ≡ true → list_any p (xs ++ ys) ≡ true
   any_first [] ys h = absurd (false≢true h)
   any_first (x ∷ xs) ys h =
       elim (p x) as (λ b. (b || list_any p xs) ≡ true → (b || list_any p (xs ++ ys)) ≡ true) [ true ↦ λ _. refl | false ↦ λ later. any_first xs ys later ] h
 
+  -- what some element of a list passes, some element of more and it passes
   any_later : (xs ys : List A) → list_any p ys ≡ true → list_any p (xs ++ ys) ≡ true
   any_later [] ys h = h
   any_later (x ∷ xs) ys h = or_later (p x) (list_any p (xs ++ ys)) (any_later xs ys h)
 
+  -- an element of the list of one entry is in the lists of all entries one after another
   any_flat : (f : Entry → List A) (e : Entry) (es : List Entry) → list_any (λ d. entry_index d == entry_index e) es ≡ true → list_any p (f e) ≡ true → list_any p (flat_map f es) ≡ true
   any_flat f e [] h its = absurd (false≢true h)
   any_flat f e (d ∷ es) h its =
@@ -44,10 +48,12 @@ module _ {A : Type 0} (p : A → Bool) where
             any_later (f d) (flat_map f es) (any_flat f e es (sym (ap (λ b. b || list_any (λ c. entry_index c == entry_index e) es) tested) ∙ h) its)
       ]
 
+-- each entry is in all_entries
 each_listed : (e : Entry) → list_any (λ d. entry_index d == entry_index e) all_entries ≡ true
 each_listed Founding = refl
 each_listed _ = refl
 
+-- an account is among those of its entry with things from a to a + n, if its thing is
 any_under : (e : Entry) (t : Thing) (a n : ℕ) → a ≤ thing_index t → thing_index t < a + n → list_any (eq_by_cmp account_cmp (e, t)) (map (λ i. (e, thing_at i)) (range_with_len a n)) ≡ true
 any_under e t a zero l h = absurd (omega arith)
 any_under e t a (suc n) l h =
@@ -57,11 +63,13 @@ any_under e t a (suc n) l h =
       | inr apart ↦ or_later (eq_by_cmp account_cmp (e, t) (e, thing_at a)) others (any_under e t (a + 1) n (omega arith) (omega arith))
     ]
 
+-- an account is among all accounts of the first things, if its thing is one of them
 pub any_accounts : (things : ℕ) (e : Entry) (t : Thing) → thing_index t < things → list_any (eq_by_cmp account_cmp (e, t)) (accounts things) ≡ true
 any_accounts things e t h = any_flat (eq_by_cmp account_cmp (e, t)) (accounts_under things) e all_entries (each_listed e) (any_under e t 0 things (omega arith) (omega arith))
 
 -- ---- what rows say
 
+-- filled books list an account's own amount where it was filled, else as before
 get-filled : (amount : Account → ℤ) (chosen : List Account) (books : BooksValue) (a : Account) → get (filled amount chosen books).amounts a ≡ cond (list_any (eq_by_cmp account_cmp a) chosen) (listed (amount a)) (get books.amounts a)
 get-filled amount [] books a = refl
 get-filled amount (c ∷ others) books a =
@@ -75,13 +83,16 @@ get-filled amount (c ∷ others) books a =
           ap (λ b. cond b (listed (amount c)) old) apart ∙ get-filled amount others books a ∙ sym (ap (λ b. cond (b || later) (listed (amount a)) (get books.amounts a)) apart)
     ]
 
+-- the cell of a thing without a row is 0
 cell_past : (rows : List (List ℤ)) (a : Account) → length rows ≤ thing_index a.1 → cell rows a ≡ pos 0
 cell_past rows a past = ap (λ row. get_or row (entry_index a.0) (pos 0)) (get_or_past rows (thing_index a.1) [] past)
 
+-- rows stand for books of as many things as rows
 pub things-as_books : (rows : List (List ℤ)) → (as_books rows).things ≡ length rows
 unfolding as_books
 things-as_books rows = refl
 
+-- the books that rows stand for list each cell that is not 0
 get-as_books : (rows : List (List ℤ)) (a : Account) → get (as_books rows).amounts a ≡ listed (cell rows a)
 unfolding as_books
 get-as_books rows a =
@@ -95,9 +106,11 @@ get-as_books rows a =
           ]
     ]
 
+-- an amount of the books that rows stand for is its cell
 pub amount-as_books : (rows : List (List ℤ)) (e : Entry) (t : Thing) → amount_in (as_books rows) e t ≡ cell rows (e, t)
 amount-as_books rows e t = ap (λ o. unwrap_or o (pos 0)) (get-as_books rows (e, t)) ∙ amount_listed (cell rows (e, t))
 
+-- rows stand for books of as many things as there are rows
 pub AreBooks-as_books : (rows : List (List ℤ)) → AreBooks (length rows) (as_books rows)
 AreBooks-as_books rows =
     record {
@@ -112,12 +125,15 @@ AreBooks-as_books rows =
 
 -- ---- rows with nothing in them
 
+-- a list of copies of a, read with default a, gives a at each index
 get_or-replicate_same : {A : Type 0} (n i : ℕ) (a : A) → get_or (replicate n a) i a ≡ a
 get_or-replicate_same n i a = elim (cases_lt i n) [ inl h ↦ get_or-replicate n i a a h | inr h ↦ get_or_past (replicate n a) i a (rw length-replicate h) ]
 
+-- a row of amounts that are all 0
 abbrev no_row : List ℤ
 no_row = replicate entry_count (pos 0)
 
+-- each cell of rows of 0 is 0
 cell-replicate : (things : ℕ) (a : Account) → cell (replicate things no_row) a ≡ pos 0
 cell-replicate things a =
     elim (cases_lt (thing_index a.1) things) [
@@ -125,21 +141,25 @@ cell-replicate things a =
       | inr h ↦ let past : things ≤ thing_index a.1 = h in cell_past (replicate things no_row) a (rw length-replicate past)
     ]
 
+-- rows of 0 stand for books in which every amount is 0
 pub as_books-replicate : (things : ℕ) → as_books (replicate things (replicate entry_count (pos 0))) ≡ no_amounts things
 as_books-replicate things =
     let rows = replicate things no_row in
     same_value (as_books rows) (no_amounts things) (things-as_books rows ∙ length-replicate things no_row)
     (same_map account_total account_same (as_books rows).amounts (no_amounts things).amounts (λ a. get-as_books rows a ∙ ap listed (cell-replicate things a) ∙ sym (get-empty {X = ℤ} account_cmp a)))
 
--- ---- another amount at a place
+-- ---- another amount in a cell
 
 module _ (rows : List (List ℤ)) (grid : IsGrid rows) (e : Entry) (t : Thing) (z : ℤ) (there : thing_index t < length rows) where
+  -- the thing's row with z in the entry's column
   abbrev new : List ℤ
   new = set (row_of rows t) (entry_index e) z
 
+  -- the thing's row has an amount for each entry
   wide : length (row_of rows t) ≡ entry_count
   wide = grid.wide (thing_index t) [] there
 
+  -- a grid stays one once a cell is written
   pub IsGrid-with_cell : IsGrid (with_cell rows e t z)
   IsGrid-with_cell =
       record {
@@ -152,6 +172,7 @@ module _ (rows : List (List ℤ)) (grid : IsGrid rows) (e : Entry) (t : Thing) (
             ];
       }
 
+  -- the written cell is z, and each other one stays
   cell-with_cell : (a : Account) → cell (with_cell rows e t z) a ≡ cond (eq_by_cmp account_cmp a (e, t)) z (cell rows a)
   cell-with_cell a =
       let choice = λ (b : Bool). cond b z (cell rows a) in
@@ -170,6 +191,7 @@ module _ (rows : List (List ℤ)) (grid : IsGrid rows) (e : Entry) (t : Thing) (
             ap (λ r. get_or r (entry_index a.0) (pos 0)) (get_or-set_other rows (thing_index t) (thing_index a.1) new [] apart) ∙ sym (ap choice (apart_things a (e, t) apart))
       ]
 
+  -- rows with a cell written stand for the books with that amount set
   pub as_books-with_cell : as_books (with_cell rows e t z) ≡ with_amount (as_books rows) e t z
   as_books-with_cell =
       same_value (as_books (with_cell rows e t z)) (with_amount (as_books rows) e t z) (things-as_books (with_cell rows e t z) ∙ length-set rows (thing_index t) new ∙ sym (things-as_books rows))
@@ -179,12 +201,14 @@ module _ (rows : List (List ℤ)) (grid : IsGrid rows) (e : Entry) (t : Thing) (
 
 -- ---- the sum of a row
 
+-- a row is the list of its amounts by entries
 row_listed : (row : List ℤ) → length row ≡ entry_count → map (λ e. get_or row (entry_index e) (pos 0)) all_entries ≡ row
 row_listed row size =
     ext_get_or (pos 0) (map (λ e. get_or row (entry_index e) (pos 0)) all_entries) row (length-map all_entries (λ e. get_or row (entry_index e) (pos 0)) ∙ sym size) (λ i h.
     let small : i < entry_count = omega (arith, h, length-map all_entries (λ e. get_or row (entry_index e) (pos 0))) in
     get_or-map (λ e. get_or row (entry_index e) (pos 0)) all_entries i Founding (pos 0) small ∙ ap (λ k. get_or row k (pos 0)) (entry_in_place i small))
 
+-- the sum of a thing's amounts is the sum of its row
 booked-as_books : (rows : List (List ℤ)) (t : Thing) → IsGrid rows → thing_index t < length rows → booked (as_books rows) t ≡ sum_of (row_of rows t)
 unfolding booked
 booked-as_books rows t grid there =
@@ -197,15 +221,18 @@ booked-as_books rows t grid there =
 pub grid_there : (rows : List (List ℤ)) (books : BooksValue) (t : Thing) → as_books rows ≡ books → thing_index t < books.things → thing_index t < length rows
 grid_there rows books t is there = let size = ap (λ (b : BooksValue). b.things) (sym is) ∙ things-as_books rows in omega (arith, size, there)
 
--- the row that is read at the place of a thing
+-- the row read at the index of a thing's row is the thing's row
 row_read : (rows : List (List ℤ)) (t : Thing) (place : ℕ) (row : List ℤ) → row ≡ get_or rows place row → place ≡ thing_index t → thing_index t < length rows → row ≡ row_of rows t
 row_read rows t place row is at there = is ∙ ap (λ k. get_or rows k row) at ∙ get_or_default rows (thing_index t) row [] there
 
+-- the amount read at the indices of an account's row and column is the account's cell
 pub cell_read : (rows : List (List ℤ)) (e : Entry) (t : Thing) (place k : ℕ) (row : List ℤ) → row ≡ get_or rows place row → place ≡ thing_index t → k ≡ entry_index e → thing_index t < length rows → get_or row k (pos 0) ≡ cell rows (e, t)
 cell_read rows e t place k row is at entry there = let its = row_read rows t place row is at there in λ i. get_or (its i) (entry i) (pos 0)
 
+-- an amount written at the indices of an account's row and column gives with_cell
 pub cell_written : (rows : List (List ℤ)) (e : Entry) (t : Thing) (place k : ℕ) (row : List ℤ) (x z : ℤ) → row ≡ get_or rows place row → place ≡ thing_index t → k ≡ entry_index e → x ≡ z → thing_index t < length rows → set rows place (set row k x) ≡ with_cell rows e t z
 cell_written rows e t place k row x z is at entry value there = let its = row_read rows t place row is at there in λ i. set rows (at i) (set (its i) (entry i) (value i))
 
+-- the sum of the row read at the index of a thing's row is the sum booked of the thing
 pub row_summed : (rows : List (List ℤ)) (t : Thing) (place : ℕ) (row : List ℤ) → row ≡ get_or rows place row → place ≡ thing_index t → IsGrid rows → thing_index t < length rows → sum_of row ≡ booked (as_books rows) t
 row_summed rows t place row is at grid there = ap sum_of (row_read rows t place row is at there) ∙ sym (booked-as_books rows t grid there)

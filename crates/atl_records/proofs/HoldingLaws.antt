@@ -1,4 +1,4 @@
--- Amounts by numbers, behind a change of one of them.
+-- Laws of amounts by numbers (items, days), once one of them is set.
 use Rattle.std.proofs.Common.{◌≡◌, ◌≢◌, ◌==◌, ℕ, ◌≤◌, Bool, true, false, cond, Option, Some, None, refl, ap, subst, sym, ◌∙◌, inl, inr, arith}
 use Rattle.std.specs.Prelude.{Result, Ok, Err, OnOk, OnErr, unwrap_or, if◌then◌else◌}
 use Rattle.std.proofs.lemmas.Bool.{cases_Bool}
@@ -12,7 +12,7 @@ use Rattle.atl_records.specs.Limits.{holding_limit}
 use Rattle.atl_records.proofs.EveryLaws.{every-insert, get-insert_other}
 use Rattle.atl_records.proofs.RemovedLaws.{every-remove, get-remove_other}
 
--- what is so of the amount that is set is so of each
+-- what is so of every amount, and of the amount that is set if it isn't 0, is so of every amount after that
 pub every_amount : (P : ℕ → ℕ → Type 0) (items : FinMap nat_cmp ℕ) (i amount : ℕ) → (1 ≤ amount → P i amount) → Every P items → Every P (with_amount_of items i amount)
 every_amount P items i amount here old = by_zero (amount == 0) refl
   where
@@ -20,7 +20,7 @@ every_amount P items i amount here old = by_zero (amount == 0) refl
     by_zero true is = every-remove items i P old
     by_zero false is = let some : 1 ≤ amount = grind (arith, nat_tests) in every-insert P items i amount (here some) old
 
--- the amount that was set, and the others as they were
+-- once amount i is set, it is read back, and each other amount is as before
 pub set_amount : (items : FinMap nat_cmp ℕ) (i amount j : ℕ) → amount_of (with_amount_of items i amount) j ≡ cond (eq_by_cmp nat_cmp j i) amount (amount_of items j)
 set_amount items i amount j = by_zero (amount == 0) refl
   where
@@ -38,7 +38,7 @@ set_amount items i amount j = by_zero (amount == 0) refl
         ap (λ (o : Option ℕ). unwrap_or o 0) (get-remove nat_cmp_total items i j) ∙ taken (eq_by_cmp nat_cmp j i) none
     by_zero false is = ap (λ (o : Option ℕ). unwrap_or o 0) (get-insert nat_cmp_total items i amount j) ∙ put (eq_by_cmp nat_cmp j i)
 
--- a unit's amount of an item is within the limit
+-- a unit's amount of an item is at most holding_limit
 pub amount_within : (h : HoldingValue) (i : ℕ) → IsHolding h → amount_of h.items i ≤ holding_limit
 amount_within h i is = by_option (get h.items i) refl
   where
@@ -46,22 +46,25 @@ amount_within h i is = by_option (get h.items i) refl
     by_option None e = omega arith
     by_option (Some amount) e = (is.items i amount e).1
 
--- numbers that compare equal
+-- numbers that compare equal are equal
 pub alike : (i j : ℕ) → eq_by_cmp nat_cmp j i ≡ true → j ≡ i
 alike i j is = let same : (j == i) ≡ true = unsigned_ties j i ∙ is in grind (arith, nat_tests)
 
 -- ---- the amount that was set, and each other one
 
 module _ (items : FinMap nat_cmp ℕ) (i amount : ℕ) where
+  -- the amount that is set is read back
   pub set_same : amount_of (with_amount_of items i amount) i ≡ amount
   set_same = let same : (i == i) ≡ true = grind (arith, nat_tests) in set_amount items i amount i ∙ ap (λ b. cond b amount (amount_of items i)) (sym (unsigned_ties i i) ∙ same)
 
+  -- another amount is as before
   pub set_other : (j : ℕ) → j ≢ i → amount_of (with_amount_of items i amount) j ≡ amount_of items j
   set_other j apart = elim (cases_Bool (eq_by_cmp nat_cmp j i)) [
     | inl same ↦ absurd (apart (alike i j same))
     | inr other ↦ set_amount items i amount j ∙ ap (λ b. cond b amount (amount_of items j)) other
   ]
 
+  -- another number is listed as before
   pub get-set_other : (j : ℕ) → j ≢ i → get (with_amount_of items i amount) j ≡ get items j
   get-set_other j apart = by_zero (amount == 0)
     where
@@ -70,10 +73,12 @@ module _ (items : FinMap nat_cmp ℕ) (i amount : ℕ) where
       by_zero false = get-insert_other items i j amount apart
 
 -- ---- a unit's amounts stay within the limits, whether there was memory or not
+-- amounts of items stay within the limits when one is set, with memory or without
 pub AreAmounts-set : {E : Type 0} (r : Result (Unit {0}) E) (old new : FinMap nat_cmp ℕ) (item amount : ℕ) → amount ≤ holding_limit → OnOk r (new ≡ with_amount_of old item amount) → OnErr r (new ≡ old) → AreAmounts old → AreAmounts new
 AreAmounts-set (Ok u) old new item amount h put same is = subst AreAmounts (sym put) (every_amount (λ i n. (1 ≤ n) × (n ≤ holding_limit)) old item amount (λ some. (some, h)) is)
 AreAmounts-set (Err e) old new item amount h put same is = subst AreAmounts (sym same) is
 
+-- amounts of items stay within the limits when one of at least 1 is put in, with memory or without
 pub AreAmounts-put : {E : Type 0} (r : Result (Unit {0}) E) (old new : FinMap nat_cmp ℕ) (item amount : ℕ) → (1 ≤ amount) × (amount ≤ holding_limit) → OnOk r (new ≡ insert old item amount) → OnErr r (new ≡ old) → AreAmounts old → AreAmounts new
 AreAmounts-put (Ok u) old new item amount h put same is = subst AreAmounts (sym put) (every-insert (λ i n. (1 ≤ n) × (n ≤ holding_limit)) old item amount h is)
 AreAmounts-put (Err e) old new item amount h put same is = subst AreAmounts (sym same) is

@@ -1,4 +1,4 @@
--- The greatest number that passes a test, and sums that go through the items held.
+-- Laws of levels: the greatest number that passes a test, and the sums over the items held.
 use Rattle.std.proofs.Common.{◌≡◌, ℕ, zero, suc, ◌+◌, ◌*◌, ◌≤◌, Bool, true, false, nat_le, List, ◌∷◌, refl, sym, ap, ◌∙◌, arith, inl, inr, true≢false}
 use Rattle.std.specs.Prelude.{if◌then◌else◌}
 use Rattle.std.specs.Ordering.{nat_cmp}
@@ -10,27 +10,28 @@ use Rattle.atl_tables.proofs.CountLaws.{BeginsFrom, begins_later, begins_same}
 use Rattle.atl_records.specs.Limits.{most_u32}
 use Rattle.atl_records.specs.Levels.{greatest, days_for}
 
--- a number that passes is the greatest up to itself
+-- a number that passes is the greatest up to itself that passes
 pub greatest_here : (passes : ℕ → Bool) (n : ℕ) → passes n ≡ true → n ≡ greatest passes n
 greatest_here passes zero h = refl
 greatest_here passes (suc n) h = sym (ap (λ b. if b then suc n else greatest passes n) h)
 
--- one that fails is passed over
+-- the greatest up to a number that fails is the greatest up to the number before it
 pub greatest_below : (passes : ℕ → Bool) (n m : ℕ) → n ≡ m + 1 → passes n ≡ false → greatest passes n ≡ greatest passes m
 greatest_below passes zero m e h = absurd (omega arith)
 greatest_below passes (suc n) m e h = let same : n ≡ m = omega arith in ap (λ b. if b then suc n else greatest passes n) h ∙ ap (greatest passes) same
 
--- level 0 needs no days
-pub some_level : (level men days : ℕ) → nat_le (days_for level men) days ≡ false → 1 ≤ level
-some_level zero men days h = let none : nat_le (days_for 0 men) days ≡ true = grind (arith, nat_tests) in absurd (true≢false (sym none ∙ h))
-some_level (suc n) men days h = omega arith
+-- a level for which the days are not enough is at least 1
+pub unreached_level_is_above_0 : (level men days : ℕ) → nat_le (days_for level men) days ≡ false → 1 ≤ level
+unreached_level_is_above_0 zero men days h = let none : nat_le (days_for 0 men) days ≡ true = grind (arith, nat_tests) in absurd (true≢false (sym none ∙ h))
+unreached_level_is_above_0 (suc n) men days h = omega arith
 
 -- ---- sums
 
+-- a sum that takes in the next term still comes to the whole
 pub added : (sum x rest whole all : ℕ) → whole ≡ x + rest → sum + whole ≡ all → (sum + x) + rest ≡ all
 added sum x rest whole all h e = omega (arith, h, e)
 
--- one item more, whose number is greater than those before. One that the world has not adds nothing
+-- the sum of one item more is within the bound for one number more; an item not in the world adds 0
 pub fits_next : (low sum x : ℕ) (e : ℕ × ℕ) (es : List (ℕ × ℕ)) → is_sorted nat_cmp (e ∷ es) ≡ true → low ≤ most_items → sum ≤ (most_u32 * most_weight) * low → low ≤ e.0 → x ≤ (most_u32 * most_weight) → (most_items ≤ e.0 → x ≡ 0)
     → (next : ℕ) × (next ≤ most_items) × (sum + x ≤ (most_u32 * most_weight) * next) × BeginsFrom next es
 fits_next low sum x e es sorted few fits from small far =
@@ -39,5 +40,6 @@ fits_next low sum x e es sorted few fits from small far =
       | inr h ↦ (low, few, let none : x ≡ 0 = far h in omega (arith, fits, none), begins_same low e es sorted from)
     ]
 
+-- an amount of what weighs or carries 0 adds 0
 pub no_more : (amount each : ℕ) → each ≡ 0 → amount * each ≡ 0
 no_more amount each h = grind arith

@@ -1,4 +1,4 @@
--- The entries of the books: the accounts of all things in order, with their amounts.
+-- Laws of the books' entries: they are the accounts in order, with the amounts that are not 0.
 use Rattle.std.proofs.Common.{◌≡◌, ℕ, zero, suc, ◌<◌, ◌+◌, ◌&&◌, ◌||◌, T, Bool, true, false, not, cond, List, [], ◌∷◌, ◌++◌, length, map, Option, Some, None, refl, sym, ap, subst, ◌∙◌, arith, inl, inr}
 use Rattle.std.specs.Prelude.{ℤ, ⊤, nat_lt}
 use Rattle.std.specs.List.{AllByRecursion, flat_map, list_all, list_any, range_with_len}
@@ -19,46 +19,56 @@ use Rattle.atl_records.proofs.GridLaws.{any_accounts}
 
 -- ---- accounts that rise
 
--- all of them behind one
+-- the account is less than each of the list
 abbrev pub Behind : Account → List Account → Type 0
 Behind a chosen = AllByRecursion (λ c. account_cmp a c ≡ Less) chosen
 
+-- the list of accounts is strictly sorted by account_cmp
 abbrev pub Rise : List Account → Type 0
 Rise [] = ⊤
 Rise (a ∷ others) = Behind a others × Rise others
 
+-- an account with a lower entry is less
 less_entry : (a b : Account) → entry_index a.0 < entry_index b.0 → account_cmp a b ≡ Less
 less_entry a b h = ap (λ o. ordering_then o (nat_cmp (thing_index a.1) (thing_index b.1))) (sym (nat_cmp_is (entry_index a.0) (entry_index b.0) Less h))
 
+-- of two accounts of one entry the one with the lower thing is less
 less_thing : (e : Entry) (i k : ℕ) → i < k → account_cmp (e, thing_at i) (e, thing_at k) ≡ Less
 less_thing e i k h =
     ap (λ o. ordering_then o (nat_cmp (thing_index (thing_at i)) (thing_index (thing_at k)))) (tied_itself nat_cmp_total (entry_index e)) ∙ (λ j. nat_cmp (place_at i j) (place_at k j)) ∙ sym (nat_cmp_is i k Less h)
 
+-- what is so of the elements of two lists is so of those of both together
 all_append : {A : Type 0} (P : A → Type 0) (xs ys : List A) → AllByRecursion P xs → AllByRecursion P ys → AllByRecursion P (xs ++ ys)
 all_append P [] ys h k = k
 all_append P (x ∷ xs) ys h k = (h.0, all_append P xs ys h.1 k)
 
+-- two sorted lists of accounts, each of the first less than all of the second, are sorted together
 rise_append : (xs ys : List Account) → Rise xs → Rise ys → AllByRecursion (λ x. Behind x ys) xs → Rise (xs ++ ys)
 rise_append [] ys h k all = k
 rise_append (x ∷ xs) ys h k all = (all_append (λ c. account_cmp x c ≡ Less) xs ys h.0 all.0, rise_append xs ys h.1 k all.1)
 
+-- what is so of an entry's account with every thing is so of its accounts for some things
 all_under : (P : Account → Type 0) (e : Entry) (numbers : List ℕ) → ((i : ℕ) → P (e, thing_at i)) → AllByRecursion P (map (λ i. (e, thing_at i)) numbers)
 all_under P e [] h = tt
 all_under P e (i ∷ numbers) h = (h i, all_under P e numbers h)
 
+-- an entry's account with thing i is less than its accounts with things from a > i
 behind_under : (e : Entry) (i a n : ℕ) → i < a → Behind (e, thing_at i) (map (λ k. (e, thing_at k)) (range_with_len a n))
 behind_under e i a zero h = tt
 behind_under e i a (suc n) h = (less_thing e i a h, behind_under e i (a + 1) n (omega arith))
 
+-- the accounts of an entry with the things from a to a + n are sorted
 under_rise : (e : Entry) (a n : ℕ) → Rise (map (λ i. (e, thing_at i)) (range_with_len a n))
 under_rise e a zero = tt
 under_rise e a (suc n) = (behind_under e a (a + 1) n (omega arith), under_rise e (a + 1) n)
 
+-- whether the entries of a list are strictly sorted by index
 are_rising : List Entry → Bool
 are_rising [] = true
 are_rising (e ∷ es) = list_all (λ d. nat_lt (entry_index e) (entry_index d)) es && are_rising es
 
 module _ (things : ℕ) where
+  -- an account is less than all accounts of higher entries
   behind_flat : (a : Account) (es : List Entry) → list_all (λ d. nat_lt (entry_index a.0) (entry_index d)) es ≡ true → Behind a (flat_map (accounts_under things) es)
   behind_flat a [] h = tt
   behind_flat a (d ∷ es) h =
@@ -67,6 +77,7 @@ module _ (things : ℕ) where
       all_append (λ c. account_cmp a c ≡ Less) (accounts_under things d) (flat_map (accounts_under things) es) (all_under (λ c. account_cmp a c ≡ Less) d (range_with_len 0 things) (λ i. less_entry a (d, thing_at i) before))
       (behind_flat a es parts.1)
 
+  -- the accounts of sorted entries are sorted
   flat_rise : (es : List Entry) → are_rising es ≡ true → Rise (flat_map (accounts_under things) es)
   unfolding are_rising
   flat_rise [] h = tt
@@ -75,20 +86,24 @@ module _ (things : ℕ) where
       rise_append (accounts_under things e) (flat_map (accounts_under things) es) (under_rise e 0 things) (flat_rise es parts.1)
       (all_under (λ x. Behind x (flat_map (accounts_under things) es)) e (range_with_len 0 things) (λ i. behind_flat (e, thing_at i) es parts.0))
 
+  -- all accounts are sorted
   accounts_rise : Rise (accounts things)
   unfolding are_rising
   accounts_rise = flat_rise all_entries refl
 
+-- the entries of a map by accounts are sorted
 pub amounts_sorted : (m : FinMap account_cmp ℤ) → is_sorted account_cmp (entries m) ≡ true
 amounts_sorted m = is_true _ (entries_sorted m)
 
 -- ---- amounts that are listed
 
+-- None or None is None
 none_either : (b : Bool) (o : Option ℤ) → o ≡ None → cond b o None ≡ None
 none_either true o h = h
 none_either false o h = refl
 
 module _ (amount : Account → ℤ) where
+  -- an account less than all chosen ones is less than all listed ones
   behind_listed : (a : Account) (chosen : List Account) → Behind a chosen → below_all account_cmp a (listed_of amount chosen) ≡ true
   behind_listed a [] h = refl
   behind_listed a (c ∷ others) h =
@@ -98,6 +113,7 @@ module _ (amount : Account → ℤ) where
         | false ↦ ap (λ o. is_lt o && below_all account_cmp a rest) h.0 ∙ behind_listed a others h.1
       ]
 
+  -- the listed amounts of sorted accounts are sorted
   sorted_listed : (chosen : List Account) → Rise chosen → is_sorted account_cmp (listed_of amount chosen) ≡ true
   sorted_listed [] h = refl
   sorted_listed (c ∷ others) h =
@@ -107,6 +123,7 @@ module _ (amount : Account → ℤ) where
         | false ↦ ap (λ b. b && is_sorted account_cmp rest) (behind_listed c others h.0) ∙ sorted_listed others h.1
       ]
 
+  -- a chosen account is found with its amount where that is not 0, another is not found
   find-listed : (a : Account) (chosen : List Account) → find account_cmp a (listed_of amount chosen) ≡ cond (list_any (eq_by_cmp account_cmp a) chosen) (listed (amount a)) None
   find-listed a [] = refl
   find-listed a (c ∷ others) =
@@ -128,7 +145,7 @@ module _ (amount : Account → ℤ) where
             ] ∙ sym (ap (λ b. cond (b || later) (listed (amount a)) None) apart)
       ]
 
--- books list their amounts account by account
+-- the entries of the books are the amounts, where not 0, of all accounts in order
 pub entries-amounts : (things : ℕ) (books : BooksValue) → AreBooks things books → entries books.amounts ≡ listed_of (λ a. amount_in books a.0 a.1) (accounts things)
 entries-amounts things books are =
     let amount = λ (a : Account). amount_in books a.0 a.1 in
@@ -143,15 +160,18 @@ entries-amounts things books are =
 
 -- ---- what is so of each amount
 
+-- an account that is less does not compare equal
 less_apart : (a b : Account) → is_lt (account_cmp a b) ≡ true → eq_by_cmp account_cmp a b ≡ false
 less_apart a b h = elim (account_cmp a b) as (λ o. is_lt o ≡ true → is_eq o ≡ false) [ Less ↦ λ _. refl | Equal ↦ λ not. absurd (false≢true not) | Greater ↦ λ _. refl ] h
 
+-- an account less than all of a list is not found in it
 none_before : (a : Account) (es : List (Account × ℤ)) → below_all account_cmp a es ≡ true → find account_cmp a es ≡ None
 none_before a [] h = refl
 none_before a (e ∷ es) h =
     let parts = and_parts (is_lt (account_cmp a e.0)) (below_all account_cmp a es) h in
     ap (λ b. cond b (Some e.1) (find account_cmp a es)) (less_apart a e.0 parts.0) ∙ none_before a es parts.1
 
+-- what is found after the first entry of a sorted list is found in the whole list
 later_found : (e : Account × ℤ) (es : List (Account × ℤ)) (a : Account) (z : ℤ) → below_all account_cmp e.0 es ≡ true → find account_cmp a es ≡ Some z → find account_cmp a (e ∷ es) ≡ Some z
 later_found e es a z h is =
     elim (cases_account a e.0) [
@@ -160,12 +180,14 @@ later_found e es a z h is =
     ]
 
 module _ (P : Account → ℤ → Type 0) where
+  -- what is so of each amount found in a sorted list is so of each of its entries
   each_of : (es : List (Account × ℤ)) → is_sorted account_cmp es ≡ true → ((a : Account) (z : ℤ) → find account_cmp a es ≡ Some z → P a z) → AllByRecursion (λ x. P x.0 x.1) es
   each_of [] s h = tt
   each_of (e ∷ es) s h =
       let parts = and_parts (below_all account_cmp e.0 es) (is_sorted account_cmp es) s in
       (h e.0 e.1 (ap (λ b. cond b (Some e.1) (find account_cmp e.0 es)) (account_itself e.0)), each_of es parts.1 (λ a z is. h a z (later_found e es a z parts.0 is)))
 
+  -- what is so of each entry of a list is so of each amount found in it
   found_of : (es : List (Account × ℤ)) (a : Account) (z : ℤ) → AllByRecursion (λ x. P x.0 x.1) es → find account_cmp a es ≡ Some z → P a z
   found_of [] a z h is = none_some z is
   found_of (e ∷ es) a z h is =
@@ -180,16 +202,19 @@ module _ (P : Account → ℤ → Type 0) where
       inside : (x y : ℤ) → Some x ≡ Some y → x ≡ y
       inside x y e = cc
 
-  -- what is so of each amount is so of each entry
+  -- what is so of each amount of a map is so of each of its entries
   pub each_amount : (m : FinMap account_cmp ℤ) → ((a : Account) (z : ℤ) → get m a ≡ Some z → P a z) → AllByRecursion (λ x. P x.0 x.1) (entries m)
   each_amount m h = each_of (entries m) (amounts_sorted m) (λ a z is. h a z (get-entries m a ∙ is))
 
+  -- what is so of each entry of a map is so of each amount
   pub amount_of_each : (m : FinMap account_cmp ℤ) → AllByRecursion (λ x. P x.0 x.1) (entries m) → (a : Account) (z : ℤ) → get m a ≡ Some z → P a z
   amount_of_each m h a z is = found_of (entries m) a z h (sym (get-entries m a) ∙ is)
 
+-- a list of length 0 is empty
 no_length : {A : Type 0} (xs : List A) → length xs ≡ 0 → xs ≡ []
 no_length [] h = refl
 no_length (x ∷ xs) h = absurd (omega arith)
 
+-- the empty map has no entries
 pub entries-none : entries (empty {X = ℤ} {R = account_cmp}) ≡ []
 entries-none = no_length (entries (empty {X = ℤ} {R = account_cmp})) (sym (len-entries (empty {X = ℤ} {R = account_cmp})) ∙ len-empty account_cmp ℤ)

@@ -1,4 +1,4 @@
--- A map from which a value is taken.
+-- Laws of a map from which a value is removed, or into which one is put.
 use Rattle.std.proofs.Common.{◌≡◌, ◌≢◌, ℕ, ◌≤◌, ◌-◌, ◌+◌, Bool, true, false, cond, Some, None, refl, sym, ap, ◌∙◌, arith}
 use Rattle.std.specs.declared.cmp.Ordering.TheVariants.{Less, Equal, Greater}
 use Rattle.std.specs.Ordering.{nat_cmp, is_eq}
@@ -12,6 +12,7 @@ use Rattle.atl_records.proofs.EveryLaws.{none_some}
 -- ---- a value that is taken out
 
 module _ {V : Type 0} (m : FinMap nat_cmp V) (k : ℕ) where
+  -- removing k changes nothing under another number
   pub get-remove_other : (n : ℕ) → n ≢ k → get (remove m k) n ≡ get m n
   get-remove_other n apart =
       get-remove nat_cmp_total m k n ∙ elim (nat_cmp n k) as (λ o. nat_cmp n k ≡ o → cond (is_eq o) None (get m n) ≡ get m n) [
@@ -20,6 +21,7 @@ module _ {V : Type 0} (m : FinMap nat_cmp V) (k : ℕ) where
         | Greater ↦ λ _. refl
       ] refl
 
+  -- a removed number has no value
   pub get-remove_same : get (remove m k) k ≡ None
   get-remove_same =
       get-remove nat_cmp_total m k k ∙ elim (nat_cmp k k) as (λ o. nat_cmp k k ≡ o → cond (is_eq o) None (get m k) ≡ None) [
@@ -28,7 +30,7 @@ module _ {V : Type 0} (m : FinMap nat_cmp V) (k : ℕ) where
         | Greater ↦ λ o. let l = ranked k k Greater (sym o) in absurd (omega arith)
       ] refl
 
-  -- what is still there was there under another number
+  -- a value that is there after k is removed was there, under another number
   pub still : (n : ℕ) (v : V) → get (remove m k) n ≡ Some v → (n ≢ k) × (get m n ≡ Some v)
   still n v is =
       elim (nat_cmp n k) as (λ o. nat_cmp n k ≡ o → cond (is_eq o) None (get m n) ≡ Some v → (n ≢ k) × (get m n ≡ Some v)) [
@@ -37,9 +39,11 @@ module _ {V : Type 0} (m : FinMap nat_cmp V) (k : ℕ) where
         | Greater ↦ λ o e. (λ same. let l = ranked n k Greater (sym o) in absurd (omega arith), e)
       ] refl (sym (get-remove nat_cmp_total m k n) ∙ is)
 
+  -- what was so of every value is so once one is removed
   pub every-remove : (P : ℕ → V → Type 0) → Every P m → Every P (remove m k)
   every-remove P old n v is = old n v (still n v is).1
 
+  -- a map has no more values once one is removed
   pub fewer : len (remove m k) ≤ len m
   fewer = let is = len-remove nat_cmp_total m k in less (contains_key m k) (len (remove m k)) (len m) is
     where
@@ -47,10 +51,11 @@ module _ {V : Type 0} (m : FinMap nat_cmp V) (k : ℕ) where
       less true x y h = omega arith
       less false x y h = omega arith
 
+  -- the sum over a map without k, and f of k's value, is the sum over the map
   pub sum_over-remove : (f : V → ℕ) (v : V) → get m k ≡ Some v → sum_over f (remove m k) + f v ≡ sum_over f m
   sum_over-remove f v is = sym (sum_over-insert_new f (remove m k) k v get-remove_same) ∙ ap (sum_over f) (sym (put_back m k v is))
 
--- one value more, and what is so of all others
+-- what is so of the value put under k, and of each value under another number, is so of every value
 pub every-insert_other : {V : Type 0} (P : ℕ → V → Type 0) (m : FinMap nat_cmp V) (k : ℕ) (v : V) → P k v → ((n : ℕ) (x : V) → n ≢ k → get m n ≡ Some x → P n x) → Every P (insert m k v)
 every-insert_other P m k v here others n x is =
     elim (nat_cmp n k) as (λ o. nat_cmp n k ≡ o → cond (is_eq o) (Some v) (get m n) ≡ Some x → P n x) [

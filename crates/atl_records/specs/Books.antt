@@ -12,6 +12,7 @@ use Rattle.atl_records.specs.declared.books.Entry.TheVariants.{Founding, Joining
 use Rattle.atl_records.specs.declared.books.Thing.{Thing}
 use Rattle.atl_records.specs.declared.books.Thing.TheVariants.{Money, People, Item}
 
+-- the index of an entry, from 0 to 15; the entry's number is one more
 abbrev pub entry_index : Entry → ℕ
 entry_index Founding = 0
 entry_index Joining = 1
@@ -30,20 +31,21 @@ entry_index Bought = 13
 entry_index Sold = 14
 entry_index Stocked = 15
 
--- in the order of their numbers
+-- all 16 entries, in the order of their indices
 abbrev pub all_entries : List Entry
 all_entries = Founding ∷ Joining ∷ Income ∷ Wages ∷ Recruiting ∷ Study ∷ Upkeep ∷ Lost ∷ Births ∷ Starved ∷ Left ∷ Made ∷ Used ∷ Bought ∷ Sold ∷ Stocked ∷ []
 
--- the entry of this number; entries are counted from 1
+-- the entry with a number from 1 to 16, None for any other number
 abbrev pub entry_numbered : ℕ → Option Entry
 entry_numbered n = find (λ e. entry_index e + 1 == n) all_entries
 
+-- the number of a thing: 0 for money, 1 for people, 2 + i for the item with index i in the world
 abbrev pub thing_index : Thing → ℕ
 thing_index Money = 0
 thing_index People = 1
 thing_index (Item i) = 2 + i
 
--- the thing of this number
+-- the thing with a number, the inverse of thing_index
 abbrev pub thing_at : ℕ → Thing
 thing_at zero = Money
 thing_at (suc zero) = People
@@ -51,19 +53,20 @@ thing_at (suc (suc i)) = Item i
 
 -- ---- the amounts
 
--- what an amount is booked to
+-- an account, to which amounts are booked: an entry and a thing
 abbrev pub Account : Type 0
 Account = Entry × Thing
 
--- by entries, and under each by things
+-- the order of accounts: by the entry's index, then by the thing's number
 abbrev pub account_cmp : Account → Account → Ordering
 account_cmp a b = ordering_then (nat_cmp (entry_index a.0) (entry_index b.0)) (nat_cmp (thing_index a.1) (thing_index b.1))
 
--- How many things there are: money, people, and the items of the world. And the amount of each account, where it is not 0.
+-- the books: how many things there are (money, people and the world's items), and each account's amount that is not 0
 pub record BooksValue : Type 0 where
   pub things : ℕ
   pub amounts : FinMap account_cmp ℤ
 
+-- the encoding of books as a pair of their two fields
 abbrev pub books_code : Coded BooksValue
 books_code =
     code_by (ℕ × FinMap account_cmp ℤ) (coded× coded_ℕ (code (coded× entry.the_row.coded thing.the_row.coded) coded_ℤ))
@@ -71,10 +74,11 @@ books_code =
     (λ p. record { things = p.0; amounts = p.1 })
     (λ _. refl)
 
--- what is booked of a thing under an entry, 0 where nothing is
+-- the amount booked of a thing under an entry, 0 where none is listed
 abbrev pub amount_in : BooksValue → Entry → Thing → ℤ
 amount_in books e t = unwrap_or (get books.amounts (e, t)) (pos 0)
 
+-- whether an amount is 0
 abbrev pub is_zero : ℤ → Bool
 is_zero (pos n) = n == 0
 is_zero (negsuc n) = false
@@ -83,28 +87,29 @@ is_zero (negsuc n) = false
 abbrev pub with_amount : BooksValue → Entry → Thing → ℤ → BooksValue
 with_amount books e t amount = record books { amounts = if is_zero amount then remove books.amounts (e, t) else insert books.amounts (e, t) amount }
 
--- the books with so much more of a thing under an entry
+-- the books after n, of either sign, is added to the amount of a thing under an entry
 abbrev pub after_booking : BooksValue → Entry → Thing → ℤ → BooksValue
 after_booking books e t n = with_amount books e t (amount_in books e t +ℤ n)
 
--- books of so many things with nothing in them
+-- books of so many things in which every amount is 0
 abbrev pub no_amounts : ℕ → BooksValue
 no_amounts things = record { things = things; amounts = empty }
 
+-- the sum of a list of amounts
 abbrev pub sum_of : List ℤ → ℤ
 sum_of [] = pos 0
 sum_of (x ∷ xs) = x +ℤ sum_of xs
 
--- all that is booked of a thing
+-- the sum of a thing's amounts over all 16 entries
 unfoldable pub booked : BooksValue → Thing → ℤ
 booked books t = sum_of (map (λ e. amount_in books e t) all_entries)
 
--- books of so many things: an amount that is listed is of one of them, and not 0
+-- the books count this many things, and each listed amount is of one of them and is not 0
 pub record AreBooks (things : ℕ) (books : BooksValue) : Type 0 where
   pub count : books.things ≡ things
   pub listed : (e : Entry) (t : Thing) (amount : ℤ) → get books.amounts (e, t) ≡ Some amount → (thing_index t < things) × (amount ≢ pos 0)
 
--- an amount with room for another
+-- an amount from -2^62 - 1 to 2^62, to which the money or people of a joining can be added within 64 bits
 abbrev pub IsSmall : ℤ → Type 0
 IsSmall z = (z ≤ℤ pos (2 ^ 62)) × (negsuc (2 ^ 62) ≤ℤ z)
 
@@ -113,6 +118,6 @@ pub record IsWithin (bound : ℕ) (amount : ℤ) : Type 0 where
   pub most : amount ≤ℤ pos bound
   pub least : pos 0 ≤ℤ (amount +ℤ pos bound)
 
--- the number of an amount: thing by thing, and of each thing entry by entry
+-- the number of an account in the dirty set of the books: 16 * (the thing's number) + the entry's index
 abbrev pub amount_number : Entry → Thing → ℕ
 amount_number e t = entry_count * thing_index t + entry_index e

@@ -6,11 +6,12 @@ use Rattle.atl_records.specs.declared.event.EventVerb.TheVariants.{Order, Upkeep
 use Rattle.atl_records.specs.declared.event.EventFault.{EventFault}
 use Rattle.atl_records.specs.declared.event.EventFault.TheVariants.{NotYours, NotHere, NotEnough, NoRoom, Guarded, NotOwner, NotInside, UnitLimit, AtSea, NoMen, WrongNumber, NotGuarding, NoSkill, NoMaterial, Complete, StructureLimit, NoWay, TooHeavy, NotComplete, NoCrew, NotLearning, CannotTeach, NoFee, NoMarket}
 
+-- the keyword of an event's verb in capitals, as reports print it
 abbrev pub event_keyword : EventVerb → List ℕ
 event_keyword (Order verb) = keyword verb
 event_keyword Upkeep = codes "UPKEEP"
 
--- each fault by its number and its name
+-- the number, from 1 to 24, and the name of each event fault
 abbrev pub event_fault : EventFault → ℕ × List ℕ
 event_fault NotYours = (1, codes "NotYours")
 event_fault NotHere = (2, codes "NotHere")
@@ -43,7 +44,7 @@ event_fault_number fault = (event_fault fault).0
 abbrev pub event_fault_name : EventFault → List ℕ
 event_fault_name fault = (event_fault fault).1
 
--- by their numbers
+-- all 24 event faults, in the order of their numbers
 abbrev pub event_faults : List EventFault
 event_faults =
     NotYours ∷ NotHere ∷ NotEnough ∷ NoRoom ∷ Guarded ∷ NotOwner ∷ NotInside ∷ UnitLimit ∷ AtSea ∷ NoMen ∷ WrongNumber ∷ NotGuarding ∷ NoSkill ∷ NoMaterial ∷ Complete ∷ StructureLimit ∷ NoWay ∷ TooHeavy ∷ NotComplete ∷ NoCrew ∷ NotLearning ∷ CannotTeach ∷ NoFee ∷ NoMarket ∷ []

@@ -1,4 +1,4 @@
--- For proofs alone: how the code holds the books, a row for each thing with a place for each entry.
+-- For proofs alone: how the code holds the books, a row of amounts for each thing with a column for each entry.
 use Rattle.std.specs.Prelude.{◌≡◌, ◌≤◌, not, length, All, ℕ, ℤ, pos, List, [], ◌∷◌, map, filter, slice_index_or, slice_set}
 use Rattle.std.specs.List.{flat_map, range_with_len}
 use Rattle.atl_records.specs.Limits.{entry_count, possible_things}
@@ -6,40 +6,40 @@ use Rattle.atl_records.specs.Books.{Account, BooksValue, all_entries, entry_inde
 use Rattle.atl_records.specs.declared.books.Entry.{Entry}
 use Rattle.atl_records.specs.declared.books.Thing.{Thing}
 
--- no more rows than things can be told apart, with a place for each entry
+-- at most possible_things rows, each of entry_count amounts
 pub record IsGrid (rows : List (List ℤ)) : Type 0 where
   pub few : length rows ≤ possible_things
   pub wide : All (λ row. length row ≡ entry_count) rows
 
--- the row of a thing
+-- the row of a thing, empty where there is none
 abbrev pub row_of : List (List ℤ) → Thing → List ℤ
 row_of rows t = slice_index_or rows (thing_index t) []
 
--- what stands in the rows at the place of an account, 0 where there is none
+-- the amount in an account's row and column, 0 where there is none
 abbrev pub cell : List (List ℤ) → Account → ℤ
 cell rows a = slice_index_or (row_of rows a.1) (entry_index a.0) (pos 0)
 
--- the rows with another amount at the place of an account
+-- the rows with another amount in an account's row and column
 abbrev pub with_cell : List (List ℤ) → Entry → Thing → ℤ → List (List ℤ)
 with_cell rows e t amount = slice_set rows (thing_index t) (slice_set (row_of rows t) (entry_index e) amount)
 
--- the accounts of an entry for so many things
+-- the accounts of an entry with each of the first things, by the things' numbers
 abbrev pub accounts_under : ℕ → Entry → List Account
 accounts_under things e = map (λ i. (e, thing_at i)) (range_with_len 0 things)
 
--- all accounts for so many things, in order
+-- all accounts of the first things, in the order of account_cmp
 abbrev pub accounts : ℕ → List Account
 accounts things = flat_map (accounts_under things) all_entries
 
--- the books with an amount for each account
+-- the books once each account of a list has its amount
 abbrev pub filled : (Account → ℤ) → List Account → BooksValue → BooksValue
 filled amount [] books = books
 filled amount (a ∷ others) books = with_amount (filled amount others books) a.0 a.1 (amount a)
 
--- what rows say
+-- the books that rows stand for: a thing for each row, and the amount of each account in its cell
 unfoldable pub as_books : List (List ℤ) → BooksValue
 as_books rows = record { things = length rows; amounts = (filled (cell rows) (accounts (length rows)) (no_amounts (length rows))).amounts }
 
--- the amounts of accounts, where they are not 0
+-- the accounts of a list with their amounts, without those whose amount is 0
 abbrev pub listed_of : (Account → ℤ) → List Account → List (Account × ℤ)
 listed_of amount chosen = filter (λ x. not (is_zero x.1)) (map (λ a. (a, amount a)) chosen)

@@ -5,6 +5,7 @@ use Rattle.std.specs.Coded.{Coded, code_by, coded×, coded_ℕ, coded_list, code
 use Rattle.std.specs.FinMap.{FinMap, code, get, insert, remove}
 use Rattle.atl_records.specs.Limits.{men_limit, holding_limit}
 
+-- what a unit has: name, men, money, guard flag, pieces of each item by its index, and days of each skill over all men
 pub record HoldingValue : Type 0 where
   pub name : List ℕ
   pub men : ℕ
@@ -13,6 +14,7 @@ pub record HoldingValue : Type 0 where
   pub items : FinMap nat_cmp ℕ
   pub days : FinMap nat_cmp ℕ
 
+-- the encoding of a holding as nested pairs of its fields
 abbrev pub holding_code : Coded HoldingValue
 holding_code =
     code_by (List ℕ × (ℕ × (ℕ × (Bool × (FinMap nat_cmp ℕ × FinMap nat_cmp ℕ)))))
@@ -21,19 +23,19 @@ holding_code =
     (λ p. record { name = p.0; men = p.1.0; money = p.1.1.0; guard = p.1.1.1.0; items = p.1.1.1.1.0; days = p.1.1.1.1.1 })
     (λ _. refl)
 
--- how much of an item is held
+-- the amount under a number (pieces of an item, days of a skill), 0 where none is listed
 abbrev pub amount_of : FinMap nat_cmp ℕ → ℕ → ℕ
 amount_of items item = unwrap_or (get items item) 0
 
--- the amounts with another of an item; what there is 0 of is not listed
+-- the amounts with another amount under a number; an amount of 0 is not listed
 abbrev pub with_amount_of : FinMap nat_cmp ℕ → ℕ → ℕ → FinMap nat_cmp ℕ
 with_amount_of items item amount = if amount == 0 then remove items item else insert items item amount
 
--- an item that is listed is held, up to the holding limit
+-- each listed amount of an item is from 1 to holding_limit
 abbrev pub AreAmounts : FinMap nat_cmp ℕ → Type 0
 AreAmounts items = (item amount : ℕ) → get items item ≡ Some amount → (1 ≤ amount) × (amount ≤ holding_limit)
 
--- the limits of a unit's men, money and items
+-- men, money and each item of a holding are within their limits, and no item is listed with 0
 pub record IsHolding (h : HoldingValue) : Type 0 where
   pub men : h.men ≤ men_limit
   pub money : h.money ≤ holding_limit

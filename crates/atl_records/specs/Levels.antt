@@ -12,42 +12,44 @@ use Rattle.atl_records.specs.Limits.{level_days}
 
 -- ---- levels
 
--- the greatest number up to n that passes a test, or 0
+-- the greatest number from 1 to n that passes a test, or 0 where none does
 abbrev pub greatest : (ℕ → Bool) → ℕ → ℕ
 greatest passes zero = 0
 greatest passes (suc n) = if passes (suc n) then suc n else greatest passes n
 
--- the days of study that so many men need for a level: 30 for the first, 60 more for the second, and so on
+-- the days of study that so many men need for a level: 15 * level * (level + 1) each
 abbrev pub days_for : ℕ → ℕ → ℕ
 days_for level men = level_days * level * (level + 1) * men
 
--- the greatest level for which the days of so many men are enough
+-- the greatest level from 0 to 5 for which the days of so many men are enough, 0 without men
 unfoldable pub level_of : ℕ → ℕ → ℕ
 level_of days men = if men == 0 then 0 else greatest (λ level. nat_le (days_for level men) days) last_level
 
--- the level of people in a skill, by the days that they have studied it
+-- the level of a unit's men in a skill, by the days that they have studied it
 abbrev pub level_in : HoldingValue → (skill : ℕ) → ℕ
 level_in h skill = level_of (amount_of h.days skill) h.men
 
--- in a skill that may not be named nobody has a level
+-- the level of a unit's men in a skill, 0 where no skill is named
 abbrev pub level_in_any : HoldingValue → Option ℕ → ℕ
 level_in_any h None = 0
 level_in_any h (Some skill) = level_in h skill
 
 -- ---- loads
 
--- what one of an item weighs, and what it carries
+-- what one piece of an item weighs, 0 for an item that the world does not have
 abbrev pub weight_of : WorldValue → ℕ → ℕ
 weight_of w item = option_map_or (λ x. x.weight) (slice_get w.items item) 0
 
+-- what one piece of an item carries, 0 for an item that the world does not have
 abbrev pub carry_of : WorldValue → ℕ → ℕ
 carry_of w item = option_map_or (λ x. x.carry) (slice_get w.items item) 0
 
--- what one of an item weighs or carries, and the sum of amount times that over the items held
+-- what one piece of an item weighs or carries
 abbrev pub measure_of : Measure → WorldValue → ℕ → ℕ
 measure_of Weight w item = weight_of w item
 measure_of Carry w item = carry_of w item
 
+-- the sum of amount times weight, or amount times carry, over the items held
 abbrev pub goods_measure : Measure → WorldValue → HoldingValue → ℕ
 goods_measure m w h = sum_by (λ e. e.1 * measure_of m w e.0) (entries h.items)
 

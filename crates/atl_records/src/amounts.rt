@@ -1,4 +1,4 @@
-//! How much of a thing a unit and a region hold.
+//! How much of a thing (money, people or an item) a unit and a region hold.
 ghost use Rattle.std.specs.Prelude.{◌≡◌};
 ghost use Rattle.atl_records.specs.Amounts.{region_amount, unit_amount};
 
@@ -6,7 +6,7 @@ use crate::books::Thing;
 use crate::holding::Holding;
 use crate::records::Region;
 
-/// What a unit holds: money, men, or pieces of an item.
+/// How much of a thing a unit holds: money, men, or pieces of an item.
 pub fn unit_amount(thing: Thing, holding: &Holding) -> u32
     ensures { result ≡ unit_amount thing holding.now }
 {
@@ -17,7 +17,7 @@ pub fn unit_amount(thing: Thing, holding: &Holding) -> u32
     }
 }
 
-/// What a region holds: money, peasants, or pieces of an item in stock.
+/// How much of a thing a region holds: money, peasants, or pieces of an item in stock.
 pub fn region_amount(thing: Thing, region: &Region) -> u32
     ensures { result ≡ region_amount thing region.now }
 {

@@ -10,7 +10,8 @@ use atl_tables::variants;
 use std::alloc::{AllocError, Global};
 use std::marker::Model;
 
-/// Why an amount of a thing came in or went. A move between holders is no entry. See docs/RULES.md, "Books".
+/// An entry of the books: why an amount of a thing came in or went.
+/// A move between holders has no entry. See docs/RULES.md, "Books".
 #[derive(Drop, Clone, Copy, Debug, PartialEq, Eq)]
 pub enum Entry {
     /// The money and the peasants that the regions begin with.
@@ -47,14 +48,14 @@ pub enum Entry {
     Stocked = 16,
 }
 
-/// Of what amounts are booked.
+/// What amounts are booked of: money, people, or an item.
 #[derive(Drop, Clone, Copy, Debug, PartialEq, Eq)]
 pub enum Thing {
     /// The money of regions and units.
     Money,
     /// Peasants and men.
     People,
-    /// The pieces of an item, by its place in the list of the world's items.
+    /// The pieces of an item, by its index in the list of the world's items.
     Item(u16),
 }
 
@@ -83,7 +84,7 @@ impl Entry {
             .find(|entry| entry.number() == number)
     }
 
-    /// The place of the entry in a row.
+    /// The index of the entry in a row of amounts, from 0.
     fn place(self) -> usize
         ensures place { result ≡ entry_index self }
         ensures small { result < entry_count }
@@ -117,7 +118,7 @@ impl Thing {
         }
     }
 
-    /// The place of the thing's row.
+    /// The index of the thing's row of amounts.
     fn place(self) -> usize
         ensures place { result ≡ thing_index self }
         ensures small { result < possible_things }
@@ -126,14 +127,15 @@ impl Thing {
     }
 }
 
-/// The number of an amount: thing by thing, and of each thing entry by entry.
+/// The number of an account in the dirty set of the books:
+/// 16 times the thing's number, plus the entry's number, less 1.
 pub fn amount_number(entry: Entry, thing: Thing) -> u32
     ensures { result ≡ amount_number entry thing }
 {
     ENTRY_COUNT as u32 * thing.number() + entry.number() - 1
 }
 
-/// The sum of a row of amounts.
+/// The sum of a thing's row of amounts.
 fn row_sum(row: &[i64; ENTRY_COUNT]) -> i128
     ensures { result ≡ sum_of row.now }
 {
@@ -166,8 +168,9 @@ impl Model for Books {
 }
 
 impl Books {
-    /// Books of so many things, all 0: money, people, and at most one item for each number of 16 bits. AllocError without
-    /// memory.
+    /// Books of so many things, all amounts 0.
+    /// The things are money, people, and at most one item for each number of 16 bits.
+    /// AllocError without memory.
     pub fn new(alloc: Global, things: usize) -> Result<Books, AllocError>
         requires { things ≤ possible_things }
         ensures { IfOk result (λ made. made ≡ no_amounts things) }
@@ -179,7 +182,7 @@ impl Books {
         Ok(Books { rows })
     }
 
-    /// Books of nothing. It takes no memory.
+    /// Books of no things. It takes no memory.
     pub fn blank(alloc: Global) -> Books
         ensures { result ≡ no_amounts 0 }
     {
@@ -205,7 +208,7 @@ impl Books {
         self.rows[thing.place()][entry.place()]
     }
 
-    /// Puts another amount of a thing under an entry. It takes no memory.
+    /// Sets the amount of a thing under an entry. It takes no memory.
     pub fn put(&mut self, entry: Entry, thing: Thing, amount: i64)
         requires { thing_index thing < self.old.things }
         ensures { self.new ≡ with_amount self.old entry thing amount }
@@ -215,7 +218,7 @@ impl Books {
         self.rows[row][place] = amount;
     }
 
-    /// All that is booked of a thing.
+    /// The sum of a thing's amounts over all entries.
     pub fn sum(&self, thing: Thing) -> i128
         requires { thing_index thing < self.now.things }
         ensures { result ≡ booked self.now thing }

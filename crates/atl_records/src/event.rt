@@ -6,7 +6,7 @@ use atl_tables::{name_of, variants};
 use std::error::Error;
 use std::fmt;
 
-/// What an event tells of.
+/// What an event reports on: an order, or a unit's upkeep.
 #[derive(Drop, Clone, Copy, Debug, PartialEq, Eq)]
 pub enum EventVerb {
     /// An order of a mailing, or the work of a unit without one.
@@ -44,7 +44,7 @@ pub enum EventFault {
     Guarded = 5,
     /// The unit doesn't own the structure that it is inside.
     NotOwner = 6,
-    /// The unit isn't inside a structure of the sort.
+    /// The unit is inside no structure, or not inside a ship or a building as the order names it.
     NotInside = 7,
     /// No further unit may be formed.
     UnitLimit = 8,
@@ -82,7 +82,7 @@ pub enum EventFault {
     NoMarket = 24,
 }
 
-/// All of them, by their numbers.
+/// All event faults, in the order of their numbers.
 const FAULTS: [EventFault; 24] = variants!(
     EventFault: NotYours NotHere NotEnough NoRoom Guarded NotOwner NotInside UnitLimit AtSea
     NoMen WrongNumber NotGuarding NoSkill NoMaterial Complete StructureLimit NoWay TooHeavy
@@ -112,7 +112,7 @@ impl EventFault {
         )
     }
 
-    /// The fault with this number.
+    /// The fault with this number; None where there is none.
     pub fn of_number(number: u8) -> Option<EventFault>
         ensures { result ≡ find (λ fault. event_fault_number fault == number) event_faults }
     {

@@ -51,8 +51,8 @@ pub fn amount_under(amounts: &Numbered<u32>, number: u32) -> u32
     }
 }
 
-/// Puts an amount under a number, or takes away what stood there, where it is 0, which takes no memory. Without memory
-/// nothing changes.
+/// Sets the amount under a number; with 0 the number is listed no more, which takes no memory.
+/// Without memory nothing changes.
 pub fn put_amount(amounts: &mut Numbered<u32>, number: u32, amount: u32) -> Result<(), AllocError>
     ensures ok { OnOk result (amounts.new ≡ with_amount_of amounts.old number amount) }
     ensures err { OnErr result (amounts.new ≡ amounts.old) }
@@ -91,7 +91,7 @@ impl Holding {
         }
     }
 
-    /// The name of the unit that is shown.
+    /// The unit's name, as reports show it.
     pub fn name(&self) -> &Text
         ensures { result.now ≡ self.now.name }
     {
@@ -187,7 +187,8 @@ impl Holding {
         put_amount(&mut self.days, skill, days)
     }
 
-    /// Puts pieces of an item in the place of those held, as rows say them. Without memory nothing changes.
+    /// Sets how many pieces of an item are held, at least 1, as a stored row says.
+    /// Without memory nothing changes.
     pub fn put_item(&mut self, item: u32, amount: u32) -> Result<(), AllocError>
         requires { (1 ≤ amount) × (amount ≤ holding_limit) }
         ensures ok { OnOk result
@@ -197,7 +198,8 @@ impl Holding {
         self.items.insert(item, amount)
     }
 
-    /// Puts days of a skill over all men in the place of those studied, as rows say them, 0 too. Without memory nothing changes.
+    /// Sets the days of a skill over all men, as a stored row says; days of 0 are listed too.
+    /// Without memory nothing changes.
     pub fn put_days(&mut self, skill: u32, days: u32) -> Result<(), AllocError>
         ensures ok { OnOk result
             (self.new ≡ record self.old { days = map.insert self.old.days skill days }) }
@@ -221,8 +223,8 @@ impl Holding {
         self.guard = guard;
     }
 
-    /// Puts other days of study in the place of all that there are: of each skill over all men, where they are not 0. It takes
-    /// no memory.
+    /// Replaces all days of study: of each skill over all men, where they are not 0.
+    /// It takes no memory.
     pub fn set_all_days(&mut self, days: Numbered<u32>)
         ensures { self.new ≡ record self.old { days = days } }
     {

@@ -35,8 +35,8 @@ pub fn level(days: u32, men: u32) -> u32
     level
 }
 
-/// The level of people in a skill, by the days that they have studied it. It takes no memory. See docs/RULES.md, "Levels and
-/// loads".
+/// The level of a unit's men in a skill, by the days that they have studied it.
+/// It takes no memory. See docs/RULES.md, "Levels and loads".
 pub fn level_in(holding: &Holding, skill: u16) -> u32
     ensures value { result ≡ level_in holding.now skill }
     ensures small { result ≤ last_level }
@@ -44,7 +44,7 @@ pub fn level_in(holding: &Holding, skill: u16) -> u32
     level(holding.days_of(u32::from(skill)), holding.men())
 }
 
-/// The level of people in a skill that may not be named: in none nobody has a level. It takes no memory.
+/// The level of a unit's men in a skill, 0 where no skill is named. It takes no memory.
 pub fn level_in_any(holding: &Holding, skill: Option<u16>) -> u32
     ensures value { result ≡ level_in_any holding.now skill }
     ensures small { result ≤ last_level }
@@ -55,7 +55,7 @@ pub fn level_in_any(holding: &Holding, skill: Option<u16>) -> u32
     }
 }
 
-/// What one of an item weighs; an item that the world has not weighs nothing.
+/// What one piece of an item weighs, 0 for an item that the world does not have.
 fn weight(world: &World, item: u32) -> u32
     ensures value { result ≡ weight_of world.now item }
     ensures small { result ≤ most_weight }
@@ -67,7 +67,7 @@ fn weight(world: &World, item: u32) -> u32
     }
 }
 
-/// What one of an item carries; an item that the world has not carries nothing.
+/// What one piece of an item carries, 0 for an item that the world does not have.
 fn carriage(world: &World, item: u32) -> u32
     ensures value { result ≡ carry_of world.now item }
     ensures small { result ≤ most_weight }
@@ -79,7 +79,7 @@ fn carriage(world: &World, item: u32) -> u32
     }
 }
 
-/// What so many of an item weigh or carry.
+/// Multiplies an amount by what each piece weighs or carries.
 fn times(amount: u32, each: u32) -> u64
     requires { each ≤ most_weight }
     ensures value { result ≡ amount * each }
@@ -88,7 +88,7 @@ fn times(amount: u32, each: u32) -> u64
     u64::from(amount) * u64::from(each)
 }
 
-/// What is summed over goods.
+/// Which property of goods is summed: their weight, or what they carry.
 #[derive(Drop, Clone, Copy)]
 enum Measure {
     /// What they weigh.
@@ -97,7 +97,7 @@ enum Measure {
     Carry,
 }
 
-/// What one of an item weighs or carries.
+/// What one piece of an item weighs or carries, by the measure.
 fn item_measure(world: &World, item: u32, of: Measure) -> u32
     ensures value { result ≡ measure_of of world.now item }
     ensures small { result ≤ most_weight }
@@ -109,7 +109,7 @@ fn item_measure(world: &World, item: u32, of: Measure) -> u32
     }
 }
 
-/// What a unit's goods weigh or carry: the sum of amount times weight, or carry, over the items that it holds.
+/// The sum of amount times weight, or amount times carry, over the items that a unit holds.
 fn goods_measure(world: &World, holding: &Holding, of: Measure) -> u64
     ensures value { result ≡ goods_measure of world.now holding.now }
     ensures small { result ≤ most_u32 * most_weight * most_items }

@@ -24,7 +24,7 @@ impl Drop for Faction {
     }
 }
 
-/// People of one faction in one place, who share what they hold.
+/// People of one faction in one region, who share what they hold.
 pub struct Unit {
     /// The number of its faction.
     pub faction: u32,
@@ -73,7 +73,7 @@ impl Region {
 /// A building or a ship. See docs/RULES.md, "Owners".
 #[derive(Drop)]
 pub struct Structure {
-    /// The place of its kind in the list of the world's kinds.
+    /// The index of its kind in the list of the world's kinds.
     pub kind: u16,
     /// The name that is shown.
     pub name: Text,
@@ -85,7 +85,8 @@ pub struct Structure {
     pub owner: u32,
 }
 
-/// Why a faction does not join. The campaign is then as it was, and nothing is marked. See docs/RULES.md, "Joining".
+/// Why a faction does not join. The campaign, its marks too, is then unchanged.
+/// See docs/RULES.md, "Joining".
 #[derive(Drop, Clone, Copy, Debug, PartialEq, Eq)]
 pub enum JoinFault {
     /// Some faction joined under this name.
@@ -96,7 +97,7 @@ pub enum JoinFault {
     Memory,
 }
 
-/// Its name.
+/// Prints the fault's name.
 impl fmt::Display for JoinFault {
     fn fmt<W: fmt::Write>(&self, f: &mut fmt::Formatter<W>) -> fmt::Result {
         write!(f, "{self:?}")

@@ -1,4 +1,4 @@
--- What a faction is told of its orders, and that events of others make no difference.
+-- Laws of a report's part on orders, and that events of others make no difference to it.
 use Rattle.std.proofs.Common.{◌≡◌, ◌==◌, ◌++◌, ℕ, Bool, true, false, cond, ◌||◌, ◌&&◌, not, List, [], ◌∷◌, length, refl, sym, ap, ◌∙◌, arith}
 use Rattle.std.specs.Prelude.{codes, filter}
 use Rattle.std.specs.List.{list_any}
@@ -10,7 +10,7 @@ use Rattle.atl_report.specs.Events.{faulty_lines, event_lines, own_events, resul
 use Rattle.atl_report.specs.Sight.{view_of}
 use Rattle.atl_report.specs.Report.{header_line, region_parts, report_of, OthersEventsAreNotTold, OnlyWhatIsSeenIsTold}
 
--- where no event passes a test, the one line is told
+-- where no event passes the test, and no line is faulty, the text is `None.`
 none_passes : (p : Event → Bool) (es : List Event) → list_any p es ≡ false → results_text [] (filter p es) ≡ codes "None.\n"
 none_passes p [] h = refl
 none_passes p (e ∷ es) h = by_test (p e) h (none_passes p es)
@@ -19,7 +19,7 @@ none_passes p (e ∷ es) h = by_test (p e) h (none_passes p es)
     by_test true h rest = absurd (false≢true (sym h))
     by_test false h rest = rest h
 
--- where one passes, it is told
+-- where some event passes the test, and no line is faulty, the text is the lines of those that pass
 some_passes : (p : Event → Bool) (es : List Event) → list_any p es ≡ true → results_text [] (filter p es) ≡ event_lines (filter p es)
 some_passes p [] h = absurd (false≢true h)
 some_passes p (e ∷ es) h = by_test (p e) h (some_passes p es)
@@ -28,9 +28,11 @@ some_passes p (e ∷ es) h = by_test (p e) h (some_passes p es)
     by_test true h rest = refl
     by_test false h rest = rest h
 
+-- a list with a first element is not of length 0
 some_length : (f : FaultyLine) (fs : List FaultyLine) → (length (f ∷ fs) == 0) ≡ false
 some_length f fs = grind (arith, nat_tests)
 
+-- without faulty lines and own events the text is `None.`
 pub told_nothing : (faction : ℕ) (faults : List FaultyLine) (events : List Event) → ((length faults == 0) && not (list_any (λ (e : Event). e.faction == faction) events)) ≡ true
     → results_text faults (own_events faction events) ≡ codes "None.\n"
 told_nothing faction (f ∷ fs) events h = absurd (false≢true (sym (ap (λ b. b && not (list_any (λ (e : Event). e.faction == faction) events)) (some_length f fs)) ∙ h))
@@ -40,6 +42,7 @@ told_nothing faction [] events h = by_test (list_any (λ (e : Event). e.faction 
     by_test true h rest = absurd (false≢true h)
     by_test false h rest = rest refl
 
+-- with faulty lines or own events the text is their lines
 pub told_something : (faction : ℕ) (faults : List FaultyLine) (events : List Event) → ((length faults == 0) && not (list_any (λ (e : Event). e.faction == faction) events)) ≡ false
     → results_text faults (own_events faction events) ≡ faulty_lines faults ++ event_lines (own_events faction events)
 told_something faction (f ∷ fs) events h = refl
@@ -49,12 +52,12 @@ told_something faction [] events h = by_test (list_any (λ (e : Event). e.factio
     by_test true h rest = rest refl
     by_test false h rest = absurd (false≢true (sym h))
 
--- a report tells of own events alone
+-- two lists of events with the same own events give one report
 pub others_events_are_not_told : OthersEventsAreNotTold
 unfolding report_of orders_part
 others_events_are_not_told w v faults events others h = ap (λ own. header_line v ++ ((codes "Orders:\n" ++ results_text faults own) ++ region_parts w v.regions)) h
 
--- a campaign makes a difference to a report by what is seen of it alone
+-- two campaigns of which a faction sees the same give it one report, for the same faulty lines and own events
 pub only_what_is_seen_is_told : OnlyWhatIsSeenIsTold
 unfolding view_of
 only_what_is_seen_is_told w c d faction faults events others seen results_text =

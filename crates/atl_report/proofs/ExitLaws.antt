@@ -1,4 +1,4 @@
--- The exits of a region, written one after the other.
+-- Laws of the line of exits: written one after another, it is the text of the definition.
 use Rattle.std.proofs.Common.{◌≡◌, ◌++◌, ◌&&◌, ℕ, List, [], Option, Some, None, refl, ap, ◌∙◌}
 use Rattle.std.proofs.lemmas.List.{append-nil}
 use Rattle.std.specs.Prelude.{Bool, true, false, codes, if◌then◌else◌, is_none, option_map}
@@ -8,25 +8,29 @@ use Rattle.atl_tables.specs.declared.world.RegionPlan.{RegionPlan}
 use Rattle.atl_report.specs.Each.{each_text, separated_texts}
 use Rattle.atl_report.specs.Report.{exit_text, exit_texts, joined_or_none}
 
--- an exit, after a comma if it isn't the first
+-- what is written for an exit: nothing where there is none, and after a comma where it isn't the first
 abbrev pub written : (is_first : Bool) → (direction : List ℕ) → Option ℕ → List ℕ
 written is_first direction exit = option_map_or (λ to. (if is_first then [] else codes ", ") ++ exit_text direction to) exit []
 
+-- each text after a comma
 abbrev after_commas : List (List ℕ) → List ℕ
 after_commas texts = each_text (λ t. codes ", " ++ t) texts
 
+-- the texts of exits with that of an exit in front, where there is one
 abbrev with_exit : (direction : List ℕ) → Option ℕ → List (List ℕ) → List (List ℕ)
 with_exit direction exit texts = cons_option (option_map (exit_text direction) exit) texts
 
--- an exit after another one
+-- an exit that isn't the first, in front of others, is written after a comma
 later : (direction : List ℕ) (exit : Option ℕ) (texts : List (List ℕ)) →
     after_commas (with_exit direction exit texts) ≡ written false direction exit ++ after_commas texts
 later direction None texts = refl
 later direction (Some to) texts = refl
 
+-- the last exit, where it isn't the first, is written after a comma
 last : (direction : List ℕ) (exit : Option ℕ) → after_commas (with_exit direction exit []) ≡ written false direction exit
 last direction exit = later direction exit [] ∙ append-nil (written false direction exit)
 
+-- four exits written in turn, each with a comma if an earlier one is there, are their texts joined by commas
 in_turn : (north south east west : Option ℕ) →
     separated_texts (codes ", ") (with_exit (codes "north") north (with_exit (codes "south") south (with_exit (codes "east") east (with_exit (codes "west") west []))))
     ≡ written true (codes "north") north
@@ -46,6 +50,7 @@ in_turn None None (Some e) w = ap (λ l. exit_text (codes "east") e ++ l) (last 
 in_turn None None None (Some w) = append-nil (exit_text (codes "west") w)
 in_turn None None None None = refl
 
+-- the exits of a region written in turn are their texts joined by commas
 pub joined_in_turn : (p : RegionPlan) →
     separated_texts (codes ", ") (exit_texts p)
     ≡ written true (codes "north") p.north
@@ -55,6 +60,7 @@ pub joined_in_turn : (p : RegionPlan) →
 unfolding exit_texts
 joined_in_turn p = in_turn p.north p.south p.east p.west
 
+-- the texts of four exits, joined or `none`, are `none` where there is no exit, else joined by commas
 or_none : (north south east west : Option ℕ) →
     let texts = with_exit (codes "north") north (with_exit (codes "south") south (with_exit (codes "east") east (with_exit (codes "west") west []))) in
     joined_or_none texts ≡ if ((is_none north && is_none south) && is_none east) && is_none west then codes "none" else separated_texts (codes ", ") texts
@@ -64,6 +70,7 @@ or_none None None (Some e) w = refl
 or_none None None None (Some w) = refl
 or_none None None None None = refl
 
+-- the exits of a region are `none` where it has no exit, else joined by commas
 pub none_or_joined : (p : RegionPlan) →
     joined_or_none (exit_texts p)
     ≡ if ((is_none p.north && is_none p.south) && is_none p.east) && is_none p.west then codes "none" else separated_texts (codes ", ") (exit_texts p)

@@ -1,4 +1,4 @@
--- The regions gathered from a faction's units are those that it sees.
+-- Laws of sight: the regions gathered from a faction's units are those that it sees.
 use Rattle.std.proofs.Common.{◌≡◌, ◌==◌, ℕ, Bool, true, false, cond, ◌&&◌, ◌||◌, nat_lt, List, [], ◌∷◌, filter, map, Option, Some, None, refl, sym, ap, ◌∙◌, T}
 use Rattle.std.specs.Prelude.{option_map}
 use Rattle.std.specs.declared.cmp.Ordering.TheVariants.{Less, Equal, Greater}
@@ -21,9 +21,11 @@ use Rattle.atl_records.proofs.EveryLaws.{each-from_every}
 use Rattle.atl_report.specs.Watching.{is_watching, sees_region}
 use Rattle.atl_report.specs.Gathering.{with_region, with_watched, with_all_watched}
 
+-- a number compares equal to itself
 itself : (n : ℕ) → is_eq (nat_cmp n n) ≡ true
 itself n = ap is_eq (tied_itself nat_cmp_total n)
 
+-- a number above another does not compare equal to it
 above : (k q : ℕ) → is_lt (nat_cmp k q) ≡ true → is_eq (nat_cmp q k) ≡ false
 above k q h = elim (nat_cmp q k) as (λ o. nat_cmp q k ≡ o → is_eq o ≡ false) [
   | Less ↦ λ _. refl
@@ -34,6 +36,7 @@ above k q h = elim (nat_cmp q k) as (λ o. nat_cmp q k ≡ o → is_eq o ≡ fal
 -- ---- what holds of some entry
 
 module _ {X : Type 0} (p : X → Bool) (g : Option X → Bool) where
+  -- a test of values looked up by numbers does not change when a lower entry is put in front
   past : (k : ℕ) (v : X) (fs es : List (ℕ × X)) → below_all nat_cmp k es ≡ true → list_any (λ n. g (find nat_cmp n ((k, v) ∷ fs))) (numbers_among p es) ≡ list_any (λ n. g (find nat_cmp n fs)) (numbers_among p es)
   past k v fs [] h = refl
   past k v fs (e ∷ es) h =
@@ -46,6 +49,7 @@ module _ {X : Type 0} (p : X → Bool) (g : Option X → Bool) where
       ]
       ∙ ap (list_any (λ n. g (find nat_cmp n fs))) (sym (chosen-cons p e es))
 
+  -- looked up in a sorted list, some chosen number passes g just where some chosen entry does
   some_found : (es : List (ℕ × X)) → is_sorted nat_cmp es ≡ true → list_any (λ n. g (find nat_cmp n es)) (numbers_among p es) ≡ list_any (λ e. p e.1 && g (Some e.1)) es
   some_found [] h = refl
   some_found (e ∷ es) h =
@@ -57,17 +61,18 @@ module _ {X : Type 0} (p : X → Bool) (g : Option X → Bool) where
         | false ↦ rest
       ]
 
-  -- a test of what stands under the numbers that pass another
+  -- some number that passes p has a value with g just where some entry of the map passes both
   some_where : (m : FinMap nat_cmp X) → list_any (λ n. g (get m n)) (numbers_where p m) ≡ list_any (λ e. p e.1 && g (Some e.1)) (entries m)
   some_where m = ap (λ (f : ℕ → Option X). list_any (λ n. g (f n)) (numbers_where p m)) (λ i n. get-entries m n i) ∙ some_found (entries m) (is_true _ (entries_sorted m))
 
 -- ---- who watches where
 
--- a unit that watches in a region
+-- whether the unit is the faction's, has men, and is in region q
 abbrev watches_in : ℕ → ℕ → Option Unit → Bool
 watches_in f q None = false
 watches_in f q (Some u) = is_watching f (Some u) && eq_by_cmp nat_cmp q u.region
 
+-- the same three tests in another order
 regrouped : (a m e b : Bool) → e ≡ b → (a && ((a && m) && e)) ≡ (b && (a && m))
 regrouped true true e true h = h
 regrouped true true e false h = h
@@ -76,7 +81,7 @@ regrouped true false e false h = refl
 regrouped false m e true h = refl
 regrouped false m e false h = refl
 
--- a region is seen where one of the faction's units watches in it
+-- a region is seen just where one of the faction's units with men is in it
 seen_by : (c : CampaignValue) (f q : ℕ) → list_any (λ n. watches_in f q (get c.units n)) (numbers_of f c.units) ≡ sees_region c f q
 seen_by c f q =
     some_where (λ (u : Unit). u.faction == f) (watches_in f q) c.units
@@ -85,42 +90,48 @@ seen_by c f q =
 
 -- ---- the numbers gathered
 
-abbrev nothing_of : {V : Type 0} → V → Prim.Unit {0}
-nothing_of v = tt
+-- replaces a value by the unit value, so that only its number counts
+abbrev forget_value : {V : Type 0} → V → Prim.Unit {0}
+forget_value v = tt
 
--- an entry's number alone
+-- an entry with its value forgotten
 abbrev number_alone : {V : Type 0} → ℕ × V → ℕ × Prim.Unit {0}
 number_alone e = (e.0, tt)
 
 module _ {V : Type 0} where
-  find-alone : (q : ℕ) (es : List (ℕ × V)) → find nat_cmp q (map number_alone es) ≡ option_map nothing_of (find nat_cmp q es)
+  -- looking up in the entries without values tells whether there was a value
+  find-alone : (q : ℕ) (es : List (ℕ × V)) → find nat_cmp q (map number_alone es) ≡ option_map forget_value (find nat_cmp q es)
   find-alone q [] = refl
-  find-alone q (e ∷ es) = elim (is_eq (nat_cmp q e.0)) as (λ b. cond b (Some tt) (find nat_cmp q (map number_alone es)) ≡ option_map nothing_of (cond b (Some e.1) (find nat_cmp q es))) [
+  find-alone q (e ∷ es) = elim (is_eq (nat_cmp q e.0)) as (λ b. cond b (Some tt) (find nat_cmp q (map number_alone es)) ≡ option_map forget_value (cond b (Some e.1) (find nat_cmp q es))) [
     | true ↦ refl
     | false ↦ find-alone q es
   ]
 
+  -- whether a number is below all entries does not depend on values
   below-alone : (k : ℕ) (es : List (ℕ × V)) → below_all nat_cmp k (map number_alone es) ≡ below_all nat_cmp k es
   below-alone k [] = refl
   below-alone k (e ∷ es) = ap (λ b. is_lt (nat_cmp k e.0) && b) (below-alone k es)
 
+  -- whether entries are sorted does not depend on values
   sorted-alone : (es : List (ℕ × V)) → is_sorted nat_cmp (map number_alone es) ≡ is_sorted nat_cmp es
   sorted-alone [] = refl
   sorted-alone (e ∷ es) = ap (λ b. b && is_sorted nat_cmp (map number_alone es)) (below-alone e.0 es) ∙ ap (λ b. below_all nat_cmp e.0 es && b) (sorted-alone es)
 
-  alone_chosen : (b : Bool) (o : Option V) → option_map nothing_of (cond b o None) ≡ cond b (option_map nothing_of o) None
+  -- forgetting a value before or after a choice is the same
+  alone_chosen : (b : Bool) (o : Option V) → option_map forget_value (cond b o None) ≡ cond b (option_map forget_value o) None
   alone_chosen true o = refl
   alone_chosen false o = refl
 
 module _ (c : CampaignValue) (f q : ℕ) where
-  -- whether a region is there
+  -- whether the campaign has region k, as an option
   abbrev there : ℕ → Option (Prim.Unit {0})
-  there k = option_map nothing_of (get c.regions k)
+  there k = option_map forget_value (get c.regions k)
 
+  -- with region k gathered, q is gathered if it was, or is k and exists
   one_region : (seen : FinMap nat_cmp (Prim.Unit {0})) (k : ℕ) (b : Bool) (o : Option Region) → get c.regions k ≡ o → get seen q ≡ cond b (there q) None → get (with_region seen k o) q ≡ cond (eq_by_cmp nat_cmp q k || b) (there q) None
   one_region seen k b None is was = was ∙ elim (nat_cmp q k) as (λ o. nat_cmp q k ≡ o → cond b (there q) None ≡ cond (is_eq o || b) (there q) None) [
     | Less ↦ λ _. refl
-    | Equal ↦ λ e. absent b (there q) (ap there (nat_cmp-IsAntisymmetric q k e) ∙ ap (option_map nothing_of) is)
+    | Equal ↦ λ e. absent b (there q) (ap there (nat_cmp-IsAntisymmetric q k e) ∙ ap (option_map forget_value) is)
     | Greater ↦ λ _. refl
   ] refl
     where
@@ -129,10 +140,11 @@ module _ (c : CampaignValue) (f q : ℕ) where
       absent false o h = sym h
   one_region seen k b (Some r) is was = get-insert nat_cmp_total seen k tt q ∙ elim (nat_cmp q k) as (λ o. nat_cmp q k ≡ o → cond (is_eq o) (Some tt) (get seen q) ≡ cond (is_eq o || b) (there q) None) [
     | Less ↦ λ _. was
-    | Equal ↦ λ e. sym (ap there (nat_cmp-IsAntisymmetric q k e) ∙ ap (option_map nothing_of) is)
+    | Equal ↦ λ e. sym (ap there (nat_cmp-IsAntisymmetric q k e) ∙ ap (option_map forget_value) is)
     | Greater ↦ λ _. was
   ] refl
 
+  -- with a unit's region gathered, q is gathered if it was, or the unit watches in it
   one_watched : (seen : FinMap nat_cmp (Prim.Unit {0})) (b : Bool) (o : Option Unit) → get seen q ≡ cond b (there q) None → get (with_watched c f seen o) q ≡ cond (watches_in f q o || b) (there q) None
   one_watched seen b None was = was
   one_watched seen b (Some u) was =
@@ -141,12 +153,14 @@ module _ (c : CampaignValue) (f q : ℕ) where
         | false ↦ was
       ]
 
+  -- three alternatives in another order
   or_order : (a w b : Bool) → (a || (w || b)) ≡ ((w || a) || b)
   or_order true true b = refl
   or_order true false b = refl
   or_order false true b = refl
   or_order false false b = refl
 
+  -- with the regions of some units gathered, q is gathered if it was, or one of them watches in it
   all_watched : (ns : List ℕ) (seen : FinMap nat_cmp (Prim.Unit {0})) (b : Bool) → get seen q ≡ cond b (there q) None
       → get (with_all_watched c f ns seen) q ≡ cond (list_any (λ n. watches_in f q (get c.units n)) ns || b) (there q) None
   all_watched [] seen b was = was
@@ -154,16 +168,18 @@ module _ (c : CampaignValue) (f q : ℕ) where
       all_watched ns (with_watched c f seen (get c.units n)) (watches_in f q (get c.units n) || b) (one_watched seen b (get c.units n) was)
       ∙ ap (λ t. cond t (there q) None) (or_order (list_any (λ n. watches_in f q (get c.units n)) ns) (watches_in f q (get c.units n)) b)
 
+  -- an alternative that is false adds nothing
   or_none : (a : Bool) → (a || false) ≡ a
   or_none true = refl
   or_none false = refl
 
+  -- gathered from all units of the faction are just the regions that it sees
   get-with_all_watched : get (with_all_watched c f (numbers_of f c.units) empty) q ≡ cond (sees_region c f q) (there q) None
   get-with_all_watched =
       all_watched (numbers_of f c.units) empty false (get-empty nat_cmp q)
       ∙ ap (λ t. cond t (there q) None) (or_none (list_any (λ n. watches_in f q (get c.units n)) (numbers_of f c.units)) ∙ seen_by c f q)
 
--- the numbers gathered from the faction's units are those of the regions that it sees
+-- the numbers gathered from the faction's units are those of the regions that it sees, in order
 pub entries-with_all_watched : (c : CampaignValue) (f : ℕ) → entries (with_all_watched c f (numbers_of f c.units) empty) ≡ map (λ e. (e.0, tt)) (filter (λ e. sees_region c f e.0) (entries c.regions))
 entries-with_all_watched c f =
     let seen = where_key nat_cmp (sees_region c f) (entries c.regions) in
@@ -171,12 +187,13 @@ entries-with_all_watched c f =
     let sorted : T (is_sorted nat_cmp numbers) = rw (sorted-alone seen) (is_sorted-where_key nat_cmp (sees_region c f) (entries c.regions) (entries_sorted c.regions)) in
     ap entries (same_map nat_cmp_total nat_cmp-IsAntisymmetric (with_all_watched c f (numbers_of f c.units) empty) (from_sorted numbers) (λ q.
     get-with_all_watched c f q ∙ sym (get-from_sorted nat_cmp numbers q sorted ∙ find-alone q seen
-    ∙ ap (option_map nothing_of) (find-where_key nat_cmp (sees_region c f) q (λ x e. ap (sees_region c f) (sym (nat_cmp-IsAntisymmetric q x e))) (entries c.regions) ∙ ap (λ o. cond (sees_region c f q) o None) (sym (get-entries c.regions q)))
+    ∙ ap (option_map forget_value) (find-where_key nat_cmp (sees_region c f) q (λ x e. ap (sees_region c f) (sym (nat_cmp-IsAntisymmetric q x e))) (entries c.regions) ∙ ap (λ o. cond (sees_region c f q) o None) (sym (get-entries c.regions q)))
     ∙ alone_chosen (sees_region c f q) (get c.regions q))))
     ∙ entries-from_sorted nat_cmp numbers sorted
 
 -- what is made of the regions looked up by the numbers of some is what is made of these
 module _ {A : Type 0} (m : FinMap nat_cmp Region) (make : ℕ → Region → A) where
+  -- regions looked up by their entries' numbers make what the entries make
   looked_up : (p : ℕ × Region → Bool) (es : List (ℕ × Region)) → EachOf (λ n r. get m n ≡ Some r) es
       → filter_map (λ (e : ℕ × Prim.Unit {0}). option_map (make e.0) (get m e.0)) (map number_alone (filter p es)) ≡ map (λ e. make e.0 e.1) (filter p es)
   looked_up p [] h = refl
@@ -186,5 +203,6 @@ module _ {A : Type 0} (m : FinMap nat_cmp Region) (make : ℕ → Region → A) 
         | false ↦ looked_up p es h.1
       ]
 
+-- what is made of regions looked up by the numbers of chosen entries is what is made of these entries
 pub regions_looked_up : {A : Type 0} (m : FinMap nat_cmp Region) (make : ℕ → Region → A) (p : ℕ × Region → Bool) → filter_map (λ (e : ℕ × Prim.Unit {0}). option_map (make e.0) (get m e.0)) (map (λ e. (e.0, tt)) (filter p (entries m))) ≡ map (λ e. make e.0 e.1) (filter p (entries m))
 regions_looked_up m make p = looked_up m make p (entries m) (each-from_every (λ n r. get m n ≡ Some r) m (λ n r is. is))

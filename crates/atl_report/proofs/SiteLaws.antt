@@ -1,4 +1,4 @@
--- The structures of each region, listed one after another.
+-- Laws of the lists of structures by region, as structures are added one after another.
 use Rattle.std.proofs.Common.{◌≡◌, ◌==◌, ◌++◌, ℕ, Bool, true, false, cond, List, [], ◌∷◌, Option, Some, unwrap_or, refl, sym, ap, ◌∙◌}
 use Rattle.std.specs.Ordering.{nat_cmp}
 use Rattle.std.specs.Cmp.{nat_cmp_total}
@@ -11,15 +11,17 @@ use Rattle.atl_records.specs.declared.records.Structure.{Structure}
 use Rattle.atl_state.specs.KeptLists.{list_of}
 use Rattle.atl_report.specs.Sites.{with_site}
 
--- the list of a region once a structure is put at the end of that of another, or of this one
+-- with a structure added to one region's list, each region's list and the rest come to the same
 by_region : (b : Bool) (o : Option (List ℕ)) (listed rest : List ℕ) (n : ℕ) → (b ≡ true → listed ≡ unwrap_or o [])
     → unwrap_or (cond b (Some (listed ++ (n ∷ []))) o) [] ++ rest ≡ unwrap_or o [] ++ cond b (n ∷ rest) rest
 by_region true o listed rest n h = ap (λ l. (l ++ (n ∷ [])) ++ rest) (h refl) ∙ append_assoc (unwrap_or o []) (n ∷ []) rest
 by_region false o listed rest n h = refl
 
+-- equal numbers have the same list
 same_list : (sites : FinMap nat_cmp (List ℕ)) (q r : ℕ) → (r == q) ≡ true → list_of sites r ≡ list_of sites q
 same_list sites q r h = ap (list_of sites) (is_equal r q h)
 
+-- a region's list and its structures still to come are the same before and after one is added
 pub site_goes_on : (sites : FinMap nat_cmp (List ℕ)) (n : ℕ) (s : Structure) (es : List (ℕ × Structure)) (region : ℕ)
     → list_of (with_site sites s.region n) region ++ numbers_among (λ (t : Structure). t.region == region) es
     ≡ list_of sites region ++ numbers_among (λ (t : Structure). t.region == region) ((n, s) ∷ es)
@@ -29,5 +31,6 @@ site_goes_on sites n s es region =
     ∙ by_region (s.region == region) (get sites region) (list_of sites s.region) (numbers_among (λ (t : Structure). t.region == region) es) n (same_list sites region s.region)
     ∙ ap (λ l. list_of sites region ++ l) (sym (chosen-cons (λ (t : Structure). t.region == region) (n, s) es))
 
+-- where there are no lists, each region's list is empty
 pub no_sites : (m : FinMap nat_cmp (List ℕ)) → m ≡ empty → (region : ℕ) → list_of m region ≡ []
 no_sites m h region = ap (λ (m : FinMap nat_cmp (List ℕ)). list_of m region) h ∙ ap (λ o. unwrap_or o []) (get-empty nat_cmp region)

@@ -16,6 +16,7 @@ use Rattle.atl_state.specs.Campaign.{CampaignValue}
 use Rattle.atl_state.specs.Totals.{total}
 use Rattle.atl_report.specs.Each.{each_text}
 
+-- the name of an entry, as the text of the books prints it
 abbrev pub entry_name : Entry → List ℕ
 entry_name Founding = codes "founding"
 entry_name Joining = codes "joining"
@@ -34,9 +35,11 @@ entry_name Bought = codes "bought"
 entry_name Sold = codes "sold"
 entry_name Stocked = codes "stocked"
 
+-- the word `item` and the item's name in quotes; empty where there is no item
 abbrev pub item_name : Option ItemPlan → List ℕ
 item_name item = option_map_or (λ x. codes "item \"" ▸ x.name ▸ codes "\"") item []
 
+-- how the text of the books names a thing; empty for an item that the world does not have
 abbrev pub thing_name : WorldValue → Thing → List ℕ
 thing_name w Money = codes "money"
 thing_name w People = codes "people"
@@ -44,33 +47,37 @@ thing_name w (Item i) = item_name (slice_get w.items i)
 
 -- ---- a thing
 
+-- the end of an entry's line, after the thing: the entry's name and its amount, with `-` if it is negative
 abbrev pub amount_text : Entry → ℤ → List ℕ
 amount_text e amount = codes " " ▸ entry_name e ▸ codes " " ▸ signed_decimal amount ▸ codes "\n"
 
--- the line of an entry; where nothing is booked there is none
+-- the line of a thing under an entry; empty where the amount is 0
 unfoldable pub amount_line : WorldValue → Thing → Entry → ℤ → List ℕ
 amount_line w t e amount = if int_eq amount (pos 0) then [] else thing_name w t ▸ amount_text e amount
 
+-- the lines of a thing under some entries, without those whose amount is 0
 abbrev pub amount_lines : WorldValue → BooksValue → Thing → List Entry → List ℕ
 amount_lines w books t = each_text (λ e. amount_line w t e (amount_in books e t))
 
--- the line of how much all units and regions hold
+-- the line with how much of a thing all units and regions hold
 unfoldable pub total_line : WorldValue → CampaignValue → Thing → List ℕ
 total_line w c t = thing_name w t ▸ codes " total " ▸ decimal (total c t) ▸ codes "\n"
 
+-- all lines of a thing: those of its entries, and its total
 unfoldable pub thing_part : WorldValue → CampaignValue → Thing → List ℕ
 thing_part w c t = amount_lines w c.books t all_entries ▸ total_line w c t
 
 -- ---- the whole
 
--- the parts of so many items, in the order of the world
+-- the lines of the first n items, in the order of the world
 abbrev pub item_parts : WorldValue → CampaignValue → ℕ → List ℕ
 item_parts w c zero = []
 item_parts w c (suc n) = item_parts w c n ▸ thing_part w c (Item n)
 
+-- the text of the books: the lines of money, of people, and of each item of the world
 unfoldable pub books_of : WorldValue → CampaignValue → List ℕ
 books_of w c = thing_part w c Money ▸ thing_part w c People ▸ item_parts w c (length w.items)
 
--- a thing of which there are books
+-- the books have an amount of this thing under each entry
 abbrev pub IsThing : CampaignValue → Thing → Type 0
 IsThing c t = thing_index t < c.books.things

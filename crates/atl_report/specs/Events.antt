@@ -13,9 +13,11 @@ use Rattle.atl_report.specs.Each.{each_text}
 
 -- ---- a line of the mailing that isn't read
 
+-- the line for a line of the mailing that was not read: its line number, and the fault's number and name
 unfoldable pub faulty_line : FaultyLine → List ℕ
 faulty_line f = codes "Line " ▸ decimal f.line ▸ codes ": " ▸ decimal (fault_number f.fault) ▸ codes " " ▸ fault_name f.fault ▸ codes ".\n"
 
+-- the lines for all faulty lines of the mailing, in their order
 abbrev pub faulty_lines : List FaultyLine → List ℕ
 faulty_lines = each_text faulty_line
 
@@ -25,25 +27,31 @@ faulty_lines = each_text faulty_line
 abbrev pub name_of_number : ℕ → List ℕ
 name_of_number number = option_map_or event_fault_name (find (λ fault. event_fault_number fault == number) event_faults) []
 
+-- the line of an event, by its outcome: done with an amount, a fault, or men that starved
 abbrev pub event_text : Event → Outcome → List ℕ
 event_text e (Done n) = codes "Unit " ▸ decimal e.unit ▸ codes ", line " ▸ decimal e.line ▸ codes ", " ▸ event_keyword e.verb ▸ codes ": done " ▸ decimal n ▸ codes ".\n"
 event_text e (Fault k) = codes "Unit " ▸ decimal e.unit ▸ codes ", line " ▸ decimal e.line ▸ codes ", " ▸ event_keyword e.verb ▸ codes ": fault " ▸ decimal k ▸ codes " " ▸ name_of_number k ▸ codes ".\n"
 event_text e (Starved n) = codes "Unit " ▸ decimal e.unit ▸ codes ": " ▸ decimal n ▸ codes " starved.\n"
 
+-- the line of an event
 unfoldable pub event_line : Event → List ℕ
 event_line e = event_text e e.outcome
 
+-- the lines of some events, in their order
 abbrev pub event_lines : List Event → List ℕ
 event_lines = each_text event_line
 
 -- ---- what a faction is told
 
+-- the events whose faction is this one
 abbrev pub own_events : ℕ → List Event → List Event
 own_events faction events = filter (λ e. e.faction == faction) events
 
+-- the lines of faulty lines and events, or `None.` where there is neither
 abbrev pub results_text : List FaultyLine → List Event → List ℕ
 results_text [] [] = codes "None.\n"
 results_text faults events = faulty_lines faults ▸ event_lines events
 
+-- the part of a report headed `Orders:`, with the mailing's faulty lines and the faction's own events
 unfoldable pub orders_part : ℕ → List FaultyLine → List Event → List ℕ
 orders_part faction faults events = codes "Orders:\n" ▸ results_text faults (own_events faction events)

@@ -27,129 +27,148 @@ use Rattle.atl_report.specs.declared.views.SkillView.{SkillView}
 use Rattle.atl_report.specs.declared.views.Side.{Side}
 use Rattle.atl_report.specs.declared.views.Side.TheVariants.{Own, Other}
 
+-- the first line of a report: month, and the faction's number and name
 unfoldable pub header_line : View → List ℕ
 header_line v = codes "Atlantis report, month " ▸ decimal v.month ▸ codes ", faction " ▸ decimal v.faction ▸ codes " \"" ▸ v.name ▸ codes "\".\n"
 
 -- ---- a unit that is seen
 
+-- the beginning of a unit's line: `*` for an own unit with its money, `-` for another with its faction, and its men
 abbrev pub unit_head : UnitView → Side → List ℕ
 unit_head u (Own money items skills) = codes "* Unit " ▸ decimal u.number ▸ codes " \"" ▸ u.name ▸ codes "\": " ▸ decimal u.men ▸ codes " men, " ▸ decimal money ▸ codes " money"
 unit_head u (Other faction name) = codes "- Unit " ▸ decimal u.number ▸ codes " \"" ▸ u.name ▸ codes "\" of faction " ▸ decimal faction ▸ codes " \"" ▸ name ▸ codes "\": " ▸ decimal u.men ▸ codes " men"
 
+-- the word `guard` in a unit's line, where the unit guards
 abbrev pub guard_text : Bool → List ℕ
 guard_text true = codes ", guard"
 guard_text false = []
 
+-- the number of the structure that a unit is inside; empty where it is inside none
 abbrev pub inside_text : ℕ → List ℕ
 inside_text structure = if structure == 0 then [] else codes ", in " ▸ decimal structure
 
--- an amount of an item, with the item's name in the world
+-- an amount of an item and the item's name in the world; empty for an item that the world does not have
 unfoldable pub item_text : WorldValue → ItemView → List ℕ
 item_text w e = option_map_or (λ item. codes ", " ▸ decimal e.amount ▸ codes " " ▸ item.name) (slice_get w.items e.item) []
 
+-- the texts of some items, in their order
 abbrev pub item_texts : WorldValue → List ItemView → List ℕ
 item_texts w = each_text (item_text w)
 
--- the name of a skill in the world, with the unit's level and days
+-- the name of a skill in the world, with the unit's level and days; empty for a skill that the world does not have
 unfoldable pub skill_text : WorldValue → SkillView → List ℕ
 skill_text w e =
     option_map_or (λ skill. codes ", " ▸ skill.name ▸ codes " " ▸ decimal e.level ▸ codes " (" ▸ decimal e.days ▸ codes ")")
     (slice_get w.skills e.skill) []
 
+-- the texts of some skills, in their order
 abbrev pub skill_texts : WorldValue → List SkillView → List ℕ
 skill_texts w = each_text (skill_text w)
 
--- what an own unit has and knows
+-- the items and the skills of an own unit; empty for another faction's unit
 abbrev pub goods_text : WorldValue → Side → List ℕ
 goods_text w (Own money items skills) = item_texts w items ▸ skill_texts w skills
 goods_text w (Other faction name) = []
 
+-- the line of a unit
 unfoldable pub unit_line : WorldValue → UnitView → List ℕ
 unit_line w u = unit_head u u.side ▸ guard_text u.guard ▸ inside_text u.structure ▸ goods_text w u.side ▸ codes ".\n"
 
+-- the lines of some units, in their order
 abbrev pub unit_lines : WorldValue → List UnitView → List ℕ
 unit_lines w = each_text (unit_line w)
 
 -- ---- a structure that is seen
 
--- with the name and the full size of its kind
+-- the line of a structure, with the name and the full size of its kind
 abbrev pub structure_text : StructureView → Kind → List ℕ
 structure_text s kind =
     codes "Structure " ▸ decimal s.number ▸ codes " \"" ▸ s.name ▸ codes "\", " ▸ kind.name ▸ codes ", " ▸ decimal s.done ▸ codes " of "
     ▸ decimal kind.size ▸ codes ", owner " ▸ decimal s.owner ▸ codes ".\n"
 
+-- the line of a structure; empty where the world does not have its kind
 unfoldable pub structure_line : WorldValue → StructureView → List ℕ
 structure_line w s = option_map_or (structure_text s) (slice_get w.kinds s.kind) []
 
+-- the lines of some structures, in their order
 abbrev pub structure_lines : WorldValue → List StructureView → List ℕ
 structure_lines w = each_text (structure_line w)
 
 -- ---- a region that is seen
 
--- with the name and the terrain that the world gives the region
+-- the line of a region, with the name and the terrain that the world gives it
 abbrev pub region_text : RegionView → RegionPlan → (terrain : List ℕ) → List ℕ
 region_text r plan terrain =
     codes "Region " ▸ decimal r.number ▸ codes " \"" ▸ plan.name ▸ codes "\", " ▸ terrain ▸ codes ": " ▸ decimal r.peasants ▸ codes " peasants, "
     ▸ decimal r.money ▸ codes " money.\n"
 
+-- the name of a region's terrain
 abbrev pub terrain_name : WorldValue → RegionPlan → List ℕ
 terrain_name w plan = option_map_or (λ t. t.name) (slice_get w.terrains plan.terrain) []
 
+-- the line of a region; empty where the world does not have it
 unfoldable pub region_line : WorldValue → RegionView → List ℕ
 region_line w r = option_map_or (λ plan. region_text r plan (terrain_name w plan)) (get w.regions r.number) []
 
--- the region to which an exit leads
+-- an exit of a region: its direction, and the number of the region to which it leads
 abbrev pub exit_text : (direction : List ℕ) → (to : ℕ) → List ℕ
 exit_text direction to = direction ▸ codes " " ▸ decimal to
 
--- the exits that are there, in the order north, south, east, west
+-- the exits that a region has, in the order north, south, east, west
 unfoldable pub exit_texts : RegionPlan → List (List ℕ)
 exit_texts p =
     filter_map (λ (e : List ℕ × Option ℕ). option_map (exit_text e.0) e.1)
     ((codes "north", p.north) ∷ (codes "south", p.south) ∷ (codes "east", p.east) ∷ (codes "west", p.west) ∷ [])
 
+-- some texts with commas between them, or `none` where there is no text
 abbrev pub joined_or_none : List (List ℕ) → List ℕ
 joined_or_none [] = codes "none"
 joined_or_none (text ∷ texts) = separated_texts (codes ", ") (text ∷ texts)
 
+-- the line with all exits of a region
 abbrev pub exits_text : RegionPlan → List ℕ
 exits_text p = codes "Exits: " ▸ joined_or_none (exit_texts p) ▸ codes ".\n"
 
+-- the line with all exits of a region; empty where the world does not have the region
 unfoldable pub exits_line : WorldValue → RegionView → List ℕ
 exits_line w r = option_map_or exits_text (get w.regions r.number) []
 
--- with the prices that the world sets in the region, and the item's name in the world
+-- the line of a market: stock, wanted pieces, the prices that the world sets in the region, and the item's name
 abbrev pub market_text : MarketView → Market → Item → List ℕ
 market_text e m item =
     codes "Market " ▸ item.name ▸ codes ": " ▸ decimal e.stock ▸ codes " in stock at " ▸ decimal m.price ▸ codes ", " ▸ decimal e.wanted
     ▸ codes " wanted at " ▸ decimal m.pays ▸ codes ".\n"
 
+-- the line of an item's market in a region; empty where the world has no such market
 unfoldable pub market_line : WorldValue → ℕ → MarketView → List ℕ
 market_line w region e = option_map_or (λ m. option_map_or (market_text e m) (slice_get w.items e.item) []) (market_of w region e.item) []
 
+-- the lines of some markets of a region, in their order
 abbrev pub market_lines : WorldValue → ℕ → List MarketView → List ℕ
 market_lines w region = each_text (market_line w region)
 
+-- all lines of a region: its own, exits, markets, structures and units
 unfoldable pub region_part : WorldValue → RegionView → List ℕ
 region_part w r = region_line w r ▸ exits_line w r ▸ market_lines w r.number r.markets ▸ structure_lines w r.structures ▸ unit_lines w r.units
 
+-- the lines of some regions, in their order
 abbrev pub region_parts : WorldValue → List RegionView → List ℕ
 region_parts w = each_text (region_part w)
 
 -- ---- the whole
 
--- the faction's events alone are told
+-- the text of a report on a view, with the mailing's faulty lines, and of the events the faction's own alone
 unfoldable pub report_of : WorldValue → View → List FaultyLine → List Event → List ℕ
 report_of w v faults events = header_line v ▸ orders_part v.faction faults events ▸ region_parts w v.regions
 
--- events with the same ones of the faction give one report
+-- two lists of events with the same events of the faction give it the same report
 abbrev pub OthersEventsAreNotTold : Type 0
 OthersEventsAreNotTold =
     (w : WorldValue) (v : View) (faults : List FaultyLine) (events others : List Event)
     → own_events v.faction events ≡ own_events v.faction others
     → report_of w v faults events ≡ report_of w v faults others
 
--- two campaigns of one world of which a faction sees the same give it one report, where its faulty lines and its events are the same
+-- two campaigns of one world of which a faction sees the same give it one report, if faulty lines and own events are the same
 abbrev pub OnlyWhatIsSeenIsTold : Type 0
 OnlyWhatIsSeenIsTold =
     (w : WorldValue) (c d : CampaignValue) (faction : ℕ) (faults : List FaultyLine) (events others : List Event)

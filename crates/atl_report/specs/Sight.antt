@@ -28,80 +28,88 @@ use Rattle.atl_report.specs.declared.views.Side.TheVariants.{Own, Other}
 use Rattle.atl_report.specs.declared.watch.Watch.{Watch}
 use Rattle.atl_report.specs.Watching.{watch_over, is_seen, is_seen_there, sees_region}
 
--- the name that a faction shows
+-- the faction's name; empty where there is no faction
 abbrev pub shown_name : Option Faction → List ℕ
 shown_name faction = option_map_or (λ f. f.name) faction []
 
 -- ---- units
 
--- each item that is held, in the order of the world
+-- the view of an item that an own unit holds: its index in the world, and how many pieces
 abbrev pub item_view : ℕ × ℕ → ItemView
 item_view (item, amount) = record { item = item; amount = amount }
 
+-- the views of all items that a unit holds, in the order of the world
 abbrev pub item_views : HoldingValue → List ItemView
 item_views h = map item_view (entries h.items)
 
--- each skill with days, in the order of the world, with the level that so many men have
+-- the view of a skill that an own unit studied: its index in the world, the level of so many men, and their days
 abbrev pub skill_view : ℕ → ℕ × ℕ → SkillView
 skill_view men (skill, days) = record { skill = skill; level = level_of days men; days = days }
 
+-- the views of all skills with days, in the order of the world
 abbrev pub skill_views : HoldingValue → List SkillView
 skill_views h = map (skill_view h.men) (entries h.days)
 
--- of an own unit its money, items and skills; of another faction's that faction
+-- the side of a unit: money, items and skills of an own one, number and name of another's faction
 abbrev pub side_of : CampaignValue → ℕ → Unit → Side
 side_of c faction u =
     if u.faction == faction then Own u.holding.money (item_views u.holding) (skill_views u.holding)
     else Other u.faction (shown_name (get c.factions u.faction))
 
+-- the view that a faction has of a unit that it sees
 abbrev pub unit_view : CampaignValue → ℕ → ℕ → Unit → UnitView
 unit_view c faction number u = record { number = number; name = u.holding.name; men = u.holding.men; guard = guards u; structure = u.structure; side = side_of c faction u }
 
+-- the view of a unit, None where the watch does not see it
 abbrev pub seen_unit : WorldValue → CampaignValue → Watch → ℕ → Option Unit → Option UnitView
 seen_unit w c watch number unit = option_and_then (λ u. if is_seen w watch u then Some (unit_view c watch.faction number u) else None) unit
 
--- the units of the region that are seen, by number
+-- the views of the region's units that are seen, by number
 abbrev pub unit_views : WorldValue → CampaignValue → Watch → List UnitView
 unit_views w c watch = filter_map (λ n. seen_unit w c watch n (get c.units n)) (numbers_in watch.region c.units)
 
 -- ---- structures
 
--- the numbers of the structures of a region, in rising order
+-- the numbers of a region's structures, sorted
 abbrev pub structures_in : ℕ → FinMap nat_cmp Structure → List ℕ
 structures_in region structures = numbers_where (λ s. s.region == region) structures
 
--- the owner's number, or 0 where the owner isn't seen
+-- the number of a structure's owner, or 0 where the owner isn't seen
 abbrev pub shown_owner : WorldValue → CampaignValue → Watch → Structure → ℕ
 shown_owner w c watch s = if is_seen_there w watch (get c.units s.owner) then s.owner else 0
 
+-- the view of a structure, whose owner is 0 where he isn't seen
 abbrev pub structure_view : WorldValue → CampaignValue → Watch → ℕ → Structure → StructureView
 structure_view w c watch number s = record { number = number; kind = s.kind; name = s.name; done = s.done; owner = shown_owner w c watch s }
 
--- all structures of the region, by number
+-- the views of all structures of the region, by number
 abbrev pub structure_views : WorldValue → CampaignValue → Watch → List StructureView
 structure_views w c watch = filter_map (λ n. option_map (structure_view w c watch n) (get c.structures n)) (structures_in watch.region c.structures)
 
 -- ---- markets
 
--- the stock of an item, and what its limit leaves room for
+-- the view of a market: its stock, and how many more pieces its limit leaves room for
 abbrev pub market_view : Region → ℕ × Market → MarketView
 market_view r (item, m) = record { item = m.item; stock = amount_of r.stocks item; wanted = m.limit - amount_of r.stocks item }
 
--- all markets that the world gives the region, in the order of their items
+-- the views of all markets that the world gives a region, in the order of their items
 abbrev pub market_views : Region → RegionPlan → List MarketView
 market_views r p = map (market_view r) (entries p.markets)
 
+-- the views of all markets of a region; none where the world does not have the region
 abbrev pub region_market_views : Region → Option RegionPlan → List MarketView
 region_market_views r plan = option_map_or (market_views r) plan []
 
 -- ---- the whole
 
+-- the view of a region: peasants, money, markets, all structures, and the units that are seen
 abbrev pub region_view : WorldValue → CampaignValue → Watch → Region → RegionView
 region_view w c watch r = record { number = watch.region; peasants = r.peasants; money = r.money; markets = region_market_views r (get w.regions watch.region); structures = structure_views w c watch; units = unit_views w c watch }
 
--- the regions that the faction sees, by number
+-- the views of the regions that the faction sees, by number
 abbrev pub region_views : WorldValue → CampaignValue → ℕ → List RegionView
 region_views w c faction = map (λ e. region_view w c (watch_over w c faction e.0) e.1) (filter (λ e. sees_region c faction e.0) (entries c.regions))
 
+-- all that a faction sees of a campaign
 unfoldable pub view_of : WorldValue → CampaignValue → ℕ → View
 view_of w c faction = record { month = c.month; faction = faction; name = shown_name (get c.factions faction); regions = region_views w c faction }

@@ -1,4 +1,4 @@
--- The structures of each region.
+-- The lists of the structures of each region, as the code makes them.
 use Rattle.std.specs.Prelude.{◌≡◌, ◌++◌, ℕ, List, [], ◌∷◌}
 use Rattle.std.specs.Ordering.{nat_cmp}
 use Rattle.std.specs.FinMap.{FinMap, insert}
@@ -6,10 +6,10 @@ use Rattle.atl_records.specs.declared.records.Structure.{Structure}
 use Rattle.atl_state.specs.KeptLists.{list_of}
 use Rattle.atl_report.specs.Sight.{structures_in}
 
--- under each region's number stand the numbers of its structures, in rising order
+-- each region's list has the numbers of its structures, sorted; a region without a list has none
 abbrev pub AreSites : FinMap nat_cmp Structure → FinMap nat_cmp (List ℕ) → Type 0
 AreSites structures sites = (region : ℕ) → list_of sites region ≡ structures_in region structures
 
--- with one more at the end of a region's
+-- the lists with a structure's number added at the end of a region's list
 abbrev pub with_site : FinMap nat_cmp (List ℕ) → ℕ → ℕ → FinMap nat_cmp (List ℕ)
 with_site sites region number = insert sites region (list_of sites region ++ (number ∷ []))

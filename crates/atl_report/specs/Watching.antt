@@ -1,4 +1,4 @@
--- Who sees, and who is seen. See docs/RULES.md, "Sight".
+-- Which regions a faction sees, and which units there. See docs/RULES.md, "Sight".
 use Rattle.std.specs.Prelude.{◌==◌, ◌&&◌, ◌||◌, ℕ, Bool, false, nat_lt, nat_le, max, List, [], ◌∷◌, map, if◌then◌else◌, Option}
 use Rattle.std.specs.List.{list_any}
 use Rattle.std.specs.Option.{option_map_or}
@@ -12,7 +12,7 @@ use Rattle.atl_report.specs.declared.watch.Watch.{Watch}
 
 -- ---- regions
 
--- a unit of the faction, with men
+-- there is a unit, it is the faction's, and it has men
 abbrev pub is_watching : ℕ → Option Unit → Bool
 is_watching faction unit = option_map_or (λ u. u.faction == faction && nat_lt 0 u.holding.men) unit false
 
@@ -22,10 +22,11 @@ sees_region c faction region = list_any (λ n. is_watching faction (get c.units 
 
 -- ---- units
 
--- how well a unit observes, where it is the faction's own
+-- the observation level of a unit of the faction; 0 for another's unit, or none
 abbrev pub observation_of : WorldValue → ℕ → Option Unit → ℕ
 observation_of w faction unit = option_map_or (λ u. if u.faction == faction then level_in_any u.holding w.rules.observation else 0) unit 0
 
+-- the greatest number of a list, 0 of an empty one
 abbrev pub greatest : List ℕ → ℕ
 greatest [] = 0
 greatest (n ∷ ns) = max n (greatest ns)
@@ -34,13 +35,14 @@ greatest (n ∷ ns) = max n (greatest ns)
 abbrev pub observation_in : WorldValue → CampaignValue → ℕ → ℕ → ℕ
 observation_in w c faction region = greatest (map (λ n. observation_of w faction (get c.units n)) (numbers_in region c.units))
 
+-- a faction in a region, with the best observation level of its units there
 abbrev pub watch_over : WorldValue → CampaignValue → ℕ → ℕ → Watch
 watch_over w c faction region = record { faction = faction; region = region; observation = observation_in w c faction region }
 
--- a unit that is the faction's own, guards, or has a stealth level at most that observation level
+-- the unit is the faction's own, guards, or has a stealth level at most the faction's best observation level there
 abbrev pub is_seen : WorldValue → Watch → Unit → Bool
 is_seen w watch u = u.faction == watch.faction || (guards u || nat_le (level_in_any u.holding w.rules.stealth) watch.observation)
 
--- a unit that is seen, and stands in the region
+-- there is a unit, it is in the watch's region, and it is seen
 abbrev pub is_seen_there : WorldValue → Watch → Option Unit → Bool
 is_seen_there w watch unit = option_map_or (λ u. u.region == watch.region && is_seen w watch u) unit false

@@ -10,6 +10,7 @@ use atl_tables::{World, text_of};
 use std::alloc::{AllocError, Global};
 use std::fmt::Write;
 
+/// The name of an entry, as the text of the books prints it.
 fn entry_name(entry: Entry) -> &'static str
     ensures { result.now ≡ entry_name entry }
 {
@@ -21,7 +22,7 @@ fn entry_name(entry: Entry) -> &'static str
     )
 }
 
-/// What a line begins with: the thing.
+/// Writes the name of a thing, with which each of its lines begins.
 fn write_thing(out: &mut String, world: &World, thing: Thing) -> Result<(), AllocError>
     ensures { OnOk result (string_bytes out.new
         ≡ string_bytes out.old ++ thing_name world.now thing) }
@@ -33,6 +34,7 @@ fn write_thing(out: &mut String, world: &World, thing: Thing) -> Result<(), Allo
     }
 }
 
+/// Writes the word `item` and an item's name in quotes; nothing for an item not in the world.
 fn write_item(out: &mut String, world: &World, item: u16) -> Result<(), AllocError>
     ensures { OnOk result (string_bytes out.new
         ≡ string_bytes out.old ++ item_name (slice_get world.now.items item)) }
@@ -46,7 +48,7 @@ fn write_item(out: &mut String, world: &World, item: u16) -> Result<(), AllocErr
     }
 }
 
-/// An amount under an entry, with its sign where it is negative.
+/// Writes the end of an entry's line: the entry's name and its amount, with `-` if it is negative.
 fn write_amount(out: &mut String, entry: Entry, amount: i64) -> Result<(), AllocError>
     ensures { OnOk result (string_bytes out.new
         ≡ string_bytes out.old ++ amount_text entry amount) }
@@ -55,7 +57,7 @@ fn write_amount(out: &mut String, entry: Entry, amount: i64) -> Result<(), Alloc
     write!(out, " {name} {amount}\n")
 }
 
-/// The line of an entry, where it has an amount.
+/// Writes the line of a thing under an entry; nothing where the amount is 0.
 #[tactic(auto, unfolding(crate::specs::Books::amount_line))]
 fn write_entry(
     out: &mut String,
@@ -75,7 +77,7 @@ fn write_entry(
     Ok(())
 }
 
-/// The lines of these entries of a thing.
+/// Writes the lines of a thing under some entries, without those whose amount is 0.
 fn write_entries(
     out: &mut String,
     world: &World,
@@ -95,7 +97,7 @@ fn write_entries(
     Ok(())
 }
 
-/// The line of how much there is of a thing.
+/// Writes the line with how much of a thing all units and regions hold.
 #[tactic(auto, unfolding(crate::specs::Books::total_line))]
 fn write_total(
     out: &mut String,
@@ -113,7 +115,7 @@ fn write_total(
     Ok(())
 }
 
-/// All lines of a thing.
+/// Writes all lines of a thing: those of its entries, and its total.
 #[tactic(auto, unfolding(crate::specs::Books::thing_part))]
 fn write_part(
     out: &mut String,
@@ -131,7 +133,7 @@ fn write_part(
     Ok(())
 }
 
-/// The parts of the items, in the order of the world.
+/// Writes the lines of all items, in the order of the world.
 fn write_items(out: &mut String, world: &World, campaign: &Campaign) -> Result<(), AllocError>
     requires things { campaign.now.value.books.things ≡ things_of world.now }
     requires countable { IsCountable campaign.now.value }

@@ -58,7 +58,7 @@ fn write_event(out: &mut String, event: &Event) -> Result<(), AllocError>
     }
 }
 
-/// The lines of the faction's own events.
+/// Writes the lines of the faction's own events.
 fn write_events(out: &mut String, faction: u32, events: &[Event]) -> Result<(), AllocError>
     ensures { OnOk result (string_bytes out.new
         ≡ string_bytes out.old ++ event_lines (own_events faction events.now)) }
@@ -78,7 +78,7 @@ fn has_own(faction: u32, events: &[Event]) -> bool
     events.iter().any(|event| event.faction == faction)
 }
 
-/// Whether there is nothing to tell the faction.
+/// Whether there is no faulty line and no event of the faction.
 fn has_no_results(faction: u32, faults: &[FaultyLine], events: &[Event]) -> bool
     ensures { result ≡ (length faults.now == 0 && not
         (list_any (λ e. e.faction == faction) events.now)) }
@@ -86,7 +86,7 @@ fn has_no_results(faction: u32, faults: &[FaultyLine], events: &[Event]) -> bool
     faults.is_empty() && !has_own(faction, events)
 }
 
-/// The faulty lines and the faction's own events, or that there are none.
+/// Writes the faulty lines and the faction's own events, or `None.` where there is neither.
 #[tactic(auto, using(crate::proofs::EventLaws::told_nothing))]
 fn write_results(
     out: &mut String,
@@ -105,7 +105,7 @@ fn write_results(
     Ok(())
 }
 
-/// What the faction is told of its orders.
+/// Writes the part headed `Orders:`, with the mailing's faulty lines and the faction's own events.
 #[tactic(auto, unfolding(crate::specs::Events::orders_part))]
 pub(crate) fn write_orders(
     out: &mut String,

@@ -1,4 +1,4 @@
-//! What a faction sees, and the text of its report.
+//! What a faction sees of a campaign, the text of its report, and the text of the books.
 #![tactic(auto)]
 
 pub mod books;

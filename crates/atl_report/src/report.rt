@@ -14,7 +14,7 @@ use atl_tables::{Item, Kind, Market, RegionPlan, World};
 use std::alloc::{AllocError, Global};
 use std::fmt::Write;
 
-/// What a report has a text of, by the world.
+/// A view of which a report has a text; the world gives the names.
 trait InReport {
     ghost use Rattle.std.specs.Prelude.{List, ℕ};
     ghost use Rattle.atl_tables.specs.Worlds.{WorldValue};
@@ -26,6 +26,7 @@ trait InReport {
             ≡ string_bytes out.old ++ text world.now self.now) };
 }
 
+/// Writes the texts of a list's elements, one after another.
 fn write_each<T: InReport>(out: &mut String, world: &World, list: &[T]) -> Result<(), AllocError>
     ensures { OnOk result (string_bytes out.new
         ≡ string_bytes out.old ++ each_text (T.text world.now) list.now) }
@@ -49,7 +50,7 @@ fn write_header(out: &mut String, view: &View) -> Result<(), AllocError>
     )
 }
 
-/// The number, the name, whose it is, and the men of a unit, and the money of an own one.
+/// Writes the start of a unit's line: number, name, another's faction, men, an own unit's money.
 fn write_head(out: &mut String, unit: &UnitView) -> Result<(), AllocError>
     ensures { OnOk result (string_bytes out.new
         ≡ string_bytes out.old ++ unit_head unit.now unit.now.side) }
@@ -77,6 +78,7 @@ fn write_head(out: &mut String, unit: &UnitView) -> Result<(), AllocError>
     }
 }
 
+/// Writes the word `guard` where a unit guards.
 fn write_guard(out: &mut String, guard: bool) -> Result<(), AllocError>
     ensures { OnOk result (string_bytes out.new ≡ string_bytes out.old ++ guard_text guard) }
 {
@@ -86,6 +88,7 @@ fn write_guard(out: &mut String, guard: bool) -> Result<(), AllocError>
     Ok(())
 }
 
+/// Writes the number of the structure that a unit is inside; nothing where it is inside none.
 fn write_inside(out: &mut String, structure: u32) -> Result<(), AllocError>
     ensures { OnOk result (string_bytes out.new ≡ string_bytes out.old ++ inside_text structure) }
 {
@@ -124,7 +127,7 @@ impl InReport for SkillView {
     }
 }
 
-/// What an own unit has and knows.
+/// Writes the items and the skills of an own unit; nothing for another faction's.
 fn write_goods(out: &mut String, world: &World, side: &Side) -> Result<(), AllocError>
     ensures { OnOk result (string_bytes out.new
         ≡ string_bytes out.old ++ goods_text world.now side.now) }
@@ -159,7 +162,7 @@ impl InReport for UnitView {
     }
 }
 
-/// A structure of a kind.
+/// Writes the line of a structure, with the name and the full size of its kind.
 fn write_built(out: &mut String, structure: &StructureView, kind: &Kind) -> Result<(), AllocError>
     ensures { OnOk result (string_bytes out.new
         ≡ string_bytes out.old ++ structure_text structure.now kind.now) }
@@ -188,6 +191,7 @@ impl InReport for StructureView {
     }
 }
 
+/// Writes the line of a region; nothing where the world does not have it.
 #[tactic(auto, unfolding(crate::specs::Report::region_line))]
 fn write_region(out: &mut String, world: &World, region: &RegionView) -> Result<(), AllocError>
     ensures { OnOk result (string_bytes out.new
@@ -256,6 +260,7 @@ fn has_no_exit(plan: &RegionPlan) -> bool
     plan.north.is_none() && plan.south.is_none() && plan.east.is_none() && plan.west.is_none()
 }
 
+/// Writes the line with the exits of a region of the world, or with `none`.
 fn write_known_exits(out: &mut String, plan: &RegionPlan) -> Result<(), AllocError>
     ensures { OnOk result (string_bytes out.new ≡ string_bytes out.old ++ exits_text plan.now) }
 {
@@ -269,6 +274,7 @@ fn write_known_exits(out: &mut String, plan: &RegionPlan) -> Result<(), AllocErr
     Ok(())
 }
 
+/// Writes the line of a region's exits; nothing where the world does not have the region.
 #[tactic(auto, unfolding(crate::specs::Report::exits_line))]
 fn write_exits(out: &mut String, world: &World, region: &RegionView) -> Result<(), AllocError>
     ensures { OnOk result (string_bytes out.new
@@ -280,7 +286,7 @@ fn write_exits(out: &mut String, world: &World, region: &RegionView) -> Result<(
     }
 }
 
-/// A market of an item.
+/// Writes the line of a market: the item's name, stock, wanted pieces and prices.
 fn write_trade(
     out: &mut String,
     seen: MarketView,
@@ -301,6 +307,7 @@ fn write_trade(
     )
 }
 
+/// Writes the line of a market in a region; nothing where the world has no such market.
 #[tactic(auto, unfolding(crate::specs::Report::market_line))]
 fn write_market(
     out: &mut String,
@@ -335,7 +342,7 @@ fn write_markets(
     Ok(())
 }
 
-/// All that is seen of a region and in it.
+/// All lines of a region: its own, exits, markets, structures and units.
 impl InReport for RegionView {
     ghost text = { region_part };
 

@@ -15,7 +15,7 @@ use atl_state::{Campaign, Holding, Region, Structure, Unit, level};
 use atl_tables::{Market, Numbered, RegionPlan, Sequence, Text, World};
 use std::alloc::{AllocError, Global};
 
-/// A copy of the name that a faction shows.
+/// A copy of the faction's name; empty where there is no such faction.
 fn shown_name(alloc: Global, campaign: &Campaign, faction: u32) -> Result<Text, AllocError>
     ensures { IfOk result (λ name. name ≡ shown_name (get campaign.now.value.factions faction)) }
 {
@@ -53,7 +53,7 @@ fn skill_views(alloc: Global, holding: &Holding) -> Result<Sequence<SkillView>, 
     Ok(skills)
 }
 
-/// What is seen of an own unit alone, or of another faction's.
+/// The side of a unit: money, items and skills of an own one, number and name of another's faction.
 fn side_of(
     alloc: Global,
     campaign: &Campaign,
@@ -94,7 +94,7 @@ fn unit_view(
     })
 }
 
-/// The units of a region that are seen, by number.
+/// The views of a region's units that are seen, by number.
 fn unit_views(
     alloc: Global,
     world: &World,
@@ -114,7 +114,7 @@ fn unit_views(
     Ok(units)
 }
 
-/// The owner's number, or 0 where the owner isn't seen.
+/// The number of a structure's owner, or 0 where the owner isn't seen.
 fn shown_owner(world: &World, campaign: &Campaign, watch: Watch, structure: &Structure) -> u32
     ensures { result ≡ shown_owner world.now campaign.now.value watch structure.now }
 {
@@ -145,7 +145,7 @@ fn structure_view(
     })
 }
 
-/// The structures of a region, by number.
+/// The views of all structures of a region, by number.
 fn structure_views(
     alloc: Global,
     world: &World,
@@ -177,7 +177,7 @@ fn market_view(number: u32, market: &Market, region: &Region) -> MarketView
     }
 }
 
-/// The markets of a region of the world, by item.
+/// The views of all markets that the world gives a region, by item.
 fn market_views(
     alloc: Global,
     plan: &RegionPlan,
@@ -192,7 +192,7 @@ fn market_views(
     Ok(markets)
 }
 
-/// The markets of a region, by item.
+/// The views of all markets of a region, by item; none where the world lacks the region.
 fn region_market_views(
     alloc: Global,
     world: &World,
@@ -230,7 +230,7 @@ fn region_view(
     })
 }
 
-/// Adds a region of the campaign to those that are seen.
+/// Adds a region's number to those that are seen, where the campaign has the region.
 fn see(seen: &mut Numbered<()>, campaign: &Campaign, number: u32) -> Result<(), AllocError>
     ensures { OnOk result (seen.new
         ≡ with_region seen.old number (get campaign.now.value.regions number)) }
@@ -241,7 +241,7 @@ fn see(seen: &mut Numbered<()>, campaign: &Campaign, number: u32) -> Result<(), 
     Ok(())
 }
 
-/// The numbers of the regions where the faction has a unit with men, gone to from its units.
+/// The numbers of the regions where the faction has a unit with men, found from its units.
 fn regions_seen(
     alloc: Global,
     campaign: &Campaign,
@@ -262,7 +262,7 @@ fn regions_seen(
     Ok(seen)
 }
 
-/// The regions that the faction sees, by number.
+/// The views of the regions that the faction sees, by number.
 fn region_views(
     alloc: Global,
     world: &World,

@@ -1,4 +1,4 @@
-//! The structures of each region.
+//! Lists the numbers of the structures of each region.
 ghost use Rattle.std.specs.Prelude.{◌≡◌, IfOk, OnOk};
 ghost use Rattle.atl_state.specs.KeptLists.{list_of};
 ghost use Rattle.atl_report.specs.Sites.{AreSites, with_site};
@@ -7,11 +7,12 @@ use atl_state::Campaign;
 use atl_tables::{Numbered, Sequence};
 use std::alloc::{AllocError, Global};
 
-/// The numbers of the structures of each region, in rising order, by the region's number. A region without structures may
-/// have no list.
+/// The numbers of each region's structures, sorted, by the region's number.
+/// A region without structures may have no list.
 pub type Sites = Numbered<Sequence<u32>>;
 
-/// Lists a structure as the last one of a region. Without memory the lists are to be given up.
+/// Adds a structure's number at the end of a region's list.
+/// After an AllocError the lists must not be used further.
 fn add_site(alloc: Global, sites: &mut Sites, region: u32, number: u32) -> Result<(), AllocError>
     ensures { OnOk result (sites.new ≡ with_site sites.old region number) }
 {
@@ -25,8 +26,8 @@ fn add_site(alloc: Global, sites: &mut Sites, region: u32, number: u32) -> Resul
     }
 }
 
-/// The structures of each region, from one pass over the campaign's structures. They stay right while no structure comes or
-/// moves. AllocError without memory.
+/// The numbers of each region's structures, from one pass over the campaign.
+/// They stay right until a structure is begun or moves. AllocError without memory.
 pub fn sites_of(alloc: Global, campaign: &Campaign) -> Result<Sites, AllocError>
     ensures { IfOk result (AreSites campaign.now.value.structures) }
 {
@@ -37,7 +38,7 @@ pub fn sites_of(alloc: Global, campaign: &Campaign) -> Result<Sites, AllocError>
     Ok(sites)
 }
 
-/// The numbers of the structures of a region.
+/// The numbers of a region's structures, sorted.
 pub(crate) fn sites_in(sites: &Sites, region: u32) -> &[u32]
     ensures { result.now ≡ list_of sites.now region }
 {

@@ -1,7 +1,7 @@
 //! The view of a faction: all that its report shows.
 use atl_tables::{Sequence, Text, let_go};
 
-/// What a faction sees of a campaign.
+/// What a faction sees of a campaign: all that its report shows besides orders.
 pub struct View {
     /// The month last closed.
     pub month: u32,
@@ -19,7 +19,7 @@ impl Drop for View {
     }
 }
 
-/// A region that is seen.
+/// A region that is seen, with what is seen in it.
 pub struct RegionView {
     pub number: u32,
     pub peasants: u32,
@@ -38,7 +38,7 @@ impl Drop for RegionView {
     }
 }
 
-/// A market that is seen.
+/// A market of a region that is seen.
 #[derive(Drop, Clone, Copy)]
 pub struct MarketView {
     /// The number of its item in the world.
@@ -80,7 +80,7 @@ impl Drop for UnitView {
     }
 }
 
-/// Whose a unit is that is seen.
+/// Whether a unit is the faction's own, with its goods, or another's, with that faction's name.
 pub enum Side {
     /// The faction's own, with its money, and with its items and skills in the order of the world.
     Own {
@@ -111,7 +111,7 @@ impl Drop for Side {
     }
 }
 
-/// How much of an item an own unit holds.
+/// How many pieces of an item an own unit holds.
 #[derive(Drop, Clone, Copy)]
 pub struct ItemView {
     /// The number of the item in the world.
@@ -119,7 +119,7 @@ pub struct ItemView {
     pub amount: u32,
 }
 
-/// What an own unit knows of a skill.
+/// The level and the days of an own unit in a skill.
 #[derive(Drop, Clone, Copy)]
 pub struct SkillView {
     /// The number of the skill in the world.

@@ -1,4 +1,4 @@
-//! Who sees, and whom. See docs/RULES.md, "Sight".
+//! Which regions a faction sees, and which units there. See docs/RULES.md, "Sight".
 ghost use Rattle.std.specs.Prelude.{◌≡◌, Some, nat_le};
 ghost use Rattle.std.specs.Option.{option_copied};
 ghost use Rattle.atl_state.specs.Good.{guards};
@@ -8,7 +8,7 @@ ghost use Rattle.atl_report.specs.Watching.{is_watching, observation_of, observa
 use atl_state::{Campaign, Unit, level_in_any};
 use atl_tables::World;
 
-/// A faction that looks about in a region, with the best observation level of its units there.
+/// A faction in a region that it sees, with the best observation level of its units there.
 #[derive(Drop, Clone, Copy)]
 pub(crate) struct Watch {
     pub(crate) faction: u32,
@@ -30,7 +30,7 @@ pub(crate) fn is_guard(unit: &Unit) -> bool
     unit.holding.guard() && unit.holding.men() > 0
 }
 
-/// A unit's observation level, where the unit is the faction's, and else 0.
+/// The observation level of a unit of the faction; 0 for another's unit.
 fn observation_of(world: &World, faction: u32, unit: &Unit) -> u32
     ensures { result ≡ observation_of world.now faction (Some unit.now) }
 {
@@ -54,7 +54,7 @@ fn observation_in(world: &World, campaign: &Campaign, faction: u32, region: u32)
     best
 }
 
-/// What a faction can make out in a region.
+/// The watch of a faction in a region: with the best observation level of its units there.
 pub(crate) fn watch_over(world: &World, campaign: &Campaign, faction: u32, region: u32) -> Watch
     ensures { result ≡ watch_over world.now campaign.now.value faction region }
 {
@@ -65,7 +65,7 @@ pub(crate) fn watch_over(world: &World, campaign: &Campaign, faction: u32, regio
     }
 }
 
-/// Whether a unit's stealth isn't too high for a watch.
+/// Whether a unit's stealth level is at most the watch's observation level.
 fn is_identified(world: &World, watch: Watch, unit: &Unit) -> bool
     ensures { result ≡ nat_le (level_in_any unit.now.holding world.now.rules.stealth)
         watch.observation }
@@ -73,14 +73,15 @@ fn is_identified(world: &World, watch: Watch, unit: &Unit) -> bool
     level_in_any(&unit.holding, world.rules().stealth) <= watch.observation
 }
 
-/// Whether a unit is seen, where it stands in the region.
+/// Whether a unit in the watch's region is seen: it is the faction's own, guards,
+/// or its stealth level is at most the watch's observation level.
 pub(crate) fn is_seen(world: &World, watch: Watch, unit: &Unit) -> bool
     ensures { result ≡ is_seen world.now watch unit.now }
 {
     unit.faction == watch.faction || is_guard(unit) || is_identified(world, watch, unit)
 }
 
-/// Whether a unit that may be there is seen, and stands in the region.
+/// Whether there is a unit, it is in the watch's region, and it is seen.
 pub(crate) fn is_seen_there(world: &World, watch: Watch, unit: Option<&Unit>) -> bool
     ensures { result ≡ is_seen_there world.now watch (option_copied unit.entry) }
 {

@@ -1,4 +1,4 @@
--- The marks of amounts: there is room for each.
+-- Laws of the dirty set of the books' amounts: there is room for the number of each amount.
 use Rattle.std.proofs.Common.{◌≡◌, ℕ, ◌*◌, ◌<◌, ◌≤◌, Bool, true, ◌||◌, sym, ◌∙◌, subst, refl, arith}
 use Rattle.std.proofs.lemmas.Bool.{false≢true}
 use Rattle.std.specs.declared.cmp.Ordering.TheVariants.{Less, Equal, Greater}
@@ -16,6 +16,7 @@ use Rattle.atl_records.specs.declared.books.Entry.{Entry}
 use Rattle.atl_records.specs.declared.books.Thing.{Thing}
 use Rattle.atl_records.proofs.EveryEntryLaws.{entry_small}
 
+-- what is so of n, and of k if it was there, is so of k where k is n or was there
 or_there : (n k : ℕ) (there : Bool) (P : ℕ → Type 0) → (eq_by_cmp nat_cmp k n || there) ≡ true → P n → (there ≡ true → P k) → P k
 or_there n k there P h itself others = elim (nat_cmp k n) as (λ r. nat_cmp k n ≡ r → (is_eq r || there) ≡ true → P k) [
   | Less ↦ λ _ yes. others yes
@@ -23,22 +24,24 @@ or_there n k there P h itself others = elim (nat_cmp k n) as (λ r. nat_cmp k n 
   | Greater ↦ λ _ yes. others yes
 ] refl h
 
+-- the number of an amount is below entry_count times the number of things
 number_small : (things : ℕ) (e : Entry) (t : Thing) → thing_index t < things → amount_number e t < entry_count * things
 number_small things e t small = omega (arith, small, entry_small e)
 
--- no amount is marked
+-- an empty dirty set with room for all amounts satisfies MarksAmounts
 pub none_marked : (things room : ℕ) → entry_count * things ≤ room → MarksAmounts things (record { numbers = set.empty; room = room })
 none_marked things room enough = record { room = enough; numbers = λ k there. absurd (false≢true (sym (set.contains-empty nat_cmp k) ∙ there)) }
 
+-- a dirty set of amounts of these things is one once another of them is added
 more_of_things : (things : ℕ) (s : set.FinSet nat_cmp) (e : Entry) (t : Thing) → thing_index t < things → AreOfThings things s → AreOfThings things (amount_marked s e t)
 more_of_things things s e t small are k there =
     or_there (amount_number e t) k (set.contains s k) (λ n. n < entry_count * things) (sym (set.contains-insert nat_cmp_total s (amount_number e t) k) ∙ there) (number_small things e t small) (are k)
 
--- another amount is marked
+-- MarksAmounts still holds once another amount is marked
 pub more_marked : (things : ℕ) (marks : RoomySet) (e : Entry) (t : Thing) → thing_index t < things → MarksAmounts things marks → MarksAmounts things (record marks { numbers = amount_marked marks.numbers e t })
 more_marked things marks e t small are = record { room = are.room; numbers = more_of_things things marks.numbers e t small are.numbers }
 
--- and there is room for it
+-- the dirty set has room for another amount
 pub fits_amount : (things : ℕ) (marks : RoomySet) (e : Entry) (t : Thing) → thing_index t < things → MarksAmounts things marks → set.len (amount_marked marks.numbers e t) ≤ marks.room
 fits_amount things marks e t small are =
     let few = len-below (entry_count * things) (amount_marked marks.numbers e t) (more_of_things things marks.numbers e t small are.numbers) in

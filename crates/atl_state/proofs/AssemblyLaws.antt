@@ -1,4 +1,4 @@
--- A campaign as it is made of rows, one after another.
+-- Laws of assembling a campaign from its rows, one after another.
 use Rattle.std.proofs.Common.{◌≡◌, ◌≢◌, ◌==◌, ℕ, zero, suc, ◌≤◌, ◌<◌, ◌&&◌, ◌||◌, List, [], ◌∷◌, Bool, true, false, cond, filter, length, get_or, Some, None, nat_le, refl, sym, ap, subst, ◌∙◌, arith, inl, inr}
 use Rattle.std.specs.Prelude.{ℤ, pos, negsuc, min, Result, Ok, Err, IfOk, IsUtf8}
 use Rattle.std.specs.List.{list_all}
@@ -16,9 +16,11 @@ use Rattle.atl_state.specs.RowRules.{is_from, has_in_range}
 
 -- ---- what stands under a number after an insertion
 
+-- a value put under a number is found there
 pub get_same : {V : Type 0} (m : FinMap nat_cmp V) (k : ℕ) (v : V) → get (insert m k v) k ≡ Some v
 get_same m k v = get-insert nat_cmp_total m k v k ∙ ap (λ b. cond b (Some v) (get m k)) ((eq_by_cmp_equiv nat_cmp_total).refl k)
 
+-- different numbers do not compare equal
 other_key : (n k : ℕ) → n ≢ k → eq_by_cmp nat_cmp n k ≡ false
 other_key n k h = elim (nat_cmp n k) as (λ r. nat_cmp n k ≡ r → is_eq r ≡ false) [
   | Less ↦ λ _. refl
@@ -26,22 +28,25 @@ other_key n k h = elim (nat_cmp n k) as (λ r. nat_cmp n k ≡ r → is_eq r ≡
   | Greater ↦ λ _. refl
 ] refl
 
+-- a value put under a number changes nothing under another
 pub get_other : {V : Type 0} (m : FinMap nat_cmp V) (k n : ℕ) (v : V) → n ≢ k → get (insert m k v) n ≡ get m n
 get_other m k n v h = get-insert nat_cmp_total m k v n ∙ ap (λ b. cond b (Some v) (get m n)) (other_key n k h)
 
 -- ---- what units have, and regions in stock
 
 module _ {R : Type 0} (thing amount : R → ℕ) (test : R → Bool) where
+  -- one row more is put where it passes the test, and else changes nothing
   pub taken_or_not : (r : R) (rows : List R) (b : Bool) (m : FinMap nat_cmp ℕ) → test r ≡ b → put_rows thing amount (filter test (r ∷ rows)) m ≡ put_rows thing amount (filter test rows) (cond b (insert m (thing r) (amount r)) m)
   taken_or_not r rows true m h = ap (λ b. put_rows thing amount (cond b (r ∷ filter test rows) (filter test rows)) m) h
   taken_or_not r rows false m h = ap (λ b. put_rows thing amount (cond b (r ∷ filter test rows) (filter test rows)) m) h
 
 -- ---- what is said of rows in their ranges
 
+-- the minimum of a number and a bound that it is within is the number
 pub min_small : (n most : ℕ) → n ≤ most → min n most ≡ n
 min_small n most h = grind arith
 
--- a number in its range is read as it is
+-- a number of a row that is in its range is read as it is
 pub from_range : (low high : ℕ) (z : ℤ) → high ≤ most_u32 → is_from low high z ≡ true → (z ≡ pos (as_u32 z)) × (low ≤ as_u32 z) × (as_u32 z ≤ high)
 from_range low high (pos n) h e =
     let parts = and_parts (nat_le low n) (nat_le n high) e in
@@ -51,36 +56,45 @@ from_range low high (pos n) h e =
     (ap pos (sym same), rw same least, rw same most)
 from_range low high (negsuc n) h e = absurd (false≢true e)
 
+-- the number of the item or skill in a row of a unit's goods, as it is read
 abbrev thing_of : StoredHas → ℕ
 thing_of r = as_u32 r.thing
 
+-- the amount in a row of a unit's goods, as it is read
 abbrev amount_of : StoredHas → ℕ
 amount_of r = as_u32 r.amount
 
+-- a kind that is read as 0 is not that of skills, 1
 is_skill : (z : ℤ) → as_u32 z ≡ 0 → is_from 1 1 z ≡ false
 is_skill (pos zero) h = refl
 is_skill (pos (suc n)) h = absurd (grind arith)
 is_skill (negsuc n) h = refl
 
+-- an or whose first part is false holds by its second
 or_right : (b c : Bool) → b ≡ false → (b || c) ≡ true → c ≡ true
 or_right true c h e = absurd (false≢true (sym h))
 or_right false c h e = e
 
+-- numbers that pass the test of equality are equal
 pub is_same : (m n : ℕ) → (m == n) ≡ true → m ≡ n
 is_same m n h = grind (arith, nat_tests)
 
+-- a row of an item that is in range has an amount from 1 to holding_limit
 pub item_amount : (r : StoredHas) → has_in_range r ≡ true → as_u32 r.sort ≡ 0 → (1 ≤ amount_of r) × (amount_of r ≤ holding_limit)
 item_amount r h sort =
     let item = or_right (is_from 1 1 r.sort) (is_from 0 0 r.sort && is_from 1 holding_limit r.amount) (is_skill r.sort sort) h in
     let range = from_range 1 holding_limit r.amount (omega arith) (and_parts (is_from 0 0 r.sort) (is_from 1 holding_limit r.amount) item).1 in
     (range.1, range.2)
 
+-- a row that is of unit n's items and in range has an amount from 1 to holding_limit
 good_amount : (n : ℕ) (r : StoredHas) → has_in_range r ≡ true → is_of n 0 r ≡ true → (1 ≤ amount_of r) × (amount_of r ≤ holding_limit)
 good_amount n r h of = item_amount r h (is_same (as_u32 r.sort) 0 (and_parts (as_u32 r.unit == n) (as_u32 r.sort == 0) of).1)
 
+-- equal Some's have equal numbers
 some_same : (a b : ℕ) → Some a ≡ Some b → a ≡ b
 some_same a b e = cc
 
+-- amounts of items stay within their limits once one within them is put in
 AreAmounts-insert : (m : FinMap nat_cmp ℕ) (k v : ℕ) → (1 ≤ v) × (v ≤ holding_limit) → AreAmounts m → AreAmounts (insert m k v)
 AreAmounts-insert m k v h old item amount e =
     elim (cases_eq item k) [
@@ -90,35 +104,40 @@ AreAmounts-insert m k v h old item amount e =
       | inr apart ↦ old item amount (sym (get_other m k item v apart) ∙ e)
     ]
 
+-- amounts of items stay within their limits whether a row in range is put in or not
 chosen : (n : ℕ) (r : StoredHas) (m : FinMap nat_cmp ℕ) (b : Bool) → is_of n 0 r ≡ b → has_in_range r ≡ true → AreAmounts m → AreAmounts (cond b (insert m (thing_of r) (amount_of r)) m)
 chosen n r m true of h old = AreAmounts-insert m (thing_of r) (amount_of r) (good_amount n r h of) old
 chosen n r m false of h old = old
 
+-- amounts of items stay within their limits once rows in range are put in
 put_good : (n : ℕ) (rows : List StoredHas) (m : FinMap nat_cmp ℕ) → list_all has_in_range rows ≡ true → AreAmounts m → AreAmounts (put_rows thing_of amount_of (filter (is_of n 0) rows) m)
 put_good n [] m h old = old
 put_good n (r ∷ rows) m h old =
     let parts = and_parts (has_in_range r) (list_all has_in_range rows) h in
     subst AreAmounts (sym (taken_or_not thing_of amount_of (is_of n 0) r rows (is_of n 0 r) m refl)) (put_good n rows (cond (is_of n 0 r) (insert m (thing_of r) (amount_of r)) m) parts.1 (chosen n r m (is_of n 0 r) refl parts.0 old))
 
+-- None is not Some
 no_some : (x : ℕ) → None ≡ Some x → ⊥
 no_some x e = cc
 
--- nothing is within the limits
+-- the empty map lists no amount, so each is within its limits
 pub none_held : (item amount : ℕ) → get (empty {X = ℕ} {R = nat_cmp}) item ≡ Some amount → (1 ≤ amount) × (amount ≤ holding_limit)
 none_held item amount e = absurd (no_some amount (sym (get-empty nat_cmp item) ∙ e))
 
--- what units hold is within the limits
+-- the items that rows in range say a unit has are within their limits
 pub AreAmounts-had : (n : ℕ) (rows : List StoredHas) → list_all has_in_range rows ≡ true → AreAmounts (things_had n 0 rows)
 AreAmounts-had n rows h = put_good n rows empty h none_held
 
 -- ---- texts
 
+-- a text made of bytes that are UTF-8 has these bytes
 pub IfOk-text : {E : Type 0} (r : Result (List ℕ) E) (some bytes : List ℕ) → some ≡ bytes → IsUtf8 bytes → IfOk r (λ made. IsUtf8 some → made ≡ some) → IfOk r (λ made. made ≡ bytes)
 IfOk-text (Ok made) some bytes e h f = f (subst IsUtf8 (sym e) h) ∙ e
 IfOk-text (Err x) some bytes e h f = tt
 
 -- ---- what is so of each row
 
+-- what all rows pass, the row at an index passes
 pub at_row : {R : Type 0} (p : R → Bool) (rows : List R) (i : ℕ) (r : R) → i < length rows → r ≡ get_or rows i r → list_all p rows ≡ true → p r ≡ true
 at_row p [] i r h is all = absurd (omega arith)
 at_row p (x ∷ rows) zero r h is all = ap p is ∙ (and_parts (p x) (list_all p rows) all).0

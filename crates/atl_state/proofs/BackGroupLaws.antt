@@ -1,4 +1,4 @@
--- Rows of groups in any order, and the amounts that they say of each group.
+-- Laws of reading groups back (the goods of a unit, the stocks of a region) from rows in any order.
 use Rattle.std.proofs.Common.{◌≡◌, ◌<◌, ℕ, List, [], ◌∷◌, Bool, true, false, not, filter, Some, sym, ap, ◌∙◌}
 use Rattle.std.specs.List.{flat_map, AllByRecursion, IsDistinct}
 use Rattle.std.specs.List.Sorted.{IsPermutation}
@@ -16,10 +16,12 @@ use Rattle.atl_state.proofs.OrderLaws.{Apart, rows_found}
 -- ---- what is so of each of a list that is made of others
 
 module _ {X R : Type 0} (P : R → Type 0) (f : X → List R) where
+  -- what is so of each element of each list is so of those of all lists together
   pub flat_each : (xs : List X) → AllByRecursion (λ x. AllByRecursion P (f x)) xs → AllByRecursion P (flat_map f xs)
   flat_each [] h = tt
   flat_each (x ∷ xs) h = append_each P (f x) (flat_map f xs) h.0 (flat_each xs h.1)
 
+  -- what is so of the elements of all lists together is so of each element of each list
   pub each_flat : (xs : List X) → AllByRecursion P (flat_map f xs) → AllByRecursion (λ x. AllByRecursion P (f x)) xs
   each_flat [] h = tt
   each_flat (x ∷ xs) h = let both = each_appended P (f x) (flat_map f xs) h in (both.0, each_flat xs both.1)
@@ -27,42 +29,51 @@ module _ {X R : Type 0} (P : R → Type 0) (f : X → List R) where
 -- ---- the rows of all groups
 
 module _ {U R : Type 0} (f : ℕ × U → List R) (P : R → Type 0) where
+  -- what is so of each row of each entry is so of each row of each element, with entries as pairs
   of_each : (es : List (ℕ × U)) → EachOf (λ n u. AllByRecursion P (f (n, u))) es → AllByRecursion (λ e. AllByRecursion P (f e)) es
   of_each [] h = tt
   of_each (e ∷ es) h = (h.0, of_each es h.1)
 
+  -- the converse of of_each
   each_of : (es : List (ℕ × U)) → AllByRecursion (λ e. AllByRecursion P (f e)) es → EachOf (λ n u. AllByRecursion P (f (n, u))) es
   each_of [] h = tt
   each_of (e ∷ es) h = (h.0, each_of es h.1)
 
+  -- what is so of each row of each group is so of each row of all groups
   pub groups_each : (units : FinMap nat_cmp U) → Every (λ n u. AllByRecursion P (f (n, u))) units → AllByRecursion P (flat_map f (entries units))
   groups_each units h = flat_each P f (entries units) (of_each (entries units) (each-from_every (λ n u. AllByRecursion P (f (n, u))) units h))
 
+  -- what is so of each row of all groups is so of each row of each group
   pub each_group : (units : FinMap nat_cmp U) → AllByRecursion P (flat_map f (entries units)) → Every (λ n u. AllByRecursion P (f (n, u))) units
   each_group units h = every-from_each (λ n u. AllByRecursion P (f (n, u))) units (each_of (entries units) (each_flat P f (entries units) h))
 
 -- ---- the rows of a group: of each amount that is not 0
 
 module _ {R : Type 0} (none : R → Bool) (row : ℕ → ℕ → R) (m : FinMap nat_cmp ℕ) where
+  -- the rows of a group: one for each amount that is not 0
   abbrev lines : List R
   lines = filter (λ r. not (none r)) (rows_by row (entries m))
 
+  -- what is so of the row of each amount that is not 0 is so of each row of the group
   pub lines_each : (P : R → Type 0) → Every (λ i a. none (row i a) ≡ false → P (row i a)) m → AllByRecursion P lines
   lines_each P h = kept (λ r. not (none r)) P (rows_by row (entries m)) (rows_every row (λ r. not (none r) ≡ true → P r) m (λ i a is some. h i a is (not-true (none (row i a)) some)))
 
+  -- what is so of each row of the group is so of the row of each amount that is not 0
   pub each_line : (P : R → Type 0) → AllByRecursion P lines → Every (λ i a. none (row i a) ≡ false → P (row i a)) m
   each_line P h i a is some = every_row row (λ r. not (none r) ≡ true → P r) m (unkept (λ r. not (none r)) P (rows_by row (entries m)) h) i a is (not_from_false (none (row i a)) some)
 
+  -- the rows of a group differ by e, if those of different things do
   pub lines_apart : (e : R → R → Bool) → ((i k a b : ℕ) → i < k → e (row i a) (row k b) ≡ false) → IsDistinct e lines
   lines_apart e apart = filter_apart (λ r. not (none r)) e (rows_by row (entries m)) (rows_apart row e apart (entries m) (entries_rise m))
 
 -- ---- the amounts of a group
 
 module _ {R : Type 0} (thing amount : R → ℕ) (mine : R → Bool) (m : FinMap nat_cmp ℕ) (listed rows : List R) (same : IsPermutation listed rows) where
+  -- the map has the row's amount under the row's thing
   abbrev IsIn : FinMap nat_cmp ℕ → R → Type 0
   IsIn k r = get k (thing r) ≡ Some (amount r)
 
-  -- where each row of the group is of the map, and each amount of the map has a row of the group, the rows say the map
+  -- rows whose amounts are all in the map, and that have one for each of it, are read back as the map
   pub amounts_back : Apart thing (filter mine rows) → AllByRecursion (λ r. mine r ≡ true → IsIn m r) listed
       → ((P : R → Type 0) → AllByRecursion (λ r. mine r ≡ true → P r) listed → Every (λ i a. (r : R) × (thing r ≡ i) × (amount r ≡ a) × P r) m) → by_number thing amount (filter mine rows) ≡ m
   amounts_back apart of there =

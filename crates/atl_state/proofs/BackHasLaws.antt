@@ -1,4 +1,4 @@
--- The rows of what units have in any order, and what they say of each unit.
+-- Laws of reading back what units have: from its rows, in any order, each unit's items and days.
 use Rattle.std.proofs.Common.{◌≡◌, ◌==◌, ℕ, zero, suc, ◌≤◌, ◌<◌, ◌&&◌, List, [], ◌∷◌, Bool, true, false, Some, refl, sym, ap, ◌∙◌, arith}
 use Rattle.std.specs.Prelude.{pos}
 use Rattle.std.specs.List.{AllByRecursion, IsDistinct}
@@ -19,30 +19,33 @@ use Rattle.atl_state.proofs.AssemblyLaws.{is_same}
 use Rattle.atl_state.proofs.BackGroupLaws.{groups_each, each_group, lines_each, each_line, lines_apart, amounts_back}
 use Rattle.atl_state.proofs.HasLaws.{IsKeyed, same, things_apart}
 
--- what a unit has of a sort: items, or days of study
+-- a unit's items (kind 0) or days of study (kind 1)
 abbrev pub goods_of : ℕ → Unit → FinMap nat_cmp ℕ
 goods_of zero u = u.holding.items
 goods_of (suc n) u = u.holding.days
 
 -- ---- the rows of all units
 
+-- whether a row's amount is 0
 abbrev none : StoredHas → Bool
 none r = is_zero r.amount
 
+-- the rows of what a unit has
 abbrev held : ℕ × Unit → List StoredHas
 held e = held_rows e.0 e.1.holding
 
--- of a unit and a sort no thing has two rows
+-- of one unit and kind no thing has two rows
 sort_apart : (n sort : ℕ) (m : FinMap nat_cmp ℕ) → IsDistinct (λ a b. same (has_key a) (has_key b)) (rows_of_sort n sort (entries m))
 sort_apart n sort m =
     lines_apart none (has_row n sort) m (λ a b. same (has_key a) (has_key b)) (λ i k a b l. apart_keys (has_key (has_row n sort i a)) (has_key (has_row n sort k b)) (λ keys. let one = same_size i k keys.third in omega arith))
 
 module _ (units : FinMap nat_cmp Unit) where
-  -- what is so of everything that a unit has is so of each row
+  -- what is so of the row of everything that units have is so of each row
   pub has_each : (P : StoredHas → Type 0) → Every (λ n u. (s : ℕ) → s < 2 → Every (λ i a. is_zero (pos a) ≡ false → P (has_row n s i a)) (goods_of s u)) units → AllByRecursion P (has_rows (entries units))
   has_each P h = groups_each held P units (λ n u is.
       append_each P (rows_of_sort n 0 (entries u.holding.items)) (rows_of_sort n 1 (entries u.holding.days)) (lines_each none (has_row n 0) u.holding.items P (h n u is 0 (omega arith))) (lines_each none (has_row n 1) u.holding.days P (h n u is 1 (omega arith))))
 
+  -- what is so of each row is so of the row of everything that units have
   pub each_had : (P : StoredHas → Type 0) → AllByRecursion P (has_rows (entries units)) → Every (λ n u. (s : ℕ) → s < 2 → Every (λ i a. is_zero (pos a) ≡ false → P (has_row n s i a)) (goods_of s u)) units
   each_had P h n u is = of_sort (each_appended P (rows_of_sort n 0 (entries u.holding.items)) (rows_of_sort n 1 (entries u.holding.days)) (each_group held P units h n u is))
     where
@@ -51,19 +54,23 @@ module _ (units : FinMap nat_cmp Unit) where
       of_sort both (suc zero) l = each_line none (has_row n 1) u.holding.days P both.1
       of_sort both (suc (suc s)) l = absurd (omega arith)
 
+  -- a row of kind 0 has another key than rows of kind 1
   sorts_differ : (a : StoredHas) (ys : List StoredHas) → a.sort ≡ pos 0 → AllByRecursion (λ b. b.sort ≡ pos 1) ys → AllByRecursion (λ b. same (has_key a) (has_key b) ≡ false) ys
   sorts_differ a [] item h = tt
   sorts_differ a (b ∷ ys) item h = (apart_keys (has_key a) (has_key b) (λ k. let one = same_size 0 1 (sym item ∙ k.second ∙ h.0) in omega arith), sorts_differ a ys item h.1)
 
+  -- rows of kind 0 have other keys than rows of kind 1
   all_differ : (xs ys : List StoredHas) → AllByRecursion (λ a. a.sort ≡ pos 0) xs → AllByRecursion (λ b. b.sort ≡ pos 1) ys → AllByRecursion (λ a. AllByRecursion (λ b. same (has_key a) (has_key b) ≡ false) ys) xs
   all_differ [] ys h k = tt
   all_differ (a ∷ xs) ys h k = (sorts_differ a ys h.0 k, all_differ xs ys h.1 k)
 
+  -- the rows of one unit have distinct keys
   held_apart : (n : ℕ) (u : Unit) → IsDistinct (λ a b. same (has_key a) (has_key b)) (held_rows n u.holding)
   held_apart n u =
       append_apart (λ a b. same (has_key a) (has_key b)) (rows_of_sort n 0 (entries u.holding.items)) (rows_of_sort n 1 (entries u.holding.days)) (sort_apart n 0 u.holding.items) (sort_apart n 1 u.holding.days)
       (all_differ (rows_of_sort n 0 (entries u.holding.items)) (rows_of_sort n 1 (entries u.holding.days)) (lines_each none (has_row n 0) u.holding.items (λ r. r.sort ≡ pos 0) (λ i a is some. refl)) (lines_each none (has_row n 1) u.holding.days (λ r. r.sort ≡ pos 1) (λ i a is some. refl)))
 
+  -- the rows of all units have distinct keys
   has_apart : IsDistinct (λ a b. same (has_key a) (has_key b)) (has_rows (entries units))
   has_apart =
       flat_apart (λ a b. same (has_key a) (has_key b)) (λ (e : ℕ × Unit). held_rows e.0 e.1.holding) (λ e f. e.0 < f.0) (λ e r. r.unit ≡ pos e.0)
@@ -71,15 +78,17 @@ module _ (units : FinMap nat_cmp Unit) where
       (λ e. append_each (λ r. r.unit ≡ pos e.0) (rows_of_sort e.0 0 (entries e.1.holding.items)) (rows_of_sort e.0 1 (entries e.1.holding.days)) (lines_each none (has_row e.0 0) e.1.holding.items (λ r. r.unit ≡ pos e.0) (λ i a is some. refl)) (lines_each none (has_row e.0 1) e.1.holding.days (λ r. r.unit ≡ pos e.0) (λ i a is some. refl)))
       (λ e. held_apart e.0 e.1) (entries units) (entries_rise units)
 
-  -- what units have is written and read as it is
+  -- the numbers of units and things fit 32 bits, and each amount is from 1 to most_u32
   pub record AreHad : Type 0 where
     pub numbers : Every (λ n u. n ≤ most_u32) units
     pub goods : Every (λ n u. (s : ℕ) → s < 2 → Every (λ i a. (i ≤ most_u32) × (1 ≤ a) × (a ≤ most_u32)) (goods_of s u)) units
 
   module _ (had : AreHad) (rows : List StoredHas) (h : IsPermutation (has_rows (entries units)) rows) where
+    -- the rows, in any order, have distinct keys
     pub has_keys : HaveKeys has_key rows
     has_keys = keys_permuted has_key (has_rows (entries units)) rows h has_apart
 
+    -- the keys of the rows, in any order, are read as they are
     pub all_keyed : AllByRecursion IsKeyed rows
     all_keyed =
         each_permuted IsKeyed (has_rows (entries units)) rows h (has_each IsKeyed (λ n u there s few i a is some. record {
@@ -88,21 +97,26 @@ module _ (units : FinMap nat_cmp Unit) where
           thing = written_whole i (had.goods n u there s few i a is).0;
         }))
 
+    -- an amount of at least 1 is not 0
     nonzero : (a : ℕ) → 1 ≤ a → is_zero (pos a) ≡ false
     nonzero a l = grind (arith, nat_tests)
 
+    -- equal Some's have equal units
     some_same : (u v : Unit) → Some u ≡ Some v → u ≡ v
     some_same u v e = cc
 
+    -- the numbers of a row of unit n and this kind
     record Of (n sort k s : ℕ) : Type 0 where
       unit : k ≡ n
       kind : s ≡ sort
 
+    -- a row that is of unit n and this kind has these numbers
     of_row : (n sort k s i a : ℕ) → k ≤ most_u32 → s < 2 → is_of n sort (has_row k s i a) ≡ true → Of n sort k s
     of_row n sort k s i a few l e =
         let both = and_parts (as_u32 (pos k) == n) (as_u32 (pos s) == sort) e in
         record { unit = sym (read_whole k few) ∙ is_same (as_u32 (pos k)) n both.0; kind = sym (read_whole s (omega arith)) ∙ is_same (as_u32 (pos s)) sort both.1 }
 
+    -- a unit's row of a kind is of that unit and kind
     of_itself : (n s i a : ℕ) → n ≤ most_u32 → s < 2 → is_of n s (has_row n s i a) ≡ true
     of_itself n s i a few l =
         let unit : (as_u32 (pos n) == n) ≡ true = let e = read_whole n few in grind (arith, nat_tests) in
@@ -110,7 +124,7 @@ module _ (units : FinMap nat_cmp Unit) where
         ap (λ b. b && (as_u32 (pos s) == s)) unit ∙ kind
 
     module _ (n : ℕ) (u : Unit) (there : get units n ≡ Some u) (sort : ℕ) (few : sort < 2) where
-      -- what the rows say of a unit is what it has
+      -- the things of a kind that the rows say a unit has are those that it has
       pub goods_back : things_had n sort rows ≡ goods_of sort u
       goods_back =
           amounts_back (λ r. as_u32 r.thing) (λ r. as_u32 r.amount) (is_of n sort) (goods_of sort u) (has_rows (entries units)) rows h (things_apart n sort rows all_keyed has_keys)

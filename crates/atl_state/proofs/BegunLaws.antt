@@ -1,4 +1,4 @@
--- How a campaign changes as a structure is begun, and as more of one is done.
+-- Laws of structures begun and built on: the campaign stays steady, totals stay, and what changed is marked.
 use Rattle.std.proofs.Common.{◌≡◌, ◌≢◌, ℕ, ◌+◌, ◌≤◌, ◌<◌, true, false, cond, length, Some, None, refl, sym, ap, subst, ◌∙◌, inl, inr, arith, true≢false}
 use Rattle.std.specs.Prelude.{IsTrue, is_some}
 use Rattle.std.proofs.lemmas.Bool.{cases_eq}
@@ -23,7 +23,7 @@ use Rattle.atl_state.proofs.RegionLaws.{changed-known, get-insert_same, same_len
 
 -- ---- a structure more
 
--- a structure that can be begun: on land, with a name and without an owner, and some of it is done
+-- a structure that can be begun: on land, with a good name and no owner, and partly or fully done
 pub record IsFresh (w : WorldValue) (c : CampaignValue) (s : Structure) : Type 0 where
   pub kind : s.kind < length w.kinds
   pub name : IsTrue (name_ok s.name)
@@ -34,24 +34,31 @@ pub record IsFresh (w : WorldValue) (c : CampaignValue) (s : Structure) : Type 0
   pub ownerless : s.owner ≡ 0
 
 module _ (w : WorldValue) (c : CampaignValue) (s : Structure) (fresh : IsFresh w c s) (room : c.next_structure ≤ most_structures) (old : IsSteady w c) where
+  -- the number of the new structure
   abbrev next : ℕ
   next = c.next_structure
 
+  -- the structures with the new one
   abbrev structures : FinMap nat_cmp Structure
   structures = insert c.structures next s
 
+  -- the campaign with the new structure, and the next number one higher
   abbrev pub raised : CampaignValue
   raised = with_structure_begun c s
 
+  -- the next number has no structure yet
   free : get c.structures next ≡ None
   free = old.next.structures.free next (omega arith)
 
+  -- a structure that was there stays
   stays : (k : ℕ) (y : Structure) → get c.structures k ≡ Some y → get structures k ≡ Some y
   stays k y there = get-insert_other c.structures next k s (λ same. none_some y (sym free ∙ ap (get c.structures) (sym same) ∙ there)) ∙ there
 
+  -- there is one structure more
   one_more : len structures ≡ len c.structures + 1
   one_more = len-insert nat_cmp_total c.structures next s ∙ ap (λ o. cond (is_some o) (len c.structures) (len c.structures + 1)) free
 
+  -- the numbers of the campaign stay in range
   numbers_kept : AreInRange w raised
   numbers_kept = record {
     month = old.numbers.month;
@@ -68,9 +75,11 @@ module _ (w : WorldValue) (c : CampaignValue) (s : Structure) (fresh : IsFresh w
     books = old.numbers.books;
   }
 
+  -- the new structure has no owner
   nobody : {P : Type 0} → s.owner ≢ 0 → P
   nobody some = absurd (some fresh.ownerless)
 
+  -- everything that is named by its number still exists
   known_kept : AreKnown w raised
   known_kept = record {
     regions = old.known.regions;
@@ -83,6 +92,7 @@ module _ (w : WorldValue) (c : CampaignValue) (s : Structure) (fresh : IsFresh w
     posts = old.known.posts;
   }
 
+  -- factions and structures are still numbered without a gap, and no unit has a number from the next on
   next_kept : AreNumbered raised
   next_kept =
       let numbered = old.next.structures in
@@ -96,23 +106,26 @@ module _ (w : WorldValue) (c : CampaignValue) (s : Structure) (fresh : IsFresh w
         units = old.next.units;
       }
 
-  -- no unit is inside a structure that isn't there
+  -- no unit is inside the structure with the next number
   pub nobody_inside : Every (λ m v. v.structure ≢ next) c.units
   nobody_inside m v there here =
       let (y, at, region) = (old.known.units m v there).structure (λ none. omega (arith, none, here, old.next.structures.count)) in
       none_some y (sym free ∙ ap (get c.structures) (sym here) ∙ at)
 
+  -- structures are still owned by units inside them
   owners_kept : AreOwned raised
   owners_kept =
       every-insert (λ k x. IsOwned raised k x) c.structures next s (record { owned = λ some. nobody some; ownerless = λ none. nobody_inside })
       old.owners
 
+  -- what is on water is still afloat
   water_kept : AreAfloat w raised
   water_kept = record {
     units = λ k x there wet. let (y, at, ship) = old.water.units k x there wet in (y, stays x.structure y at, ship);
     structures = every-insert (λ k x. is_land_at w x.region ≡ false → (is_ship w x ≡ true) × (x.done ≡ size_of w x.kind)) c.structures next s (λ wet. absurd (true≢false (sym fresh.land ∙ wet))) old.water.structures;
   }
 
+  -- the campaign stays steady once a fresh structure is begun
   pub steady_raised : IsSteady w raised
   steady_raised = record {
     numbers = numbers_kept;
@@ -132,14 +145,16 @@ module _ (w : WorldValue) (c : CampaignValue) (s : Structure) (fresh : IsFresh w
     guarded = old.guarded;
   }
 
+  -- no total changes when a structure is begun
   pub total_raised : (t : Thing) → total raised t ≡ total c t
   unfolding total
   total_raised t = refl
 
+  -- the new structure is there under the next number
   pub raised_there : get raised.structures next ≡ Some s
   raised_there = get-insert_same c.structures next s
 
--- what is marked
+-- beginning a structure marks what changes
 pub marks-raised : (c : MarkedCampaign) (s : Structure) → MarksChanges c (record { value = with_structure_begun c.value s; marks = mark_structure_begun c })
 marks-raised c s =
     let n = c.value.next_structure in
@@ -155,17 +170,20 @@ marks-raised c s =
 -- ---- more of a structure is done
 
 module _ (w : WorldValue) (c : CampaignValue) (k : ℕ) (s : Structure) (done : ℕ) (is : get c.structures k ≡ Some s) where
+  -- the structure with more of it done
   abbrev further : Structure
   further = record s { done = done }
 
+  -- the campaign with more of structure k done
   abbrev pub built : CampaignValue
   built = record c { structures = insert c.structures k further }
 
+  -- with_done gives the campaign with more of structure k done
   pub built_is : with_done c k done ≡ built
   built_is = ap (λ m. record c { structures = m }) (changed-known (λ x. record x { done = done }) c.structures k s is)
 
   module _ (more : s.done ≤ done) (most : done ≤ size_of w s.kind) (was : IsSteady w c) where
-    -- a structure that was there still is
+    -- a structure with a property that the further one keeps is still there with it
     still : (P : Structure → Type 0) → (P s → P further) → (j : ℕ) → (y : Structure) × (get c.structures j ≡ Some y) × P y → (y : Structure) × (get built.structures j ≡ Some y) × P y
     still P keep j (y, there, p) = elim (cases_eq j k) [
       | inl same ↦
@@ -175,6 +193,7 @@ module _ (w : WorldValue) (c : CampaignValue) (k : ℕ) (s : Structure) (done : 
       | inr apart ↦ (y, get-insert_other c.structures k j further apart ∙ there, p)
     ]
 
+    -- the numbers of the campaign stay in range
     numbers_built : AreInRange w built
     numbers_built = record {
       month = was.numbers.month;
@@ -191,6 +210,7 @@ module _ (w : WorldValue) (c : CampaignValue) (k : ℕ) (s : Structure) (done : 
       books = was.numbers.books;
     }
 
+    -- everything that is named by its number still exists
     known_built : AreKnown w built
     known_built = record {
       regions = was.known.regions;
@@ -203,9 +223,11 @@ module _ (w : WorldValue) (c : CampaignValue) (k : ℕ) (s : Structure) (done : 
       posts = was.known.posts;
     }
 
+    -- a number without a structure still has none
     apart_free : (j : ℕ) → get c.structures j ≡ None → get built.structures j ≡ None
     apart_free j none = get-insert_other c.structures k j further (λ same. none_some s (sym none ∙ ap (get c.structures) same ∙ is)) ∙ none
 
+    -- factions and structures are still numbered without a gap, and no unit has a number from the next on
     next_built : AreNumbered built
     next_built = record {
       factions = was.next.factions;
@@ -217,15 +239,17 @@ module _ (w : WorldValue) (c : CampaignValue) (k : ℕ) (s : Structure) (done : 
       units = was.next.units;
     }
 
+    -- structures are still owned by units inside them
     owners_built : AreOwned built
     owners_built =
         every-insert (λ j x. IsOwned built j x) c.structures k further (let o = was.owners k s is in record { owned = o.owned; ownerless = o.ownerless })
         was.owners
 
-    -- on water it was complete before
+    -- a structure that was complete still is
     complete : s.done ≡ size_of w s.kind → done ≡ size_of w s.kind
     complete e = omega (arith, e, more, most)
 
+    -- what is on water is still afloat
     water_built : AreAfloat w built
     water_built = record {
       units = λ j x there wet. still (λ y. is_ship w y ≡ true) (λ ship. ship) x.structure (was.water.units j x there wet);
@@ -233,6 +257,7 @@ module _ (w : WorldValue) (c : CampaignValue) (k : ℕ) (s : Structure) (done : 
           (λ wet. let (ship, all) = was.water.structures k s is wet in (ship, complete all)) was.water.structures;
     }
 
+    -- the campaign stays steady when more of a structure is done, up to its kind's size
     pub steady_built : IsSteady w built
     steady_built = record {
       numbers = numbers_built;
@@ -252,6 +277,7 @@ module _ (w : WorldValue) (c : CampaignValue) (k : ℕ) (s : Structure) (done : 
       guarded = was.guarded;
     }
 
+    -- no total changes when more of a structure is done
     pub total_built : (t : Thing) → total built t ≡ total c t
     unfolding total
     total_built t = refl

@@ -1,4 +1,4 @@
--- The books, as the rows say them and as the campaign lists them.
+-- Laws of the rows of books: those of the books assembled from rows are these rows, in another order.
 use Rattle.std.proofs.Common.{◌≡◌, ◌≢◌, ℕ, ◌≤◌, ◌<◌, ◌+◌, ◌-◌, ◌++◌, List, [], ◌∷◌, true, false, cond, map, Some, None, refl, sym, ap, subst, ◌∙◌, arith, inl, inr}
 use Rattle.std.specs.Prelude.{pos, ℤ, nat_lt}
 use Rattle.std.specs.declared.cmp.Ordering.TheVariants.{Less, Equal, Greater}
@@ -27,6 +27,7 @@ use Rattle.atl_state.proofs.HasLaws.{IsWhole, same, ties_itself}
 
 -- ---- an amount more
 
+-- an entry put under a new account is one more, in another order
 put_new : (a : Account) (z : ℤ) (es : List (Account × ℤ)) → find account_cmp a es ≡ None → IsPermutation (put account_cmp a z es) ((a, z) ∷ es)
 put_new a z [] h = IsPermutation-refl ((a, z) ∷ [])
 put_new a z (e ∷ es) h =
@@ -37,10 +38,11 @@ put_new a z (e ∷ es) h =
           IsPermutation-trans (e ∷ put account_cmp a z es) (e ∷ (a, z) ∷ es) ((a, z) ∷ e ∷ es) (IsPermutation-append_right (e ∷ []) (put account_cmp a z es) ((a, z) ∷ es) (put_new a z es is)) (IsPermutation-middle (e ∷ []) (a, z) es)
     ] h
 
+-- the row of an account and its amount
 abbrev line : Account × ℤ → StoredBooks
 line x = books_row x.0.0 x.0.1 x.1
 
--- the amount has a row, beside those of before
+-- an amount set where none was gives one row more, in another order
 one_amount : (books : BooksValue) (a : Account) (z : ℤ) → get books.amounts a ≡ None → z ≢ pos 0 → IsPermutation (books_rows (with_amount books a.0 a.1 z)) (line (a, z) ∷ books_rows books)
 one_amount books a z none some =
     let m = books.amounts in
@@ -49,7 +51,7 @@ one_amount books a z none some =
 
 -- ---- the amounts of rows, one after another
 
--- a row of an account that is there, with an amount that is not 0
+-- a row of an account of these things, with an amount that is not 0, read as it is
 pub record IsBooked (things : ℕ) (r : StoredBooks) : Type 0 where
   pub account : Account
   pub row : books_row account.0 account.1 r.amount ≡ r
@@ -58,9 +60,11 @@ pub record IsBooked (things : ℕ) (r : StoredBooks) : Type 0 where
   pub there : as_u32 r.thing < things
   pub some : r.amount ≢ pos 0
 
+-- one less and one more is the same number, from 1 on
 one_up : (n i : ℕ) → 1 ≤ n → i ≡ n - 1 → i + 1 ≡ n
 one_up n i h e = omega arith
 
+-- a row whose numbers are read as they are, with entry and thing in range and an amount other than 0, is booked
 pub booked_row : (things : ℕ) (r : StoredBooks) → IsWhole r.entry → IsWhole r.thing → 1 ≤ as_u32 r.entry → as_u32 r.entry ≤ entry_count → as_u32 r.thing < things → r.amount ≢ pos 0 → IsBooked things r
 booked_row things r entry thing least most there some =
     let (e, at) = entry_at (as_u32 r.entry - 1) (omega arith) in
@@ -76,9 +80,11 @@ booked_row things r entry thing least most there some =
       some = some;
     }
 
+-- the thing of a booked row's account is one of these things
 pub account_there : (things : ℕ) (r : StoredBooks) (h : IsBooked things r) → thing_index h.account.1 < things
 account_there things r h = let is = sym (ap thing_index h.numbered) ∙ place_at (as_u32 r.thing) in omega (arith, is, h.there)
 
+-- assembling a booked row sets the amount of its account
 pub with_booked_row : (things : ℕ) (books : BooksValue) (r : StoredBooks) → AreBooks things books → (h : IsBooked things r) → with_books_row books r ≡ with_amount books h.account.0 h.account.1 r.amount
 with_booked_row things books r are h =
     let few : nat_lt (as_u32 r.thing) books.things ≡ true = let l : as_u32 r.thing < books.things = omega (arith, are.count, h.there) in grind (arith, nat_tests) in
@@ -86,13 +92,15 @@ with_booked_row things books r are h =
     ∙ ap (λ b. cond b (with_amount books h.account.0 (thing_at (as_u32 r.thing)) r.amount) books) few
     ∙ ap (λ t. with_amount books h.account.0 t r.amount) h.numbered
 
+-- the key of an account's row
 abbrev key_of : Account → Key
 key_of a = books_key (books_row a.0 a.1 (pos 0))
 
+-- the key of a booked row is that of its account
 its_key : (things : ℕ) (r : StoredBooks) (h : IsBooked things r) → ◌≡◌ {A = Key} (key_of h.account) (books_key r)
 its_key things r h = ap books_key h.row
 
--- rows with other keys are of other accounts
+-- booked rows with different keys are of different accounts
 accounts_apart : (things : ℕ) (r s : StoredBooks) (h : IsBooked things r) (k : IsBooked things s) → same (books_key r) (books_key s) ≡ false → eq_by_cmp account_cmp k.account h.account ≡ false
 accounts_apart things r s h k differ =
     elim (cases_account k.account h.account) [
@@ -100,9 +108,11 @@ accounts_apart things r s h k differ =
       | inr apart ↦ apart
     ]
 
+-- where the row is booked, the books have no amount of its account yet
 abbrev IsFree : ℕ → BooksValue → StoredBooks → Type 0
 IsFree things books r = (h : IsBooked things r) → get books.amounts h.account ≡ None
 
+-- rows with other keys are still free once a row's amount is set
 stay_free : (things : ℕ) (books : BooksValue) (r : StoredBooks) (h : IsBooked things r) (rows : List StoredBooks) → AllByRecursion (λ y. same (books_key r) y ≡ false) (map books_key rows) → AllByRecursion (IsFree things books) rows
     → AllByRecursion (IsFree things (with_amount books h.account.0 h.account.1 r.amount)) rows
 stay_free things books r h [] d free = tt
@@ -111,6 +121,7 @@ stay_free things books r h (s ∷ rows) d free = (
   stay_free things books r h rows d.1 free.1,
 )
 
+-- rows put into books give their rows besides those of before, in another order
 put_order : (things : ℕ) (rows : List StoredBooks) (books : BooksValue) → AreBooks things books → AllByRecursion (IsBooked things) rows → IsDistinct same (map books_key rows) → AllByRecursion (IsFree things books) rows → IsPermutation (books_rows books ++ rows) (books_rows (put_amounts rows books))
 unfolding IsDistinct
 put_order things [] books are all d free = subst (λ xs. IsPermutation xs (books_rows books)) (sym (append-nil (books_rows books))) (IsPermutation-refl (books_rows books))
@@ -125,11 +136,12 @@ put_order things (r ∷ rows) books are all d free =
     (IsPermutation-trans (books_rows books ++ r ∷ rows) (r ∷ (books_rows books ++ rows)) last (IsPermutation-middle (books_rows books) r rows)
     (IsPermutation-trans (r ∷ (books_rows books ++ rows)) (books_rows new ++ rows) last step (put_order things rows new also all.1 d.1 (stay_free things books r h rows d.0 free.1))))
 
+-- all rows are free where the books are empty
 all_free : (things : ℕ) (rows : List StoredBooks) → AllByRecursion (IsFree things (no_amounts things)) rows
 all_free things [] = tt
 all_free things (r ∷ rows) = (λ h. get-empty {X = ℤ} account_cmp h.account, all_free things rows)
 
--- what the campaign lists is what the rows say
+-- the rows of the books assembled from rows are these rows, in another order
 pub books_order : (things : ℕ) (rows : List StoredBooks) → AllByRecursion (IsBooked things) rows → IsDistinct same (map books_key rows) → IsPermutation (books_rows (put_amounts rows (no_amounts things))) rows
 books_order things rows all d =
     let last = books_rows (put_amounts rows (no_amounts things)) in

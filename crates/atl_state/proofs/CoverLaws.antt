@@ -1,4 +1,4 @@
--- Changes one after the other, each of which is marked.
+-- Laws of dirty flags: they cover what changes, over one change after another and part by part.
 use Rattle.std.proofs.Common.{◌≡◌, ◌≢◌, ◌==◌, ◌||◌, ℕ, Bool, true, false, if◌then◌else◌, Option, Some, None, refl, sym, ap, ◌∙◌, arith, true≢false}
 use Rattle.std.specs.Prelude.{ℤ, List, cond, is_some, option_map, unwrap_or}
 use Rattle.std.proofs.lemmas.Bool.Decides.{nat_tests}
@@ -29,14 +29,16 @@ use Rattle.atl_records.proofs.EveryLaws.{get-insert_other}
 use Rattle.atl_records.proofs.HoldingLaws.{set_amount}
 use Rattle.atl_state.proofs.RegionLaws.{amount-other}
 
+-- what is not marked after, where marks stay, was not marked before
 without_marks : (a b : Bool) → (a ≡ true → b ≡ true) → b ≡ false → a ≡ false
 without_marks true b stays free = absurd (true≢false (sym (stays refl) ∙ free))
 without_marks false b stays free = refl
 
--- what is not marked now was not marked before
+-- a number that is not marked now was not marked before, where marks stay
 pub was_unmarked : (before after : FinSet nat_cmp) → StaysMarked before after → (n : ℕ) → contains after n ≡ false → contains before n ≡ false
 was_unmarked before after stays n free = without_marks (contains before n) (contains after n) (stays n) free
 
+-- StayMarked is transitive
 pub stay-trans : {a b c : Marks} → StayMarked a b → StayMarked b c → StayMarked a c
 stay-trans one two = record {
   factions = λ n h. two.factions n (one.factions n h);
@@ -54,7 +56,7 @@ stay-trans one two = record {
   row = λ h. two.row (one.row h);
 }
 
--- what the marks cover, and what marks that stay cover then, they cover together
+-- marks that stay cover two changes together if each is covered by its marks
 pub covers-trans : {m n : Marks} (a b c : CampaignValue) → StayMarked m n → Covers m a b → Covers n b c → Covers n a c
 covers-trans {m} {n} a b c stay one two = record {
   factions = λ k free. two.factions k free ∙ one.factions k (was_unmarked m.factions n.factions stay.factions k free);
@@ -70,48 +72,55 @@ covers-trans {m} {n} a b c stay one two = record {
   row = λ free. two.row free ∙ one.row (without_marks m.row n.row stay.row free);
 }
 
+-- MarksChanges is transitive
 pub marks-trans : (a b c : MarkedCampaign) → MarksChanges a b → MarksChanges b c → MarksChanges a c
 marks-trans a b c one two = record { stay = stay-trans one.stay two.stay; covers = covers-trans a.value b.value c.value two.stay one.covers two.covers }
 
 -- ---- one change at a time
 
+-- an or with true is true
 or-true : (b : Bool) → (b || true) ≡ true
 or-true true = refl
 or-true false = refl
 
+-- marking a number leaves all others marked
 pub put_stays : (marks : FinSet nat_cmp) (n : ℕ) → StaysMarked marks (insert marks n)
 put_stays marks n k h = contains-insert nat_cmp_total marks n k ∙ ap (λ b. eq_by_cmp nat_cmp k n || b) h ∙ or-true (eq_by_cmp nat_cmp k n)
 
+-- equal numbers compare equal
 ties : (k n : ℕ) → k ≡ n → eq_by_cmp nat_cmp k n ≡ true
 ties k n e = sym (unsigned_ties k n) ∙ (let t : (k == n) ≡ true = grind (arith, nat_tests) in t)
 
+-- a number is marked once it was put
 put_there : (marks : FinSet nat_cmp) (n k : ℕ) → k ≡ n → contains (insert marks n) k ≡ true
 put_there marks n k e = contains-insert nat_cmp_total marks n k ∙ ap (λ b. b || contains marks k) (ties k n e)
 
--- what is not marked is another one than what was just put
+-- a number that is not marked is another than the one just put
 pub apart_by : (marks : FinSet nat_cmp) (n k : ℕ) → contains (insert marks n) k ≡ false → k ≢ n
 apart_by marks n k free same = absurd (true≢false (sym (put_there marks n k same) ∙ free))
 
 -- ---- things of units
 
--- what is marked by one of two tests, where each test is as it was or says more
+-- an or holds still where each of its parts does
 both_stay : (a b c d : Bool) → (a ≡ true → b ≡ true) → (c ≡ true → d ≡ true) → (a || c) ≡ true → (b || d) ≡ true
 both_stay true b c d one two h = ap (λ x. x || d) (one refl)
 both_stay false b c d one two h = ap (λ x. b || x) (two h) ∙ or-true b
 
+-- where an or is false both parts are
 neither : (a b : Bool) → (a || b) ≡ false → (a ≡ false) × (b ≡ false)
 neither true b h = absurd (true≢false h)
 neither false b h = (refl, h)
 
--- a thing is still marked where all goods of a unit are besides, and one that is not marked then is of another unit
+-- a thing stays marked when all goods of some unit are
 pub whole_stays : (goods : FinSet nat_cmp) (things : Things) (n : ℕ) → ThingsStayMarked goods things (insert goods n) things
 whole_stays goods things n k t = both_stay (contains goods k) (contains (insert goods n) k) (is_some (get (group_of things k) t)) (is_some (get (group_of things k) t)) (put_stays goods n k) (λ h. h)
 
+-- a thing that is not marked is of another unit than one all of whose goods are
 pub apart_by_whole : (goods : FinSet nat_cmp) (things : Things) (n k t : ℕ) → is_thing_marked (insert goods n) things k t ≡ false → k ≢ n
 apart_by_whole goods things n k t free = apart_by goods n k (neither (contains (insert goods n) k) (is_some (get (group_of things k) t)) free).0
 
 module _ (goods : FinSet nat_cmp) (things : Things) (n thing : ℕ) where
-  -- what of a unit's things is marked after one of them was
+  -- once a thing of a unit is marked, just that thing is marked besides those of before
   put_in : (k t : ℕ) → is_some (get (group_of (with_thing things n thing) k) t) ≡ cond (eq_by_cmp nat_cmp k n) (eq_by_cmp nat_cmp t thing || is_some (get (group_of things n) t)) (is_some (get (group_of things k) t))
   put_in k t =
       ap (λ (o : Option (FinMap nat_cmp (Prim.Unit {0}))). is_some (get (unwrap_or o map.empty) t)) (get-insert nat_cmp_total things n (map.insert (group_of things n) thing tt) k)
@@ -126,7 +135,7 @@ module _ (goods : FinSet nat_cmp) (things : Things) (n thing : ℕ) where
       by_unit true = ap is_some (get-insert nat_cmp_total (group_of things n) thing tt t) ∙ by_thing (eq_by_cmp nat_cmp t thing) (get (group_of things n) t)
       by_unit false = refl
 
-  -- a thing is still marked where one is besides, and one that is not marked then is another
+  -- a thing stays marked when another is
   pub thing_stays : ThingsStayMarked goods things goods (with_thing things n thing)
   thing_stays k t = both_stay (contains goods k) (contains goods k) (is_some (get (group_of things k) t)) (is_some (get (group_of (with_thing things n thing) k) t)) (λ h. h) (λ h. put_in k t ∙ by_unit h (eq_by_cmp nat_cmp k n) refl)
     where
@@ -134,6 +143,7 @@ module _ (goods : FinSet nat_cmp) (things : Things) (n thing : ℕ) where
       by_unit h true e = ap (λ q. eq_by_cmp nat_cmp t thing || is_some (get (group_of things q) t)) (sym (same_key k n e)) ∙ ap (λ b. eq_by_cmp nat_cmp t thing || b) h ∙ or-true (eq_by_cmp nat_cmp t thing)
       by_unit h false e = h
 
+  -- a thing that is not marked is another than the one just marked
   pub apart_by_thing : (k t : ℕ) → is_thing_marked goods (with_thing things n thing) k t ≡ false → k ≡ n → t ≢ thing
   apart_by_thing k t free same_unit same =
       let there = put_in k t ∙ ap (λ b. cond b (eq_by_cmp nat_cmp t thing || is_some (get (group_of things n) t)) (is_some (get (group_of things k) t))) (ties k n same_unit)
@@ -142,6 +152,7 @@ module _ (goods : FinSet nat_cmp) (things : Things) (n thing : ℕ) where
 
 -- ---- the parts of a campaign, which are marked each for itself
 
+-- the parts of a campaign that have dirty sets of their own
 pub data Part : Type 0 where
   Factions : Part
   Regions : Part
@@ -157,13 +168,14 @@ pub data Part : Type 0 where
   Books : Part
   Row : Part
 
--- what a mark of a part is: of an item or a skill its unit's number and its own
+-- what a dirty set of a part holds: numbers, of items and skills the unit's number and their own
 abbrev pub Mark : Part → Type 0
 Mark Items = ℕ × ℕ
 Mark Skills = ℕ × ℕ
 Mark Row = Prim.Unit {0}
 Mark _ = ℕ
 
+-- whether something of a part is marked
 abbrev pub is_marked : (p : Part) → Marks → Mark p → Bool
 is_marked Factions m k = contains m.factions k
 is_marked Regions m k = contains m.regions k
@@ -179,7 +191,7 @@ is_marked Skills m k = is_thing_marked m.goods m.skills k.0 k.1
 is_marked Books m k = contains m.books k
 is_marked Row m k = m.row
 
--- where something of a part stands, and the mark of it
+-- what a value of a part is looked up by: a number, of stocks, items, skills and amounts a pair
 abbrev pub IndexEntry : Part → Type 0
 IndexEntry Stocks = ℕ × ℕ
 IndexEntry Items = ℕ × ℕ
@@ -188,12 +200,13 @@ IndexEntry Books = Entry × Thing
 IndexEntry Row = Prim.Unit {0}
 IndexEntry _ = ℕ
 
+-- the mark that covers a value: of a stock its region's number, of an amount its own
 abbrev pub mark_at : (p : Part) → IndexEntry p → Mark p
 mark_at Stocks k = k.0
 mark_at Books k = amount_number k.0 k.1
 mark_at _ k = k
 
--- what is shown of one; of a unit and of all its goods nothing, as its row, its items and its skills are parts of their own, as are a region's stocks
+-- the type of a part's values that its marks cover; nothing for Units and Goods, which other parts cover
 abbrev pub Shown : Part → Type 0
 Shown Factions = Option Faction
 Shown Regions = Option Region
@@ -209,6 +222,7 @@ Shown Skills = Option ℕ
 Shown Books = ℤ
 Shown Row = ℕ × (List ℕ × (ℕ × (ℕ × ℕ)))
 
+-- the value of a part under an index
 abbrev pub shown : (p : Part) → CampaignValue → IndexEntry p → Shown p
 shown Factions c k = get c.factions k
 shown Regions c k = option_map unstocked (get c.regions k)
@@ -224,13 +238,15 @@ shown Skills c k = get (days_under (get c.units k.0)) k.1
 shown Books c k = amount_in c.books k.0 k.1
 shown Row c k = own_row c
 
--- the marks of a part stay, and tell what of it changed
+-- what of a part was marked still is
 abbrev pub Stays : Marks → Marks → Part → Type 0
 Stays m n p = (k : Mark p) → is_marked p m k ≡ true → is_marked p n k ≡ true
 
+-- what of a part is not marked is the same before and after
 abbrev pub Tells : Marks → CampaignValue → CampaignValue → Part → Type 0
 Tells m before after p = (k : IndexEntry p) → is_marked p m (mark_at p k) ≡ false → shown p after k ≡ shown p before k
 
+-- MarksChanges holds if, of each part, marks stay and what is not marked is the same
 pub part_by_part : (a b : MarkedCampaign) → ((p : Part) → Stays a.marks b.marks p) → ((p : Part) → Tells b.marks a.value b.value p) → MarksChanges a b
 part_by_part a b stays tells = record {
   stay = record {
@@ -263,10 +279,11 @@ part_by_part a b stays tells = record {
   };
 }
 
+-- MarksChanges holds of a campaign and itself
 pub marks-refl : (a : MarkedCampaign) → MarksChanges a a
 marks-refl a = part_by_part a a (λ p k h. h) (λ p k free. refl)
 
--- what becomes of values where the one under a number is changed, if it is there
+-- P holds of the changed map and the value before, if it does without one, and with each v replaced by f v
 pub changed_there : {V : Type 0} (P : FinMap nat_cmp V → Option V → Type 0) (f : V → V) (values : FinMap nat_cmp V) (n : ℕ)
     → P values None → ((v : V) → get values n ≡ Some v → P (map.insert values n (f v)) (Some v)) → P (changed f values n) (get values n)
 changed_there {V} P f values n none some = by_value (get values n) refl
@@ -275,7 +292,7 @@ changed_there {V} P f values n none some = by_value (get values n) refl
     by_value None is = none
     by_value (Some v) is = some v is
 
--- a faction that is changed and marked
+-- a change of faction n alone, with its mark, satisfies MarksChanges
 pub marks-faction : (f : Faction → Faction) (c : MarkedCampaign) (n : ℕ) → MarksChanges c (record { value = faction_changed f c.value n; marks = mark_faction c n })
 marks-faction f c n =
     let after : FinMap nat_cmp Faction → Option Faction → MarkedCampaign = λ m o. record { value = record c.value { factions = m }; marks = record c.marks { factions = marked_with c.marks.factions n o } } in
@@ -285,7 +302,7 @@ marks-faction f c n =
     (λ p. elim p as (Stays c.marks next.marks) [ Factions ↦ put_stays c.marks.factions n | _ ↦ λ k h. h ])
     (λ p. elim p as (Tells next.marks c.value next.value) [ Factions ↦ λ k free. get-insert_other c.value.factions n k (f v) (apart_by c.marks.factions n k free) | _ ↦ λ k free. refl ]))
 
--- what a map shows under each number is as it was, where a value is put that shows the same as the one before it
+-- what a map shows under each number stays where a value is put that shows the same
 pub shown_still : {V X : Type 0} (shows : Option V → X) (values : FinMap nat_cmp V) (n k : ℕ) (v w : V) → get values n ≡ Some v → (k ≡ n → shows (Some w) ≡ shows (Some v)) → shows (get (map.insert values n w) k) ≡ shows (get values k)
 shown_still shows values n k v w is same = ap shows (get-insert nat_cmp_total values n w k) ∙ by_number (eq_by_cmp nat_cmp k n) refl
   where
@@ -293,11 +310,11 @@ shown_still shows values n k v w is same = ap shows (get-insert nat_cmp_total va
     by_number true e = let here = same_key k n e in same here ∙ sym (ap shows (ap (get values) here ∙ is))
     by_number false e = refl
 
--- how much of an item a region has in stock, if it is there
+-- how much of an item a region has in stock, 0 where there is no region
 abbrev in_stock : ℕ → Option Region → ℕ
 in_stock item o = option_map_or (λ r. amount_of r.stocks item) o 0
 
--- a region whose row is changed and marked, and whose stocks stay
+-- a change of a region but for its stocks, with its mark, satisfies MarksChanges
 pub marks-region : (f : Region → Region) → ((r : Region) → (f r).stocks ≡ r.stocks) → (c : MarkedCampaign) (n : ℕ) → MarksChanges c (record { value = region_changed f c.value n; marks = mark_region c n })
 marks-region f same c n =
     let after : FinMap nat_cmp Region → Option Region → MarkedCampaign = λ m o. record { value = record c.value { regions = m }; marks = record c.marks { regions = marked_with c.marks.regions n o } } in
@@ -313,16 +330,19 @@ marks-region f same c n =
 
 -- the stock of an item that is set in a region, whose stocks are marked if it was another amount
 module _ (c : MarkedCampaign) (n item amount : ℕ) where
+  -- the region with the stock of the item set
   abbrev stocked : Region → Region
   stocked r = record r { stocks = with_amount_of r.stocks item amount }
 
+  -- the campaign with these regions, and the region's stocks marked unless the stock was the same
   abbrev after_stock : (was_same : Bool) → FinMap nat_cmp Region → Option Region → MarkedCampaign
   after_stock was_same m o = record { value = record c.value { regions = m }; marks = record c.marks { stocks = if was_same then c.marks.stocks else marked_with c.marks.stocks n o } }
 
+  -- the campaign with the stock set in a region that is there
   abbrev there_after : Bool → Region → MarkedCampaign
   there_after was_same v = after_stock was_same (map.insert c.value.regions n (stocked v)) (Some v)
 
-  -- an amount that is set again changes no stock
+  -- setting a stock to what it is changes no stock
   set_again : (stocks : FinMap nat_cmp ℕ) (i : ℕ) → amount_of stocks item ≡ amount → amount_of (with_amount_of stocks item amount) i ≡ amount_of stocks i
   set_again stocks i was = set_amount stocks item amount i ∙ by_item (eq_by_cmp nat_cmp i item) refl
     where
@@ -330,6 +350,7 @@ module _ (c : MarkedCampaign) (n item amount : ℕ) where
       by_item true e = sym was ∙ ap (amount_of stocks) (sym (same_key i item e))
       by_item false e = refl
 
+  -- setting a stock to what it is needs no mark
   stock_stays : (v : Region) → get c.value.regions n ≡ Some v → amount_of v.stocks item ≡ amount → MarksChanges c (there_after true v)
   stock_stays v is was = part_by_part c (there_after true v) (λ p k h. h)
       (λ p. elim p as (Tells (there_after true v).marks c.value (there_after true v).value) [
@@ -338,6 +359,7 @@ module _ (c : MarkedCampaign) (n item amount : ℕ) where
         | _ ↦ λ k free. refl
       ])
 
+  -- setting a stock, with the mark of the region's stocks, satisfies MarksChanges
   stock_changes : (v : Region) → get c.value.regions n ≡ Some v → MarksChanges c (there_after false v)
   stock_changes v is = part_by_part c (there_after false v)
       (λ p. elim p as (Stays c.marks (there_after false v).marks) [ Stocks ↦ put_stays c.marks.stocks n | _ ↦ λ k h. h ])
@@ -347,6 +369,7 @@ module _ (c : MarkedCampaign) (n item amount : ℕ) where
         | _ ↦ λ k free. refl
       ])
 
+  -- setting a stock, with its mark, satisfies MarksChanges
   pub marks-stock : MarksChanges c (record { value = with_stock c.value n item amount; marks = mark_stock c n item amount })
   marks-stock = by_amount (stock_of c.value n item == amount) refl
     where
@@ -360,7 +383,7 @@ module _ (c : MarkedCampaign) (n item amount : ℕ) where
       by_amount true same = changed_there (λ m o. MarksChanges c (after_stock true m o)) stocked c.value.regions n (marks-refl c) (λ v is. stock_stays v is (was v is same))
       by_amount false other = changed_there (λ m o. MarksChanges c (after_stock false m o)) stocked c.value.regions n (marks-refl c) stock_changes
 
--- units that are as they were but for one number, which is marked with its goods
+-- a change of unit n alone, with the marks of its row and goods, satisfies MarksChanges
 pub marks-unit : (c : MarkedCampaign) (units : FinMap nat_cmp Unit) (n : ℕ) → ((k : ℕ) → k ≢ n → get units k ≡ get c.value.units k)
     → MarksChanges c (record { value = record c.value { units = units }; marks = mark_unit_added c n })
 marks-unit c units n others =
@@ -381,7 +404,7 @@ marks-unit c units n others =
       | _ ↦ λ k free. refl
     ])
 
--- an amount that is booked and marked
+-- setting an amount of the books, with its mark, satisfies MarksChanges
 pub marks-amount : (c : MarkedCampaign) (f : Entry) (u : Thing) (z : ℤ) → MarksChanges c (record { value = with_amount c.value f u z; marks = mark_amount c f u })
 marks-amount c f u z =
     let next : MarkedCampaign = record { value = with_amount c.value f u z; marks = mark_amount c f u } in

@@ -1,4 +1,4 @@
--- The names differ under which factions joined, one after another.
+-- Laws of joined names: if no two factions joined under one name, the list of factions has no name twice.
 use Rattle.std.proofs.Common.{◌≡◌, ◌≢◌, ℕ, true, List, [], ◌∷◌, Some, sym, ap, ◌∙◌}
 use Rattle.std.proofs.lemmas.Bool.{and_parts}
 use Rattle.std.specs.Ordering.{nat_cmp}
@@ -8,6 +8,7 @@ use Rattle.atl_state.specs.Deciding.{JoinedNamesDiffer}
 use Rattle.atl_records.specs.Every.{Every}
 use Rattle.atl_records.proofs.EveryLaws.{none_some, each_of, later, first, not_below, sorted}
 
+-- a sorted list of factions has no joined name twice, if equal joined names are of one number
 differ_of : (es : List (ℕ × Faction)) → is_sorted nat_cmp es ≡ true → ((n k : ℕ) (f g : Faction) → find nat_cmp n es ≡ Some f → find nat_cmp k es ≡ Some g → f.joined_as ≡ g.joined_as → n ≡ k) → JoinedNamesDiffer es
 differ_of [] s h = tt
 differ_of (e ∷ es) s h = (
@@ -17,8 +18,10 @@ differ_of (e ∷ es) s h = (
   differ_of es (and_parts _ _ s).1 (λ n k f g is js same. h n k f g (later e es n f s is) (later e es k g s js) same),
 )
 
+-- equal joined names are of one faction
 abbrev pub AllDiffer : FinMap nat_cmp Faction → Type 0
 AllDiffer m = Every (λ n f. Every (λ k g. f.joined_as ≡ g.joined_as → n ≡ k) m) m
 
+-- the entries of a map of factions have no joined name twice, if equal ones are of one faction
 pub entries_differ : (m : FinMap nat_cmp Faction) → AllDiffer m → JoinedNamesDiffer (entries m)
 entries_differ m every = differ_of (entries m) (sorted m) (λ n k f g is js same. every n f (get-entries m n ∙ is) k g (get-entries m k ∙ js) same)

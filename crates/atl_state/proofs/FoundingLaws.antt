@@ -1,4 +1,4 @@
--- A founded campaign is good, and its books balance.
+-- Laws of founding: a founded campaign is good, and its books balance.
 use Rattle.std.proofs.Common.{◌≡◌, ℕ, ◌+◌, ◌≤◌, ◌==◌, cond, List, [], length, sym, ap, ◌∙◌, refl, arith, true, false}
 use Rattle.std.specs.Prelude.{ℤ, pos, ◌+ℤ◌, ◌*◌, unwrap_or, IsSome, IsTrue}
 use Rattle.std.proofs.lemmas.Int.{ints}
@@ -41,25 +41,27 @@ use Rattle.atl_state.proofs.AmountLaws.{none_weighed}
 use Rattle.atl_state.proofs.AmountMarkLaws.{none_marked}
 use Rattle.atl_records.proofs.BookLaws.{booked-after_booking, booked-no_amounts, amount-no_amounts, AreBooks-no_amounts, AreBooks-after_booking, IsWithin-after_booking, share_of}
 
--- what is kept beside units, with room to mark the amounts of so many things, of which none is marked
+-- lists of units, with an empty dirty set that has room for all amounts, satisfy AreKept
 pub AreKept-without_marks : (things : ℕ) (units : FinMap nat_cmp Unit) (lists : UnitLists) → AreUnitLists units lists → AreKept units lists things (record { numbers = set.empty; room = entry_count * things })
 AreKept-without_marks things units lists listed = record { unit_lists = listed; amounts = none_marked things (entry_count * things) (omega arith) }
 
--- the books are made for so many things
+-- the books after the two bookings of founding are books of as many things
 AreBooks-founding : (things money people : ℕ) → 2 ≤ things → AreBooks things (after_booking (after_booking (no_amounts things) Founding Money (pos money)) Founding People (pos people))
 AreBooks-founding things money people l =
     AreBooks-after_booking things (after_booking (no_amounts things) Founding Money (pos money)) Founding People (pos people) (AreBooks-after_booking things (no_amounts things) Founding Money (pos money) (AreBooks-no_amounts things) (omega arith)) (omega arith)
 
+-- the sum over no units is 0
 nobody : (t : Thing) → sum_over (λ (u : Unit). unit_amount t u.holding) (empty {X = Unit} {R = nat_cmp}) ≡ 0
 nobody t = rw (entries-empty {X = Unit}) refl
 
+-- no region of a founded campaign has a stock
 no_items : (w : WorldValue) (i : ℕ) → sum_over (λ (r : Region). region_amount (Item i) r) (mapped founded_region w.regions) ≡ 0
 no_items w i =
     let founded = mapped founded_region w.regions in
     let nothing : Every (λ n r. region_amount (Item i) r ≡ 0) founded = every-mapped founded_region (λ n r. region_amount (Item i) r ≡ 0) w.regions (λ n p is. ap (λ o. unwrap_or o 0) (get-empty nat_cmp i)) in
     none_weighed (λ (r : Region). region_amount (Item i) r) (entries founded) (each-from_every (λ n r. region_amount (Item i) r ≡ 0) founded nothing)
 
--- what is booked of a thing at founding
+-- the sum booked of a thing at founding is the money, the people, or 0
 founding_booked : (things money people : ℕ) (t : Thing) → booked (after_booking (after_booking (no_amounts things) Founding Money (pos money)) Founding People (pos people)) t ≡ share_of t Money (pos money) +ℤ share_of t People (pos people)
 founding_booked things money people t =
     booked-after_booking (after_booking (no_amounts things) Founding Money (pos money)) Founding People (pos people) t
@@ -68,15 +70,19 @@ founding_booked things money people t =
     from_nothing : (z : ℤ) → pos 0 +ℤ z ≡ z
     from_nothing z = omega (arith, ints)
 
+-- money balances where units hold none
 held_money : (a m : ℕ) → a ≡ 0 → pos (a + m) ≡ pos m +ℤ pos 0
 held_money a m h = omega (arith, ints)
 
+-- people balance where units hold none
 held_people : (a p : ℕ) → a ≡ 0 → pos (a + p) ≡ pos 0 +ℤ pos p
 held_people a p h = omega (arith, ints)
 
+-- items balance where neither units nor regions have any
 held_items : (a b i m p : ℕ) → a ≡ 0 → b ≡ 0 → (2 + i == 0) ≡ false → (2 + i == 1) ≡ false → pos (a + b) ≡ cond (2 + i == 0) (pos m) (pos 0) +ℤ cond (2 + i == 1) (pos p) (pos 0)
 held_items a b i m p h g e f = ap (λ n. pos (n + b)) h ∙ ap (λ n. pos (0 + n)) g ∙ sym (ap (λ q. cond q (pos m) (pos 0) +ℤ cond (2 + i == 1) (pos p) (pos 0)) e ∙ ap (λ q. pos 0 +ℤ cond q (pos p) (pos 0)) f)
 
+-- the books of a founded campaign balance
 pub founded-balances : (w : WorldValue) (pass : List ℕ) → Balances (founded_of w pass)
 unfolding founded_of total
 founded-balances w pass Money = held_money _ _ (nobody Money) ∙ sym (founding_booked (things_of w) _ _ Money)
@@ -86,25 +92,32 @@ founded-balances w pass (Item i) =
     (nobody (Item i)) (no_items w i) (grind (arith, nat_tests)) (grind (arith, nat_tests))
     ∙ sym (founding_booked (things_of w) _ _ (Item i))
 
+-- the amounts of empty books are within 0
 none_within : (things : ℕ) (e : Entry) (t : Thing) → IsWithin 0 (amount_in (no_amounts things) e t)
 none_within things e t = rw (amount-no_amounts things e t) record { most = omega (arith, ints); least = omega (arith, ints) }
 
+-- a region as founded by its plan is in range
 in_range : (w : WorldValue) (p : RegionPlan) (terrains items n : ℕ) → IsRegionPlan terrains items n p → IsRegion w n (founded_region p)
 in_range w p terrains items n plan = record { peasants = plan.peasants; money = plan.money; stocks = every-empty (λ i amount. (1 ≤ amount) × (amount ≤ stock_limit w n i)) }
 
+-- the empty map is numbered, with 1 next
 numbered_none : {V : Type 0} → IsNumbered (empty {X = V} {R = nat_cmp}) 1
 numbered_none {V} = record { first = get-empty nat_cmp 0; count = ap (λ n. n + 1) (sym (len-empty nat_cmp V)); free = λ n _. get-empty nat_cmp n }
 
 module _ (w : WorldValue) (pass : List ℕ) (world : IsWorld w) where
+  -- the regions of the founded campaign
   abbrev regions : FinMap nat_cmp Region
   regions = mapped founded_region w.regions
 
+  -- the money of all regions
   abbrev money : ℕ
   money = sum_over (λ (r : Region). region_amount Money r) regions
 
+  -- the peasants of all regions
   abbrev people : ℕ
   people = sum_over (λ (r : Region). region_amount People r) regions
 
+  -- a founded campaign is in range
   founded-numbers : AreInRange w (founded_of w pass)
   unfolding founded_of
   founded-numbers = record {
@@ -122,6 +135,7 @@ module _ (w : WorldValue) (pass : List ℕ) (world : IsWorld w) where
     books = AreBooks-founding (things_of w) money people (omega arith);
   }
 
+  -- a founded campaign has good names, if its pass text is good
   founded-names : IsTrue (pass_ok pass) → AreNamed (founded_of w pass)
   unfolding founded_of
   founded-names passes = record {
@@ -132,6 +146,7 @@ module _ (w : WorldValue) (pass : List ℕ) (world : IsWorld w) where
     structures = every-empty (λ n s. IsTrue (name_ok s.name));
   }
 
+  -- what a founded campaign names by number exists
   founded-known : AreKnown w (founded_of w pass)
   unfolding founded_of
   founded-known = record {
@@ -142,6 +157,7 @@ module _ (w : WorldValue) (pass : List ℕ) (world : IsWorld w) where
     posts = posted-nobody;
   }
 
+  -- a founded campaign is steady, if its pass text is good
   founded-steady : IsTrue (pass_ok pass) → IsSteady w (founded_of w pass)
   unfolding founded_of
   founded-steady passes = record {
@@ -159,6 +175,7 @@ module _ (w : WorldValue) (pass : List ℕ) (world : IsWorld w) where
     guarded = every-empty (λ n u. Every (λ m v. guards u ≡ true → guards v ≡ true → u.region ≡ v.region → u.faction ≡ v.faction) empty);
   }
 
+  -- the amounts of a founded campaign are within their bound, if money and people are at most 10^14
   founded-amounts : money ≤ 100000000000000 → people ≤ 100000000000000 → AreAmountsWithin (founded_of w pass)
   unfolding founded_of
   founded-amounts few_money few_people =
@@ -166,6 +183,7 @@ module _ (w : WorldValue) (pass : List ℕ) (world : IsWorld w) where
       let one = after_booking (no_amounts things) Founding Money (pos money) in
       IsWithin-after_booking one Founding People people money _ (IsWithin-after_booking (no_amounts things) Founding Money money 0 money (none_within things) (omega arith)) (omega arith)
 
+  -- a founded campaign is good, if its pass text is good, and money and people are at most 10^14
   pub founded-good : IsTrue (pass_ok pass) → money ≤ 100000000000000 → people ≤ 100000000000000 → IsGood w (founded_of w pass)
   unfolding founded_of
   founded-good passes few_money few_people = record {

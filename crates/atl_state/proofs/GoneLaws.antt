@@ -1,4 +1,4 @@
--- How a campaign changes as a faction without units leaves it.
+-- Laws of a faction that is set gone: the campaign stays steady, totals stay, and the change is marked.
 use Rattle.std.proofs.Common.{◌≡◌, ◌≢◌, ℕ, ◌+◌, true, [], Some, None, refl, sym, ap, subst, ◌∙◌, arith}
 use Rattle.std.specs.Prelude.{IsTrue}
 use Rattle.std.specs.Ordering.{nat_cmp}
@@ -19,25 +19,32 @@ use Rattle.atl_state.proofs.CoverLaws.{marks-faction}
 use Rattle.atl_records.proofs.EveryLaws.{every-insert, get-insert_other, none_some, there-insert}
 use Rattle.atl_state.proofs.RegionLaws.{changed-known, get-insert_same, same_len}
 
+-- the faction with the flag that it is gone
 abbrev pub as_gone : Faction → Faction
 as_gone f = record f { gone = true }
 
 module _ (c : CampaignValue) (n : ℕ) (x : Faction) (is : get c.factions n ≡ Some x) where
+  -- the factions with n set gone
   abbrev factions : FinMap nat_cmp Faction
   factions = insert c.factions n (as_gone x)
 
+  -- the campaign with faction n set gone
   abbrev left : CampaignValue
   left = record c { factions = factions }
 
+  -- a number without a faction is not n
   free_apart : (k : ℕ) → get c.factions k ≡ None → k ≢ n
   free_apart k free same = none_some x (sym free ∙ ap (get c.factions) same ∙ is)
 
+  -- a number without a faction still has none
   none_kept : (k : ℕ) → get c.factions k ≡ None → get factions k ≡ None
   none_kept k none = get-insert_other c.factions n k (as_gone x) (free_apart k none) ∙ none
 
+  -- a faction that was there still is
   there : (k : ℕ) → IsThere c.factions k → IsThere factions k
   there k h = there-insert c.factions n k (as_gone x) h
 
+  -- the numbers of the campaign stay in range
   numbers_kept : (w : WorldValue) → AreInRange w c → AreInRange w left
   numbers_kept w old = record {
     month = old.month;
@@ -54,9 +61,11 @@ module _ (c : CampaignValue) (n : ℕ) (x : Faction) (is : get c.factions n ≡ 
     books = old.books;
   }
 
+  -- two factions with the same joined name have the same number
   abbrev JoinedOnce : ℕ → Faction → ℕ → Faction → Type 0
   JoinedOnce k f m g = f.joined_as ≡ g.joined_as → k ≡ m
 
+  -- names stay good
   names_kept : AreNamed c → AreNamed left
   names_kept old = record {
     pass = old.pass;
@@ -68,6 +77,7 @@ module _ (c : CampaignValue) (n : ℕ) (x : Faction) (is : get c.factions n ≡ 
     structures = old.structures;
   }
 
+  -- everything that is named by its number still exists
   known_kept : (w : WorldValue) → AreKnown w c → AreKnown w left
   known_kept w old = record {
     regions = old.regions;
@@ -77,6 +87,7 @@ module _ (c : CampaignValue) (n : ℕ) (x : Faction) (is : get c.factions n ≡ 
     posts = posted-there there old.posts;
   }
 
+  -- factions and structures are still numbered without a gap, and no unit has a number from the next on
   next_kept : AreNumbered c → AreNumbered left
   next_kept old = record {
     factions = record { first = none_kept 0 old.factions.first; count = old.factions.count ∙ ap (λ l. l + 1) (sym (same_len c.factions n x (as_gone x) is)); free = λ k l. none_kept k (old.factions.free k l) };
@@ -84,6 +95,7 @@ module _ (c : CampaignValue) (n : ℕ) (x : Faction) (is : get c.factions n ≡ 
     units = old.units;
   }
 
+  -- the campaign stays steady if faction n has no units
   steady_gone : (w : WorldValue) → numbers_of n c.units ≡ [] → IsSteady w c → IsSteady w left
   steady_gone w none old = record {
     numbers = numbers_kept w old.numbers;
@@ -97,36 +109,43 @@ module _ (c : CampaignValue) (n : ℕ) (x : Faction) (is : get c.factions n ≡ 
     guarded = old.guarded;
   }
 
+  -- with_gone gives the campaign with faction n set gone
   gone-known : with_gone c n ≡ left
   gone-known = ap (λ m. record c { factions = m }) (changed-known as_gone c.factions n x is)
 
+  -- the campaign stays steady when a faction without units is set gone
   pub steady-gone : (w : WorldValue) → numbers_of n c.units ≡ [] → IsSteady w c → IsSteady w (with_gone c n)
   steady-gone w none old = subst (IsSteady w) (sym gone-known) (steady_gone w none old)
 
-  -- no faction comes, and none is removed
+  -- there are as many factions as before
   pub count-gone : len (with_gone c n).factions ≡ len c.factions
   count-gone = ap (λ (d : CampaignValue). len d.factions) gone-known ∙ same_len c.factions n x (as_gone x) is
 
+  -- a faction that is there was there
   was_there : (k : ℕ) → IsThere factions k → IsThere c.factions k
   was_there k (f, here) = every-insert (λ k f. IsThere c.factions k) c.factions n (as_gone x) (x, is) (λ k f here. (f, here)) k f here
 
+  -- a faction that is there once n is gone was there
   pub known-gone : (k : ℕ) → IsThere (with_gone c n).factions k → IsThere c.factions k
   known-gone k h = was_there k (subst (λ (d : CampaignValue). IsThere d.factions k) gone-known h)
 
+  -- faction n is found as gone
   pub get-gone : get (with_gone c n).factions n ≡ Some (as_gone x)
   get-gone = ap (λ (d : CampaignValue). get d.factions n) gone-known ∙ get-insert_same c.factions n (as_gone x)
 
+  -- each other faction is as it was
   pub get-gone_other : (k : ℕ) → k ≢ n → get (with_gone c n).factions k ≡ get c.factions k
   get-gone_other k apart = ap (λ (d : CampaignValue). get d.factions k) gone-known ∙ get-insert_other c.factions n k (as_gone x) apart
 
--- where there is no such faction nothing changes
+-- where there is no faction n, nothing changes
 pub none-gone : (c : CampaignValue) (n : ℕ) → get c.factions n ≡ None → with_gone c n ≡ c
 none-gone c n is = ap (λ o. record c { factions = changed_at as_gone c.factions n o }) is
 
+-- no total changes when a faction is set gone
 pub total-gone : (c : CampaignValue) (n : ℕ) (t : Thing) → total (with_gone c n) t ≡ total c t
 unfolding total
 total-gone c n t = refl
 
--- a faction that left, and is marked
+-- setting a faction gone, with its mark, satisfies MarksChanges
 pub marks-gone_faction : (c : MarkedCampaign) (n : ℕ) → MarksChanges c (record { value = with_gone c.value n; marks = mark_faction c n })
 marks-gone_faction = marks-faction as_gone

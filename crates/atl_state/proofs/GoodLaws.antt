@@ -1,4 +1,4 @@
--- A report, and a mailing, keep a campaign good; and what else is true of a good campaign.
+-- Laws of good campaigns: reports and mail keep them good, and good ones are early.
 use Rattle.std.proofs.Common.{◌≡◌, ◌≤◌, ◌&&◌, ℕ, Bool, true, false, cond, nat_lt, List, Result, Ok, Err, subst, arith}
 use Rattle.std.proofs.lemmas.Bool.Decides.{nat_tests}
 use Rattle.std.specs.Cmp.Derive.{both_true}
@@ -20,13 +20,15 @@ use Rattle.atl_records.proofs.EveryLaws.{every-empty, every-insert, there-new, t
 
 -- ---- mail and reports
 
--- mail and reports are of factions that are there, where each that was is there; without mail, too; and where there are none
+-- mail and reports are of factions that are there, if each faction that was there is
 pub posted-there : {factions later : FinMap nat_cmp Faction} {mail reports : FinMap nat_cmp (List ℕ)} → ((n : ℕ) → IsThere factions n → IsThere later n) → AreOfFactions factions mail reports → AreOfFactions later mail reports
 posted-there stays posts = record { mail = λ n text is. stays n (posts.mail n text is); reports = λ n text is. stays n (posts.reports n text is) }
 
+-- reports are still of factions that are there once mail is removed
 pub posted-unsent : {factions : FinMap nat_cmp Faction} {mail reports : FinMap nat_cmp (List ℕ)} → AreOfFactions factions mail reports → AreOfFactions factions empty reports
 posted-unsent posts = record { mail = every-empty _; reports = posts.reports }
 
+-- empty mail and empty reports satisfy AreOfFactions
 pub posted-nobody : {factions : FinMap nat_cmp Faction} → AreOfFactions factions empty empty
 posted-nobody = record { mail = every-empty _; reports = every-empty _ }
 
@@ -35,6 +37,7 @@ module _ (w : WorldValue) (c : CampaignValue) (month : ℕ) (mail reports : FinM
   abbrev posted : CampaignValue
   posted = record c { month = month; mail = mail; reports = reports }
 
+  -- the campaign stays in range, in a month up to the last
   posted-numbers : month ≤ last_month → AreInRange w c → AreInRange w posted
   posted-numbers early old = record {
     month = early;
@@ -51,13 +54,16 @@ module _ (w : WorldValue) (c : CampaignValue) (month : ℕ) (mail reports : FinM
     books = old.books;
   }
 
+  -- names stay good with other mail and reports
   posted-names : AreNamed c → AreNamed posted
   posted-names old = record { pass = old.pass; factions = old.factions; joined = old.joined; units = old.units; structures = old.structures }
 
   module _ (early : month ≤ last_month) (posts : AreOfFactions c.factions mail reports) where
+    -- what is named by number exists, with mail and reports of factions that are there
     posted-known : AreKnown w c → AreKnown w posted
     posted-known old = record { regions = old.regions; markets = old.markets; units = old.units; structures = old.structures; posts = posts }
 
+    -- the campaign stays steady, in a month up to the last, with mail and reports of factions that are there
     pub posted-steady : IsSteady w c → IsSteady w posted
     posted-steady old = record {
       numbers = posted-numbers early old.numbers;
@@ -71,7 +77,7 @@ module _ (w : WorldValue) (c : CampaignValue) (month : ℕ) (mail reports : FinM
       guarded = old.guarded;
     }
 
--- what is so of a sound campaign is so of it with other mail and other reports
+-- a sound campaign with other mail and reports of its factions is sound, if the mail is good
 posted-sound : (w : WorldValue) (c : CampaignValue) (mail reports : FinMap nat_cmp (List ℕ)) → AreOfFactions c.factions mail reports
     → Every (λ n text. IsMailingOf n text × IsActive c n) mail → IsSound w c → IsSound w (record c { mail = mail; reports = reports })
 unfolding total
@@ -84,19 +90,20 @@ posted-sound w c mail reports posts sent old = record {
   mail = sent;
 }
 
--- a report of a faction that is there keeps a campaign sound
+-- storing a report of a faction that is there keeps a campaign sound
 pub IsSound-with_report : (w : WorldValue) (c : CampaignValue) (faction : ℕ) (text : List ℕ) → IsThere c.factions faction → IsSound w c → IsSound w (with_report c faction text)
 IsSound-with_report w c faction text there old =
     let posts = old.steady.known.posts in
     posted-sound w c c.mail (insert c.reports faction text) (record { mail = posts.mail; reports = every-insert (λ n text. IsThere c.factions n) c.reports faction text there posts.reports }) old.mail old
 
+-- storing a report of a faction that is there keeps a campaign good
 pub IsGood-with_report : (w : WorldValue) (c : CampaignValue) (faction : ℕ) (text : List ℕ) → IsThere c.factions faction → IsGood w c → IsGood w (with_report c faction text)
 IsGood-with_report w c faction text there good = record {
   sound = IsSound-with_report w c faction text there good.sound;
   reported = λ n f is. there-insert c.reports faction n text (good.reported n f is);
 }
 
--- a mailing of a faction that is not gone keeps a campaign good
+-- storing a good mailing of a faction that is not gone keeps a campaign good
 pub IsGood-with_mail : (w : WorldValue) (c : CampaignValue) (faction : ℕ) (text : List ℕ) → IsMailingOf faction text → IsActive c faction → IsGood w c → IsGood w (with_mail c faction text)
 IsGood-with_mail w c faction text sent active good =
     let posts = good.sound.steady.known.posts in
@@ -107,7 +114,7 @@ IsGood-with_mail w c faction text sent active good =
       reported = good.reported;
     }
 
--- where a faction was let in, it joined
+-- a joining that is not refused gives its only possible result
 let_in : (taken full : Bool) (x y : CampaignValue × (ℕ × ℕ)) → ◌≡◌ {A = Result (CampaignValue × (ℕ × ℕ)) JoinFault} (cond taken (Err NameTaken) (cond full (Err Full) (Ok x))) (Ok y) → x ≡ y
 let_in true full x y e = cc
 let_in false true x y e = cc
@@ -127,14 +134,17 @@ IsGood-joined w name pass word c d faction unit text is good sound =
 
 -- ---- a sound campaign is early, and so a good one
 
+-- a flag that is set, of a unit with men, is that of a guard
 set_guards : (flag : Bool) (men : ℕ) → 1 ≤ men → flag ≡ true → (flag && nat_lt 0 men) ≡ true
 set_guards flag men h set = let some : nat_lt 0 men ≡ true = grind (arith, nat_tests) in both_true set some
 
+-- a sound campaign is early
 pub sound_early : SoundAreEarly
 sound_early w c sound = record {
   steady = sound.steady;
   flags = λ n u is m v there e f. sound.steady.guarded n u is m v there (set_guards u.holding.guard u.holding.men (sound.men n u is) e) (set_guards v.holding.guard v.holding.men (sound.men m v there) f);
 }
 
+-- a good campaign is early
 pub IsEarly-good : GoodAreEarly
 IsEarly-good w c good = sound_early w c good.sound

@@ -1,4 +1,4 @@
--- The rows of a good campaign, in any order, say that campaign and keep all rules.
+-- Laws of reading a good campaign back: from its rows, in any order, the same campaign is assembled.
 use Rattle.std.proofs.Common.{◌≡◌, ℕ, zero, suc, ◌≤◌, ◌<◌, ◌+◌, ◌*◌, List, [], ◌∷◌, Bool, true, false, length, None, refl, sym, ap, subst, ◌∙◌, arith}
 use Rattle.std.specs.Prelude.{ℤ, pos, is_some, slice_index_or}
 use Rattle.std.specs.List.{AllByRecursion, IsDistinct}
@@ -46,30 +46,37 @@ use Rattle.atl_state.proofs.MarketLaws.{market_known}
 
 -- ---- numbers in a good campaign
 
+-- the numbers of a map that is numbered from 1 are at most the number of its values
 few_numbered : {V : Type 0} (m : FinMap nat_cmp V) (next most : ℕ) → IsNumbered m next → len m ≤ most → Every (λ n v. (1 ≤ n) × (n ≤ most)) m
 few_numbered m next most is few n v there = let range = every-from_each (λ n v. (1 ≤ n) × (n < next)) m (each_numbered m next is) n v there in (range.0, omega (arith, range.1, is.count, few))
 
+-- numbers that are free from the next on are below the next
 few_before : {V : Type 0} (m : FinMap nat_cmp V) (next most : ℕ) → ((n : ℕ) → next ≤ n → get m n ≡ None) → next ≤ most + 1 → Every (λ n v. n ≤ most) m
 few_before m next most free few n v there = let low = every_before m next free n v there in omega (arith, low, few)
 
+-- numbers up to a bound of at most 32 bits fit 32 bits
 small_enough : {V : Type 0} (m : FinMap nat_cmp V) (most : ℕ) → most ≤ most_u32 → Every (λ n v. n ≤ most) m → Every (λ n v. n ≤ most_u32) m
 small_enough m most few every n v there = let here = every n v there in omega (arith, few, here)
 
 -- ---- one row
 
+-- a flag is read back from its row
 flag_back : (b : Bool) → is_set (flag b) ≡ b
 flag_back true = refl
 flag_back false = refl
 
+-- a number of at most 16 bits is read as it is
 pub read16 : (n : ℕ) → n ≤ most_u16 → as_u16 (pos n) ≡ n
 read16 n h = min_small n most_u16 h
 
+-- a faction is read back from its row
 faction_back : (n : ℕ) (f : Faction) → n ≤ most_u32 → f.number ≡ n → faction_of (faction_row n f) ≡ f
 faction_back n f few is =
     let number = read_whole n few ∙ sym is in
     let gone = flag_back f.gone in
     λ i. record { number = number i; joined_as = f.joined_as; name = f.name; pass = f.pass; gone = gone i }
 
+-- a region is read back from its row and its stocks
 region_back : (markets : List StoredMarket) (n : ℕ) (r : Region) → n ≤ most_u32 → r.peasants ≤ most_u32 → r.money ≤ most_u32 → stocks_of n markets ≡ r.stocks → region_of markets (region_row n r) ≡ r
 region_back markets n r few p m stocks =
     let peasants = read_whole r.peasants p in
@@ -77,12 +84,14 @@ region_back markets n r few p m stocks =
     let its_stocks = ap (λ k. stocks_of k markets) (read_whole n few) ∙ stocks in
     λ i. record { peasants = peasants i; money = money i; stocks = its_stocks i }
 
+-- the numbers of a structure fit 16 and 32 bits
 pub record StructureFits (s : Structure) : Type 0 where
   pub kind : s.kind ≤ most_u16
   pub region : s.region ≤ most_u32
   pub done : s.done ≤ most_u32
   pub owner : s.owner ≤ most_u32
 
+-- a structure is read back from its row
 structure_back : (n : ℕ) (s : Structure) → StructureFits s → structure_of (structure_row n s) ≡ s
 structure_back n s h =
     let kind = read16 s.kind h.kind in
@@ -91,6 +100,7 @@ structure_back n s h =
     let owner = read_whole s.owner h.owner in
     λ i. record { kind = kind i; name = s.name; region = region i; done = done i; owner = owner i }
 
+-- the numbers of a unit fit 32 bits
 pub record UnitFits (u : Unit) : Type 0 where
   pub faction : u.faction ≤ most_u32
   pub region : u.region ≤ most_u32
@@ -98,6 +108,7 @@ pub record UnitFits (u : Unit) : Type 0 where
   pub men : u.holding.men ≤ most_u32
   pub money : u.holding.money ≤ most_u32
 
+-- a unit is read back from its row and its goods
 unit_back : (has : List StoredHas) (n : ℕ) (u : Unit) → n ≤ most_u32 → UnitFits u → things_had n 0 has ≡ u.holding.items → things_had n 1 has ≡ u.holding.days → unit_of has (unit_row n u) ≡ u
 unit_back has n u few h items days =
     let faction = read_whole u.faction h.faction in
@@ -113,16 +124,19 @@ unit_back has n u few h items days =
 -- ---- a table with a key of one number
 
 module _ {V R : Type 0} (row : ℕ → V → R) (key : R → ℤ) (value : R → V) (keyed : (n : ℕ) (v : V) → key (row n v) ≡ pos n) (m : FinMap nat_cmp V) (few : Every (λ n v. n ≤ most_u32) m) (rows : List R) (h : IsPermutation (rows_by row (entries m)) rows) where
+  -- the rows of different numbers have different keys
   apart : (n k : ℕ) (v u : V) → n < k → same (one_key (key (row n v))) (one_key (key (row k u))) ≡ false
   apart n k v u l = ap (λ z. same (one_key z) (one_key (key (row k u)))) (keyed n v) ∙ ap (λ z. same (one_key (pos n)) (one_key z)) (keyed k u) ∙ apart_numbers n k l
 
+  -- the table's rows, in any order, have distinct keys
   pub table_keys : HaveKeys (λ r. one_key (key r)) rows
   table_keys = keys_permuted (λ r. one_key (key r)) (rows_by row (entries m)) rows h (rows_apart row (λ a b. same (one_key (key a)) (one_key (key b))) apart (entries m) (entries_rise m))
 
+  -- the keys of the table's rows, in any order, are read as they are
   whole : AllByRecursion (λ r. IsWhole (key r)) rows
   whole = rows_so row (λ r. IsWhole (key r)) m rows h (λ n v is. subst IsWhole (sym (keyed n v)) (written_whole n (few n v is)))
 
-  -- the rows say the table
+  -- from the table's rows, in any order, the same map is made
   pub table_back : Every (λ n v. value (row n v) ≡ v) m → by_number (λ r. as_u32 (key r)) value rows ≡ m
   table_back back =
       map_back row (λ r. as_u32 (key r)) value m rows h (λ n v is. (ap as_u32 (keyed n v) ∙ read_whole n (few n v is), back n v is))
@@ -130,29 +144,35 @@ module _ {V R : Type 0} (row : ℕ → V → R) (key : R → ℤ) (value : R →
 
 -- ---- the campaign's own row
 
+-- rows that are one, and each x, are x alone
 single : {R : Type 0} (x : R) (rows : List R) → length rows ≡ 1 → AllByRecursion (λ r. r ≡ x) rows → rows ≡ x ∷ []
 single x [] l all = absurd (omega (arith, l))
 single x (r ∷ []) l all = ap (λ s. s ∷ []) all.0
 single x (r ∷ s ∷ rows) l all = absurd (omega (arith, l))
 
+-- a list of one row, in any order, is that list
 pub only_row : {R : Type 0} (x : R) (rows : List R) → IsPermutation (x ∷ []) rows → rows ≡ x ∷ []
 only_row x rows h = single x rows (length_permutation (x ∷ []) rows h) (each_permuted (λ r. r ≡ x) (x ∷ []) rows h (refl, tt))
 
+-- an empty list, in any order, is empty
 pub none_listed : {R : Type 0} (rows : List R) → IsPermutation [] rows → rows ≡ []
 none_listed [] h = refl
 none_listed (r ∷ rows) h = let count = length_permutation [] (r ∷ rows) h in absurd (omega (arith, count))
 
 -- ---- what is so of a good campaign's numbers
 
+-- a unit whose numbers are within their limits fits its row
 unit_small_enough : (u : Unit) → u.faction ≤ last_faction → u.region ≤ last_region → u.structure ≤ most_structures → u.holding.men ≤ men_limit → u.holding.money ≤ holding_limit → UnitFits u
 unit_small_enough u f r s m y = record { faction = omega (arith, f); region = omega (arith, r); structure = omega (arith, s); men = omega (arith, m); money = omega (arith, y) }
 
+-- a structure whose numbers are within their limits fits its row
 structure_small_enough : (w : WorldValue) → IsWorld w → (s : Structure) → s.kind < length w.kinds → s.region ≤ last_region → s.done ≤ size_of w s.kind → s.owner ≤ last_unit → StructureFits s
 structure_small_enough w world s k r d o =
     let kinds = world.few_kinds in
     let size = small_size w world s.kind in
     record { kind = omega (arith, k, kinds); region = omega (arith, r); done = omega (arith, d, size); owner = omega (arith, o) }
 
+-- what a unit holds of the world, within the limits, fits its rows
 few_goods : (w : WorldValue) → IsWorld w → (u : Unit) → Every (λ i a. i < length w.items) u.holding.items → Every (λ i a. i < length w.skills) u.holding.days → AreAmounts u.holding.items → u.holding.men ≤ men_limit
     → Every (λ i a. (1 ≤ a) × (a ≤ most_days * u.holding.men)) u.holding.days → (s : ℕ) → s < 2 → Every (λ i a. (i ≤ most_u32) × (1 ≤ a) × (a ≤ most_u32)) (goods_of s u)
 few_goods w world u items skills amounts men days zero l i a is =
@@ -167,27 +187,35 @@ few_goods w world u items skills amounts men days (suc s) l i a is =
     (omega (arith, few, at), range.0, omega (arith, range.1, men))
 
 module _ (w : WorldValue) (world : IsWorld w) (c : CampaignValue) (good : IsGood w c) where
+  -- factions have numbers from 1 to last_faction
   pub few_factions : Every (λ n f. (1 ≤ n) × (n ≤ last_faction)) c.factions
   few_factions = few_numbered c.factions c.next_faction last_faction good.sound.steady.next.factions good.sound.steady.numbers.few_factions
 
+  -- structures have numbers from 1 to most_structures
   pub few_structures : Every (λ n s. (1 ≤ n) × (n ≤ most_structures)) c.structures
   few_structures = few_numbered c.structures c.next_structure most_structures good.sound.steady.next.structures good.sound.steady.numbers.few_structures
 
+  -- units have numbers up to last_unit
   pub few_units : Every (λ n u. n ≤ last_unit) c.units
   few_units = few_before c.units c.next_unit last_unit good.sound.steady.next.units good.sound.steady.numbers.next_unit_most
 
+  -- the number of a region that is there is at most last_region
   pub region_small : (n : ℕ) → IsThere c.regions n → n ≤ last_region
   region_small n there = let known = (good.sound.steady.known.regions n).0 there in (world.regions n known.0 known.1).number_most
 
+  -- the number of a faction that is there is at most last_faction
   pub faction_small : (n : ℕ) → IsThere c.factions n → n ≤ last_faction
   faction_small n there = (few_factions n there.0 there.1).1
 
+  -- the number of a unit that is there is at most last_unit
   pub unit_small : (n : ℕ) → IsThere c.units n → n ≤ last_unit
   unit_small n there = few_units n there.0 there.1
 
+  -- the number of a structure that is there is at most most_structures
   pub structure_small : (n : ℕ) → IsThere c.structures n → n ≤ most_structures
   structure_small n there = (few_structures n there.0 there.1).1
 
+  -- every unit fits its row
   unit_fits : Every (λ n u. UnitFits u) c.units
   unit_fits n u is =
       let placed = good.sound.steady.known.units n u is in
@@ -199,28 +227,32 @@ module _ (w : WorldValue) (world : IsWorld w) (c : CampaignValue) (good : IsGood
       let money : u.holding.money ≤ holding_limit = holding.money in
       unit_small_enough u faction region structure men money
 
+  -- every structure fits its row
   pub structure_fits : Every (λ n s. StructureFits s) c.structures
   structure_fits n s is =
       let built = good.sound.steady.known.structures n s is in
       let done = (good.sound.steady.numbers.structures n s is).1 in
       structure_small_enough w world s built.kind (region_small s.region built.region) done (none_or_below c.units s.owner last_unit few_units built.owner)
 
+  -- the goods of every unit fit their rows
   goods_few : Every (λ n u. (s : ℕ) → s < 2 → Every (λ i a. (i ≤ most_u32) × (1 ≤ a) × (a ≤ most_u32)) (goods_of s u)) c.units
   goods_few n u is =
       let placed = good.sound.steady.known.units n u is in
       let holding = (good.sound.steady.numbers.units n u is).1 in
       few_goods w world u placed.items placed.skills holding.items holding.men (good.sound.steady.days n u is)
 
+  -- what units have fits its rows, as AreHad says
   pub had : AreHad c.units
   had = record { numbers = small_enough c.units last_unit (omega arith) few_units; goods = goods_few }
 
-  -- an item of a market
+  -- the index of an item with a market fits 32 bits
   item_small : (n i : ℕ) → is_some (market_of w n i) ≡ true → i ≤ most_u32
   item_small n i named =
       let few = world.few_items in
       let below = market_known w world n i named in
       omega (arith, few, below)
 
+  -- what regions have in stock fits its rows, as AreStocked says
   pub stocked : AreStocked c.regions
   stocked = record {
     numbers = λ n r is. let most = region_small n (r, is) in omega (arith, most);
@@ -231,141 +263,176 @@ module _ (w : WorldValue) (world : IsWorld w) (c : CampaignValue) (good : IsGood
   }
 
   module _ (f : Format) (fits : Fits f c) (p : Parts) (rows : AreRowsOf f c p) where
+    -- the campaign row's table is the campaign's row, in any order
     head_listed : IsPermutation (campaign_row f c ∷ []) p.campaign
     unfolding rows_of
     head_listed = rows.campaign
 
+    -- the rows of factions are those of the campaign's factions, in any order
     pub factions_listed : IsPermutation (rows_by faction_row (entries c.factions)) p.factions
     unfolding rows_of
     factions_listed = rows.factions
 
+    -- the rows of regions are those of the campaign's regions, in any order
     pub regions_listed : IsPermutation (rows_by region_row (entries c.regions)) p.regions
     unfolding rows_of
     regions_listed = rows.regions
 
+    -- the rows of units are those of the campaign's units, in any order
     pub units_listed : IsPermutation (rows_by unit_row (entries c.units)) p.units
     unfolding rows_of
     units_listed = rows.units
 
+    -- the rows of goods are those of the campaign's units, in any order
     pub has_listed : IsPermutation (has_rows (entries c.units)) p.has
     unfolding rows_of
     has_listed = rows.has
 
+    -- the rows of structures are those of the campaign's structures, in any order
     pub structures_listed : IsPermutation (rows_by structure_row (entries c.structures)) p.structures
     unfolding rows_of
     structures_listed = rows.structures
 
+    -- the rows of mail are those of the campaign's mail, in any order
     pub mail_listed : IsPermutation (rows_by mail_row (entries c.mail)) p.mail
     unfolding rows_of
     mail_listed = rows.mail
 
+    -- the rows of reports are those of the campaign's reports, in any order
     pub reports_listed : IsPermutation (rows_by report_row (entries c.reports)) p.reports
     unfolding rows_of
     reports_listed = rows.reports
 
+    -- the rows of books are those of the campaign's books, in any order
     pub books_listed : IsPermutation (books_rows c.books) p.books
     unfolding rows_of
     books_listed = rows.books
 
+    -- the rows of markets are those of the campaign's stocks in this format, in any order
     pub markets_listed : IsPermutation (market_rows f (entries c.regions)) p.markets
     unfolding rows_of
     markets_listed = rows.markets
 
+    -- the campaign row's table is the campaign's row
     pub its_head : p.campaign ≡ campaign_row f c ∷ []
     its_head = only_row (campaign_row f c) p.campaign head_listed
 
+    -- the campaign row that is read is the campaign's
     pub head_said : campaign_row_of p ≡ campaign_row f c
     head_said = ap (λ hs. slice_index_or hs 0 no_campaign_row) its_head
 
+    -- the numbers of factions fit 32 bits
     pub factions_whole : Every (λ n f. n ≤ most_u32) c.factions
     factions_whole n f is = let most : n ≤ last_faction = (few_factions n f is).1 in omega (arith, most)
 
+    -- the numbers of regions fit 32 bits
     pub regions_whole : Every (λ n r. n ≤ most_u32) c.regions
     regions_whole n r is = let most : n ≤ last_region = region_small n (r, is) in omega (arith, most)
 
+    -- the numbers of structures fit 32 bits
     pub structures_whole : Every (λ n s. n ≤ most_u32) c.structures
     structures_whole n s is = let most : n ≤ most_structures = (few_structures n s is).1 in omega (arith, most)
 
+    -- the numbers of the factions of mail fit 32 bits
     pub mail_whole : Every (λ n text. n ≤ most_u32) c.mail
     mail_whole n text is = let most : n ≤ last_faction = faction_small n (good.sound.steady.known.posts.mail n text is) in omega (arith, most)
 
+    -- the numbers of the factions of reports fit 32 bits
     pub reports_whole : Every (λ n text. n ≤ most_u32) c.reports
     reports_whole n text is = let most : n ≤ last_faction = faction_small n (good.sound.steady.known.posts.reports n text is) in omega (arith, most)
 
+    -- the factions read from the rows are the campaign's
     factions_said : by_number (λ r. as_u32 r.number) faction_of p.factions ≡ c.factions
     factions_said = table_back faction_row (λ r. r.number) faction_of (λ n f. refl) c.factions factions_whole p.factions factions_listed (λ n f is. faction_back n f (factions_whole n f is) (good.sound.steady.numbers.factions n f is))
 
+    -- an amount up to most_amount fits 32 bits
     amount_small : (n : ℕ) → n ≤ most_amount → n ≤ most_u32
     amount_small n h = omega (arith, h)
 
-    -- what is so of all that is in stock is so of each row of a market
+    -- what is so of the row of every stock is so of each row of markets
     pub each_market : (P : StoredMarket → Type 0) → Every (λ n r. Every (λ i a. P (market_row n i a)) r.stocks) c.regions → AllByRecursion P p.markets
     each_market P h = elim f as (λ g. IsPermutation (market_rows g (entries c.regions)) p.markets → AllByRecursion P p.markets) [
       | First ↦ λ listed. subst (AllByRecursion P) (sym (none_listed p.markets listed)) tt
       | Second ↦ λ listed. each_permuted P (market_rows Second (entries c.regions)) p.markets listed (stocks_each c.regions P (λ n r there i a is some. h n r there i a is))
     ] markets_listed
 
+    -- the empty list of rows has distinct keys
     no_keys : HaveKeys market_key []
     unfolding IsDistinct
     no_keys = tt
 
+    -- the rows of markets have distinct keys
     pub markets_keyed : HaveKeys market_key p.markets
     markets_keyed = elim f as (λ g. IsPermutation (market_rows g (entries c.regions)) p.markets → HaveKeys market_key p.markets) [
       | First ↦ λ listed. subst (HaveKeys market_key) (sym (none_listed p.markets listed)) no_keys
       | Second ↦ λ listed. market_keys c.regions stocked p.markets listed
     ] markets_listed
 
+    -- the stocks read from the rows are those of each region
     stocks_said : Every (λ n r. stocks_of n p.markets ≡ r.stocks) c.regions
     stocks_said n r is = elim f as (λ g. Fits g c → IsPermutation (market_rows g (entries c.regions)) p.markets → stocks_of n p.markets ≡ r.stocks) [
       | First ↦ λ bare listed. ap (stocks_of n) (none_listed p.markets listed) ∙ sym (bare.stocks n r is)
       | Second ↦ λ _ listed. stocks_back c.regions stocked p.markets listed n r is
     ] fits markets_listed
 
+    -- the regions read from the rows are the campaign's
     regions_said : by_number (λ r. as_u32 r.number) (region_of p.markets) p.regions ≡ c.regions
     regions_said =
         table_back region_row (λ r. r.number) (region_of p.markets) (λ n r. refl) c.regions regions_whole p.regions regions_listed (λ n r is.
         let range = good.sound.steady.numbers.regions n r is in
         region_back p.markets n r (regions_whole n r is) (amount_small r.peasants range.peasants) (amount_small r.money range.money) (stocks_said n r is))
 
+    -- the structures read from the rows are the campaign's
     structures_said : by_number (λ r. as_u32 r.number) structure_of p.structures ≡ c.structures
     structures_said = table_back structure_row (λ r. r.number) structure_of (λ n s. refl) c.structures structures_whole p.structures structures_listed (λ n s is. structure_back n s (structure_fits n s is))
 
+    -- the mail read from the rows is the campaign's
     mail_said : by_number (λ r. as_u32 r.faction) (λ r. r.text) p.mail ≡ c.mail
     mail_said = table_back mail_row (λ r. r.faction) (λ r. r.text) (λ n text. refl) c.mail mail_whole p.mail mail_listed (λ n text is. refl)
 
+    -- the reports read from the rows are the campaign's
     reports_said : by_number (λ r. as_u32 r.faction) (λ r. r.text) p.reports ≡ c.reports
     reports_said = table_back report_row (λ r. r.faction) (λ r. r.text) (λ n text. refl) c.reports reports_whole p.reports reports_listed (λ n text is. refl)
 
+    -- the units read from the rows are the campaign's
     units_said : by_number (λ r. as_u32 r.number) (unit_of p.has) p.units ≡ c.units
     units_said =
         table_back unit_row (λ r. r.number) (unit_of p.has) (λ n u. refl) c.units had.numbers p.units units_listed (λ n u is.
         unit_back p.has n u (had.numbers n u is) (unit_fits n u is) (goods_back c.units had p.has has_listed n u is 0 (omega arith)) (goods_back c.units had p.has has_listed n u is 1 (omega arith)))
 
+    -- the numbers of the world's things fit 32 bits
     pub few_things : things_of w ≤ 4294967294
     few_things = let few = world.few_items in omega (arith, few)
 
+    -- the books read from the rows are the campaign's
     books_said : put_amounts p.books (no_amounts (things_of w)) ≡ c.books
     books_said = books_back (things_of w) few_things c.books good.sound.steady.numbers.books p.books books_listed
 
+    -- the month read from the rows is the campaign's
     pub month_said : as_u32 (campaign_row_of p).month ≡ c.month
     month_said = let most : c.month ≤ last_month = good.sound.steady.numbers.month in ap (λ (h : StoredCampaignRow). as_u32 h.month) head_said ∙ read_whole c.month (omega (arith, most))
 
+    -- the next faction's number is at most last_faction + 1
     pub faction_next : c.next_faction ≤ last_faction + 1
     faction_next = let count : c.next_faction ≡ len c.factions + 1 = good.sound.steady.next.factions.count in let few : len c.factions ≤ last_faction = good.sound.steady.numbers.few_factions in omega (arith, count, few)
 
+    -- the next structure's number is at most most_structures + 1
     pub structure_next : c.next_structure ≤ most_structures + 1
     structure_next = let count : c.next_structure ≡ len c.structures + 1 = good.sound.steady.next.structures.count in let few : len c.structures ≤ most_structures = good.sound.steady.numbers.few_structures in omega (arith, count, few)
 
+    -- the next faction's number read from the rows is the campaign's
     next_faction_said : as_u32 (campaign_row_of p).next_faction ≡ c.next_faction
     next_faction_said = ap (λ (h : StoredCampaignRow). as_u32 h.next_faction) head_said ∙ read_whole c.next_faction (omega (arith, faction_next))
 
+    -- the next unit's number read from the rows is the campaign's
     next_unit_said : as_u32 (campaign_row_of p).next_unit ≡ c.next_unit
     next_unit_said = let most : c.next_unit ≤ last_unit + 1 = good.sound.steady.numbers.next_unit_most in ap (λ (h : StoredCampaignRow). as_u32 h.next_unit) head_said ∙ read_whole c.next_unit (omega (arith, most))
 
+    -- the next structure's number read from the rows is the campaign's
     next_structure_said : as_u32 (campaign_row_of p).next_structure ≡ c.next_structure
     next_structure_said = ap (λ (h : StoredCampaignRow). as_u32 h.next_structure) head_said ∙ read_whole c.next_structure (omega (arith, structure_next))
 
-    -- the rows say the campaign
+    -- the campaign assembled from the rows is the campaign
     pub state_back : campaign_of w p ≡ c
     unfolding campaign_of
     state_back =

@@ -1,4 +1,4 @@
--- Rows of groups, each with a thing and an amount: gathered group by group, and listed from the map of a group's amounts.
+-- Laws of rows in groups (goods by unit, stocks by region): filtered group by group, and listed from a group's map.
 use Rattle.std.proofs.Common.{◌≡◌, ◌≢◌, ◌==◌, ℕ, ◌++◌, ◌&&◌, List, [], ◌∷◌, Bool, true, false, not, cond, map, filter, refl, sym, ap, subst, ◌∙◌, arith, inl, inr, ◌⊎◌}
 use Rattle.std.specs.List.{flat_map, AllByRecursion, IsDistinct}
 use Rattle.std.specs.List.Sorted.{IsPermutation}
@@ -14,27 +14,31 @@ use Rattle.atl_state.proofs.OrderLaws.{Apart, Apart-keys, HasNumber, each_so, fl
 -- ---- rows that pass a test
 
 module _ {R : Type 0} (test : R → Bool) where
+  -- what is so of each kept row, and of r if it passes, is so of r and them
   first_kept : (P : R → Type 0) (r : R) (rows : List R) (b : Bool) → test r ≡ b → (test r ≡ true → P r) → AllByRecursion P rows → AllByRecursion P (cond b (r ∷ rows) rows)
   first_kept P r rows true e one all = (one e, all)
   first_kept P r rows false e one all = all
 
-  -- what is so of each row that passes is so of those that are kept
+  -- what is so of each row that passes is so of the filtered rows
   pub kept : (P : R → Type 0) (rows : List R) → AllByRecursion (λ r. test r ≡ true → P r) rows → AllByRecursion P (filter test rows)
   kept P [] all = tt
   kept P (r ∷ rows) all = first_kept P r (filter test rows) (test r) refl all.0 (kept P rows all.1)
 
+  -- the converse of first_kept
   first_unkept : (P : R → Type 0) (r : R) (rows : List R) (b : Bool) → test r ≡ b → AllByRecursion P (cond b (r ∷ rows) rows) → (test r ≡ true → P r) × AllByRecursion P rows
   first_unkept P r rows true e all = (λ _. all.0, all.1)
   first_unkept P r rows false e all = (λ passes. absurd (false≢true (sym e ∙ passes)), all)
 
-  -- and the other way round
+  -- what is so of the filtered rows is so of each row that passes
   pub unkept : (P : R → Type 0) (rows : List R) → AllByRecursion P (filter test rows) → AllByRecursion (λ r. test r ≡ true → P r) rows
   unkept P [] all = tt
   unkept P (r ∷ rows) all = let first = first_unkept P r (filter test rows) (test r) refl all in (first.0, unkept P rows first.1)
 
+  -- what is so of each row is so of the filtered rows
   pub filter_each : (P : R → Type 0) (rows : List R) → AllByRecursion P rows → AllByRecursion P (filter test rows)
   filter_each P rows all = kept P rows (each_so P (λ r. test r ≡ true → P r) (λ r h _. h) rows all)
 
+  -- rows that differ still differ when filtered
   pub filter_apart : (e : R → R → Bool) (rows : List R) → IsDistinct e rows → IsDistinct e (filter test rows)
   unfolding IsDistinct
   filter_apart e [] d = tt
@@ -44,7 +48,7 @@ module _ {R : Type 0} (test : R → Bool) where
       either rest true = (filter_each (λ s. e r s ≡ false) rows d.0, rest)
       either rest false = rest
 
-  -- two tests, one after another
+  -- filtering by two tests in turn is filtering by both
   pub filter_both : (other : R → Bool) (rows : List R) → filter other (filter test rows) ≡ filter (λ r. test r && other r) rows
   filter_both other [] = refl
   filter_both other (r ∷ rows) = either (filter_both other rows) (test r)
@@ -54,11 +58,12 @@ module _ {R : Type 0} (test : R → Bool) where
       either rest true = ap (λ rs. cond (other r) (r ∷ rs) rs) rest
       either rest false = rest
 
+-- a row that may be there, in front of rows, as one choice
 single : {R : Type 0} (b : Bool) (r : R) (rows : List R) → cond b (r ∷ []) [] ++ rows ≡ cond b (r ∷ rows) rows
 single true r rows = refl
 single false r rows = refl
 
--- what passes is what passes of each
+-- filtering each row by itself is filtering the rows
 pub filter_lines : {X R : Type 0} (test : R → Bool) (f : X → R) (xs : List X) → flat_map (λ x. filter test (f x ∷ [])) xs ≡ filter test (map f xs)
 filter_lines test f [] = refl
 filter_lines test f (x ∷ xs) = ap (λ rs. filter test (f x ∷ []) ++ rs) (filter_lines test f xs) ∙ single (test (f x)) (f x) (filter test (map f xs))
@@ -66,13 +71,15 @@ filter_lines test f (x ∷ xs) = ap (λ rs. filter test (f x ∷ []) ++ rs) (fil
 -- ---- group by group
 
 module _ {R U : Type 0} (group : R → ℕ) (number : U → ℕ) where
+  -- the rows of a group
   abbrev pub of_group : ℕ → List R → List R
   of_group n rows = filter (λ r. group r == n) rows
 
+  -- the rows that are not of a group
   abbrev others : ℕ → List R → List R
   others n rows = filter (λ r. not (group r == n)) rows
 
-  -- a group has none of the rows of another
+  -- the rows of a group are the same without those of another
   same_group : (n m : ℕ) → m ≢ n → (rows : List R) → of_group m rows ≡ of_group m (others n rows)
   same_group n m apart [] = refl
   same_group n m apart (r ∷ rows) =
@@ -86,18 +93,20 @@ module _ {R U : Type 0} (group : R → ℕ) (number : U → ℕ) where
             ap (λ rs. cond (group r == m) (r ∷ rs) rs) (same_group n m apart rows) ∙ sym (ap (λ b. of_group m (cond (not b) (r ∷ others n rows) (others n rows))) elsewhere)
       ]
 
+  -- the rows of groups other than n are the same without those of n
   same_groups : (n : ℕ) (rows : List R) (units : List U) → AllByRecursion (λ u. number u ≢ n) units → flat_map (λ u. of_group (number u) rows) units ≡ flat_map (λ u. of_group (number u) (others n rows)) units
   same_groups n rows [] apart = refl
   same_groups n rows (u ∷ units) apart =
       ap (λ rs. rs ++ flat_map (λ u. of_group (number u) rows) units) (same_group n (number u) apart.0 rows) ∙ ap (λ rs. of_group (number u) (others n rows) ++ rs) (same_groups n rows units apart.1)
 
+  -- a number of some unit, other than n, is that of one of the other units
   of_others : (n g : ℕ) (units : List U) → (n ≡ g) ⊎ HasNumber number units g → not (g == n) ≡ true → HasNumber number units g
   of_others n g units (inl e) other =
       let same : (g == n) ≡ true = grind (arith, nat_tests) in
       absurd (false≢true (sym (ap not same) ∙ other))
   of_others n g units (inr there) other = there
 
-  -- the rows of all groups are the rows, where each row is of one of them
+  -- the rows of all groups together are the rows, in another order, if each row is of one of them
   by_group : (units : List U) (rows : List R) → Apart number units → AllByRecursion (λ r. HasNumber number units (group r)) rows → IsPermutation (flat_map (λ u. of_group (number u) rows) units) rows
   by_group [] [] apart all = IsPermutation-refl []
   by_group [] (r ∷ rows) apart all = absurd all.0
@@ -111,11 +120,12 @@ module _ {R U : Type 0} (group : R → ℕ) (number : U → ℕ) where
       (IsPermutation-trans (mine ++ theirs) (mine ++ left) rows (IsPermutation-append_right mine theirs left (by_group units left apart.1 of))
       (IsPermutation-sym rows (mine ++ left) (IsPermutation-filter_both (λ r. group r == n) (λ r. not (group r == n)) (λ r. refl) rows)))
 
+  -- lists that are permutations group by group are permutations together
   each_group : (f g : U → List R) → ((u : U) → IsPermutation (f u) (g u)) → (units : List U) → IsPermutation (flat_map f units) (flat_map g units)
   each_group f g same [] = IsPermutation-refl []
   each_group f g same (u ∷ units) = IsPermutation-append (f u) (g u) (flat_map f units) (flat_map g units) (same u) (each_group f g same units)
 
-  -- what gives each group its rows gives the rows
+  -- what gives each group's rows in some order gives all rows in some order
   pub gathered : (f : U → List R) (units : List U) (rows : List R) → ((u : U) → IsPermutation (f u) (of_group (number u) rows)) → Apart number units → AllByRecursion (λ r. HasNumber number units (group r)) rows
       → IsPermutation (flat_map f units) rows
   gathered f units rows same apart all =
@@ -125,17 +135,21 @@ module _ {R U : Type 0} (group : R → ℕ) (number : U → ℕ) where
 -- ---- rows of a group with keys
 
 module _ {R K : Type 0} (key : R → K) (same : K → K → Bool) (itself : (k : K) → same k k ≡ true) (thing : R → ℕ) (mine : R → Bool) (P : R → Type 0) where
+  -- a row of the group for which P holds
   abbrev pub IsMine : R → Type 0
   IsMine r = P r × (mine r ≡ true)
 
+  -- the rows of the group are of the group, and P holds of each
   pub all_mine : (rows : List R) → AllByRecursion P rows → AllByRecursion IsMine (filter mine rows)
   all_mine rows all = kept mine IsMine rows (each_so P (λ r. mine r ≡ true → IsMine r) (λ r one passes. (one, passes)) rows all)
 
   -- where those of one thing have one key, no thing stands twice
   module _ (same_key : (r s : R) → IsMine r → IsMine s → thing r ≡ thing s → ◌≡◌ {A = K} (key s) (key r)) where
+    -- rows of the group with different keys are of different things
     other_thing : (r s : R) → IsMine r → IsMine s → same (key s) (key r) ≡ false → thing r ≢ thing s
     other_thing r s a b d e = false≢true (sym (ap (same (key s)) (same_key r s a b e) ∙ d) ∙ itself (key s))
 
+    -- no two rows of the group are of one thing, if rows of one thing have one key and keys differ
     pub things_apart : (rows : List R) → AllByRecursion P rows → IsDistinct same (map key rows) → Apart thing (filter mine rows)
     things_apart rows all d =
         let keys = IsDistinct-map key same (filter mine rows) (filter_apart mine (λ r s. same (key r) (key s)) rows (IsDistinct-of_map key same rows d)) in
@@ -145,16 +159,18 @@ module _ {R K : Type 0} (key : R → K) (same : K → K → Bool) (itself : (k :
 
 module _ {R : Type 0} (thing amount : R → ℕ) where
   module _ (row : ℕ → ℕ → R) (some : R → Bool) where
+    -- the row of a thing and its amount, if it passes the test
     abbrev line : ℕ × ℕ → List R
     line e = filter some (row e.0 e.1 ∷ [])
 
+    -- the row made again of each row's thing and amount is that row
     row_lines : (rows : List R) → AllByRecursion (λ r. (row (thing r) (amount r) ≡ r) × (some r ≡ true)) rows → flat_map (λ r. line (thing r, amount r)) rows ≡ rows
     row_lines [] all = refl
     row_lines (r ∷ rows) all =
         let itself : line (thing r, amount r) ≡ r ∷ [] = ap (λ s. filter some (s ∷ [])) all.0.0 ∙ ap (λ b. cond b (r ∷ []) []) all.0.1 in
         ap (λ rs. rs ++ flat_map (λ r. line (thing r, amount r)) rows) itself ∙ ap (λ rs. r ∷ rs) (row_lines rows all.1)
 
-    -- a row for each amount, where there is some, is what the rows are
+    -- the rows of the map that a group's rows make are these rows, in another order
     pub lines_order : (rows : List R) → Apart thing rows → AllByRecursion (λ r. (row (thing r) (amount r) ≡ r) × (some r ≡ true)) rows → IsPermutation (filter some (rows_by row (entries (by_number thing amount rows)))) rows
     lines_order rows apart all =
         let es = entries (by_number thing amount rows) in

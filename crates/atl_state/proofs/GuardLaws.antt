@@ -1,4 +1,4 @@
--- Whether the guards of a region are of one faction, by the list of its units.
+-- Laws of the rule of guards: checking each region's list of units decides whether its guards are of one faction.
 use Rattle.std.proofs.Common.{◌≡◌, ◌==◌, ◌⊎◌, inl, inr, ℕ, suc, ◌<◌, Bool, true, false, cond, List, [], ◌∷◌, length, get_or, map, filter, Option, Some, None, option_and_then, refl, sym, ap, ◌∙◌, subst, arith}
 use Rattle.std.proofs.lemmas.Bool.{and_parts}
 use Rattle.std.proofs.lemmas.Bool.Decides.{Decides-eqb}
@@ -18,23 +18,28 @@ use Rattle.atl_records.proofs.EveryLaws.{none_some, passes-listed}
 
 -- ---- a number that is listed
 
+-- the number is in the list
 abbrev In : ℕ → List ℕ → Type 0
 In n [] = ⊥
 In n (m ∷ ms) = (n ≡ m) ⊎ In n ms
 
+-- a number in a list is at some index of it
 position_of : (n : ℕ) (ns : List ℕ) → In n ns → (i : ℕ) × (i < length ns) × (get_or ns i 0 ≡ n)
 position_of n [] h = absurd h
 position_of n (m ∷ ms) (inl same) = (0, omega arith, sym same)
 position_of n (m ∷ ms) (inr h) = let (i, l, is) = position_of n ms h in (suc i, omega (arith, l), is)
 
 module _ {V : Type 0} (p : V → Bool) where
+  -- the numbers of the entries that pass the test
   abbrev chosen : List (ℕ × V) → List ℕ
   chosen es = map (λ e. e.0) (filter (λ e. p e.1) es)
 
+  -- a number in a list is in it with one more in front, or without
   behind : (b : Bool) (n k : ℕ) (ns : List ℕ) → In n ns → In n (cond b (k ∷ ns) ns)
   behind true n k ns h = inr h
   behind false n k ns h = h
 
+  -- the number of a found value that passes is chosen
   chosen_in : (es : List (ℕ × V)) (n : ℕ) (v : V) → find nat_cmp n es ≡ Some v → p v ≡ true → In n (chosen es)
   chosen_in [] n v is h = none_some v is
   chosen_in (e ∷ es) n v is h =
@@ -44,40 +49,48 @@ module _ {V : Type 0} (p : V → Bool) where
         | Greater ↦ λ _ is. behind (p e.1) n e.0 (chosen es) (chosen_in es n v is h)
       ] refl is)
 
+  -- a number whose value passes is among numbers_where
   listed : (m : FinMap nat_cmp V) (n : ℕ) (v : V) → get m n ≡ Some v → p v ≡ true → In n (numbers_where p m)
   listed m n v is h = chosen_in (entries m) n v (sym (get-entries m n) ∙ is) h
 
+  -- a number among numbers_where has a value that passes
   of_listed : (m : FinMap nat_cmp V) (n : ℕ) → In n (numbers_where p m) → (v : V) × (get m n ≡ Some v) × (p v ≡ true)
   of_listed m n h = let (i, l, is) = position_of n (numbers_where p m) h in subst (λ k. (v : V) × (get m k ≡ Some v) × (p v ≡ true)) is (passes-listed p m i 0 l)
 
 -- ---- those who hold
 
+-- equal Some's have equal numbers
 same_value : (x y : ℕ) → Some x ≡ Some y → x ≡ y
 same_value x y e = cc
 
+-- two options agree if their values, where both have one, are equal
 agree_true : (a b : Option ℕ) → ((x y : ℕ) → a ≡ Some x → b ≡ Some y → x ≡ y) → agree a b ≡ true
 agree_true None b h = refl
 agree_true (Some x) None h = refl
 agree_true (Some x) (Some y) h = (Decides-eqb x y).1 (h x y refl refl)
 
 module _ (faction : ℕ → Option ℕ) where
-  -- each is the holder's
+  -- where all agree with a holder, each faction is the holder's
   like_holder : (x : ℕ) (ns : List ℕ) → one_holder faction (Some x) ns ≡ true → (n y : ℕ) → In n ns → faction n ≡ Some y → y ≡ x
   like_holder x [] h n y mine is = absurd mine
   like_holder x (m ∷ ms) h n y (inl same) is = (Decides-eqb y x).0 (ap (λ o. agree o (Some x)) (sym (ap faction (sym same) ∙ is)) ∙ (and_parts _ _ h).0)
   like_holder x (m ∷ ms) h n y (inr mine) is = like_holder x ms (and_parts _ _ h).1 n y mine is
 
+  -- any two numbers of the list that have a faction have the same
   abbrev Alike : List ℕ → Type 0
   Alike ns = (n k x y : ℕ) → In n ns → In k ns → faction n ≡ Some x → faction k ≡ Some y → x ≡ y
 
+  -- where all agree with the first faction, each is the first
   first_holds : (m z : ℕ) (ms : List ℕ) → faction m ≡ Some z → one_holder faction (Some z) ms ≡ true → (n x : ℕ) → In n (m ∷ ms) → faction n ≡ Some x → x ≡ z
   first_holds m z ms first h n x (inl same) is = same_value x z (sym is ∙ ap faction same ∙ first)
   first_holds m z ms first h n x (inr mine) is = like_holder z ms h n x mine is
 
+  -- a number with a faction is not the first of a list if that has none
   not_first : (m : ℕ) (ms : List ℕ) → faction m ≡ None → (n x : ℕ) → In n (m ∷ ms) → faction n ≡ Some x → In n ms
   not_first m ms none n x (inl same) is = none_some x (sym none ∙ ap faction (sym same) ∙ is)
   not_first m ms none n x (inr mine) is = mine
 
+  -- numbers that pass one_holder have one faction
   alike : (ns : List ℕ) → one_holder faction None ns ≡ true → Alike ns
   alike [] h n k x y a b is js = absurd a
   alike (m ∷ ms) h n k x y a b is js =
@@ -86,13 +99,16 @@ module _ (faction : ℕ → Option ℕ) where
         | Some z ↦ λ first rest. first_holds m z ms first rest n x a is ∙ sym (first_holds m z ms first rest k y b js)
       ] refl (and_parts _ _ h).1
 
+  -- each faction of the list is the holder's, where there is a holder
   abbrev Fits : Option ℕ → List ℕ → Type 0
   Fits holder ns = (n x y : ℕ) → In n ns → faction n ≡ Some x → holder ≡ Some y → x ≡ y
 
+  -- the rest of a list fits the holder, or the first's faction where there is none yet
   fits_on : (holder : Option ℕ) (m : ℕ) (ms : List ℕ) → Alike (m ∷ ms) → Fits holder (m ∷ ms) → Fits (option_or holder (faction m)) ms
   fits_on None m ms same fits n x y mine is first = same n m x y (inr mine) (inl refl) is first
   fits_on (Some z) m ms same fits n x y mine is held = fits n x y (inr mine) is held
 
+  -- numbers of one faction, which is the holder's if there is one, pass one_holder
   hold : (holder : Option ℕ) (ns : List ℕ) → Alike ns → Fits holder ns → one_holder faction holder ns ≡ true
   hold holder [] same fits = refl
   hold holder (m ∷ ms) same fits =
@@ -101,19 +117,24 @@ module _ (faction : ℕ → Option ℕ) where
 
 -- ---- the guards of all regions
 
+-- a unit that guards is a guard of its faction
 guard_is : (c : CampaignValue) (n : ℕ) (u : Unit) → get c.units n ≡ Some u → guards u ≡ true → guard_of c n ≡ Some u.faction
 guard_is c n u is on = ap (option_and_then (λ (v : Unit). cond (guards v) (Some v.faction) None)) is ∙ ap (λ b. cond b (Some u.faction) None) on
 
+-- a conditional Some tells that the condition holds, and its value
 guarding : (b : Bool) (f x : ℕ) → cond b (Some f) None ≡ Some x → (b ≡ true) × (f ≡ x)
 guarding true f x e = (refl, same_value f x e)
 guarding false f x e = none_some x e
 
+-- a number that is a guard's is of a unit that guards, of that faction
 is_guard : (c : CampaignValue) (n x : ℕ) (u : Unit) → get c.units n ≡ Some u → guard_of c n ≡ Some x → (guards u ≡ true) × (u.faction ≡ x)
 is_guard c n x u is e = guarding (guards u) u.faction x (sym (ap (option_and_then (λ (v : Unit). cond (guards v) (Some v.faction) None)) is) ∙ e)
 
+-- the guards among a region's units are of one faction
 abbrev pub IsHeldByOne : CampaignValue → ℕ → Type 0
 IsHeldByOne c r = one_holder (guard_of c) None (numbers_in r c.units) ≡ true
 
+-- the guards are of one faction in each region, if they are by each region's list
 pub of_one_faction : (c : CampaignValue) → Every (λ n u. IsThere c.regions u.region) c.units → Every (λ r x. IsHeldByOne c r) c.regions → AreOfOneFaction guards c
 of_one_faction c placed held n u is m v there on also same =
     let r = u.region in
@@ -123,6 +144,7 @@ of_one_faction c placed held n u is m v there on also same =
     alike (guard_of c) (numbers_in r c.units) (held r x known) n m u.faction v.faction (listed (λ (w : Unit). w.region == r) c.units n u is (here.1 refl)) (listed (λ (w : Unit). w.region == r) c.units m v there (beside.1 (sym same)))
     (guard_is c n u is on) (guard_is c m v there also)
 
+-- by each region's list the guards are of one faction, if they are in each region
 pub held_by_one : (c : CampaignValue) → AreOfOneFaction guards c → Every (λ r x. IsHeldByOne c r) c.regions
 held_by_one c one r x known = hold (guard_of c) None (numbers_in r c.units) alike_here (λ n y z mine is e. none_some z e)
   where

@@ -1,4 +1,4 @@
--- What units have, as the rows say it and as the campaign lists it.
+-- Laws of the rows of goods: those of the units assembled from rows are these rows, in another order.
 use Rattle.std.proofs.Common.{◌≡◌, ◌==◌, ℕ, ◌++◌, List, [], ◌∷◌, Bool, true, false, not, map, filter, sym, ap, subst, ◌∙◌, arith, inl, inr, ◌⊎◌}
 use Rattle.std.specs.Prelude.{pos, ℤ}
 use Rattle.std.specs.List.{flat_map, AllByRecursion, IsDistinct}
@@ -20,14 +20,15 @@ use Rattle.atl_state.proofs.GroupLaws as group
 use Rattle.atl_state.proofs.GroupLaws.{filter_both, filter_each, gathered, lines_order, of_group}
 use Rattle.atl_state.proofs.OrderLaws.{Apart, HasNumber, each_so, flat_order}
 
--- a row of what a unit has is of one of these units, and of sort 0 or 1
+-- a row of goods of one of these units, and of kind 0 (items) or 1 (days)
 abbrev pub IsOfUnits : List StoredUnit → StoredHas → Type 0
 IsOfUnits units h = HasNumber (λ r. as_u32 r.number) units (as_u32 h.unit) × ((as_u32 h.sort ≡ 0) ⊎ (as_u32 h.sort ≡ 1))
 
+-- the rows of goods of a unit
 abbrev rows_of_unit : ℕ → List StoredHas → List StoredHas
 rows_of_unit n has = of_group (λ h. as_u32 h.unit) (λ (r : StoredUnit). as_u32 r.number) n has
 
--- the rows of a unit are those of its items and those of its days
+-- a unit's rows of items and its rows of days are its rows, in another order
 by_sort : (n : ℕ) (has : List StoredHas) → AllByRecursion (λ h. (as_u32 h.sort ≡ 0) ⊎ (as_u32 h.sort ≡ 1)) has → IsPermutation (filter (is_of n 0) has ++ filter (is_of n 1) has) (rows_of_unit n has)
 by_sort n has sorts =
     let mine = rows_of_unit n has in
@@ -45,39 +46,47 @@ by_sort n has sorts =
 
 -- ---- the things of a unit
 
+-- a number of a row that is read as it is
 abbrev pub IsWhole : ℤ → Type 0
 IsWhole z = z ≡ pos (as_u32 z)
 
--- a key that is read as it is
+-- a row of goods whose key is read as it is
 pub record IsKeyed (h : StoredHas) : Type 0 where
   pub unit : IsWhole h.unit
   pub sort : IsWhole h.sort
   pub thing : IsWhole h.thing
 
--- and an amount that is read as it is and isn't 0
+-- a row of goods whose key and amount are read as they are, with an amount other than 0
 pub record IsExact (h : StoredHas) : Type 0 where
   pub keys : IsKeyed h
   pub amount : IsWhole h.amount
   pub some : is_zero h.amount ≡ false
 
+-- the number of the item or skill in a row, as it is read
 abbrev thing_of : StoredHas → ℕ
 thing_of h = as_u32 h.thing
 
+-- the amount in a row, as it is read
 abbrev amount_of : StoredHas → ℕ
 amount_of h = as_u32 h.amount
 
+-- a row of unit n and this kind, whose key is read as it is
 abbrev IsHadBy : ℕ → ℕ → StoredHas → Type 0
 IsHadBy n sort h = IsKeyed h × (is_of n sort h ≡ true)
 
+-- the unit of a row of unit n is n
 its_unit : (n sort : ℕ) (h : StoredHas) → IsHadBy n sort h → h.unit ≡ pos n
 its_unit n sort h (exact, of) = exact.unit ∙ ap pos (is_same (as_u32 h.unit) n (and_parts (as_u32 h.unit == n) (as_u32 h.sort == sort) of).0)
 
+-- the kind of a row of this kind is this one
 its_sort : (n sort : ℕ) (h : StoredHas) → IsHadBy n sort h → h.sort ≡ pos sort
 its_sort n sort h (exact, of) = exact.sort ∙ ap pos (is_same (as_u32 h.sort) sort (and_parts (as_u32 h.unit == n) (as_u32 h.sort == sort) of).1)
 
+-- the row made again of a row's thing and amount is that row
 same_row : (n sort : ℕ) (h : StoredHas) → IsHadBy n sort h → IsWhole h.amount → has_row n sort (thing_of h) (amount_of h) ≡ h
 same_row n sort h had amount = λ i. record { unit = sym (its_unit n sort h had) i; sort = sym (its_sort n sort h had) i; thing = sym had.0.thing i; amount = sym amount i }
 
+-- rows of one unit, kind and thing have the same key
 same_key : (n sort : ℕ) (g h : StoredHas) → IsHadBy n sort g → IsHadBy n sort h → thing_of g ≡ thing_of h → ◌≡◌ {A = Key} (has_key h) (has_key g)
 same_key n sort g h a b e =
     let unit = its_unit n sort h b ∙ sym (its_unit n sort g a) in
@@ -85,21 +94,25 @@ same_key n sort g h a b e =
     let thing = b.0.thing ∙ sym (ap pos e) ∙ sym a.0.thing in
     λ i. (unit i, kind i, thing i)
 
+-- whether two keys compare equal
 abbrev pub same : Key → Key → Bool
 same a b = eq_by_cmp key_cmp a b
 
+-- a key compares equal to itself
 pub ties_itself : (k : Key) → same k k ≡ true
 ties_itself k = (eq_by_cmp_equiv (then_total (then_total (on_total (λ (t : Key). t.0) int_cmp_total) (on_total (λ (t : Key). t.1) int_cmp_total)) (on_total (λ (t : Key). t.2) int_cmp_total))).refl k
 
--- of one unit and sort, no thing stands twice
+-- no two rows of one unit and kind are of one thing, if keys differ
 pub things_apart : (n sort : ℕ) (has : List StoredHas) → AllByRecursion IsKeyed has → IsDistinct same (map has_key has) → Apart thing_of (filter (is_of n sort) has)
 things_apart n sort = group.things_apart has_key same ties_itself thing_of (is_of n sort) IsKeyed (same_key n sort)
 
+-- the rows of the goods that a unit's rows of one kind make are these rows, in another order
 sort_order : (n sort : ℕ) (has : List StoredHas) → AllByRecursion IsExact has → IsDistinct same (map has_key has) → IsPermutation (rows_of_sort n sort (entries (things_had n sort has))) (filter (is_of n sort) has)
 sort_order n sort has all d =
     lines_order thing_of amount_of (has_row n sort) (λ h. not (is_zero h.amount)) (filter (is_of n sort) has) (things_apart n sort has (each_so IsExact IsKeyed (λ h one. one.keys) has all) d)
     (each_so (λ h. IsExact h × (is_of n sort h ≡ true)) (λ h. (has_row n sort (thing_of h) (amount_of h) ≡ h) × (not (is_zero h.amount) ≡ true)) (λ h had. (same_row n sort h (had.0.keys, had.1) had.0.amount, ap not had.0.some)) (filter (is_of n sort) has) (group.all_mine has_key same ties_itself thing_of (is_of n sort) IsExact has all))
 
+-- the rows of the goods that a unit's rows make are these rows, in another order
 unit_order : (n : ℕ) (has : List StoredHas) → AllByRecursion (λ h. (as_u32 h.sort ≡ 0) ⊎ (as_u32 h.sort ≡ 1)) has → AllByRecursion IsExact has → IsDistinct same (map has_key has)
     → IsPermutation (rows_of_sort n 0 (entries (things_had n 0 has)) ++ rows_of_sort n 1 (entries (things_had n 1 has))) (rows_of_unit n has)
 unit_order n has sorts all d =
@@ -108,10 +121,11 @@ unit_order n has sorts all d =
     let rows = filter (is_of n 0) has ++ filter (is_of n 1) has in
     IsPermutation-trans (items ++ days) rows (rows_of_unit n has) (IsPermutation-append items (filter (is_of n 0) has) days (filter (is_of n 1) has) (sort_order n 0 has all d) (sort_order n 1 has all d)) (by_sort n has sorts)
 
+-- the rows of what a unit has
 abbrev unit_lines : ℕ × Unit → List StoredHas
 unit_lines e = held_rows e.0 e.1.holding
 
--- what the campaign lists is what the rows say
+-- the rows of goods of the units assembled from rows are these rows, in another order
 pub has_order : (has : List StoredHas) (units : List StoredUnit) → Apart (λ r. as_u32 r.number) units → AllByRecursion (IsOfUnits units) has → AllByRecursion IsExact has → IsDistinct same (map has_key has)
     → IsPermutation (has_rows (entries (by_number (λ r. as_u32 r.number) (unit_of has) units))) has
 has_order has units apart of all d =

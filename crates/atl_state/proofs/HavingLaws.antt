@@ -1,4 +1,4 @@
--- How a campaign changes with what one unit holds, where the unit may come to guard.
+-- Laws of what one unit holds, where it may come to guard: the campaign stays steady and early.
 use Rattle.std.proofs.Common.{◌≡◌, ◌==◌, ℕ, ◌*◌, ◌≤◌, ◌<◌, true, length, Some, refl, ◌∙◌}
 use Rattle.std.specs.Prelude.{IsTrue, nat_lt}
 use Rattle.std.proofs.lemmas.Bool.{and_parts}
@@ -15,7 +15,7 @@ use Rattle.atl_state.specs.Campaign.{CampaignValue}
 use Rattle.atl_records.proofs.EveryLaws.{every-insert}
 use Rattle.atl_state.proofs.HoldingLaws.{known_kept, next_kept, numbers_kept, of_one_faction_kept, owners_kept}
 
--- What a unit of a campaign may hold: within the limits, and of what the world has.
+-- what a unit of a campaign may hold: within the limits, and of what the world has
 pub record MayHave (w : WorldValue) (h : HoldingValue) : Type 0 where
   pub limits : IsHolding h
   pub name : IsTrue (name_ok h.name)
@@ -23,20 +23,22 @@ pub record MayHave (w : WorldValue) (h : HoldingValue) : Type 0 where
   pub skills : Every (λ s days. s < length w.skills) h.days
   pub days : Every (λ s days. (1 ≤ days) × (days ≤ most_days * h.men)) h.days
 
--- what a unit of a steady campaign holds
+-- what a unit of a steady campaign holds it may have
 pub may_have : (w : WorldValue) (c : CampaignValue) (n : ℕ) (u : Unit) → get c.units n ≡ Some u → IsSteady w c → MayHave w u.holding
 may_have w c n u is steady =
     let place = steady.known.units n u is in
     record { limits = (steady.numbers.units n u is).1; name = steady.names.units n u is; items = place.items; skills = place.skills; days = steady.days n u is }
 
 module _ (w : WorldValue) (c : CampaignValue) (n : ℕ) (u : Unit) (h : HoldingValue) (is : get c.units n ≡ Some u) where
+  -- the unit with the holding h
   abbrev new_unit : Unit
   new_unit = record u { holding = h }
 
+  -- the campaign with the holding h of unit n
   abbrev supplied : CampaignValue
   supplied = record c { units = insert c.units n new_unit }
 
-  -- it is steady where the guards of each region are of one faction
+  -- the campaign stays steady if the guards of each region are of one faction after it
   pub steady-having : MayHave w h → AreOfOneFaction guards supplied → IsSteady w c → IsSteady w supplied
   steady-having may guarded old = record {
     numbers = numbers_kept w c n u h is may.limits old.numbers;
@@ -56,7 +58,7 @@ module _ (w : WorldValue) (c : CampaignValue) (n : ℕ) (u : Unit) (h : HoldingV
     guarded = guarded;
   }
 
-  -- so it is where all flags of each region are, and the unit has one only if it had
+  -- the campaign stays early if the guard flag is set only where it was
   pub early-having : MayHave w h → (h.guard ≡ true → u.holding.guard ≡ true) → IsEarly w c → IsEarly w supplied
   early-having may flag early =
       let flags = of_one_faction_kept w c n u h is (λ x. x.holding.guard) flag early.flags in

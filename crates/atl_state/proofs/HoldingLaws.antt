@@ -1,4 +1,4 @@
--- How a campaign changes with what one unit holds.
+-- Laws of what one unit holds, where it guards only if it did: steady campaigns, totals, and marks.
 use Rattle.std.proofs.Common.{◌≡◌, ◌≢◌, ◌==◌, ℕ, ◌+◌, ◌*◌, ◌≤◌, ◌<◌, Bool, true, Option, Some, None, length, refl, sym, ap, ◌∙◌, arith}
 use Rattle.std.specs.Prelude.{IsTrue, option_map}
 use Rattle.std.specs.Ordering.{nat_cmp}
@@ -29,7 +29,7 @@ use Rattle.atl_records.proofs.EveryLaws.{every-insert, get-insert_other, none_so
 use Rattle.atl_records.proofs.HoldingLaws.{get-set_other}
 use Rattle.atl_state.proofs.RegionLaws.{get-insert_same, same_len}
 
--- What a unit of a steady campaign may hold in the place of what it holds: within the limits, of what the world has, and it guards only if it did.
+-- what a unit may hold in place of its holding: within the limits, of the world, guarding only if it did
 pub record MayHold (w : WorldValue) (u : Unit) (h : HoldingValue) : Type 0 where
   pub limits : IsHolding h
   pub name : IsTrue (name_ok h.name)
@@ -38,7 +38,7 @@ pub record MayHold (w : WorldValue) (u : Unit) (h : HoldingValue) : Type 0 where
   pub days : Every (λ s days. (1 ≤ days) × (days ≤ most_days * h.men)) h.days
   pub guard : guards (record u { holding = h }) ≡ true → guards u ≡ true
 
--- other money, up to the limit
+-- a unit of a steady campaign may hold any money up to the limit
 pub may_hold_money : (w : WorldValue) (c : CampaignValue) (n money : ℕ) (u : Unit) → get c.units n ≡ Some u → money ≤ holding_limit → IsSteady w c → MayHold w u (record u.holding { money = money })
 may_hold_money w c n money u is most steady =
     let place = steady.known.units n u is in
@@ -52,22 +52,25 @@ may_hold_money w c n money u is most steady =
       guard = λ g. g;
     }
 
--- the structure of a unit, where it is there
+-- the structure of a unit, or of another unit where it is not there
 abbrev pub structure_in : Option Unit → Unit → ℕ
 structure_in (Some y) z = y.structure
 structure_in None z = z.structure
 
 module _ (w : WorldValue) (c : CampaignValue) (n : ℕ) (u : Unit) (h : HoldingValue) (is : get c.units n ≡ Some u) where
+  -- the unit with the holding h
   abbrev new_unit : Unit
   new_unit = record u { holding = h }
 
+  -- the campaign with the holding h of unit n
   abbrev supplied : CampaignValue
   supplied = record c { units = insert c.units n new_unit }
 
-  -- another number than one under which there is no unit
+  -- a number without a unit is not n
   free_apart : (k : ℕ) → get c.units k ≡ None → k ≢ n
   free_apart k free same = none_some u (sym free ∙ ap (get c.units) same ∙ is)
 
+  -- the numbers of the campaign stay in range if the holding is within its limits
   pub numbers_kept : IsHolding h → AreInRange w c → AreInRange w supplied
   numbers_kept limits old = record {
     month = old.month;
@@ -84,6 +87,7 @@ module _ (w : WorldValue) (c : CampaignValue) (n : ℕ) (u : Unit) (h : HoldingV
     books = old.books;
   }
 
+  -- everything that is named by its number still exists, if items and skills are of the world
   pub known_kept : Every (λ i amount. i < length w.items) h.items → Every (λ s days. s < length w.skills) h.days → AreKnown w c → AreKnown w supplied
   known_kept items skills old = record {
     regions = old.regions;
@@ -95,6 +99,7 @@ module _ (w : WorldValue) (c : CampaignValue) (n : ℕ) (u : Unit) (h : HoldingV
     posts = old.posts;
   }
 
+  -- factions and structures are still numbered without a gap, and no unit has a number from the next on
   pub next_kept : AreNumbered c → AreNumbered supplied
   next_kept old = record {
     factions = old.factions;
@@ -102,10 +107,11 @@ module _ (w : WorldValue) (c : CampaignValue) (n : ℕ) (u : Unit) (h : HoldingV
     units = λ k above. get-insert_other c.units n k new_unit (free_apart k (old.units k above)) ∙ old.units k above;
   }
 
+  -- factions that are gone still have no units
   gone_kept : GoneHaveNone c → GoneHaveNone supplied
   gone_kept old m f there gone = numbers_where-insert_known (λ x. x.faction == m) c.units n u new_unit is refl ∙ old m f there gone
 
-  -- a unit of the structure is still inside it
+  -- a unit inside a structure still is
   inside_still : (k m : ℕ) → (x : Unit) × (get c.units k ≡ Some x) × (x.structure ≡ m) → (x : Unit) × (get supplied.units k ≡ Some x) × (x.structure ≡ m)
   inside_still k m (x, there, inside) =
       elim (nat_cmp k n) as (λ o. nat_cmp k n ≡ o → (y : Unit) × (get supplied.units k ≡ Some y) × (y.structure ≡ m)) [
@@ -117,6 +123,7 @@ module _ (w : WorldValue) (c : CampaignValue) (n : ℕ) (u : Unit) (h : HoldingV
         | Greater ↦ λ o. (x, get-insert_other c.units n k new_unit (λ same. let l = ranked k n Greater (sym o) in absurd (omega arith)) ∙ there, inside)
       ] refl
 
+  -- structures are still owned by units inside them
   pub owners_kept : AreOwned c → AreOwned supplied
   owners_kept old m s there =
       let o = old m s there in
@@ -125,6 +132,7 @@ module _ (w : WorldValue) (c : CampaignValue) (n : ℕ) (u : Unit) (h : HoldingV
         ownerless = λ none. every-insert (λ k x. x.structure ≢ m) c.units n new_unit (o.ownerless none n u is) (o.ownerless none);
       }
 
+  -- what is on water is still afloat
   water_kept : AreAfloat w c → AreAfloat w supplied
   water_kept old = record {
     units = every-insert _ c.units n new_unit (old.units n u is) old.units;
@@ -133,15 +141,18 @@ module _ (w : WorldValue) (c : CampaignValue) (n : ℕ) (u : Unit) (h : HoldingV
 
   -- those that pass a test are still of one faction, if the unit passes it only where it did
   module _ (test : Unit → Bool) (only : test new_unit ≡ true → test u ≡ true) where
+    -- two units that pass the test in one region are of one faction
     abbrev Agree : Unit → Unit → Type 0
     Agree x y = test x ≡ true → test y ≡ true → x.region ≡ y.region → x.faction ≡ y.faction
 
+    -- those that pass a test stay of one faction in each region, if the unit passes only where it did
     pub of_one_faction_kept : AreOfOneFaction test c → AreOfOneFaction test supplied
     of_one_faction_kept old =
         every-insert (λ k x. Every (λ m y. Agree x y) supplied.units) c.units n new_unit
         (every-insert (λ m y. Agree new_unit y) c.units n new_unit (λ g k same. refl) (λ m y there g k same. old n u is m y there (only g) k same))
         (λ k x here. every-insert (λ m y. Agree x y) c.units n new_unit (λ g k2 same. old k x here n u is g (only k2) same) (old k x here))
 
+  -- the campaign stays steady with a holding that the unit may hold
   pub steady-unit_amount : MayHold w u h → IsSteady w c → IsSteady w supplied
   steady-unit_amount may old = record {
     numbers = numbers_kept may.limits old.numbers;
@@ -161,9 +172,11 @@ module _ (w : WorldValue) (c : CampaignValue) (n : ℕ) (u : Unit) (h : HoldingV
     guarded = of_one_faction_kept guards may.guard old.guarded;
   }
 
+  -- an equation of sums with one term more on each side
   regrouped : (r a b p q : ℕ) → a + p ≡ b + q → (a + r) + p ≡ (b + r) + q
   regrouped r a b p q e = omega arith
 
+  -- a total changes by what the new holding has more or less than the old
   pub total-unit_amount : (t : Thing) → total supplied t + unit_amount t u.holding ≡ total c t + unit_amount t h
   unfolding total
   total-unit_amount t =
@@ -173,10 +186,11 @@ module _ (w : WorldValue) (c : CampaignValue) (n : ℕ) (u : Unit) (h : HoldingV
 
 -- ---- what is marked
 
+-- the items and the days of a unit
 abbrev goods_of : Unit → FinMap nat_cmp ℕ × FinMap nat_cmp ℕ
 goods_of u = (u.holding.items, u.holding.days)
 
--- a unit whose row is changed and marked, and whose goods stay
+-- a change of a unit but for its goods, with the mark of its row, satisfies MarksChanges
 pub marks-unit_row : (f : Unit → Unit) → ((u : Unit) → goods_of (f u) ≡ goods_of u) → (c : MarkedCampaign) (n : ℕ) → MarksChanges c (record { value = unit_changed f c.value n; marks = mark_unit_row c n })
 marks-unit_row f same c n =
     let after : FinMap nat_cmp Unit → Option Unit → MarkedCampaign = λ m o. record { value = record c.value { units = m }; marks = record c.marks { units = marked_with c.marks.units n o; rows = marked_with c.marks.rows n o } } in
@@ -191,7 +205,7 @@ marks-unit_row f same c n =
       | _ ↦ λ k free. refl
     ]))
 
--- a unit of which one item is changed and marked
+-- setting an item of a unit, with its mark, satisfies MarksChanges
 pub marks-item : (c : MarkedCampaign) (n item amount : ℕ) → MarksChanges c (record { value = with_item c.value n item amount; marks = mark_item c n item })
 marks-item c n item amount =
     let with_other : Unit → Unit = λ u. record u { holding = record u.holding { items = with_amount_of u.holding.items item amount } } in
@@ -207,7 +221,7 @@ marks-item c n item amount =
       | _ ↦ λ k free. refl
     ]))
 
--- likewise a skill
+-- setting the days of a skill of a unit, with its mark, satisfies MarksChanges
 pub marks-skill : (c : MarkedCampaign) (n skill days : ℕ) → MarksChanges c (record { value = with_skill c.value n skill days; marks = mark_skill c n skill })
 marks-skill c n skill days =
     let with_other : Unit → Unit = λ u. record u { holding = record u.holding { days = with_amount_of u.holding.days skill days } } in

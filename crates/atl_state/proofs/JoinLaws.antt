@@ -1,4 +1,4 @@
--- Joining keeps a campaign sound: each of its rules in turn.
+-- Laws of joining: it keeps a campaign sound, rule by rule.
 use Rattle.std.proofs.Common.{◌≡◌, ◌≢◌, ℕ, ◌+◌, ◌%◌, ◌≤◌, ◌<◌, ◌==◌, ◌||◌, true, false, cond, List, [], ◌∷◌, length, Some, None, is_some, take, drop, ◌*◌, refl, sym, ap, ◌∙◌, arith, nat_le, nat_lt, nat_eq, length-append, true≢false}
 use Rattle.std.proofs.lemmas.Bool.{false≢true}
 use Rattle.std.specs.Prelude.{unwrap_or, ℤ, pos, ◌+ℤ◌, IsTrue}
@@ -41,19 +41,22 @@ use Rattle.atl_state.proofs.TotalLaws.{total-with_unit}
 
 -- ---- the books
 
+-- a total and a sum that balance still do once both get the same two amounts
 two : (x n : ℕ) (b p q : ℤ) → pos x ≡ b → pos n ≡ p +ℤ q → pos (x + n) ≡ (b +ℤ p) +ℤ q
 two x n b p q h g = omega (arith, ints)
 
+-- the first unit's items add to a total what the joining books of them: 0
 none : (w : WorldValue) (word : ℕ) (c : CampaignValue) (i : ℕ) → (2 + i == 0) ≡ false → (2 + i == 1) ≡ false → pos (unit_amount (Item i) (first_unit w word c).holding) ≡ share_of (Item i) Money (pos w.rules.start_money) +ℤ share_of (Item i) People (pos 1)
 none w word c i a b =
     ap (λ o. pos (unwrap_or o 0)) (get-empty nat_cmp i) ∙ sym (ap (λ q. cond q (pos w.rules.start_money) (pos 0) +ℤ cond (2 + i == 1) (pos 1) (pos 0)) a ∙ ap (λ q. pos 0 +ℤ cond q (pos 1) (pos 0)) b)
 
--- what the first unit holds is what is booked
+-- what the first unit holds of a thing is what the joining books of it
 held_booked : (w : WorldValue) (word : ℕ) (c : CampaignValue) (t : Thing) → pos (unit_amount t (first_unit w word c).holding) ≡ share_of t Money (pos w.rules.start_money) +ℤ share_of t People (pos 1)
 held_booked w word c Money = omega (arith, ints)
 held_booked w word c People = refl
 held_booked w word c (Item i) = none w word c i (grind (arith, nat_tests)) (grind (arith, nat_tests))
 
+-- the campaign still balances once a faction joined
 pub joined-balances : (w : WorldValue) (name pass : List ℕ) (word : ℕ) (c : CampaignValue) → get c.units c.next_unit ≡ None → Balances c → Balances (joined w name pass word c)
 unfolding joined total
 joined-balances w name pass word c free h t =
@@ -63,10 +66,11 @@ joined-balances w name pass word c free h t =
     ∙ ap (λ z. z +ℤ share_of t People (pos 1)) (sym (booked-after_booking c.books Joining Money (pos w.rules.start_money) t))
     ∙ sym (booked-after_booking one Joining People (pos 1) t)
 
+-- the bound on amounts of a campaign in range is at most 4 * 10^18
 amounts_small : (w : WorldValue) (c : CampaignValue) → AreInRange w c → amount_bound c ≤ 4000000000000000000
 amounts_small w c numbers = omega (arith, numbers.month, numbers.few_factions)
 
--- there is room in the books for what a faction brings
+-- what is booked under Joining in a sound campaign has room for what a faction brings
 pub joining_small : (w : WorldValue) (c : CampaignValue) → IsSound w c → IsSmall (amount_in c.books Joining Money) × IsSmall (amount_in c.books Joining People)
 joining_small w c sound =
     let small = amounts_small w c sound.steady.numbers in
@@ -74,19 +78,23 @@ joining_small w c sound =
 
 -- ---- the numbers
 
+-- a value put under a new number is one value more
 len_new : {V : Type 0} (m : FinMap nat_cmp V) (k : ℕ) (v : V) → get m k ≡ None → len (insert m k v) ≡ len m + 1
 len_new m k v h = len-insert nat_cmp_total m k v ∙ ap (λ o. cond (is_some o) (len m) (len m + 1)) h
 
+-- a campaign that passes the test of fullness is below its three limits
 few : (f u n : ℕ) → ((nat_le last_faction f || nat_le most_units u) || nat_lt last_unit n) ≡ false → (f < last_faction) × (u < most_units) × (n ≤ last_unit)
 few f u n h = (grind (arith, nat_tests), grind (arith, nat_tests), grind (arith, nat_tests))
 
+-- a campaign that is not full is below its three limits
 pub room : (c : CampaignValue) → is_full c ≡ false → (len c.factions < last_faction) × (len c.units < most_units) × (c.next_unit ≤ last_unit)
 room c h = few (len c.factions) (len c.units) c.next_unit h
 
--- no number from a bound on is free any less after an insertion below it
+-- numbers that are free from n on still are once a value is put below n
 still_free : {V : Type 0} (m : FinMap nat_cmp V) (n k : ℕ) (v : V) → ((q : ℕ) → n ≤ q → get m q ≡ None) → k < n → (q : ℕ) → n ≤ q → get (insert m k v) q ≡ None
 still_free m n k v free below q h = get-insert_other m k q v (λ same. omega arith) ∙ free q h
 
+-- a numbered map is numbered once a value is put under the next number
 still_numbered : {V : Type 0} (m : FinMap nat_cmp V) (n : ℕ) (v : V) → IsNumbered m n → IsNumbered (insert m n v) (n + 1)
 still_numbered m n v old = record {
   first = get-insert_other m n 0 v (λ same. omega (arith, old.count)) ∙ old.first;
@@ -94,19 +102,22 @@ still_numbered m n v old = record {
   free = still_free m (n + 1) n v (λ q l. old.free q (omega arith)) (omega arith);
 }
 
--- what was there is still there after an insertion where nothing was
+-- a value that was there still is once one is put under a new number
 still_there : {V : Type 0} (m : FinMap nat_cmp V) (k q : ℕ) (v x : V) → get m k ≡ None → get m q ≡ Some x → get (insert m k v) q ≡ Some x
 still_there m k q v x free is = get-insert_other m k q v (λ same. none_some x (sym free ∙ ap (get m) (sym same) ∙ is)) ∙ is
 
+-- a number with a value is not one without
 other_key : {V : Type 0} (m : FinMap nat_cmp V) (k n : ℕ) (v : V) → get m k ≡ None → get m n ≡ Some v → (k == n) ≡ false
 other_key m k n v free is = let apart : k ≢ n = λ same. none_some v (sym free ∙ ap (get m) same ∙ is) in grind (arith, nat_tests)
 
 -- ---- each rule
 
+-- a list into which a number was put is not empty
 some_put : {P : Type 0} (n : ℕ) (xs : List ℕ) → put_number n xs ≡ [] → P
 unfolding put_number
 some_put n xs e = absurd (omega (arith, ap length e, length-append (take (first_above n xs) xs) (n ∷ drop (first_above n xs) xs)))
 
+-- a name that is not taken is no faction's joined name
 untaken : (c : CampaignValue) (name : List ℕ) → name_taken c name ≡ false → Every (λ n f. f.joined_as ≢ name) c.factions
 untaken c name h n f is same =
     let differs = every-from_none (λ (g : Faction). pointwise nat_eq g.joined_as name) c.factions h n f is in
@@ -114,18 +125,23 @@ untaken c name h n f is same =
     absurd (true≢false (sym equal ∙ differs))
 
 module _ (w : WorldValue) (name pass : List ℕ) (word : ℕ) (c : CampaignValue) where
+  -- the new faction
   abbrev member : Faction
   member = new_faction c.next_faction name pass
 
+  -- its first unit
   abbrev unit : Unit
   unit = first_unit w word c
 
+  -- the factions with the new one
   abbrev factions : FinMap nat_cmp Faction
   factions = insert c.factions c.next_faction member
 
+  -- the units with the first one of the new faction
   abbrev units : FinMap nat_cmp Unit
   units = insert c.units c.next_unit unit
 
+  -- a campaign that a faction joined is in range
   joined-numbers : is_full c ≡ false → IsWorld w → AreNumbered c → AreInRange w c → AreInRange w (joined w name pass word c)
   unfolding joined
   joined-numbers full world next old =
@@ -146,6 +162,7 @@ module _ (w : WorldValue) (name pass : List ℕ) (word : ℕ) (c : CampaignValue
         books = AreBooks-after_booking (things_of w) one Joining People (pos 1) (AreBooks-after_booking (things_of w) c.books Joining Money (pos w.rules.start_money) old.books (omega arith)) (omega arith);
       }
 
+  -- a campaign that a faction joined has good names, if the new ones are good and the name is free
   joined-names : is_full c ≡ false → name_taken c name ≡ false → IsTrue (name_ok name) → IsTrue (pass_ok pass) → AreNamed c → AreNamed (joined w name pass word c)
   unfolding joined
   joined-names full free named passes old =
@@ -160,9 +177,11 @@ module _ (w : WorldValue) (name pass : List ℕ) (word : ℕ) (c : CampaignValue
         structures = old.structures;
       }
 
+  -- the new faction's home is a land region of the world
   home_there : IsWorld w → (p : RegionPlan) × (get w.regions (home_of w word) ≡ Some p) × (is_land w.terrains p ≡ true)
   home_there world = passes-listed (is_land w.terrains) w.regions (word % length (land_of w)) 0 (omega (arith, world.some_land))
 
+  -- what a campaign that a faction joined names by number exists
   joined-known : IsWorld w → AreKnown w c → AreKnown w (joined w name pass word c)
   unfolding joined
   joined-known world old =
@@ -187,6 +206,7 @@ module _ (w : WorldValue) (name pass : List ℕ) (word : ℕ) (c : CampaignValue
         posts = posted-there (λ n. there-insert c.factions c.next_faction n member) old.posts;
       }
 
+  -- a campaign that a faction joined is numbered, with the next numbers one higher
   joined-next : AreNumbered c → AreNumbered (joined w name pass word c)
   unfolding joined
   joined-next old = record {
@@ -195,34 +215,41 @@ module _ (w : WorldValue) (name pass : List ℕ) (word : ℕ) (c : CampaignValue
     units = still_free c.units (c.next_unit + 1) c.next_unit unit (λ q l. old.units q (omega arith)) (omega arith);
   }
 
+  -- days of study stay within their limits when a faction joins
   joined-days : AreDays c → AreDays (joined w name pass word c)
   unfolding joined
   joined-days old = every-insert (λ n u. Every (λ s days. (1 ≤ days) × (days ≤ most_days * u.holding.men)) u.holding.days) c.units c.next_unit unit (every-empty (λ s days. (1 ≤ days) × (days ≤ most_days * 1))) old
 
   module _ (next : AreNumbered c) where
+    -- the next faction's number has no faction
     free_faction : get c.factions c.next_faction ≡ None
     free_faction = next.factions.free c.next_faction (omega arith)
 
+    -- the next unit's number has no unit
     free_unit : get c.units c.next_unit ≡ None
     free_unit = next.units c.next_unit (omega arith)
 
-    -- the units of the factions that were there
+    -- each faction that was there has the same units
     same_units : (n : ℕ) (f : Faction) → get c.factions n ≡ Some f → numbers_of n units ≡ numbers_of n c.units
     same_units n f is = numbers_where-insert_other (λ (u : Unit). u.faction == n) c.units c.next_unit unit free_unit (other_key c.factions c.next_faction n f free_faction is)
 
+    -- factions that are gone still have no units when another joins
     joined-gone : GoneHaveNone c → GoneHaveNone (joined w name pass word c)
     unfolding joined
     joined-gone old = every-insert (λ n f. f.gone ≡ true → numbers_of n units ≡ []) c.factions c.next_faction member (λ e. absurd (false≢true e)) (λ n f is gone. same_units n f is ∙ old n f is gone)
 
+    -- the new faction has a unit
     own_unit : numbers_of c.next_faction units ≡ [] → false ≡ true
     own_unit none =
         let same : (c.next_faction == c.next_faction) ≡ true = grind (arith, nat_tests) in
         some_put c.next_unit (numbers_of c.next_faction c.units) (sym (numbers_where-insert_new (λ (u : Unit). u.faction == c.next_faction) c.units c.next_unit unit free_unit same) ∙ none)
 
+    -- factions without units are gone, once a faction joined
     joined-none : NoneAreGone c → NoneAreGone (joined w name pass word c)
     unfolding joined
     joined-none old = every-insert (λ n f. numbers_of n units ≡ [] → f.gone ≡ true) c.factions c.next_faction member own_unit (λ n f is none. old n f is (sym (same_units n f is) ∙ none))
 
+    -- structures are still owned by units inside them when a faction joins
     joined-owners : AreOwned c → AreOwned (joined w name pass word c)
     unfolding joined
     joined-owners old n s is = let o = old n s is in record {
@@ -230,10 +257,12 @@ module _ (w : WorldValue) (name pass : List ℕ) (word : ℕ) (c : CampaignValue
       ownerless = λ none. every-insert (λ m u. u.structure ≢ n) c.units c.next_unit unit (λ same. none_some s (sym next.structures.first ∙ ap (get c.structures) same ∙ is)) (o.ownerless none);
     }
 
+    -- mail is still good when a faction joins
     joined-mail : IsMail c → IsMail (joined w name pass word c)
     unfolding joined
     joined-mail old n text is = let (own, active) = old n text is in let (f, there, stays) = active in (own, (f, still_there c.factions c.next_faction n member f free_faction there, stays))
 
+  -- what is on water is still afloat when a faction joins
   joined-water : IsWorld w → AreAfloat w c → AreAfloat w (joined w name pass word c)
   unfolding joined
   joined-water world old =
@@ -244,15 +273,18 @@ module _ (w : WorldValue) (name pass : List ℕ) (word : ℕ) (c : CampaignValue
         structures = old.structures;
       }
 
+  -- guards stay of one faction in each region when a faction joins
   joined-guarded : AreOfOneFaction guards c → AreOfOneFaction guards (joined w name pass word c)
   unfolding joined
   joined-guarded old = every-insert (λ n u. Every (λ m v. guards u ≡ true → guards v ≡ true → u.region ≡ v.region → u.faction ≡ v.faction) units) c.units c.next_unit unit (λ m v is e. absurd (true≢false (sym e)))
       (λ n u is. every-insert (λ m v. guards u ≡ true → guards v ≡ true → u.region ≡ v.region → u.faction ≡ v.faction) c.units c.next_unit unit (λ _ e. absurd (true≢false (sym e))) (old n u is))
 
+  -- every unit has men, once a faction joined
   joined-men : HaveMen c → HaveMen (joined w name pass word c)
   unfolding joined
   joined-men old = every-insert (λ n u. 1 ≤ u.holding.men) c.units c.next_unit unit (omega arith) old
 
+  -- amounts of the books are within their bound, once a faction joined
   joined-amounts : IsWorld w → AreNumbered c → AreAmountsWithin c → AreAmountsWithin (joined w name pass word c)
   unfolding joined
   joined-amounts world next old =
@@ -262,6 +294,7 @@ module _ (w : WorldValue) (name pass : List ℕ) (word : ℕ) (c : CampaignValue
       (IsWithin-after_booking c.books Joining Money w.rules.start_money (amount_bound c) (amount_bound c + w.rules.start_money) old (omega arith)) (omega (arith, more, world.rules.start_money))
 
   module _ (full : is_full c ≡ false) (free : name_taken c name ≡ false) (named : IsTrue (name_ok name)) (passes : IsTrue (pass_ok pass)) (world : IsWorld w) where
+    -- a campaign stays steady when a faction joins
     joined-steady : IsSteady w c → IsSteady w (joined w name pass word c)
     joined-steady old = record {
       numbers = joined-numbers full world old.next old.numbers;
@@ -275,6 +308,7 @@ module _ (w : WorldValue) (name pass : List ℕ) (word : ℕ) (c : CampaignValue
       guarded = joined-guarded old.guarded;
     }
 
+    -- a sound campaign that a faction joins, where it is not refused, stays sound
     pub joined-sound : IsSound w c → IsSound w (joined w name pass word c)
     joined-sound old = let next = old.steady.next in record {
       steady = joined-steady old.steady;

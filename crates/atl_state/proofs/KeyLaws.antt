@@ -1,4 +1,4 @@
--- Keys that differ.
+-- Laws of lists of keys: whether keys are distinct or sorted, found key by key.
 use Rattle.std.proofs.Common.{◌≡◌, ℕ, ◌+◌, ◌-◌, ◌<◌, ◌≤◌, ◌++◌, ◌⊎◌, inl, inr, List, [], ◌∷◌, Bool, true, false, ◌||◌, cond, take, drop, length, get_or, refl, sym, ap, subst, ◌∙◌, add-one, arith}
 use Rattle.std.specs.Prelude.{Result, Ok, Err, IfOk, map}
 use Rattle.std.specs.Bool.{Decides}
@@ -14,17 +14,20 @@ use Rattle.std.proofs.lemmas.List.{get_or_default, take_more, take-append-drop}
 use Rattle.std.proofs.lemmas.List.Folds.{list_any-append}
 use Rattle.std.proofs.lemmas.Map.Keys.{IsDistinct-head, IsDistinct-tail, IsDistinct-push, sorted_from_all_adjacent}
 
+-- what is so of each element of a list is so of one in its middle
 at_middle : {K : Type 0} (P : K → Type 0) (front rest : List K) (x : K) → AllByRecursion P (front ++ x ∷ rest) → P x
 at_middle P [] rest x h = h.0
 at_middle P (y ∷ front) rest x h = at_middle P front rest x h.1
 
+-- the list from index i on is the element at i and the list from i + 1 on
 pub rest_at : {K : Type 0} (keys : List K) (i : ℕ) (d : K) → i < length keys → drop i keys ≡ get_or keys i d ∷ drop (i + 1) keys
 rest_at keys i d h = rw add-one (drop-cons keys i d h)
 
--- what is left of a list, with the element that comes next
+-- the list from index i on is x and the list from i + 1 on, if x is at i
 pub next_of : {K : Type 0} (keys : List K) (i : ℕ) (x : K) → i < length keys → x ≡ get_or keys i x → drop i keys ≡ x ∷ drop (i + 1) keys
 next_of keys i x h is = rest_at keys i x h ∙ ap (λ y. y ∷ drop (i + 1) keys) (sym is)
 
+-- a choice of true or c is an or
 added : (b c : Bool) → cond b true c ≡ (c || (b || false))
 added true true = refl
 added true false = refl
@@ -32,61 +35,70 @@ added false true = refl
 added false false = refl
 
 module _ {K : Type 0} {R : K → K → Ordering} (o : IsTotalOrder R) where
+  -- a list with an element that compares equal to one before it is not distinct
   clash : (front rest : List K) (x : K) → list_any (eq_by_cmp R x) front ≡ true → IsDistinct (eq_by_cmp R) (front ++ x ∷ rest) → ⊥
   clash [] rest x h apart = false≢true h
   clash (y ∷ front) rest x h apart =
       let other : eq_by_cmp R x y ≡ false = (eq_by_cmp_equiv o).symm x y ∙ at_middle (λ z. eq_by_cmp R y z ≡ false) front rest x (IsDistinct-head (eq_by_cmp R) y (front ++ x ∷ rest) apart) in
       clash front rest x (sym (ap (λ b. b || list_any (eq_by_cmp R x) front) other) ∙ h) (IsDistinct-tail (eq_by_cmp R) y (front ++ x ∷ rest) apart)
 
-  -- a key that stands in front of itself
+  -- keys of which one compares equal to one before it are not distinct
   pub stands_twice : (keys : List K) (i : ℕ) (x : K) → i < length keys → x ≡ get_or keys i x → list_any (eq_by_cmp R x) (take i keys) ≡ true → IsDistinct (eq_by_cmp R) keys → ⊥
   stands_twice keys i x h is twice apart =
       let parts : take i keys ++ x ∷ drop (i + 1) keys ≡ keys = ap (λ y. take i keys ++ y ∷ drop (i + 1) keys) is ∙ ap (λ ys. take i keys ++ ys) (sym (rest_at keys i x h)) ∙ take-append-drop i keys in
       clash (take i keys) (drop (i + 1) keys) x twice (subst (IsDistinct (eq_by_cmp R)) (sym parts) apart)
 
+  -- the first i + 1 keys are distinct, if the first i are and none of them compares equal to the next
   pub still_apart : (keys : List K) (i : ℕ) (x : K) → i < length keys → x ≡ get_or keys i x → list_any (eq_by_cmp R x) (take i keys) ≡ false → IsDistinct (eq_by_cmp R) (take i keys) → IsDistinct (eq_by_cmp R) (take (i + 1) keys)
   still_apart keys i x h is new apart =
       subst (IsDistinct (eq_by_cmp R)) (ap (λ y. take i keys ++ y ∷ []) is ∙ sym (take_more keys i x h)) (IsDistinct-push (eq_by_cmp_equiv o) (take i keys) x apart new)
 
+  -- a key is among the first i + 1 keys if it is the next or among the first i
   pub seen_more : (keys : List K) (i : ℕ) (x q : K) → i < length keys → x ≡ get_or keys i x → cond (eq_by_cmp R x q) true (list_any (eq_by_cmp R q) (take i keys)) ≡ list_any (eq_by_cmp R q) (take (i + 1) keys)
   seen_more keys i x q h is =
       ap (λ b. cond b true (list_any (eq_by_cmp R q) (take i keys))) ((eq_by_cmp_equiv o).symm x q) ∙ added (eq_by_cmp R q x) (list_any (eq_by_cmp R q) (take i keys))
       ∙ sym (list_any-append (eq_by_cmp R q) (take i keys) (x ∷ [])) ∙ ap (list_any (eq_by_cmp R q)) (ap (λ y. take i keys ++ y ∷ []) is ∙ sym (take_more keys i x h))
 
 module _ {A B : Type 0} (f : A → B) (e : B → B → Bool) where
+  -- values f x and f y that differ for each y of a list differ in the mapped list
   each_map : (x : A) (xs : List A) → AllByRecursion (λ y. e (f x) (f y) ≡ false) xs → AllByRecursion (λ y. e (f x) y ≡ false) (map f xs)
   each_map x [] h = tt
   each_map x (y ∷ xs) h = (h.0, each_map x xs h.1)
 
+  -- the converse of each_map
   each_of_map : (x : A) (xs : List A) → AllByRecursion (λ y. e (f x) y ≡ false) (map f xs) → AllByRecursion (λ y. e (f x) (f y) ≡ false) xs
   each_of_map x [] h = tt
   each_of_map x (y ∷ xs) h = (h.0, each_of_map x xs h.1)
 
+  -- what is distinct by f is distinct once mapped by f
   pub IsDistinct-map : (xs : List A) → IsDistinct (λ x y. e (f x) (f y)) xs → IsDistinct e (map f xs)
   unfolding IsDistinct
   IsDistinct-map [] h = tt
   IsDistinct-map (x ∷ xs) h = (each_map x xs h.0, IsDistinct-map xs h.1)
 
+  -- what is distinct once mapped by f is distinct by f
   pub IsDistinct-of_map : (xs : List A) → IsDistinct e (map f xs) → IsDistinct (λ x y. e (f x) (f y)) xs
   unfolding IsDistinct
   IsDistinct-of_map [] h = tt
   IsDistinct-of_map (x ∷ xs) h = (each_of_map x xs h.0, IsDistinct-of_map xs h.1)
 
+-- an answer that decides P decides Q, if P and Q follow from each other
 pub IfOk-decided : {E P Q : Type 0} (r : Result Bool E) → (P → Q) → (Q → P) → IfOk r (λ yes. Decides yes P) → IfOk r (λ yes. Decides yes Q)
 IfOk-decided (Ok answer) there back h = (λ e. there (h.0 e), λ q. h.1 (back q))
 IfOk-decided (Err x) there back h = tt
 
 module _ {K : Type 0} {R : K → K → Ordering} (o : IsTotalOrder R) where
-  -- the first so many of a list rise, place by place
+  -- each of the first i keys but the last is less than the one after it
   abbrev pub RisesTo : ℕ → List K → Type 0
   RisesTo i ks = (d : K) (k : ℕ) → k + 1 < i → R (get_or ks k d) (get_or ks (k + 1) d) ≡ Less
 
+  -- keys of which all rise are strictly sorted
   pub rises : (ks : List K) (i : ℕ) → length ks ≤ i → RisesTo i ks → IsStrictlySortedBy R ks
   unfolding IsStrictlySortedBy
   rises [] i most steps = tt
   rises (x ∷ xs) i most steps = sorted_from_all_adjacent o (x ∷ xs) x (λ k l. steps x k (omega (arith, l, most)))
 
-  -- one more, which is above the last of them
+  -- the first i + 1 keys rise, if the first i do and the next is above the last of them
   pub rises_more : (ks : List K) (i : ℕ) (x y : K) → 1 ≤ i → i < length ks → x ≡ get_or ks (i - 1) x → y ≡ get_or ks i y → R x y ≡ Less → RisesTo i ks → RisesTo (i + 1) ks
   rises_more ks i x y some within x_is y_is above steps d k l = by_order (cases_order (k + 1) i)
     where

@@ -1,4 +1,4 @@
--- How a campaign changes as a unit leaves it.
+-- Laws of a unit that leaves a campaign: it stays steady, totals lose what the unit held, and what changed is marked.
 use Rattle.std.proofs.Common.{◌≡◌, ◌≢◌, ◌==◌, ℕ, ◌+◌, ◌≤◌, ◌<◌, Bool, true, false, length, not, List, Option, Some, None, refl, sym, ap, subst, ◌∙◌, arith, true≢false}
 use Rattle.std.specs.Prelude.{option_map, if◌then◌else◌}
 use Rattle.std.proofs.lemmas.Bool.{not-false}
@@ -31,18 +31,20 @@ use Rattle.atl_state.proofs.RegionLaws.{changed-known, get-insert_same, same_len
 use Rattle.atl_records.proofs.RemovedLaws.{every-insert_other, every-remove, fewer, get-remove_other, still, sum_over-remove}
 use Rattle.atl_state.proofs.NumberListLaws.{IsListed, first_of, none_passing, nothing_listed}
 
--- a structure with another owner
+-- the structure with another owner
 abbrev pub owned_by : ℕ → Structure → Structure
 owned_by n s = record s { owner = n }
 
 module _ (w : WorldValue) (c : CampaignValue) (n : ℕ) (u : Unit) (is : get c.units n ≡ Some u) where
+  -- the units without unit n
   abbrev left : FinMap nat_cmp Unit
   left = remove c.units n
 
+  -- the campaign without unit n, and with these structures
   abbrev reduced : FinMap nat_cmp Structure → CampaignValue
   reduced structures = record c { units = left; structures = structures }
 
-  -- the structures as they were, but for their owners, who are among the units that are left
+  -- structures that differ from the campaign's at most in owners, who are among the units left
   pub record AreReowned (structures : FinMap nat_cmp Structure) : Type 0 where
     pub count : len structures ≡ len c.structures
     pub back : Every (λ k x. (y : Structure) × (o : ℕ) × (get c.structures k ≡ Some y) × (owned_by o y ≡ x)) structures
@@ -50,13 +52,15 @@ module _ (w : WorldValue) (c : CampaignValue) (n : ℕ) (u : Unit) (is : get c.u
     pub owned : Every (λ k x. IsOwned (reduced structures) k x) structures
 
   module _ (structures : FinMap nat_cmp Structure) (re : AreReowned structures) where
+    -- the campaign without unit n, and with these reowned structures
     abbrev after : CampaignValue
     after = reduced structures
 
-    -- what doesn't speak of owners is still so
+    -- what is so of every structure, whoever owns it, is so of the reowned ones
     every_owned : (P : ℕ → Structure → Type 0) → ((k o : ℕ) (y : Structure) → P k y → P k (owned_by o y)) → Every P c.structures → Every P structures
     every_owned P free old k x there = let (y, o, was, same) = re.back k x there in subst (P k) same (free k o y (old k y was))
 
+    -- a number without a structure still has none
     none_kept : (k : ℕ) → get c.structures k ≡ None → get structures k ≡ None
     none_kept k none = by_option (get structures k) refl
       where
@@ -64,6 +68,7 @@ module _ (w : WorldValue) (c : CampaignValue) (n : ℕ) (u : Unit) (is : get c.u
         by_option None e = refl
         by_option (Some x) e = let (y, p, was, same) = re.back k x e in none_some y (sym none ∙ was)
 
+    -- the numbers of the campaign stay in range
     numbers_left : AreInRange w c → AreInRange w after
     numbers_left old = record {
       month = old.month;
@@ -80,6 +85,7 @@ module _ (w : WorldValue) (c : CampaignValue) (n : ℕ) (u : Unit) (is : get c.u
       books = old.books;
     }
 
+    -- what the units left name still exists
     placed_left : AreKnown w c → Every (λ k v. IsPlaced w after v) left
     placed_left old k v there =
         let p = old.units k v (still c.units n k v there).1 in
@@ -91,6 +97,7 @@ module _ (w : WorldValue) (c : CampaignValue) (n : ℕ) (u : Unit) (is : get c.u
           skills = p.skills;
         }
 
+    -- what the structures name still exists
     built_left : AreKnown w c → Every (λ k s. IsBuilt w after s) structures
     built_left old k x there =
         let (y, o, was, same) = re.back k x there in
@@ -101,6 +108,7 @@ module _ (w : WorldValue) (c : CampaignValue) (n : ℕ) (u : Unit) (is : get c.u
           owner = λ some. let (v, here, inside) = (re.owned k x there).owned some in (v, here);
         }
 
+    -- factions and structures are still numbered without a gap, and no unit has a number from the next on
     next_left : AreNumbered c → AreNumbered after
     next_left old = record {
       factions = old.factions;
@@ -115,11 +123,13 @@ module _ (w : WorldValue) (c : CampaignValue) (n : ℕ) (u : Unit) (is : get c.u
             by_option None e = refl
             by_option (Some x) e = none_some x (sym none ∙ (still c.units n k x e).1)
 
+    -- factions that are gone still have no units
     gone_left : GoneHaveNone c → GoneHaveNone after
     gone_left old m f there gone =
         let test = λ (v : Unit). v.faction == m in
         nothing_listed test left (every-remove c.units n (λ k v. test v ≡ false) (none_passing test c.units (old m f there gone)))
 
+    -- what is on water is still afloat
     water_left : AreAfloat w c → AreAfloat w after
     water_left old = record {
       units = λ k v there sea.
@@ -129,6 +139,7 @@ module _ (w : WorldValue) (c : CampaignValue) (n : ℕ) (u : Unit) (is : get c.u
       structures = every_owned (λ k s. is_land_at w s.region ≡ false → (is_ship w s ≡ true) × (s.done ≡ size_of w s.kind)) (λ k o y h. h) old.structures;
     }
 
+    -- the campaign stays steady without the unit, with reowned structures
     pub steady_left : IsSteady w c → IsSteady w after
     steady_left old = record {
       numbers = numbers_left old.numbers;
@@ -151,7 +162,7 @@ module _ (w : WorldValue) (c : CampaignValue) (n : ℕ) (u : Unit) (is : get c.u
   -- ---- who owns the structures
 
   module _ (old : AreOwned c) (low : Every (λ k v. 1 ≤ k) c.units) where
-    -- what the unit owns is what it is inside
+    -- a structure that the unit owns is the one that it is inside
     owns_own : (k : ℕ) (x : Structure) → get c.structures k ≡ Some x → x.owner ≡ n → u.structure ≡ k
     owns_own k x there own =
         let least = low n u is in
@@ -159,7 +170,7 @@ module _ (w : WorldValue) (c : CampaignValue) (n : ℕ) (u : Unit) (is : get c.u
         let one : Some v ≡ Some u = sym at ∙ ap (get c.units) own ∙ is in
         sym (ap (λ o. structure_in o u) one) ∙ inside
 
-    -- who owns another structure still does
+    -- a structure that another owns is still owned well
     still_owned : (k : ℕ) (x : Structure) (structures : FinMap nat_cmp Structure) → get c.structures k ≡ Some x → x.owner ≢ n → IsOwned (reduced structures) k x
     still_owned k x structures there apart =
         let o = old k x there in
@@ -168,7 +179,7 @@ module _ (w : WorldValue) (c : CampaignValue) (n : ℕ) (u : Unit) (is : get c.u
           ownerless = λ none. every-remove c.units n (λ m v. v.structure ≢ k) (o.ownerless none);
         }
 
-    -- where the unit owns nothing
+    -- where the unit owns no structure, the structures as they were are reowned
     as_they_were : is_owned_by (get c.structures u.structure) n ≡ false → AreReowned c.structures
     as_they_were free = record {
       count = refl;
@@ -193,15 +204,19 @@ module _ (w : WorldValue) (c : CampaignValue) (n : ℕ) (u : Unit) (is : get c.u
 
     -- where it owns the structure that it is inside
     module _ (mine : Structure) (here : get c.structures u.structure ≡ Some mine) (some_place : u.structure ≢ 0) where
+      -- the next owner of the structure: the first other unit inside, or 0
       abbrev next : ℕ
       next = heir c u.structure n
 
+      -- the structures with the next owner of the unit's structure
       abbrev handed_on : FinMap nat_cmp Structure
       handed_on = insert c.structures u.structure (owned_by next mine)
 
+      -- the units inside the structure
       abbrev among : List ℕ
       among = numbers_inside u.structure c.units
 
+      -- a number that passes the test of being another is another
       is_other : (k : ℕ) → not (k == n) ≡ true → k ≢ n
       is_other k t same = let e : (k == n) ≡ true = grind (arith, nat_tests) in other_not (k == n) t e
         where
@@ -209,12 +224,15 @@ module _ (w : WorldValue) (c : CampaignValue) (n : ℕ) (u : Unit) (is : get c.u
           other_not true a b = cc
           other_not false a b = cc
 
+      -- a number that fails the test of being another is the same
       is_same : (k : ℕ) → not (k == n) ≡ false → k ≡ n
       is_same k t = let e : (k == n) ≡ true = not-false (k == n) t in grind (arith, nat_tests)
 
+      -- units inside have numbers from 1
       listed_low : (k : ℕ) → IsListed k among → 1 ≤ k
       listed_low k h = let (v, at, inside) = listed_is_inside u.structure c.units k h in low k v at
 
+      -- the structure is owned well by its next owner
       heir_owns : IsOwned (reduced handed_on) u.structure (owned_by next mine)
       heir_owns =
           let first = first_of (λ k. not (k == n)) among listed_low in
@@ -228,6 +246,7 @@ module _ (w : WorldValue) (c : CampaignValue) (n : ℕ) (u : Unit) (is : get c.u
                 apart (is_same k (first.1 none k (inside_is_listed u.structure c.units some_place k v at within)));
           }
 
+      -- the structures, with the unit's structure handed on, are reowned
       as_handed_on : AreReowned handed_on
       as_handed_on = record {
         count = same_len c.structures u.structure mine (owned_by next mine) here;
@@ -250,13 +269,16 @@ module _ (w : WorldValue) (c : CampaignValue) (n : ℕ) (u : Unit) (is : get c.u
 
   -- ---- the campaign without the unit
 
+  -- the campaign without unit n, with structures as they were
   abbrev gone_from : CampaignValue
   gone_from = record c { units = left }
 
+  -- without_unit removes unit n and hands its structure to the heir
   without-known : without_unit c n ≡ after_handover gone_from u.structure n (heir c u.structure n)
   unfolding without_unit
   without-known = ap (without_unit_at c n) is
 
+  -- the campaign stays steady without the unit, with its structure handed to the heir
   steady_handed : IsSteady w c → IsSteady w (after_handover gone_from u.structure n (heir c u.structure n))
   steady_handed old = by_owner (get c.structures u.structure) refl
     where
@@ -274,9 +296,11 @@ module _ (w : WorldValue) (c : CampaignValue) (n : ℕ) (u : Unit) (is : get c.u
       by_owner None here = steady_left c.structures (as_they_were old.owners low (ap (λ o. is_owned_by o n) here)) old
       by_owner (Some s) here = by_test s here (is_owned_by (Some s) n) (ap (λ o. is_owned_by o n) here)
 
+  -- a campaign stays steady without a unit
   pub steady-without : IsSteady w c → IsSteady w (without_unit c n)
   steady-without old = subst (IsSteady w) (sym without-known) (steady_handed old)
 
+  -- a total loses what the unit held
   pub total-without : (t : Thing) → total (without_unit c n) t + unit_amount t u.holding ≡ total c t
   unfolding total
   total-without t =
@@ -289,7 +313,7 @@ module _ (w : WorldValue) (c : CampaignValue) (n : ℕ) (u : Unit) (is : get c.u
       by_test true = regrouped _ _ _ _ (sum_over-remove c.units n (λ (x : Unit). unit_amount t x.holding) u is)
       by_test false = regrouped _ _ _ _ (sum_over-remove c.units n (λ (x : Unit). unit_amount t x.holding) u is)
 
-  -- no other part of the campaign changes
+  -- the campaign d has the units of c without n, and the other parts of c but for structures
   pub record IsOnlyReduced (d : CampaignValue) : Type 0 where
     pub units : d.units ≡ remove c.units n
     pub factions : d.factions ≡ c.factions
@@ -298,6 +322,7 @@ module _ (w : WorldValue) (c : CampaignValue) (n : ℕ) (u : Unit) (is : get c.u
     pub month : d.month ≡ c.month
     pub reports : d.reports ≡ c.reports
 
+  -- removing a unit changes units and structures alone
   pub only_reduced : IsOnlyReduced (without_unit c n)
   only_reduced = subst IsOnlyReduced (sym without-known) (by_test (is_owned_by (get c.structures u.structure) n))
     where
@@ -307,7 +332,7 @@ module _ (w : WorldValue) (c : CampaignValue) (n : ℕ) (u : Unit) (is : get c.u
 
 -- ---- what is marked
 
--- a structure that is changed and marked
+-- a change of a structure, with its mark, satisfies MarksChanges
 pub marks-structure : (f : Structure → Structure) (c : MarkedCampaign) (n : ℕ) → MarksChanges c (record { value = structure_changed f c.value n; marks = mark_structure c n })
 marks-structure f c n =
     let after : FinMap nat_cmp Structure → Option Structure → MarkedCampaign = λ m o. record { value = record c.value { structures = m }; marks = record c.marks { structures = marked_with c.marks.structures n o } } in
@@ -317,6 +342,7 @@ marks-structure f c n =
     (λ p. elim p as (Stays c.marks next.marks) [ Structures ↦ put_stays c.marks.structures n | _ ↦ λ k h. h ])
     (λ p. elim p as (Tells next.marks c.value next.value) [ Structures ↦ λ k free. get-insert_other c.value.structures n k (f v) (apart_by c.marks.structures n k free) | _ ↦ λ k free. refl ]))
 
+-- handing a structure on, with its mark, satisfies MarksChanges
 pub marks-after_handover : (c : MarkedCampaign) (s from to : ℕ) → MarksChanges c (handed_marked c s from to)
 marks-after_handover c s from to = by_test (is_owned_by (get c.value.structures s) from)
   where
@@ -324,7 +350,7 @@ marks-after_handover c s from to = by_test (is_owned_by (get c.value.structures 
     by_test true = marks-structure (owned_by to) c s
     by_test false = marks-refl c
 
--- a unit that is taken out
+-- removing a unit, with its mark, satisfies MarksChanges
 pub marks-taken : (c : MarkedCampaign) (n : ℕ) → MarksChanges c (taken_marked c n)
 marks-taken c n = by_unit (get c.value.units n) refl
   where
@@ -334,11 +360,12 @@ marks-taken c n = by_unit (get c.value.units n) refl
         subst (λ (o : Option Unit). MarksChanges c (record { value = record c.value { units = remove c.value.units n }; marks = whole_marked c.marks n o })) (sym is)
         (marks-unit c (remove c.value.units n) n (λ k apart. get-remove_other c.value.units n k apart))
 
+-- removing a unit and handing its structure on, with their marks, satisfies MarksChanges
 marks_gone : (c : MarkedCampaign) (n : ℕ) (o : Option Unit) → MarksChanges c (gone_marked_at c n o)
 marks_gone c n None = marks-refl c
 marks_gone c n (Some u) = marks-trans c (taken_marked c n) (gone_marked_at c n (Some u)) (marks-taken c n) (marks-after_handover (taken_marked c n) u.structure n (heir c.value u.structure n))
 
--- a unit that went, and what marks that
+-- removing a unit, with the marks of gone_marked, satisfies MarksChanges
 pub marks-without : (c d : MarkedCampaign) (n : ℕ) → d.value ≡ without_unit c.value n → d.marks ≡ (gone_marked c n).marks → MarksChanges c d
 unfolding gone_marked
 marks-without c d n what marks =

@@ -12,7 +12,7 @@ pub mod GivingLaws
 pub mod GoodRowLaws
 pub mod GoodRuleLaws
 pub mod TotalLaws
-pub mod MadeOf
+pub mod UndoneLaws
 pub mod AmountMarkLaws
 mod FitLaws
 pub mod FoundingLaws

@@ -1,4 +1,4 @@
--- The lists of the regions and of the factions, as units come and go.
+-- Laws of the lists of units by region, by faction and by structure, as units are added, changed and removed.
 use Rattle.std.proofs.Common.{◌≡◌, ◌≢◌, ◌==◌, ℕ, true, false, cond, Option, Some, None, List, [], map, filter, refl, sym, ap, subst, ◌∙◌, arith, inl, inr}
 use Rattle.std.specs.declared.cmp.Ordering.TheVariants.{Less, Equal, Greater}
 use Rattle.std.specs.Prelude.{Result, Ok, Err, OnOk, OnErr, unwrap_or}
@@ -17,6 +17,7 @@ use Rattle.atl_records.specs.declared.records.Unit.{Unit}
 use Rattle.atl_state.proofs.OrderedLaws.{numbers_where-insert_new, numbers_where-lost, numbers_where-gained, taken_put}
 use Rattle.atl_records.proofs.EveryLaws.{same_number, other_number}
 
+-- a number compares equal to itself
 itself : (k : ℕ) → is_eq (nat_cmp k k) ≡ true
 itself k = elim (nat_cmp k k) as (λ o. nat_cmp k k ≡ o → is_eq o ≡ true) [
   | Less ↦ λ e. let l = ranked k k Less (sym e) in absurd (omega arith)
@@ -24,10 +25,11 @@ itself k = elim (nat_cmp k k) as (λ o. nat_cmp k k ≡ o → is_eq o ≡ true) 
   | Greater ↦ λ e. let l = ranked k k Greater (sym e) in absurd (omega arith)
 ] refl
 
+-- a removed unit is not there
 gone : (units : FinMap nat_cmp Unit) (k : ℕ) → get (remove units k) k ≡ None
 gone units k = get-remove nat_cmp_total units k k ∙ ap (λ b. cond b None (get units k)) (itself k)
 
--- what one list changed does to each
+-- what is so of the new list under k, and of each other list, is so of each list
 by_key : (lists : FinMap nat_cmp (List ℕ)) (k : ℕ) (xs : List ℕ) (P : ℕ → List ℕ → Type 0) → P k xs → ((r : ℕ) → k ≢ r → P r (list_of lists r)) → (r : ℕ) → P r (list_of (insert lists k xs) r)
 by_key lists k xs P here there r =
     rw (get-insert nat_cmp_total lists k xs r)
@@ -38,6 +40,7 @@ by_key lists k xs P here there r =
     ] refl)
 
 module _ (belongs_to : Unit → ℕ) where
+  -- the lists are right once a new unit's number is put into the list under its key
   pub AreLists-added : (units : FinMap nat_cmp Unit) (lists : FinMap nat_cmp (List ℕ)) (k : ℕ) (u : Unit) → get units k ≡ None → AreLists belongs_to units lists
       → AreLists belongs_to (insert units k u) (insert lists (belongs_to u) (put_number k (list_of lists (belongs_to u))))
   AreLists-added units lists k u fresh old =
@@ -46,11 +49,12 @@ module _ (belongs_to : Unit → ℕ) where
       (ap (put_number k) (old own) ∙ sym (numbers_where-insert_new (λ v. belongs_to v == own) units k u fresh (same_number own)))
       (λ r ne. old r ∙ sym (numbers_where-insert_other (λ v. belongs_to v == r) units k u fresh (other_number own r ne)))
 
-  -- a unit that goes on belonging where it did
+  -- the lists stay right when a unit changes and its key does not
   pub AreLists-kept : (units : FinMap nat_cmp Unit) (lists : FinMap nat_cmp (List ℕ)) (k : ℕ) (u v : Unit) → get units k ≡ Some u → belongs_to u ≡ belongs_to v → AreLists belongs_to units lists → AreLists belongs_to (insert units k v) lists
   AreLists-kept units lists k u v is same old r =
       old r ∙ sym (numbers_where-insert_known (λ w. belongs_to w == r) units k u v is (ap (λ q. q == r) same))
 
+  -- the lists are right once a new unit is taken out of its list again
   AreLists-undone : (units : FinMap nat_cmp Unit) (lists : FinMap nat_cmp (List ℕ)) (k : ℕ) (u : Unit) → get units k ≡ None → AreLists belongs_to (insert units k u) lists
       → AreLists belongs_to units (insert lists (belongs_to u) (take_number k (list_of lists (belongs_to u))))
   AreLists-undone units lists k u fresh old =
@@ -59,7 +63,7 @@ module _ (belongs_to : Unit → ℕ) where
       (ap (take_number k) (old own ∙ numbers_where-insert_new (λ v. belongs_to v == own) units k u fresh (same_number own)) ∙ taken_put k _)
       (λ r ne. old r ∙ numbers_where-insert_other (λ v. belongs_to v == r) units k u fresh (other_number own r ne))
 
-  -- a unit that goes
+  -- the lists are right once a removed unit's number is taken from the list under its key
   pub AreLists-removed : (units : FinMap nat_cmp Unit) (lists : FinMap nat_cmp (List ℕ)) (k : ℕ) (u : Unit) → get units k ≡ Some u → AreLists belongs_to units lists
       → AreLists belongs_to (remove units k) (insert lists (belongs_to u) (take_number k (list_of lists (belongs_to u))))
   AreLists-removed units lists k u is old =
@@ -67,30 +71,31 @@ module _ (belongs_to : Unit → ℕ) where
 
 -- ---- lists under a key, and those of the same numbers
 
+-- lists with the same numbers under each key are right too
 pub AreLists-same : (belongs_to : Unit → ℕ) (units : FinMap nat_cmp Unit) (old new : FinMap nat_cmp (List ℕ)) → SameLists new old → AreLists belongs_to units old → AreLists belongs_to units new
 AreLists-same belongs_to units old new same is k = same k ∙ is k
 
 module _ (belongs_to : Unit → ℕ) (units : FinMap nat_cmp Unit) (old new : FinMap nat_cmp (List ℕ)) (n key : ℕ) where
-  -- a unit that comes
+  -- the lists are right with a new unit, whose number is put under its key
   pub AreLists-came : (u : Unit) → belongs_to u ≡ key → get units n ≡ None → new ≡ insert old key (put_number n (list_of old key)) → AreLists belongs_to units old → AreLists belongs_to (insert units n u) new
   AreLists-came u own fresh put is =
       subst (λ l. AreLists belongs_to (insert units n u) l) (sym (put ∙ ap (λ k. insert old k (put_number n (list_of old k))) (sym own))) (AreLists-added belongs_to units old n u fresh is)
 
-  -- a unit that goes
+  -- the lists are right without a unit, whose number is taken from under its key
   pub AreLists-went : (u : Unit) → belongs_to u ≡ key → get units n ≡ Some u → SameLists new (insert old key (take_number n (list_of old key))) → AreLists belongs_to units old → AreLists belongs_to (remove units n) new
   AreLists-went u own there same is =
       AreLists-same belongs_to (remove units n) (insert old key (take_number n (list_of old key))) new same
       (subst (λ k. AreLists belongs_to (remove units n) (insert old k (take_number n (list_of old k)))) own (AreLists-removed belongs_to units old n u there is))
 
--- a list that is put leaves the others
+-- a list put under a key changes none under another
 pub listed_else : (lists : FinMap nat_cmp (List ℕ)) (k : ℕ) (xs : List ℕ) (r : ℕ) → k ≢ r → list_of (insert lists k xs) r ≡ list_of lists r
 listed_else lists k xs r = by_key lists k xs (λ q ys. k ≢ q → ys ≡ list_of lists q) (λ apart. absurd (apart refl)) (λ q _ _. refl) r
 
--- and is there
+-- a list put under a key is found there
 pub listed_there : (lists : FinMap nat_cmp (List ℕ)) (k : ℕ) (xs : List ℕ) → list_of (insert lists k xs) k ≡ xs
 listed_there lists k xs = ap (λ o. unwrap_or o []) (get-insert nat_cmp_total lists k xs k ∙ ap (λ b. cond b (Some xs) (get lists k)) (itself k))
 
--- a number that was put and is taken again
+-- lists are as before once a number is put under a key and taken again
 pub AreLists-undone_at : (belongs_to : Unit → ℕ) (units : FinMap nat_cmp Unit) (old mid new : FinMap nat_cmp (List ℕ)) (n key : ℕ) → mid ≡ insert old key (put_number n (list_of old key)) → SameLists new (insert mid key (take_number n (list_of mid key)))
     → AreLists belongs_to units old → AreLists belongs_to units new
 AreLists-undone_at belongs_to units old mid new n key put same is =
@@ -99,7 +104,7 @@ AreLists-undone_at belongs_to units old mid new n key put same is =
     (ap (take_number n) (ap (λ l. list_of l key) put ∙ listed_there old key (put_number n (list_of old key))) ∙ taken_put n (list_of old key) ∙ is key)
     (λ r ne. ap (λ l. list_of l r) put ∙ listed_else old key (put_number n (list_of old key)) r ne ∙ is r))
 
--- a number taken where there is no list
+-- taking a number where there is no list changes no list
 pub none_taken : (lists : FinMap nat_cmp (List ℕ)) (key n : ℕ) → get lists key ≡ None → SameLists lists (insert lists key (take_number n (list_of lists key)))
 unfolding take_number
 none_taken lists key n none k =
@@ -108,11 +113,11 @@ none_taken lists key n none k =
 
 -- ---- the lists of structures, which are lists by a key but for that under 0
 
--- some lists are others with nobody under 0
+-- the first lists are the second ones, but with an empty list under 0
 abbrev AreBare : (some all : FinMap nat_cmp (List ℕ)) → Type 0
 AreBare some all = (k : ℕ) → list_of some k ≡ cond (k == 0) [] (list_of all k)
 
--- a list changed in both
+-- the same change of the list under a key keeps AreBare, where the first lists skip key 0
 bare_put : (f : List ℕ → List ℕ) (some all : FinMap nat_cmp (List ℕ)) (key : ℕ) → AreBare some all → AreBare (cond (key == 0) some (insert some key (f (list_of some key)))) (insert all key (f (list_of all key)))
 bare_put f some all key bare =
     elim (cases_eq key 0) [
@@ -124,25 +129,30 @@ bare_put f some all key bare =
     ]
 
 module _ (units : FinMap nat_cmp Unit) (lists : FinMap nat_cmp (List ℕ)) (are : AreInsideLists units lists) where
+  -- the numbers of the units that are inside no structure
   outside : List ℕ
   outside = numbers_where (λ u. u.structure == 0) units
 
-  -- the lists with those that are inside nothing under 0
+  -- the lists by structure, with the units inside none under 0
   whole : FinMap nat_cmp (List ℕ)
   whole = insert lists 0 outside
 
+  -- the whole lists are right by structure, 0 too
   whole_listed : AreLists (λ u. u.structure) units whole
   unfolding whole outside
   whole_listed = by_key lists 0 outside (λ r xs. xs ≡ numbers_where (λ u. u.structure == r) units) refl (λ r ne. rw (other_number r 0 (λ e. ne (sym e))) at (are r))
 
+  -- the lists by structure are the whole ones, but with an empty list under 0
   whole_bare : AreBare lists whole
   unfolding whole
   whole_bare = by_key lists 0 outside (λ r xs. list_of lists r ≡ cond (r == 0) [] xs) (are 0) (λ r ne. rw (other_number r 0 (λ e. ne (sym e))) refl)
 
+-- lists that are right by structure, with an empty list under 0, are right lists of units inside
 bare_inside : (units : FinMap nat_cmp Unit) (some all : FinMap nat_cmp (List ℕ)) → AreBare some all → AreLists (λ u. u.structure) units all → AreInsideLists units some
 bare_inside units some all bare are k = bare k ∙ ap (cond (k == 0) []) (are k)
 
 module _ (units : FinMap nat_cmp Unit) (old new : FinMap nat_cmp (List ℕ)) (n key : ℕ) (u : Unit) (own : u.structure ≡ key) where
+  -- the lists by structure are right with a new unit, put under its structure if it has one
   pub AreInsideLists-came : get units n ≡ None → new ≡ listed_apart old n key 0 → AreInsideLists units old → AreInsideLists (insert units n u) new
   AreInsideLists-came fresh put is =
       let all = whole units old is in
@@ -150,6 +160,7 @@ module _ (units : FinMap nat_cmp Unit) (old new : FinMap nat_cmp (List ℕ)) (n 
       (bare_inside (insert units n u) _ (insert all key (put_number n (list_of all key))) (bare_put (put_number n) old all key (whole_bare units old is))
       (AreLists-came (λ v. v.structure) units all _ n key u own fresh refl (whole_listed units old is)))
 
+  -- the lists by structure are right without a unit, taken from under its structure if it had one
   pub AreInsideLists-went : get units n ≡ Some u → SameLists new (unlisted_apart old n key 0) → AreInsideLists units old → AreInsideLists (remove units n) new
   AreInsideLists-went there same is k =
       let all = whole units old is in
@@ -157,20 +168,24 @@ module _ (units : FinMap nat_cmp Unit) (old new : FinMap nat_cmp (List ℕ)) (n 
       ∙ bare_inside (remove units n) _ (insert all key (take_number n (list_of all key))) (bare_put (take_number n) old all key (whole_bare units old is))
       (AreLists-went (λ v. v.structure) units all _ n key u own there (λ r. refl) (whole_listed units old is)) k
 
+-- the lists by structure stay right when a unit changes and its structure does not
 AreInsideLists-kept : (units : FinMap nat_cmp Unit) (lists : FinMap nat_cmp (List ℕ)) (n : ℕ) (u v : Unit) → get units n ≡ Some u → u.structure ≡ v.structure → AreInsideLists units lists → AreInsideLists (insert units n v) lists
 AreInsideLists-kept units lists n u v there same is =
     bare_inside (insert units n v) lists (whole units lists is) (whole_bare units lists is) (AreLists-kept (λ w. w.structure) units _ n u v there same (whole_listed units lists is))
 
 -- ---- nobody is listed
+-- empty lists are right where there are no units
 nobody_listed : (belongs_to : Unit → ℕ) → AreLists belongs_to empty empty
 nobody_listed belongs_to k = ap (λ o. unwrap_or o []) (get-empty nat_cmp k) ∙ sym (ap (λ es. map (λ e. e.0) (filter (λ e. belongs_to e.1 == k) es)) entries-empty)
 
+-- AreBare holds of empty lists
 nobody_bare : AreBare empty empty
 nobody_bare k = elim (k == 0) as (λ b. list_of empty k ≡ cond b [] (list_of empty k)) [
   | true ↦ ap (λ o. unwrap_or o []) (get-empty nat_cmp k)
   | false ↦ refl
 ]
 
+-- empty lists are right where there are no units
 pub AreUnitLists-nobody : AreUnitLists empty (record { by_region = empty; by_faction = empty; by_structure = empty })
 AreUnitLists-nobody = record {
   regions = nobody_listed (λ u. u.region);
@@ -180,7 +195,7 @@ AreUnitLists-nobody = record {
 
 -- ---- units that change, or come and go again
 
--- a unit that goes on being listed where it was
+-- all lists stay right when a unit changes, but not its region, faction or structure
 pub AreUnitLists-kept : (units : FinMap nat_cmp Unit) (lists : UnitLists) (n : ℕ) (u v : Unit) → get units n ≡ Some u → list_keys_of u ≡ list_keys_of v → AreUnitLists units lists → AreUnitLists (insert units n v) lists
 AreUnitLists-kept units lists n u v is same old = record {
   regions = AreLists-kept (λ w. w.region) units lists.by_region n u v is (ap (λ (l : ListKeys). l.region) same) old.regions;
@@ -188,10 +203,11 @@ AreUnitLists-kept units lists n u v is same old = record {
   structures = AreInsideLists-kept units lists.by_structure n u v is (ap (λ (l : ListKeys). l.structure) same) old.structures;
 }
 
+-- a unit put under a number is found there
 put_there : (units : FinMap nat_cmp Unit) (n : ℕ) (u : Unit) → get (insert units n u) n ≡ Some u
 put_there units n u = get-insert nat_cmp_total units n u n ∙ ap (λ b. cond b (Some u) (get units n)) (itself n)
 
--- a unit that was listed and is so no more
+-- all lists are as before once a new unit is listed and taken from the lists again
 pub AreUnitLists-back : (units : FinMap nat_cmp Unit) (n : ℕ) (u : Unit) (l : ListKeys) (old mid new : UnitLists) → get units n ≡ None → list_keys_of u ≡ l → ListsUnit n l old mid → UnlistsUnit n l mid new → AreUnitLists units old → AreUnitLists units new
 AreUnitLists-back units n u l old mid new fresh own puts takes is =
     subst (λ (m : FinMap nat_cmp Unit). AreUnitLists m new) (taken_back units n u fresh) (takes (insert units n u) u own (put_there units n u) (puts units u own fresh is))
@@ -199,7 +215,7 @@ AreUnitLists-back units n u l old mid new fresh own puts takes is =
 -- ---- a unit that is listed elsewhere
 
 module _ (belongs_to : Unit → ℕ) where
-  -- where the two keys differ
+  -- the lists are right once a unit's number is moved from one key to another
   AreLists-moved : (units : FinMap nat_cmp Unit) (lists : FinMap nat_cmp (List ℕ)) (k : ℕ) (u v : Unit) → get units k ≡ Some u → belongs_to u ≢ belongs_to v → AreLists belongs_to units lists
       → AreLists belongs_to (insert units k v) (insert (insert lists (belongs_to v) (put_number k (list_of lists (belongs_to v)))) (belongs_to u) (take_number k (list_of lists (belongs_to u))))
   AreLists-moved units lists k u v is apart old =
@@ -211,6 +227,7 @@ module _ (belongs_to : Unit → ℕ) where
       (λ _. ap (put_number k) (old to) ∙ sym (numbers_where-gained (λ w. belongs_to w == to) units k u v is (other_number from to apart) (same_number to)))
       (λ q ne2 ne3. old q ∙ sym (numbers_where-insert_known (λ w. belongs_to w == q) units k u v is (other_number from q ne3 ∙ sym (other_number to q ne2)))) r ne)
 
+  -- the lists are right once a unit's number is moved, whether its keys differ or not
   relisted : (units : FinMap nat_cmp Unit) (lists : FinMap nat_cmp (List ℕ)) (k : ℕ) (u v : Unit) → get units k ≡ Some u → AreLists belongs_to units lists
       → AreLists belongs_to (insert units k v) (unlisted_apart (listed_apart lists k (belongs_to v) (belongs_to u)) k (belongs_to u) (belongs_to v))
   relisted units lists k u v is old =
@@ -221,6 +238,7 @@ module _ (belongs_to : Unit → ℕ) where
         | inr apart ↦ rw (other_number from to apart, other_number to from (λ e. apart (sym e)), listed_else lists to (put_number k (list_of lists to)) from (λ e. apart (sym e))) (AreLists-moved units lists k u v is apart old)
       ]
 
+  -- the lists are right once a unit with a new key is moved to it
   pub AreLists-relisted : (units : FinMap nat_cmp Unit) (old mid new : FinMap nat_cmp (List ℕ)) (n from to : ℕ) (u v : Unit) → get units n ≡ Some u → belongs_to u ≡ from → belongs_to v ≡ to → mid ≡ listed_apart old n to from → SameLists new (unlisted_apart mid n from to)
       → AreLists belongs_to units old → AreLists belongs_to (insert units n v) new
   AreLists-relisted units old mid new n from to u v is own goes put same lists =
@@ -229,6 +247,7 @@ module _ (belongs_to : Unit → ℕ) where
       (subst (λ q. AreLists belongs_to (insert units n v) (unlisted_apart (listed_apart old n to q) n q to)) own
       (subst (λ q. AreLists belongs_to (insert units n v) (unlisted_apart (listed_apart old n q (belongs_to u)) n (belongs_to u) q)) goes (relisted units old n u v is lists))))
 
+  -- lists are as before once a number is put under a key, if it isn't the other one, and taken again
   pub AreLists-apart : (units : FinMap nat_cmp Unit) (old mid new : FinMap nat_cmp (List ℕ)) (n key other : ℕ) → mid ≡ listed_apart old n key other → SameLists new (unlisted_apart mid n key other) → AreLists belongs_to units old → AreLists belongs_to units new
   AreLists-apart units old mid new n key other put same is =
       elim (key == other) as (λ b. mid ≡ cond b old (insert old key (put_number n (list_of old key))) → SameLists new (cond b mid (insert mid key (take_number n (list_of mid key)))) → AreLists belongs_to units new) [
@@ -236,6 +255,7 @@ module _ (belongs_to : Unit → ℕ) where
         | false ↦ λ p s. AreLists-undone_at belongs_to units old mid new n key p s is
       ] put same
 
+-- the lists by structure are right once a unit in another structure is moved to it
 pub AreInsideLists-relisted : (units : FinMap nat_cmp Unit) (old new : FinMap nat_cmp (List ℕ)) (n from to : ℕ) (u v : Unit) → get units n ≡ Some u → u.structure ≡ from → v.structure ≡ to → SameLists new (relisted_inside old n from to)
     → AreInsideLists units old → AreInsideLists (insert units n v) new
 AreInsideLists-relisted units old new n from to u v is own goes same lists =
@@ -252,7 +272,7 @@ AreInsideLists-relisted units old new n from to u v is own goes same lists =
           (AreLists-relisted (λ w. w.structure) units all put taken n from to u v is own goes (rw (other_number to from (λ e. apart (sym e))) refl) (λ r. rw (other_number from to apart) refl) (whole_listed units old lists)) k)
     ]
 
--- a unit that may have changed, and goes on being listed where it was
+-- all lists stay right when unit n, if it is there, changes, but not its region, faction or structure
 pub AreUnitLists-changed : (f : Unit → Unit) → ((u : Unit) → list_keys_of u ≡ list_keys_of (f u)) → (units : FinMap nat_cmp Unit) (lists : UnitLists) (n : ℕ) → AreUnitLists units lists → AreUnitLists (changed f units n) lists
 AreUnitLists-changed f stays units lists n is = by_unit (get units n) refl
   where
@@ -260,7 +280,7 @@ AreUnitLists-changed f stays units lists n is = by_unit (get units n) refl
     by_unit None e = is
     by_unit (Some u) e = AreUnitLists-kept units lists n u (f u) e (stays u) is
 
--- likewise where that may want for memory
+-- all lists stay right when unit n changes, but not its region, faction or structure, with memory or without
 pub AreUnitLists-set : {A E : Type 0} (r : Result A E) (f : Unit → Unit) → ((u : Unit) → list_keys_of u ≡ list_keys_of (f u)) → (old new : FinMap nat_cmp Unit) (lists : UnitLists) (n : ℕ) → OnOk r (new ≡ changed f old n) → OnErr r (new ≡ old)
     → AreUnitLists old lists → AreUnitLists new lists
 AreUnitLists-set (Ok a) f stays old new lists n put same is = subst (λ (units : FinMap nat_cmp Unit). AreUnitLists units lists) (sym put) (AreUnitLists-changed f stays old lists n is)

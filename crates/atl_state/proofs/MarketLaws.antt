@@ -1,4 +1,4 @@
--- Of which items the markets of a world are, and that without markets there are no stocks.
+-- A law of markets: the market of a region is of an item of the world.
 use Rattle.std.proofs.Common.{◌≡◌, ℕ, ◌<◌, Option, Some, None, is_some, IsSome, length, true, refl, sym, ap, ◌∙◌, arith}
 use Rattle.std.specs.Prelude.{option_and_then, option_map}
 use Rattle.std.proofs.lemmas.Bool.{false≢true}

@@ -1,4 +1,4 @@
--- The numbers that a list has.
+-- Laws of lists of numbers: which numbers are on them, and the first that passes a test.
 use Rattle.std.proofs.Common.{◌≡◌, ◌≢◌, ℕ, suc, ◌<◌, ◌≤◌, Bool, true, false, cond, List, [], ◌∷◌, length, get_or, filter, map, Some, refl, sym, ap, subst, ◌∙◌, inl, inr, ◌⊎◌, arith}
 use Rattle.std.specs.Ordering.{nat_cmp}
 use Rattle.std.specs.FinMap.{FinMap, entries, get}
@@ -9,16 +9,18 @@ use Rattle.atl_records.specs.Every.{EachOf, Every}
 use Rattle.atl_state.specs.Owners.{first_or_zero}
 use Rattle.atl_records.proofs.EveryLaws.{every-from_each, passes-listed}
 
+-- the number is on the list
 abbrev pub IsListed : ℕ → List ℕ → Type 0
 IsListed k [] = ⊥
 IsListed k (n ∷ ns) = (k ≡ n) ⊎ IsListed k ns
 
+-- a number on a list is at some index of it
 place_in : (k d : ℕ) (ns : List ℕ) → IsListed k ns → (i : ℕ) × (i < length ns) × (get_or ns i d ≡ k)
 place_in k d [] h = absurd h
 place_in k d (n ∷ ns) (inl same) = (0, omega arith, sym same)
 place_in k d (n ∷ ns) (inr rest) = let (i, l, at) = place_in k d ns rest in (suc i, omega arith, at)
 
--- the first number that passes a test, or 0, where each is 1 or more
+-- of numbers from 1 on, the first that passes a test is on the list, and is 0 only if none passes
 pub first_of : (q : ℕ → Bool) (ns : List ℕ) → ((k : ℕ) → IsListed k ns → 1 ≤ k) →
     (first_or_zero (filter q ns) ≢ 0 → IsListed (first_or_zero (filter q ns)) ns × (q (first_or_zero (filter q ns)) ≡ true))
     × (first_or_zero (filter q ns) ≡ 0 → (k : ℕ) → IsListed k ns → q k ≡ false)
@@ -37,22 +39,26 @@ first_of q (n ∷ ns) low =
     passed t others k (inr h) = others k h
 
 module _ {V : Type 0} (p : V → Bool) where
+  -- the numbers of the entries that pass the test
   abbrev chosen : List (ℕ × V) → List ℕ
   chosen es = map (λ e. e.0) (filter (λ e. p e.1) es)
 
-  -- a number whose value passes is listed
+  -- a number on a list is on it with one more in front, or without
   further : (n : ℕ) (ns : List ℕ) (b : Bool) (k : ℕ) → IsListed k ns → IsListed k (cond b (n ∷ ns) ns)
   further n ns true k h = inr h
   further n ns false k h = h
 
+  -- a number put in front is on the list
   foremost : (n : ℕ) (ns : List ℕ) (b : Bool) → b ≡ true → IsListed n (cond b (n ∷ ns) ns)
   foremost n ns true h = inl refl
   foremost n ns false h = cc
 
+  -- what is listed in one list is listed in a list that has all of it
   all_further : (ks ns : List ℕ) → ((k : ℕ) → IsListed k ks → IsListed k ns) → (es : List (ℕ × V)) → EachOf (λ n v. p v ≡ true → IsListed n ks) es → EachOf (λ n v. p v ≡ true → IsListed n ns) es
   all_further ks ns more [] h = tt
   all_further ks ns more (e ∷ es) h = (λ t. more e.0 (h.0 t), all_further ks ns more es h.1)
 
+  -- the number of each entry that passes is chosen
   each_listed : (es : List (ℕ × V)) → EachOf (λ n v. p v ≡ true → IsListed n (chosen es)) es
   each_listed [] = tt
   each_listed (e ∷ es) =
@@ -61,26 +67,30 @@ module _ {V : Type 0} (p : V → Bool) where
         all_further (chosen es) (chosen (e ∷ es)) (λ k h. subst (IsListed k) same (further e.0 (chosen es) (p e.1) k h)) es (each_listed es),
       )
 
+  -- a number whose value passes is among numbers_where
   pub passing_listed : (m : FinMap nat_cmp V) → Every (λ n v. p v ≡ true → IsListed n (numbers_where p m)) m
   passing_listed m = every-from_each (λ n v. p v ≡ true → IsListed n (numbers_where p m)) m (each_listed (entries m))
 
-  -- and a number that is listed has such a value
+  -- a number among numbers_where has a value that passes
   pub listed_passing : (m : FinMap nat_cmp V) (k : ℕ) → IsListed k (numbers_where p m) → (v : V) × (get m k ≡ Some v) × (p v ≡ true)
   listed_passing m k h =
       let (i, l, at) = place_in k 0 (numbers_where p m) h in
       let (v, is, t) = passes-listed p m i 0 l in
       (v, ap (get m) (sym at) ∙ is, t)
 
-  -- where none passes, none is listed
+  -- where numbers_where is empty, no value passes
   pub none_passing : (m : FinMap nat_cmp V) → numbers_where p m ≡ [] → Every (λ n v. p v ≡ false) m
   none_passing m none n v is = false_from_ne_true (p v) (λ t. subst (IsListed n) none (passing_listed m n v is t))
 
+  -- a list that has no number is empty
   none_listed : (ns : List ℕ) → ((k : ℕ) → IsListed k ns → ⊥) → ns ≡ []
   none_listed [] h = refl
   none_listed (n ∷ ns) h = absurd (h n (inl refl))
 
+  -- a test is not both true and false
   true_not_false : {P : Type 0} (b : Bool) → b ≡ true → b ≡ false → P
   true_not_false b t f = cc
 
+  -- where no value passes, numbers_where is empty
   pub nothing_listed : (m : FinMap nat_cmp V) → Every (λ n v. p v ≡ false) m → numbers_where p m ≡ []
   nothing_listed m none = none_listed (numbers_where p m) (λ k h. let (v, is, t) = listed_passing m k h in true_not_false (p v) t (none k v is))

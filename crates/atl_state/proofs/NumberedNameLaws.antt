@@ -1,4 +1,4 @@
--- A word and a number make a name, as of the units and structures that have none of their own.
+-- Laws of default names: a word and a number, as `Unit 7`, are a good name.
 use Rattle.std.proofs.Common.{◌≡◌, ℕ, ◌+◌, ◌-◌, ◌%◌, ◌≤◌, ◌<◌, ◌==◌, ◌^◌, not, true, false, List, [], ◌∷◌, ◌++◌, length, get_or, codes, decimal, refl, sym, ap, ◌∙◌, arith, length-append, append_assoc, lit≤}
 use Rattle.std.specs.List.{list_all}
 use Rattle.std.specs.Cmp.Derive.{both_true}
@@ -10,10 +10,11 @@ use Rattle.std.proofs.Math.Seq.{get_or-append_seam}
 use Rattle.atl_tables.specs.Names.{name_ok, is_name_byte, is_short, has_open_ends}
 use Rattle.atl_records.specs.Limits.{last_unit}
 
+-- a decimal digit is a byte of names
 digit_ok : (d : ℕ) → 48 ≤ d → d ≤ 57 → is_name_byte d ≡ true
 digit_ok d h k = grind (arith, nat_tests)
 
--- digits, of which the last is told apart
+-- bytes of names, the last of which is a digit
 record EndsInDigit (ds : List ℕ) : Type 0 where
   front : List ℕ
   last : ℕ
@@ -22,10 +23,12 @@ record EndsInDigit (ds : List ℕ) : Type 0 where
   least : 48 ≤ last
   most : last ≤ 57
 
+-- bytes that end in a digit are all bytes of names
 all_digits : (ds : List ℕ) → EndsInDigit ds → list_all is_name_byte ds ≡ true
 all_digits ds e =
     ap (list_all is_name_byte) e.is ∙ list_all-append is_name_byte e.front (e.last ∷ []) ∙ both_true e.digits (both_true (digit_ok e.last e.least e.most) refl)
 
+-- a decimal number ends in a digit
 decimal_ends : (n : ℕ) → n < 2 ^ 64 → EndsInDigit (decimal n)
 decimal_ends n h = decimal_by_steps (λ _ ds. EndsInDigit ds) one more n h
   where
@@ -35,10 +38,11 @@ decimal_ends n h = decimal_by_steps (λ _ ds. EndsInDigit ds) one more n h
     more : (n : ℕ) (ds : List ℕ) → 10 ≤ n → EndsInDigit ds → EndsInDigit (ds ++ (48 + n % 10) ∷ [])
     more n ds h e = record { front = ds; last = 48 + n % 10; is = refl; digits = all_digits ds e; least = omega arith; most = omega arith }
 
+-- 1 to 40 bytes pass the test of length
 short : (bs : List ℕ) → 1 ≤ length bs → length bs ≤ 40 → is_short bs ≡ true
 short bs h k = grind (arith, nat_tests)
 
--- a word of at most 20 bytes, which can stand at the front of a name
+-- a word of 1 to 20 bytes of names that does not begin with a space, to be the front of a name
 pub record IsFront (word : List ℕ) : Type 0 where
   pub bytes : list_all is_name_byte word ≡ true
   pub begins : (get_or word 0 0 == 32) ≡ false
@@ -46,6 +50,7 @@ pub record IsFront (word : List ℕ) : Type 0 where
   pub few : length word ≤ 20
 
 module _ (word : List ℕ) (front : IsFront word) where
+  -- a front followed by digits neither begins nor ends with a space
   open_ends : (digits : List ℕ) (last : ℕ) → 48 ≤ last → has_open_ends (word ++ (digits ++ last ∷ [])) ≡ true
   open_ends digits last h =
       let bs = word ++ (digits ++ last ∷ []) in
@@ -56,6 +61,7 @@ module _ (word : List ℕ) (front : IsFront word) where
       let end : get_or bs (length (word ++ digits)) 0 ≡ last = ap (λ l. get_or l (length (word ++ digits)) 0) (sym whole) ∙ get_or-append_seam (word ++ digits) last [] 0 in
       both_true (ap not first) (ap (λ i. not (get_or bs i 0 == 32)) place ∙ ap (λ b. not (b == 32)) end ∙ ap not other)
 
+  -- a front followed by a number up to last_unit is a good name
   pub numbered_name_ok : (n : ℕ) → n ≤ last_unit → name_ok (word ++ decimal n) ≡ true
   numbered_name_ok n h =
       let e = decimal_ends n (omega arith) in
@@ -64,5 +70,6 @@ module _ (word : List ℕ) (front : IsFront word) where
       both_true (both_true (short (word ++ decimal n) (omega (arith, size, front.some)) (omega (arith, size, few, front.few))) (ap (λ ds. has_open_ends (word ++ ds)) e.is ∙ open_ends e.front e.last e.least))
       (list_all-append is_name_byte word (decimal n) ∙ both_true front.bytes (all_digits (decimal n) e))
 
+-- `Unit ` followed by a number up to last_unit is a good name
 pub unit_name_ok : (n : ℕ) → n ≤ last_unit → name_ok (codes "Unit " ++ decimal n) ≡ true
 unit_name_ok n h = numbered_name_ok (codes "Unit ") (record { bytes = refl; begins = refl; some = lit≤ tt; few = lit≤ tt }) n h

@@ -1,4 +1,4 @@
--- Rows and the entries of the map that is made of them, in another order.
+-- Laws of rows and the map made of them: its entries' rows are these rows, in another order.
 use Rattle.std.proofs.Common.{◌≡◌, ◌≢◌, ℕ, ◌++◌, List, [], ◌∷◌, Bool, true, false, cond, map, Some, None, refl, sym, ap, subst, ◌∙◌, suc, length, inl, inr, ◌⊎◌}
 use Rattle.std.specs.Prelude.{⊤}
 use Rattle.std.specs.declared.cmp.Ordering.TheVariants.{Less, Equal, Greater}
@@ -19,7 +19,7 @@ use Rattle.atl_records.specs.Every.{Every, IsThere}
 use Rattle.atl_state.proofs.AssemblyLaws.{get_same, get_other}
 use Rattle.atl_records.proofs.EveryLaws.{none_some, there-new, there-insert}
 
--- no two rows have one number
+-- no two rows have the same number
 abbrev pub Apart : {R : Type 0} → (R → ℕ) → List R → Type 0
 Apart number [] = ⊤
 Apart number (r ∷ rows) = AllByRecursion (λ s. number s ≢ number r) rows × Apart number rows
@@ -29,11 +29,13 @@ abbrev pub HasNumber : {R : Type 0} → (R → ℕ) → List R → ℕ → Type 
 HasNumber number [] n = ⊥
 HasNumber number (r ∷ rows) n = (number r ≡ n) ⊎ HasNumber number rows n
 
+-- two lists in front of a third, exchanged, are in another order
 pub exchange : {A : Type 0} (a b c : List A) → IsPermutation (a ++ (b ++ c)) (b ++ (a ++ c))
 exchange a b c =
     subst (λ xs. IsPermutation xs (b ++ (a ++ c))) (append_assoc a b c) (subst (λ ys. IsPermutation ((a ++ b) ++ c) ys) (append_assoc b a c) (IsPermutation-append_left c (a ++ b) (b ++ a) (IsPermutation-append_comm a b)))
 
 module _ {V A : Type 0} (f : ℕ × V → List A) where
+  -- an entry put under a new number gives its elements besides those of before, in another order
   flat_put : (k : ℕ) (v : V) (es : List (ℕ × V)) → find nat_cmp k es ≡ None → IsPermutation (f (k, v) ++ flat_map f es) (flat_map f (put nat_cmp k v es))
   flat_put k v [] h = IsPermutation-refl (f (k, v) ++ [])
   flat_put k v (e ∷ es) h =
@@ -45,22 +47,27 @@ module _ {V A : Type 0} (f : ℕ × V → List A) where
             (IsPermutation-append_right (f e) (f (k, v) ++ flat_map f es) (flat_map f (put nat_cmp k v es)) (flat_put k v es g))
       ] h
 
+  -- a value inserted under a new number gives its elements besides those of before, in another order
   flat_insert : (m : FinMap nat_cmp V) (k : ℕ) (v : V) → get m k ≡ None → IsPermutation (f (k, v) ++ flat_map f (entries m)) (flat_map f (entries (insert m k v)))
   flat_insert m k v h = subst (λ es. IsPermutation (f (k, v) ++ flat_map f (entries m)) (flat_map f es)) (sym (entries-insert nat_cmp_total m k v)) (flat_put k v (entries m) (sym (get-entries m k) ∙ h))
 
 module _ {R V : Type 0} (number : R → ℕ) (value : R → V) where
+  -- rows with other numbers still have none in a map once a value is put
   still_none : (m : FinMap nat_cmp V) (k : ℕ) (v : V) (rows : List R) → AllByRecursion (λ s. number s ≢ k) rows → AllByRecursion (λ s. get m (number s) ≡ None) rows → AllByRecursion (λ s. get (insert m k v) (number s) ≡ None) rows
   still_none m k v [] h n = tt
   still_none m k v (s ∷ rows) h n = (get_other m k (number s) v h.0 ∙ n.0, still_none m k v rows h.1 n.1)
 
+  -- no row's number is in the empty map
   all_none : (rows : List R) → AllByRecursion (λ s. get (empty {X = V} {R = nat_cmp}) (number s) ≡ None) rows
   all_none [] = tt
   all_none (s ∷ rows) = (get-empty nat_cmp (number s), all_none rows)
 
   module _ {A : Type 0} (f : ℕ × V → List A) where
+    -- the elements of all rows, one after another
     abbrev pub flat_of : List R → List A
     flat_of rows = flat_map (λ r. f (number r, value r)) rows
 
+    -- rows with new numbers put into a map give their elements besides those of before, in another order
     put_order : (rows : List R) (m : FinMap nat_cmp V) → Apart number rows → AllByRecursion (λ s. get m (number s) ≡ None) rows → IsPermutation (flat_map f (entries m) ++ flat_of rows) (flat_map f (entries (put_rows number value rows m)))
     put_order [] m h n = subst (λ xs. IsPermutation xs (flat_map f (entries m))) (sym (append-nil (flat_map f (entries m)))) (IsPermutation-refl (flat_map f (entries m)))
     put_order (r ∷ rows) m h n =
@@ -74,16 +81,17 @@ module _ {R V : Type 0} (number : R → ℕ) (value : R → V) where
         IsPermutation-trans (old ++ (f (k, v) ++ flat_of rows)) ((f (k, v) ++ old) ++ flat_of rows) last moved
         (IsPermutation-trans ((f (k, v) ++ old) ++ flat_of rows) (new ++ flat_of rows) last one (put_order rows (insert m k v) h.1 (still_none m k v rows h.0 n.1)))
 
-    -- what the entries of the map give is what the rows give
+    -- the elements of all rows are those of the entries of the map made of them, in another order
     pub flat_order : (rows : List R) → Apart number rows → IsPermutation (flat_of rows) (flat_map f (entries (by_number number value rows)))
     flat_order rows h =
         subst (λ es. IsPermutation (flat_map f es ++ flat_of rows) (flat_map f (entries (by_number number value rows)))) (entries-empty {X = V}) (put_order rows empty h (all_none rows))
 
+  -- the row made again of each row's number and value is that row
   same_rows : (row : ℕ → V → R) (rows : List R) → AllByRecursion (λ r. row (number r) (value r) ≡ r) rows → flat_map (λ r. row (number r) (value r) ∷ []) rows ≡ rows
   same_rows row [] h = refl
   same_rows row (r ∷ rows) h = ap (λ s. s ∷ flat_map (λ r. row (number r) (value r) ∷ []) rows) h.0 ∙ ap (λ rs. r ∷ rs) (same_rows row rows h.1)
 
-  -- where each row is that of its number and value, the rows of the map's entries are the rows
+  -- the rows of the entries of the map made of rows are these rows, in another order
   pub rows_order : (row : ℕ → V → R) (rows : List R) → Apart number rows → AllByRecursion (λ r. row (number r) (value r) ≡ r) rows → IsPermutation (rows_by row (entries (by_number number value rows))) rows
   rows_order row rows h same =
       let es = entries (by_number number value rows) in
@@ -93,12 +101,13 @@ module _ {R V : Type 0} (number : R → ℕ) (value : R → V) where
 
 -- ---- rows with keys
 
+-- rows whose keys differ from one's have other numbers than it
 each_apart : {R K : Type 0} (key : R → K) (number : R → ℕ) (same : K → K → Bool) (P : R → Type 0) (r : R) → ((s : R) → P s → same (key r) (key s) ≡ false → number s ≢ number r)
     → (rows : List R) → AllByRecursion P rows → AllByRecursion (λ y. same (key r) y ≡ false) (map key rows) → AllByRecursion (λ s. number s ≢ number r) rows
 each_apart key number same P r apart [] h d = tt
 each_apart key number same P r apart (s ∷ rows) h d = (apart s h.0 d.0, each_apart key number same P r apart rows h.1 d.1)
 
--- rows whose keys differ have numbers of their own
+-- rows whose keys differ have different numbers
 pub Apart-keys : {R K : Type 0} (key : R → K) (number : R → ℕ) (same : K → K → Bool) (P : R → Type 0) → ((r s : R) → P r → P s → same (key r) (key s) ≡ false → number s ≢ number r)
     → (rows : List R) → AllByRecursion P rows → IsDistinct same (map key rows) → Apart number rows
 unfolding IsDistinct
@@ -107,6 +116,7 @@ Apart-keys key number same P apart (r ∷ rows) h d = (each_apart key number sam
 
 -- ---- tests of each row
 
+-- what is so of what passes a test is so of each row, if all pass
 pub each_passes : {R : Type 0} (p : R → Bool) (P : R → Type 0) → ((r : R) → p r ≡ true → P r) → (rows : List R) → list_all p rows ≡ true → AllByRecursion P rows
 each_passes p P good [] h = tt
 each_passes p P good (r ∷ rows) h = let parts = and_parts (p r) (list_all p rows) h in (good r parts.0, each_passes p P good rows parts.1)
@@ -114,38 +124,44 @@ each_passes p P good (r ∷ rows) h = let parts = and_parts (p r) (list_all p ro
 -- ---- rows and what stands under their numbers
 
 module _ {R V : Type 0} (number : R → ℕ) (value : R → V) where
+  -- rows with other numbers change nothing under k
   put_keep : (rows : List R) (m : FinMap nat_cmp V) (k : ℕ) → AllByRecursion (λ s. number s ≢ k) rows → get (put_rows number value rows m) k ≡ get m k
   put_keep [] m k h = refl
   put_keep (r ∷ rows) m k h = put_keep rows (insert m (number r) (value r)) k h.1 ∙ get_other m (number r) k (value r) (λ e. h.0 (sym e))
 
+  -- each row's value is found under its number once rows with different numbers are put
   put_found : (rows : List R) (m : FinMap nat_cmp V) → Apart number rows → AllByRecursion (λ r. get (put_rows number value rows m) (number r) ≡ Some (value r)) rows
   put_found [] m h = tt
   put_found (r ∷ rows) m h = (put_keep rows (insert m (number r) (value r)) (number r) h.0 ∙ get_same m (number r) (value r), put_found rows (insert m (number r) (value r)) h.1)
 
-  -- each row's value stands under its number
+  -- each row's value is found under its number in the map made of rows with different numbers
   pub rows_found : (rows : List R) → Apart number rows → AllByRecursion (λ r. get (by_number number value rows) (number r) ≡ Some (value r)) rows
   rows_found rows h = put_found rows empty h
 
+  -- what is so of every value is so of each row whose value is found
   every_row : (P : ℕ → V → Type 0) (m : FinMap nat_cmp V) (rows : List R) → Every P m → AllByRecursion (λ r. get m (number r) ≡ Some (value r)) rows → AllByRecursion (λ r. P (number r) (value r)) rows
   every_row P m [] every h = tt
   every_row P m (r ∷ rows) every h = (every (number r) (value r) h.0, every_row P m rows every h.1)
 
-  -- what is so of every value is so of each row
+  -- what is so of every value of the map made of rows with different numbers is so of each row
   pub each_row : (P : ℕ → V → Type 0) (rows : List R) → Apart number rows → Every P (by_number number value rows) → AllByRecursion (λ r. P (number r) (value r)) rows
   each_row P rows h every = every_row P (by_number number value rows) rows every (rows_found rows h)
 
+  -- a number that has a value still has one once rows are put
   pub put_there : (rows : List R) (m : FinMap nat_cmp V) (k : ℕ) → IsThere m k → IsThere (put_rows number value rows m) k
   put_there [] m k h = h
   put_there (r ∷ rows) m k h = put_there rows (insert m (number r) (value r)) k (there-insert m (number r) k (value r) h)
 
+  -- the number of each row has a value once the rows are put
   all_there : (rows : List R) (m : FinMap nat_cmp V) → AllByRecursion (λ r. IsThere (put_rows number value rows m) (number r)) rows
   all_there [] m = tt
   all_there (r ∷ rows) m = (put_there rows (insert m (number r) (value r)) (number r) (there-new m (number r) (value r)), all_there rows (insert m (number r) (value r)))
 
-  -- something stands under the number of each row
+  -- the number of each row has a value in the map made of rows
   pub rows_there : (rows : List R) → AllByRecursion (λ r. IsThere (by_number number value rows) (number r)) rows
   rows_there rows = all_there rows empty
 
+  -- a number that has a value once rows are put is a row's, or had one
   came_from : (rows : List R) (m : FinMap nat_cmp V) (n : ℕ) → IsThere (put_rows number value rows m) n → HasNumber number rows n ⊎ IsThere m n
   came_from [] m n h = inr h
   came_from (r ∷ rows) m n h =
@@ -158,18 +174,20 @@ module _ {R V : Type 0} (number : R → ℕ) (value : R → V) where
             ]
       ]
 
+  -- no number has a value in the empty map
   nothing_there : {P : Type 0} (n : ℕ) → IsThere (empty {X = V} {R = nat_cmp}) n → P
   nothing_there n h = none_some h.0 (sym (get-empty nat_cmp n) ∙ h.1)
 
-  -- what stands in the map came with a row
+  -- a number that has a value in the map made of rows is a row's
   pub row_of : (rows : List R) (n : ℕ) → IsThere (by_number number value rows) n → HasNumber number rows n
   row_of rows n h = elim (came_from rows empty n h) [ inl row ↦ row | inr there ↦ nothing_there n there ]
 
+  -- there are as many pairs as rows
   count : (rows : List R) → length {A = ℕ × V} (flat_map (λ r. (number r, value r) ∷ []) rows) ≡ length rows
   count [] = refl
   count (r ∷ rows) = ap suc (count rows)
 
-  -- there are as many values as rows
+  -- the map made of rows with different numbers has as many values as rows
   pub same_count : (rows : List R) → Apart number rows → len (by_number number value rows) ≡ length rows
   same_count rows h =
       let es = entries (by_number number value rows) in
@@ -182,10 +200,12 @@ module _ {R V : Type 0} (number : R → ℕ) (value : R → V) where
 
 -- ---- facts of each row
 
+-- what follows from two facts that are so of each row is so of each
 pub each_with : {R : Type 0} (P Q S : R → Type 0) → ((r : R) → P r → Q r → S r) → (rows : List R) → AllByRecursion P rows → AllByRecursion Q rows → AllByRecursion S rows
 each_with P Q S f [] p q = tt
 each_with P Q S f (r ∷ rows) p q = (f r p.0 q.0, each_with P Q S f rows p.1 q.1)
 
+-- what follows from a fact that is so of each row is so of each
 pub each_so : {R : Type 0} (P Q : R → Type 0) → ((r : R) → P r → Q r) → (rows : List R) → AllByRecursion P rows → AllByRecursion Q rows
 each_so P Q f [] p = tt
 each_so P Q f (r ∷ rows) p = (f r p.0, each_so P Q f rows p.1)

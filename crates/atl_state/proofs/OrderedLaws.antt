@@ -1,4 +1,4 @@
--- Rising lists of numbers, beside the maps whose numbers they list.
+-- Laws of sorted lists of numbers, which list the numbers of a map whose values pass a test.
 use Rattle.std.proofs.Common.{◌≡◌, ℕ, suc, ◌+◌, not, ◌<◌, Bool, true, false, cond, nat_le, List, [], ◌∷◌, ◌++◌, map, filter, take, drop, Some, None, refl, sym, ap, ◌∙◌, arith}
 use Rattle.std.specs.declared.cmp.Ordering.TheVariants.{Less, Equal, Greater}
 use Rattle.std.specs.Ordering.{nat_cmp, is_lt, is_eq}
@@ -15,39 +15,47 @@ use Rattle.atl_state.specs.Ordered.{first_above, put_number, take_number}
 use Rattle.atl_records.proofs.EveryLaws.{is_true, none_some}
 
 -- ---- as recursions
+-- put_number of a list with a first element, by whether the number is at most it
 put_step : (t : Bool) (n x : ℕ) (xs : List ℕ) → take (cond (not t) (1 + first_above n xs) 0) (x ∷ xs) ++ n ∷ drop (cond (not t) (1 + first_above n xs) 0) (x ∷ xs) ≡ cond t (n ∷ x ∷ xs) (x ∷ put_number n xs)
 unfolding put_number
 put_step true n x xs = refl
 put_step false n x xs = let e : 1 + first_above n xs ≡ suc (first_above n xs) = omega arith in ap (λ i. take i (x ∷ xs) ++ n ∷ drop i (x ∷ xs)) e
 
+-- a number is put before a first element that it is at most, else into the rest
 pub put_number-cons : (n x : ℕ) (xs : List ℕ) → put_number n (x ∷ xs) ≡ cond (nat_le n x) (n ∷ x ∷ xs) (x ∷ put_number n xs)
 unfolding put_number
 put_number-cons n x xs = put_step (nat_le n x) n x xs
 
+-- a number put into the empty list is alone
 pub put_number-nil : (n : ℕ) → put_number n [] ≡ n ∷ []
 unfolding put_number
 put_number-nil n = refl
 
+-- take_number of a list with a first element, by whether the number is at most it
 take_step : (t : Bool) (n x : ℕ) (xs : List ℕ) → remove (x ∷ xs) (cond (not t) (1 + first_above n xs) 0) ≡ cond t xs (x ∷ take_number n xs)
 unfolding take_number
 take_step true n x xs = refl
 take_step false n x xs = let e : 1 + first_above n xs ≡ suc (first_above n xs) = omega arith in ap (remove (x ∷ xs)) e
 
+-- take_number removes a first element that the number is at most, else it takes from the rest
 pub take_number-cons : (n x : ℕ) (xs : List ℕ) → take_number n (x ∷ xs) ≡ cond (nat_le n x) xs (x ∷ take_number n xs)
 unfolding take_number
 take_number-cons n x xs = take_step (nat_le n x) n x xs
 
+-- taking from the empty list leaves it empty
 pub take_number-nil : (n : ℕ) → take_number n [] ≡ []
 unfolding take_number
 take_number-nil n = refl
 
+-- a number is at most itself
 itself : (n : ℕ) → nat_le n n ≡ true
 itself n = grind (arith, nat_tests)
 
+-- a number that is first is taken
 taken_first : (n : ℕ) (xs : List ℕ) → take_number n (n ∷ xs) ≡ xs
 taken_first n xs = take_number-cons n n xs ∙ ap (λ b. cond b xs (n ∷ take_number n xs)) (itself n)
 
--- a number that was put is taken again
+-- taking a number that was put gives the list
 pub taken_put : (n : ℕ) (xs : List ℕ) → take_number n (put_number n xs) ≡ xs
 taken_put n [] = ap (take_number n) (put_number-nil n) ∙ taken_first n []
 taken_put n (x ∷ xs) =
@@ -57,6 +65,7 @@ taken_put n (x ∷ xs) =
     ] refl
 
 -- ---- the numbers whose values pass a test
+-- a number that compares less is less
 pub below : (k q : ℕ) → is_lt (nat_cmp k q) ≡ true → k < q
 below k q h =
     elim (nat_cmp k q) as (λ r. nat_cmp k q ≡ r → is_lt r ≡ true → k < q) [
@@ -65,14 +74,17 @@ below k q h =
       | Greater ↦ λ e g. absurd (false≢true g)
     ] refl h
 
+-- a number that comes first among some still does with higher ones in front of these
 first_holds : (n x : ℕ) (t : Bool) (xs ys : List ℕ) → n < x → put_number n ys ≡ n ∷ ys → put_number n (cond t (x ∷ ys) ys) ≡ n ∷ cond t (x ∷ ys) ys
 first_holds n x true xs ys l h = let e : nat_le n x ≡ true = grind (arith, nat_tests) in put_number-cons n x ys ∙ ap (λ b. cond b (n ∷ x ∷ ys) (x ∷ put_number n ys)) e
 first_holds n x false xs ys l h = h
 
+-- a number is put after a lower one, whether that is listed or not
 later_step : (n x : ℕ) (t : Bool) (ys zs : List ℕ) → x < n → zs ≡ put_number n ys → cond t (x ∷ zs) zs ≡ put_number n (cond t (x ∷ ys) ys)
 later_step n x true ys zs l h = let e : nat_le n x ≡ false = grind (arith, nat_tests) in ap (λ q. x ∷ q) h ∙ sym (put_number-cons n x ys ∙ ap (λ b. cond b (n ∷ x ∷ ys) (x ∷ put_number n ys)) e)
 later_step n x false ys zs l h = h
 
+-- a number compares equal to itself
 ties : (k : ℕ) → is_eq (nat_cmp k k) ≡ true
 ties k = elim (nat_cmp k k) as (λ o. nat_cmp k k ≡ o → is_eq o ≡ true) [
   | Less ↦ λ e. let l = ranked k k Less (sym e) in absurd (omega arith)
@@ -81,16 +93,18 @@ ties k = elim (nat_cmp k k) as (λ o. nat_cmp k k ≡ o → is_eq o ≡ true) [
 ] refl
 
 module _ {X : Type 0} (p : X → Bool) where
+  -- the numbers of the entries that pass the test
   abbrev chosen : List (ℕ × X) → List ℕ
   chosen es = map (λ e. e.0) (filter (λ e. p e.1) es)
 
-  -- a number below all comes first
+  -- a number below all entries comes first among the chosen ones
   put_first : (k : ℕ) (es : List (ℕ × X)) → is_sorted nat_cmp es ≡ true → (e : ℕ × X) → k < e.0 → below_all nat_cmp e.0 es ≡ true → put_number k (chosen (e ∷ es)) ≡ k ∷ chosen (e ∷ es)
   put_first k [] s e l b = ap (put_number k) (chosen-cons p e []) ∙ first_holds k e.0 (p e.1) [] [] l (put_number-nil k) ∙ ap (λ ns. k ∷ ns) (sym (chosen-cons p e []))
   put_first k (f ∷ es) s e l b =
       let rest : put_number k (chosen (f ∷ es)) ≡ k ∷ chosen (f ∷ es) = put_first k es (and_parts _ _ s).1 f (omega (arith, below e.0 f.0 (and_parts _ _ b).0)) (and_parts _ _ s).0 in
       ap (put_number k) (chosen-cons p e (f ∷ es)) ∙ first_holds k e.0 (p e.1) [] (chosen (f ∷ es)) l rest ∙ ap (λ ns. k ∷ ns) (sym (chosen-cons p e (f ∷ es)))
 
+  -- a new entry that passes puts its number among the chosen ones
   chosen-put_new : (k : ℕ) (v : X) → p v ≡ true → (es : List (ℕ × X)) → is_sorted nat_cmp es ≡ true → find nat_cmp k es ≡ None → chosen (put nat_cmp k v es) ≡ put_number k (chosen es)
   chosen-put_new k v h [] s g = chosen-cons p (k, v) [] ∙ ap (λ b. cond b (k ∷ []) []) h ∙ sym (put_number-nil k)
   chosen-put_new k v h (e ∷ es) s g =
@@ -100,15 +114,16 @@ module _ {X : Type 0} (p : X → Bool) where
         | Greater ↦ λ l g. chosen-cons p e (put nat_cmp k v es) ∙ later_step k e.0 (p e.1) (chosen es) (chosen (put nat_cmp k v es)) (ranked k e.0 Greater (sym l)) (chosen-put_new k v h es (and_parts _ _ s).1 g) ∙ ap (put_number k) (sym (chosen-cons p e es))
       ] refl g
 
-  -- a new number is put at its place
+  -- a new value that passes puts its number into the list
   pub numbers_where-insert_new : (m : FinMap nat_cmp X) (k : ℕ) (v : X) → get m k ≡ None → p v ≡ true → numbers_where p (insert m k v) ≡ put_number k (numbers_where p m)
   numbers_where-insert_new m k v fresh h =
       ap chosen (entries-insert nat_cmp_total m k v) ∙ chosen-put_new k v h (entries m) (is_true _ (entries_sorted m)) (sym (get-entries m k) ∙ fresh)
 
+  -- a removed number has no value
   removed : (m : FinMap nat_cmp X) (k : ℕ) → get (keyed.remove m k) k ≡ None
   removed m k = get-remove nat_cmp_total m k k ∙ ap (λ b. cond b None (get m k)) (ties k)
 
-  -- a value that passed, and then doesn't
+  -- a value that passed, replaced by one that doesn't, takes its number from the list
   pub numbers_where-lost : (m : FinMap nat_cmp X) (k : ℕ) (u v : X) → get m k ≡ Some u → p u ≡ true → p v ≡ false → numbers_where p (insert m k v) ≡ take_number k (numbers_where p m)
   numbers_where-lost m k u v is passed fails =
       let base = keyed.remove m k in
@@ -116,7 +131,7 @@ module _ {X : Type 0} (p : X → Bool) where
       let after : numbers_where p (insert m k v) ≡ numbers_where p base = ap (numbers_where p) (put_over m k v) ∙ numbers_where-insert_other p base k v (removed m k) fails in
       after ∙ sym (taken_put k (numbers_where p base)) ∙ ap (take_number k) (sym before)
 
-  -- a value that did not pass, and then does
+  -- a value that did not pass, replaced by one that does, puts its number into the list
   pub numbers_where-gained : (m : FinMap nat_cmp X) (k : ℕ) (u v : X) → get m k ≡ Some u → p u ≡ false → p v ≡ true → numbers_where p (insert m k v) ≡ put_number k (numbers_where p m)
   numbers_where-gained m k u v is failed passes =
       let base = keyed.remove m k in

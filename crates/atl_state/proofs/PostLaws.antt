@@ -1,4 +1,4 @@
--- The month that is counted, the mail that is taken away, and a report that is stored: each is marked.
+-- Laws of marks when the month is set, a report is stored, and all mail is removed: each change is marked.
 use Rattle.std.proofs.Common.{◌≡◌, ◌||◌, ℕ, List, Bool, true, false, Option, Some, None, is_some, refl, sym, ap, ◌∙◌, true≢false}
 use Rattle.std.specs.Ordering.{nat_cmp}
 use Rattle.std.specs.Cmp.{nat_cmp_total}
@@ -10,7 +10,7 @@ use Rattle.atl_state.specs.Campaign.{MarkedCampaign, with_month, with_report, wi
 use Rattle.atl_state.proofs.CoverLaws.{Mail, Reports, Row, Stays, Tells, apart_by, part_by_part, put_stays}
 use Rattle.atl_records.proofs.EveryLaws.{get-insert_other}
 
--- the month that is counted
+-- setting the month, with the mark of the campaign's row, satisfies MarksChanges
 pub marks-month : (c : MarkedCampaign) (n : ℕ) → MarksChanges c (record { value = with_month c.value n; marks = mark_campaign_row c })
 marks-month c n =
     let next : MarkedCampaign = record { value = with_month c.value n; marks = mark_campaign_row c } in
@@ -18,7 +18,7 @@ marks-month c n =
     (λ p. elim p as (Stays c.marks next.marks) [ Row ↦ λ k h. refl | _ ↦ λ k h. h ])
     (λ p. elim p as (Tells next.marks c.value next.value) [ Row ↦ λ k free. absurd (true≢false free) | _ ↦ λ k free. refl ])
 
--- a report that is stored
+-- storing a report, with its mark, satisfies MarksChanges
 pub marks-report : (c : MarkedCampaign) (n : ℕ) (text : List ℕ) → MarksChanges c (record { value = with_report c.value n text; marks = mark_report c n })
 marks-report c n text =
     let next : MarkedCampaign = record { value = with_report c.value n text; marks = mark_report c n } in
@@ -29,20 +29,25 @@ marks-report c n text =
 -- ---- the mail that is taken away
 
 module _ (marks : FinSet nat_cmp) (mail : FinMap nat_cmp (List ℕ)) where
+  -- a number is marked after if it was marked, or had mail
   either : (k : ℕ) → contains (union marks (from_list (keys mail))) k ≡ (contains marks k || contains_key mail k)
   either k = contains-union nat_cmp_total marks (from_list (keys mail)) k ∙ ap (λ b. contains marks k || b) (contains-from_list nat_cmp_total (keys mail) k ∙ sym (contains_key-keys mail k))
 
+  -- what was marked still is
   all_stay : StaysMarked marks (union marks (from_list (keys mail)))
   all_stay k h = either k ∙ ap (λ b. b || contains_key mail k) h
 
+  -- where a number is neither marked nor had mail, it has no mail
   none_there : (a b : Bool) (o : Option (List ℕ)) → b ≡ is_some o → (a || b) ≡ false → None ≡ o
   none_there true b o is free = absurd (true≢false free)
   none_there false b None is free = refl
   none_there false b (Some text) is free = absurd (true≢false (sym is ∙ free))
 
+  -- a number that is not marked has the same mail as before: none
   all_gone : SameBut (union marks (from_list (keys mail))) mail empty
   all_gone k free = get-empty nat_cmp k ∙ none_there (contains marks k) (contains_key mail k) (get mail k) refl (sym (either k) ∙ free)
 
+-- removing all mail, with the marks of all that had some, satisfies MarksChanges
 pub marks-no_mail : (c : MarkedCampaign) → MarksChanges c (record { value = without_mail c.value; marks = mark_all_mail c })
 marks-no_mail c =
     let next : MarkedCampaign = record { value = without_mail c.value; marks = mark_all_mail c } in

@@ -1,4 +1,4 @@
--- How a campaign changes with a region, and with what is booked.
+-- Laws of a changed region and of changed amounts of the books: the campaign stays steady, and how totals change.
 use Rattle.std.proofs.Common.{◌≡◌, ◌≢◌, ◌↔◌, ℕ, ◌+◌, ◌≤◌, ◌<◌, cond, Some, refl, sym, ap, subst, ◌∙◌, inl, inr, arith}
 use Rattle.std.specs.Prelude.{ℤ, ◌+ℤ◌, is_some}
 use Rattle.std.specs.Ordering.{nat_cmp, is_eq}
@@ -27,11 +27,13 @@ use Rattle.atl_records.proofs.EveryLaws.{every-insert, there-insert}
 -- ---- other regions, other books
 
 module _ (w : WorldValue) (c : CampaignValue) (regions : FinMap nat_cmp Region) (books : BooksValue) where
+  -- the campaign with other regions and other books
   abbrev stocked : CampaignValue
   stocked = record c { regions = regions; books = books }
 
   module _ (few : len regions ≡ len c.regions) (there : (n : ℕ) → IsThere c.regions n ↔ IsThere regions n)
       (within : Every (λ n r. IsRegion w n r) regions) (marketed : Every (λ n r. AreOfMarkets w n r.stocks) regions) (booked : AreBooks (things_of w) books) where
+    -- the campaign stays in range with other regions and books that are in range
     stocked-numbers : AreInRange w c → AreInRange w stocked
     stocked-numbers old = record {
       month = old.month;
@@ -48,6 +50,7 @@ module _ (w : WorldValue) (c : CampaignValue) (regions : FinMap nat_cmp Region) 
       books = booked;
     }
 
+    -- what is named by number exists, with the same region numbers and stocks of markets
     stocked-known : AreKnown w c → AreKnown w stocked
     stocked-known old = record {
       regions = λ n. (λ h. (old.regions n).0 ((there n).1 h), λ h. (there n).0 ((old.regions n).1 h));
@@ -57,6 +60,7 @@ module _ (w : WorldValue) (c : CampaignValue) (regions : FinMap nat_cmp Region) 
       posts = old.posts;
     }
 
+    -- the campaign stays steady with other regions and books that are good
     stocked-steady : IsSteady w c → IsSteady w stocked
     stocked-steady old = record {
       numbers = stocked-numbers old.numbers;
@@ -73,9 +77,11 @@ module _ (w : WorldValue) (c : CampaignValue) (regions : FinMap nat_cmp Region) 
 -- ---- a region
 
 module _ {V : Type 0} where
+  -- a map has as many values once one is replaced
   pub same_len : (m : FinMap nat_cmp V) (n : ℕ) (u v : V) → get m n ≡ Some u → len (insert m n v) ≡ len m
   same_len m n u v is = len-insert nat_cmp_total m n v ∙ ap (λ o. cond (is_some o) (len m) (len m + 1)) is
 
+  -- a number that has a value once one is replaced had one
   there_again : (m : FinMap nat_cmp V) (k n : ℕ) (u v : V) → get m k ≡ Some u → IsThere (insert m k v) n → IsThere m n
   there_again m k n u v is (x, put) =
       elim (nat_cmp n k) as (λ o. nat_cmp n k ≡ o → cond (is_eq o) (Some v) (get m n) ≡ Some x → IsThere m n) [
@@ -84,6 +90,7 @@ module _ {V : Type 0} where
         | Greater ↦ λ _ e. (x, e)
       ] refl (sym (get-insert nat_cmp_total m k v n) ∙ put)
 
+  -- a value put under a number is found there
   pub get-insert_same : (m : FinMap nat_cmp V) (k : ℕ) (v : V) → get (insert m k v) k ≡ Some v
   get-insert_same m k v =
       get-insert nat_cmp_total m k v k ∙ elim (nat_cmp k k) as (λ o. nat_cmp k k ≡ o → cond (is_eq o) (Some v) (get m k) ≡ Some v) [
@@ -92,20 +99,24 @@ module _ {V : Type 0} where
         | Greater ↦ λ o. let l = ranked k k Greater (sym o) in absurd (omega arith)
       ] refl
 
+  -- changing a value that is there puts the changed one in its stead
   pub changed-known : (f : V → V) (m : FinMap nat_cmp V) (n : ℕ) (v : V) → get m n ≡ Some v → changed f m n ≡ insert m n (f v)
   changed-known f m n v is = ap (changed_at f m n) is
 
--- a region with other peasants, or other money
+-- a region stays in range with other peasants, up to the limit
 pub IsRegion-peasants : {w : WorldValue} {n : ℕ} (r : Region) (peasants : ℕ) → peasants ≤ most_amount → IsRegion w n r → IsRegion w n (record r { peasants = peasants })
 IsRegion-peasants r peasants few old = record { peasants = few; money = old.money; stocks = old.stocks }
 
+-- a region stays in range with other money, up to the limit
 pub IsRegion-money : {w : WorldValue} {n : ℕ} (r : Region) (money : ℕ) → money ≤ most_amount → IsRegion w n r → IsRegion w n (record r { money = money })
 IsRegion-money r money few old = record { peasants = old.peasants; money = few; stocks = old.stocks }
 
 module _ (f : Region → Region) (c : CampaignValue) (n : ℕ) (r : Region) (is : get c.regions n ≡ Some r) where
+  -- the changed region is found
   pub region-changed : get (region_changed f c n).regions n ≡ Some (f r)
   region-changed = ap (λ m. get m n) (changed-known f c.regions n r is) ∙ get-insert_same c.regions n (f r)
 
+  -- the campaign stays steady if the changed region is in range, with stocks of its markets
   pub steady-region : (w : WorldValue) → IsRegion w n (f r) → AreOfMarkets w n (f r).stocks → IsSteady w c → IsSteady w (region_changed f c n)
   steady-region w within marketed old =
       subst (λ (m : FinMap nat_cmp Region). IsSteady w (record c { regions = m })) (sym (changed-known f c.regions n r is))
@@ -114,9 +125,11 @@ module _ (f : Region → Region) (c : CampaignValue) (n : ℕ) (r : Region) (is 
       (every-insert (λ k q. IsRegion w k q) c.regions n (f r) within old.numbers.regions)
       (every-insert (λ k q. AreOfMarkets w k q.stocks) c.regions n (f r) marketed old.known.markets) old.numbers.books old)
 
+  -- an equation of sums with one term more on each side
   regrouped : (u a b p q : ℕ) → a + p ≡ b + q → (u + a) + p ≡ (u + b) + q
   regrouped u a b p q h = omega arith
 
+  -- a total changes by what the region has more or less of the thing
   pub total-region : (t : Thing) → total (region_changed f c n) t + region_amount t r ≡ total c t + region_amount t (f r)
   unfolding total
   total-region t =
@@ -127,15 +140,17 @@ module _ (f : Region → Region) (c : CampaignValue) (n : ℕ) (r : Region) (is 
 
 -- ---- the books
 
+-- the campaign stays steady when an amount of one of the world's things is set
 pub steady-amount : (w : WorldValue) (c : CampaignValue) (e : Entry) (t : Thing) (n : ℤ) → thing_index t < things_of w → IsSteady w c → IsSteady w (with_amount c e t n)
 steady-amount w c e t n there old =
     stocked-steady w c c.regions (after_booking c.books e t n) refl (λ k. (λ h. h, λ h. h)) old.numbers.regions old.known.markets (AreBooks-after_booking (things_of w) c.books e t n old.numbers.books there) old
 
+-- no total changes when an amount of the books is set
 pub total-amount : (c : CampaignValue) (e : Entry) (u t : Thing) (n : ℤ) → total (with_amount c e u n) t ≡ total c t
 unfolding total
 total-amount c e u t n = refl
 
--- no other amount changes
+-- a booking changes no amount with another number
 pub amount-other : (books : BooksValue) (e f : Entry) (t u : Thing) (n : ℤ) → amount_number e t ≢ amount_number f u → amount_in (after_booking books f u n) e t ≡ amount_in books e t
 amount-other books e f t u n apart =
     elim (cases_account (e, t) (f, u)) [

@@ -1,4 +1,4 @@
--- Maps whose entries come one after another.
+-- Laws of a map built entry by entry in sorted order: each entry that comes next has a new number.
 use Rattle.std.proofs.Common.{◌≡◌, ℕ, true, false, T, List, [], ◌∷◌, ◌++◌, Some, None, refl, sym, ap, subst, ◌∙◌}
 use Rattle.std.specs.Prelude.{cond}
 use Rattle.std.specs.declared.cmp.Ordering.TheVariants.{Less, Equal, Greater}
@@ -10,23 +10,27 @@ use Rattle.std.specs.FinMap.Entries.{below_all}
 use Rattle.std.proofs.lemmas.Bool.{and_parts, false≢true}
 use Rattle.atl_records.proofs.EveryLaws.{is_true}
 
+-- an ordering that passes is_lt is Less
 is_less : (o : Ordering) → is_lt o ≡ true → o ≡ Less
 is_less Less h = refl
 is_less Equal h = absurd (false≢true h)
 is_less Greater h = absurd (false≢true h)
 
+-- a number above another does not compare equal to it
 above : (k q : ℕ) → is_lt (nat_cmp q k) ≡ true → is_eq (nat_cmp k q) ≡ false
 above k q h = ap is_eq (nat_cmp_total.antisymm k q) ∙ ap (λ o. is_eq (ordering_reverse o)) (is_less (nat_cmp q k) h)
 
 module _ {W : Type 0} where
+  -- a number below all entries is below one in their midst
   is_below : (q : ℕ) (es fs : List (ℕ × W)) (k : ℕ) (w : W) → below_all nat_cmp q (es ++ (k, w) ∷ fs) ≡ true → is_lt (nat_cmp q k) ≡ true
   is_below q [] fs k w h = (and_parts _ _ h).0
   is_below q (e ∷ es) fs k w h = is_below q es fs k w (and_parts _ _ h).1
 
+  -- the number of an entry of a sorted list is not found among those before it
   not_in_front : (es fs : List (ℕ × W)) (k : ℕ) (w : W) → is_sorted nat_cmp (es ++ (k, w) ∷ fs) ≡ true → find nat_cmp k es ≡ None
   not_in_front [] fs k w h = refl
   not_in_front (e ∷ es) fs k w h = ap (λ b. cond b (Some e.1) (find nat_cmp k es)) (above k e.0 (is_below e.0 es fs k w (and_parts _ _ h).0)) ∙ not_in_front es fs k w (and_parts _ _ h).1
 
-  -- the entry that comes next has a number of its own
+  -- the next entry of a map whose first entries are those of m has a number that is not in m
   pub comes_new : (m n : FinMap nat_cmp W) (k : ℕ) (w : W) (fs : List (ℕ × W)) → entries m ++ (k, w) ∷ fs ≡ entries n → get m k ≡ None
   comes_new m n k w fs h = get-entries m k ∙ not_in_front (entries m) fs k w (is_true _ (subst (λ es. T (is_sorted nat_cmp es)) (sym h) (entries_sorted n)))

@@ -1,4 +1,4 @@
--- How the rows of a campaign are listed one after another.
+-- Laws of the lists of rows that a campaign is written as, one row more at a time.
 use Rattle.std.proofs.Common.{◌≡◌, ◌≢◌, ℕ, ◌+◌, ◌++◌, List, [], ◌∷◌, true, false, not, cond, refl, sym, ap, ◌∙◌, arith}
 use Rattle.std.specs.Prelude.{ℤ, pos}
 use Rattle.std.specs.List.{flat_map}
@@ -11,23 +11,24 @@ use Rattle.atl_records.specs.Grids.{accounts_under, listed_of}
 use Rattle.atl_records.proofs.BookLaws.{zero_not}
 use Rattle.atl_state.specs.Rows.{has_row, amounts_rows, books_row, amount_rows, rows_of_sort, rows_under}
 
+-- pos m ≡ pos n gives m ≡ n
 same_size : {m n : ℕ} → pos m ≡ pos n → m ≡ n
 same_size e = cc
 
 -- rows that show their amounts
 module _ {R : Type 0} (shown : R → ℤ) (row : ℕ → ℕ → R) (shows : (thing amount : ℕ) → shown (row thing amount) ≡ pos amount) where
-  -- a row more, where the amount isn't 0
+  -- an amount that is not 0 gives one row, before those of the rest
   pub amount_rows_one : (thing amount : ℕ) (es : List (ℕ × ℕ)) → amount ≢ 0 → amount_rows shown row ((thing, amount) ∷ es) ≡ row thing amount ∷ amount_rows shown row es
   amount_rows_one thing amount es h =
       ap (λ b. cond (not b) (row thing amount ∷ amount_rows shown row es) (amount_rows shown row es)) (ap is_zero (shows thing amount) ∙ zero_not (pos amount) (λ e. h (same_size e)))
 
--- of what a unit has
+-- an amount that is not 0 of a unit's goods gives one row, before those of the rest
 pub sort_rows_one : (n sort thing amount : ℕ) (es : List (ℕ × ℕ)) → amount ≢ 0 → rows_of_sort n sort ((thing, amount) ∷ es) ≡ has_row n sort thing amount ∷ rows_of_sort n sort es
 sort_rows_one n sort = amount_rows_one (λ r. r.amount) (has_row n sort) (λ i a. refl)
 
 -- ---- rows of the books
 
--- the lists of rows of accounts that stand one after another
+-- the rows of two lists of accounts together are those of both
 pub rows_under-append : (books : BooksValue) (some others : List Account) → rows_under books (some ++ others) ≡ rows_under books some ++ rows_under books others
 rows_under-append books [] others = refl
 rows_under-append books (a ∷ some) others =
@@ -39,22 +40,26 @@ rows_under-append books (a ∷ some) others =
       | false ↦ ap (λ rows. books_row a.0 a.1 z ∷ rows) (rows_under-append books some others)
     ]
 
+-- the rows of one account are its row, or none if its amount is 0
 rows_under_one : (books : BooksValue) (a : Account) → rows_under books (a ∷ []) ≡ cond (not (is_zero (amount_in books a.0 a.1))) (books_row a.0 a.1 (amount_in books a.0 a.1) ∷ []) []
 rows_under_one books a = elim (is_zero (amount_in books a.0 a.1)) as (λ b. amounts_rows (cond (not b) ((a, amount_in books a.0 a.1) ∷ []) []) ≡ cond (not b) (books_row a.0 a.1 (amount_in books a.0 a.1) ∷ []) []) [ true ↦ refl | false ↦ refl ]
 
+-- the rows of an entry with one thing more are those of before, and those of that account
 more_under : (books : BooksValue) (entry : Entry) (n : ℕ) → rows_under books (accounts_under (n + 1) entry) ≡ rows_under books (accounts_under n entry) ++ rows_under books ((entry, thing_at n) ∷ [])
 more_under books entry n = ap (rows_under books) (map-range_with_len_more (λ i. (entry, thing_at i)) 0 n n (omega arith)) ∙ rows_under-append books (accounts_under n entry) ((entry, thing_at n) ∷ [])
 
+-- the rows of an entry with one thing more have one row more, if the amount is not 0
 pub rows_under-some : (books : BooksValue) (entry : Entry) (n : ℕ) → amount_in books entry (thing_at n) ≢ pos 0 → rows_under books (accounts_under (n + 1) entry) ≡ rows_under books (accounts_under n entry) ++ books_row entry (thing_at n) (amount_in books entry (thing_at n)) ∷ []
 rows_under-some books entry n h =
     let z = amount_in books entry (thing_at n) in
     more_under books entry n ∙ ap (λ rows. rows_under books (accounts_under n entry) ++ rows) (rows_under_one books (entry, thing_at n) ∙ ap (λ b. cond (not b) (books_row entry (thing_at n) z ∷ []) []) (zero_not z h))
 
+-- the rows of an entry with one thing more are the same, if the amount is 0
 pub rows_under-none : (books : BooksValue) (entry : Entry) (n : ℕ) → amount_in books entry (thing_at n) ≡ pos 0 → rows_under books (accounts_under (n + 1) entry) ≡ rows_under books (accounts_under n entry)
 rows_under-none books entry n h =
     more_under books entry n ∙ ap (λ rows. rows_under books (accounts_under n entry) ++ rows) (rows_under_one books (entry, thing_at n) ∙ ap (λ z. cond (not (is_zero z)) (books_row entry (thing_at n) z ∷ []) []) h) ∙ append-nil (rows_under books (accounts_under n entry))
 
--- the rows of one entry more
+-- rows written so far and rows still to come are the same before and after those of one entry are written
 pub entry_added : (books : BooksValue) (things : ℕ) (x : Entry) (now rest : List Entry) (before after all : List StoredBooks) → now ≡ x ∷ rest → after ≡ before ++ rows_under books (accounts_under things x)
     → before ++ rows_under books (flat_map (accounts_under things) now) ≡ all → after ++ rows_under books (flat_map (accounts_under things) rest) ≡ all
 entry_added books things x now rest before after all next is so_far =

@@ -1,4 +1,4 @@
--- Rows that keep the rules are those of the campaign that they say.
+-- Laws of rows that keep the rules: the campaign assembled from them has these rows, in another order.
 use Rattle.std.proofs.Common.{◌≡◌, ◌≢◌, ◌==◌, ℕ, zero, suc, ◌≤◌, ◌<◌, ◌+◌, ◌&&◌, ◌||◌, ◌⊎◌, List, [], ◌∷◌, Bool, true, false, not, Some, None, Option, length, nat_le, nat_lt, refl, sym, ap, subst, ◌∙◌, arith, inl, inr}
 use Rattle.std.specs.Prelude.{ℤ, pos, negsuc, min, is_some, filter, option_and_then, slice_index_or}
 use Rattle.std.specs.List.{list_all, slice_get, AllByRecursion}
@@ -51,38 +51,44 @@ use Rattle.atl_state.proofs.OrderLaws.{Apart, HasNumber, Apart-keys, rows_order,
 
 -- ---- numbers that are read as they are
 
+-- a minimum below the bound is the number
 min_less : (n m : ℕ) → min n m < m → min n m ≡ n
 min_less n m h = grind arith
 
+-- a number that is read below most_u32 is read as it is
 pub whole_below : (z : ℤ) → as_u32 z < most_u32 → IsWhole z
 whole_below (pos n) h = ap pos (sym (min_less n most_u32 h))
 whole_below (negsuc n) h = absurd (omega arith)
 
+-- a number that is read below most_u16 is read as it is
 whole16 : (z : ℤ) → as_u16 z < most_u16 → z ≡ pos (as_u16 z)
 whole16 (pos n) h = ap pos (sym (min_less n most_u16 h))
 whole16 (negsuc n) h = absurd (omega arith)
 
+-- a flag in range is read as it is
 flag_whole : (z : ℤ) → is_from 0 1 z ≡ true → flag (is_set z) ≡ z
 flag_whole (pos zero) h = refl
 flag_whole (pos (suc zero)) h = refl
 flag_whole (pos (suc (suc n))) h = let most = from_le (suc (suc n)) 1 (and_parts (nat_le 0 (suc (suc n))) (nat_le (suc (suc n)) 1) h).1 in absurd (omega arith)
 flag_whole (negsuc n) h = absurd (false≢true h)
 
--- two rows with one key that is a number
+-- rows whose keys, of one number, differ have different numbers
 pub one_apart : (x y : ℤ) → IsWhole x → IsWhole y → same (one_key x) (one_key y) ≡ false → as_u32 y ≢ as_u32 x
 one_apart x y a b d e =
     let one : x ≡ y = a ∙ ap pos (sym e) ∙ sym b in
     false≢true (sym (ap (λ z. same (one_key x) (one_key z)) one ∙ d) ∙ ties_itself (one_key x))
 
+-- a number that has a value is at most the bound of all numbers
 pub there_below : {V : Type 0} (m : FinMap nat_cmp V) (n most : ℕ) → Every (λ k v. k ≤ most) m → IsThere m n → n ≤ most
 there_below m n most every there = every n there.0 there.1
 
--- 0, or the number of something that is there
+-- 0, or a number that has a value, is at most the bound of all numbers
 pub none_or_below : {V : Type 0} (m : FinMap nat_cmp V) (n most : ℕ) → Every (λ k v. k ≤ most) m → (n ≢ 0 → IsThere m n) → n ≤ most
 none_or_below m zero most every there = omega arith
 none_or_below m (suc n) most every there = there_below m (suc n) most every (there (λ e. absurd (omega arith)))
 
 -- ---- the rules that are needed
+-- the rules that rows must keep to be the rows of the campaign assembled from them
 pub record RowsKeep (f : Format) (w : WorldValue) (p : Parts) : Type 0 where
   pub world : IsWorld w
   pub one : is_one_campaign_row f p.campaign ≡ true
@@ -96,16 +102,20 @@ pub record RowsKeep (f : Format) (w : WorldValue) (p : Parts) : Type 0 where
 
 -- ---- the campaign's own row
 
+-- a number in a range of one number is that number
 exactly : (k : ℕ) (z : ℤ) → k ≤ most_u32 → is_from k k z ≡ true → z ≡ pos k
 exactly k z few h = let range = from_range k k z few h in let n : as_u32 z ≡ k = omega (arith, range.1, range.2) in range.0 ∙ ap pos n
 
+-- the number of a format fits 32 bits
 small_format : (f : Format) → format_number f ≤ most_u32
 small_format First = omega arith
 small_format Second = omega arith
 
+-- the campaign row made again of what is read of it
 abbrev head_as_read : Format → StoredCampaignRow → StoredCampaignRow
 head_as_read f h = record { id = pos 1; format = pos (format_number f); month = pos (as_u32 h.month); next_faction = pos (as_u32 h.next_faction); next_unit = pos (as_u32 h.next_unit); next_structure = pos (as_u32 h.next_structure); pass = h.pass }
 
+-- one campaign row in range is the row made again of what is read of it
 one_head : (f : Format) (rows : List StoredCampaignRow) → is_one_campaign_row f rows ≡ true → campaign_row_in_range (slice_index_or rows 0 no_campaign_row) ≡ true → head_as_read f (slice_index_or rows 0 no_campaign_row) ∷ [] ≡ rows
 one_head f [] e r = absurd (false≢true e)
 one_head f (h ∷ []) e r =
@@ -122,48 +132,55 @@ one_head f (h ∷ other ∷ rows) e r = absurd (false≢true e)
 
 -- ---- lists of facts
 
+-- what is so of each row for each number is, for each number, so of each row
 all_forall : {R : Type 0} (P : ℕ → R → Type 0) (rows : List R) → ((n : ℕ) → AllByRecursion (P n) rows) → AllByRecursion (λ r. (n : ℕ) → P n r) rows
 all_forall P [] h = tt
 all_forall P (r ∷ rows) h = (λ n. (h n).0, all_forall P rows (λ n. (h n).1))
 
+-- an option that is Some has a value
 some_there : {V : Type 0} (o : Option V) → is_some o ≡ true → (v : V) × (o ≡ Some v)
 some_there None h = absurd (false≢true h)
 some_there (Some v) h = (v, refl)
 
+-- where an or is true one of its parts is
 or_cases : (b c : Bool) → (b || c) ≡ true → (b ≡ true) ⊎ (c ≡ true)
 or_cases true c h = inl refl
 or_cases false c h = inr h
 
+-- a number that is read as it is, and from 1 on, is not 0
 whole_not_zero : (z : ℤ) → IsWhole z → 1 ≤ as_u32 z → is_zero z ≡ false
 whole_not_zero (pos n) whole h = let apart : n ≢ 0 = λ e. let zero_read : as_u32 (pos n) ≡ 0 = ap (λ m. as_u32 (pos m)) e in omega arith in grind (arith, nat_tests)
 whole_not_zero (negsuc n) whole h = refl
 
+-- a row of goods is of its own unit and kind
 is_of_itself : (h : StoredHas) → is_of (as_u32 h.unit) (as_u32 h.sort) h ≡ true
 is_of_itself h =
     let unit : (as_u32 h.unit == as_u32 h.unit) ≡ true = grind (arith, nat_tests) in
     let sort : (as_u32 h.sort == as_u32 h.sort) ≡ true = grind (arith, nat_tests) in
     ap (λ b. b && (as_u32 h.sort == as_u32 h.sort)) unit ∙ sort
 
+-- the size of a kind that may be missing is at most most_size
 size_small : (o : Option Kind) → ((x : Kind) → o ≡ Some x → x.size ≤ most_size) → option_map_or (λ (x : Kind). x.size) o most_size ≤ most_size
 size_small None h = omega arith
 size_small (Some x) h = h x refl
 
--- the size of every kind
+-- the size of each kind, and most_size for none, is at most most_size
 pub small_size : (w : WorldValue) → IsWorld w → (kind : ℕ) → size_of w kind ≤ most_size
 small_size w world kind = size_small (slice_get w.kinds kind) (λ x is. (world.kinds kind x is).size)
 
 -- ---- markets
 
--- a market that is there, with the region that has it
+-- a market that is found is in a region of the world
 market_there : (regions : FinMap nat_cmp RegionPlan) (i : ℕ) (n : ℕ) (o : Option RegionPlan) → get regions n ≡ o → is_some (option_and_then (λ (q : RegionPlan). get q.markets i) o) ≡ true → (q : RegionPlan) × (m : Market) × (get regions n ≡ Some q) × (get q.markets i ≡ Some m)
 market_there regions i n None is e = absurd (false≢true e)
 market_there regions i n (Some q) is e = let found = some_there (get q.markets i) e in (q, found.0, is, found.1)
 
+-- the limit of a market that may be missing is at most most_amount
 limit_small : (o : Option Market) → ((m : Market) → o ≡ Some m → m.limit ≤ most_amount) → option_map_or (λ (m : Market). m.limit) o most_amount ≤ most_amount
 limit_small None h = omega arith
 limit_small (Some m) h = h m refl
 
--- the limit of every stock
+-- the limit of each market, and most_amount for none, is at most most_amount
 pub small_limit : (w : WorldValue) → IsWorld w → (n i : ℕ) → stock_limit w n i ≤ most_amount
 small_limit w world n i = limit_small (market_of w n i) (λ m is. of_market (market_there w.regions i n (get w.regions n) refl (ap is_some is)) m is)
   where
@@ -176,45 +193,56 @@ small_limit w world n i = limit_small (market_of w n i) (λ m is. of_market (mar
         let one = some_same found.1 m (sym found.3 ∙ sym there ∙ is) in
         subst (λ (x : Market). x.limit ≤ most_amount) one ((world.regions n found.0 found.2).markets i found.1 found.3).limit
 
+-- rows of which there are 0 are empty
 no_rows : {R : Type 0} (rows : List R) → (length rows == 0) ≡ true → rows ≡ []
 no_rows [] h = refl
 no_rows (r ∷ rows) h = absurd (grind (arith, nat_tests))
 
 module _ (f : Format) (w : WorldValue) (p : Parts) (k : RowsKeep f w p) where
+  -- the rows keep the parts of the rule of ranges
   pub ranges : NumberRanges w p
   ranges = number_ranges w p k.range.numbers
 
   -- ---- factions
+  -- the number in a faction's row in range is read as it is, and at most last_faction
   faction_number : (r : StoredFaction) → faction_in_range r ≡ true → (IsWhole r.number) × (as_u32 r.number ≤ last_faction)
   faction_number r h = let range = from_range 1 last_faction r.number (omega arith) (and_parts (is_from 1 last_faction r.number) (is_from 0 1 r.gone) h).0 in (range.0, range.2)
 
+  -- no two rows of factions have the same number
   pub factions_apart : Apart (λ r. as_u32 r.number) p.factions
   factions_apart = Apart-keys faction_key (λ r. as_u32 r.number) same (λ r. IsWhole r.number) (λ r s. one_apart r.number s.number) p.factions (each_passes faction_in_range (λ r. IsWhole r.number) (λ r h. (faction_number r h).0) p.factions ranges.factions) k.range.keys.factions
 
+  -- the numbers of the factions assembled are at most last_faction
   few_factions : Every (λ n f. n ≤ last_faction) (by_number (λ r. as_u32 r.number) faction_of p.factions)
   few_factions = by_number-every (λ r. as_u32 r.number) faction_of (λ n f. n ≤ last_faction) faction_in_range (λ r h. (faction_number r h).1) p.factions ranges.factions
 
+  -- the row made again of a faction's row in range is that row
   same_faction : (r : StoredFaction) → faction_in_range r ≡ true → faction_row (as_u32 r.number) (faction_of r) ≡ r
   same_faction r h =
       let gone = flag_whole r.gone (and_parts (is_from 1 last_faction r.number) (is_from 0 1 r.gone) h).1 in
       λ i. record { number = sym (faction_number r h).0 i; joined_as = r.joined_as; name = r.name; pass = r.pass; gone = gone i }
 
+  -- the rows of the factions assembled are the rows of factions, in another order
   factions_said : IsPermutation (rows_by faction_row (entries (by_number (λ r. as_u32 r.number) faction_of p.factions))) p.factions
   factions_said = rows_order (λ r. as_u32 r.number) faction_of faction_row p.factions factions_apart (each_passes faction_in_range (λ r. faction_row (as_u32 r.number) (faction_of r) ≡ r) same_faction p.factions ranges.factions)
 
   -- ---- regions
+  -- the numbers of the regions assembled are at most last_region
   few_regions : (n : ℕ) → IsThere (by_number (λ r. as_u32 r.number) (region_of p.markets) p.regions) n → n ≤ last_region
   unfolding campaign_of
   few_regions n there = let known = (k.known.regions n).0 there in (k.world.regions n known.0 known.1).number_most
 
+  -- the numbers in the rows of regions are read as they are
   regions_whole : AllByRecursion (λ r. IsWhole r.number) p.regions
   regions_whole =
       each_so (λ r. IsThere (by_number (λ r. as_u32 r.number) (region_of p.markets) p.regions) (as_u32 r.number)) (λ r. IsWhole r.number) (λ r there. let few = few_regions (as_u32 r.number) there in whole_below r.number (omega arith)) p.regions
       (rows_there (λ r. as_u32 r.number) (region_of p.markets) p.regions)
 
+  -- no two rows of regions have the same number
   regions_apart : Apart (λ r. as_u32 r.number) p.regions
   regions_apart = Apart-keys region_key (λ r. as_u32 r.number) same (λ r. IsWhole r.number) (λ r s. one_apart r.number s.number) p.regions regions_whole k.range.keys.regions
 
+  -- the row made again of a region's row in range is that row
   same_region : (r : StoredRegion) → IsWhole r.number → region_in_range r ≡ true → region_row (as_u32 r.number) (region_of p.markets r) ≡ r
   same_region r number h =
       let parts = and_parts (is_from 0 most_amount r.peasants) (is_from 0 most_amount r.money) h in
@@ -222,33 +250,41 @@ module _ (f : Format) (w : WorldValue) (p : Parts) (k : RowsKeep f w p) where
       let money = (from_range 0 most_amount r.money (omega arith) parts.1).0 in
       λ i. record { number = sym number i; peasants = sym peasants i; money = sym money i }
 
+  -- the rows of the regions assembled are the rows of regions, in another order
   regions_said : IsPermutation (rows_by region_row (entries (by_number (λ r. as_u32 r.number) (region_of p.markets) p.regions))) p.regions
   regions_said =
       rows_order (λ r. as_u32 r.number) (region_of p.markets) region_row p.regions regions_apart
       (each_with (λ r. IsWhole r.number) (λ r. region_in_range r ≡ true) (λ r. region_row (as_u32 r.number) (region_of p.markets r) ≡ r) same_region p.regions regions_whole (each_passes region_in_range (λ r. region_in_range r ≡ true) (λ r h. h) p.regions ranges.regions))
 
   -- ---- units and structures: their numbers
+  -- the number in a unit's row in range is read as it is, and at most last_unit
   unit_number : (r : StoredUnit) → unit_in_range r ≡ true → (IsWhole r.number) × (as_u32 r.number ≤ last_unit)
   unit_number r h = let range = from_range 1 last_unit r.number (omega arith) (unit_ranges r h).number in (range.0, range.2)
 
+  -- no two rows of units have the same number
   units_apart : Apart (λ r. as_u32 r.number) p.units
   units_apart = Apart-keys unit_key (λ r. as_u32 r.number) same (λ r. IsWhole r.number) (λ r s. one_apart r.number s.number) p.units (each_passes unit_in_range (λ r. IsWhole r.number) (λ r h. (unit_number r h).0) p.units ranges.units) k.range.keys.units
 
+  -- the numbers of the units assembled are at most last_unit
   few_units : Every (λ n u. n ≤ last_unit) (by_number (λ r. as_u32 r.number) (unit_of p.has) p.units)
   few_units = by_number-every (λ r. as_u32 r.number) (unit_of p.has) (λ n u. n ≤ last_unit) unit_in_range (λ r h. (unit_number r h).1) p.units ranges.units
 
+  -- the number in a structure's row in range is read as it is, and at most most_structures
   structure_number : (r : StoredStructure) → structure_in_range w r ≡ true → (IsWhole r.number) × (as_u32 r.number ≤ most_structures)
   structure_number r h = let range = from_range 1 most_structures r.number (omega arith) (and_parts (is_from 1 most_structures r.number) (is_from 1 (size_of w (as_u16 r.kind)) r.done) h).0 in (range.0, range.2)
 
+  -- no two rows of structures have the same number
   structures_apart : Apart (λ r. as_u32 r.number) p.structures
   structures_apart =
       Apart-keys structure_key (λ r. as_u32 r.number) same (λ r. IsWhole r.number) (λ r s. one_apart r.number s.number) p.structures (each_passes (structure_in_range w) (λ r. IsWhole r.number) (λ r h. (structure_number r h).0) p.structures ranges.structures)
       k.range.keys.structures
 
+  -- the numbers of the structures assembled are at most most_structures
   few_structures : Every (λ n s. n ≤ most_structures) (by_number (λ r. as_u32 r.number) structure_of p.structures)
   few_structures = by_number-every (λ r. as_u32 r.number) structure_of (λ n s. n ≤ most_structures) (structure_in_range w) (λ r h. (structure_number r h).1) p.structures ranges.structures
 
   -- ---- units
+  -- the row made again of a unit's row in range, whose names exist, is that row
   same_unit : (r : StoredUnit) → unit_in_range r ≡ true → IsPlaced w (campaign_of w p) (unit_of p.has r) → unit_row (as_u32 r.number) (unit_of p.has r) ≡ r
   unfolding campaign_of
   same_unit r h placed =
@@ -264,16 +300,19 @@ module _ (f : Format) (w : WorldValue) (p : Parts) (k : RowsKeep f w p) where
       let guard = flag_whole r.guard parts.guard in
       λ i. record { number = sym (unit_number r h).0 i; faction = sym faction i; name = r.name; region = sym region i; structure = sym structure i; men = sym men i; money = sym money i; guard = guard i }
 
+  -- what each unit of the rows names exists
   units_placed : AllByRecursion (λ r. IsPlaced w (campaign_of w p) (unit_of p.has r)) p.units
   unfolding campaign_of
   units_placed = each_row (λ r. as_u32 r.number) (unit_of p.has) (λ n u. IsPlaced w (campaign_of w p) u) p.units units_apart k.known.units
 
+  -- the rows of the units assembled are the rows of units, in another order
   units_said : IsPermutation (rows_by unit_row (entries (by_number (λ r. as_u32 r.number) (unit_of p.has) p.units))) p.units
   units_said =
       rows_order (λ r. as_u32 r.number) (unit_of p.has) unit_row p.units units_apart
       (each_with (λ r. unit_in_range r ≡ true) (λ r. IsPlaced w (campaign_of w p) (unit_of p.has r)) (λ r. unit_row (as_u32 r.number) (unit_of p.has r) ≡ r) same_unit p.units (each_passes unit_in_range (λ r. unit_in_range r ≡ true) (λ r h. h) p.units ranges.units) units_placed)
 
   -- ---- structures
+  -- the row made again of a structure's row in range, whose names exist, is that row
   same_structure : (r : StoredStructure) → structure_in_range w r ≡ true → IsBuilt w (campaign_of w p) (structure_of r) → structure_row (as_u32 r.number) (structure_of r) ≡ r
   unfolding campaign_of
   same_structure r h built =
@@ -288,10 +327,12 @@ module _ (f : Format) (w : WorldValue) (p : Parts) (k : RowsKeep f w p) where
       let done = (from_range 1 (size_of w (as_u16 r.kind)) r.done (omega arith) (and_parts (is_from 1 most_structures r.number) (is_from 1 (size_of w (as_u16 r.kind)) r.done) h).1).0 in
       λ i. record { number = sym (structure_number r h).0 i; kind = sym kind i; name = r.name; region = sym region i; done = sym done i; owner = sym owner i }
 
+  -- what each structure of the rows names exists
   structures_built : AllByRecursion (λ r. IsBuilt w (campaign_of w p) (structure_of r)) p.structures
   unfolding campaign_of
   structures_built = each_row (λ r. as_u32 r.number) structure_of (λ n s. IsBuilt w (campaign_of w p) s) p.structures structures_apart k.known.structures
 
+  -- the rows of the structures assembled are the rows of structures, in another order
   structures_said : IsPermutation (rows_by structure_row (entries (by_number (λ r. as_u32 r.number) structure_of p.structures))) p.structures
   structures_said =
       rows_order (λ r. as_u32 r.number) structure_of structure_row p.structures structures_apart
@@ -299,6 +340,7 @@ module _ (f : Format) (w : WorldValue) (p : Parts) (k : RowsKeep f w p) where
       (each_passes (structure_in_range w) (λ r. structure_in_range w r ≡ true) (λ r h. h) p.structures ranges.structures) structures_built)
 
   -- ---- mail and reports
+  -- the numbers in the rows of mail are read as they are
   mail_whole : AllByRecursion (λ r. IsWhole r.faction) p.mail
   unfolding campaign_of
   mail_whole =
@@ -306,12 +348,14 @@ module _ (f : Format) (w : WorldValue) (p : Parts) (k : RowsKeep f w p) where
       (λ r there. let few = there_below (by_number (λ r. as_u32 r.number) faction_of p.factions) (as_u32 r.faction) last_faction few_factions (k.known.posts.mail (as_u32 r.faction) there.0 there.1) in whole_below r.faction (omega arith)) p.mail
       (rows_there (λ r. as_u32 r.faction) (λ r. r.text) p.mail)
 
+  -- the rows of the mail assembled are the rows of mail, in another order
   mail_said : IsPermutation (rows_by mail_row (entries (by_number (λ r. as_u32 r.faction) (λ r. r.text) p.mail))) p.mail
   mail_said =
       rows_order (λ r. as_u32 r.faction) (λ r. r.text) mail_row p.mail
       (Apart-keys mail_key (λ r. as_u32 r.faction) same (λ r. IsWhole r.faction) (λ r s. one_apart r.faction s.faction) p.mail mail_whole k.range.keys.mail)
       (each_so (λ r. IsWhole r.faction) (λ r. mail_row (as_u32 r.faction) r.text ≡ r) (λ r whole. λ i. record { faction = sym whole i; text = r.text }) p.mail mail_whole)
 
+  -- the numbers in the rows of reports are read as they are
   reports_whole : AllByRecursion (λ r. IsWhole r.faction) p.reports
   unfolding campaign_of
   reports_whole =
@@ -319,6 +363,7 @@ module _ (f : Format) (w : WorldValue) (p : Parts) (k : RowsKeep f w p) where
       (λ r there. let few = there_below (by_number (λ r. as_u32 r.number) faction_of p.factions) (as_u32 r.faction) last_faction few_factions (k.known.posts.reports (as_u32 r.faction) there.0 there.1) in whole_below r.faction (omega arith)) p.reports
       (rows_there (λ r. as_u32 r.faction) (λ r. r.text) p.reports)
 
+  -- the rows of the reports assembled are the rows of reports, in another order
   reports_said : IsPermutation (rows_by report_row (entries (by_number (λ r. as_u32 r.faction) (λ r. r.text) p.reports))) p.reports
   reports_said =
       rows_order (λ r. as_u32 r.faction) (λ r. r.text) report_row p.reports
@@ -326,12 +371,15 @@ module _ (f : Format) (w : WorldValue) (p : Parts) (k : RowsKeep f w p) where
       (each_so (λ r. IsWhole r.faction) (λ r. report_row (as_u32 r.faction) r.text ≡ r) (λ r whole. λ i. record { faction = sym whole i; text = r.text }) p.reports reports_whole)
 
   -- ---- what units have
+  -- the units assembled from the rows
   abbrev units : FinMap nat_cmp Unit
   units = by_number (λ r. as_u32 r.number) (unit_of p.has) p.units
 
+  -- a row of goods in range: a skill's days (kind 1), or an item (kind 0) from 1 to holding_limit
   abbrev SortOf : StoredHas → Type 0
   SortOf h = (as_u32 h.sort ≡ 1) ⊎ ((as_u32 h.sort ≡ 0) × (is_from 1 holding_limit h.amount ≡ true))
 
+  -- a row of goods in range has its kind read as it is, and is of one of the two
   sort_of : (h : StoredHas) → has_in_range h ≡ true → IsWhole h.sort × SortOf h
   sort_of h e =
       elim (or_cases (is_from 1 1 h.sort) (is_from 0 0 h.sort && is_from 1 holding_limit h.amount) e) [
@@ -342,27 +390,33 @@ module _ (f : Format) (w : WorldValue) (p : Parts) (k : RowsKeep f w p) where
             (range.0, inr (omega (arith, range.1, range.2), parts.1))
       ]
 
-  -- what a unit that is there holds is what its rows say
+  -- the items of a unit assembled are those that the rows of goods say
   their_items : Every (λ n u. u.holding.items ≡ things_had n 0 p.has) units
   their_items = by_number-every (λ r. as_u32 r.number) (unit_of p.has) (λ n u. u.holding.items ≡ things_had n 0 p.has) unit_in_range (λ r h. refl) p.units ranges.units
 
+  -- the days of a unit assembled are those that the rows of goods say
   their_days : Every (λ n u. u.holding.days ≡ things_had n 1 p.has) units
   their_days = by_number-every (λ r. as_u32 r.number) (unit_of p.has) (λ n u. u.holding.days ≡ things_had n 1 p.has) unit_in_range (λ r h. refl) p.units ranges.units
 
+  -- the men of a unit assembled are at most men_limit
   their_men : Every (λ n u. u.holding.men ≤ men_limit) units
   their_men = by_number-every (λ r. as_u32 r.number) (unit_of p.has) (λ n u. u.holding.men ≤ men_limit) unit_in_range (λ r h. (in_range 1 men_limit most_u32 r.men (omega arith) (unit_ranges r h).men).1) p.units ranges.units
 
+  -- the thing of a row of goods is among what the rows say unit n has of this kind
   abbrev ThingThere : ℕ → ℕ → StoredHas → Type 0
   ThingThere n sort h = IsThere (things_had n sort p.has) (as_u32 h.thing)
 
+  -- the thing of each row of goods is among what the rows say its unit has of its kind
   things_there : AllByRecursion (λ h. (n : ℕ) → (sort : ℕ) → is_of n sort h ≡ true → ThingThere n sort h) p.has
   things_there = all_forall (λ n h. (sort : ℕ) → is_of n sort h ≡ true → ThingThere n sort h) p.has (λ n. all_forall (λ sort h. is_of n sort h ≡ true → ThingThere n sort h) p.has (λ sort.
       unkept (is_of n sort) (ThingThere n sort) p.has (rows_there (λ h. as_u32 h.thing) (λ h. as_u32 h.amount) (filter (is_of n sort) p.has))))
 
+  -- the unit of each row of goods exists
   held_units : AllByRecursion (λ h. IsThere units (as_u32 h.unit)) p.has
   unfolding campaign_of
   held_units = each_passes (is_of_unit (campaign_of w p)) (λ h. IsThere units (as_u32 h.unit)) (λ h e. some_there (get units (as_u32 h.unit)) e) p.has k.held
 
+  -- the number of a thing that a unit assembled has is below most_u32
   few_things : (n sort thing : ℕ) → IsThere units n → (sort ≡ 1) ⊎ (sort ≡ 0) → IsThere (things_had n sort p.has) thing → thing < most_u32
   unfolding campaign_of
   few_things n sort thing there (inl skill) (v, is) =
@@ -378,10 +432,12 @@ module _ (f : Format) (w : WorldValue) (p : Parts) (k : RowsKeep f w p) where
       let below = placed.items thing v at in
       omega arith
 
+  -- the kind of a row of goods in range is 1 or 0
   either_sort : (h : StoredHas) → SortOf h → (as_u32 h.sort ≡ 1) ⊎ (as_u32 h.sort ≡ 0)
   either_sort h (inl skill) = inl skill
   either_sort h (inr item) = inr item.0
 
+  -- the key of a row of goods in range, whose unit exists, is read as it is
   keyed : (h : StoredHas) → (IsThere units (as_u32 h.unit)) × (has_in_range h ≡ true) → ((n : ℕ) → (sort : ℕ) → is_of n sort h ≡ true → ThingThere n sort h) → IsKeyed h
   keyed h (there, range) thing =
       let unit_few = there_below units (as_u32 h.unit) last_unit few_units there in
@@ -389,22 +445,28 @@ module _ (f : Format) (w : WorldValue) (p : Parts) (k : RowsKeep f w p) where
       let thing_few = few_things (as_u32 h.unit) (as_u32 h.sort) (as_u32 h.thing) there (either_sort h sort.1) (thing (as_u32 h.unit) (as_u32 h.sort) (is_of_itself h)) in
       record { unit = whole_below h.unit (omega arith); sort = sort.0; thing = whole_below h.thing thing_few }
 
+  -- the unit of a row of goods exists, and the row is in range
   abbrev Placed : StoredHas → Type 0
   Placed h = (IsThere units (as_u32 h.unit)) × (has_in_range h ≡ true)
 
+  -- Placed holds of each row of goods
   all_placed : AllByRecursion Placed p.has
   all_placed = each_with (λ h. IsThere units (as_u32 h.unit)) (λ h. has_in_range h ≡ true) Placed (λ h a b. (a, b)) p.has held_units (each_passes has_in_range (λ h. has_in_range h ≡ true) (λ h e. e) p.has ranges.has)
 
+  -- the key of each row of goods is read as it is
   all_keyed : AllByRecursion IsKeyed p.has
   all_keyed = each_with Placed (λ h. (n : ℕ) → (sort : ℕ) → is_of n sort h ≡ true → ThingThere n sort h) IsKeyed keyed p.has all_placed things_there
 
+  -- a row's amount is found under its thing among what the rows say unit n has of this kind
   abbrev IsFound : ℕ → ℕ → StoredHas → Type 0
   IsFound n sort h = get (things_had n sort p.has) (as_u32 h.thing) ≡ Some (as_u32 h.amount)
 
+  -- the amount of each row of goods is found under its thing among what the rows say its unit has
   all_found : AllByRecursion (λ h. (n : ℕ) → (sort : ℕ) → is_of n sort h ≡ true → IsFound n sort h) p.has
   all_found = all_forall (λ n h. (sort : ℕ) → is_of n sort h ≡ true → IsFound n sort h) p.has (λ n. all_forall (λ sort h. is_of n sort h ≡ true → IsFound n sort h) p.has (λ sort.
       unkept (is_of n sort) (IsFound n sort) p.has (rows_found (λ h. as_u32 h.thing) (λ h. as_u32 h.amount) (filter (is_of n sort) p.has) (things_apart n sort p.has all_keyed k.range.keys.has))))
 
+  -- the amount of a row of goods is read as it is and is not 0
   exact_of : (h : StoredHas) → IsThere units (as_u32 h.unit) → SortOf h → ((n : ℕ) → (sort : ℕ) → is_of n sort h ≡ true → IsFound n sort h) → IsWhole h.amount × (is_zero h.amount ≡ false)
   unfolding campaign_of
   exact_of h there (inl skill) found =
@@ -418,15 +480,19 @@ module _ (f : Format) (w : WorldValue) (p : Parts) (k : RowsKeep f w p) where
       let range = from_range 1 holding_limit h.amount (omega arith) item.1 in
       (range.0, whole_not_zero h.amount range.0 range.1)
 
+  -- a row of goods that is Placed, with its key read as it is
   abbrev KeyedPlaced : StoredHas → Type 0
   KeyedPlaced h = IsKeyed h × Placed h
 
+  -- a row of goods has key and amount read as they are, with an amount other than 0
   exact : (h : StoredHas) → KeyedPlaced h → ((n : ℕ) → (sort : ℕ) → is_of n sort h ≡ true → IsFound n sort h) → IsExact h
   exact h (keys, (there, range)) found = let amount = exact_of h there (sort_of h range).1 found in record { keys = keys; amount = amount.0; some = amount.1 }
 
+  -- the key and amount of each row of goods are read as they are, with an amount other than 0
   all_exact : AllByRecursion IsExact p.has
   all_exact = each_with KeyedPlaced (λ h. (n : ℕ) → (sort : ℕ) → is_of n sort h ≡ true → IsFound n sort h) IsExact exact p.has (each_with IsKeyed Placed KeyedPlaced (λ h a b. (a, b)) p.has all_keyed all_placed) all_found
 
+  -- a row of goods is of one of the rows' units, and of kind 0 or 1
   of_units : (h : StoredHas) → Placed h → IsOfUnits p.units h
   of_units h (there, range) = (row_of (λ r. as_u32 r.number) (unit_of p.has) p.units (as_u32 h.unit) there, turned h (sort_of h range).1)
     where
@@ -434,13 +500,16 @@ module _ (f : Format) (w : WorldValue) (p : Parts) (k : RowsKeep f w p) where
       turned h (inl skill) = inr skill
       turned h (inr item) = inl item.0
 
+  -- the rows of the goods assembled are the rows of goods, in another order
   has_said : IsPermutation (has_rows (entries units)) p.has
   has_said = has_order p.has p.units units_apart (each_so Placed (IsOfUnits p.units) of_units p.has all_placed) all_exact k.range.keys.has
 
   -- ---- what regions have in stock
+  -- the regions assembled from the rows
   abbrev regions : FinMap nat_cmp Region
   regions = by_number (λ r. as_u32 r.number) (region_of p.markets) p.regions
 
+  -- a row of a market in range has key and stock read as they are, with a stock other than 0
   exact_market : (m : StoredMarket) → is_of_market w m ≡ true → market_in_range w m ≡ true → market.IsExact m
   exact_market m named range =
       let found = market_there w.regions (as_u32 m.item) (as_u32 m.region) (get w.regions (as_u32 m.region)) refl named in
@@ -452,11 +521,13 @@ module _ (f : Format) (w : WorldValue) (p : Parts) (k : RowsKeep f w p) where
       let stock = from_range 1 (stock_limit w (as_u32 m.region) (as_u32 m.item)) m.stock (omega (arith, limit_few)) range in
       record { keys = record { region = whole_below m.region (omega arith); item = whole_below m.item (omega arith) }; stock = stock.0; some = whole_not_zero m.stock stock.0 stock.1 }
 
+  -- the key and stock of each row of a market are read as they are, with a stock other than 0
   exact_markets : AllByRecursion market.IsExact p.markets
   exact_markets =
       each_with (λ m. is_of_market w m ≡ true) (λ m. market_in_range w m ≡ true) market.IsExact exact_market p.markets (each_passes (is_of_market w) (λ m. is_of_market w m ≡ true) (λ m e. e) p.markets k.stocked)
       (each_passes (market_in_range w) (λ m. market_in_range w m ≡ true) (λ m e. e) p.markets ranges.markets)
 
+  -- the region of each row of a market is one of the rows' regions
   of_regions : AllByRecursion (λ m. HasNumber (λ r. as_u32 r.number) p.regions (as_u32 m.region)) p.markets
   unfolding campaign_of
   of_regions =
@@ -468,6 +539,7 @@ module _ (f : Format) (w : WorldValue) (p : Parts) (k : RowsKeep f w p) where
   pub none_in_first : f ≡ First → p.markets ≡ []
   none_in_first is = no_rows p.markets (ap (λ g. are_of_format g p.markets) (sym is) ∙ k.format)
 
+  -- the rows of the stocks assembled are the rows of markets, in another order
   markets_said : IsPermutation (market_rows f (entries regions)) p.markets
   markets_said = elim f as (λ g. f ≡ g → IsPermutation (market_rows g (entries regions)) p.markets) [
     | First ↦ λ is. subst (λ rows. IsPermutation [] rows) (sym (none_in_first is)) (IsPermutation-refl [])
@@ -476,14 +548,16 @@ module _ (f : Format) (w : WorldValue) (p : Parts) (k : RowsKeep f w p) where
 
   -- ---- the books
 
+  -- a number that passes the test nat_lt is below the other
   below_of : (m n : ℕ) → nat_lt m n ≡ true → m < n
   below_of m n h = grind (arith, nat_tests)
 
+  -- a format has at most entry_count entries
   few_entries : (g : Format) → entries_in g ≤ entry_count
   few_entries First = omega arith
   few_entries Second = omega arith
 
-  -- an entry of the format is one of all
+  -- the number of an entry of the format is from 1 to entry_count
   an_entry : (n : ℕ) → is_entry_in f n ≡ true → (1 ≤ n) × (n ≤ entry_count)
   an_entry n h =
       let parts = and_parts (nat_le 1 n) (nat_le n (entries_in f)) h in
@@ -491,6 +565,7 @@ module _ (f : Format) (w : WorldValue) (p : Parts) (k : RowsKeep f w p) where
       let most = few_entries f in
       (from_le 1 n parts.0, omega (arith, few, most))
 
+  -- a row of books that keeps the rules is of an account of the world's things, as IsBooked says
   its_account : (r : StoredBooks) → is_booked f w r ≡ true → books_in_range (books_bound p) r ≡ true → IsBooked (things_of w) r
   its_account r h range =
       let parts = and_parts (is_entry_in f (as_u32 r.entry)) (nat_lt (as_u32 r.thing) (things_of w)) h in
@@ -501,16 +576,18 @@ module _ (f : Format) (w : WorldValue) (p : Parts) (k : RowsKeep f w p) where
       let some = not_zero r.amount (not-true (is_zero r.amount) (and_parts (not (is_zero r.amount)) (is_within (books_bound p) r.amount) range).0) in
       booked_row (things_of w) r (whole_below r.entry (omega arith)) (whole_below r.thing (omega arith)) entry.0 entry.1 there some
 
+  -- each row of books is of an account of the world's things, as IsBooked says
   pub all_booked : AllByRecursion (IsBooked (things_of w)) p.books
   all_booked =
       each_with (λ r. is_booked f w r ≡ true) (λ r. books_in_range (books_bound p) r ≡ true) (IsBooked (things_of w)) its_account p.books (each_passes (is_booked f w) (λ r. is_booked f w r ≡ true) (λ r h. h) p.books k.booked)
       (each_passes (books_in_range (books_bound p)) (λ r. books_in_range (books_bound p) r ≡ true) (λ r h. h) p.books ranges.books)
 
+  -- the rows of the books assembled are the rows of books, in another order
   pub books_said : IsPermutation (books_rows (put_amounts p.books (no_amounts (things_of w)))) p.books
   books_said =
       books_order (things_of w) p.books all_booked k.range.keys.books
 
-  -- the rows are those of the campaign, each once
+  -- the rows are those of the campaign assembled from them
   pub rows_said : AreRowsOf f (campaign_of w p) p
   unfolding campaign_of rows_of
   rows_said = record {

@@ -1,4 +1,4 @@
--- How a campaign changes with a stock of a region.
+-- Laws of a changed stock of a region: the campaign stays steady, and how totals change.
 use Rattle.std.proofs.Common.{◌≡◌, ◌≢◌, ℕ, ◌+◌, ◌≤◌, Some, IsSome, ap, ◌∙◌, arith}
 use Rattle.std.specs.FinMap.{get}
 use Rattle.atl_tables.specs.ByNumber.{market_of}
@@ -14,11 +14,12 @@ use Rattle.atl_state.specs.Totals.{total}
 use Rattle.atl_records.proofs.HoldingLaws.{every_amount, set_other, set_same}
 use Rattle.atl_state.proofs.RegionLaws.{steady-region, total-region}
 
--- a region with another stock of an item
+-- the region with another stock of an item
 abbrev pub restocked : Region → (item amount : ℕ) → Region
 restocked r item amount = record r { stocks = with_amount_of r.stocks item amount }
 
 module _ (w : WorldValue) (n : ℕ) (r : Region) (item amount : ℕ) where
+  -- the region stays in range with another stock, up to the limit
   pub IsRegion-stock : amount ≤ stock_limit w n item → IsRegion w n r → IsRegion w n (restocked r item amount)
   IsRegion-stock few old = record {
     peasants = old.peasants;
@@ -26,20 +27,25 @@ module _ (w : WorldValue) (n : ℕ) (r : Region) (item amount : ℕ) where
     stocks = every_amount (λ i x. (1 ≤ x) × (x ≤ stock_limit w n i)) r.stocks item amount (λ some. (some, few)) old.stocks;
   }
 
+  -- the region's stocks stay of its markets with another stock of one of them
   pub AreOfMarkets-stock : IsSome (market_of w n item) → AreOfMarkets w n r.stocks → AreOfMarkets w n (restocked r item amount).stocks
   AreOfMarkets-stock there old = every_amount (λ i x. IsSome (market_of w n i)) r.stocks item amount (λ _. there) old
 
 module _ (c : CampaignValue) (n item amount : ℕ) (r : Region) (is : get c.regions n ≡ Some r) where
+  -- the campaign stays steady with another stock of a market, up to the limit
   pub steady-stock : (w : WorldValue) → IsSome (market_of w n item) → amount ≤ stock_limit w n item → IsSteady w c → IsSteady w (with_stock c n item amount)
   steady-stock w there few old =
       steady-region (λ q. restocked q item amount) c n r is w (IsRegion-stock w n r item amount few (old.numbers.regions n r is)) (AreOfMarkets-stock w n r item amount there (old.known.markets n r is)) old
 
+  -- the total of the item changes by what the stock does
   pub total-stock : total (with_stock c n item amount) (Item item) + amount_of r.stocks item ≡ total c (Item item) + amount
   total-stock = total-region (λ q. restocked q item amount) c n r is (Item item) ∙ ap (λ k. total c (Item item) + k) (set_same r.stocks item amount)
 
+  -- numbers that are equal with the same number added are equal
   alone : (a b k : ℕ) → a + k ≡ b + k → a ≡ b
   alone a b k e = omega (arith, e)
 
+  -- no other total changes
   pub total-stock_other : (t : Thing) → t ≢ Item item → total (with_stock c n item amount) t ≡ total c t
   total-stock_other Money apart = alone _ _ r.money (total-region (λ q. restocked q item amount) c n r is Money)
   total-stock_other People apart = alone _ _ r.peasants (total-region (λ q. restocked q item amount) c n r is People)

@@ -1,4 +1,4 @@
--- The stocks of regions, as the rows say them and as the campaign lists them.
+-- Laws of the rows of markets: those of the regions assembled from rows are these rows, in another order.
 use Rattle.std.proofs.Common.{◌≡◌, ◌==◌, ℕ, List, Bool, true, false, not, map, filter, sym, ap, ◌∙◌}
 use Rattle.std.specs.Prelude.{pos}
 use Rattle.std.specs.List.{flat_map, AllByRecursion, IsDistinct}
@@ -18,54 +18,63 @@ use Rattle.atl_state.proofs.GroupLaws.{gathered, lines_order}
 use Rattle.atl_state.proofs.HasLaws.{IsWhole, same, ties_itself}
 use Rattle.atl_state.proofs.OrderLaws.{Apart, HasNumber, each_so, flat_order}
 
--- a key that is read as it is
+-- a row of a market whose key is read as it is
 pub record IsKeyed (m : StoredMarket) : Type 0 where
   pub region : IsWhole m.region
   pub item : IsWhole m.item
 
--- and a stock that is read as it is and isn't 0
+-- a row of a market whose key and stock are read as they are, with a stock other than 0
 pub record IsExact (m : StoredMarket) : Type 0 where
   pub keys : IsKeyed m
   pub stock : IsWhole m.stock
   pub some : is_zero m.stock ≡ false
 
+-- the item's number in a row, as it is read
 abbrev item_of : StoredMarket → ℕ
 item_of m = as_u32 m.item
 
+-- the stock in a row, as it is read
 abbrev stock_of : StoredMarket → ℕ
 stock_of m = as_u32 m.stock
 
+-- whether a row is of region n
 abbrev pub is_in : ℕ → StoredMarket → Bool
 is_in n m = as_u32 m.region == n
 
+-- a row of region n whose key is read as it is
 abbrev IsStockIn : ℕ → StoredMarket → Type 0
 IsStockIn n m = IsKeyed m × (is_in n m ≡ true)
 
+-- the region of a row of region n is n
 its_region : (n : ℕ) (m : StoredMarket) → IsStockIn n m → m.region ≡ pos n
 its_region n m (keys, of) = keys.region ∙ ap pos (is_same (as_u32 m.region) n of)
 
+-- the row made again of a row's item and stock is that row
 same_row : (n : ℕ) (m : StoredMarket) → IsStockIn n m → IsWhole m.stock → market_row n (item_of m) (stock_of m) ≡ m
 same_row n m here stock = λ i. record { region = sym (its_region n m here) i; item = sym here.0.item i; stock = sym stock i }
 
+-- rows of one region and item have the same key
 same_key : (n : ℕ) (m k : StoredMarket) → IsStockIn n m → IsStockIn n k → item_of m ≡ item_of k → ◌≡◌ {A = Key} (market_key k) (market_key m)
 same_key n m k a b e =
     let region = its_region n k b ∙ sym (its_region n m a) in
     let item = b.0.item ∙ sym (ap pos e) ∙ sym a.0.item in
     λ i. (region i, item i, pos 0)
 
--- in one region no item stands twice
+-- no two rows of one region are of one item, if keys differ
 pub items_apart : (n : ℕ) (markets : List StoredMarket) → AllByRecursion IsKeyed markets → IsDistinct same (map market_key markets) → Apart item_of (filter (is_in n) markets)
 items_apart n = group.things_apart market_key same ties_itself item_of (is_in n) IsKeyed (same_key n)
 
+-- the rows of the stocks that a region's rows make are these rows, in another order
 stock_order : (n : ℕ) (markets : List StoredMarket) → AllByRecursion IsExact markets → IsDistinct same (map market_key markets) → IsPermutation (stock_rows n (entries (stocks_of n markets))) (filter (is_in n) markets)
 stock_order n markets all d =
     lines_order item_of stock_of (market_row n) (λ m. not (is_zero m.stock)) (filter (is_in n) markets) (items_apart n markets (each_so IsExact IsKeyed (λ m one. one.keys) markets all) d)
     (each_so (λ m. IsExact m × (is_in n m ≡ true)) (λ m. (market_row n (item_of m) (stock_of m) ≡ m) × (not (is_zero m.stock) ≡ true)) (λ m here. (same_row n m (here.0.keys, here.1) here.0.stock, ap not here.0.some)) (filter (is_in n) markets) (group.all_mine market_key same ties_itself item_of (is_in n) IsExact markets all))
 
+-- the rows of a region's stocks
 abbrev region_lines : ℕ × Region → List StoredMarket
 region_lines e = stock_rows e.0 (entries e.1.stocks)
 
--- what the campaign lists is what the rows say
+-- the rows of the stocks of the regions assembled from rows are these rows, in another order
 pub market_order : (markets : List StoredMarket) (regions : List StoredRegion) → Apart (λ r. as_u32 r.number) regions → AllByRecursion (λ m. HasNumber (λ r. as_u32 r.number) regions (as_u32 m.region)) markets → AllByRecursion IsExact markets → IsDistinct same (map market_key markets)
     → IsPermutation (market_rows Second (entries (by_number (λ r. as_u32 r.number) (region_of markets) regions))) markets
 market_order markets regions apart of all d =

@@ -1,4 +1,4 @@
--- How the totals change with one entry of a campaign, and that the books stay balanced.
+-- A law of totals: a new unit adds what it holds.
 use Rattle.std.proofs.Common.{◌≡◌, ℕ, ◌+◌, None, ap, ◌∙◌, arith}
 use Rattle.std.specs.FinMap.{get}
 use Rattle.atl_tables.specs.Sums.{sum_over}
@@ -10,10 +10,11 @@ use Rattle.atl_state.specs.Campaign.{CampaignValue, with_unit}
 use Rattle.atl_records.specs.Amounts.{region_amount, unit_amount}
 use Rattle.atl_state.specs.Totals.{total}
 
+-- an added term taken out of a sum
 later : (a b n : ℕ) → (a + n) + b ≡ (a + b) + n
 later a b n = omega arith
 
--- a new unit adds what it holds
+-- a new unit raises each total by what it holds of the thing
 pub total-with_unit : (c : CampaignValue) (n : ℕ) (u : Unit) (t : Thing) → get c.units n ≡ None → total (with_unit c n u) t ≡ total c t + unit_amount t u.holding
 unfolding total
 total-with_unit c n u t fresh =

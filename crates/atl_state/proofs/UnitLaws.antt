@@ -1,4 +1,4 @@
--- Units, with room for the marks on them, on their rows and on their goods.
+-- Laws of the units' dirty sets, of rows, goods, items and skills: what is marked is within them, and there is room.
 use Rattle.std.proofs.Common.{◌≡◌, ℕ, ◌+◌, ◌≤◌, Bool, true, false, ◌||◌, cond, Option, Some, None, refl, sym, ap, ◌∙◌, arith}
 use Rattle.std.specs.Prelude.{is_some}
 use Rattle.std.specs.Ordering.{nat_cmp, eq_by_cmp}
@@ -15,30 +15,36 @@ use Rattle.atl_state.specs.UnitRoom.{AreUnits}
 use Rattle.atl_state.specs.Roster.{Roster}
 
 -- ---- what is marked
+-- an or holds still where its second part does
 either : (b c d : Bool) → (c ≡ true → d ≡ true) → (b || c) ≡ true → (b || d) ≡ true
 either true c d h e = refl
 either false c d h e = h e
 
+-- an or with a found value holds still where its second part does
 either_there : {V : Type 0} (b : Bool) (v : V) (o : Option V) (d : Bool) → (is_some o ≡ true → d ≡ true) → is_some (cond b (Some v) o) ≡ true → (b || d) ≡ true
 either_there true v o d h e = refl
 either_there false v o d h e = h e
 
+-- an or holds where its second part does
 more : (b d : Bool) → d ≡ true → (b || d) ≡ true
 more true d e = refl
 more false d e = e
 
--- what is marked only with some numbers, where there is one more of both, of the numbers alone, or of things with their number
+-- a set within another is still within it with one number more in both
 within_both : (g r : set.FinSet nat_cmp) (n : ℕ) → ((q : ℕ) → set.contains g q ≡ true → set.contains r q ≡ true) → (q : ℕ) → set.contains (set.insert g n) q ≡ true → set.contains (set.insert r n) q ≡ true
 within_both g r n h q e =
     set.contains-insert nat_cmp_total r n q ∙ either (eq_by_cmp nat_cmp q n) (set.contains g q) (set.contains r q) (h q) (sym (set.contains-insert nat_cmp_total g n q) ∙ e)
 
+-- what is marked only within a set is so with one number more in the set
 within_more : (marked : ℕ → Bool) (r : set.FinSet nat_cmp) (n : ℕ) → ((q : ℕ) → marked q ≡ true → set.contains r q ≡ true) → (q : ℕ) → marked q ≡ true → set.contains (set.insert r n) q ≡ true
 within_more marked r n h q e = set.contains-insert nat_cmp_total r n q ∙ more (eq_by_cmp nat_cmp q n) (set.contains r q) (h q e)
 
+-- things with one unit more, whose number is in the set, are within the set
 within_things : {V : Type 0} (g : FinMap nat_cmp V) (r : set.FinSet nat_cmp) (n : ℕ) (v : V) → ((q : ℕ) → is_some (get g q) ≡ true → set.contains r q ≡ true) → (q : ℕ) → is_some (get (insert g n v) q) ≡ true → set.contains (set.insert r n) q ≡ true
 within_things g r n v h q e =
     set.contains-insert nat_cmp_total r n q ∙ either_there (eq_by_cmp nat_cmp q n) v (get g q) (set.contains r q) (h q) (sym (ap is_some (get-insert nat_cmp_total g n v q)) ∙ e)
 
+-- empty dirty sets are within each other
 within-none : AreWithin set.empty set.empty set.empty empty empty
 within-none = record { rows_within = λ q e. e; goods_within = λ q e. e; items_within = nothing; skills_within = nothing }
   where
@@ -46,6 +52,7 @@ within-none = record { rows_within = λ q e. e; goods_within = λ q e. e; items_
     nothing q e = absurd (false≢true (sym (ap is_some (get-empty nat_cmp q)) ∙ e))
 
 module _ (marks rows goods : set.FinSet nat_cmp) (items skills : Things) (n : ℕ) (h : AreWithin marks rows goods items skills) where
+  -- the sets are still within each other once a unit is marked with row and goods
   within-whole : AreWithin (set.insert marks n) (set.insert rows n) (set.insert goods n) items skills
   within-whole = record {
     rows_within = within_both rows marks n h.rows_within;
@@ -54,6 +61,7 @@ module _ (marks rows goods : set.FinSet nat_cmp) (items skills : Things) (n : �
     skills_within = within_more _ marks n h.skills_within;
   }
 
+  -- the sets are still within each other once a unit's row is marked
   within-row : AreWithin (set.insert marks n) (set.insert rows n) goods items skills
   within-row = record {
     rows_within = within_both rows marks n h.rows_within;
@@ -62,6 +70,7 @@ module _ (marks rows goods : set.FinSet nat_cmp) (items skills : Things) (n : �
     skills_within = within_more _ marks n h.skills_within;
   }
 
+  -- the sets are still within each other once items of a unit are marked
   within-item : (group : FinMap nat_cmp (Prim.Unit {0})) → AreWithin (set.insert marks n) rows goods (insert items n group) skills
   within-item group = record {
     rows_within = within_more _ marks n h.rows_within;
@@ -70,6 +79,7 @@ module _ (marks rows goods : set.FinSet nat_cmp) (items skills : Things) (n : �
     skills_within = within_more _ marks n h.skills_within;
   }
 
+  -- the sets are still within each other once skills of a unit are marked
   within-skill : (group : FinMap nat_cmp (Prim.Unit {0})) → AreWithin (set.insert marks n) rows goods items (insert skills n group)
   within-skill group = record {
     rows_within = within_more _ marks n h.rows_within;
@@ -80,26 +90,32 @@ module _ (marks rows goods : set.FinSet nat_cmp) (items skills : Things) (n : �
 
 -- ---- units
 
+-- the dirty set with number n
 abbrev marking : RoomySet → ℕ → RoomySet
 marking marks n = record marks { numbers = set.insert marks.numbers n }
 
+-- the dirty set emptied, with the same room
 abbrev cleared : RoomySet → RoomySet
 cleared marks = record marks { numbers = set.empty }
 
+-- an empty dirty set with this room
 abbrev nothing_marked : ℕ → RoomySet
 nothing_marked room = record { numbers = set.empty; room = room }
 
+-- without units empty dirty sets need no room
 pub AreUnits-none : AreUnits empty (nothing_marked 0) (nothing_marked 0) (nothing_marked 0) empty empty
 AreUnits-none = record { within = within-none; marks_fit = Room-empty Unit; rows_fit = Room-empty Unit; goods_fit = Room-empty Unit }
 
--- units with nothing marked
+-- units with empty dirty sets that have room for all of them
 pub AreUnits-of : (units : FinMap nat_cmp Unit) → AreUnits units (nothing_marked (len units)) (nothing_marked (len units)) (nothing_marked (len units)) empty empty
 AreUnits-of units = record { within = within-none; marks_fit = Room-of units; rows_fit = Room-of units; goods_fit = Room-of units }
 
 module _ (units : FinMap nat_cmp Unit) (marks rows goods : RoomySet) (items skills : Things) where
+  -- the units and their dirty sets before the change
   abbrev Before : Type 0
   Before = AreUnits units marks rows goods items skills
 
+  -- there is still room once the dirty sets are emptied
   pub AreUnits-without_marks : Before → AreUnits units (cleared marks) (cleared rows) (cleared goods) empty empty
   AreUnits-without_marks h = record {
     within = within-none;
@@ -108,7 +124,7 @@ module _ (units : FinMap nat_cmp Unit) (marks rows goods : RoomySet) (items skil
     goods_fit = Room-unmarked units goods.numbers goods.room h.goods_fit;
   }
 
-  -- a unit that was lent
+  -- there is still room once a unit that was lent is marked with row and goods
   pub AreUnits-lent : (n : ℕ) (u w : Unit) → get units n ≡ Some u → Before → AreUnits (insert units n w) (marking marks n) (marking rows n) (marking goods n) items skills
   AreUnits-lent n u w is h = record {
     within = within-whole marks.numbers rows.numbers goods.numbers items skills n h.within;
@@ -117,7 +133,7 @@ module _ (units : FinMap nat_cmp Unit) (marks rows goods : RoomySet) (items skil
     goods_fit = Room-lent units goods.numbers goods.room n (Some u) w is refl h.goods_fit;
   }
 
-  -- a unit whose row changed
+  -- there is still room once a unit's row is changed and marked
   pub AreUnits-row : (n : ℕ) (u w : Unit) → get units n ≡ Some u → Before → AreUnits (insert units n w) (marking marks n) (marking rows n) goods items skills
   AreUnits-row n u w is h = record {
     within = within-row marks.numbers rows.numbers goods.numbers items skills n h.within;
@@ -126,7 +142,7 @@ module _ (units : FinMap nat_cmp Unit) (marks rows goods : RoomySet) (items skil
     goods_fit = Room-over units goods.numbers goods.room n w (ap is_some is) h.goods_fit;
   }
 
-  -- a unit of which an item changed, or a skill
+  -- there is still room once an item of a unit is changed and marked
   pub AreUnits-item : (n : ℕ) (u w : Unit) (group : FinMap nat_cmp (Prim.Unit {0})) → get units n ≡ Some u → Before → AreUnits (insert units n w) (marking marks n) rows goods (insert items n group) skills
   AreUnits-item n u w group is h = record {
     within = within-item marks.numbers rows.numbers goods.numbers items skills n h.within group;
@@ -135,6 +151,7 @@ module _ (units : FinMap nat_cmp Unit) (marks rows goods : RoomySet) (items skil
     goods_fit = Room-over units goods.numbers goods.room n w (ap is_some is) h.goods_fit;
   }
 
+  -- there is still room once a skill of a unit is changed and marked
   pub AreUnits-skill : (n : ℕ) (u w : Unit) (group : FinMap nat_cmp (Prim.Unit {0})) → get units n ≡ Some u → Before → AreUnits (insert units n w) (marking marks n) rows goods items (insert skills n group)
   AreUnits-skill n u w group is h = record {
     within = within-skill marks.numbers rows.numbers goods.numbers items skills n h.within group;
@@ -143,7 +160,7 @@ module _ (units : FinMap nat_cmp Unit) (marks rows goods : RoomySet) (items skil
     goods_fit = Room-over units goods.numbers goods.room n w (ap is_some is) h.goods_fit;
   }
 
-  -- a unit that went
+  -- there is still room once a unit is removed and marked, by its value
   gone_at : (n : ℕ) (o : Option Unit) → get units n ≡ o → is_some o ≡ true → Before → AreUnits (remove units n) (marking marks n) (marking rows n) (marking goods n) items skills
   gone_at n None is there h = absurd (false≢true there)
   gone_at n (Some u) is there h = record {
@@ -153,25 +170,30 @@ module _ (units : FinMap nat_cmp Unit) (marks rows goods : RoomySet) (items skil
     goods_fit = Room-without units goods.numbers goods.room n (Some u) is h.goods_fit;
   }
 
+  -- there is still room once a unit is removed and marked
   pub AreUnits-gone : (n : ℕ) → is_some (get units n) ≡ true → Before → AreUnits (remove units n) (marking marks n) (marking rows n) (marking goods n) items skills
   AreUnits-gone n there h = gone_at n (get units n) refl there h
 
 -- ---- a unit that is new
 
--- with the same numbers marked, and room for a unit more
+-- a dirty set with the same numbers as another, and room for one unit more
 pub record IsWider (units : FinMap nat_cmp Unit) (marks more : RoomySet) : Type 0 where
   pub same : more.numbers ≡ marks.numbers
   pub room : set.len marks.numbers + (len units + 1) ≤ more.room
 
+-- a wider dirty set has room for the units with a new one
 room_inserted : (units : FinMap nat_cmp Unit) (marks more : RoomySet) (n : ℕ) (w : Unit) → IsWider units marks more → set.len more.numbers + len (insert units n w) ≤ more.room
 room_inserted units marks more n w h = let l = one_more units n w in let as_many = ap set.len h.same in omega (arith, h.room, l, as_many)
 
+-- a wider dirty set has room for a new number
 pub fits-new : (units : FinMap nat_cmp Unit) (marks more : RoomySet) (n : ℕ) (w : Unit) → IsWider units marks more → set.len (set.insert more.numbers n) ≤ more.room
 fits-new units marks more n w h = fits-inserted units more.numbers more.room n w (room_inserted units marks more n w h)
 
+-- a wider dirty set has room for all units once a new one is marked
 HasRoom-added : (units : FinMap nat_cmp Unit) (marks more : RoomySet) (n : ℕ) (w : Unit) → IsWider units marks more → HasRoom (insert units n w) (marking more n)
 HasRoom-added units marks more n w h = Room-inserted units more.numbers more.room n w (room_inserted units marks more n w h)
 
+-- there is still room once a new unit is added and marked in wider dirty sets
 pub AreUnits-added : (units : FinMap nat_cmp Unit) (marks rows goods marks2 rows2 goods2 : RoomySet) (items skills : Things) (n : ℕ) (w : Unit) → IsWider units marks marks2 → IsWider units rows rows2 → IsWider units goods goods2
     → AreUnits units marks rows goods items skills → AreUnits (insert units n w) (marking marks2 n) (marking rows2 n) (marking goods2 n) items skills
 AreUnits-added units marks rows goods marks2 rows2 goods2 items skills n w wider wider2 wider3 h = record {

@@ -2,7 +2,7 @@ use Rattle.std.proofs.Common.{◌≡◌, ℕ, ◌-◌, Bool, true, false, nat_le
 use Rattle.std.specs.Prelude.{if◌then◌else◌}
 use Rattle.atl_tables.specs.Limits.{last_level}
 use Rattle.atl_records.specs.Levels.{greatest, days_for, level_of}
-use Rattle.atl_records.proofs.LevelLaws.{greatest_here, greatest_below, some_level}
+use Rattle.atl_records.proofs.LevelLaws.{greatest_here, greatest_below, unreached_level_is_above_0}
 use Rattle.atl_records.proofs.EveryLaws.{other_number}
 use Rattle.atl_records.proofs.levels.level.Goals as goal
 
@@ -10,7 +10,7 @@ pub loop-level-preserved : goal.loop-level-preserved
 loop-level-preserved c =
     let passes : ℕ → Bool = λ n. nat_le (days_for n c.args.men) c.args.days in
     let failed : passes c.loop-level.level ≡ false = sym c.is_reached.ensures ∙ c.loop-level-test.true in
-    let some = some_level c.loop-level.level c.args.men c.args.days failed in
+    let some = unreached_level_is_above_0 c.loop-level.level c.args.men c.args.days failed in
     record {
       rest = sym (greatest_below passes c.loop-level.level (c.loop-level.level - 1) (omega (arith, some)) failed) ∙ c.loop-level.invariant.rest;
       small = omega (arith, c.loop-level.invariant.small);

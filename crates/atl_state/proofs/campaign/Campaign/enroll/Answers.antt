@@ -5,7 +5,7 @@ use Rattle.atl_records.specs.declared.books.Entry.TheVariants.{Joining}
 use Rattle.atl_records.specs.declared.books.Thing.TheVariants.{Money, People}
 use Rattle.atl_state.specs.Marks.{amount_marked}
 use Rattle.atl_state.proofs.AmountMarkLaws.{fits_amount, more_marked}
-use Rattle.atl_state.proofs.MadeOf.{undone}
+use Rattle.atl_state.proofs.UndoneLaws.{undone}
 use Rattle.atl_state.specs.Campaign.{CampaignValue, MarkedCampaign}
 use Rattle.atl_state.specs.Joining.{joined}
 use Rattle.atl_state.proofs.JoinLaws.{joining_small}
