@@ -132,7 +132,7 @@ build_step w aliases t = build_effect w t.unit t.order_value.operands
 
 -- ---- how far BUILD moves the books
 
--- the bound on what BUILD books: Used of an item by less than 10^14, nothing else
+-- the bound on what BUILD books: Used of each item by less than 10^14, nothing else
 abbrev pub build_moves : BookBound
 build_moves e (Item i) = if entry_index e == entry_index Used then most_moved else 0
 build_moves e t = 0

@@ -16,7 +16,8 @@ use atl_state::{Campaign, EventFault, Unit};
 use atl_tables::{Numbered, World};
 use std::alloc::{AllocError, Global};
 
-/// Production: units make items, of raw items or of what the terrain of their region gives. See docs/RULES.md, "Producing".
+/// The phase PRODUCE: units make items of raw items, or of what the terrain of their region gives.
+/// See docs/RULES.md, "Producing".
 #[derive(Drop, Clone, Copy)]
 pub struct ProducePhase;
 
@@ -74,7 +75,7 @@ impl PotPhase for ProducePhase {
     }
 }
 
-/// Does nothing. Its clause is what is so of every world.
+/// Does nothing. Its clause says that a world is well-formed (`IsWorld`), which every `World` is.
 pub(crate) fn world_is_sound(world: &World)
     ensures { IsWorld world.now }
 {
@@ -104,8 +105,9 @@ impl Phase for ProducePhase {
     }
 }
 
-/// Does nothing. Its clause is the law that all units produce at once: each has what it made more than as the phase began,
-/// and the raw items that went into it less, and no region changes. See docs/RULES.md, "Producing".
+/// Does nothing. Its clause is the law that all units produce at once: each has what it made more
+/// than as the phase began, and the raw items that went into it less, and no region changes. See
+/// docs/RULES.md, "Producing".
 pub fn units_produce_all_at_once()
     ensures { ProducesAtOnce }
 {}

@@ -25,7 +25,8 @@ use atl_state::{Campaign, Entry, EventFault, MEN_LIMIT, Thing, Unit};
 use atl_tables::{Numbered, World};
 use std::alloc::{AllocError, Global};
 
-/// Recruiting: peasants of a region join its units, at a price. See docs/RULES.md, "Recruiting".
+/// The phase RECRUIT: peasants of a region join its units, at a price. See docs/RULES.md,
+/// "Recruiting".
 #[derive(Drop, Clone, Copy)]
 pub struct RecruitPhase;
 
@@ -37,7 +38,7 @@ impl PhaseVerbs for RecruitPhase {
     }
 }
 
-/// How many peasants can be recruited in the regions.
+/// The pots of RECRUIT: how many peasants of each region can be recruited.
 #[derive(Drop)]
 struct RecruitPots<'a> {
     world: &'a World,
@@ -57,7 +58,8 @@ impl<'a> Pots for RecruitPots<'a> {
     }
 }
 
-/// Recruits join a unit that is there, which pays for them. Its goods stay as they are, and unmarked.
+/// Adds recruits to a unit that is there, and takes their cost from its money. It sets no dirty
+/// flag of goods.
 fn join_unit(campaign: &mut Campaign, unit: u32, recruits: u32, cost: u32)
     requires fits { (u : Unit) → finmap.get campaign.old.value.units unit ≡ Some u
         → u.holding.men + recruits ≤ men_limit }
@@ -77,7 +79,7 @@ fn join_unit(campaign: &mut Campaign, unit: u32, recruits: u32, cost: u32)
     }
 }
 
-/// A region has so many peasants left, and what was paid for recruits is booked.
+/// Sets how many peasants a region has left, and books what was paid for the recruits.
 fn leave_region(campaign: &mut Campaign, region: u32, peasants: u32, cost: u32)
     requires little { cost ≤ holding_limit }
     requires things { 2 ≤ campaign.old.value.books.things }
@@ -177,8 +179,9 @@ impl Phase for RecruitPhase {
     }
 }
 
-/// Does nothing. Its clause is the law that all recruits join at once: each unit has its own more and their price less than
-/// as the phase began, and each region those that joined its units less. See docs/RULES.md, "Recruiting".
+/// Does nothing. Its clause is the law that all recruits join at once: each unit has its own more
+/// and their price less than as the phase began, and each region those that joined its units less.
+/// See docs/RULES.md, "Recruiting".
 pub fn recruits_join_all_at_once()
     ensures { RecruitsAtOnce }
 {}

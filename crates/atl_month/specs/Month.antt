@@ -1,4 +1,4 @@
--- Closing a month: the list of its phases, what they make of a campaign, and how far they move the books. See docs/RULES.md, "Closing a month".
+-- A month: its phases in order, what they make of a campaign, and how far they move the books. See docs/RULES.md, "Closing a month".
 use Rattle.std.specs.Prelude.{◌≡◌, ◌≤◌, ℕ, ◌+◌, ◌*◌, List, [], ◌∷◌, map}
 use Rattle.std.specs.Ordering.{nat_cmp}
 use Rattle.std.specs.List.Sorted.{IsPermutation}
@@ -56,7 +56,7 @@ closing_phases = work_spec ∷ upkeep_spec ∷ season_spec ∷ sweep_spec ∷ []
 abbrev pub orders_meaning : Meaning
 orders_meaning = then_also (meaning_of early_phases) (meaning_of later_phases)
 
--- what the phases from FORM to PRODUCE leave alone, each of its own campaign
+-- what the phases from FORM to PRODUCE leave alone, each over the campaigns before and after that phase
 abbrev pub orders_keep : Frame
 orders_keep = both_keep (meaning_of early_phases) (keeps_of early_phases) (keeps_of later_phases)
 
@@ -94,7 +94,7 @@ orders_moving = both_move (moving_of early_phases) (moving_of later_phases)
 abbrev pub phases_moving : BookBound
 phases_moving = both_move orders_moving (moving_of closing_phases)
 
--- the bound on how far a month may move an amount of the books: 10^14 for each phase that may move it
+-- the bound on how far a month may move an amount of the books: 10^14 - 1 for each phase that may move it
 abbrev pub month_moves : BookBound
 month_moves e t = moving_phases e t * most_moved
 

@@ -47,7 +47,7 @@ after_passing_money c to amount =
     let given = at_unit c to (λ v. with_money c to (v.holding.money + taken)) in
     with_lost given Money (amount - taken)
 
--- A campaign after so much of an item went to unit `to`, up to its room; the rest is booked as lost, all where the unit isn't there.
+-- A campaign after an amount of an item went to unit `to`, up to its room; the rest is booked as lost, all where it isn't there.
 unfoldable pub after_passing_item : ℕ → CampaignValue → ℕ × ℕ → CampaignValue
 after_passing_item to c (item, amount) =
     let taken =
