@@ -10,12 +10,12 @@ use Rattle.atl_state.specs.Campaign.{CampaignValue}
 use Rattle.atl_records.specs.declared.records.Unit.{Unit}
 use Rattle.atl_records.proofs.EveryLaws.{get-insert_other}
 use Rattle.atl_state.proofs.RegionLaws.{changed-known, get-insert_same}
-use Rattle.atl_market.specs.AtOnce.{stays}
+use Rattle.atl_market.specs.AtOnce.{unchanged_region}
 use Rattle.atl_market.specs.Goods.{with_made, with_used}
 use Rattle.atl_market.specs.AfterPots.{ProducesAtOnce, RecruitsAtOnce, TaxesAtOnce, WorksAtOnce, maker_by, maker_of, with_less, with_less_money, with_less_peasants, with_more, with_more_money, with_recruits}
 use Rattle.atl_market.specs.PotPhase.{items_by, wants_by}
 use Rattle.atl_market.specs.Produce.{after_production, produce_pots, with_item_made, with_raw_used}
-use Rattle.atl_market.specs.Recruit.{after_recruiting, recruit_pots, recruits_at, with_men}
+use Rattle.atl_market.specs.Recruit.{after_recruiting, recruit_pots, recruits_at, with_paid_recruits}
 use Rattle.atl_market.specs.Tax.{after_tax, money_at, tax_pots}
 use Rattle.atl_market.specs.Work.{after_work, places_at, wages_for, work_pots}
 use Rattle.atl_market.proofs.AtOnceLaws.{Pays, all_at_once}
@@ -63,7 +63,7 @@ module _ (w : WorldValue) where
   recruit_pays : Pays true (after_recruiting w) (λ n. with_recruits w) with_less_peasants
   recruit_pays = record {
     mine = λ d e u is (q, around).
-        ap (λ (s : CampaignValue). get s.units e.0) (recruited_is w d e u q is around) ∙ get-insert_same d.units e.0 (record u { holding = with_men u.holding e.1 (e.1 * w.rules.recruit_price) });
+        ap (λ (s : CampaignValue). get s.units e.0) (recruited_is w d e u q is around) ∙ get-insert_same d.units e.0 (record u { holding = with_paid_recruits u.holding e.1 (e.1 * w.rules.recruit_price) });
     others = λ d e u is here k apart. recruited_others w d e k apart;
     region = λ d e u q is around.
         ap (λ (s : CampaignValue). get s.regions u.region) (recruited_is w d e u q is around) ∙ ap (λ m. get m u.region) (changed-known (leave q e.1) d.regions u.region q around)
@@ -83,7 +83,7 @@ recruits_at_once w c os =
 -- ---- WORK
 
 module _ (w : WorldValue) where
-  work_pays : Pays false (after_work w) (λ n u places. with_more_money u (wages_for w u.region places)) stays
+  work_pays : Pays false (after_work w) (λ n u places. with_more_money u (wages_for w u.region places)) unchanged_region
   work_pays = record {
     mine = λ d e u is here. ap (λ (s : CampaignValue). get s.units e.0) (worked_is w d e u is) ∙ get-insert_same d.units e.0 (paid_unit d e.0 u (wages_for w u.region e.1));
     others = λ d e u is here k apart. ap (λ (s : CampaignValue). get s.units k) (worked_is w d e u is) ∙ wages_leave_others w d e.0 u (wages_for w u.region e.1) is k apart;
@@ -95,7 +95,7 @@ module _ (w : WorldValue) where
 
 pub works_at_once : WorksAtOnce
 works_at_once w c os =
-    all_at_once work_pots w (λ n u places. with_more_money u (wages_for w u.region places)) stays c os (work_pays w)
+    all_at_once work_pots w (λ n u places. with_more_money u (wages_for w u.region places)) unchanged_region c os (work_pays w)
     (λ n share is. let (u, o, there, own, low) = given_is_wanted work_pots w c (λ items. pots_give (places_at w) c) os n share is in (u, there, tt))
 
 -- ---- PRODUCE
@@ -135,7 +135,7 @@ module _ (asked : FinMap nat_cmp ℕ) (w : WorldValue) where
       by_item None = is
       by_item (Some i) = by_world i (slice_get w.items i)
 
-  produce_pays : Pays false (after_production asked w) (λ n u made. maker_by w u made (get asked n)) stays
+  produce_pays : Pays false (after_production asked w) (λ n u made. maker_by w u made (get asked n)) unchanged_region
   produce_pays = record {
     mine = λ d e u is here. produced_unit d e u is;
     others = λ d e u is here k apart. produced_others asked w d e k apart;
@@ -148,5 +148,5 @@ module _ (asked : FinMap nat_cmp ℕ) (w : WorldValue) where
 pub produces_at_once : ProducesAtOnce
 produces_at_once w c os =
     let items = items_by produce_pots w c os in
-    all_at_once produce_pots w (λ n u made. maker_by w u made (get items n)) stays c os (produce_pays items w)
+    all_at_once produce_pots w (λ n u made. maker_by w u made (get items n)) unchanged_region c os (produce_pays items w)
     (λ n made is. let (u, there, low) = given_can w c os n made is in (u, there, tt))

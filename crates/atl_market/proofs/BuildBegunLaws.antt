@@ -34,8 +34,8 @@ still_well w c d can same books totals reserves = record {
 
 -- ---- a structure more
 
-pub sort_name_ok : (k : Kind) (number : ℕ) → number ≤ last_unit → IsTrue (name_ok (name_prefix k ++ decimal number))
-sort_name_ok k number l = by_sort k.ship
+pub first_name_ok : (k : Kind) (number : ℕ) → number ≤ last_unit → IsTrue (name_ok (name_prefix k ++ decimal number))
+first_name_ok k number l = by_sort k.ship
   where
     by_sort : (ship : Bool) → name_ok ((if ship then codes "Ship " else codes "Building ") ++ decimal number) ≡ true
     by_sort true = numbered_name_ok (codes "Ship ") (record { bytes = refl; begins = refl; some = lit≤ tt; few = lit≤ tt }) number l

@@ -45,10 +45,10 @@ use Rattle.atl_instant.proofs.PlacingLaws.{place_stays}
 use Rattle.atl_instant.proofs.QuitLaws.{sum_within}
 use Rattle.atl_instant.proofs.OrderEffectLaws.{no_worse_spares, well_same, well_twice}
 use Rattle.atl_instant.proofs.UnbookedLaws.{stays_spared}
-use Rattle.atl_market.specs.Build.{after_building_on, after_start, begin, begin_fault, build_effect, build_moves, build_step, go_on, go_on_at, inside_fault, is_structure_limit, new_structure, size_added, structure_and_kind_at, with_kind, with_new}
+use Rattle.atl_market.specs.Build.{after_building_on, after_start, begin, begin_fault, build_effect, build_moves, build_step, go_on, go_on_at, inside_fault, is_structure_limit, new_structure, size_added, structure_and_kind_at, with_kind, with_new_structure}
 use Rattle.atl_market.specs.Bounds.{CanBuild, build_reserve}
 use Rattle.atl_market.specs.Making.{CanUse}
-use Rattle.atl_market.proofs.BuildBegunLaws.{built_well, raised_well, sort_name_ok}
+use Rattle.atl_market.proofs.BuildBegunLaws.{built_well, first_name_ok, raised_well}
 use Rattle.atl_market.proofs.BuildPlaceLaws.{place_well}
 use Rattle.atl_market.proofs.BuildUsedLaws.{others_stay, used, used_for_well, used_room, user, user_there}
 use Rattle.atl_market.proofs.GoodsLaws.{used_is}
@@ -159,14 +159,14 @@ module _ (w : WorldValue) (c : CampaignValue) (n kind : ℕ) (u : Unit) (k : Kin
   one = used w c n k.material size u is
 
   abbrev from_used : CampaignValue → CampaignValue
-  from_used d = with_place (with_new d kind k u.region size) n u.region c.next_structure
+  from_used d = with_place (with_new_structure d kind k u.region size) n u.region c.next_structure
 
   begun_is : after_start c n kind k u.region size ≡ from_used one
   begun_is = ap from_used (used_is w c n k.material size u is)
 
   begun_stays : (j : ℕ) → j ≢ n → get (after_start c n kind k u.region size).units j ≡ get c.units j
   begun_stays j apart =
-      ap (λ (d : CampaignValue). get d.units j) begun_is ∙ place_stays (with_new one kind k u.region size) n u.region c.next_structure j apart
+      ap (λ (d : CampaignValue). get d.units j) begun_is ∙ place_stays (with_new_structure one kind k u.region size) n u.region c.next_structure j apart
       ∙ others_stay w c n k.material size u is j apart
 
   module _ (kind_is : slice_get w.kinds kind ≡ Some k) (can : CanBuild w c) (fit : CanBegin w c u k) where
@@ -185,7 +185,7 @@ module _ (w : WorldValue) (c : CampaignValue) (n kind : ℕ) (u : Unit) (k : Kin
     fresh : IsFresh w one new
     fresh = record {
       kind = slice_get_within w.kinds kind k kind_is;
-      name = sort_name_ok k c.next_structure (omega (arith, room));
+      name = first_name_ok k c.next_structure (omega (arith, room));
       region = (can.steady.known.units n u is).region;
       land = fit.land;
       least = size_some k u.holding 0 fit.men (omega (arith, good.level_least, fit.skill)) fit.material (omega (arith, good.size_least));
@@ -365,17 +365,17 @@ can_use w c n item amount u is enough known can room = record {
 built_is_both : (w : WorldValue) (c : CampaignValue) (place : ℕ) (s : Structure) (k : Kind) → get c.structures place ≡ Some s → slice_get w.kinds s.kind ≡ Some k → structure_and_kind_at w c place ≡ Some (s, k)
 built_is_both w c place s k there kind_is = ap (option_and_then (with_kind w)) there ∙ ap (option_map {U = Structure × Kind} (λ x. (s, x))) kind_is
 
-abbrev begun_told : CampaignValue → (n kind : ℕ) → Kind → (region size : ℕ) → CampaignValue × Outcome
-begun_told c n kind k region size = (after_start c n kind k region size, Done size)
+abbrev begun_outcome : CampaignValue → (n kind : ℕ) → Kind → (region size : ℕ) → CampaignValue × Outcome
+begun_outcome c n kind k region size = (after_start c n kind k region size, Done size)
 
-abbrev on_told : CampaignValue → (n material size place done : ℕ) → CampaignValue × Outcome
-on_told c n material size place done = (after_building_on c n material size place done, Done size)
+abbrev on_outcome : CampaignValue → (n material size place done : ℕ) → CampaignValue × Outcome
+on_outcome c n material size place done = (after_building_on c n material size place done, Done size)
 
 pub begin_done : (w : WorldValue) (c d : CampaignValue) (f n kind : ℕ) (u : Unit) (k : Kind) (size told : ℕ) → of_faction f (get c.units n) ≡ Some u → begin_fault w c u k ≡ None
     → d ≡ after_start c n kind k u.region size → told ≡ size → size ≡ size_added k u.holding 0 → (d, Done told) ≡ faction_effect (begin w n kind k) c f n
 unfolding begin
 begin_done w c d f n kind u k size told is none first told_is size_is =
-    let whole = begun_told c n kind k u.region (size_added k u.holding 0) in
+    let whole = begun_outcome c n kind k u.region (size_added k u.holding 0) in
     let chain : faction_effect (begin w n kind k) c f n ≡ whole = ap (effect_on (begin w n kind k) c) is ∙ ap (λ o. unless c o whole) none in
     rw (first, told_is, size_is) (sym chain)
 
@@ -384,7 +384,7 @@ pub go_on_done : (w : WorldValue) (c d : CampaignValue) (f n : ℕ) (u : Unit) (
 unfolding go_on
 go_on_done w c d f n u s k size told is there kind_is none first told_is size_is =
     let added = size_added k u.holding s.done in
-    let whole = on_told c n k.material added u.structure (s.done + added) in
+    let whole = on_outcome c n k.material added u.structure (s.done + added) in
     let chain : faction_effect (go_on w n) c f n ≡ whole = ap (effect_on (go_on w n) c) is ∙ ap (go_on_at c n u) (built_is_both w c u.structure s k there kind_is) ∙ ap (λ o. unless c o whole) none in
     rw (first, told_is, size_is) (sym chain)
 

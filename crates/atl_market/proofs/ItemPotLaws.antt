@@ -27,30 +27,30 @@ use Rattle.atl_market.proofs.PotLaws.{Entries, IsApart, IsRisen, as_pairs, found
 -- ---- entries that tell what a function tells, put in turn
 
 module _ (g : ℕ → Option ℕ) where
-  abbrev Tells : Entries → Type 0
-  Tells es = AllByRecursion (λ e. g e.0 ≡ Some e.1) es
+  abbrev AgreeWith : Entries → Type 0
+  AgreeWith es = AllByRecursion (λ e. g e.0 ≡ Some e.1) es
 
   put_here : (m : FinMap nat_cmp ℕ) (e : ℕ × ℕ) (n s : ℕ) → n ≡ e.0 → g e.0 ≡ Some e.1 → g n ≡ Some s → get (insert m e.0 e.1) n ≡ Some s
   put_here m e n s same tells is = ap (get (insert m e.0 e.1)) same ∙ get-insert_same m e.0 e.1 ∙ sym tells ∙ ap g (sym same) ∙ is
 
-  told_stays : (m : FinMap nat_cmp ℕ) (es : Entries) (n s : ℕ) → Tells es → g n ≡ Some s → get m n ≡ Some s → get (with_each m es) n ≡ Some s
-  told_stays m [] n s tells is at = at
-  told_stays m (e ∷ es) n s tells is at =
-      told_stays (insert m e.0 e.1) es n s tells.1 is (elim (cases_eq n e.0) [
+  agreeing_stays : (m : FinMap nat_cmp ℕ) (es : Entries) (n s : ℕ) → AgreeWith es → g n ≡ Some s → get m n ≡ Some s → get (with_each m es) n ≡ Some s
+  agreeing_stays m [] n s tells is at = at
+  agreeing_stays m (e ∷ es) n s tells is at =
+      agreeing_stays (insert m e.0 e.1) es n s tells.1 is (elim (cases_eq n e.0) [
         | inl same ↦ put_here m e n s same tells.0 is
         | inr apart ↦ get-insert_other m e.0 n e.1 apart ∙ at
       ])
 
-  told_comes : (m : FinMap nat_cmp ℕ) (es : Entries) (n s : ℕ) → Tells es → g n ≡ Some s → is_some (find nat_cmp n es) ≡ true → get (with_each m es) n ≡ Some s
-  told_comes m [] n s tells is some = absurd (false≢true some)
-  told_comes m (e ∷ es) n s tells is some = elim (cases_eq n e.0) [
-    | inl same ↦ told_stays (insert m e.0 e.1) es n s tells.1 is (put_here m e n s same tells.0 is)
-    | inr apart ↦ told_comes (insert m e.0 e.1) es n s tells.1 is (ap is_some (sym (found_other e es n apart)) ∙ some)
+  agreeing_comes : (m : FinMap nat_cmp ℕ) (es : Entries) (n s : ℕ) → AgreeWith es → g n ≡ Some s → is_some (find nat_cmp n es) ≡ true → get (with_each m es) n ≡ Some s
+  agreeing_comes m [] n s tells is some = absurd (false≢true some)
+  agreeing_comes m (e ∷ es) n s tells is some = elim (cases_eq n e.0) [
+    | inl same ↦ agreeing_stays (insert m e.0 e.1) es n s tells.1 is (put_here m e n s same tells.0 is)
+    | inr apart ↦ agreeing_comes (insert m e.0 e.1) es n s tells.1 is (ap is_some (sym (found_other e es n apart)) ∙ some)
   ]
 
   -- once all that it tells is among them
-  pub all_told : (es : Entries) → Tells es → ((n s : ℕ) → g n ≡ Some s → is_some (find nat_cmp n es) ≡ true) → (n : ℕ) → get (with_each empty es) n ≡ g n
-  all_told es tells whole n = by_find (find nat_cmp n es) refl
+  pub agreeing_put : (es : Entries) → AgreeWith es → ((n s : ℕ) → g n ≡ Some s → is_some (find nat_cmp n es) ≡ true) → (n : ℕ) → get (with_each empty es) n ≡ g n
+  agreeing_put es tells whole n = by_find (find nat_cmp n es) refl
     where
       nothing : find nat_cmp n es ≡ None → (o : Option ℕ) → g n ≡ o → o ≡ None
       nothing none None is = refl
@@ -60,7 +60,7 @@ module _ (g : ℕ → Option ℕ) where
       by_find None is = left empty es n is ∙ get-empty nat_cmp n ∙ sym (nothing is (g n) refl)
       by_find (Some s) is =
           let at : g n ≡ Some s = found_of (λ k t. g k ≡ Some t) es n s (as_pairs (λ k t. g k ≡ Some t) es tells) is in
-          told_comes empty es n s tells at (ap is_some is) ∙ sym at
+          agreeing_comes empty es n s tells at (ap is_some is) ∙ sym at
 
 either : (b : Bool) (o : Option ℕ) → cond b o o ≡ o
 either true o = refl
@@ -117,9 +117,9 @@ entries_put es up =
 
 -- ---- the wants of some units by item
 
-abbrev told : ℕ → Option ℕ → Entries
-told n None = []
-told n (Some want) = (n, want) ∷ []
+abbrev want_entry : ℕ → Option ℕ → Entries
+want_entry n None = []
+want_entry n (Some want) = (n, want) ∷ []
 
 no_group : (i : ℕ) → group_of {V = ℕ} empty i ≡ empty
 no_group i = ap (λ o. unwrap_or o empty) (get-empty nat_cmp i)
@@ -158,24 +158,24 @@ module _ (item_of : ℕ → Option ℕ) (wants : FinMap nat_cmp ℕ) where
       by_test false is = absurd (false≢true (sym (ap is_some (mine_at i n ∙ ap (λ b. cond b (get wants n) None) is)) ∙ some))
 
   abbrev pairs : ℕ → List ℕ → Entries
-  pairs i ns = flat_map (λ n. told n (get (mine i) n)) ns
+  pairs i ns = flat_map (λ n. want_entry n (get (mine i) n)) ns
 
-  one_put : (groups : Groups) (n : ℕ) (rest : Entries) (i : ℕ) → with_each (group_of (with_want item_of wants groups n) i) rest ≡ with_each (group_of groups i) (told n (get (mine i) n) ++ rest)
-  one_put groups n rest i = by_item (item_of n) (get wants n) ∙ sym (ap (λ o. with_each (group_of groups i) (told n o ++ rest)) (mine_at i n))
+  one_put : (groups : Groups) (n : ℕ) (rest : Entries) (i : ℕ) → with_each (group_of (with_want item_of wants groups n) i) rest ≡ with_each (group_of groups i) (want_entry n (get (mine i) n) ++ rest)
+  one_put groups n rest i = by_item (item_of n) (get wants n) ∙ sym (ap (λ o. with_each (group_of groups i) (want_entry n o ++ rest)) (mine_at i n))
     where
-      by_item : (o v : Option ℕ) → with_each (group_of (with_item_want groups n o v) i) rest ≡ with_each (group_of groups i) (told n (cond (is_for i o) v None) ++ rest)
+      by_item : (o v : Option ℕ) → with_each (group_of (with_item_want groups n o v) i) rest ≡ with_each (group_of groups i) (want_entry n (cond (is_for i o) v None) ++ rest)
       by_item None v = refl
-      by_item (Some j) None = elim (j == i) as (λ b. with_each (group_of groups i) rest ≡ with_each (group_of groups i) (told n (cond b None None) ++ rest)) [ true ↦ refl | false ↦ refl ]
+      by_item (Some j) None = elim (j == i) as (λ b. with_each (group_of groups i) rest ≡ with_each (group_of groups i) (want_entry n (cond b None None) ++ rest)) [ true ↦ refl | false ↦ refl ]
       by_item (Some j) (Some v) =
           let group = insert (group_of groups j) n v in
           elim (cases_eq j i) [
             | inl same ↦
                 let here : group_of (insert groups j group) i ≡ insert (group_of groups i) n v =
                 ap (group_of (insert groups j group)) (sym same) ∙ ap (λ o. unwrap_or o empty) (get-insert_same groups j group) ∙ ap (λ k. insert (group_of groups k) n v) same in
-                ap (λ m. with_each m rest) here ∙ sym (ap (λ b. with_each (group_of groups i) (told n (cond b (Some v) None) ++ rest)) (ap (λ k. j == k) (sym same) ∙ same_number j))
+                ap (λ m. with_each m rest) here ∙ sym (ap (λ b. with_each (group_of groups i) (want_entry n (cond b (Some v) None) ++ rest)) (ap (λ k. j == k) (sym same) ∙ same_number j))
             | inr apart ↦
                 ap (λ m. with_each m rest) (ap (λ o. unwrap_or o empty) (get-insert_other groups j i group (λ is. apart (sym is))))
-                ∙ sym (ap (λ b. with_each (group_of groups i) (told n (cond b (Some v) None) ++ rest)) (other_number j i apart))
+                ∙ sym (ap (λ b. with_each (group_of groups i) (want_entry n (cond b (Some v) None) ++ rest)) (other_number j i apart))
           ]
 
   group_is : (groups : Groups) (ns : List ℕ) (i : ℕ) → group_of (fold (with_want item_of wants) groups ns) i ≡ with_each (group_of groups i) (pairs i ns)
@@ -184,7 +184,7 @@ module _ (item_of : ℕ → Option ℕ) (wants : FinMap nat_cmp ℕ) where
 
   pair_keys : (i : ℕ) (ns : List ℕ) → map (λ e. e.0) (pairs i ns) ≡ filter (λ n. is_some (get (mine i) n)) ns
   pair_keys i [] = refl
-  pair_keys i (n ∷ ns) = elim (get (mine i) n) as (λ o. map (λ e. e.0) (told n o ++ pairs i ns) ≡ cond (is_some o) (n ∷ filter (λ k. is_some (get (mine i) k)) ns) (filter (λ k. is_some (get (mine i) k)) ns)) [
+  pair_keys i (n ∷ ns) = elim (get (mine i) n) as (λ o. map (λ e. e.0) (want_entry n o ++ pairs i ns) ≡ cond (is_some o) (n ∷ filter (λ k. is_some (get (mine i) k)) ns) (filter (λ k. is_some (get (mine i) k)) ns)) [
     | None ↦ pair_keys i ns
     | Some want ↦ ap (λ ks. n ∷ ks) (pair_keys i ns)
   ]
@@ -247,10 +247,10 @@ module _ (item_of : ℕ → Option ℕ) (pot_of : (item region : ℕ) → ℕ) (
     region_is = items_are (entries groups) (each-from_every (λ i group. get groups i ≡ Some group) groups (λ i group is. is))
 
     -- all of them are told
-    region_tells : IsThere c.regions r → Tells gets (region_shares item_of pot_of wants c r)
-    region_tells there = subst (Tells gets) (sym region_is) (each_flat (λ e. gets e.0 ≡ Some e.1) of_item (keys groups) (so_each _ one (keys groups)))
+    region_agrees : IsThere c.regions r → AgreeWith gets (region_shares item_of pot_of wants c r)
+    region_agrees there = subst (AgreeWith gets) (sym region_is) (each_flat (λ e. gets e.0 ≡ Some e.1) of_item (keys groups) (so_each _ one (keys groups)))
       where
-        one : (i : ℕ) → Tells gets (of_item i)
+        one : (i : ℕ) → AgreeWith gets (of_item i)
         one i =
             each_so (λ e. find nat_cmp e.0 (of_item i) ≡ Some e.1) (λ e. gets e.0 ≡ Some e.1)
             (λ e is.
@@ -319,12 +319,12 @@ module _ (item_of : ℕ → Option ℕ) (pot_of : (item region : ℕ) → ℕ) (
   abbrev all_shares : Entries
   all_shares = flat_map (region_shares item_of pot_of wants c) (keys c.regions)
 
-  all_tell : Tells gets all_shares
-  all_tell = each_flat (λ e. gets e.0 ≡ Some e.1) (region_shares item_of pot_of wants c) (keys c.regions) (by_region (entries c.regions) (each-from_every (λ r q. get c.regions r ≡ Some q) c.regions (λ r q is. is)))
+  all_shares_agree : AgreeWith gets all_shares
+  all_shares_agree = each_flat (λ e. gets e.0 ≡ Some e.1) (region_shares item_of pot_of wants c) (keys c.regions) (by_region (entries c.regions) (each-from_every (λ r q. get c.regions r ≡ Some q) c.regions (λ r q is. is)))
     where
-      by_region : (es : List (ℕ × Region)) → EachOf (λ r q. get c.regions r ≡ Some q) es → AllByRecursion (λ r. Tells gets (region_shares item_of pot_of wants c r)) (map (λ e. e.0) es)
+      by_region : (es : List (ℕ × Region)) → EachOf (λ r q. get c.regions r ≡ Some q) es → AllByRecursion (λ r. AgreeWith gets (region_shares item_of pot_of wants c r)) (map (λ e. e.0) es)
       by_region [] h = tt
-      by_region (e ∷ es) h = (region_tells e.0 (e.1, h.0), by_region es h.1)
+      by_region (e ∷ es) h = (region_agrees e.0 (e.1, h.0), by_region es h.1)
 
   none_missing : (n s : ℕ) → gets n ≡ Some s → is_some (find nat_cmp n all_shares) ≡ true
   none_missing n s is = by_item (item_of n) is
@@ -342,7 +342,7 @@ module _ (item_of : ℕ → Option ℕ) (pot_of : (item region : ℕ) → ℕ) (
   pub all_items_put : (given : FinMap nat_cmp ℕ) (coming : List (ℕ × Region)) → coming ≡ []
       → with_each given (flat_map (region_shares item_of pot_of wants c) (map (λ e. e.0) coming)) ≡ with_each empty all_shares
       → (n : ℕ) → get given n ≡ item_share item_of pot_of wants c n
-  all_items_put given [] none so_far n = ap (λ (m : FinMap nat_cmp ℕ). get m n) so_far ∙ all_told gets all_shares all_tell none_missing n
+  all_items_put given [] none so_far n = ap (λ (m : FinMap nat_cmp ℕ). get m n) so_far ∙ agreeing_put gets all_shares all_shares_agree none_missing n
   all_items_put given (e ∷ coming) none so_far n = cc
 
   -- where nobody asks nothing is put

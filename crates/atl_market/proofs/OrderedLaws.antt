@@ -19,7 +19,7 @@ use Rattle.atl_market.specs.Puts.{with_any, with_each}
 use Rattle.atl_market.specs.Unordered.{OthersAreNoWorse, is_ordered}
 use Rattle.atl_market.proofs.DrawLaws.{all_pairs}
 use Rattle.atl_market.proofs.PotLaws.{put_in_turn}
-use Rattle.atl_market.proofs.WantLaws.{GivesToWants, any_then, carries}
+use Rattle.atl_market.proofs.WantLaws.{GivesToWants, any_then, carries_out}
 
 neither : (a b : Bool) → (a || b) ≡ false → (a ≡ false) × (b ≡ false)
 neither true b h = absurd (false≢true (sym h))
@@ -40,7 +40,7 @@ module _ (p : PotMeaning) (w : WorldValue) (c : CampaignValue) (n : ℕ) (u : Un
   unwanted_by : (m : FinMap nat_cmp ℕ) (o : Task) (r : Result Unit EventFault) → unit_for p w c o ≡ r → own o ≡ false → get (with_any m (option_map (λ v. (o.unit, p.want w v o)) (result_ok r))) n ≡ get m n
   unwanted_by m o (Err f) is none = refl
   unwanted_by m o (Ok v) is none =
-      let of = carries p w c o v is in
+      let of = carries_out p w c o v is in
       get-insert_other m o.unit n (p.want w v o) (λ same.
       let one : Some v ≡ Some u = sym of.there ∙ ap (get c.units) (sym same) ∙ there in
       let unit : v ≡ u = cc in

@@ -352,15 +352,15 @@ module _ (r : ℕ) where
 -- ---- takers
 
 module _ (wants : FinMap nat_cmp ℕ) (units : FinMap nat_cmp Unit) where
-  abbrev pub Takes : ℕ → ℕ → Type 0
-  Takes r n = ((u : Unit) × (get units n ≡ Some u) × (u.region ≡ r)) × IsThere wants n
+  abbrev pub IsTaker : ℕ → ℕ → Type 0
+  IsTaker r n = ((u : Unit) × (get units n ≡ Some u) × (u.region ≡ r)) × IsThere wants n
 
   sorted_units : is_sorted nat_cmp (entries units) ≡ true
   sorted_units = sorted units
 
-  takers_each : (r : ℕ) → AllByRecursion (Takes r) (takers_in wants units r)
+  takers_each : (r : ℕ) → AllByRecursion (IsTaker r) (takers_in wants units r)
   takers_each r =
-      each_so _ (Takes r) (λ n ((u, is, here), want). ((u, get-entries units n ∙ is, here), is_there (get wants n) want)) (takers_in wants units r)
+      each_so _ (IsTaker r) (λ n ((u, is, here), want). ((u, get-entries units n ∙ is, here), is_there (get wants n) want)) (takers_in wants units r)
       (kept_each (λ n. is_some (get wants n)) (StandsIn r (entries units)) (numbers_in r units) (listed_each r (entries units) sorted_units))
 
   pub takers_risen : (r : ℕ) → IsRisen (takers_in wants units r)
@@ -377,8 +377,8 @@ module _ (pot_of : ℕ → ℕ) (wants : FinMap nat_cmp ℕ) (units : FinMap nat
   abbrev given_in : ℕ → Entries
   given_in r = shares_in pot_of wants units r
 
-  pub given_takes : (r n s : ℕ) → find nat_cmp n (given_in r) ≡ Some s → Takes wants units r n
-  given_takes r n s is = zip_found (Takes wants units r) (takers_in wants units r) (shares (pot_of r) (wants_in wants units r)) n s (takers_each wants units r) is
+  pub given_takes : (r n s : ℕ) → find nat_cmp n (given_in r) ≡ Some s → IsTaker wants units r n
+  given_takes r n s is = zip_found (IsTaker wants units r) (takers_in wants units r) (shares (pot_of r) (wants_in wants units r)) n s (takers_each wants units r) is
 
   pub given_apart : (r : ℕ) → IsApart (given_in r)
   given_apart r = zip_apart (takers_in wants units r) (shares (pot_of r) (wants_in wants units r)) (takers_risen wants units r)
@@ -457,7 +457,7 @@ module _ (wants : FinMap nat_cmp ℕ) (c : CampaignValue) where
   pub none_asked : (r : ℕ) → is_some (get (regions_with_wants wants c) r) ≡ false → takers_in wants c.units r ≡ []
   none_asked r free = by_takers (takers_in wants c.units r) (takers_each wants c.units r)
     where
-      by_takers : (ns : List ℕ) → AllByRecursion (Takes wants c.units r) ns → ns ≡ []
+      by_takers : (ns : List ℕ) → AllByRecursion (IsTaker wants c.units r) ns → ns ≡ []
       by_takers [] all = refl
       by_takers (n ∷ ns) all =
           let ((u, at, here), want) = all.0 in

@@ -31,10 +31,10 @@ use Rattle.atl_instant.specs.Bounds.{HasRoom, HaveRoom, moved_times}
 use Rattle.atl_instant.specs.PhaseOrders.{Task}
 use Rattle.atl_records.proofs.HoldingLaws.{amount_within}
 use Rattle.atl_instant.proofs.MeaningLaws.{MovesLess, both_leave_well, less_room, room_behind, room_less, well_unchanged, well_within}
-use Rattle.atl_market.specs.Making.{CanMake, CanMakeOf, CanProduce, CanUse, Fits}
+use Rattle.atl_market.specs.Making.{CanMake, CanMakeOf, CanProduce, CanUse, HasRoomAndRaw}
 use Rattle.atl_market.specs.PotPhase.{after_sharing, given_by, item_in, items_by}
 use Rattle.atl_market.specs.Bounds.{CanInTurn}
-use Rattle.atl_market.specs.Produce.{after_production, can_make, can_make_of, item_of, make_fault, produce_moves, produce_pots, up_to_raw, with_raw_used}
+use Rattle.atl_market.specs.Produce.{after_production, item_of, make_fault, most_makeable, most_makeable_of, produce_moves, produce_pots, up_to_raw, with_raw_used}
 use Rattle.atl_market.specs.Goods.{with_made, with_used}
 use Rattle.atl_market.specs.Unordered.{OthersAreNoWorse}
 use Rattle.atl_market.proofs.DrawLaws.{all_pairs}
@@ -203,16 +203,16 @@ module _ (w : WorldValue) (c : CampaignValue) (os : List Task) where
 
   -- a unit makes what it can make at most
   abbrev Makes : ℕ × ℕ → Type 0
-  Makes e = (u : Unit) × (get c.units e.0 ≡ Some u) × (e.1 ≤ can_make w u.holding (get items e.0))
+  Makes e = (u : Unit) × (get c.units e.0 ≡ Some u) × (e.1 ≤ most_makeable w u.holding (get items e.0))
 
   pub given_can : Every (λ n made. Makes (n, made)) (given_by produce_pots w c os)
   given_can n made is =
       let (u, t, there, own, low, fine, named) = given_is_named produce_pots w c (makes_give w c) os n made is in
       (u, there, by_item u (item_in t.order_value.operands) low fine named)
     where
-      by_item : (u : Unit) (s : Option ℕ) → made ≤ can_make w u.holding s → make_fault u.holding (item_of w s) ≡ None → ((i : ℕ) → s ≡ Some i → get items n ≡ Some i) → made ≤ can_make w u.holding (get items n)
+      by_item : (u : Unit) (s : Option ℕ) → made ≤ most_makeable w u.holding s → make_fault u.holding (item_of w s) ≡ None → ((i : ℕ) → s ≡ Some i → get items n ≡ Some i) → made ≤ most_makeable w u.holding (get items n)
       by_item u None low fine named = absurd (needs_item w u.holding fine)
-      by_item u (Some i) low fine named = subst (λ o. made ≤ can_make w u.holding o) (sym (named i refl)) low
+      by_item u (Some i) low fine named = subst (λ o. made ≤ most_makeable w u.holding o) (sym (named i refl)) low
 
 up_to_most : (h : HoldingValue) (count : ℕ) (raw : Option ℕ) (most : ℕ) → up_to_raw h count raw most ≤ most
 up_to_most h count None most = omega arith
@@ -232,9 +232,9 @@ raw_in items r None is known = none_some r is
 raw_in items r (Some k) is known = let same : k ≡ r = cc in subst (λ m. m < items) same known
 
 module _ (asked : FinMap nat_cmp ℕ) (w : WorldValue) (c : CampaignValue) (world : IsWorld w) (steady : IsSteady w c) where
-  fits_by : (n made : ℕ) (u : Unit) → get c.units n ≡ Some u → made ≤ can_make w u.holding (get asked n) → (i : ℕ) (x : Item) → get asked n ≡ Some i → slice_get w.items i ≡ Some x → Fits w u made i x
+  fits_by : (n made : ℕ) (u : Unit) → get c.units n ≡ Some u → made ≤ most_makeable w u.holding (get asked n) → (i : ℕ) (x : Item) → get asked n ≡ Some i → slice_get w.items i ≡ Some x → HasRoomAndRaw w u made i x
   fits_by n made u there low i x told is =
-      let all : made ≤ can_make_of u.holding i x = subst (λ o. made ≤ option_map_or (can_make_of u.holding i) o 0) is (subst (λ o. made ≤ can_make w u.holding o) told low) in
+      let all : made ≤ most_makeable_of u.holding i x = subst (λ o. made ≤ option_map_or (most_makeable_of u.holding i) o 0) is (subst (λ o. made ≤ most_makeable w u.holding o) told low) in
       let skilled = u.holding.men * level_in_any u.holding x.skill in
       let most = min skilled (holding_limit - amount_of u.holding.items i) in
       record {
@@ -248,7 +248,7 @@ module _ (asked : FinMap nat_cmp ℕ) (w : WorldValue) (c : CampaignValue) (worl
 
 -- a unit is there and can make so much
 abbrev HasRoomFor : (FinMap nat_cmp ℕ) → WorldValue → CampaignValue → ℕ × ℕ → Type 0
-HasRoomFor asked w c e = (u : Unit) × (get c.units e.0 ≡ Some u) × ((i : ℕ) (x : Item) → get asked e.0 ≡ Some i → slice_get w.items i ≡ Some x → Fits w u e.1 i x)
+HasRoomFor asked w c e = (u : Unit) × (get c.units e.0 ≡ Some u) × ((i : ℕ) (x : Item) → get asked e.0 ≡ Some i → slice_get w.items i ≡ Some x → HasRoomAndRaw w u e.1 i x)
 
 module _ (asked : FinMap nat_cmp ℕ) (w : WorldValue) where
   abbrev step_moves : BookBound

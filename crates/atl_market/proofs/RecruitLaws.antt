@@ -37,7 +37,7 @@ use Rattle.atl_instant.proofs.MarkLaws.{marks_by}
 use Rattle.atl_instant.proofs.MeaningLaws.{room_less, well_within}
 use Rattle.atl_market.specs.PotPhase.{after_sharing, given_by}
 use Rattle.atl_market.specs.Bounds.{CanInTurn}
-use Rattle.atl_market.specs.Recruit.{after_recruiting, recruit_moves, recruit_pots, recruits_at, with_men}
+use Rattle.atl_market.specs.Recruit.{after_recruiting, recruit_moves, recruit_pots, recruits_at, with_paid_recruits}
 use Rattle.atl_market.specs.Unordered.{OthersAreNoWorse}
 use Rattle.atl_market.proofs.DrawLaws.{AreReady, Drains, DrawnPots, HaveEnough, all_pairs, drawn, one_drains, one_draws, pot_is_enough, ready_behind, region_pots, untouched, who_stand}
 use Rattle.atl_state.proofs.HavingLaws.{MayHave, may_have}
@@ -58,7 +58,7 @@ abbrev pub leave : Region → ℕ → Region → Region
 leave q recruits r = record r { peasants = q.peasants - recruits }
 
 abbrev pub joined : CampaignValue → ℕ → Unit → (recruits cost : ℕ) → CampaignValue
-joined c n u recruits cost = record c { units = insert c.units n (record u { holding = with_men u.holding recruits cost }) }
+joined c n u recruits cost = record c { units = insert c.units n (record u { holding = with_paid_recruits u.holding recruits cost }) }
 
 abbrev pub recruited_to : CampaignValue → ℕ → Unit → Region → (recruits cost : ℕ) → CampaignValue
 recruited_to c n u q recruits cost = with_amount (region_changed (leave q recruits) (joined c n u recruits cost) u.region) Recruiting Money (neg_ℤ (pos cost))
@@ -68,7 +68,7 @@ module _ (w : WorldValue) (c : CampaignValue) (n : ℕ) (u : Unit) (q : Region) 
   after = recruited_to c n u q recruits cost
 
   abbrev more : HoldingValue
-  more = with_men u.holding recruits cost
+  more = with_paid_recruits u.holding recruits cost
 
   abbrev peopled : CampaignValue
   peopled = joined c n u recruits cost
@@ -162,8 +162,8 @@ module _ (w : WorldValue) (c : CampaignValue) (e : ℕ × ℕ) where
   recruited_others k apart =
       by_unit c e.0 (λ (d : CampaignValue). get d.units k ≡ get c.units k) _ refl (λ u is.
       by_region c u.region (λ (d : CampaignValue). get d.units k ≡ get c.units k) _ refl (λ q around.
-      ap (λ o. get (with_held c e.0 (with_men u.holding e.1 price) o).units k) is
-      ∙ get-insert_other c.units e.0 k (record u { holding = with_men u.holding e.1 price }) apart))
+      ap (λ o. get (with_held c e.0 (with_paid_recruits u.holding e.1 price) o).units k) is
+      ∙ get-insert_other c.units e.0 k (record u { holding = with_paid_recruits u.holding e.1 price }) apart))
 
 pub recruit_keeps_others : (w : WorldValue) (c : CampaignValue) (os : List Task) → OthersAreNoWorse os c (after_sharing recruit_pots w c os)
 recruit_keeps_others w c os = others_no_worse recruit_pots w (λ items. recruited_others w) c (λ items. pots_give (recruits_at w c) c) os

@@ -160,12 +160,12 @@ splitting_keeps_others pot ahead parts behind =
     ]
 
 -- left is the remainder of the quotient behind `before`
-pub record IsLeft (pot total before left : ℕ) : Type 0 where
+pub record IsRemainder (pot total before left : ℕ) : Type 0 where
   pub small : left < total
   pub whole : total * share_upto pot total before + left ≡ pot * before
 
 -- the next share and remainder, by the running remainder
-pub next_share : (pot total before left want : ℕ) → 0 < total → IsLeft pot total before left →
+pub next_share : (pot total before left want : ℕ) → 0 < total → IsRemainder pot total before left →
     (pot * want + left) / total ≡ share_upto pot total (before + want) - share_upto pot total before
 next_share pot total before left want p h =
     let low = share_upto pot total before in
@@ -174,8 +174,8 @@ next_share pot total before left want p h =
     let split : share_upto pot total (before + want) ≡ due / total + low = ap (λ n. n / total) all ∙ add-mul-div_left due low p in
     omega arith
 
-pub next_left : (pot total before left want : ℕ) → 0 < total → IsLeft pot total before left →
-    IsLeft pot total (before + want) ((pot * want + left) % total)
+pub next_left : (pot total before left want : ℕ) → 0 < total → IsRemainder pot total before left →
+    IsRemainder pot total (before + want) ((pot * want + left) % total)
 next_left pot total before left want p h =
     let low = share_upto pot total before in
     let due = pot * want + left in

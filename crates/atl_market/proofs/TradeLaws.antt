@@ -66,7 +66,7 @@ use Rattle.atl_market.proofs.WantLaws.{GivesToWants, few_given, given_is_named}
 
 -- ---- a deal that keeps the goods and the money together
 
-pub record Fits (w : WorldValue) (u : Unit) (i before : ℕ) (d : TradeResult) : Type 0 where
+pub record ResultFits (w : WorldValue) (u : Unit) (i before : ℕ) (d : TradeResult) : Type 0 where
   pub money : d.money ≤ holding_limit
   pub amount : d.amount ≤ holding_limit
   pub stock : d.stock ≤ stock_limit w u.region i
@@ -96,7 +96,7 @@ module _ (w : WorldValue) (c : CampaignValue) (n : ℕ) (u : Unit) (q : Region) 
   pub deal_is : with_result c n u i entry d ≡ after
   deal_is = ap (λ o. with_amount (with_stock (with_held c n more o) u.region i d.stock) entry Money d.booked) is
 
-  module _ (fits : Fits w u i (amount_of q.stocks i) d) (known : i < length w.items) (market : IsSome (market_of w u.region i)) (early : IsEarly w c) where
+  module _ (fits : ResultFits w u i (amount_of q.stocks i) d) (known : i < length w.items) (market : IsSome (market_of w u.region i)) (early : IsEarly w c) where
     may : MayHave w more
     may =
         let old = may_have w c n u is early.steady in
@@ -171,7 +171,7 @@ module _ (w : WorldValue) (u : Unit) (m : Market) (stock share : ℕ) (there : m
   up_to : (a k limit : ℕ) → k ≤ a → a ≤ limit → k ≤ limit
   up_to a k limit few most = omega (arith, few, most)
 
-  pub deal_fits : (trade : Trade) → CanAfford trade u.holding share (Some m) → HasPot trade stock share (Some m) → Fits w u m.item stock (trade_result_of trade u.holding stock share m)
+  pub deal_fits : (trade : Trade) → CanAfford trade u.holding share (Some m) → HasPot trade stock share (Some m) → ResultFits w u m.item stock (trade_result_of trade u.holding stock share m)
   deal_fits Sell (enough, room) pot = record {
     money = room;
     amount = less (amount_of u.holding.items m.item) share holding_limit (amount_within u.holding m.item holds);
@@ -237,7 +237,7 @@ module _ (trade : Trade) (items : FinMap nat_cmp ℕ) (w : WorldValue) (c : Camp
         ∙ ap (λ stock. with_result c e.0 can.at.unit m.item (trade_entry trade) (trade_result_of trade can.at.unit.holding stock e.1 m)) (stock_is c can.at.unit.region can.at.region m.item can.at.around)
         ∙ deal_is w c e.0 can.at.unit can.at.region m.item (trade_entry trade) deal can.at.there can.at.around
 
-    fits : Fits w can.at.unit m.item (amount_of can.at.region.stocks m.item) deal
+    fits : ResultFits w can.at.unit m.item (amount_of can.at.region.stocks m.item) deal
     fits =
         let u = can.at.unit in
         let limit : stock_limit w u.region m.item ≡ m.limit = ap (λ o. option_map_or (λ (x : Market). x.limit) o most_amount) market.there in
@@ -460,10 +460,10 @@ module _ (trade : Trade) (w : WorldValue) (world : IsWorld w) (c : CampaignValue
 -- ---- what the code does
 
 -- the result of a trade can be booked
-pub can_settle : (trade : Trade) (items : FinMap nat_cmp ℕ) (w : WorldValue) (c : CampaignValue) (n share : ℕ) → CanTrade trade items w c (n, share)
+pub can_book_result : (trade : Trade) (items : FinMap nat_cmp ℕ) (w : WorldValue) (c : CampaignValue) (n share : ℕ) → CanTrade trade items w c (n, share)
     → (u : Unit) (m : Market) (stock : ℕ) (entry : Entry) (d : TradeResult) → get c.units n ≡ Some u → market_for w u (get items n) ≡ Some m → stock ≡ stock_of c u.region m.item
     → entry ≡ trade_entry trade → d ≡ trade_result_of trade u.holding stock share m → CanBookTrade c n entry d
-can_settle trade items w c n share can u m stock entry d there at stock_at entry_at d_at =
+can_book_result trade items w c n share can u m stock entry d there at stock_at entry_at d_at =
     let e : ℕ × ℕ = (n, share) in
     let same : can.at.unit ≡ u = same_Some _ _ (sym can.at.there ∙ there) in
     let mine : market_for w can.at.unit (get items n) ≡ Some m = ap (λ v. market_for w v (get items n)) same ∙ at in

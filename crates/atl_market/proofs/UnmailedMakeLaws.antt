@@ -20,7 +20,7 @@ use Rattle.atl_state.proofs.RegionLaws.{changed-known}
 use Rattle.atl_instant.proofs.PhaseSpecLaws.{Leaves}
 use Rattle.atl_instant.proofs.UnmailedLaws.{HaveTheirMen, OthersHaveMen, SparesMen, carried_leaves, items_of_no_worse, men_put, men_same, men_stay, men_twice, men_unless, others_men, own_faction, unmailed_spared}
 use Rattle.atl_instant.proofs.UnmailedStepLaws.{place_men}
-use Rattle.atl_market.specs.Build.{after_building_on, after_start, begin, begin_fault, build_effect, build_spec, build_step, go_on, go_on_at, inside_fault, is_building, outside_fault, size_added, with_kind, with_new}
+use Rattle.atl_market.specs.Build.{after_building_on, after_start, begin, begin_fault, build_effect, build_spec, build_step, go_on, go_on_at, inside_fault, is_building, outside_fault, size_added, with_kind, with_new_structure}
 use Rattle.atl_market.specs.Goods.{with_made, with_used}
 use Rattle.atl_market.specs.Produce as produce
 use Rattle.atl_market.proofs.ThereLaws.{by_option, by_unit}
@@ -43,7 +43,7 @@ used_men c n i amount =
 begun_men : (c : CampaignValue) (n kind : ℕ) (k : Kind) (region size : ℕ) → HaveTheirMen c (after_start c n kind k region size)
 begun_men c n kind k region size =
     let used = with_used c n k.material size in
-    let new = with_new used kind k region size in
+    let new = with_new_structure used kind k region size in
     men_twice c used (with_place new n region c.next_structure) (used_men c n k.material size)
     (men_twice used new (with_place new n region c.next_structure) (men_same used new refl) (place_men new n region c.next_structure))
 

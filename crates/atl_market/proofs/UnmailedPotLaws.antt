@@ -53,9 +53,9 @@ module _ (p : PotMeaning) (w : WorldValue) (c : CampaignValue) where
       nobody false = refl
 
   -- what is told of the orders tells of nobody who starved
-  told_of_pots : (events : List Event) (os : List Task) (n : ℕ) → starved_in (events ++ events_by p w c os) n ≡ starved_in events n
+  pots_report_none_starved : (events : List Event) (os : List Task) (n : ℕ) → starved_in (events ++ events_by p w c os) n ≡ starved_in events n
   unfolding events_by
-  told_of_pots events os n =
+  pots_report_none_starved events os n =
       sum_by-append (λ (e : Event). if e.unit == n then men_starved_by e.verb e.outcome else 0) events (map (event_of p w c (given_by p w c os)) os)
       ∙ ap (λ x. starved_in events n + x) (none_starve (given_by p w c os) os n) ∙ plus_none (starved_in events n)
     where
@@ -69,7 +69,7 @@ module _ (p : PotMeaning) (orders : CampaignValue → MonthValue → List Task) 
 
   pub shared_leave : {keeps : Frame} → ((w : WorldValue) (c : CampaignValue) (m : MonthValue) → UnmailedAre HasItsMen m c (shared w c m).0) → ((w : WorldValue) (c d : CampaignValue) (m : MonthValue) → keeps w m c d → UnmailedAre HasItsItems m c d) → LeavesUnmailed shared keeps
   shared_leave {keeps} men items =
-      whole_leaves {meaning = shared} {keeps = keeps} (λ w c m. refl) (λ w c m n. told_of_pots p w c m.events (orders c m) n) (λ w c m h. men w c m) (λ w c m h. items w c (shared w c m).0 m h)
+      whole_leaves {meaning = shared} {keeps = keeps} (λ w c m. refl) (λ w c m n. pots_report_none_starved p w c m.events (orders c m) n) (λ w c m h. men w c m) (λ w c m h. items w c (shared w c m).0 m h)
 
   -- payments that keep the men of all units
   pub paid_men : ((w : WorldValue) (items : FinMap nat_cmp ℕ) (d : CampaignValue) (e : ℕ × ℕ) → HaveTheirMen d (p.paid items w d e)) → (w : WorldValue) (c : CampaignValue) (m : MonthValue) → UnmailedAre HasItsMen m c (shared w c m).0

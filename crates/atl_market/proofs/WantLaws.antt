@@ -74,7 +74,7 @@ module _ (p : PotMeaning) (w : WorldValue) (c : CampaignValue) where
       (u : Unit) × (t : Task) × (get c.units n ≡ Some u) × (t.unit ≡ n) × (want ≡ p.want w u t) × (p.fault w u t ≡ None) × ((i : ℕ) → item_in t.order_value.operands ≡ Some i → get items n ≡ Some i)
 
   -- a unit that carries an order out
-  pub record Carries (t : Task) (u : Unit) : Type 0 where
+  pub record CarriesOut (t : Task) (u : Unit) : Type 0 where
     pub there : get c.units t.unit ≡ Some u
     pub own : (u.faction == t.faction) ≡ true
     pub fine : p.fault w u t ≡ None
@@ -82,19 +82,19 @@ module _ (p : PotMeaning) (w : WorldValue) (c : CampaignValue) where
   abbrev unless_fault : Task → Option Unit → Result Unit EventFault
   unless_fault t o = option_map_or (λ v. option_map_or Err (p.fault w v t) (Ok v)) o (Err NotYours)
 
-  pub carries : (t : Task) (u : Unit) → unit_for p w c t ≡ Ok u → Carries t u
+  pub carries_out : (t : Task) (u : Unit) → unit_for p w c t ≡ Ok u → CarriesOut t u
   unfolding unit_for
-  carries t u is = by_unit (get c.units t.unit) refl is
+  carries_out t u is = by_unit (get c.units t.unit) refl is
     where
-      by_fault : (v : Unit) → get c.units t.unit ≡ Some v → (v.faction == t.faction) ≡ true → (f : Option EventFault) → p.fault w v t ≡ f → option_map_or Err f (Ok v) ≡ Ok u → Carries t u
+      by_fault : (v : Unit) → get c.units t.unit ≡ Some v → (v.faction == t.faction) ≡ true → (f : Option EventFault) → p.fault w v t ≡ f → option_map_or Err f (Ok v) ≡ Ok u → CarriesOut t u
       by_fault v at own (Some f) fault h = none_some u (ap result_ok h)
-      by_fault v at own None fault h = subst (Carries t) (same_Some _ _ (ap result_ok h)) (record { there = at; own = own; fine = fault })
+      by_fault v at own None fault h = subst (CarriesOut t) (same_Some _ _ (ap result_ok h)) (record { there = at; own = own; fine = fault })
 
-      by_test : (v : Unit) → get c.units t.unit ≡ Some v → (b : Bool) → (v.faction == t.faction) ≡ b → unless_fault t (cond b (Some v) None) ≡ Ok u → Carries t u
+      by_test : (v : Unit) → get c.units t.unit ≡ Some v → (b : Bool) → (v.faction == t.faction) ≡ b → unless_fault t (cond b (Some v) None) ≡ Ok u → CarriesOut t u
       by_test v at true own h = by_fault v at own (p.fault w v t) refl h
       by_test v at false own h = none_some u (ap result_ok h)
 
-      by_unit : (o : Option Unit) → get c.units t.unit ≡ o → unless_fault t (of_faction t.faction o) ≡ Ok u → Carries t u
+      by_unit : (o : Option Unit) → get c.units t.unit ≡ o → unless_fault t (of_faction t.faction o) ≡ Ok u → CarriesOut t u
       by_unit None at h = none_some u (ap result_ok h)
       by_unit (Some v) at h = by_test v at (v.faction == t.faction) refl h
 
@@ -116,7 +116,7 @@ module _ (p : PotMeaning) (w : WorldValue) (c : CampaignValue) where
     wanted_by (Err f) is old = old
     wanted_by (Ok u) is old = λ n want there. elim (cases_eq n t.unit) [
       | inl same ↦
-          let of = carries t u is in
+          let of = carries_out t u is in
           let mine : Some (p.want w u t) ≡ Some want = sym (get-insert_same m t.unit (p.want w u t)) ∙ ap (get (insert m t.unit (p.want w u t))) (sym same) ∙ there in (
             u,
             t,

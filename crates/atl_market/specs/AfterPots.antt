@@ -10,10 +10,10 @@ use Rattle.atl_records.specs.declared.records.Unit.{Unit}
 use Rattle.atl_records.specs.Holdings.{HoldingValue, amount_of, with_amount_of}
 use Rattle.atl_state.specs.Campaign.{CampaignValue}
 use Rattle.atl_instant.specs.PhaseOrders.{Task}
-use Rattle.atl_market.specs.AtOnce.{PaysAtOnce, PaysItemsAtOnce, RegionChange, UnitChange, stays}
+use Rattle.atl_market.specs.AtOnce.{PaysAtOnce, PaysItemsAtOnce, RegionChange, UnitChange, unchanged_region}
 use Rattle.atl_market.specs.PotPhase.{items_by}
 use Rattle.atl_market.specs.Produce.{produce_pots}
-use Rattle.atl_market.specs.Recruit.{recruit_pots, with_men}
+use Rattle.atl_market.specs.Recruit.{recruit_pots, with_paid_recruits}
 use Rattle.atl_market.specs.Tax.{tax_pots}
 use Rattle.atl_market.specs.Trade.{market_for, trade_pots}
 use Rattle.atl_market.specs.Work.{wages_for, work_pots}
@@ -56,7 +56,7 @@ TaxesAtOnce = (w : WorldValue) (c : CampaignValue) (os : List Task) → PaysAtOn
 
 -- a unit with so many more men, and less money by their price
 abbrev pub with_recruits : WorldValue → UnitChange
-with_recruits w u recruits = record u { holding = with_men u.holding recruits (recruits * w.rules.recruit_price) }
+with_recruits w u recruits = record u { holding = with_paid_recruits u.holding recruits (recruits * w.rules.recruit_price) }
 
 -- a region with as many peasants less as joined its units
 abbrev pub with_less_peasants : RegionChange
@@ -90,10 +90,10 @@ maker_by w u made asked = option_map_or (λ i. option_map_or (maker_of u made i)
 abbrev pub ProducesAtOnce : Type 0
 ProducesAtOnce =
     (w : WorldValue) (c : CampaignValue) (os : List Task)
-    → PaysAtOnce produce_pots w (λ n u made. maker_by w u made (get (items_by produce_pots w c os) n)) stays c os
+    → PaysAtOnce produce_pots w (λ n u made. maker_by w u made (get (items_by produce_pots w c os) n)) unchanged_region c os
 
 -- The law of WORK: all units are paid at once. Each has the wages of its work places more; no region changes.
 abbrev pub WorksAtOnce : Type 0
 WorksAtOnce =
     (w : WorldValue) (c : CampaignValue) (os : List Task)
-    → PaysAtOnce work_pots w (λ n u places. with_more_money u (wages_for w u.region places)) stays c os
+    → PaysAtOnce work_pots w (λ n u places. with_more_money u (wages_for w u.region places)) unchanged_region c os

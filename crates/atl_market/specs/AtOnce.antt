@@ -43,8 +43,8 @@ pub record PaysAtOnce (p : PotMeaning) (w : WorldValue) (gets : ℕ → UnitChan
       → get (after_sharing p w c os).regions r ≡ Some (gives q (given_in (given_by p w c os) c.units r))
 
 -- the change of a region that stays as it is, whatever its units got
-abbrev pub stays : RegionChange
-stays q share = q
+abbrev pub unchanged_region : RegionChange
+unchanged_region q share = q
 
 -- ---- pots by region and item: each changes what the region has of the item
 

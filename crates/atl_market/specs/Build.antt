@@ -67,12 +67,12 @@ abbrev pub new_structure : (number kind : ℕ) → Kind → (region size : ℕ) 
 new_structure number kind k region size = record { kind = kind; name = name_prefix k ++ decimal number; region = region; done = size; owner = 0 }
 
 -- a campaign in which one structure more is begun, under the next number of structures
-abbrev pub with_new : CampaignValue → (kind : ℕ) → Kind → (region size : ℕ) → CampaignValue
-with_new c kind k region size = with_structure_begun c (new_structure c.next_structure kind k region size)
+abbrev pub with_new_structure : CampaignValue → (kind : ℕ) → Kind → (region size : ℕ) → CampaignValue
+with_new_structure c kind k region size = with_structure_begun c (new_structure c.next_structure kind k region size)
 
 -- a campaign after unit `n` used `size` of the material, began a structure with it, left its old one and entered the new one
 abbrev pub after_start : CampaignValue → (n kind : ℕ) → Kind → (region size : ℕ) → CampaignValue
-after_start c n kind k region size = with_place (with_new (with_used c n k.material size) kind k region size) n region c.next_structure
+after_start c n kind k region size = with_place (with_new_structure (with_used c n k.material size) kind k region size) n region c.next_structure
 
 -- the effect of `BUILD kind` by unit `n`: a structure is begun and the outcome is its size; with a fault nothing changes
 unfoldable pub begin : WorldValue → (n kind : ℕ) → Kind → OrderEffect

@@ -41,7 +41,7 @@ pub record CanMakeOf (w : WorldValue) (c : CampaignValue) (n made i : ℕ) (x : 
   pub make : CanMake w (with_raw_used c n (made * x.raw_count) x.raw) n i made
 
 -- a unit has room for `made` of item `i`, and holds the raw items for them
-pub record Fits (w : WorldValue) (u : Unit) (made i : ℕ) (x : Item) : Type 0 where
+pub record HasRoomAndRaw (w : WorldValue) (u : Unit) (made i : ℕ) (x : Item) : Type 0 where
   pub known : i < length w.items
   pub fits : amount_of u.holding.items i + made ≤ holding_limit
   pub raw_known : (r : ℕ) → x.raw ≡ Some r → r < length w.items
@@ -52,6 +52,6 @@ pub record Fits (w : WorldValue) (u : Unit) (made i : ℕ) (x : Item) : Type 0 w
 pub record CanProduce (asked : FinMap nat_cmp ℕ) (w : WorldValue) (c : CampaignValue) (e : ℕ × ℕ) : Type 0 where
   pub unit : Unit
   pub there : get c.units e.0 ≡ Some unit
-  pub fits : (i : ℕ) (x : Item) → get asked e.0 ≡ Some i → slice_get w.items i ≡ Some x → Fits w unit e.1 i x
+  pub fits : (i : ℕ) (x : Item) → get asked e.0 ≡ Some i → slice_get w.items i ≡ Some x → HasRoomAndRaw w unit e.1 i x
   pub steady : IsSteady w c
   pub room : HaveRoom (produce_moves holding_limit) c

@@ -41,13 +41,13 @@ abbrev pub up_to_raw : HoldingValue → (count : ℕ) → (raw : Option ℕ) →
 up_to_raw h count raw most = option_map_or (λ r. min (amount_of h.items r / count) most) raw most
 
 -- the most of an item that a unit can make: by its men times level, its room for the item, and its raw items
-abbrev pub can_make_of : HoldingValue → (item : ℕ) → Item → ℕ
-can_make_of h i x =
+abbrev pub most_makeable_of : HoldingValue → (item : ℕ) → Item → ℕ
+most_makeable_of h i x =
     up_to_raw h x.raw_count x.raw (min (h.men * level_in_any h x.skill) (holding_limit - amount_of h.items i))
 
 -- the most that a unit can make of the item that its order names; 0 where that is no item of the world
-abbrev pub can_make : WorldValue → HoldingValue → Option ℕ → ℕ
-can_make w h asked = option_map_or (λ i. option_map_or (can_make_of h i) (slice_get w.items i) 0) asked 0
+abbrev pub most_makeable : WorldValue → HoldingValue → Option ℕ → ℕ
+most_makeable w h asked = option_map_or (λ i. option_map_or (most_makeable_of h i) (slice_get w.items i) 0) asked 0
 
 -- ---- what the terrains give
 
@@ -112,7 +112,7 @@ make_fault h (Some x) =
 abbrev pub produce_pots : PotMeaning
 produce_pots = record {
   fault = λ w u t. make_fault u.holding (item_of w (item_in t.order_value.operands));
-  want = λ w u t. can_make w u.holding (item_in t.order_value.operands);
+  want = λ w u t. most_makeable w u.holding (item_in t.order_value.operands);
   grants = made_amounts;
   event_number = λ w u made. made;
   paid = after_production;

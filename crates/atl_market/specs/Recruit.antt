@@ -40,8 +40,8 @@ abbrev pub recruits_at : WorldValue → CampaignValue → ℕ → ℕ
 recruits_at w c region = option_map_or (λ q. q.peasants / w.rules.recruit_fraction) (get c.regions region) 0
 
 -- a holding with so many recruits more, who have studied nothing, and their cost less
-abbrev pub with_men : HoldingValue → (recruits cost : ℕ) → HoldingValue
-with_men h recruits cost = record h { men = h.men + recruits; money = h.money - cost }
+abbrev pub with_paid_recruits : HoldingValue → (recruits cost : ℕ) → HoldingValue
+with_paid_recruits h recruits cost = record h { men = h.men + recruits; money = h.money - cost }
 
 -- a campaign after so many peasants of its region joined a unit, by its number; their price is paid and booked
 unfoldable pub after_recruiting : WorldValue → CampaignValue → ℕ × ℕ → CampaignValue
@@ -49,7 +49,7 @@ after_recruiting w c (n, recruits) =
     let cost = recruits * w.rules.recruit_price in
     at_unit c n (λ u.
     at_region c u.region (λ q.
-    let joined = with_holding c n (with_men u.holding recruits cost) in
+    let joined = with_holding c n (with_paid_recruits u.holding recruits cost) in
     with_amount (with_peasants joined u.region (q.peasants - recruits)) Recruiting Money (neg_ℤ (pos cost))))
 
 -- RECRUIT as a phase with pots: each order asks for a number of recruits. The event says how many joined.

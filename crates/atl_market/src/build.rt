@@ -11,7 +11,7 @@ ghost use Rattle.atl_records.specs.Limits.{last_unit, most_structures};
 ghost use Rattle.atl_records.specs.declared.records.Unit.{Unit};
 ghost use Rattle.atl_instant.specs.Bounds.{HaveRoom};
 ghost use Rattle.atl_instant.specs.OrderEffects.{faction_effect};
-ghost use Rattle.atl_market.specs.Build.{after_building_on, after_start, begin, begin_fault, build_moves, build_spec, build_step, go_on, inside_fault, is_building, is_structure_limit, name_prefix, outside_fault, size_added, with_new};
+ghost use Rattle.atl_market.specs.Build.{after_building_on, after_start, begin, begin_fault, build_moves, build_spec, build_step, go_on, inside_fault, is_building, is_structure_limit, name_prefix, outside_fault, size_added, with_new_structure};
 ghost use Rattle.atl_market.specs.Bounds.{CanBuild, build_reserve};
 ghost use Rattle.atl_market.specs.Making.{CanUse};
 
@@ -132,7 +132,7 @@ fn raise(
         ≡ None }
     requires room { campaign.old.value.next_structure ≤ most_structures }
     ensures what { OnOk result
-        (campaign.new.value ≡ with_new campaign.old.value number kind.now region size) }
+        (campaign.new.value ≡ with_new_structure campaign.old.value number kind.now region size) }
     ensures number { IfOk result (λ place. place ≡ campaign.old.value.next_structure) }
     ensures marks { OnOk result (MarksChanges campaign.old campaign.new) }
 {

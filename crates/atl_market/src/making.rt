@@ -7,7 +7,7 @@ ghost use Rattle.atl_state.specs.Covers.{MarksChanges};
 ghost use Rattle.atl_records.specs.Limits.{holding_limit};
 ghost use Rattle.atl_tables.specs.declared.world.Item.{Item};
 ghost use Rattle.atl_market.specs.Making.{CanMakeOf, CanUse};
-ghost use Rattle.atl_market.specs.Produce.{can_make, can_make_of, is_unskilled, item_of, lacks_raw, make_fault, up_to_raw, with_item_made, with_raw_used};
+ghost use Rattle.atl_market.specs.Produce.{is_unskilled, item_of, lacks_raw, make_fault, most_makeable, most_makeable_of, up_to_raw, with_item_made, with_raw_used};
 
 use crate::goods::{make_item, use_item};
 use atl_state::{Campaign, EventFault, HOLDING_LIMIT, Holding, level_in_any};
@@ -72,9 +72,9 @@ pub(crate) fn make_fault(world: &World, holding: &Holding, asked: Option<u16>) -
 }
 
 /// The most of an item that a unit can make, at most 999,999,999.
-fn can_make_of(holding: &Holding, number: u16, item: &Item) -> u32
+fn most_makeable_of(holding: &Holding, number: u16, item: &Item) -> u32
     requires { 1 ≤ item.now.raw_count }
-    ensures value { result ≡ can_make_of holding.now number item.now }
+    ensures value { result ≡ most_makeable_of holding.now number item.now }
     ensures bound { result ≤ most_amount }
 {
     let skilled = holding.men() * level_in_any(holding, item.skill);
@@ -83,12 +83,12 @@ fn can_make_of(holding: &Holding, number: u16, item: &Item) -> u32
 }
 
 /// The most that a unit can make of the item that its order names, at most 999,999,999.
-pub(crate) fn can_make(world: &World, holding: &Holding, asked: Option<u16>) -> u32
-    ensures value { result ≡ can_make world.now holding.now asked }
+pub(crate) fn most_makeable(world: &World, holding: &Holding, asked: Option<u16>) -> u32
+    ensures value { result ≡ most_makeable world.now holding.now asked }
     ensures bound { result ≤ most_amount }
 {
     match (asked, item_of(world, asked)) {
-        (Some(number), Some(item)) => can_make_of(holding, number, item),
+        (Some(number), Some(item)) => most_makeable_of(holding, number, item),
         _ => 0,
     }
 }

@@ -7,7 +7,7 @@ ghost use Rattle.atl_market.specs.Making.{CanProduce};
 ghost use Rattle.atl_market.specs.Produce.{after_production, is_produce, produce_keeps, produce_meaning, produce_moves, produce_pots};
 ghost use Rattle.atl_market.specs.AfterPots.{ProducesAtOnce};
 
-use crate::making::{can_make, make, make_fault};
+use crate::making::{make, make_fault, most_makeable};
 use crate::outputs::made_amounts;
 use crate::pot_phase::{PotPhase, named_item, share_out};
 use atl_instant::{Arrangement, Month, Phase, PhaseOrder, PhaseResult, PhaseVerbs, add_events};
@@ -41,7 +41,7 @@ impl PotPhase for ProducePhase {
     }
 
     fn want(&self, world: &World, unit: &Unit, order: PhaseOrder<'_>) -> u32 {
-        can_make(world, &unit.holding, named_item(order))
+        most_makeable(world, &unit.holding, named_item(order))
     }
 
     fn grants(

@@ -11,7 +11,7 @@ ghost use Rattle.atl_state.specs.Campaign.{with_amount, with_peasants};
 ghost use Rattle.atl_instant.specs.Holdings.{MarksNoGoods};
 ghost use Rattle.atl_instant.specs.Meaning.{most_moved};
 ghost use Rattle.atl_instant.specs.Bounds.{HaveRoom};
-ghost use Rattle.atl_market.specs.Recruit.{after_recruiting, is_recruit, recruit_keeps, recruit_meaning, recruit_moves, recruit_pots, recruits_at, with_men};
+ghost use Rattle.atl_market.specs.Recruit.{after_recruiting, is_recruit, recruit_keeps, recruit_meaning, recruit_moves, recruit_pots, recruits_at, with_paid_recruits};
 ghost use Rattle.atl_market.specs.Payable.{CanRecruit};
 ghost use Rattle.atl_market.specs.AfterPots.{RecruitsAtOnce};
 
@@ -67,7 +67,7 @@ fn join_unit(campaign: &mut Campaign, unit: u32, recruits: u32, cost: u32)
         → cost ≤ u.holding.money }
     ensures what { (u : Unit) → finmap.get campaign.old.value.units unit ≡ Some u
         → campaign.new.value ≡ with_holding campaign.old.value unit
-        (with_men u.holding recruits cost) }
+        (with_paid_recruits u.holding recruits cost) }
     ensures marks { MarksChanges campaign.old campaign.new }
     ensures goods { MarksNoGoods campaign.old.marks campaign.new.marks }
 {

@@ -20,7 +20,7 @@ use Rattle.atl_instant.specs.Meaning.{BookBound, Condition, IsNear, IsSameMonth,
 use Rattle.atl_instant.specs.Bounds.{HaveRoom}
 use Rattle.atl_instant.proofs.MonthLaws.{mailings_have_no_order}
 use Rattle.atl_instant.proofs.MeaningLaws.{MovesLess, near_more, room_when_sound}
-use Rattle.atl_month.specs.Month.{BooksAreNear, MonthHasNoOrder, after_month, month_meaning, month_moves, month_of, new_month, phases_moving}
+use Rattle.atl_month.specs.Month.{BooksAreNear, MailOrderDoesNotCount, after_month, month_meaning, month_moves, month_of, new_month, phases_moving}
 use Rattle.atl_month.specs.AfterSweep.{IsSwept}
 use Rattle.atl_month.proofs.CountLaws.{has_all_back}
 use Rattle.atl_month.proofs.MoveLaws.{month_within, moves_in_month, phases_little}
@@ -81,15 +81,15 @@ pub phases_room : (w : WorldValue) (c : CampaignValue) → IsSound w c → HaveR
 phases_room w c sound = room_when_sound w c phases_moving (λ e t. omega (arith, phases_little e t)) sound
 
 -- what comes of some phases over a month that has begun, and the events of it
-told_of : (phases : Meaning) (w : WorldValue) (c d : CampaignValue) (m n : MonthValue) (begin : MonthValue) (events : List Event) → (d, n) ≡ phases w c m → m ≡ begin → events ≡ n.events
+phases_result : (phases : Meaning) (w : WorldValue) (c d : CampaignValue) (m n : MonthValue) (begin : MonthValue) (events : List Event) → (d, n) ≡ phases w c m → m ≡ begin → events ≡ n.events
     → ◌≡◌ {A = CampaignValue × List Event} (d, events) ((phases w c begin).0, (phases w c begin).1.events)
-told_of phases w c d m n begin events meaning begins told = ap (λ (es : List Event). (d, es)) told ∙ ap (λ (p : CampaignValue × MonthValue). (p.0, p.1.events)) (meaning ∙ ap (phases w c) begins)
+phases_result phases w c d m n begin events meaning begins told = ap (λ (es : List Event). (d, es)) told ∙ ap (λ (p : CampaignValue × MonthValue). (p.0, p.1.events)) (meaning ∙ ap (phases w c) begins)
 
 pub month_is : (w : WorldValue) (c d : CampaignValue) (m n : MonthValue) (readings : FinMap nat_cmp Reading) (words : List ℕ) (events : List Event)
     → (d, n) ≡ month_meaning w c m → m ≡ new_month readings words → events ≡ n.events → (d, events) ≡ month_of w c readings words
 unfolding month_of
-month_is w c d m n readings words events meaning begins told = told_of month_meaning w c d m n (new_month readings words) events meaning begins told
+month_is w c d m n readings words events meaning begins told = phases_result month_meaning w c d m n (new_month readings words) events meaning begins told
 
 -- in which order mailings come isn't seen
-pub month_has_no_order : MonthHasNoOrder
-month_has_no_order w c words mailings others own same = ap (λ readings. month_of w c readings words) (mailings_have_no_order mailings others own same)
+pub mail_order_does_not_count : MailOrderDoesNotCount
+mail_order_does_not_count w c words mailings others own same = ap (λ readings. month_of w c readings words) (mailings_have_no_order mailings others own same)

@@ -9,8 +9,8 @@ use Rattle.atl_instant.specs.Meaning.{BookBound}
 use Rattle.atl_instant.specs.PhaseSpecs.{EachPhase, MovesItsOwn}
 use Rattle.atl_instant.proofs.MeaningLaws.{MovesLess}
 use Rattle.atl_instant.proofs.PhaseSpecLaws.{each_also, moved_within}
-use Rattle.atl_month.specs.Month.{PhasesMoveLittle, TwoMoveAtMost, closing_phases, early_phases, later_phases, month_moves, moving_phases, phases_moving}
-use Rattle.atl_month.proofs.PhaseLaws.{IsPhase, closing_move, early_are, later_are}
+use Rattle.atl_month.specs.Month.{PhasesMoveLittle, TwoMoveAtMost, early_phases, last_phases, later_phases, month_moves, moving_phases, phases_moving}
+use Rattle.atl_month.proofs.PhaseLaws.{IsPhase, early_are, last_move, later_are}
 
 -- so far a month moves any amount at most
 abbrev pub moves_in_month : BookBound
@@ -23,11 +23,11 @@ later_move : EachPhase MovesItsOwn later_phases
 later_move = each_also (λ phase (is : IsPhase phase). is.moves) later_phases later_are
 
 pub each_little : PhasesMoveLittle
-each_little = (early_move, later_move, closing_move)
+each_little = (early_move, later_move, last_move)
 
 pub month_within : MovesLess phases_moving month_moves
 month_within e t =
-    omega (arith, moved_within early_phases early_move e t, moved_within later_phases later_move e t, moved_within closing_phases closing_move e t)
+    omega (arith, moved_within early_phases early_move e t, moved_within later_phases later_move e t, moved_within last_phases last_move e t)
 
 -- ---- two phases at most move an amount
 

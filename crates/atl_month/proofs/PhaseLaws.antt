@@ -35,11 +35,11 @@ use Rattle.atl_instant.specs.Guard.{guard_spec}
 use Rattle.atl_action.specs.Walk.{walk_spec}
 use Rattle.atl_action.specs.Sail.{sail_spec}
 use Rattle.atl_action.specs.Study.{learn_spec}
-use Rattle.atl_month.specs.Month.{closing_phases, early_phases, later_phases}
+use Rattle.atl_month.specs.Month.{early_phases, last_phases, later_phases}
 use Rattle.atl_month.specs.Season.{season_spec}
 use Rattle.atl_month.specs.Sweep.{sweep_spec}
 use Rattle.atl_month.specs.Upkeep.{upkeep_spec}
-use Rattle.atl_month.proofs.UnmailedEndLaws.{season_leaves, sweep_closes, upkeep_leaves}
+use Rattle.atl_month.proofs.UnmailedEndLaws.{season_leaves, sweep_leaves, upkeep_leaves}
 
 -- ---- the books
 
@@ -154,8 +154,8 @@ later_are =
     ▹ is_phase produce_spec produce_alone produce_leaves
     ▹ tt
 
-pub closing_move : EachPhase MovesItsOwn closing_phases
-closing_move = work_alone ▹ upkeep_alone ▹ season_alone ▹ sweep_alone ▹ tt
+pub last_move : EachPhase MovesItsOwn last_phases
+last_move = work_alone ▹ upkeep_alone ▹ season_alone ▹ sweep_alone ▹ tt
 
-pub closing_leave : CloseTogether closing_phases
-closing_leave = work_leaves ▹ upkeep_leaves ▹ season_leaves ▹ sweep_closes
+pub last_leave : CloseTogether last_phases
+last_leave = work_leaves ▹ upkeep_leaves ▹ season_leaves ▹ sweep_leaves

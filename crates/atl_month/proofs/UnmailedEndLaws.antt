@@ -86,19 +86,19 @@ all_supplied c (s ∷ ss) n u there =
 abbrev by_event : ℕ → Event → ℕ
 by_event n e = if e.unit == n then men_starved_by e.verb e.outcome else 0
 
-abbrev told : ℕ → List UpkeepResult → ℕ
-told n ss = starved_in (map starved_event ss) n
+abbrev starved_reported : ℕ → List UpkeepResult → ℕ
+starved_reported n ss = starved_in (map starved_event ss) n
 
 -- the events tell of them
-starved_told_of : (ss : List UpkeepResult) (n : ℕ) → told n (filter starves ss) ≡ sum_by (among n) ss
-starved_told_of [] n = refl
-starved_told_of (s ∷ ss) n = by_test (starved_told_of ss n) (s.starved == 0) refl ∙ sym (sum_by-cons (among n) s ss)
+starved_are_reported : (ss : List UpkeepResult) (n : ℕ) → starved_reported n (filter starves ss) ≡ sum_by (among n) ss
+starved_are_reported [] n = refl
+starved_are_reported (s ∷ ss) n = by_test (starved_are_reported ss n) (s.starved == 0) refl ∙ sym (sum_by-cons (among n) s ss)
   where
     none : (a x : ℕ) (b : Bool) → a ≡ 0 → x ≡ (if b then a else 0) + x
     none a x true is = omega (arith, is)
     none a x false is = omega arith
 
-    by_test : told n (filter starves ss) ≡ sum_by (among n) ss → (b : Bool) → (s.starved == 0) ≡ b → told n (cond (not b) (s ∷ filter starves ss) (filter starves ss)) ≡ among n s + sum_by (among n) ss
+    by_test : starved_reported n (filter starves ss) ≡ sum_by (among n) ss → (b : Bool) → (s.starved == 0) ≡ b → starved_reported n (cond (not b) (s ∷ filter starves ss) (filter starves ss)) ≡ among n s + sum_by (among n) ss
     by_test rest true is = rest ∙ none s.starved (sum_by (among n) ss) (s.unit == n) (is_equal s.starved 0 is)
     by_test rest false is = sum_by-cons (by_event n) (starved_event s) (map starved_event (filter starves ss)) ∙ ap (λ x. among n s + x) rest
 
@@ -115,7 +115,7 @@ upkeep_leaves = record {
     all w c n = sum_by (among n) (upkeep_results w c)
 
     sums : (w : WorldValue) (c : CampaignValue) (m : MonthValue) (n : ℕ) → starved_in (upkeep_meaning w c m).1.events n ≡ starved_in m.events n + all w c n
-    sums w c m n = sum_by-append (by_event n) m.events (map starved_event (filter starves (upkeep_results w c))) ∙ ap (λ x. starved_in m.events n + x) (starved_told_of (upkeep_results w c) n)
+    sums w c m n = sum_by-append (by_event n) m.events (map starved_event (filter starves (upkeep_results w c))) ∙ ap (λ x. starved_in m.events n + x) (starved_are_reported (upkeep_results w c) n)
 
     more : (x y z : ℕ) → z ≡ x + y → x ≤ z
     more x y z is = omega (arith, is)
@@ -131,8 +131,8 @@ season_leaves =
     (λ w c m same n u there none. men_same c (season_meaning w c m).0 same n u there)
     (λ w c m same n u there none. record { unit = u; there = ap (λ (units : FinMap nat_cmp Unit). get units n) same ∙ there; spared = record { name = refl; items = λ i. omega arith } })
 
-pub sweep_closes : ClosesUnmailed sweep_meaning sweep_keeps
-sweep_closes = record {
+pub sweep_leaves : ClosesUnmailed sweep_meaning sweep_keeps
+sweep_leaves = record {
   told = λ w c m n. omega arith;
   left = λ w c m keeps n u there none some.
       let (v, behind, kept) = keeps n u there (some_men (starved_in m.events n) u.holding.men some) in

@@ -18,16 +18,16 @@ use Rattle.atl_instant.specs.OrderEffects.{IsUnaffected}
 use Rattle.atl_instant.specs.Unmailed.{IsLeft, IsLessBy, starved_in}
 use Rattle.atl_instant.proofs.UnmailedLaws.{ClosesUnmailed, both_leave, then_closes}
 use Rattle.atl_instant.proofs.PhaseSpecLaws.{closed_together, each_also, leave_together}
-use Rattle.atl_month.specs.Month.{closing_phases, early_phases, later_phases, month_keeps, month_meaning, month_of, new_month}
-use Rattle.atl_month.proofs.PhaseLaws.{IsPhase, closing_leave, early_are, later_are}
+use Rattle.atl_month.specs.Month.{early_phases, last_phases, later_phases, month_keeps, month_meaning, month_of, new_month}
+use Rattle.atl_month.proofs.PhaseLaws.{IsPhase, early_are, last_leave, later_are}
 use Rattle.atl_month.specs.Unmailed.{SentNone, UnmailedAreLeft}
 
 -- ---- the month
 
-month_closes : ClosesUnmailed month_meaning month_keeps
-month_closes =
+month_leaves : ClosesUnmailed month_meaning month_keeps
+month_leaves =
     then_closes (both_leave (leave_together early_phases (each_also (λ phase (is : IsPhase phase). is.leaves) early_phases early_are)) (leave_together later_phases (each_also (λ phase (is : IsPhase phase). is.leaves) later_phases later_are)))
-    (closed_together closing_phases closing_leave)
+    (closed_together last_phases last_leave)
 
 -- where no mailing is a faction's, none is read
 none_read : (f : ℕ) (ms : List Mailing) → SentNone ms f → get (by_faction (map reading_of ms)) f ≡ None
@@ -57,4 +57,4 @@ pub unmailed_left : (w : WorldValue) (c d : CampaignValue) (ms : List Mailing) (
     → month_keeps w (new_month (by_faction (map reading_of ms)) words) c d → UnmailedAreLeft ms events c d
 unfolding month_of
 unmailed_left w c d ms words events is kept n u there none =
-    left_behind month_meaning month_keeps month_closes w c d (new_month (by_faction (map reading_of ms)) words) events refl is kept n u there (none_read u.faction ms none)
+    left_behind month_meaning month_keeps month_leaves w c d (new_month (by_faction (map reading_of ms)) words) events refl is kept n u there (none_read u.faction ms none)

@@ -311,8 +311,8 @@ module _ (c : CampaignValue) where
       AllPairs-cons (λ (p q : UpkeepInput). p.unit < q.unit) (upkeep_input_of e) (map upkeep_input_of es)
       (All-map (λ (q : UpkeepInput). e.0 < q.unit) upkeep_input_of es (All-from_recursion (λ (f : ℕ × Unit). e.0 < f.0) es rise.0)) (in_order es rise.1)
 
-  pub purses_in_order : AreInOrder (upkeep_inputs_of c)
-  purses_in_order = in_order (entries c.units) (entries_rise c.units)
+  pub inputs_in_order : AreInOrder (upkeep_inputs_of c)
+  inputs_in_order = in_order (entries c.units) (entries_rise c.units)
 
 module _ (w : WorldValue) (c : CampaignValue) (some : 1 ≤ w.rules.maintenance) (steady : IsSteady w c) (room : HaveRoom (takes_up_to most_moved) c) where
   abbrev list : List UpkeepResult
@@ -332,8 +332,8 @@ module _ (w : WorldValue) (c : CampaignValue) (some : 1 ≤ w.rules.maintenance)
       scaled k few false false = omega (arith, few)
 
   -- each unit can spare what is taken from it when its turn comes
-  pub all_settle : CanInTurn (CanPayUpkeep w) upkeep_at c list
-  all_settle =
+  pub all_can_pay : CanInTurn (CanPayUpkeep w) upkeep_at c list
+  all_can_pay =
       settled_in_turn w some (upkeep_inputs_of c) (entries c.units) c (entries_rise c.units)
       (each-from_every (λ n u. get c.units n ≡ Some u) c.units (λ n u is. is)) steady
       (room_less (moved_times (length list) (takes_up_to most_amount)) (takes_up_to most_moved) c little room)
@@ -341,7 +341,7 @@ module _ (w : WorldValue) (c : CampaignValue) (some : 1 ≤ w.rules.maintenance)
   pub upkeep_leaves_well : LeavesWell IsSteady (takes_up_to most_moved) w c (upkeep c list)
   upkeep_leaves_well =
       well_within (moved_times (length list) (takes_up_to most_amount)) (takes_up_to most_moved) w c (upkeep c list) little
-      (turns_leave_well (takes_up_to most_amount) w (CanPayUpkeep w) upkeep_at (upkeep_at_leaves_well w) c list steady all_settle)
+      (turns_leave_well (takes_up_to most_amount) w (CanPayUpkeep w) upkeep_at (upkeep_at_leaves_well w) c list steady all_can_pay)
 
 -- ---- where nobody starves
 

@@ -49,8 +49,8 @@ abbrev pub later_phases : List PhaseSpec
 later_phases = guard_spec ∷ quit_spec ∷ walk_spec ∷ sail_spec ∷ build_spec ∷ learn_spec ∷ produce_spec ∷ []
 
 -- the phases after those: WORK, upkeep, season, sweep
-abbrev pub closing_phases : List PhaseSpec
-closing_phases = work_spec ∷ upkeep_spec ∷ season_spec ∷ sweep_spec ∷ []
+abbrev pub last_phases : List PhaseSpec
+last_phases = work_spec ∷ upkeep_spec ∷ season_spec ∷ sweep_spec ∷ []
 
 -- the meaning of all phases from FORM to PRODUCE
 abbrev pub orders_meaning : Meaning
@@ -62,11 +62,11 @@ orders_keep = both_keep (meaning_of early_phases) (keeps_of early_phases) (keeps
 
 -- the meaning of a month, from its first phase to its last
 abbrev pub month_meaning : Meaning
-month_meaning = then_also orders_meaning (meaning_of closing_phases)
+month_meaning = then_also orders_meaning (meaning_of last_phases)
 
 -- what the phases of a month leave alone, each over the campaigns before and after that phase
 abbrev pub month_keeps : Frame
-month_keeps = both_keep orders_meaning orders_keep (keeps_of closing_phases)
+month_keeps = both_keep orders_meaning orders_keep (keeps_of last_phases)
 
 -- the campaign after the phases of a month, and its events; the month isn't counted and the mail not removed yet
 unfoldable pub month_of : WorldValue → CampaignValue → FinMap nat_cmp Reading → List ℕ → CampaignValue × List Event
@@ -76,11 +76,11 @@ month_of w c readings words = let behind = month_meaning w c (new_month readings
 
 -- the law that each phase of a month moves the amounts of its own entries alone, and each by less than 10^14
 abbrev pub PhasesMoveLittle : Type 0
-PhasesMoveLittle = EachPhase MovesItsOwn early_phases × EachPhase MovesItsOwn later_phases × EachPhase MovesItsOwn closing_phases
+PhasesMoveLittle = EachPhase MovesItsOwn early_phases × EachPhase MovesItsOwn later_phases × EachPhase MovesItsOwn last_phases
 
 -- how many phases of a month may move the amount under an entry and of a thing
 abbrev pub moving_phases : Entry → Thing → ℕ
-moving_phases e t = moving_phases_of early_phases e t + moving_phases_of later_phases e t + moving_phases_of closing_phases e t
+moving_phases e t = moving_phases_of early_phases e t + moving_phases_of later_phases e t + moving_phases_of last_phases e t
 
 -- the law that at most two phases of a month may move an amount of the books
 abbrev pub TwoMoveAtMost : Type 0
@@ -92,7 +92,7 @@ orders_moving = both_move (moving_of early_phases) (moving_of later_phases)
 
 -- the bound on how far all phases of a month together may move each amount of the books
 abbrev pub phases_moving : BookBound
-phases_moving = both_move orders_moving (moving_of closing_phases)
+phases_moving = both_move orders_moving (moving_of last_phases)
 
 -- the bound on how far a month may move an amount of the books: 10^14 - 1 for each phase that may move it
 abbrev pub month_moves : BookBound
@@ -105,8 +105,8 @@ BooksAreNear moving before after = (e : Entry) (t : Thing) → IsNear (moving e 
 -- ---- the mailings
 
 -- the law that the mailings of a month, given in another order, make the same campaign and the same events
-abbrev pub MonthHasNoOrder : Type 0
-MonthHasNoOrder =
+abbrev pub MailOrderDoesNotCount : Type 0
+MailOrderDoesNotCount =
     (w : WorldValue) (c : CampaignValue) (words : List ℕ) (mailings others : List Mailing) → HaveOwnFactions mailings → IsPermutation mailings others →
     month_of w c (by_faction (map reading_of mailings)) words ≡ month_of w c (by_faction (map reading_of others)) words
 

@@ -9,7 +9,7 @@ ghost use Rattle.atl_records.specs.Limits.{last_month};
 ghost use Rattle.atl_instant.specs.Month.{HaveOwnFactions, by_faction};
 ghost use Rattle.atl_instant.specs.Fit.{AreFit};
 ghost use Rattle.atl_instant.specs.Meaning.{IsSameMonth, LeavesWell};
-ghost use Rattle.atl_month.specs.Month.{BooksAreNear, MonthHasNoOrder, PhasesMoveLittle, TwoMoveAtMost, after_month, month_keeps, month_meaning, month_moves, month_of, new_month, phases_moving};
+ghost use Rattle.atl_month.specs.Month.{BooksAreNear, MailOrderDoesNotCount, PhasesMoveLittle, TwoMoveAtMost, after_month, month_keeps, month_meaning, month_moves, month_of, new_month, phases_moving};
 ghost use Rattle.atl_month.specs.AfterSweep.{IsSwept};
 ghost use Rattle.atl_month.specs.Unmailed.{UnmailedAreLeft};
 
@@ -86,7 +86,7 @@ pub fn close_month(
 /// Does nothing. Its clause is the law that the mailings of a month, given in another order, make
 /// the same campaign and the same events.
 pub fn months_have_no_order()
-    ensures { MonthHasNoOrder }
+    ensures { MailOrderDoesNotCount }
 {}
 
 /// Does nothing. Its clauses are the laws of what a month books: each phase moves the amounts of
