@@ -1,4 +1,4 @@
--- What each payment of a phase with pots makes of a unit and of its region: so all change at once.
+-- Laws that TAX, RECRUIT, WORK and PRODUCE change all units and regions at once, from what one payment changes.
 use Rattle.std.proofs.Common.{◌≡◌, ℕ, ◌+◌, ◌-◌, ◌*◌, true, false, Option, Some, None, refl, ap, ◌∙◌, arith}
 use Rattle.std.specs.List.{slice_get}
 use Rattle.std.specs.Option.{option_map_or}
@@ -22,7 +22,7 @@ use Rattle.atl_market.proofs.AtOnceLaws.{Pays, all_at_once}
 use Rattle.atl_market.proofs.GoodsLaws.{made_unit, used_unit}
 use Rattle.atl_market.proofs.PotLaws.{only_takers_get, pots_give}
 use Rattle.atl_market.proofs.ProduceLaws.{given_can, produced_others}
-use Rattle.atl_market.proofs.MoneyInTurnLaws.{others_stay, paid_unit}
+use Rattle.atl_market.proofs.MoreMoneyLaws.{others_stay, paid_unit}
 use Rattle.atl_market.proofs.RecruitLaws.{leave, recruited_is, recruited_others}
 use Rattle.atl_market.proofs.TaxLaws.{drain, taxed_is}
 use Rattle.atl_market.proofs.WantLaws.{given_is_wanted}
@@ -38,6 +38,7 @@ less_both a s t = omega arith
 -- ---- TAX
 
 module _ (w : WorldValue) where
+  -- one payment of TAX changes its unit and region alone, by so much money
   tax_pays : Pays true (λ d e. after_tax d e) (λ n. with_more_money) with_less_money
   tax_pays = record {
     mine = λ d e u is (q, around). ap (λ (s : CampaignValue). get s.units e.0) (taxed_is w d e u q is around) ∙ get-insert_same d.units e.0 (paid_unit d e.0 u e.1);
@@ -60,6 +61,7 @@ taxes_at_once w c os =
 -- ---- RECRUIT
 
 module _ (w : WorldValue) where
+  -- one payment of RECRUIT changes its unit and region alone, by its recruits and their price
   recruit_pays : Pays true (after_recruiting w) (λ n. with_recruits w) with_less_peasants
   recruit_pays = record {
     mine = λ d e u is (q, around).
@@ -83,6 +85,7 @@ recruits_at_once w c os =
 -- ---- WORK
 
 module _ (w : WorldValue) where
+  -- one payment of WORK changes its unit alone, by its wages
   work_pays : Pays false (after_work w) (λ n u places. with_more_money u (wages_for w u.region places)) unchanged_region
   work_pays = record {
     mine = λ d e u is here. ap (λ (s : CampaignValue). get s.units e.0) (worked_is w d e u is) ∙ get-insert_same d.units e.0 (paid_unit d e.0 u (wages_for w u.region e.1));
@@ -135,6 +138,7 @@ module _ (asked : FinMap nat_cmp ℕ) (w : WorldValue) where
       by_item None = is
       by_item (Some i) = by_world i (slice_get w.items i)
 
+  -- one unit's making changes that unit alone, by what it made and the raw items
   produce_pays : Pays false (after_production asked w) (λ n u made. maker_by w u made (get asked n)) unchanged_region
   produce_pays = record {
     mine = λ d e u is here. produced_unit d e u is;

@@ -1,4 +1,4 @@
--- What each trade makes of a unit and of the stocks of its region: so all units trade at once.
+-- Laws that SELL and BUY change all units and stocks at once, from what one trade changes.
 use Rattle.std.proofs.Common.{◌≡◌, ◌≢◌, ◌==◌, ◌&&◌, ℕ, ◌+◌, ◌≤◌, ◌<◌, Bool, true, false, cond, Option, Some, None, List, [], ◌∷◌, refl, sym, ap, subst, ◌∙◌, inl, inr, arith}
 use Rattle.std.specs.Prelude.{fold}
 use Rattle.std.specs.List.{AllByRecursion}
@@ -37,14 +37,14 @@ use Rattle.atl_market.proofs.PotLaws.{found_other}
 use Rattle.atl_market.proofs.TradeLaws.{market_is, stock_is, told_there, traded_is, traded_others, trades_give}
 use Rattle.atl_market.proofs.WantLaws.{given_is_named}
 
--- ---- what a deal leaves
+-- ---- what a trade leaves
 
--- of what a unit holds, whatever the stock is
+-- what a unit holds after a trade, whatever the stock is
 trade_is : (trade : Trade) (h : HoldingValue) (stock share : ℕ) (m : Market) → with_trade_result h m.item (trade_result_of trade h stock share m) ≡ with_trade trade h share m
 trade_is Sell h stock share m = refl
 trade_is Buy h stock share m = refl
 
--- of the stock, whatever the unit holds
+-- what the stock is after a trade, whatever the unit holds
 stock_traded : (trade : Trade) (h : HoldingValue) (stock share : ℕ) (m : Market) → (trade_result_of trade h stock share m).stock ≡ stock_after trade stock share
 stock_traded Sell h stock share m = refl
 stock_traded Buy h stock share m = refl
@@ -67,6 +67,7 @@ module _ (d : CampaignValue) (n : ℕ) (u : Unit) (i : ℕ) (entry : Entry) (dea
 -- ---- one unit trades
 
 module _ (trade : Trade) (items : FinMap nat_cmp ℕ) (w : WorldValue) where
+  -- what a unit is after a trade of so many
   abbrev trader : ℕ → UnitChange
   trader n u share = trader_of trade u share (market_for w u (get items n))
 
@@ -82,12 +83,14 @@ module _ (trade : Trade) (items : FinMap nat_cmp ℕ) (w : WorldValue) where
           ∙ ap (λ k. get k e.0) (dealt_units d e.0 u m.item (trade_entry trade) deal is) ∙ get-insert_same d.units e.0 (record u { holding = with_trade_result u.holding m.item deal })
           ∙ ap (λ h. Some (record u { holding = h })) (trade_is trade u.holding stock e.1 m)
 
--- what a unit that is told to trade an item leaves of a region's stock of it
+-- what the trade of a unit leaves of a region's stocks
 module _ (trade : Trade) (items : FinMap nat_cmp ℕ) (w : WorldValue) (units : FinMap nat_cmp Unit) (d : CampaignValue) (e : ℕ × ℕ) (u : Unit)
     (is : get d.units e.0 ≡ Some u) (there : get units e.0 ≡ Some u) where
+  -- how many of item `i` the unit takes from, or adds to, the stock of region `r`
   abbrev drawn_here : (r i : ℕ) → ℕ
   drawn_here r i = cond (told_there units items (r, i) e.0) e.1 0
 
+  -- region `r`, which was `q`, is after the trade there with its stocks changed as they should be
   abbrev IsTraded : ℕ → Region → Type 0
   IsTraded r q = HasNewStocks q (stock_after trade) (drawn_here r) (get (after_trade trade items w d e).regions r)
 
@@ -120,7 +123,7 @@ module _ (trade : Trade) (items : FinMap nat_cmp ℕ) (w : WorldValue) (units : 
     undrawn : (r i stock : ℕ) → told_there units items (r, i) e.0 ≡ false → stock ≡ stock_after trade stock (drawn_here r i)
     undrawn r i stock other = sym (ap (λ b. stock_after trade stock (cond b e.1 0)) other ∙ none_traded trade stock)
 
-    -- the region where the unit stands
+    -- the trade leaves the stocks of the unit's own region as it should
     here : (r : ℕ) (q : Region) → r ≡ u.region → get d.regions r ≡ Some q → IsTraded r q
     here r q same around = record {
       stocks = with_amount_of q.stocks m.item deal.stock;
@@ -149,7 +152,7 @@ module _ (trade : Trade) (items : FinMap nat_cmp ℕ) (w : WorldValue) (units : 
               ∙ undrawn r i (amount_of q.stocks i) (mine i ∙ other_number m.item i (λ one. apart (sym one)))
         ]
 
-    -- any other
+    -- the trade leaves the stocks of any other region as it should
     elsewhere : (r : ℕ) (q : Region) → r ≢ u.region → get d.regions r ≡ Some q → IsTraded r q
     elsewhere r q apart around = record {
       stocks = q.stocks;
@@ -172,7 +175,7 @@ module _ (trade : Trade) (items : FinMap nat_cmp ℕ) (w : WorldValue) where
   abbrev step : CampaignValue → ℕ × ℕ → CampaignValue
   step d e = after_trade trade items w d e
 
-  -- who has traded doesn't trade again
+  -- a unit whose number is below those still to come stays as it is
   traded_once : (d : CampaignValue) (es : List (ℕ × ℕ)) (n : ℕ) → AllByRecursion (λ e. n < e.0) es → get (fold (after_trade trade items w) d es).units n ≡ get d.units n
   traded_once d [] n above = refl
   traded_once d (e ∷ es) n above = traded_once (step d e) es n above.1 ∙ traded_others trade items w d e n (λ same. absurd (omega (arith, same, above.0)))
@@ -191,7 +194,7 @@ module _ (trade : Trade) (items : FinMap nat_cmp ℕ) (w : WorldValue) where
   ]
 
   module _ (c : CampaignValue) where
-    -- a unit is there, and has no share where there is no market for it
+    -- the unit of a share is there, and its share is 0 where there is no market for it
     abbrev Trades : ℕ × ℕ → Type 0
     Trades e = (u : Unit) × (get c.units e.0 ≡ Some u) × (market_for w u (get items e.0) ≡ None → e.1 ≡ 0)
 
@@ -222,7 +225,7 @@ module _ (trade : Trade) (w : WorldValue) (c : CampaignValue) (os : List Task) w
   none_left : (share : ℕ) → share ≤ 0 → share ≡ 0
   none_left share low = omega (arith, low)
 
-  -- who wants something by an order has the market of the item that the order names
+  -- a unit whose region has no market for its order's item has a share of 0
   without_share : (n share : ℕ) (u : Unit) (asked : ℕ) (s : Option ℕ) → share ≤ trade_want trade u.holding asked (market_for w u s)
       → ((i : ℕ) → s ≡ Some i → get named n ≡ Some i) → market_for w u (get named n) ≡ None → share ≡ 0
   without_share n share u asked None low told at = none_left share low

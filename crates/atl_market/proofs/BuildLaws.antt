@@ -1,4 +1,4 @@
--- BUILD leaves a campaign well, and spares who doesn't order it.
+-- Laws of BUILD: it leaves a campaign well, leaves units without an order as they are, and the code does what is defined.
 use Rattle.std.proofs.Common.{◌≡◌, ◌≢◌, ◌==◌, ℕ, ◌+◌, ◌-◌, ◌*◌, ◌≤◌, ◌<◌, Bool, true, false, not, [], ◌∷◌, length, Option, Some, None, refl, sym, ap, subst, ◌∙◌, arith}
 use Rattle.std.proofs.lemmas.Bool.{not-false, true≢false}
 use Rattle.std.specs.Prelude.{IfSome, min, nat_le, nat_lt, option_and_then, option_map, if◌then◌else◌}
@@ -59,12 +59,13 @@ some n is = grind (arith, nat_tests)
 more_than : (a b : ℕ) → nat_le a b ≡ false → b < a
 more_than a b is = grind (arith, nat_tests)
 
--- ---- the structures are as many as numbers are given
+-- ---- structures are numbered from 1 without a gap
 
+-- where fewer than 10,000 structures are there, the next number is at most 10,000
 pub next_within : (c : CampaignValue) → IsNumbered c.structures c.next_structure → len c.structures < most_structures → c.next_structure ≤ most_structures
 next_within c numbered room = omega (arith, numbered.count, room)
 
--- the next number tells whether no further structure can come
+-- no further structure may be begun exactly if the next number is above 10,000
 pub limit_by_next : (c : CampaignValue) → IsNumbered c.structures c.next_structure → nat_lt most_structures c.next_structure ≡ is_structure_limit c
 limit_by_next c numbered = rw numbered.count (by_count most_structures (len c.structures))
   where
@@ -73,7 +74,7 @@ limit_by_next c numbered = rw numbered.count (by_count most_structures (len c.st
 
 -- ---- where no fault fits
 
--- a unit that begins a structure of a kind
+-- a unit has all that it needs to begin a structure of a kind
 pub record CanBegin (w : WorldValue) (c : CampaignValue) (u : Unit) (k : Kind) : Type 0 where
   pub men : 1 ≤ u.holding.men
   pub land : is_land_at w u.region ≡ true
@@ -81,6 +82,7 @@ pub record CanBegin (w : WorldValue) (c : CampaignValue) (u : Unit) (k : Kind) :
   pub material : 1 ≤ amount_of u.holding.items k.material
   pub room : len c.structures < most_structures
 
+-- a unit without a fault has it
 pub can_begin : (w : WorldValue) (c : CampaignValue) (u : Unit) (k : Kind) → begin_fault w c u k ≡ None → CanBegin w c u k
 can_begin w c u k is =
     let limit = (is_structure_limit c, StructureLimit) ∷ [] in
@@ -99,13 +101,14 @@ can_begin w c u k is =
       room = more_than most_structures (len c.structures) five.0;
     }
 
--- a unit that goes on with a structure
+-- a unit has all that it needs to go on with a structure
 pub record CanGoOn (u : Unit) (s : Structure) (k : Kind) : Type 0 where
   pub men : 1 ≤ u.holding.men
   pub missing : s.done < k.size
   pub skill : k.level ≤ level_in u.holding k.skill
   pub material : 1 ≤ amount_of u.holding.items k.material
 
+-- a unit without a fault has it
 pub can_go_on : (u : Unit) (s : Structure) (k : Kind) → inside_fault u s k ≡ None → CanGoOn u s k
 can_go_on u s k is =
     let material = (amount_of u.holding.items k.material == 0, NoMaterial) ∷ [] in
@@ -136,9 +139,11 @@ product : (a b : ℕ) → 1 ≤ a → 1 ≤ b → 1 ≤ a * b
 product a b l m = let h : a * 1 ≤ a * b = mul-le-mul_left a m in omega (arith, l, h)
 
 module _ (k : Kind) (h : HoldingValue) (done : ℕ) where
+  -- the size that is added is at most the material held
   pub size_held : size_added k h done ≤ amount_of h.items k.material
   size_held = within_of (h.men * level_in h k.skill) (amount_of h.items k.material) (k.size - done)
 
+  -- the size that is added is at most what is missing of the structure
   pub size_missing : size_added k h done ≤ k.size - done
   size_missing = missing_of (h.men * level_in h k.skill) (amount_of h.items k.material) (k.size - done)
 
@@ -155,6 +160,7 @@ module _ (w : WorldValue) (c : CampaignValue) (n kind : ℕ) (u : Unit) (k : Kin
   abbrev size : ℕ
   size = size_added k u.holding 0
 
+  -- the campaign after the unit used its material
   abbrev one : CampaignValue
   one = used w c n k.material size u is
 
@@ -164,6 +170,7 @@ module _ (w : WorldValue) (c : CampaignValue) (n kind : ℕ) (u : Unit) (k : Kin
   begun_is : after_start c n kind k u.region size ≡ from_used one
   begun_is = ap from_used (used_is w c n k.material size u is)
 
+  -- beginning a structure leaves the other units as they are
   begun_stays : (j : ℕ) → j ≢ n → get (after_start c n kind k u.region size).units j ≡ get c.units j
   begun_stays j apart =
       ap (λ (d : CampaignValue). get d.units j) begun_is ∙ place_stays (with_new_structure one kind k u.region size) n u.region c.next_structure j apart
@@ -222,6 +229,7 @@ module _ (w : WorldValue) (c : CampaignValue) (n : ℕ) (u : Unit) (s : Structur
   on_is : after_building_on c n k.material added u.structure (s.done + added) ≡ further paid
   on_is = ap further (used_is w c n k.material added u is)
 
+  -- going on with a structure leaves the other units as they are
   on_stays : (j : ℕ) → j ≢ n → get (after_building_on c n k.material added u.structure (s.done + added)).units j ≡ get c.units j
   on_stays j apart = ap (λ (d : CampaignValue). get d.units j) on_is ∙ others_stay w c n k.material added u is j apart
 
@@ -243,7 +251,7 @@ module _ (w : WorldValue) (c : CampaignValue) (n : ℕ) (u : Unit) (s : Structur
 
 -- ---- an order
 
--- what is so of the campaign as it is, and of that in which the structure is begun, is so of the campaign behind the order
+-- what holds of the campaign as it is, and as the structure is begun, holds of it after `BUILD kind`
 begin_cases : (P : CampaignValue → Type 0) (w : WorldValue) (c : CampaignValue) (n kind : ℕ) (k : Kind) (u : Unit) → P c
     → (CanBegin w c u k → P (after_start c n kind k u.region (size_added k u.holding 0))) → P (begin w n kind k c u).0
 unfolding begin
@@ -253,7 +261,7 @@ begin_cases P w c n kind k u same go = by_fault (begin_fault w c u k) refl
     by_fault (Some fault) e = same
     by_fault None e = go (can_begin w c u k e)
 
--- and so where a unit goes on
+-- what holds of the campaign as it is, and as more is done of the structure, holds of it after `BUILD`
 go_on_cases : (P : CampaignValue → Type 0) (w : WorldValue) (c : CampaignValue) (n : ℕ) (u : Unit) → P c
     → ((s : Structure) (k : Kind) → get c.structures u.structure ≡ Some s → slice_get w.kinds s.kind ≡ Some k → CanGoOn u s k
     → P (after_building_on c n k.material (size_added k u.holding s.done) u.structure (s.done + size_added k u.holding s.done))) → P (go_on w n c u).0
@@ -292,6 +300,7 @@ module _ (w : WorldValue) (c : CampaignValue) (n : ℕ) (u : Unit) (is : get c.u
 
 -- ---- what all units hold of an item
 
+-- what BUILD may still book is within the bound of the phase
 reserve_within : (w : WorldValue) (c : CampaignValue) → CanBuild w c → (e : Entry) (t : Thing) → build_reserve c e t ≤ build_moves e t
 reserve_within w c can e t = by_thing t
   where
@@ -318,6 +327,7 @@ reserve_within w c can e t = by_thing t
 
 -- ---- the phase
 
+-- BUILD carries out its orders as a phase of orders must: within its bounds, and others are no worse off
 pub build_orderly : IsOrderly build_step CanBuild build_reserve build_moves IsOwnOrder IsNoWorse
 build_orderly = record {
   well = λ w a c t x can fit own. well w c t.unit x own.there can t.order_value.operands;
@@ -359,18 +369,21 @@ can_use w c n item amount u is enough known can room = record {
   room = used_room c n item amount u is enough room;
 }
 
--- ---- what the code does is what is said
+-- ---- the code does what is defined
 
--- a structure and its kind that stand under a number
+-- a structure numbered `place`, and its kind, are what `structure_and_kind_at` finds
 built_is_both : (w : WorldValue) (c : CampaignValue) (place : ℕ) (s : Structure) (k : Kind) → get c.structures place ≡ Some s → slice_get w.kinds s.kind ≡ Some k → structure_and_kind_at w c place ≡ Some (s, k)
 built_is_both w c place s k there kind_is = ap (option_and_then (with_kind w)) there ∙ ap (option_map {U = Structure × Kind} (λ x. (s, x))) kind_is
 
+-- a campaign and outcome after a structure was begun
 abbrev begun_outcome : CampaignValue → (n kind : ℕ) → Kind → (region size : ℕ) → CampaignValue × Outcome
 begun_outcome c n kind k region size = (after_start c n kind k region size, Done size)
 
+-- a campaign and outcome after more was done of a structure
 abbrev on_outcome : CampaignValue → (n material size place done : ℕ) → CampaignValue × Outcome
 on_outcome c n material size place done = (after_building_on c n material size place done, Done size)
 
+-- where no fault fits, what the code does and returns for `BUILD kind` is what is defined
 pub begin_done : (w : WorldValue) (c d : CampaignValue) (f n kind : ℕ) (u : Unit) (k : Kind) (size told : ℕ) → of_faction f (get c.units n) ≡ Some u → begin_fault w c u k ≡ None
     → d ≡ after_start c n kind k u.region size → told ≡ size → size ≡ size_added k u.holding 0 → (d, Done told) ≡ faction_effect (begin w n kind k) c f n
 unfolding begin
@@ -379,6 +392,7 @@ begin_done w c d f n kind u k size told is none first told_is size_is =
     let chain : faction_effect (begin w n kind k) c f n ≡ whole = ap (effect_on (begin w n kind k) c) is ∙ ap (λ o. unless c o whole) none in
     rw (first, told_is, size_is) (sym chain)
 
+-- where no fault fits, what the code does and returns for `BUILD` is what is defined
 pub go_on_done : (w : WorldValue) (c d : CampaignValue) (f n : ℕ) (u : Unit) (s : Structure) (k : Kind) (size told : ℕ) → of_faction f (get c.units n) ≡ Some u → get c.structures u.structure ≡ Some s → slice_get w.kinds s.kind ≡ Some k
     → inside_fault u s k ≡ None → d ≡ after_building_on c n k.material size u.structure (s.done + size) → told ≡ size → size ≡ size_added k u.holding s.done → (d, Done told) ≡ faction_effect (go_on w n) c f n
 unfolding go_on
@@ -388,7 +402,7 @@ go_on_done w c d f n u s k size told is there kind_is none first told_is size_is
     let chain : faction_effect (go_on w n) c f n ≡ whole = ap (effect_on (go_on w n) c) is ∙ ap (go_on_at c n u) (built_is_both w c u.structure s k there kind_is) ∙ ap (λ o. unless c o whole) none in
     rw (first, told_is, size_is) (sym chain)
 
--- what is done then isn't more than the kind's size
+-- where no fault fits, what is done of a structure then is at most the greatest size of a kind
 pub done_small : (u : Unit) (s : Structure) (k : Kind) → inside_fault u s k ≡ None → k.size ≤ most_size → s.done + size_added k u.holding s.done ≤ most_size
 done_small u s k none small = up (size_added k u.holding s.done) s.done k.size (size_missing k u.holding s.done) (can_go_on u s k none).missing small
   where

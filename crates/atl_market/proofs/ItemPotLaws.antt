@@ -1,4 +1,4 @@
--- Pots of items: the shares that are put region by region and item by item are those of the definition.
+-- Laws of pots of items: the code's shares, put region by region and item by item, are those of the definition.
 use Rattle.std.proofs.Common.{◌≡◌, ℕ, ◌≤◌, ◌==◌, ◌||◌, ◌&&◌, Bool, true, false, cond, List, [], ◌∷◌, ◌++◌, map, filter, Option, Some, None, is_some, T, refl, sym, ap, subst, ◌∙◌, inl, inr}
 use Rattle.std.specs.Prelude.{fold, option_and_then, option_map, unwrap_or}
 use Rattle.std.specs.List.{AllByRecursion, cons_option, filter_map, flat_map, list_any, zip}
@@ -24,9 +24,10 @@ use Rattle.atl_market.specs.Puts.{with_each}
 use Rattle.atl_market.specs.Share.{shares}
 use Rattle.atl_market.proofs.PotLaws.{Entries, IsApart, IsRisen, as_pairs, found_first, found_head, found_is, found_later, found_other, found_put, found_tail, given_apart, given_is, given_takes, left, pots_give, somewhere, takers_risen}
 
--- ---- entries that tell what a function tells, put in turn
+-- ---- entries that agree with a function, put in turn
 
 module _ (g : ℕ → Option ℕ) where
+  -- each entry's value is what the function has for its number
   abbrev AgreeWith : Entries → Type 0
   AgreeWith es = AllByRecursion (λ e. g e.0 ≡ Some e.1) es
 
@@ -48,7 +49,7 @@ module _ (g : ℕ → Option ℕ) where
     | inr apart ↦ agreeing_comes (insert m e.0 e.1) es n s tells.1 is (ap is_some (sym (found_other e es n apart)) ∙ some)
   ]
 
-  -- once all that it tells is among them
+  -- agreeing entries that have all numbers of the function make, put in turn, the map of the function
   pub agreeing_put : (es : Entries) → AgreeWith es → ((n s : ℕ) → g n ≡ Some s → is_some (find nat_cmp n es) ≡ true) → (n : ℕ) → get (with_each empty es) n ≡ g n
   agreeing_put es tells whole n = by_find (find nat_cmp n es) refl
     where
@@ -66,7 +67,7 @@ either : (b : Bool) (o : Option ℕ) → cond b o o ≡ o
 either true o = refl
 either false o = refl
 
--- what is found among the entries of some list is found among all
+-- a number found among the entries of one element of a list is found among those of all
 found_among : {A : Type 0} (f : A → Entries) (n : ℕ) (e : A → A → Bool) → ((x y : A) → e x y ≡ true → x ≡ y) → (xs : List A) (x : A)
     → list_any (e x) xs ≡ true → is_some (find nat_cmp n (f x)) ≡ true → is_some (find nat_cmp n (flat_map f xs)) ≡ true
 found_among f n e exact [] x among some = absurd (false≢true among)
@@ -108,7 +109,7 @@ risen_sorted : (es : Entries) → IsRisen (map (λ e. e.0) es) → is_sorted nat
 risen_sorted [] up = refl
 risen_sorted (e ∷ es) up = ap (λ b. b && is_sorted nat_cmp es) (all_below e.0 es up.0) ∙ risen_sorted es up.1
 
--- which entries there are then
+-- sorted entries put in turn are the entries of the map
 entries_put : (es : Entries) → IsRisen (map (λ e. e.0) es) → entries (with_each empty es) ≡ es
 entries_put es up =
     let sorted : T (is_sorted nat_cmp es) = subst T (sym (risen_sorted es up)) tt in
@@ -117,6 +118,7 @@ entries_put es up =
 
 -- ---- the wants of some units by item
 
+-- the entry of a unit's want, if it has one
 abbrev want_entry : ℕ → Option ℕ → Entries
 want_entry n None = []
 want_entry n (Some want) = (n, want) ∷ []
@@ -125,13 +127,14 @@ no_group : (i : ℕ) → group_of {V = ℕ} empty i ≡ empty
 no_group i = ap (λ o. unwrap_or o empty) (get-empty nat_cmp i)
 
 module _ (item_of : ℕ → Option ℕ) (wants : FinMap nat_cmp ℕ) where
+  -- the wants of those units that ask for item `i`
   abbrev mine : ℕ → FinMap nat_cmp ℕ
   mine i = wants_for item_of wants i
 
   mine_at : (i n : ℕ) → get (mine i) n ≡ cond (is_for i (item_of n)) (get wants n) None
   mine_at i n = get-retain_keys wants (λ k. is_for i (item_of k)) n (λ k tie. ap (λ j. is_for i (item_of j)) (sym (nat_cmp-IsAntisymmetric n k tie)))
 
-  -- who has a want for an item asks for it, and wants as much
+  -- a unit that has a want for an item asks for it
   asks : (i n want : ℕ) → get (mine i) n ≡ Some want → item_of n ≡ Some i
   asks i n want is = by_item (item_of n) refl (sym (mine_at i n) ∙ is)
     where
@@ -143,6 +146,7 @@ module _ (item_of : ℕ → Option ℕ) (wants : FinMap nat_cmp ℕ) where
           by_test true same h = at ∙ ap Some (eqb-true j i same)
           by_test false same h = none_some want h
 
+  -- a unit that has a want for an item has that want
   is_wanted : (i n want : ℕ) → get (mine i) n ≡ Some want → get wants n ≡ Some want
   is_wanted i n want is = by_test (is_for i (item_of n)) (sym (mine_at i n) ∙ is)
     where
@@ -157,6 +161,7 @@ module _ (item_of : ℕ → Option ℕ) (wants : FinMap nat_cmp ℕ) where
       by_test true is = sym (ap (λ o. unwrap_or o 0) (mine_at i n ∙ ap (λ b. cond b (get wants n) None) is))
       by_test false is = absurd (false≢true (sym (ap is_some (mine_at i n ∙ ap (λ b. cond b (get wants n) None) is)) ∙ some))
 
+  -- the wants for item `i` of some units, as entries
   abbrev pairs : ℕ → List ℕ → Entries
   pairs i ns = flat_map (λ n. want_entry n (get (mine i) n)) ns
 
@@ -178,6 +183,7 @@ module _ (item_of : ℕ → Option ℕ) (wants : FinMap nat_cmp ℕ) where
                 ∙ sym (ap (λ b. with_each (group_of groups i) (want_entry n (cond b (Some v) None) ++ rest)) (other_number j i apart))
           ]
 
+  -- the group of an item after some units' wants were put has the wants for it
   group_is : (groups : Groups) (ns : List ℕ) (i : ℕ) → group_of (fold (with_want item_of wants) groups ns) i ≡ with_each (group_of groups i) (pairs i ns)
   group_is groups [] i = refl
   group_is groups (n ∷ ns) i = group_is (with_want item_of wants groups n) ns i ∙ one_put groups n (pairs i ns) i
@@ -208,18 +214,20 @@ so_each P h (x ∷ xs) = (h x, so_each P h xs)
 -- ---- the shares of one region, and of all
 
 module _ (item_of : ℕ → Option ℕ) (pot_of : (item region : ℕ) → ℕ) (wants : FinMap nat_cmp ℕ) (c : CampaignValue) where
+  -- the share of a unit, by its number
   abbrev gets : ℕ → Option ℕ
   gets n = item_share item_of pot_of wants c n
 
-  -- by the item that it asks for
+  -- the share of a unit, by the item that it asks for
   abbrev pub share_for : ℕ → Option ℕ → Option ℕ
   share_for n o = option_and_then (λ i. share_of (pot_of i) (wants_for item_of wants i) c n) o
 
   module _ (r : ℕ) where
+    -- the groups of the region's units
     abbrev groups : Groups
     groups = fold (with_want item_of wants) empty (numbers_in r c.units)
 
-    -- the shares of an item
+    -- the shares of item `i` in the region
     abbrev of_item : ℕ → Entries
     of_item i = shares_in (pot_of i) (mine item_of wants i) c.units r
 
@@ -230,6 +238,7 @@ module _ (item_of : ℕ → Option ℕ) (pot_of : (item region : ℕ) → ℕ) (
         ap keys (group_is item_of wants empty ns i ∙ ap (λ m. with_each m (pairs item_of wants i ns)) (no_group i))
         ∙ ap (map (λ e. e.0)) (entries_put (pairs item_of wants i ns) (subst IsRisen (sym of_pairs) (takers_risen (mine item_of wants i) c.units r))) ∙ of_pairs
 
+    -- the code's shares of item `i` are these
     item_is : (i : ℕ) → item_shares_in pot_of wants r (i, group_of groups i) ≡ of_item i
     item_is i =
         let takers = takers_in (mine item_of wants i) c.units r in
@@ -243,10 +252,11 @@ module _ (item_of : ℕ → Option ℕ) (pot_of : (item region : ℕ) → ℕ) (
         let one : item_shares_in pot_of wants r e ≡ of_item e.0 = ap (λ g. item_shares_in pot_of wants r (e.0, g)) (sym group) ∙ item_is e.0 in
         ap (λ (fs : Entries). fs ++ flat_map (item_shares_in pot_of wants r) es) one ∙ ap (λ (fs : Entries). of_item e.0 ++ fs) (items_are es h.1)
 
+    -- the region's shares are those of its items, one item after the other
     region_is : region_shares item_of pot_of wants c r ≡ flat_map of_item (keys groups)
     region_is = items_are (entries groups) (each-from_every (λ i group. get groups i ≡ Some group) groups (λ i group is. is))
 
-    -- all of them are told
+    -- each share that is put for a region is the unit's share by the definition
     region_agrees : IsThere c.regions r → AgreeWith gets (region_shares item_of pot_of wants c r)
     region_agrees there = subst (AgreeWith gets) (sym region_is) (each_flat (λ e. gets e.0 ≡ Some e.1) of_item (keys groups) (so_each _ one (keys groups)))
       where
@@ -257,7 +267,7 @@ module _ (item_of : ℕ → Option ℕ) (pot_of : (item region : ℕ) → ℕ) (
             let (at, (want, wanted)) = given_takes (pot_of i) (mine item_of wants i) c.units r e.0 e.1 is in
             ap (share_for e.0) (asks item_of wants i e.0 want wanted) ∙ given_is (pot_of i) (mine item_of wants i) c r e.0 e.1 there is) (of_item i) (found_all (of_item i) (given_apart (pot_of i) (mine item_of wants i) c.units r))
 
-    -- and none is missing
+    -- each share of an item in the region is put
     region_whole : (i n s : ℕ) → find nat_cmp n (of_item i) ≡ Some s → is_some (find nat_cmp n (region_shares item_of pot_of wants c r)) ≡ true
     region_whole i n s is =
         subst (λ (es : Entries). is_some (find nat_cmp n es) ≡ true) (sym region_is)
@@ -269,7 +279,7 @@ module _ (item_of : ℕ → Option ℕ) (pot_of : (item region : ℕ) → ℕ) (
             let nobody : takers_in (mine item_of wants i) c.units r ≡ [] = sym (takers_are i) ∙ ap (λ o. keys (unwrap_or o empty)) at ∙ ap (map (λ (e : ℕ × ℕ). e.0)) (no_entries nat_cmp) in
             none_some s (sym (ap (λ ks. find nat_cmp n (zip ks (shares (pot_of i r) (map (want_of (mine item_of wants i)) ks)))) nobody) ∙ is)
 
-  -- who gets something wants that much at least
+  -- each unit that has a share wants at least that much
   pub items_give : (n s : ℕ) → gets n ≡ Some s → (want : ℕ) × (get wants n ≡ Some want) × (s ≤ want)
   items_give n s is = by_item (item_of n) is
     where
@@ -279,7 +289,7 @@ module _ (item_of : ℕ → Option ℕ) (pot_of : (item region : ℕ) → ℕ) (
           let (want, wanted, low) = pots_give (pot_of i) c (mine item_of wants i) n s is in
           (want, is_wanted item_of wants i n want wanted, low)
 
-  -- what is listed of them by unit
+  -- the entry of a unit's share, if it has one
   abbrev share_at : ℕ → Option ℕ → Option (ℕ × ℕ)
   share_at n o = option_map (λ s. (n, s)) o
 
@@ -303,6 +313,7 @@ module _ (item_of : ℕ → Option ℕ) (pot_of : (item region : ℕ) → ℕ) (
       other apart None = refl
       other apart (Some s) = found_other (e.0, s) (of_wants es) n apart
 
+  -- the map of all shares has under each unit its share
   pub shares_at : (n : ℕ) → get (item_shares item_of pot_of wants c) n ≡ gets n
   shares_at n = get-from_entries nat_cmp_total (of_wants (entries wants)) n ∙ found_listed (entries wants) n ∙ by_share (gets n) refl
     where
@@ -312,7 +323,7 @@ module _ (item_of : ℕ → Option ℕ) (pot_of : (item region : ℕ) → ℕ) (
           let (want, wanted, low) = items_give n s is in
           ap (λ o. cond (is_some o) (Some s) None) (sym (get-entries wants n) ∙ wanted)
 
-  -- a map of them is the one by unit
+  -- a map that has under each unit its share is the map of all shares
   pub shares_are : (given : FinMap nat_cmp ℕ) → ((n : ℕ) → get given n ≡ gets n) → given ≡ item_shares item_of pot_of wants c
   shares_are given at = same_map nat_cmp_total nat_cmp-IsAntisymmetric given (item_shares item_of pot_of wants c) (λ n. at n ∙ sym (shares_at n))
 
@@ -338,14 +349,14 @@ module _ (item_of : ℕ → Option ℕ) (pot_of : (item region : ℕ) → ℕ) (
           of_item_in : ℕ → ℕ → Entries
           of_item_in i r = shares_in (pot_of i) (mine item_of wants i) c.units r
 
-  -- once no region is left to come
+  -- once no region is left to come, the map with the shares that were put has under each unit its share
   pub all_items_put : (given : FinMap nat_cmp ℕ) (coming : List (ℕ × Region)) → coming ≡ []
       → with_each given (flat_map (region_shares item_of pot_of wants c) (map (λ e. e.0) coming)) ≡ with_each empty all_shares
       → (n : ℕ) → get given n ≡ item_share item_of pot_of wants c n
   all_items_put given [] none so_far n = ap (λ (m : FinMap nat_cmp ℕ). get m n) so_far ∙ agreeing_put gets all_shares all_shares_agree none_missing n
   all_items_put given (e ∷ coming) none so_far n = cc
 
-  -- where nobody asks nothing is put
+  -- in a region without a unit that has a want no share is put
   pub nothing_put : (r : ℕ) → takers_in wants c.units r ≡ [] → region_shares item_of pot_of wants c r ≡ []
   nothing_put r nobody = ap (λ (gs : Groups). flat_map (item_shares_in pot_of wants r) (entries gs)) (unwanted empty (numbers_in r c.units) nobody) ∙ ap (flat_map (item_shares_in pot_of wants r)) (no_entries nat_cmp)
     where

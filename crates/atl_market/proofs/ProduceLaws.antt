@@ -1,4 +1,4 @@
--- Producing leaves a campaign well.
+-- Laws of PRODUCE: it leaves a campaign well, takes nothing from units without an order, and its items can be made in turn.
 use Rattle.std.proofs.Common.{◌≡◌, ◌≢◌, ◌==◌, ℕ, ◌+◌, ◌-◌, ◌*◌, ◌/◌, ◌≤◌, ◌<◌, Bool, true, false, List, [], ◌∷◌, length, Option, Some, None, refl, sym, subst, ◌∙◌, arith}
 use Rattle.std.specs.Prelude.{ℤ, IfSome, fold, min, if◌then◌else◌}
 use Rattle.std.specs.List.{AllByRecursion, slice_get}
@@ -39,7 +39,7 @@ use Rattle.atl_market.specs.Goods.{with_made, with_used}
 use Rattle.atl_market.specs.Unordered.{OthersAreNoWorse}
 use Rattle.atl_market.proofs.DrawLaws.{all_pairs}
 use Rattle.atl_market.proofs.MakesLaws.{makes_give}
-use Rattle.atl_market.proofs.OrderedLaws.{others_no_worse}
+use Rattle.atl_market.proofs.UnorderedLaws.{others_no_worse}
 use Rattle.atl_market.proofs.GoodsLaws.{made_others, made_well, no_more, used_others, used_unit, used_well}
 use Rattle.atl_market.proofs.ThereLaws.{by_option}
 use Rattle.atl_market.proofs.TurnLaws.{first_room, later_room, turns_leave_well}
@@ -80,7 +80,7 @@ both_less r i booked.Made (things.Item j) = omega (arith, used_none r j, made_le
 both_less r i booked.Used (things.Item j) = omega (arith, used_less r booked.Used (things.Item j), made_none i j)
 both_less r i e t = omega (arith, used_less r e t, made_less i e t)
 
--- room for an amount alone is room under its entry
+-- books with room for moving one amount by a holding have it for that amount
 pub only_room : (e : Entry) (t : Thing) (z : ℤ) → HasRoom (moves_only holding_limit e t e t) z → HasRoom holding_limit z
 only_room e t z room = subst (λ b. HasRoom (if b then holding_limit else 0) z) (same_number (amount_number e t)) room
 
@@ -91,7 +91,7 @@ module _ (asked : FinMap nat_cmp ℕ) (w : WorldValue) (c : CampaignValue) (e : 
     held : (r : ℕ) → amount_of can.unit.holding.items r ≤ holding_limit
     held r = amount_within can.unit.holding r (can.steady.numbers.units e.0 can.unit can.there).1
 
-    -- it can use the raw items
+    -- the unit can use the raw items
     can_use : (r : ℕ) → x.raw ≡ Some r → CanUse w c e.0 r (e.1 * x.raw_count)
     can_use r raw =
         let fits = can.fits i x told there in
@@ -137,7 +137,7 @@ module _ (asked : FinMap nat_cmp ℕ) (w : WorldValue) (c : CampaignValue) (e : 
         below : (a b : ℕ) → a ≤ b → b + e.1 ≤ holding_limit → a + e.1 ≤ holding_limit
         below a b l m = omega (arith, l, m)
 
-    -- and make the item then
+    -- the unit can make the item after it used the raw items
     can_make_then : CanMake w (with_raw_used c e.0 (e.1 * x.raw_count) x.raw) e.0 i e.1
     can_make_then = by_raw x.raw refl
       where
@@ -145,6 +145,7 @@ module _ (asked : FinMap nat_cmp ℕ) (w : WorldValue) (c : CampaignValue) (e : 
         by_raw None is = can_at_once
         by_raw (Some r) is = can_behind r is
 
+    -- the unit can use the raw items and make the item
     pub can_make_item : CanMakeOf w c e.0 e.1 i x
     can_make_item = record {
       use_raw = can_use;
@@ -164,6 +165,7 @@ module _ (asked : FinMap nat_cmp ℕ) (w : WorldValue) (c : CampaignValue) (e : 
             well_within (both_move one two) (produce_moves holding_limit) w c (with_made d e.0 i e.1) (both_less r i)
             (both_leave_well one two w c d (with_made d e.0 i e.1) (used_well w c e.0 r (e.1 * x.raw_count) (can_use r is)) (made_well w d e.0 i e.1 (can_behind r is)))
 
+  -- making by a unit leaves the campaign well
   pub produced_well : CanProduce asked w c e → LeavesWell IsSteady (produce_moves holding_limit) w c (after_production asked w c e)
   unfolding after_production
   produced_well can =
@@ -171,7 +173,7 @@ module _ (asked : FinMap nat_cmp ℕ) (w : WorldValue) (c : CampaignValue) (e : 
       by_option (λ d. LeavesWell IsSteady (produce_moves holding_limit) w c d) _ (get asked e.0) c unchanged (λ i told.
       by_option (λ d. LeavesWell IsSteady (produce_moves holding_limit) w c d) _ (slice_get w.items i) c unchanged (λ x is. item_well can i x told is))
 
-  -- nothing changes for other units
+  -- unit `k` is in this campaign as it was
   abbrev IsStill : ℕ → CampaignValue → Type 0
   IsStill k d = get d.units k ≡ get c.units k
 
@@ -189,7 +191,7 @@ produce_keeps_others w c os = others_no_worse produce_pots w (λ items. produced
 
 -- ---- what a unit makes it can make
 
--- who makes something without an item has a fault
+-- an order that names no item of the world has a fault
 needs_item : (w : WorldValue) (h : HoldingValue) → make_fault h (item_of w None) ≡ None → ⊥
 needs_item w h fine = by_men (h.men == 0) fine
   where
@@ -201,10 +203,11 @@ module _ (w : WorldValue) (c : CampaignValue) (os : List Task) where
   abbrev items : FinMap nat_cmp ℕ
   items = items_by produce_pots w c os
 
-  -- a unit makes what it can make at most
+  -- the unit of a share is there and can make at least so much
   abbrev Makes : ℕ × ℕ → Type 0
   Makes e = (u : Unit) × (get c.units e.0 ≡ Some u) × (e.1 ≤ most_makeable w u.holding (get items e.0))
 
+  -- each unit makes at most what it can make
   pub given_can : Every (λ n made. Makes (n, made)) (given_by produce_pots w c os)
   given_can n made is =
       let (u, t, there, own, low, fine, named) = given_is_named produce_pots w c (makes_give w c) os n made is in
@@ -246,7 +249,7 @@ module _ (asked : FinMap nat_cmp ℕ) (w : WorldValue) (c : CampaignValue) (worl
 
 -- ---- all steps can be taken
 
--- a unit is there and can make so much
+-- the unit of a share is there, and has room and raw items for so much of its item
 abbrev HasRoomFor : (FinMap nat_cmp ℕ) → WorldValue → CampaignValue → ℕ × ℕ → Type 0
 HasRoomFor asked w c e = (u : Unit) × (get c.units e.0 ≡ Some u) × ((i : ℕ) (x : Item) → get asked e.0 ≡ Some i → slice_get w.items i ≡ Some x → HasRoomAndRaw w u e.1 i x)
 
@@ -258,6 +261,7 @@ module _ (asked : FinMap nat_cmp ℕ) (w : WorldValue) where
   still c d n [] same above all = tt
   still c d n (f ∷ es) same above ((u, there, fits), all) = ((u, same f.0 (λ e. absurd (omega (arith, e, above.0))) ∙ there, fits), still c d n es same above.1 all)
 
+  -- shares for which the units and the books have room can be made in turn
   pub produce_in_turn : (c : CampaignValue) (es : List (ℕ × ℕ)) → Rise es → IsSteady w c → HaveRoom (moved_times (length es) step_moves) c → AllByRecursion (HasRoomFor asked w c) es → CanInTurn (CanProduce asked w) (after_production asked w) c es
   produce_in_turn c [] rise steady room all = tt
   produce_in_turn c (e ∷ es) rise steady room ((u, there, fits), all) =
@@ -286,6 +290,7 @@ module _ (w : WorldValue) (c : CampaignValue) (world : IsWorld w) (steady : IsSt
   little : MovesLess (moved_times (length shares) (produce_moves holding_limit)) (produce_moves most_moved)
   little e t = scaled (length shares) holding_limit most_moved (omega (arith, few)) e t
 
+  -- all shares of PRODUCE can be made in turn
   pub can_share_out : HaveRoom (produce_moves most_moved) c → CanInTurn (CanProduce named w) (after_production named w) c shares
   can_share_out room =
       produce_in_turn named w c shares (entries_rise (given_by produce_pots w c os)) steady (room_less (moved_times (length shares) (produce_moves holding_limit)) (produce_moves most_moved) c little room)

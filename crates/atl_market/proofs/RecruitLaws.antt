@@ -1,4 +1,4 @@
--- Recruiting leaves a campaign well.
+-- Laws of RECRUIT: it leaves a campaign well, takes nothing from units without an order, and its payments can be made in turn.
 use Rattle.std.proofs.Common.{◌≡◌, ◌≢◌, ℕ, ◌+◌, ◌-◌, ◌*◌, ◌/◌, ◌≤◌, Some, List, [], ◌∷◌, length, refl, sym, ap, subst, ◌∙◌, arith}
 use Rattle.std.specs.Prelude.{ℤ, fold, pos, neg_ℤ, min}
 use Rattle.std.specs.Option.{option_map_or}
@@ -42,7 +42,7 @@ use Rattle.atl_market.specs.Unordered.{OthersAreNoWorse}
 use Rattle.atl_market.proofs.DrawLaws.{AreReady, Drains, DrawnPots, HaveEnough, all_pairs, drawn, one_drains, one_draws, pot_is_enough, ready_behind, region_pots, untouched, who_stand}
 use Rattle.atl_state.proofs.HavingLaws.{MayHave, may_have}
 use Rattle.atl_market.proofs.ExchangeLaws.{KeepsTogether, exchange_well}
-use Rattle.atl_market.proofs.OrderedLaws.{others_no_worse}
+use Rattle.atl_market.proofs.UnorderedLaws.{others_no_worse}
 use Rattle.atl_market.proofs.ThereLaws.{by_region, by_unit, region_there, unit_there}
 use Rattle.atl_market.proofs.TurnLaws.{few_holdings, first_room, later_room, turns_leave_well}
 use Rattle.atl_market.proofs.PotLaws.{pots_give}
@@ -54,12 +54,15 @@ peasants_of q = q.peasants
 
 -- ---- one unit gets its recruits
 
+-- a region `r` with the peasants of `q` less the recruits
 abbrev pub leave : Region → ℕ → Region → Region
 leave q recruits r = record r { peasants = q.peasants - recruits }
 
+-- a campaign in which recruits joined unit `u`, which paid for them
 abbrev pub joined : CampaignValue → ℕ → Unit → (recruits cost : ℕ) → CampaignValue
 joined c n u recruits cost = record c { units = insert c.units n (record u { holding = with_paid_recruits u.holding recruits cost }) }
 
+-- a campaign in which recruits left region `q` and joined unit `u`, and their cost is booked
 abbrev pub recruited_to : CampaignValue → ℕ → Unit → Region → (recruits cost : ℕ) → CampaignValue
 recruited_to c n u q recruits cost = with_amount (region_changed (leave q recruits) (joined c n u recruits cost) u.region) Recruiting Money (neg_ℤ (pos cost))
 
@@ -76,6 +79,7 @@ module _ (w : WorldValue) (c : CampaignValue) (n : ℕ) (u : Unit) (q : Region) 
   abbrev left : CampaignValue
   left = region_changed (leave q recruits) peopled u.region
 
+  -- the steps of recruiting give this campaign
   recruits_are : with_amount (with_peasants (with_holding c n more) u.region (q.peasants - recruits)) Recruiting Money (neg_ℤ (pos cost)) ≡ after
   recruits_are = ap (λ o. with_amount (with_peasants (with_held c n more o) u.region (q.peasants - recruits)) Recruiting Money (neg_ℤ (pos cost))) is
 
@@ -104,18 +108,18 @@ module _ (w : WorldValue) (c : CampaignValue) (n : ℕ) (u : Unit) (q : Region) 
 
 -- ---- what is marked
 
--- as the region and the books change
+-- setting a region's peasants and booking their cost sets the dirty flags of all that changes
 pub leaving_marks : (c d e : MarkedCampaign) (region peasants : ℕ) (z : ℤ) → d.value ≡ with_peasants c.value region peasants → d.marks ≡ mark_region c region
     → e.value ≡ with_amount d.value Recruiting Money z → e.marks ≡ mark_amount d Recruiting Money → MarksChanges c e
 leaving_marks c d e region peasants z d_is d_marks e_is e_marks =
     marks-trans c d e (marks_by c d _ d_is d_marks (marks-region (λ r. record r { peasants = peasants }) (λ r. refl) c region))
     (marks_by d e _ e_is e_marks (marks-amount d Recruiting Money z))
 
--- a unit that is there has another holding
+-- replacing the holding of a unit that is there replaces it under the unit's number alone
 pub held_is : (c d : CampaignValue) (n : ℕ) (u : Unit) (h : HoldingValue) → get c.units n ≡ Some u → d ≡ with_holding c n h → d ≡ record c { units = insert c.units n (record u { holding = h }) }
 held_is c d n u h is same = same ∙ ap (with_held c n h) is
 
--- it has other men, and then other money
+-- setting a unit's men and then its money replaces its holding by one with these
 pub joined_is : (a b c : CampaignValue) (n : ℕ) (u : Unit) (men money : ℕ) → get a.units n ≡ Some u → b ≡ state.with_men a n men → c ≡ with_money b n money → c ≡ with_holding a n (record u.holding { men = men; money = money })
 joined_is a b c n u men money is b_is c_is =
     let peopled = record u { holding = record u.holding { men = men } } in
@@ -126,7 +130,7 @@ joined_is a b c n u men money is b_is c_is =
     let second : changed (λ u. record u { holding = record u.holding { money = money } }) b.units n ≡ insert a.units n paid = ap (changed_at _ b.units n) there ∙ ap (λ m. insert m n paid) units ∙ insert_over a.units n peopled paid in
     c_is ∙ ap (λ m. record b { units = m }) second ∙ ap (λ (s : CampaignValue). record s { units = insert a.units n paid }) b_is ∙ sym (ap (with_held a n (record u.holding { men = men; money = money })) is)
 
--- and its row alone is marked
+-- setting a unit's men and money sets the dirty flags of all that changes
 pub joined_marks : (a b c : MarkedCampaign) (n men money : ℕ) → b.value ≡ state.with_men a.value n men → b.marks ≡ mark_unit_row a n → c.value ≡ with_money b.value n money → c.marks ≡ mark_unit_row b n → MarksChanges a c
 joined_marks a b c n men money b_is b_marks c_is c_marks =
     marks-trans a b c (marks_by a b _ b_is b_marks (marks-unit_row (λ u. record u { holding = record u.holding { men = men } }) (λ u. refl) a n))
@@ -135,9 +139,11 @@ joined_marks a b c n men money b_is b_marks c_is c_marks =
 -- ---- one step
 
 module _ (w : WorldValue) (c : CampaignValue) (e : ℕ × ℕ) where
+  -- what the recruits of a share cost
   abbrev price : ℕ
   price = e.1 * w.rules.recruit_price
 
+  -- recruiting by a unit that is there, in a region that is there, gives the campaign above
   pub recruited_is : (u : Unit) (q : Region) → get c.units e.0 ≡ Some u → get c.regions u.region ≡ Some q → after_recruiting w c e ≡ recruited_to c e.0 u q e.1 price
   unfolding after_recruiting
   recruited_is u q is around = unit_there c e.0 _ u is ∙ region_there c u.region _ q around ∙ recruits_are w c e.0 u q e.1 price is around
@@ -145,6 +151,7 @@ module _ (w : WorldValue) (c : CampaignValue) (e : ℕ × ℕ) where
   made_is : (can : CanRecruit w c e) → after_recruiting w c e ≡ recruited_to c e.0 can.at.unit can.at.region e.1 price
   made_is can = recruited_is can.at.unit can.at.region can.at.there can.at.around
 
+  -- recruiting by a unit leaves the campaign well
   pub recruited_well : CanRecruit w c e → LeavesWell IsEarly (recruit_moves holding_limit) w c (after_recruiting w c e)
   recruited_well can =
       subst (λ d. LeavesWell IsEarly (recruit_moves holding_limit) w c d) (sym (made_is can))
@@ -157,6 +164,7 @@ module _ (w : WorldValue) (c : CampaignValue) (e : ℕ × ℕ) where
       less : (all : ℕ) → e.1 ≤ all → all - e.1 + e.1 ≡ all
       less all enough = omega (arith, enough)
 
+  -- recruiting by a unit leaves the other units as they are
   pub recruited_others : (k : ℕ) → k ≢ e.0 → get (after_recruiting w c e).units k ≡ get c.units k
   unfolding after_recruiting
   recruited_others k apart =
@@ -174,7 +182,7 @@ abbrev step_moves : BookBound
 step_moves = recruit_moves holding_limit
 
 module _ (w : WorldValue) (c : CampaignValue) where
-  -- the peasants of the regions
+  -- the pots of RECRUIT, by region: their peasants
   abbrev pots : DrawnPots ℕ
   pots = region_pots c.units peasants_of
 
@@ -182,10 +190,11 @@ module _ (w : WorldValue) (c : CampaignValue) where
   abbrev CanHave : ℕ × ℕ → Type 0
   CanHave e = (u : Unit) × (get c.units e.0 ≡ Some u) × (u.holding.men + e.1 ≤ men_limit) × (e.1 * w.rules.recruit_price ≤ u.holding.money)
 
+  -- the shares still to come can be given in campaign `d`
   abbrev AreToJoin : CampaignValue → List (ℕ × ℕ) → Type 0
   AreToJoin = AreReady pots CanHave w c
 
-  -- there is room in the books for their price
+  -- the books have room for the price of all shares still to come
   abbrev CanBook : CampaignValue → List (ℕ × ℕ) → Type 0
   CanBook d es = HaveRoom (moved_times (length es) step_moves) d
 
@@ -239,6 +248,7 @@ module _ (w : WorldValue) (c : CampaignValue) where
     little : (e : Entry) (t : Thing) → moved_times (length shares) step_moves e t ≤ recruit_moves most_moved e t
     little e t = few_holdings (length shares) few Recruiting Money e t
 
+    -- all shares of RECRUIT can be given in turn
     pub can_share_out : CanInTurn (CanRecruit w) (after_recruiting w) c shares
     can_share_out = all_can c shares (record {
       early = early;

@@ -1,4 +1,4 @@
--- Tax leaves a campaign well.
+-- Laws of TAX: it leaves a campaign well, takes nothing from a unit, and its payments can be made in turn.
 use Rattle.std.proofs.Common.{◌≡◌, ◌≢◌, ℕ, ◌+◌, ◌-◌, ◌≤◌, Some, List, [], ◌∷◌, length, refl, sym, ap, subst, ◌∙◌, arith}
 use Rattle.std.specs.Prelude.{fold, pos, min}
 use Rattle.std.specs.Option.{option_map_or}
@@ -36,7 +36,7 @@ use Rattle.atl_market.specs.PotPhase.{after_sharing, given_by}
 use Rattle.atl_market.specs.Bounds.{CanInTurn}
 use Rattle.atl_market.specs.Tax.{after_tax, money_at, tax_pots}
 use Rattle.atl_market.proofs.DrawLaws.{AreReady, Drains, DrawnPots, HaveEnough, all_pairs, drawn, one_drains, one_draws, pot_is_enough, ready_behind, region_pots, untouched, who_stand}
-use Rattle.atl_market.proofs.MoneyInTurnLaws.{others_stay, paid, richer, richer_is, richer_no_worse}
+use Rattle.atl_market.proofs.MoreMoneyLaws.{others_stay, paid, richer, richer_is, richer_no_worse}
 use Rattle.atl_market.proofs.ThereLaws.{by_region, by_unit, region_there, unit_there}
 use Rattle.atl_market.proofs.TurnLaws.{turns_leave_well}
 use Rattle.atl_market.proofs.PotLaws.{pots_give}
@@ -48,9 +48,11 @@ money_of q = q.money
 
 -- ---- one unit takes its share
 
+-- a region `r` with the money of `q` less a share
 abbrev pub drain : Region → ℕ → Region → Region
 drain q share r = record r { money = q.money - share }
 
+-- a campaign in which a unit took its share of the money of its region `q`
 abbrev pub drained : CampaignValue → ℕ → Unit → Region → ℕ → CampaignValue
 drained c n u q share = region_changed (drain q share) (richer c n u share) u.region
 
@@ -58,6 +60,7 @@ module _ (w : WorldValue) (c : CampaignValue) (n : ℕ) (u : Unit) (q : Region) 
   abbrev after : CampaignValue
   after = drained c n u q share
 
+  -- setting the unit's money and its region's gives this campaign
   pub tax_is : with_region_money (with_money c n (u.holding.money + share)) u.region (q.money - share) ≡ after
   tax_is = ap (λ d. with_region_money d u.region (q.money - share)) (richer_is c n u share is)
 
@@ -88,6 +91,7 @@ module _ (w : WorldValue) (c : CampaignValue) (n : ℕ) (u : Unit) (q : Region) 
 
 -- ---- what is marked
 
+-- setting the money of a unit and of a region sets the dirty flags of all that changes
 pub tax_marks : (c d e : MarkedCampaign) (n money region left : ℕ) → d.value ≡ with_money c.value n money → d.marks ≡ mark_unit_row c n
     → e.value ≡ with_region_money d.value region left → e.marks ≡ mark_region d region → MarksChanges c e
 tax_marks c d e n money region left d_is d_marks e_is e_marks =
@@ -97,10 +101,12 @@ tax_marks c d e n money region left d_is d_marks e_is e_marks =
 -- ---- one step
 
 module _ (w : WorldValue) (c : CampaignValue) (e : ℕ × ℕ) where
+  -- tax of a unit that is there, in a region that is there, moves its share from the region to it
   pub taxed_is : (u : Unit) (q : Region) → get c.units e.0 ≡ Some u → get c.regions u.region ≡ Some q → after_tax c e ≡ drained c e.0 u q e.1
   unfolding after_tax
   taxed_is u q is around = unit_there c e.0 _ u is ∙ region_there c u.region _ q around ∙ tax_is w c e.0 u q e.1 is around
 
+  -- tax of a unit leaves the campaign well
   pub taxed_well : CanTax w c e → LeavesWell IsEarly moves_nothing w c (after_tax c e)
   taxed_well can =
       subst (λ d. LeavesWell IsEarly moves_nothing w c d) (sym (taxed_is can.at.unit can.at.region can.at.there can.at.around))
@@ -136,14 +142,15 @@ tax_keeps_units w c os = each_no_worse w c (entries (given_by tax_pots w c os))
 -- ---- all steps can be taken
 
 module _ (w : WorldValue) (c : CampaignValue) where
-  -- the money of the regions
+  -- the pots of TAX, by region: their money
   abbrev pots : DrawnPots ℕ
   pots = region_pots c.units money_of
 
-  -- a unit is there and has room for so much
+  -- the unit of a share is there and has room for so much money
   abbrev HasRoomFor : ℕ × ℕ → Type 0
   HasRoomFor e = (u : Unit) × (get c.units e.0 ≡ Some u) × (u.holding.money + e.1 ≤ holding_limit)
 
+  -- the shares still to come can be paid in campaign `d`
   abbrev AreTaken : CampaignValue → List (ℕ × ℕ) → Type 0
   AreTaken = AreReady pots HasRoomFor w c
 
@@ -179,6 +186,7 @@ module _ (w : WorldValue) (c : CampaignValue) where
     all_enough : HaveEnough pots c shares
     all_enough r q around = subst (λ pot. drawn (who_stand c.units r) shares ≤ pot) (ap (λ o. option_map_or money_of o 0) around) (pot_is_enough _ _ c r (q, around))
 
+    -- all shares of TAX can be paid in turn
     pub can_share_out : CanInTurn (CanTax w) after_tax c shares
     can_share_out = all_can c shares (record {
       early = early;
