@@ -1,4 +1,4 @@
--- Two maps with as many values, where one has each number of the other.
+-- The law that of two maps with as many values, where one has each number of the other, the other has each number of the one.
 use Rattle.std.proofs.Common.{◌≡◌, ℕ, suc, zero, ◌+◌, ◌-◌, ◌≤◌, cond, List, [], ◌∷◌, length, Option, Some, None, refl, sym, ap, ◌∙◌, inl, inr, arith}
 use Rattle.std.specs.Prelude.{is_some}
 use Rattle.std.specs.Ordering.{nat_cmp}
@@ -10,7 +10,7 @@ use Rattle.atl_records.proofs.EveryLaws.{first, get-insert_other, none_some}
 use Rattle.atl_records.proofs.RemovedLaws.{get-remove_other, still}
 
 module _ {V : Type 0} where
-  -- one map has each number of the other
+  -- the second map has each number of the first
   abbrev HasAllNumbers : FinMap nat_cmp V → FinMap nat_cmp V → Type 0
   HasAllNumbers a b = (n : ℕ) → IsThere b n → IsThere a n
 
@@ -56,7 +56,7 @@ module _ {V : Type 0} where
     | inr apart ↦ all m (x, sym (get-insert_other b n m v apart) ∙ there)
   ]
 
-  -- then the other has each number of the one
+  -- if they have as many values, the first has each number of the second
   pub has_all_back : (a b : FinMap nat_cmp V) → len b ≡ len a → HasAllNumbers a b → HasAllNumbers b a
   has_all_back a b count all n (v, here) = by_value (get b n) refl
     where

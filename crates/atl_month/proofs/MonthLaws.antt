@@ -1,4 +1,4 @@
--- A campaign behind the phases of a month is good again once the month is counted and the mail is taken away.
+-- Laws of a whole month: with the month counted and the mail removed the campaign is good again, and mail order doesn't count.
 use Rattle.std.proofs.Common.{◌≡◌, ℕ, ◌+◌, ◌*◌, ◌≤◌, ◌<◌, List, ap, ◌∙◌, arith}
 use Rattle.std.specs.Prelude.{ℤ}
 use Rattle.std.specs.FinMap.{FinMap, empty, get, len}
@@ -34,6 +34,7 @@ module _ (w : WorldValue) (d : CampaignValue) where
   finished_balances old t = old t
 
 module _ (w : WorldValue) (c d : CampaignValue) (moving : BookBound) (little : MovesLess moving moves_in_month) (early : c.month < last_month) (well : LeavesWell IsSwept moving w c d) where
+  -- the phases of a month leave the month's number, the reports and the factions as before
   abbrev same : IsSameMonth c d
   same = well.same_month
 
@@ -61,6 +62,7 @@ module _ (w : WorldValue) (c d : CampaignValue) (moving : BookBound) (little : M
     mail = every-empty _;
   }
 
+  -- after the phases of a month, counted and without mail, a good campaign is good again
   pub finished_good : IsGood w c → IsGood w (after_month d)
   finished_good old = record {
     sound = finished_sound old.sound;
@@ -80,16 +82,17 @@ module _ {leaves : Condition} (w : WorldValue) (c d : CampaignValue) (well : Lea
 pub phases_room : (w : WorldValue) (c : CampaignValue) → IsSound w c → HaveRoom phases_moving c
 phases_room w c sound = room_when_sound w c phases_moving (λ e t. omega (arith, phases_little e t)) sound
 
--- what comes of some phases over a month that has begun, and the events of it
+-- what some phases make of a month as it begins, given by its parts: the campaign and the events
 phases_result : (phases : Meaning) (w : WorldValue) (c d : CampaignValue) (m n : MonthValue) (begin : MonthValue) (events : List Event) → (d, n) ≡ phases w c m → m ≡ begin → events ≡ n.events
     → ◌≡◌ {A = CampaignValue × List Event} (d, events) ((phases w c begin).0, (phases w c begin).1.events)
 phases_result phases w c d m n begin events meaning begins told = ap (λ (es : List Event). (d, es)) told ∙ ap (λ (p : CampaignValue × MonthValue). (p.0, p.1.events)) (meaning ∙ ap (phases w c) begins)
 
+-- a campaign and events that the phases of a month make are those of the month
 pub month_is : (w : WorldValue) (c d : CampaignValue) (m n : MonthValue) (readings : FinMap nat_cmp Reading) (words : List ℕ) (events : List Event)
     → (d, n) ≡ month_meaning w c m → m ≡ new_month readings words → events ≡ n.events → (d, events) ≡ month_of w c readings words
 unfolding month_of
 month_is w c d m n readings words events meaning begins told = phases_result month_meaning w c d m n (new_month readings words) events meaning begins told
 
--- in which order mailings come isn't seen
+-- mailings in another order make the same campaign and events
 pub mail_order_does_not_count : MailOrderDoesNotCount
 mail_order_does_not_count w c words mailings others own same = ap (λ readings. month_of w c readings words) (mailings_have_no_order mailings others own same)

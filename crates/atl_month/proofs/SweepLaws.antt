@@ -1,4 +1,4 @@
--- The sweep leaves a campaign well.
+-- Laws of sweeping one unit without men: it leaves a campaign well, and takes nothing from other units.
 use Rattle.std.proofs.Common.{◌≡◌, ◌≢◌, ◌==◌, ◌&&◌, ℕ, ◌+◌, ◌*◌, ◌≤◌, ◌<◌, not, Bool, true, false, cond, List, [], ◌∷◌, length, Option, Some, refl, sym, ap, subst, ◌∙◌, inl, arith}
 use Rattle.std.specs.Prelude.{ℤ, pos, ◌+ℤ◌, nat_lt, unwrap_or, if◌then◌else◌}
 use Rattle.std.proofs.lemmas.Int.{ints}
@@ -40,9 +40,11 @@ use Rattle.atl_month.proofs.PassingLaws.{Owes, PassesOn, pass_items, pass_money,
 
 -- ---- how much of each thing a unit passes on
 
+-- how much of each thing a unit with this holding passes on
 abbrev owing_all : HoldingValue → Thing → ℕ
 owing_all h s = part_of s Money h.money + owing_items (entries h.items) s
 
+-- the bound on what passing on all of a holding books: Lost of its money and of each item
 abbrev pub moving_all : HoldingValue → BookBound
 moving_all h = both_move (moves_only h.money Lost Money) (moving_items (entries h.items))
 
@@ -62,7 +64,7 @@ all_owed h none (Item j) =
 
 -- ---- how far it moves the books
 
--- an amount of what is lost
+-- so much under the entry Lost, 0 under any other
 abbrev of_lost : Entry → ℕ → ℕ
 of_lost e n = cond (entry_index e == 7) n 0
 
@@ -104,7 +106,7 @@ all_moved h none e s =
     (lost_sum e (moves_only h.money Lost Money e s) (moving_items (entries h.items) e s) (part_of s Money h.money)
     (owing_items (entries h.items) s) (one_moved h.money Money e s) (items_moved (entries h.items) e s))
 
--- within what a unit may hold
+-- what a unit may hold is within the bound of the sweep
 little_lost : (h : HoldingValue) → h.men ≡ 0 → h.money ≤ holding_limit → ((i : ℕ) → amount_of h.items i ≤ holding_limit) → (e : Entry) (s : Thing)
     → of_lost e (unit_amount s h) ≤ loses_by most_amount e s
 little_lost h none money items e Money = by_test (entry_index e == 7)
@@ -128,6 +130,7 @@ little_lost h none money items e (Item j) =
 
 -- ---- who gets it
 
+-- the first number of a list, if it isn't 0, is one of the list
 pub first_listed : (ns : List ℕ) → first_or_zero ns ≢ 0 → IsListed (first_or_zero ns) ns
 first_listed [] some = absurd (some refl)
 first_listed (n ∷ ns) some = inl refl
@@ -151,12 +154,14 @@ module _ (w : WorldValue) (c : CampaignValue) (n : ℕ) (u : Unit) (is : get c.u
       let (v, there, t) = listed_passing (receives region faction) c.units (receiver c region faction) listed in
       not_received region faction v (ap (get c.units) same ∙ there) t
 
+  -- the number of the unit that receives what unit `n` leaves; 0 where there is none
   abbrev to : ℕ
   to = receiver c u.region u.faction
 
   known : EachOf (λ i a. i < length w.items) (entries u.holding.items)
   known = each-from_every (λ i a. i < length w.items) u.holding.items (steady.known.units n u is).items
 
+  -- the campaign after unit `n` passed on what it has
   abbrev passed : CampaignValue
   passed = after_passing_all c to u
 
@@ -170,6 +175,7 @@ module _ (w : WorldValue) (c : CampaignValue) (n : ℕ) (u : Unit) (is : get c.u
   there_still : get passed.units n ≡ Some u
   there_still = passing.unit ∙ is
 
+  -- that campaign without unit `n`
   abbrev swept : CampaignValue
   swept = without_unit passed n
 
@@ -215,14 +221,14 @@ module _ (w : WorldValue) (c : CampaignValue) (n : ℕ) (u : Unit) (is : get c.u
             (passing.near e s));
       }
 
-  -- a unit other than the one that goes keeps all
+  -- each unit other than the one that is removed is still there, and nothing is taken from it
   pub others_keep : Every (λ m x. m ≢ n → (v : Unit) × (get swept.units m ≡ Some v) × IsKept x v) c.units
   others_keep m x there apart =
       let only = only_reduced w passed n u there_still in
       let (v, here, kept) = passing.forth m x there in
       (v, ap (λ (units : FinMap nat_cmp Unit). get units m) only.units ∙ get-remove_other passed.units n m apart ∙ here, kept)
 
-  -- and each unit that is left was there
+  -- each unit that is left was there before, and isn't the one that is removed
   pub others_were : Every (λ m v. (m ≢ n) × ((x : Unit) × (get c.units m ≡ Some x) × IsKept x v)) swept.units
   others_were m v there =
       let only = only_reduced w passed n u there_still in

@@ -40,10 +40,11 @@ less_plus a b u v x one two = record {
 nobody_less : (u : Unit) → IsLessBy 0 u u
 nobody_less u = record { faction = refl; name = refl; men = omega arith; items = λ i. omega arith }
 
--- a unit behind its upkeep
+-- a unit after its upkeep
 abbrev supplied_unit : UpkeepResult → Unit → Unit
 supplied_unit s u = record u { holding = after_upkeep s u.holding }
 
+-- how many men a unit has after its upkeep
 abbrev men_left : UpkeepResult → Unit → ℕ
 men_left s u = u.holding.men - s.starved
 
@@ -57,10 +58,11 @@ fewer_by s u = by_test (men_left s u == u.holding.men) refl
     by_test true is = record { faction = refl; name = refl; men = sym (is_equal (men_left s u) u.holding.men is); items = λ i. omega arith }
     by_test false is = record { faction = refl; name = refl; men = refl; items = λ i. omega arith }
 
--- how many men of a unit starve by some settlements
+-- how many men of unit `n` starve by one result of upkeep; 0 where the result is another unit's
 abbrev among : ℕ → UpkeepResult → ℕ
 among n s = if s.unit == n then s.starved else 0
 
+-- upkeep of one unit takes from each unit only those of its men who starve
 supplied_at : (c : CampaignValue) (s : UpkeepResult) (n : ℕ) (u : Unit) → get c.units n ≡ Some u → IsUnaffected (IsLessBy (among n s)) (upkeep_at c s) n u
 unfolding upkeep_at
 supplied_at c s n u there = elim (cases_eq n s.unit) [
@@ -76,6 +78,7 @@ supplied_at c s n u there = elim (cases_eq n s.unit) [
     by_unit apart None = refl
     by_unit apart (Some v) = get-insert_other c.units s.unit n (supplied_unit s v) apart
 
+-- upkeep of some units takes from each unit only those of its men who starve
 all_supplied : (c : CampaignValue) (ss : List UpkeepResult) (n : ℕ) (u : Unit) → get c.units n ≡ Some u → IsUnaffected (IsLessBy (sum_by (among n) ss)) (fold upkeep_at c ss) n u
 all_supplied c [] n u there = record { unit = u; there = there; spared = nobody_less u }
 all_supplied c (s ∷ ss) n u there =
@@ -86,10 +89,11 @@ all_supplied c (s ∷ ss) n u there =
 abbrev by_event : ℕ → Event → ℕ
 by_event n e = if e.unit == n then men_starved_by e.verb e.outcome else 0
 
+-- how many men of unit `n` starved by the events of some results of upkeep
 abbrev starved_reported : ℕ → List UpkeepResult → ℕ
 starved_reported n ss = starved_in (map starved_event ss) n
 
--- the events tell of them
+-- the events report, of each unit, all its men who starve
 starved_are_reported : (ss : List UpkeepResult) (n : ℕ) → starved_reported n (filter starves ss) ≡ sum_by (among n) ss
 starved_are_reported [] n = refl
 starved_are_reported (s ∷ ss) n = by_test (starved_are_reported ss n) (s.starved == 0) refl ∙ sym (sum_by-cons (among n) s ss)
@@ -102,6 +106,7 @@ starved_are_reported (s ∷ ss) n = by_test (starved_are_reported ss n) (s.starv
     by_test rest true is = rest ∙ none s.starved (sum_by (among n) ss) (s.unit == n) (is_equal s.starved 0 is)
     by_test rest false is = sum_by-cons (by_event n) (starved_event s) (map starved_event (filter starves ss)) ∙ ap (λ x. among n s + x) rest
 
+-- upkeep leaves a faction without a mailing what it should
 pub upkeep_leaves : LeavesUnmailed upkeep_meaning upkeep_keeps
 upkeep_leaves = record {
   readings = λ w c m. refl;
@@ -125,12 +130,14 @@ upkeep_leaves = record {
 
 -- ---- season and sweep
 
+-- the season leaves a faction without a mailing what it should
 pub season_leaves : LeavesUnmailed season_meaning season_keeps
 season_leaves =
     whole_leaves {meaning = season_meaning} {keeps = season_keeps} (λ w c m. refl) (λ w c m n. refl)
     (λ w c m same n u there none. men_same c (season_meaning w c m).0 same n u there)
     (λ w c m same n u there none. record { unit = u; there = ap (λ (units : FinMap nat_cmp Unit). get units n) same ∙ there; spared = record { name = refl; items = λ i. omega arith } })
 
+-- the sweep, as the last phase, leaves a faction without a mailing what it should
 pub sweep_leaves : ClosesUnmailed sweep_meaning sweep_keeps
 sweep_leaves = record {
   told = λ w c m n. omega arith;
