@@ -32,6 +32,7 @@ use Rattle.atl_market.proofs.WorkLaws.{wages_leave_others, worked_is}
 less_none : (a : ℕ) → a - 0 ≡ a
 less_none a = omega arith
 
+-- taking one amount and then another is taking both together
 less_both : (a s t : ℕ) → a - s - t ≡ a - (s + t)
 less_both a s t = omega arith
 
@@ -110,9 +111,11 @@ module _ (asked : FinMap nat_cmp ℕ) (w : WorldValue) where
   made_regions : (d : CampaignValue) (n i amount : ℕ) → (with_made d n i amount).regions ≡ d.regions
   made_regions d n i amount = by_unit d n (λ (s : CampaignValue). s.regions ≡ d.regions) _ refl (λ u is. refl)
 
+  -- the regions of the second campaign are those of the first
   abbrev HasItsRegions : CampaignValue → CampaignValue → Type 0
   HasItsRegions d s = s.regions ≡ d.regions
 
+  -- making leaves all regions as they are
   produced_regions : (d : CampaignValue) (e : ℕ × ℕ) → (after_production asked w d e).regions ≡ d.regions
   unfolding after_production
   produced_regions d e =
@@ -122,6 +125,7 @@ module _ (asked : FinMap nat_cmp ℕ) (w : WorldValue) where
       made_regions (with_raw_used d e.0 amount x.raw) e.0 i e.1
       ∙ by_option (HasItsRegions d) (λ r. with_used d e.0 r amount) x.raw d refl (λ r raw. used_regions d e.0 r amount)))
 
+  -- the unit after it made its items
   produced_unit : (d : CampaignValue) (e : ℕ × ℕ) (u : Unit) → get d.units e.0 ≡ Some u → get (after_production asked w d e).units e.0 ≡ Some (maker_by w u e.1 (get asked e.0))
   unfolding after_production
   produced_unit d e u is = by_item (get asked e.0)

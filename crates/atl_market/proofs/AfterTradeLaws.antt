@@ -49,18 +49,22 @@ stock_traded : (trade : Trade) (h : HoldingValue) (stock share : ℕ) (m : Marke
 stock_traded Sell h stock share m = refl
 stock_traded Buy h stock share m = refl
 
+-- trading nothing leaves the stock as it is
 none_traded : (trade : Trade) (stock : ℕ) → stock_after trade stock 0 ≡ stock
 none_traded Sell stock = omega arith
 none_traded Buy stock = omega arith
 
+-- trading twice changes the stock as trading both amounts at once
 traded_twice : (trade : Trade) (stock s t : ℕ) → stock_after trade (stock_after trade stock s) t ≡ stock_after trade stock (s + t)
 traded_twice Sell stock s t = omega arith
 traded_twice Buy stock s t = omega arith
 
 module _ (d : CampaignValue) (n : ℕ) (u : Unit) (i : ℕ) (entry : Entry) (deal : TradeResult) (is : get d.units n ≡ Some u) where
+  -- the units after a trade is set: unit `n` with its new holding, the others as they were
   dealt_units : (with_result d n u i entry deal).units ≡ insert d.units n (record u { holding = with_trade_result u.holding i deal })
   dealt_units = ap (λ o. (with_held d n (with_trade_result u.holding i deal) o).units) is
 
+  -- the regions after a trade is set: the unit's region with its new stock, the others as they were
   dealt_regions : (with_result d n u i entry deal).regions ≡ changed (λ r. restocked r i deal.stock) d.regions u.region
   dealt_regions = ap (λ o. changed (λ r. restocked r i deal.stock) (with_held d n (with_trade_result u.holding i deal) o).regions u.region) is
 
@@ -71,6 +75,7 @@ module _ (trade : Trade) (items : FinMap nat_cmp ℕ) (w : WorldValue) where
   abbrev trader : ℕ → UnitChange
   trader n u share = trader_of trade u share (market_for w u (get items n))
 
+  -- the unit of a trade is after it what its share makes of it
   unit_traded : (d : CampaignValue) (e : ℕ × ℕ) (u : Unit) → get d.units e.0 ≡ Some u → get (after_trade trade items w d e).units e.0 ≡ Some (trader e.0 u e.1)
   unit_traded d e u is = by_market (market_for w u (get items e.0)) refl
     where
@@ -98,6 +103,7 @@ module _ (trade : Trade) (items : FinMap nat_cmp ℕ) (w : WorldValue) (units : 
   none_drawn true share none = none
   none_drawn false share none = refl
 
+  -- without a market, and with a share of 0, each region's stocks are as they should be
   without_market : market_for w u (get items e.0) ≡ None → e.1 ≡ 0 → (r : ℕ) (q : Region) → get d.regions r ≡ Some q → IsTraded r q
   without_market at none r q around = record {
     stocks = q.stocks;
@@ -106,20 +112,25 @@ module _ (trade : Trade) (items : FinMap nat_cmp ℕ) (w : WorldValue) (units : 
   }
 
   module _ (m : Market) (at : market_for w u (get items e.0) ≡ Some m) (told : get items e.0 ≡ Some m.item) where
+    -- the result of the unit's trade
     abbrev deal : TradeResult
     deal = trade_result_of trade u.holding (stock_of d u.region m.item) e.1 m
 
+    -- a region with the stock that the trade leaves
     abbrev restock : Region → Region
     restock q = restocked q m.item deal.stock
 
+    -- the trade changes the stock of the unit's region, and no other region
     regions_are : (r : ℕ) → get (after_trade trade items w d e).regions r ≡ get (changed restock d.regions u.region) r
     regions_are r =
         ap (λ (s : CampaignValue). get s.regions r) (traded_is trade items w d e u is (Some m) at)
         ∙ ap (λ k. get k r) (dealt_regions d e.0 u m.item (trade_entry trade) deal is)
 
+    -- the unit draws from the pot of its own region and item alone
     draws : (r i : ℕ) → told_there units items (r, i) e.0 ≡ (u.region == r && m.item == i)
     draws r i = ap (λ o. stands_in r o && is_for i (get items e.0)) there ∙ ap (λ o. u.region == r && is_for i o) told
 
+    -- a pot from which the unit doesn't draw stays as it is
     undrawn : (r i stock : ℕ) → told_there units items (r, i) e.0 ≡ false → stock ≡ stock_after trade stock (drawn_here r i)
     undrawn r i stock other = sym (ap (λ b. stock_after trade stock (cond b e.1 0)) other ∙ none_traded trade stock)
 
@@ -160,6 +171,7 @@ module _ (trade : Trade) (items : FinMap nat_cmp ℕ) (w : WorldValue) (units : 
       amounts = λ i. undrawn r i (amount_of q.stocks i) (draws r i ∙ ap (λ b. b && m.item == i) (other_number u.region r (λ same. apart (sym same))));
     }
 
+  -- the trade of a unit leaves each region's stocks as it should
   region_traded : IsWorld w → (market_for w u (get items e.0) ≡ None → e.1 ≡ 0) → (r : ℕ) (q : Region) → get d.regions r ≡ Some q → IsTraded r q
   region_traded world none r q around = by_market (market_for w u (get items e.0)) refl
     where
@@ -172,6 +184,7 @@ module _ (trade : Trade) (items : FinMap nat_cmp ℕ) (w : WorldValue) (units : 
 -- ---- one unit trades after the other
 
 module _ (trade : Trade) (items : FinMap nat_cmp ℕ) (w : WorldValue) where
+  -- a campaign after the trade of one share
   abbrev step : CampaignValue → ℕ × ℕ → CampaignValue
   step d e = after_trade trade items w d e
 
@@ -180,6 +193,7 @@ module _ (trade : Trade) (items : FinMap nat_cmp ℕ) (w : WorldValue) where
   traded_once d [] n above = refl
   traded_once d (e ∷ es) n above = traded_once (step d e) es n above.1 ∙ traded_others trade items w d e n (λ same. absurd (omega (arith, same, above.0)))
 
+  -- after all trades each unit has changed by its share, if it has one
   units_traded : (d : CampaignValue) (es : List (ℕ × ℕ)) → Rise es → (n : ℕ) (u : Unit) → get d.units n ≡ Some u
       → get (fold (after_trade trade items w) d es).units n ≡ Some (paid_unit (trader trade items w n) u (find nat_cmp n es))
   units_traded d [] rise n u is = is
@@ -198,6 +212,7 @@ module _ (trade : Trade) (items : FinMap nat_cmp ℕ) (w : WorldValue) where
     abbrev Trades : ℕ × ℕ → Type 0
     Trades e = (u : Unit) × (get c.units e.0 ≡ Some u) × (market_for w u (get items e.0) ≡ None → e.1 ≡ 0)
 
+    -- after all trades each region's stocks have changed by what its units traded
     regions_traded : IsWorld w → (d : CampaignValue) (es : List (ℕ × ℕ)) → Rise es → AreUntouched c d es → AllByRecursion Trades es → (r : ℕ) (q : Region) → get d.regions r ≡ Some q
         → HasNewStocks q (stock_after trade) (λ i. drawn (told_there c.units items (r, i)) es) (get (fold (after_trade trade items w) d es).regions r)
     regions_traded world d [] rise same all r q around = record { stocks = q.stocks; region = around; amounts = λ i. sym (none_traded trade (amount_of q.stocks i)) }
@@ -216,9 +231,11 @@ module _ (trade : Trade) (items : FinMap nat_cmp ℕ) (w : WorldValue) where
         }
 
 module _ (trade : Trade) (w : WorldValue) (c : CampaignValue) (os : List Task) where
+  -- the item that each unit's order names
   abbrev named : FinMap nat_cmp ℕ
   named = items_by (trade_pots trade) w c os
 
+  -- the shares of all units
   abbrev given : FinMap nat_cmp ℕ
   given = given_by (trade_pots trade) w c os
 

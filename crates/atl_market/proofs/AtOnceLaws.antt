@@ -19,6 +19,7 @@ use Rattle.atl_market.specs.PotPhase.{PotMeaning, after_sharing, given_by, items
 use Rattle.atl_market.proofs.DrawLaws.{AreUntouched, Drawers, all_pairs, drawn, still, untouched, who_stand}
 use Rattle.atl_market.proofs.PotLaws.{found_other}
 
+-- 0 more than a number is the number
 no_more : (a : ℕ) → 0 + a ≡ a
 no_more a = omega arith
 

@@ -53,6 +53,7 @@ use Rattle.atl_market.proofs.BuildPlaceLaws.{place_well}
 use Rattle.atl_market.proofs.BuildUsedLaws.{others_stay, used, used_for_well, used_room, user, user_there}
 use Rattle.atl_market.proofs.GoodsLaws.{used_is}
 
+-- a number that isn't 0 is at least 1
 some : (n : ℕ) → (n == 0) ≡ false → 1 ≤ n
 some n is = grind (arith, nat_tests)
 
@@ -126,6 +127,7 @@ can_go_on u s k is =
 
 -- ---- the size that is added
 
+-- the least of three numbers from 1 on is at least 1
 least_of : (x y z : ℕ) → 1 ≤ x → 1 ≤ y → 1 ≤ z → 1 ≤ min (min x y) z
 least_of x y z a b c = omega (arith, a, b, c)
 
@@ -147,16 +149,19 @@ module _ (k : Kind) (h : HoldingValue) (done : ℕ) where
   pub size_missing : size_added k h done ≤ k.size - done
   size_missing = missing_of (h.men * level_in h k.skill) (amount_of h.items k.material) (k.size - done)
 
+  -- a unit with men, level and material adds at least 1 to a structure that isn't complete
   size_some : 1 ≤ h.men → 1 ≤ level_in h k.skill → 1 ≤ amount_of h.items k.material → done < k.size → 1 ≤ size_added k h done
   size_some men level material missing =
       least_of (h.men * level_in h k.skill) (amount_of h.items k.material) (k.size - done) (product h.men (level_in h k.skill) men level) material (omega (arith, missing))
 
+-- the size of a kind, found by the kind's number
 kind_size : (w : WorldValue) (i : ℕ) (k : Kind) → slice_get w.kinds i ≡ Some k → size_of w i ≡ k.size
 kind_size w i k is = ap (λ o. option_map_or (λ (x : Kind). x.size) o most_size) is
 
 -- ---- a structure is begun
 
 module _ (w : WorldValue) (c : CampaignValue) (n kind : ℕ) (u : Unit) (k : Kind) (is : get c.units n ≡ Some u) where
+  -- the size of the new structure
   abbrev size : ℕ
   size = size_added k u.holding 0
 
@@ -164,9 +169,11 @@ module _ (w : WorldValue) (c : CampaignValue) (n kind : ℕ) (u : Unit) (k : Kin
   abbrev one : CampaignValue
   one = used w c n k.material size u is
 
+  -- from the campaign after the material was used: the structure is begun and entered
   abbrev from_used : CampaignValue → CampaignValue
   from_used d = with_place (with_new_structure d kind k u.region size) n u.region c.next_structure
 
+  -- beginning a structure is using the material and then this
   begun_is : after_start c n kind k u.region size ≡ from_used one
   begun_is = ap from_used (used_is w c n k.material size u is)
 
@@ -177,18 +184,22 @@ module _ (w : WorldValue) (c : CampaignValue) (n kind : ℕ) (u : Unit) (k : Kin
       ∙ others_stay w c n k.material size u is j apart
 
   module _ (kind_is : slice_get w.kinds kind ≡ Some k) (can : CanBuild w c) (fit : CanBegin w c u k) where
+    -- the kind is one of the world's
     good : IsKind (length w.items) (length w.skills) k
     good = can.kinds kind k kind_is
 
     room : c.next_structure ≤ most_structures
     room = next_within c can.steady.next.structures fit.room
 
+    -- using the material keeps what BUILD needs
     one_well : StepsWell CanBuild build_reserve w c one
     one_well = used_for_well w c n k.material size u is (size_held k u.holding 0) good.material can
 
+    -- the new structure
     abbrev new : Structure
     new = new_structure c.next_structure kind k u.region size
 
+    -- the new structure may be added to the campaign
     fresh : IsFresh w one new
     fresh = record {
       kind = slice_get_within w.kinds kind k kind_is;
@@ -200,9 +211,11 @@ module _ (w : WorldValue) (c : CampaignValue) (n kind : ℕ) (u : Unit) (k : Kin
       ownerless = refl;
     }
 
+    -- the campaign in which the new structure is added, and not entered yet
     two : CampaignValue
     two = raised w one new fresh room one_well.holds_still.steady
 
+    -- beginning a structure keeps what BUILD needs
     begun_well : StepsWell CanBuild build_reserve w c (after_start c n kind k u.region size)
     unfolding two
     begun_well =
@@ -217,15 +230,19 @@ module _ (w : WorldValue) (c : CampaignValue) (n kind : ℕ) (u : Unit) (k : Kin
 -- ---- more of a structure is done
 
 module _ (w : WorldValue) (c : CampaignValue) (n : ℕ) (u : Unit) (s : Structure) (k : Kind) (is : get c.units n ≡ Some u) where
+  -- the size that the unit adds
   abbrev added : ℕ
   added = size_added k u.holding s.done
 
+  -- the campaign after the unit used its material
   abbrev paid : CampaignValue
   paid = used w c n k.material added u is
 
+  -- from that campaign: so much of the structure is done
   abbrev further : CampaignValue → CampaignValue
   further d = with_done d u.structure (s.done + added)
 
+  -- going on is using the material and then this
   on_is : after_building_on c n k.material added u.structure (s.done + added) ≡ further paid
   on_is = ap further (used_is w c n k.material added u is)
 
@@ -237,12 +254,14 @@ module _ (w : WorldValue) (c : CampaignValue) (n : ℕ) (u : Unit) (s : Structur
     paid_well : StepsWell CanBuild build_reserve w c paid
     paid_well = used_for_well w c n k.material added u is (size_held k u.holding s.done) (can.kinds s.kind k kind_is).material can
 
+    -- what is done then is at most the kind's size
     most : s.done + added ≤ size_of w s.kind
     most = subst (λ x. s.done + added ≤ x) (sym (kind_size w s.kind k kind_is)) (up added s.done k.size (size_missing k u.holding s.done) fit.missing)
       where
         up : (a d m : ℕ) → a ≤ m - d → d < m → d + a ≤ m
         up a d m l h = omega (arith, l, h)
 
+    -- going on keeps what BUILD needs
     on_well : StepsWell CanBuild build_reserve w c (after_building_on c n k.material added u.structure (s.done + added))
     on_well =
         let done_is = built_is w paid u.structure s (s.done + added) there in
@@ -286,9 +305,11 @@ go_on_cases P w c n u same go = by_structure (get c.structures u.structure) refl
     by_structure (Some s) there = by_kind s there (slice_get w.kinds s.kind) refl
 
 module _ (w : WorldValue) (c : CampaignValue) (n : ℕ) (u : Unit) (is : get c.units n ≡ Some u) where
+  -- `BUILD kind` keeps what BUILD needs
   begin_well : (kind : ℕ) (k : Kind) → slice_get w.kinds kind ≡ Some k → CanBuild w c → StepsWell CanBuild build_reserve w c (begin w n kind k c u).0
   begin_well kind k kind_is can = begin_cases (λ d. StepsWell CanBuild build_reserve w c d) w c n kind k u (well_same w c can) (λ fit. begun_well w c n kind u k is kind_is can fit)
 
+  -- `BUILD` keeps what BUILD needs
   go_on_well : CanBuild w c → StepsWell CanBuild build_reserve w c (go_on w n c u).0
   go_on_well can = go_on_cases (λ d. StepsWell CanBuild build_reserve w c d) w c n u (well_same w c can) (λ s k there kind_is fit. on_well w c n u s k is there kind_is can fit)
 

@@ -25,6 +25,7 @@ module _ (w : WorldValue) (c : CampaignValue) (n : ℕ) (u : Unit) (s : ℕ) (is
   abbrev then : CampaignValue
   then = behind w c n u s is can.steady apart
 
+  -- what BUILD may still book stays the same
   reserve_stays : (e : Entry) (t : Thing) → build_reserve then e t ≡ build_reserve c e t
   reserve_stays e t =
       let f = λ (x : Unit). usable e t x.holding in

@@ -55,6 +55,7 @@ abbrev used_of : (item amount : ℕ) → Entry → Thing → ℕ
 used_of item amount e (Item j) = if entry_index e == entry_index Used then cond (eq_by_cmp nat_cmp j item) amount 0 else 0
 used_of item amount e t = 0
 
+-- what a holding may still have booked is less by what was used
 usable_less : (h : HoldingValue) (item amount : ℕ) → amount ≤ amount_of h.items item → (e : Entry) (t : Thing) → usable e t h ≡ usable e t (with_less h item amount) + used_of item amount e t
 usable_less h item amount enough e Money = refl
 usable_less h item amount enough e People = refl
@@ -91,6 +92,7 @@ only_used item amount e t = by_number (amount_number e t == amount_number Used (
 
 -- ---- the campaign
 
+-- a sum in which one term is less by `x` is less by `x`
 shrunk : (s t f g x : ℕ) → s + f ≡ t + g → f ≡ g + x → s + x ≡ t
 shrunk s t f g x e h = omega (arith, e, h)
 
@@ -112,9 +114,11 @@ module _ (w : WorldValue) (c : CampaignValue) (n item amount : ℕ) (u : Unit) (
   others_stay k apart = get-insert_other c.units n k user apart
 
   module _ (enough : amount ≤ amount_of u.holding.items item) (known : item < length w.items) (can : CanBuild w c) where
+    -- using the item leaves the campaign well
     well : LeavesWell IsSteady (moves_only amount Used (Item item)) w c used
     well = subst (LeavesWell IsSteady (moves_only amount Used (Item item)) w c) (used_is w c n item amount u is) (used_up_to w c n item amount amount (omega arith) u is known enough can.steady)
 
+    -- what BUILD may still book is less by what the books moved
     drawn : (e : Entry) (t : Thing) → UsesBound (build_reserve c e t) (build_reserve used e t) (amount_in c.books e t) (amount_in used.books e t)
     drawn e t =
         let f = λ (x : Unit). usable e t x.holding in

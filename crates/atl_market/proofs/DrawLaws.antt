@@ -26,6 +26,7 @@ abbrev IsIn : ℕ → List ℕ → Type 0
 IsIn n [] = ⊥
 IsIn n (k ∷ ks) = (n ≡ k) ⊎ IsIn n ks
 
+-- the number at an index of a list is one of the list
 place_in : (ns : List ℕ) (n i : ℕ) → i < length ns → get_or ns i 0 ≡ n → IsIn n ns
 place_in [] n i low at = absurd (omega arith)
 place_in (k ∷ ns) n zero low at = inl (sym at)
@@ -39,6 +40,7 @@ risen_above n (m ∷ ns) h k is = elim is [
   | inr rest ↦ risen_above n ns h.1 k rest
 ]
 
+-- a number of a list that is above its first is one of the rest
 another : (k n : ℕ) (ns : List ℕ) → n < k → IsIn k (n ∷ ns) → IsIn k ns
 another k n ns above is = elim is [ inl same ↦ absurd (omega (arith, above, same)) | inr rest ↦ rest ]
 
@@ -68,10 +70,12 @@ module _ (draws : Drawers) where
     abbrev pub Listed : List ℕ → ℕ × ℕ → Type 0
     Listed ns e = draws e.0 ≡ true → IsIn e.0 ns × (amount e.0 ≡ e.1)
 
+    -- shares of units above the first of a list are those of units in the rest
     narrowed : (n : ℕ) (ns : List ℕ) (es : List (ℕ × ℕ)) → AllByRecursion (λ f. n < f.0) es → AllByRecursion (Listed (n ∷ ns)) es → AllByRecursion (Listed ns) es
     narrowed n ns [] above all = tt
     narrowed n ns (f ∷ es) above all = (λ draws. let (is, same) = all.0 draws in (another f.0 n ns above.0 is, same), narrowed n ns es above.1 all.1)
 
+    -- numbers above one are above any that is no greater
     lower : (n k : ℕ) (es : List (ℕ × ℕ)) → n ≤ k → AllByRecursion (λ f. k < f.0) es → AllByRecursion (λ f. n < f.0) es
     lower n k [] low above = tt
     lower n k (f ∷ es) low above = (omega (arith, low, above.0), lower n k es low above.1)
@@ -79,6 +83,7 @@ module _ (draws : Drawers) where
     none_first : (rest : ℕ) → rest ≡ 0 → 0 + rest ≡ 0
     none_first rest h = omega (arith, h)
 
+    -- where no unit draws, nothing is drawn
     nothing_drawn : (es : List (ℕ × ℕ)) → AllByRecursion (Listed []) es → drawn es ≡ 0
     nothing_drawn [] all = refl
     nothing_drawn (e ∷ es) all =
@@ -100,6 +105,7 @@ module _ (draws : Drawers) where
     abbrev Bounded : List ℕ → Type 0
     Bounded ns = (es : List (ℕ × ℕ)) → IsRisen ns → Rise es → AllByRecursion (Listed ns) es → drawn es ≤ sum (map amount ns)
 
+    -- what the units of a list with one more draw is at most the sum of their amounts
     with_first : (n : ℕ) (ns : List ℕ) → Bounded ns → (es : List (ℕ × ℕ)) → IsRisen (n ∷ ns) → Rise es → AllByRecursion (Listed (n ∷ ns)) es → drawn es ≤ sum (map amount (n ∷ ns))
     with_first n ns rest [] up rise all = omega arith
     with_first n ns rest (e ∷ es) up rise all =
@@ -119,6 +125,7 @@ module _ (draws : Drawers) where
           | false ↦ λ _. none_of (drawn es) (sum (map amount (n ∷ ns))) (with_first n ns rest es up rise.1 all.1)
         ] refl
 
+    -- what the units of a list draw is at most the sum of their amounts
     pub drawn_among : (ns : List ℕ) → Bounded ns
     drawn_among [] es up rise all = let none = nothing_drawn es all in omega (arith, none)
     drawn_among (n ∷ ns) es up rise all = with_first n ns (drawn_among ns) es up rise all
@@ -212,9 +219,11 @@ module _ (units : FinMap nat_cmp Unit) (left : Region → ℕ) where
 
 -- each has enough: what the units of a region get together is its pot at most, where those who draw get shares of it
 module _ (pot_of : ℕ → ℕ) (wants : FinMap nat_cmp ℕ) (c : CampaignValue) (r : ℕ) (draws : Drawers) (given : FinMap nat_cmp ℕ) where
+  -- the amount that a unit gets of its region's pot
   abbrev amount : ℕ → ℕ
   amount n = amount_given pot_of wants c n
 
+  -- the units of region `r` that have a want
   abbrev takers : List ℕ
   takers = takers_in wants c.units r
 
@@ -234,6 +243,7 @@ module _ (pot_of : ℕ → ℕ) (wants : FinMap nat_cmp ℕ) (c : CampaignValue)
   least : (drawing pot all : ℕ) → drawing ≤ min pot all → drawing ≤ pot
   least drawing pot all h = omega (arith, h)
 
+  -- the pot of region `r` is enough for the shares of all that draw from it
   pub shares_are_enough : DrawShares → IsThere c.regions r → drawn draws (entries given) ≤ pot_of r
   shares_are_enough shared there =
       let drawing = drawn draws (entries given) in

@@ -44,6 +44,7 @@ module _ (w : WorldValue) (c : CampaignValue) (n : ℕ) (u : Unit) (q : Region) 
   abbrev exchanged : CampaignValue
   exchanged = with_amount left entry Money z
 
+  -- the total of each thing changes by what is booked
   total_of : KeepsTogether u q f more z → (t : Thing) → pos (total exchanged t) ≡ pos (total c t) +ℤ share_of t Money z
   total_of keeps t = by_thing t (total-amount left entry Money t z) (total-region f supplied u.region q around t) (total-unit_amount w c n u more is t)
     where

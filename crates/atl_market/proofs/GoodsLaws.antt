@@ -43,15 +43,18 @@ unmoved x y t k e f = omega (arith, ints, e, f)
 abbrev pub item_held : CampaignValue → ℕ → Unit → (item amount : ℕ) → CampaignValue
 item_held c n u i amount = with_held c n (record u.holding { items = with_amount_of u.holding.items i amount }) (Some u)
 
+-- setting the item of a unit that is there gives this campaign
 item_is : (c : CampaignValue) (n : ℕ) (u : Unit) (i amount : ℕ) → get c.units n ≡ Some u → with_item c n i amount ≡ item_held c n u i amount
 item_is c n u i amount is = changed_held (λ h. record h { items = with_amount_of h.items i amount }) c (with_item c n i amount) n refl u is
 
 -- ---- a unit holds another amount of an item, which is booked
 
 module _ (w : WorldValue) (c : CampaignValue) (n : ℕ) (u : Unit) (i amount : ℕ) (is : get c.units n ≡ Some u) where
+  -- the unit's holding with the new amount
   abbrev more : HoldingValue
   more = record u.holding { items = with_amount_of u.holding.items i amount }
 
+  -- the campaign in which the unit holds the new amount
   abbrev with_set : CampaignValue
   with_set = item_held c n u i amount
 
@@ -65,6 +68,7 @@ module _ (w : WorldValue) (c : CampaignValue) (n : ℕ) (u : Unit) (i amount : �
   }
 
   module _ (e : Entry) (z : ℤ) where
+    -- that campaign with the change booked
     abbrev after : CampaignValue
     after = with_amount with_set e (Item i) z
 
@@ -134,11 +138,13 @@ module _ (w : WorldValue) (c : CampaignValue) (n i k : ℕ) where
       subst (λ d. LeavesWell IsSteady (moves_only limit entries.Used (Item i)) w c d) (sym (used_is u there))
       (set_well w c n u i (a - k) there entries.Used (neg_ℤ (pos k)) (taken_off a k enough) limit known (omega (arith, within)) (within-neg k limit most) steady)
 
+  -- using an item leaves the campaign well
   pub used_well : CanUse w c n i k → LeavesWell IsSteady (moves_only holding_limit entries.Used (Item i)) w c (with_used c n i k)
   used_well can =
       let within = held_within can.unit can.there can.steady in
       used_up_to holding_limit (omega (arith, within, can.enough)) can.unit can.there can.known can.enough can.steady
 
+  -- making an item leaves the campaign well
   pub made_well : CanMake w c n i k → LeavesWell IsSteady (moves_only holding_limit entries.Made (Item i)) w c (with_made c n i k)
   made_well can =
       let u = can.unit in

@@ -79,10 +79,12 @@ found_among f n e exact (y ∷ xs) x among some = by_first (λ h. found_among f 
     by_first rest None is true at h = absurd (false≢true (sym (ap is_some is) ∙ ap (λ z. is_some (find nat_cmp n (f z))) (sym (exact x y at)) ∙ some))
     by_first rest None is false at h = ap is_some (found_later n (f y) (flat_map f xs) is) ∙ rest h
 
+-- what holds of all entries of each element of a list holds of all entries together
 each_flat : {A : Type 0} (P : ℕ × ℕ → Type 0) (f : A → Entries) (xs : List A) → AllByRecursion (λ x. AllByRecursion P (f x)) xs → AllByRecursion P (flat_map f xs)
 each_flat P f [] h = tt
 each_flat P f (x ∷ xs) h = append_each P (f x) (flat_map f xs) h.0 (each_flat P f xs h.1)
 
+-- keys that compare as equal are equal
 tied : (a b : ℕ) → eq_by_cmp nat_cmp a b ≡ true → a ≡ b
 tied a b h = by_order (nat_cmp a b) refl h
   where
@@ -93,6 +95,7 @@ tied a b h = by_order (nat_cmp a b) refl h
 
 -- ---- entries whose numbers rise, put in turn
 
+-- a number below those of all entries isn't found
 none_above : (k : ℕ) (es : Entries) → AllByRecursion (λ n. nat_cmp k n ≡ Less) (map (λ e. e.0) es) → find nat_cmp k es ≡ None
 none_above k [] h = refl
 none_above k (e ∷ es) h = ap (λ o. cond (is_eq o) (Some e.1) (find nat_cmp k es)) h.0 ∙ none_above k es h.1
@@ -131,6 +134,7 @@ module _ (item_of : ℕ → Option ℕ) (wants : FinMap nat_cmp ℕ) where
   abbrev mine : ℕ → FinMap nat_cmp ℕ
   mine i = wants_for item_of wants i
 
+  -- the want of a unit for item `i`: its want if it asks for that item
   mine_at : (i n : ℕ) → get (mine i) n ≡ cond (is_for i (item_of n)) (get wants n) None
   mine_at i n = get-retain_keys wants (λ k. is_for i (item_of k)) n (λ k tie. ap (λ j. is_for i (item_of j)) (sym (nat_cmp-IsAntisymmetric n k tie)))
 
@@ -154,6 +158,7 @@ module _ (item_of : ℕ → Option ℕ) (wants : FinMap nat_cmp ℕ) where
       by_test true h = h
       by_test false h = none_some want h
 
+  -- the want of a unit that asks for item `i` is the same among the wants for that item
   wants_the_same : (i n : ℕ) → is_some (get (mine i) n) ≡ true → want_of wants n ≡ want_of (mine i) n
   wants_the_same i n some = by_test (is_for i (item_of n)) refl
     where
@@ -165,6 +170,7 @@ module _ (item_of : ℕ → Option ℕ) (wants : FinMap nat_cmp ℕ) where
   abbrev pairs : ℕ → List ℕ → Entries
   pairs i ns = flat_map (λ n. want_entry n (get (mine i) n)) ns
 
+  -- the group of an item after one unit's want was put
   one_put : (groups : Groups) (n : ℕ) (rest : Entries) (i : ℕ) → with_each (group_of (with_want item_of wants groups n) i) rest ≡ with_each (group_of groups i) (want_entry n (get (mine i) n) ++ rest)
   one_put groups n rest i = by_item (item_of n) (get wants n) ∙ sym (ap (λ o. with_each (group_of groups i) (want_entry n o ++ rest)) (mine_at i n))
     where
@@ -231,6 +237,7 @@ module _ (item_of : ℕ → Option ℕ) (pot_of : (item region : ℕ) → ℕ) (
     abbrev of_item : ℕ → Entries
     of_item i = shares_in (pot_of i) (mine item_of wants i) c.units r
 
+    -- the units of an item's group are the region's units that have a want for it
     takers_are : (i : ℕ) → keys (group_of groups i) ≡ takers_in (mine item_of wants i) c.units r
     takers_are i =
         let ns = numbers_in r c.units in
@@ -293,6 +300,7 @@ module _ (item_of : ℕ → Option ℕ) (pot_of : (item region : ℕ) → ℕ) (
   abbrev share_at : ℕ → Option ℕ → Option (ℕ × ℕ)
   share_at n o = option_map (λ s. (n, s)) o
 
+  -- the shares of those units that have one of these wants, as entries
   abbrev of_wants : Entries → Entries
   of_wants es = filter_map (λ e. share_at e.0 (gets e.0)) es
 
@@ -327,9 +335,11 @@ module _ (item_of : ℕ → Option ℕ) (pot_of : (item region : ℕ) → ℕ) (
   pub shares_are : (given : FinMap nat_cmp ℕ) → ((n : ℕ) → get given n ≡ gets n) → given ≡ item_shares item_of pot_of wants c
   shares_are given at = same_map nat_cmp_total nat_cmp-IsAntisymmetric given (item_shares item_of pot_of wants c) (λ n. at n ∙ sym (shares_at n))
 
+  -- the shares of all regions, as the code puts them
   abbrev all_shares : Entries
   all_shares = flat_map (region_shares item_of pot_of wants c) (keys c.regions)
 
+  -- each share that is put is the unit's share by the definition
   all_shares_agree : AgreeWith gets all_shares
   all_shares_agree = each_flat (λ e. gets e.0 ≡ Some e.1) (region_shares item_of pot_of wants c) (keys c.regions) (by_region (entries c.regions) (each-from_every (λ r q. get c.regions r ≡ Some q) c.regions (λ r q is. is)))
     where
@@ -337,6 +347,7 @@ module _ (item_of : ℕ → Option ℕ) (pot_of : (item region : ℕ) → ℕ) (
       by_region [] h = tt
       by_region (e ∷ es) h = (region_agrees e.0 (e.1, h.0), by_region es h.1)
 
+  -- each unit's share by the definition is put
   none_missing : (n s : ℕ) → gets n ≡ Some s → is_some (find nat_cmp n all_shares) ≡ true
   none_missing n s is = by_item (item_of n) is
     where

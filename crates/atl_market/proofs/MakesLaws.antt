@@ -31,6 +31,7 @@ module _ (f : ℕ × ℕ → ℕ) where
   rise_instead [] rise = tt
   rise_instead (e ∷ es) rise = (above_instead e.0 es rise.0, rise_instead es rise.1)
 
+  -- a number found among the new entries is found among the old, and its amount is the new one
   found_instead : (es : List (ℕ × ℕ)) (n a : ℕ) → find nat_cmp n (instead es) ≡ Some a → (b : ℕ) × (find nat_cmp n es ≡ Some b) × (a ≡ f (n, b))
   found_instead [] n a is = none_some a is
   found_instead (e ∷ es) n a is = elim (cases_eq n e.0) [

@@ -53,6 +53,7 @@ not_first Less b n h = h
 not_first Equal b n h = absurd (n refl)
 not_first Greater b n h = h
 
+-- a key equals itself
 same_key : (k : ℕ) → eq_by_cmp nat_cmp k k ≡ true
 same_key k = elim (nat_cmp k k) as (λ o. nat_cmp k k ≡ o → is_eq o ≡ true) [
   | Less ↦ λ e. not_itself k e
@@ -60,6 +61,7 @@ same_key k = elim (nat_cmp k k) as (λ o. nat_cmp k k ≡ o → is_eq o ≡ true
   | Greater ↦ λ e. let l = ranked k k Greater (sym e) in absurd (omega arith)
 ] refl
 
+-- an option that isn't None holds a value
 is_there : {X : Type 0} (o : Option X) → is_some o ≡ true → (x : X) × (o ≡ Some x)
 is_there None h = absurd (false≢true h)
 is_there (Some x) h = (x, refl)
@@ -98,6 +100,7 @@ abbrev pub IsApart : Entries → Type 0
 IsApart [] = ⊤
 IsApart (e ∷ es) = (find nat_cmp e.0 es ≡ None) × IsApart es
 
+-- the number of the first entry is found with its value
 pub found_head : (e : ℕ × ℕ) (es : Entries) → find nat_cmp e.0 (e ∷ es) ≡ Some e.1
 found_head e es =
     elim (nat_cmp e.0 e.0) as (λ o. nat_cmp e.0 e.0 ≡ o → cond (is_eq o) (Some e.1) (find nat_cmp e.0 es) ≡ Some e.1) [
@@ -106,6 +109,7 @@ found_head e es =
       | Greater ↦ λ o. let l = ranked e.0 e.0 Greater (sym o) in absurd (omega arith)
     ] refl
 
+-- a number found among the later entries, which all differ, is found among all
 pub found_tail : (e : ℕ × ℕ) (es : Entries) (n s : ℕ) → IsApart (e ∷ es) → find nat_cmp n es ≡ Some s → find nat_cmp n (e ∷ es) ≡ Some s
 found_tail e es n s apart is =
     elim (nat_cmp n e.0) as (λ o. nat_cmp n e.0 ≡ o → cond (is_eq o) (Some e.1) (find nat_cmp n es) ≡ Some s) [
@@ -144,6 +148,7 @@ found_put es apart n = by_find (find nat_cmp n es) refl
     by_find None is = left empty es n is ∙ get-empty nat_cmp n
     by_find (Some s) is = put empty es n s apart is
 
+-- a number below those of all entries isn't found
 none_under : (k : ℕ) (es : Entries) → AllByRecursion (λ e. k < e.0) es → find nat_cmp k es ≡ None
 none_under k [] above = refl
 none_under k (e ∷ es) above = found_other e es k (λ same. absurd (omega (arith, same, above.0))) ∙ none_under k es above.1
@@ -161,6 +166,7 @@ abbrev or_else : {V : Type 0} → Option V → Option V → Option V
 or_else None old = old
 or_else (Some s) old = Some s
 
+-- in a map after entries were put, a number has its last entry's value, or else what the map had
 last_put : {V : Type 0} (m : FinMap nat_cmp V) (es : List (ℕ × V)) (n : ℕ) → get (with_each m es) n ≡ or_else (find nat_cmp n (reverse es)) (get m n)
 last_put m [] n = refl
 last_put {V} m (e ∷ es) n = last_put (insert m e.0 e.1) es n ∙ by_find (find nat_cmp n (reverse es)) refl ∙ sym (ap (λ fs. or_else (find nat_cmp n fs) (get m n)) (reverse-append (e ∷ []) es))
@@ -249,6 +255,7 @@ module _ (f : ℕ → Entries) where
 
 -- ---- numbers beside amounts
 
+-- a number found among pairs of numbers and amounts is one of the numbers
 zip_found : (P : ℕ → Type 0) (ns ss : List ℕ) (n s : ℕ) → AllByRecursion P ns → find nat_cmp n (zip ns ss) ≡ Some s → P n
 zip_found P [] ss n s h is = none_some s is
 zip_found P (k ∷ ns) [] n s h is = none_some s is
@@ -264,11 +271,13 @@ abbrev pub IsRisen : List ℕ → Type 0
 IsRisen [] = ⊤
 IsRisen (n ∷ ns) = AllByRecursion (λ k. nat_cmp n k ≡ Less) ns × IsRisen ns
 
+-- sorted numbers with amounts are entries of which no two have the same number
 zip_apart : (ns ss : List ℕ) → IsRisen ns → IsApart (zip ns ss)
 zip_apart [] ss h = tt
 zip_apart (n ∷ ns) [] h = tt
 zip_apart (n ∷ ns) (s ∷ ss) h = (refuted _ (λ t is. not_itself n (zip_found (λ k. nat_cmp n k ≡ Less) ns ss n t h.0 is)), zip_apart ns ss h.1)
 
+-- a function that agrees with pairs of numbers and amounts maps the numbers to the amounts
 zip_all : (g : ℕ → Option ℕ) (ns ss : List ℕ) → length ss ≡ length ns → IsApart (zip ns ss) → ((n s : ℕ) → find nat_cmp n (zip ns ss) ≡ Some s → g n ≡ Some s) → map g ns ≡ map Some ss
 zip_all g [] [] l apart h = refl
 zip_all g [] (s ∷ ss) l apart h = absurd (omega arith)
@@ -337,6 +346,7 @@ module _ (r : ℕ) where
         | false ↦ rest
       ])
 
+  -- the numbers of a region's units are sorted
   listed_risen : (es : List (ℕ × Unit)) → is_sorted nat_cmp es ≡ true → IsRisen (listed es)
   listed_risen [] s = tt
   listed_risen (e ∷ es) s =
@@ -374,11 +384,13 @@ module _ (wants : FinMap nat_cmp ℕ) (units : FinMap nat_cmp Unit) where
   sorted_units : is_sorted nat_cmp (entries units) ≡ true
   sorted_units = sorted units
 
+  -- each of the units listed for a region that has a want is there
   takers_each : (r : ℕ) → AllByRecursion (IsTaker r) (takers_in wants units r)
   takers_each r =
       each_so _ (IsTaker r) (λ n ((u, is, here), want). ((u, get-entries units n ∙ is, here), is_there (get wants n) want)) (takers_in wants units r)
       (kept_each (λ n. is_some (get wants n)) (StandsIn r (entries units)) (numbers_in r units) (listed_each r (entries units) sorted_units))
 
+  -- the numbers of a region's units that have a want are sorted
   pub takers_risen : (r : ℕ) → IsRisen (takers_in wants units r)
   takers_risen r = kept_risen (λ n. is_some (get wants n)) (numbers_in r units) (listed_risen r (entries units) sorted_units)
 
@@ -418,6 +430,7 @@ module _ (pot_of : ℕ → ℕ) (wants : FinMap nat_cmp ℕ) (units : FinMap nat
   put_all rs = with_each-from_entries given_in given_apart gives_one rs
 
 module _ (pot_of : ℕ → ℕ) (wants : FinMap nat_cmp ℕ) (c : CampaignValue) where
+  -- the shares of all regions, put in turn, are the map of the definition
   put_is : with_each empty (flat_map (shares_in pot_of wants c.units) (keys c.regions)) ≡ pot_shares pot_of wants c
   unfolding pot_shares
   put_is = put_all pot_of wants c.units (keys c.regions)
@@ -434,6 +447,7 @@ module _ (pot_of : ℕ → ℕ) (wants : FinMap nat_cmp ℕ) (c : CampaignValue)
   unfolding pot_shares
   found_is n = get-from_entries nat_cmp_total (flat_map (shares_in pot_of wants c.units) (keys c.regions)) n
 
+  -- a region of the campaign is among the keys of the regions
   among : (r : ℕ) → IsThere c.regions r → list_any (eq_by_cmp nat_cmp r) (keys c.regions) ≡ true
   among r (v, is) = sym (contains_key-keys c.regions r) ∙ ap is_some is
 
@@ -524,6 +538,7 @@ only_takers_get pot_of wants c n s is =
 pub pots_give : (pot_of : ℕ → ℕ) (c : CampaignValue) (wants : FinMap nat_cmp ℕ) (n share : ℕ) → get (pot_shares pot_of wants c) n ≡ Some share → (want : ℕ) × (get wants n ≡ Some want) × (share ≤ want)
 pots_give pot_of c wants n share is = let (want, u, wanted, low, at, region) = only_takers_get pot_of wants c n share is in (want, wanted, low)
 
+-- options that are all Some of some amounts have these amounts
 amounts : (g : ℕ → Option ℕ) (ns ss : List ℕ) → map g ns ≡ map Some ss → map (λ n. unwrap_or (g n) 0) ns ≡ ss
 amounts g ns ss h = mapped ns ∙ ap (map (λ o. unwrap_or o 0)) h ∙ back ss
   where

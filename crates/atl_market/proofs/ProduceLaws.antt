@@ -54,16 +54,19 @@ on false = omega arith
 off : (a b : ℕ) → a ≢ b → (if a == b then holding_limit else 0) ≤ 0
 off a b apart = let other : (a == b) ≡ false = grind (arith, nat_tests) in rw other (omega arith)
 
+-- the bound on using one item is within that of PRODUCE
 used_less : (r : ℕ) → MovesLess (moves_only holding_limit booked.Used (things.Item r)) (produce_moves holding_limit)
 used_less r booked.Made (things.Item j) = on (amount_number booked.Made (things.Item j) == amount_number booked.Used (things.Item r))
 used_less r booked.Used (things.Item j) = on (amount_number booked.Used (things.Item j) == amount_number booked.Used (things.Item r))
 used_less r e t = off (amount_number e t) (amount_number booked.Used (things.Item r)) (omega arith)
 
+-- the bound on making one item is within that of PRODUCE
 made_less : (i : ℕ) → MovesLess (moves_only holding_limit booked.Made (things.Item i)) (produce_moves holding_limit)
 made_less i booked.Made (things.Item j) = on (amount_number booked.Made (things.Item j) == amount_number booked.Made (things.Item i))
 made_less i booked.Used (things.Item j) = on (amount_number booked.Used (things.Item j) == amount_number booked.Made (things.Item i))
 made_less i e t = off (amount_number e t) (amount_number booked.Made (things.Item i)) (omega arith)
 
+-- many steps within one bound of PRODUCE are within a greater one
 scaled : (steps one all : ℕ) → steps * one ≤ all → (e : Entry) (t : Thing) → steps * produce_moves one e t ≤ produce_moves all e t
 scaled steps one all few booked.Made (things.Item i) = few
 scaled steps one all few booked.Used (things.Item i) = few
@@ -75,6 +78,7 @@ used_none r j = off (amount_number booked.Made (things.Item j)) (amount_number b
 made_none : (i j : ℕ) → (if amount_number booked.Used (things.Item j) == amount_number booked.Made (things.Item i) then holding_limit else 0) ≤ 0
 made_none i j = off (amount_number booked.Used (things.Item j)) (amount_number booked.Made (things.Item i)) (omega arith)
 
+-- the bounds on using one item and making another are together within that of PRODUCE
 both_less : (r i : ℕ) → MovesLess (both_move (moves_only holding_limit booked.Used (things.Item r)) (moves_only holding_limit booked.Made (things.Item i))) (produce_moves holding_limit)
 both_less r i booked.Made (things.Item j) = omega (arith, used_none r j, made_less i booked.Made (things.Item j))
 both_less r i booked.Used (things.Item j) = omega (arith, used_less r booked.Used (things.Item j), made_none i j)
@@ -104,6 +108,7 @@ module _ (asked : FinMap nat_cmp ℕ) (w : WorldValue) (c : CampaignValue) (e : 
           room = less_room (e.1 * x.raw_count) holding_limit (amount_in c.books booked.Used (things.Item r)) (omega (arith, fits.raw r raw, held r)) (can.room booked.Used (things.Item r));
         }
 
+    -- an item without raw items can be made
     can_at_once : CanMake w c e.0 i e.1
     can_at_once =
         let fits = can.fits i x told there in
@@ -116,6 +121,7 @@ module _ (asked : FinMap nat_cmp ℕ) (w : WorldValue) (c : CampaignValue) (e : 
           room = less_room e.1 holding_limit (amount_in c.books booked.Made (things.Item i)) (omega (arith, fits.fits)) (can.room booked.Made (things.Item i));
         }
 
+    -- an item can be made after its raw items were used
     can_behind : (r : ℕ) → x.raw ≡ Some r → CanMake w (with_used c e.0 r (e.1 * x.raw_count)) e.0 i e.1
     can_behind r raw =
         let fits = can.fits i x told there in
@@ -153,6 +159,7 @@ module _ (asked : FinMap nat_cmp ℕ) (w : WorldValue) (c : CampaignValue) (e : 
       make = can_make_then;
     }
 
+    -- using the raw items and making the item leaves the campaign well
     item_well : LeavesWell IsSteady (produce_moves holding_limit) w c (with_made (with_raw_used c e.0 (e.1 * x.raw_count) x.raw) e.0 i e.1)
     item_well = by_raw x.raw refl
       where
@@ -200,6 +207,7 @@ needs_item w h fine = by_men (h.men == 0) fine
     by_men false never = none_some NoSkill (sym never)
 
 module _ (w : WorldValue) (c : CampaignValue) (os : List Task) where
+  -- the item that each unit's order names
   abbrev items : FinMap nat_cmp ℕ
   items = items_by produce_pots w c os
 
@@ -235,6 +243,7 @@ raw_in items r None is known = none_some r is
 raw_in items r (Some k) is known = let same : k ≡ r = cc in subst (λ m. m < items) same known
 
 module _ (asked : FinMap nat_cmp ℕ) (w : WorldValue) (c : CampaignValue) (world : IsWorld w) (steady : IsSteady w c) where
+  -- a unit has room and raw items for as much as it can make
   fits_by : (n made : ℕ) (u : Unit) → get c.units n ≡ Some u → made ≤ most_makeable w u.holding (get asked n) → (i : ℕ) (x : Item) → get asked n ≡ Some i → slice_get w.items i ≡ Some x → HasRoomAndRaw w u made i x
   fits_by n made u there low i x told is =
       let all : made ≤ most_makeable_of u.holding i x = subst (λ o. made ≤ option_map_or (most_makeable_of u.holding i) o 0) is (subst (λ o. made ≤ most_makeable w u.holding o) told low) in
@@ -257,6 +266,7 @@ module _ (asked : FinMap nat_cmp ℕ) (w : WorldValue) where
   abbrev step_moves : BookBound
   step_moves = produce_moves holding_limit
 
+  -- the units still to come have room after another unit changed
   still : (c d : CampaignValue) (n : ℕ) (es : List (ℕ × ℕ)) → ((k : ℕ) → k ≢ n → get d.units k ≡ get c.units k) → AllByRecursion (λ f. n < f.0) es → AllByRecursion (HasRoomFor asked w c) es → AllByRecursion (HasRoomFor asked w d) es
   still c d n [] same above all = tt
   still c d n (f ∷ es) same above ((u, there, fits), all) = ((u, same f.0 (λ e. absurd (omega (arith, e, above.0))) ∙ there, fits), still c d n es same above.1 all)
@@ -287,6 +297,7 @@ module _ (w : WorldValue) (c : CampaignValue) (world : IsWorld w) (steady : IsSt
   few : length shares ≤ most_units
   few = omega (arith, few_given produce_pots w c (makes_give w c) os, steady.numbers.few_units)
 
+  -- all steps together move each amount by less than 10^14
   little : MovesLess (moved_times (length shares) (produce_moves holding_limit)) (produce_moves most_moved)
   little e t = scaled (length shares) holding_limit most_moved (omega (arith, few)) e t
 

@@ -67,9 +67,11 @@ abbrev pub recruited_to : CampaignValue → ℕ → Unit → Region → (recruit
 recruited_to c n u q recruits cost = with_amount (region_changed (leave q recruits) (joined c n u recruits cost) u.region) Recruiting Money (neg_ℤ (pos cost))
 
 module _ (w : WorldValue) (c : CampaignValue) (n : ℕ) (u : Unit) (q : Region) (recruits cost : ℕ) (is : get c.units n ≡ Some u) (around : get c.regions u.region ≡ Some q) where
+  -- the campaign after recruiting
   abbrev after : CampaignValue
   after = recruited_to c n u q recruits cost
 
+  -- what the unit holds after recruiting
   abbrev more : HoldingValue
   more = with_paid_recruits u.holding recruits cost
 
@@ -84,6 +86,7 @@ module _ (w : WorldValue) (c : CampaignValue) (n : ℕ) (u : Unit) (q : Region) 
   recruits_are = ap (λ o. with_amount (with_peasants (with_held c n more o) u.region (q.peasants - recruits)) Recruiting Money (neg_ℤ (pos cost))) is
 
   module _ (fits : u.holding.men + recruits ≤ men_limit) (payable : cost ≤ u.holding.money) (enough : recruits ≤ q.peasants) (early : IsEarly w c) where
+    -- the unit may hold that
     may : MayHave w more
     may =
         let old = may_have w c n u is early.steady in
@@ -96,6 +99,7 @@ module _ (w : WorldValue) (c : CampaignValue) (n : ℕ) (u : Unit) (q : Region) 
           days = λ s days there. let (some, most) = old.days s days there in (some, omega (arith, most));
         }
 
+    -- unit and region keep their people together, and the money that is paid is booked
     together : KeepsTogether u q (leave q recruits) more (neg_ℤ (pos cost))
     together = record { money = omega (arith, ints, payable); people = omega (arith, enough); items = λ i. refl }
 
@@ -198,6 +202,7 @@ module _ (w : WorldValue) (c : CampaignValue) where
   abbrev CanBook : CampaignValue → List (ℕ × ℕ) → Type 0
   CanBook d es = HaveRoom (moved_times (length es) step_moves) d
 
+  -- the first of the shares still to come can be given
   first_can : (d : CampaignValue) (e : ℕ × ℕ) (es : List (ℕ × ℕ)) → AreToJoin d (e ∷ es) → CanBook d (e ∷ es) → CanRecruit w d e
   first_can d e es ready room =
       let (u, there, fits, payable) = ready.fits.0 in
@@ -206,6 +211,7 @@ module _ (w : WorldValue) (c : CampaignValue) where
       let draws = one_draws c.units peasants_of d e u q there around es ready.enough in
       record { at = record { unit = u; there = now; region = q; around = around }; fits = fits; payable = payable; enough = draws; early = ready.early; room = first_room step_moves d e es room }
 
+  -- the shares still to come can be given in turn
   all_can : (d : CampaignValue) (es : List (ℕ × ℕ)) → AreToJoin d es → CanBook d es → CanInTurn (CanRecruit w) (after_recruiting w) d es
   all_can d [] ready room = tt
   all_can d (e ∷ es) ready room =
@@ -229,6 +235,7 @@ module _ (w : WorldValue) (c : CampaignValue) where
         let few : share ≤ money / price = omega (arith, low) in
         omega (arith, mul-le-mul_right price few, mul-div-le money price, mul_comm (money / price) price)
 
+    -- each unit has room for its recruits and can pay for them
     each_fits : Every (λ n share. CanHave (n, share)) (given_by recruit_pots w c os)
     each_fits n share is =
         let (u, o, there, own, low) = given_is_wanted recruit_pots w c (λ items. pots_give (recruits_at w c) c) os n share is in
@@ -237,6 +244,7 @@ module _ (w : WorldValue) (c : CampaignValue) where
     part : (all one : ℕ) → all / one ≤ all
     part all one = div-le_self all one
 
+    -- each region has peasants enough for all its recruits
     all_enough : HaveEnough pots c shares
     all_enough r q around =
         let few : drawn (who_stand c.units r) shares ≤ q.peasants / w.rules.recruit_fraction = subst (λ pot. drawn (who_stand c.units r) shares ≤ pot) (ap (λ o. option_map_or (λ (x : Region). x.peasants / w.rules.recruit_fraction) o 0) around) (pot_is_enough _ _ c r (q, around)) in
@@ -245,6 +253,7 @@ module _ (w : WorldValue) (c : CampaignValue) where
     few : length shares ≤ most_units
     few = omega (arith, few_given recruit_pots w c (λ items. pots_give (recruits_at w c) c) os, early.steady.numbers.few_units)
 
+    -- all steps together move each amount by less than 10^14
     little : (e : Entry) (t : Thing) → moved_times (length shares) step_moves e t ≤ recruit_moves most_moved e t
     little e t = few_holdings (length shares) few Recruiting Money e t
 

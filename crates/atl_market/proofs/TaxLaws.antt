@@ -57,6 +57,7 @@ abbrev pub drained : CampaignValue → ℕ → Unit → Region → ℕ → Campa
 drained c n u q share = region_changed (drain q share) (richer c n u share) u.region
 
 module _ (w : WorldValue) (c : CampaignValue) (n : ℕ) (u : Unit) (q : Region) (share : ℕ) (is : get c.units n ≡ Some u) (around : get c.regions u.region ≡ Some q) where
+  -- the campaign after the unit took its share
   abbrev after : CampaignValue
   after = drained c n u q share
 
@@ -65,6 +66,7 @@ module _ (w : WorldValue) (c : CampaignValue) (n : ℕ) (u : Unit) (q : Region) 
   tax_is = ap (λ d. with_region_money d u.region (q.money - share)) (richer_is c n u share is)
 
   module _ (enough : share ≤ q.money) where
+    -- the total of each thing is the same as before
     same_total : (t : Thing) → total after t + region_amount t q ≡ total (richer c n u share) t + region_amount t (drain q share q)
         → total (richer c n u share) t + unit_amount t u.holding ≡ total c t + unit_amount t (paid c n u share) → total after t ≡ total c t
     same_total Money a b = omega (arith, a, b, enough)
@@ -154,6 +156,7 @@ module _ (w : WorldValue) (c : CampaignValue) where
   abbrev AreTaken : CampaignValue → List (ℕ × ℕ) → Type 0
   AreTaken = AreReady pots HasRoomFor w c
 
+  -- the first of the shares still to come can be paid
   first_can : (d : CampaignValue) (e : ℕ × ℕ) (es : List (ℕ × ℕ)) → AreTaken d (e ∷ es) → CanTax w d e
   first_can d e es ready =
       let (u, there, fits) = ready.fits.0 in
@@ -162,6 +165,7 @@ module _ (w : WorldValue) (c : CampaignValue) where
       let draws = one_draws c.units money_of d e u q there around es ready.enough in
       record { at = record { unit = u; there = now; region = q; around = around }; fits = fits; enough = draws; early = ready.early }
 
+  -- the shares still to come can be paid in turn
   all_can : (d : CampaignValue) (es : List (ℕ × ℕ)) → AreTaken d es → CanInTurn (CanTax w) after_tax d es
   all_can d [] ready = tt
   all_can d (e ∷ es) ready =
@@ -178,11 +182,13 @@ module _ (w : WorldValue) (c : CampaignValue) where
     wanted_fits : (money men share : ℕ) → money ≤ holding_limit → share ≤ min men (holding_limit - money) → money + share ≤ holding_limit
     wanted_fits money men share fits low = omega (arith, fits, low)
 
+    -- each unit has room for its share
     each_fits : Every (λ n share. HasRoomFor (n, share)) (given_by tax_pots w c os)
     each_fits n share is =
         let (u, o, there, own, low) = given_is_wanted tax_pots w c (λ items. pots_give (money_at c) c) os n share is in
         (u, there, wanted_fits u.holding.money _ share (early.steady.numbers.units n u there).1.money low)
 
+    -- each region has money enough for all shares
     all_enough : HaveEnough pots c shares
     all_enough r q around = subst (λ pot. drawn (who_stand c.units r) shares ≤ pot) (ap (λ o. option_map_or money_of o 0) around) (pot_is_enough _ _ c r (q, around))
 

@@ -84,9 +84,11 @@ abbrev pub dealt_to : CampaignValue → ℕ → Unit → ℕ → Entry → Trade
 dealt_to c n u i entry d = with_amount (region_changed (λ r. restocked r i d.stock) (supplied c n u i d) u.region) entry Money d.booked
 
 module _ (w : WorldValue) (c : CampaignValue) (n : ℕ) (u : Unit) (q : Region) (i : ℕ) (entry : Entry) (d : TradeResult) (is : get c.units n ≡ Some u) (around : get c.regions u.region ≡ Some q) where
+  -- the campaign after the trade
   abbrev after : CampaignValue
   after = dealt_to c n u i entry d
 
+  -- what the unit holds after the trade
   abbrev more : HoldingValue
   more = with_trade_result u.holding i d
 
@@ -101,6 +103,7 @@ module _ (w : WorldValue) (c : CampaignValue) (n : ℕ) (u : Unit) (q : Region) 
   deal_is = ap (λ o. with_amount (with_stock (with_held c n more o) u.region i d.stock) entry Money d.booked) is
 
   module _ (fits : ResultFits w u i (amount_of q.stocks i) d) (known : i < length w.items) (market : IsSome (market_of w u.region i)) (early : IsEarly w c) where
+    -- the unit may hold that
     may : MayHave w more
     may =
         let old = may_have w c n u is early.steady in
@@ -112,6 +115,7 @@ module _ (w : WorldValue) (c : CampaignValue) (n : ℕ) (u : Unit) (q : Region) 
           days = old.days;
         }
 
+    -- unit and region keep their goods together, and the money is booked
     together : KeepsTogether u q (λ r. restocked r i d.stock) more d.booked
     together = record { money = omega (arith, ints, fits.paid); people = refl; items = items }
       where
@@ -241,6 +245,7 @@ module _ (trade : Trade) (items : FinMap nat_cmp ℕ) (w : WorldValue) (c : Camp
     market : IsMarketFor w can.at.unit (get items e.0) m
     market = market_is w can.world can.at.unit (get items e.0) m at
 
+    -- the trade of the unit is the one with this market
     made_is : after_trade trade items w c e ≡ dealt_to c e.0 can.at.unit m.item (trade_entry trade) deal
     made_is =
         traded_is can.at.unit can.at.there (Some m) at
@@ -254,11 +259,13 @@ module _ (trade : Trade) (items : FinMap nat_cmp ℕ) (w : WorldValue) (c : Camp
         let low = subst (λ k. amount_of can.at.region.stocks m.item ≤ k) limit (stock_low w c u.region can.at.region m.item can.early can.at.around) in
         deal_fits w u m (amount_of can.at.region.stocks m.item) e.1 market.there (can.early.steady.numbers.units e.0 u can.at.there).1 low trade (subst (CanAfford trade u.holding e.1) at can.deal) (can.pot m at)
 
+    -- the trade with this market leaves the campaign well
     made_well : LeavesWell IsEarly (trade_moves trade holding_limit) w c (after_trade trade items w c e)
     made_well =
         subst (λ d. LeavesWell IsEarly (trade_moves trade holding_limit) w c d) (sym made_is)
         (deal_well w c e.0 can.at.unit can.at.region m.item (trade_entry trade) deal can.at.there can.at.around fits market.bounds.item (subst IsSome (sym market.there) refl) can.early)
 
+    -- the trade with this market drains the pots as it should
     made_drains : (units : FinMap nat_cmp Unit) → get units e.0 ≡ Some can.at.unit → Drains (item_pots trade w units items) c e (after_trade trade items w c e)
     made_drains units there =
         region_drains (item_pots trade w units items) c e (after_trade trade items w c e) can.at.unit.region can.at.region can.at.around (λ r. restocked r m.item deal.stock) (ap (λ (d : CampaignValue). d.regions) made_is)
@@ -336,6 +343,7 @@ module _ (h : HoldingValue) (m : Market) (told share : ℕ) (holds : IsHolding h
   room_for : (a k limit : ℕ) → a ≤ limit → k ≤ limit - a → a + k ≤ limit
   room_for a k limit fits few = omega (arith, fits, few)
 
+  -- a unit can afford at most what it wants
   pub wanted_fits : (trade : Trade) → share ≤ trade_want trade h told (Some m) → CanAfford trade h share (Some m)
   wanted_fits Sell low =
       let (few, payable) = few_of told (amount_of h.items m.item) ((holding_limit - h.money) / m.pays) low in
@@ -357,6 +365,7 @@ module _ (trade : Trade) (items : FinMap nat_cmp ℕ) (w : WorldValue) (world : 
   abbrev CanHave : ℕ × ℕ → Type 0
   CanHave e = (u : Unit) × (get c.units e.0 ≡ Some u) × CanAfford trade u.holding e.1 (market_for w u (get items e.0))
 
+  -- the shares still to come can be traded in campaign `d`
   abbrev AreToTrade : CampaignValue → List (ℕ × ℕ) → Type 0
   AreToTrade = AreReady pots CanHave w c
 
@@ -364,6 +373,7 @@ module _ (trade : Trade) (items : FinMap nat_cmp ℕ) (w : WorldValue) (world : 
   abbrev CanBook : CampaignValue → List (ℕ × ℕ) → Type 0
   CanBook d es = HaveRoom (moved_times (length es) step_moves) d
 
+  -- where a share is at most the market's pot, the market has it
   has_pot : (limit stock share : ℕ) (m : Market) → limit ≡ m.limit → stock ≤ m.limit → share ≤ pot_by trade limit stock → HasPot trade stock share (Some m)
   has_pot limit stock share m same low few = by_trade trade few
     where
@@ -371,6 +381,7 @@ module _ (trade : Trade) (items : FinMap nat_cmp ℕ) (w : WorldValue) (world : 
       by_trade Sell few = omega (arith, same, low, few)
       by_trade Buy few = few
 
+  -- the first of the shares still to come can be traded
   first_can : (d : CampaignValue) (e : ℕ × ℕ) (es : List (ℕ × ℕ)) → AreToTrade d (e ∷ es) → CanBook d (e ∷ es) → CanTrade trade items w d e
   first_can d e es ready room =
       let (u, there, deal) = ready.fits.0 in
@@ -393,6 +404,7 @@ module _ (trade : Trade) (items : FinMap nat_cmp ℕ) (w : WorldValue) (world : 
         room = first_room step_moves d e es room;
       }
 
+  -- the shares still to come can be traded in turn
   all_can : (d : CampaignValue) (es : List (ℕ × ℕ)) → AreToTrade d es → CanBook d es → CanInTurn (CanTrade trade items w) (after_trade trade items w) d es
   all_can d [] ready room = tt
   all_can d (e ∷ es) ready room =
@@ -423,6 +435,7 @@ module _ (trade : Trade) (w : WorldValue) (world : IsWorld w) (c : CampaignValue
   abbrev MayTrade : ℕ × ℕ → Type 0
   MayTrade = CanHave trade named w world c
 
+  -- each unit can afford its share
   each_fits : Every (λ n share. MayTrade (n, share)) given
   each_fits n share is =
       let (u, t, there, own, low, fine, told) = given_is_named (trade_pots trade) w c (trades_give trade w c) os n share is in
@@ -436,6 +449,7 @@ module _ (trade : Trade) (w : WorldValue) (world : IsWorld w) (c : CampaignValue
       by_item u there asked None low fine told = none_some NoMarket (sym fine)
       by_item u there asked (Some i) low fine told = subst (λ o. CanAfford trade u.holding share (market_for w u o)) (sym (told i refl)) (by_market asked u there (market_for w u (Some i)) low)
 
+  -- each market's pot is enough for all shares
   all_enough : HaveEnough drawn_pots c shares
   all_enough k q around =
       let wants = wants_by (trade_pots trade) w c os in
@@ -452,6 +466,7 @@ module _ (trade : Trade) (w : WorldValue) (world : IsWorld w) (c : CampaignValue
   few : length shares ≤ most_units
   few = omega (arith, few_given (trade_pots trade) w c (trades_give trade w c) os, early.steady.numbers.few_units)
 
+  -- all steps together move each amount by less than 10^14
   little : (e : Entry) (t : Thing) → moved_times (length shares) moves e t ≤ trade_moves trade most_moved e t
   little e t = few_holdings (length shares) few (trade_entry trade) Money e t
 
@@ -524,5 +539,6 @@ module _ (c d e : MarkedCampaign) (n region item stock : ℕ) (f : HoldingValue 
   pub settled_marks : e.marks ≡ mark_stock d region item stock → MarksChanges c e
   settled_marks put_marks = marks-trans c d e set.marks (marks_by d e _ put put_marks (marks-stock d region item stock))
 
+  -- the campaign after a unit's goods and a stock were set
   pub settled_what : (u : Unit) → get c.value.units n ≡ Some u → e.value ≡ with_stock (with_holding c.value n (f u.holding)) region item stock
   settled_what u is = put ∙ ap (λ s. with_stock s region item stock) (changed_held f c.value d.value n set.value u is ∙ sym (ap (with_held c.value n (f u.holding)) is))

@@ -52,9 +52,11 @@ use Rattle.atl_market.specs.Payable.{CanWork}
 -- ---- one unit gets its wages
 
 module _ (w : WorldValue) (c : CampaignValue) (n : ℕ) (u : Unit) (money : ℕ) (is : get c.units n ≡ Some u) where
+  -- what the unit holds after it was paid
   abbrev more : HoldingValue
   more = paid c n u money
 
+  -- the campaign in which the unit holds that, without booking
   abbrev given : CampaignValue
   given = richer c n u money
 
@@ -65,6 +67,7 @@ module _ (w : WorldValue) (c : CampaignValue) (n : ℕ) (u : Unit) (money : ℕ)
   wages_are : with_amount (with_money c n (u.holding.money + money)) Wages Money (pos money) ≡ wages_paid
   wages_are = ap (λ d. with_amount d Wages Money (pos money)) (richer_is c n u money is)
 
+  -- the total of each thing grows by what is booked
   total_paid : (t : Thing) → pos (total wages_paid t) ≡ pos (total c t) +ℤ share_of t Money (pos money)
   total_paid t = total_of t (total-amount given Wages Money t (pos money)) (total-unit_amount w c n u more is t)
     where
@@ -178,6 +181,7 @@ module _ (w : WorldValue) where
     abbrev shares : List (ℕ × ℕ)
     shares = entries (given_by work_pots w c os)
 
+    -- each unit has room for its wages
     each_fits : Every (λ n places. HasRoomFor w c (n, places)) (given_by work_pots w c os)
     each_fits n places is =
         let (u, o, there, own, low) = given_is_wanted work_pots w c (λ items. pots_give (places_at w) c) os n places is in
@@ -186,6 +190,7 @@ module _ (w : WorldValue) where
     few : length shares ≤ most_units
     few = omega (arith, few_given work_pots w c (λ items. pots_give (places_at w) c) os, steady.numbers.few_units)
 
+    -- all steps together move each amount by less than 10^14
     little : (e : Entry) (t : Thing) → moved_times (length shares) step_moves e t ≤ work_moves most_moved e t
     little e t = few_holdings (length shares) few Wages Money e t
 

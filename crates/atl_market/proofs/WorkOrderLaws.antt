@@ -89,6 +89,7 @@ work_key = key_of ByUnit
 abbrev same_work : Task → Task → Bool
 same_work a b = eq_by_cmp (slice_cmp nat_cmp) (work_key a) (work_key b)
 
+-- orders that `same_work` finds alike have the same key
 keys_tie : (a b : Task) → same_work a b ≡ true → work_key a ≡ work_key b
 keys_tie a b h = slice_cmp-IsAntisymmetric nat_cmp-IsAntisymmetric (work_key a) (work_key b) ((Equal-is (slice_cmp nat_cmp (work_key a) (work_key b))).0 h)
 
@@ -138,12 +139,14 @@ module _ (c : CampaignValue) where
     idle_each [] h = tt
     idle_each ((n, u) ∷ es) h = append_each IsIdle (idle_by writers (n, u)) (flat_map (idle_by writers) es) (idle_if n u _ refl h.0) (idle_each es h.1)
 
+    -- each order that is added for a unit without an order is one
     each_idle : AllByRecursion IsIdle (all_idle c os)
     each_idle = idle_each (entries c.units) (each-from_every (λ n u. get c.units n ≡ Some u) c.units (λ n u is. is))
 
     of_unit : (e : ℕ × Unit) → AllByRecursion (λ o. o.unit ≡ e.0) (idle_by writers e)
     of_unit (n, u) = elim (nat_lt 0 u.holding.men && not (is_some (get writers n))) as (λ b. AllByRecursion (λ (o : Task). o.unit ≡ n) (cond b (idle_task n u.faction ∷ []) [])) [ true ↦ (refl, tt) | false ↦ tt ]
 
+    -- at most one order is added for a unit
     just_one : (e : ℕ × Unit) → IsDistinct same_work (idle_by writers e)
     unfolding IsDistinct
     just_one (n, u) = elim (nat_lt 0 u.holding.men && not (is_some (get writers n))) as (λ b. IsDistinct same_work (cond b (idle_task n u.faction ∷ []) [])) [ true ↦ (tt, tt) | false ↦ tt ]
@@ -159,6 +162,7 @@ module _ (c : CampaignValue) where
     same_faction : (a b : ℕ) → a ≡ b → (a == b) ≡ true
     same_faction a b e = grind (arith, nat_tests)
 
+    -- a written order and one that is added for a unit without an order differ in their keys
     written_idle : (o i : Task) → IsListed writers o → IsIdle i → same_work o i ≡ false
     written_idle o i listed idle =
         apart_by o i (λ unit faction.
@@ -176,6 +180,7 @@ module _ (c : CampaignValue) where
 
 -- ---- who has an order
 
+-- a unit is in the map after some orders exactly if it was, or has an order of its own faction among them
 writes_own : (c : CampaignValue) (os : List Task) (n : ℕ) (u : Unit) → get c.units n ≡ Some u → (m : FinMap nat_cmp ℕ) → is_some (get (with_each m (flat_map (own_unit c) os)) n) ≡ (is_ordered os n u || is_some (get m n))
 writes_own c [] n u is m = refl
 writes_own c (o ∷ os) n u is m =
@@ -218,6 +223,7 @@ is_writer c os n u is = writes_own c os n u is empty ∙ ap (λ o. is_ordered os
     or_false false = refl
 
 module _ (c : CampaignValue) (ts : List Task) where
+  -- the orders that are defined for those of some units that are without an order
   abbrev of_idle : List (ℕ × Unit) → List Task
   of_idle es = map (λ e. idle_task e.0 e.1.faction) (filter (is_idle ts) es)
 

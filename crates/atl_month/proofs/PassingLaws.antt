@@ -103,11 +103,13 @@ passes-trans {o} {p} {i} {j} w n a b c one two = record {
     grouped : (x y z : ℕ) → (x + y) + z ≡ x + (y + z)
     grouped x y z = omega arith
 
+-- what is owed of a thing after a part of it was given and the rest booked as lost
 owed : (b : Bool) (taken lost x before after : ℕ) (books : ℤ) → after ≡ before + cond b taken 0 → pos before ≡ books +ℤ pos x
     → pos after ≡ (books +ℤ cond b (neg_ℤ (pos lost)) (pos 0)) +ℤ pos (x + cond b (taken + lost) 0)
 owed true taken lost x before after books e h = omega (arith, ints, e, h)
 owed false taken lost x before after books e h = omega (arith, ints, e, h)
 
+-- what is owed of a thing after an amount was booked as lost
 owed_all : (b : Bool) (lost x all : ℕ) (books : ℤ) → pos all ≡ books +ℤ pos x
     → pos all ≡ (books +ℤ cond b (neg_ℤ (pos lost)) (pos 0)) +ℤ pos (x + cond b lost 0)
 owed_all true lost x all books h = omega (arith, ints, h)
@@ -134,9 +136,11 @@ module _ (w : WorldValue) (c : CampaignValue) (n : ℕ) (t : Thing) (inside : th
   module _ (k : ℕ) (v : Unit) (h : HoldingValue) (is : get c.units k ≡ Some v) (apart : n ≢ k) (may : MayHold w v h)
       (kept : IsKept v (record v { holding = h })) (taken lost : ℕ)
       (more : (s : Thing) → unit_amount s h ≡ unit_amount s v.holding + part_of s t taken) where
+    -- the campaign in which the receiver has its part, without booking the rest
     abbrev given : CampaignValue
     given = with_held c k h (Some v)
 
+    -- the total of each thing grows by the part that is given
     grown : (s : Thing) → total given s ≡ total c s + part_of s t taken
     grown s = sum (total given s) (unit_amount s v.holding) (total c s) (unit_amount s h) (part_of s t taken) (total-unit_amount w c k v h is s) (more s)
       where
@@ -187,6 +191,7 @@ nothing_added : (b : Bool) (x n : ℕ) → b ≡ false → x ≡ x + cond b n 0
 nothing_added true x n e = cc
 nothing_added false x n e = omega arith
 
+-- a holding with more of one item has as much more of it, and as much as before of others
 more_amount : (items : FinMap nat_cmp ℕ) (i n j : ℕ)
     → amount_of (with_amount_of items i (amount_of items i + n)) j ≡ amount_of items j + cond (2 + j == 2 + i) n 0
 more_amount items i n j =
@@ -211,12 +216,14 @@ more_amount items i n j =
 
 -- ---- the part that a unit takes, and the rest
 
+-- the part that is accepted and the rest are the amount
 whole : (amount have : ℕ) → accepted_of amount have + (amount - accepted_of amount have) ≡ amount
 whole amount have = omega (arith, least amount (holding_limit - have))
   where
     least : (a b : ℕ) → min a b ≤ a
     least a b = omega arith
 
+-- what a unit accepts fits into its room
 fits : (amount have : ℕ) → have ≤ holding_limit → have + accepted_of amount have ≤ holding_limit
 fits amount have l = omega (arith, least amount (holding_limit - have))
   where
@@ -240,6 +247,7 @@ module _ (w : WorldValue) (c : CampaignValue) (n k : ℕ) (apart : n ≢ k) (ste
       same : (x : ℕ) → x ≡ x - 0
       same x = omega arith
 
+  -- the campaign after money went to unit `k`, if it is there
   abbrev money_to : (amount : ℕ) → Option Unit → CampaignValue
   money_to amount o =
       let taken = option_map_or (λ v. accepted_of amount v.holding.money) o 0 in
@@ -271,6 +279,7 @@ module _ (w : WorldValue) (c : CampaignValue) (n k : ℕ) (apart : n ≢ k) (ste
   more_item h i n People = nothing_added (1 == 2 + i) h.men n (let e : (1 == 2 + i) ≡ false = grind (arith, nat_tests) in e)
   more_item h i n (Item j) = more_amount h.items i n j
 
+  -- the campaign after an item went to unit `k`, if it is there
   abbrev item_to : (i amount : ℕ) → Option Unit → CampaignValue
   item_to i amount o =
       let taken = option_map_or (λ v. accepted_of amount (amount_of v.holding.items i)) o 0 in

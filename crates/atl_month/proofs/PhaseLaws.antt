@@ -47,6 +47,7 @@ use Rattle.atl_month.proofs.UnmailedEndLaws.{season_leaves, sweep_leaves, upkeep
 abbrev MovesAlone : BookBound → MovedEntries → Type 0
 MovesAlone moving moved = (e : Entry) (t : Thing) → moving e t ≤ (if may_move moved e t then most_moved else 0)
 
+-- a bound of 0 is within any list of entries
 nothing : (moved : MovedEntries) → MovesAlone moves_nothing moved
 nothing moved e t = omega arith
 

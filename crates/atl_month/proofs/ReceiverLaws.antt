@@ -56,6 +56,7 @@ module _ {V : Type 0} (p : V → Bool) where
   abbrev PassesIn : FinMap nat_cmp V → ℕ → Type 0
   PassesIn m k = (v : V) × (get m k ≡ Some v) × (p v ≡ true)
 
+  -- where the same numbers pass in one map as in another, the first of the one is no greater
   first_below : (m o : FinMap nat_cmp V) → Every (λ k v. 1 ≤ k) m → ((k : ℕ) → PassesIn o k → PassesIn m k) → first_or_zero (numbers_where p o) ≢ 0
       → (first_or_zero (numbers_where p m) ≢ 0) × (first_or_zero (numbers_where p m) ≤ first_or_zero (numbers_where p o))
   first_below m o low also some =
@@ -107,6 +108,7 @@ module _ (w : WorldValue) (c : CampaignValue) (n : ℕ) (steady : IsSteady w c) 
 
 -- ---- as they are noted, unit by unit
 
+-- the receiver of a faction among those of a region; 0 where there is none
 abbrev receiver_under : ℕ → Option (FinMap nat_cmp ℕ) → ℕ
 receiver_under faction o = unwrap_or (get (unwrap_or o empty) faction) 0
 
@@ -144,6 +146,7 @@ module _ (m : ReceiverMap) (n : ℕ) (u : Unit) (es : List (ℕ × Unit)) (low :
   first_of_cond true x ns = refl
   first_of_cond false x ns = refl
 
+  -- the first receiver among a unit and others
   opened : (r f : ℕ) → first_or_zero (numbers_among (receives r f) ((n, u) ∷ es)) ≡ cond (receives r f u) n (behind r f)
   opened r f = ap first_or_zero (chosen-cons (receives r f) (n, u) es) ∙ first_of_cond (receives r f u) n (numbers_among (receives r f) es)
 

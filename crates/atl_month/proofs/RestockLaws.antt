@@ -76,6 +76,7 @@ no_part true true n f l = cc
 no_part true false n f l = omega (arith, l)
 no_part false b n f l = omega (arith, l)
 
+-- new goods of one item move no amount of another
 other_item : (k : ℕ) (e : Entry) (t : Thing) → (thing_index t == 2 + k) ≡ false → moves_only most_amount Stocked (Item k) e t ≡ 0
 other_item k e t apart = no_part (entry_index e == entry_index Stocked) (thing_index t == 2 + k) (moves_only most_amount Stocked (Item k) e t) apart (one_stocked k e t)
 
@@ -150,6 +151,7 @@ fits a b d l = omega (arith, least a (b - d))
     least x y = omega arith
 
 module _ (w : WorldValue) (c : CampaignValue) (n i : ℕ) (m : Market) (r : Region) (here : get c.regions n ≡ Some r) (market : market_of w n i ≡ Some m) (known : IsMarket (length w.items) i m) (steady : IsSteady w c) where
+  -- the stock of the market before
   abbrev stock : ℕ
   stock = amount_of r.stocks i
 
@@ -183,6 +185,7 @@ module _ (w : WorldValue) (c : CampaignValue) (n i : ℕ) (m : Market) (r : Regi
   filled_steady : IsSteady w filled
   filled_steady = steady-stock c n i (stock + more) r here w (ap is_some market) (omega (arith, stock_fits, limit_is)) steady
 
+  -- the total of the item grows by the new goods
   filled_total : (t : Thing) → total filled t ≡ total c t + cond (thing_index t == 2 + i) more 0
   filled_total t = by_place (thing_index t == 2 + i) refl
     where
@@ -204,6 +207,7 @@ module _ (w : WorldValue) (c : CampaignValue) (n i : ℕ) (m : Market) (r : Regi
           plain : (k : ℕ) → k ≡ k + 0
           plain k = omega arith
 
+  -- with the new goods booked the books balance
   balanced : Balances c → Balances (with_amount filled Stocked (Item i) (pos more))
   balanced old t =
       ap pos (total-amount filled Stocked (Item i) t (pos more)) ∙ ap pos (filled_total t) ∙ added (thing_index t == 2 + i) (total c t) (booked c.books t) (old t)
@@ -236,6 +240,7 @@ module _ (w : WorldValue) (n : ℕ) (there : IsThere w.regions n) where
   pub one_leaves_well : (c : CampaignValue) (x : ℕ × Market) → IsMarketOf w n x.0 x.1 → IsSteady w c → LeavesWell IsSteady (moves_only most_amount Stocked (Item x.0)) w c (after_market_restock n c x)
   one_leaves_well c x of steady = let (r, here) = (steady.known.regions n).1 there in market_leaves_well w c n x.0 x.1 r here of.0 of.1 steady
 
+  -- new goods of a region's markets, in turn, leave the campaign well
   all_leave_well : (xs : List (ℕ × Market)) → EachOf (IsMarketOf w n) xs → (c : CampaignValue) → IsSteady w c → LeavesWell IsSteady (stocking xs) w c (after_restock n c xs)
   all_leave_well [] each c steady = well_unchanged (stocking []) w c steady
   all_leave_well (x ∷ xs) each c steady =

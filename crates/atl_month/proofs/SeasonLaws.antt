@@ -65,9 +65,11 @@ module _ (w : WorldValue) (c : CampaignValue) (n : ℕ) (r : Region) (born earne
   abbrev counted : CampaignValue
   counted = with_amount paid Births People (pos born)
 
+  -- a region with the births
   abbrev more_people : Region → Region
   more_people q = record q { peasants = r.peasants + born }
 
+  -- a region with the income
   abbrev more_money : Region → Region
   more_money q = record q { money = r.money + earned }
 
@@ -81,6 +83,7 @@ module _ (w : WorldValue) (c : CampaignValue) (n : ℕ) (r : Region) (born earne
       steady-amount w counted Income Money (pos earned) (omega arith) (steady-amount w paid Births People (pos born) (omega arith)
       (steady-region more_money peopled n (more_people r) peopled_there w (IsRegion-money (more_people r) (r.money + earned) m grown) stocks (steady-region more_people c n r is w grown stocks old)))
 
+  -- the totals grow by the births and the income
   total_grown : (t : Thing) → pos (total (with_growth c n r.peasants r.money born earned) t) ≡ (pos (total c t) +ℤ share_of t People (pos born)) +ℤ share_of t Money (pos earned)
   total_grown t =
       total_of t (total-amount counted Income Money t (pos earned)) (total-amount paid Births People t (pos born))
@@ -137,6 +140,7 @@ births_first c room = room_less (both_move (moves_only most_amount Births People
 
 -- ---- what the growth of a region marks
 
+-- setting a region's people and money and booking both sets the dirty flags of all that changes
 pub growth_marks : (c d e f g : MarkedCampaign) (n peasants money born earned : ℕ)
     → d.value ≡ with_peasants c.value n peasants → d.marks ≡ mark_region c n
     → e.value ≡ with_region_money d.value n money → e.marks ≡ mark_region d n

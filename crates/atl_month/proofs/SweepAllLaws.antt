@@ -42,6 +42,7 @@ swept_in c n o =
     option_map_or (λ u. if u.holding.men == 0 then without_unit (after_passing_all c (receiver c u.region u.faction) u) n else c) o c
 
 module _ (w : WorldValue) (c : CampaignValue) (n : ℕ) (steady : IsSteady w c) where
+  -- sweeping a unit leaves the campaign well
   pub swept_at_leaves_well : LeavesWell IsSteady (loses_by most_amount) w c (after_sweeping_unit c n)
   unfolding after_sweeping_unit
   swept_at_leaves_well = by_unit (get c.units n) refl
@@ -164,6 +165,7 @@ module _ (c : CampaignValue) (n : ℕ) where
       by_test true = refl
       by_test false = refl
 
+  -- sweeping a faction leaves the campaign well, and the books as they are
   pub gone_at_leaves_well : (w : WorldValue) → IsSteady w c → LeavesWell IsSteady nothing_moves w c (after_sweeping_faction c n)
   gone_at_leaves_well w steady = by_test (is_empty (numbers_of n c.units)) refl
     where
@@ -217,6 +219,7 @@ not_false : (b : Bool) → (b ≡ false → ⊥) → b ≡ true
 not_false true h = refl
 not_false false h = absurd (h refl)
 
+-- after sweeping factions that include all without units, these are gone
 all_are_gone : (ns : List ℕ) (c : CampaignValue) → AreToGo ns c → NoneAreGone (fold after_sweeping_faction c ns)
 all_are_gone [] c listed = λ m f there none. not_false f.gone (listed m f there none)
 all_are_gone (n ∷ ns) c listed =
@@ -253,6 +256,7 @@ moves_none : (k : ℕ) (e : Entry) (t : Thing) → moved_times k nothing_moves e
 moves_none k e t = omega arith
 
 module _ (w : WorldValue) (c : CampaignValue) (steady : IsSteady w c) where
+  -- the campaign after the units without men were swept
   abbrev units_swept : CampaignValue
   units_swept = fold after_sweeping_unit c (menless_units c)
 

@@ -48,6 +48,7 @@ owing_all h s = part_of s Money h.money + owing_items (entries h.items) s
 abbrev pub moving_all : HoldingValue → BookBound
 moving_all h = both_move (moves_only h.money Lost Money) (moving_items (entries h.items))
 
+-- a unit without men passes on all that it has of each thing
 all_owed : (h : HoldingValue) → h.men ≡ 0 → (s : Thing) → owing_all h s ≡ unit_amount s h
 all_owed h none Money = ap (λ n. h.money + n) (no_money (entries h.items)) ∙ plain h.money
   where
@@ -100,6 +101,7 @@ items_moved (x ∷ xs) e s =
     lost_sum e (moves_only x.1 Lost (Item x.0) e s) (moving_items xs e s) (part_of s (Item x.0) x.1) (owing_items xs s)
     (one_moved x.1 (Item x.0) e s) (items_moved xs e s)
 
+-- passing on a holding without men moves each amount of the books by at most what it has
 all_moved : (h : HoldingValue) → h.men ≡ 0 → (e : Entry) (s : Thing) → moving_all h e s ≤ of_lost e (unit_amount s h)
 all_moved h none e s =
     subst (λ n. moving_all h e s ≤ of_lost e n) (all_owed h none s)
@@ -136,6 +138,7 @@ first_listed [] some = absurd (some refl)
 first_listed (n ∷ ns) some = inl refl
 
 module _ (w : WorldValue) (c : CampaignValue) (n : ℕ) (u : Unit) (is : get c.units n ≡ Some u) (none : u.holding.men ≡ 0) (steady : IsSteady w c) where
+  -- a unit without men receives nothing
   not_received : (region faction : ℕ) (v : Unit) → get c.units n ≡ Some v → receives region faction v ≡ true → ⊥
   not_received region faction v there t =
       let both = and_parts (v.region == region) ((v.faction == faction) && nat_lt 0 v.holding.men) t in
@@ -146,6 +149,7 @@ module _ (w : WorldValue) (c : CampaignValue) (n : ℕ) (u : Unit) (is : get c.u
       without_men : (men : ℕ) → men ≡ 0 → nat_lt 0 men ≡ true → ⊥
       without_men men e t = let some : 1 ≤ men = grind (arith, nat_tests) in absurd (omega (arith, e, some))
 
+  -- a unit without men isn't its own receiver
   receiver_apart : (region faction : ℕ) → n ≢ receiver c region faction
   receiver_apart region faction same =
       let least = (steady.numbers.units n u is).0 in
@@ -165,6 +169,7 @@ module _ (w : WorldValue) (c : CampaignValue) (n : ℕ) (u : Unit) (is : get c.u
   abbrev passed : CampaignValue
   passed = after_passing_all c to u
 
+  -- the unit passes on what it has as it should
   passing : PassesOn w n (owing_all u.holding) (moving_all u.holding) c passed
   passing =
       let apart = receiver_apart u.region u.faction in

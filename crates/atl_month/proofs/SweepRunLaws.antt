@@ -74,6 +74,7 @@ another : (n : ℕ) → suc n ≢ n
 another n same = omega (arith, same)
 
 module _ (w : WorldValue) (c : CampaignValue) (steady : IsSteady w c) where
+  -- an item that goes to a unit, or is lost, is passed on
   pub item_passes : (to i amount : ℕ) → i < length w.items
       → PassesOn w (suc to) (λ s. part_of s (Item i) amount) (moves_only amount Lost (Item i)) c (after_passing_item to c (i, amount))
   item_passes to i amount known = pass_item w c (suc to) to (another to) steady i amount known

@@ -26,6 +26,7 @@ use Rattle.atl_month.proofs.UpkeepLaws.{days_left, upkeep_in}
 
 -- ---- upkeep
 
+-- a unit that is less by one number of men, and then by another, is less by both
 less_plus : (a b : ℕ) (u v x : Unit) → IsLessBy a u v → IsLessBy b v x → IsLessBy (a + b) u x
 less_plus a b u v x one two = record {
   faction = two.faction ∙ one.faction;
@@ -37,6 +38,7 @@ less_plus a b u v x one two = record {
     less : (j k l : ℕ) → k ≡ j - a → l ≡ k - b → l ≡ j - (a + b)
     less j k l e f = omega (arith, e, f)
 
+-- a unit is less by no men than itself
 nobody_less : (u : Unit) → IsLessBy 0 u u
 nobody_less u = record { faction = refl; name = refl; men = omega arith; items = λ i. omega arith }
 
@@ -51,6 +53,7 @@ men_left s u = u.holding.men - s.starved
 abbrev held_by : UpkeepResult → Unit → Bool → HoldingValue
 held_by s u b = record (if b then u.holding else record u.holding { men = men_left s u; days = days_left (men_left s u) u.holding }) { money = u.holding.money - s.paid }
 
+-- a unit after its upkeep is less by the men who starved
 fewer_by : (s : UpkeepResult) (u : Unit) → IsLessBy s.starved u (supplied_unit s u)
 fewer_by s u = by_test (men_left s u == u.holding.men) refl
   where
@@ -86,6 +89,7 @@ all_supplied c (s ∷ ss) n u there =
     let two = all_supplied (upkeep_at c s) ss n one.unit one.there in
     record { unit = two.unit; there = two.there; spared = subst (λ k. IsLessBy k u two.unit) (sym (sum_by-cons (among n) s ss)) (less_plus (among n s) (sum_by (among n) ss) u one.unit two.unit one.spared two.spared) }
 
+-- how many men of unit `n` starved by one event
 abbrev by_event : ℕ → Event → ℕ
 by_event n e = if e.unit == n then men_starved_by e.verb e.outcome else 0
 

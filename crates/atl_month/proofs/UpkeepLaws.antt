@@ -65,6 +65,7 @@ abbrev IsStudied : WorldValue → (men skill days : ℕ) → Type 0
 IsStudied w men skill days = (skill < length w.skills) × (1 ≤ days) × (days ≤ most_days * men)
 
 module _ (w : WorldValue) (left men : ℕ) (fewer : left ≤ men) where
+  -- the days that stay with fewer men are within what these may have
   part : (days : ℕ) → days ≤ most_days * men → days * left / men ≤ most_days * left
   part days most = div-le_of_le-mul men (scaled days most)
     where
@@ -101,6 +102,7 @@ module _ (w : WorldValue) (h : HoldingValue) (left : ℕ) (fewer : left ≤ h.me
   abbrev IsWithMen : HoldingValue → Type 0
   IsWithMen k = (k.men ≡ left) × Every (IsStudied w left) k.days × (k.name ≡ h.name) × (k.guard ≡ h.guard) × (k.items ≡ h.items)
 
+  -- a holding with fewer men is as it should be
   less_men : IsWithMen (with_men_left left h)
   less_men = by_men (left == h.men) refl
     where
@@ -178,6 +180,7 @@ module _ (w : WorldValue) (c : CampaignValue) (s : UpkeepResult) (u : Unit) (is 
   abbrev paid_off : CampaignValue
   paid_off = with_amount held_back Upkeep Money (neg_ℤ (pos s.paid))
 
+  -- the campaign after the unit's upkeep
   abbrev after : CampaignValue
   after = upkeep_in c s (Some u)
 
@@ -243,6 +246,7 @@ module _ (w : WorldValue) (c : CampaignValue) (s : UpkeepResult) (u : Unit) (is 
       (booked-near one_booked Starved People (neg_ℤ (pos s.starved)) most_amount
       (within-neg s.starved most_amount few_starved) e t)
 
+  -- the upkeep of a unit that can pay leaves the campaign well
   unit_leaves_well : LeavesWell IsSteady (takes_up_to most_amount) w c after
   unit_leaves_well = record {
     leaves_it = after_steady;
@@ -293,6 +297,7 @@ module _ (w : WorldValue) (some : 1 ≤ w.rules.maintenance) (all : List UpkeepI
   abbrev each_of : List (ℕ × Unit) → List UpkeepResult
   each_of es = settled_each w.rules.maintenance all es
 
+  -- the upkeep of some units can be taken in turn
   settled_in_turn : (es : List (ℕ × Unit)) (c : CampaignValue) → Rise es → EachOf (λ n u. get c.units n ≡ Some u) es
       → IsSteady w c → HaveRoom (moved_times (length (each_of es)) step_moves) c → CanInTurn (CanPayUpkeep w) upkeep_at c (each_of es)
   settled_in_turn [] c rise there steady room = tt
@@ -332,6 +337,7 @@ module _ (w : WorldValue) (c : CampaignValue) (some : 1 ≤ w.rules.maintenance)
   few : length list ≤ most_units
   few = omega (arith, length-map (upkeep_inputs_of c) (settled_one w.rules.maintenance (upkeep_inputs_of c)), length-map (entries c.units) upkeep_input_of, len-entries c.units, steady.numbers.few_units)
 
+  -- all steps together move each amount by less than 10^14
   little : MovesLess (moved_times (length list) (takes_up_to most_amount)) (takes_up_to most_moved)
   little e t = scaled (length list) few (amount_number e t == amount_number Upkeep Money) (amount_number e t == amount_number Starved People)
     where

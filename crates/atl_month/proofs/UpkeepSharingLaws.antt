@@ -26,6 +26,7 @@ use Rattle.atl_month.specs.UpkeepSharing.{AreInOrder, EachCanSpare, given_among,
 abbrev account_or : Option Account → Account
 account_or o = unwrap_or o no_account
 
+-- the account of a faction among those of a region
 abbrev account_in : ℕ → Option (FinMap nat_cmp Account) → Account
 account_in faction o = account_or (get (unwrap_or o empty) faction)
 
@@ -69,9 +70,11 @@ module _ (amount : UpkeepInput → ℕ) (test : UpkeepInput → Bool) (xs : List
       one true = omega arith
       one false = refl
 
+-- an account by its four amounts
 abbrev account : (left short given covered : ℕ) → Account
 account left short given covered = record { left = left; short = short; given = given; covered = covered }
 
+-- accounts with the same amounts are the same
 account_is : (a b c d e f g h : ℕ) → a ≡ e → b ≡ f → c ≡ g → d ≡ h → account a b c d ≡ account e f g h
 account_is a b c d e f g h x y z u = rw (x, y, z, u) refl
 
@@ -92,6 +95,7 @@ each_account P m p a here others s g = by_test (is_input_of s g p) refl
         rw (at true is, ← region, ← faction) here
     by_test false is = rw (at false is) (others s g is)
 
+-- a unit is of its own faction and in its own region
 own : (p : UpkeepInput) → is_input_of p.region p.faction p ≡ true
 own p = rw (same_number p.region, same_number p.faction) refl
 
@@ -181,6 +185,7 @@ module _ {A : Type 0} where
       ap (λ b. if_so b x (filter t xs)) (h 0 x (omega arith))
       ∙ none_pass t xs (λ k d l. h (suc k) d (omega (arith, l)))
 
+-- whether a unit's number is below another
 abbrev is_lower : ℕ → UpkeepInput → Bool
 is_lower n p = nat_lt p.unit n
 
@@ -204,9 +209,11 @@ lower_first (p ∷ ps) (suc i) d order l =
 
 -- ---- the upkeep of all units
 
+-- what is given in turn, up to an amount, is the lesser of all so far and the amount
 next_dealt : (before want amount : ℕ) → min before amount + min (amount - min before amount) want ≡ min (before + want) amount
 next_dealt before want amount = omega arith
 
+-- what one unit gives or gets in turn is the difference of what is dealt out before and after it
 is_dealt : (before want amount : ℕ) → min (amount - min before amount) want ≡ min (before + want) amount - min before amount
 is_dealt before want amount = omega arith
 
@@ -220,6 +227,7 @@ module _ (m : ℕ) (all before : List UpkeepInput) (p : UpkeepInput) (accounts :
   abbrev peers : List UpkeepInput
   peers = peers_of p.region p.faction all
 
+  -- what is to be given among the unit's peers
   abbrev amount : ℕ
   amount = given_among m peers
 
