@@ -392,17 +392,17 @@ can_use w c n item amount u is enough known can room = record {
 
 -- ---- the code does what is defined
 
--- a structure numbered `place`, and its kind, are what `structure_and_kind_at` finds
-built_is_both : (w : WorldValue) (c : CampaignValue) (place : ℕ) (s : Structure) (k : Kind) → get c.structures place ≡ Some s → slice_get w.kinds s.kind ≡ Some k → structure_and_kind_at w c place ≡ Some (s, k)
-built_is_both w c place s k there kind_is = ap (option_and_then (with_kind w)) there ∙ ap (option_map {U = Structure × Kind} (λ x. (s, x))) kind_is
+-- a structure under a number, and its kind, are what `structure_and_kind_at` finds
+built_is_both : (w : WorldValue) (c : CampaignValue) (structure : ℕ) (s : Structure) (k : Kind) → get c.structures structure ≡ Some s → slice_get w.kinds s.kind ≡ Some k → structure_and_kind_at w c structure ≡ Some (s, k)
+built_is_both w c structure s k there kind_is = ap (option_and_then (with_kind w)) there ∙ ap (option_map {U = Structure × Kind} (λ x. (s, x))) kind_is
 
 -- a campaign and outcome after a structure was begun
 abbrev begun_outcome : CampaignValue → (n kind : ℕ) → Kind → (region size : ℕ) → CampaignValue × Outcome
 begun_outcome c n kind k region size = (after_start c n kind k region size, Done size)
 
 -- a campaign and outcome after more was done of a structure
-abbrev on_outcome : CampaignValue → (n material size place done : ℕ) → CampaignValue × Outcome
-on_outcome c n material size place done = (after_building_on c n material size place done, Done size)
+abbrev on_outcome : CampaignValue → (n material size structure done : ℕ) → CampaignValue × Outcome
+on_outcome c n material size structure done = (after_building_on c n material size structure done, Done size)
 
 -- where no fault fits, what the code does and returns for `BUILD kind` is what is defined
 pub begin_done : (w : WorldValue) (c d : CampaignValue) (f n kind : ℕ) (u : Unit) (k : Kind) (size told : ℕ) → of_faction f (get c.units n) ≡ Some u → begin_fault w c u k ≡ None

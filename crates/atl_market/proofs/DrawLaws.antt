@@ -19,7 +19,7 @@ use Rattle.atl_records.proofs.EveryLaws.{each-from_every, get-insert_other, othe
 use Rattle.atl_state.proofs.RegionLaws.{changed-known, get-insert_same}
 use Rattle.atl_market.specs.AtOnce.{stands_in}
 use Rattle.atl_market.specs.Pots.{amount_given, pot_shares, takers_in, wants_in}
-use Rattle.atl_market.proofs.PotLaws.{IsRisen, gives_each_pot, only_takers_get, taker_place, takers_risen}
+use Rattle.atl_market.proofs.PotLaws.{IsRisen, gives_each_pot, only_takers_get, taker_index, takers_risen}
 
 -- a number is one of a list
 abbrev IsIn : ℕ → List ℕ → Type 0
@@ -27,10 +27,10 @@ IsIn n [] = ⊥
 IsIn n (k ∷ ks) = (n ≡ k) ⊎ IsIn n ks
 
 -- the number at an index of a list is one of the list
-place_in : (ns : List ℕ) (n i : ℕ) → i < length ns → get_or ns i 0 ≡ n → IsIn n ns
-place_in [] n i low at = absurd (omega arith)
-place_in (k ∷ ns) n zero low at = inl (sym at)
-place_in (k ∷ ns) n (suc i) low at = inr (place_in ns n i (omega arith) at)
+in_by_index : (ns : List ℕ) (n i : ℕ) → i < length ns → get_or ns i 0 ≡ n → IsIn n ns
+in_by_index [] n i low at = absurd (omega arith)
+in_by_index (k ∷ ns) n zero low at = inl (sym at)
+in_by_index (k ∷ ns) n (suc i) low at = inr (in_by_index ns n i (omega arith) at)
 
 -- a number of a sorted list is above the number that comes ahead of the list
 risen_above : (n : ℕ) (ns : List ℕ) → AllByRecursion (λ k. nat_cmp n k ≡ Less) ns → (k : ℕ) → IsIn k ns → n < k
@@ -132,26 +132,26 @@ module _ (draws : Drawers) where
 
 -- ---- one unit draws after the other
 
--- pots by a key: the region of each (`place`), which units draw from it (`draws`), and what is left of it in a region (`left`)
+-- pots by a key: the region of each (`pot_region`), which units draw from it (`draws`), and what is left of it in a region (`left`)
 pub record DrawnPots (K : Type 0) : Type 0 where
-  pub place : K → ℕ
+  pub pot_region : K → ℕ
   pub draws : K → Drawers
   pub left : K → Region → ℕ
 
 module _ {K : Type 0} (pots : DrawnPots K) where
   -- each pot has enough for those of some shares whose units draw from it
   abbrev pub HaveEnough : CampaignValue → List (ℕ × ℕ) → Type 0
-  HaveEnough d es = (k : K) (q : Region) → get d.regions (pots.place k) ≡ Some q → drawn (pots.draws k) es ≤ pots.left k q
+  HaveEnough d es = (k : K) (q : Region) → get d.regions (pots.pot_region k) ≡ Some q → drawn (pots.draws k) es ≤ pots.left k q
 
   -- after a unit's turn each pot has less by its share if the unit draws from it, else what it had
   abbrev pub Drains : CampaignValue → ℕ × ℕ → CampaignValue → Type 0
   Drains d e after =
-      (k : K) (x : Region) → get after.regions (pots.place k) ≡ Some x
-      → (q : Region) × (get d.regions (pots.place k) ≡ Some q) × (pots.left k x + cond (pots.draws k e.0) e.1 0 ≡ pots.left k q)
+      (k : K) (x : Region) → get after.regions (pots.pot_region k) ≡ Some x
+      → (q : Region) × (get d.regions (pots.pot_region k) ≡ Some q) × (pots.left k x + cond (pots.draws k e.0) e.1 0 ≡ pots.left k q)
 
   module _ (d : CampaignValue) (e : ℕ × ℕ) (es : List (ℕ × ℕ)) (enough : HaveEnough d (e ∷ es)) where
     -- where pots have enough for all shares, each has enough for the share of the first unit that draws from it
-    pub first_draws : (k : K) (q : Region) → get d.regions (pots.place k) ≡ Some q → pots.draws k e.0 ≡ true → e.1 ≤ pots.left k q
+    pub first_draws : (k : K) (q : Region) → get d.regions (pots.pot_region k) ≡ Some q → pots.draws k e.0 ≡ true → e.1 ≤ pots.left k q
     first_draws k q around mine = at_least (pots.left k q) (subst (λ b. cond b e.1 0 + drawn (pots.draws k) es ≤ pots.left k q) mine (enough k q around))
       where
         at_least : (all : ℕ) → e.1 + drawn (pots.draws k) es ≤ all → e.1 ≤ all
@@ -172,23 +172,23 @@ module _ {K : Type 0} (pots : DrawnPots K) where
 
     -- pots are drained as they should be where one region changes, and its pots have less by the share if the unit draws from them
     pub region_drains : (r : ℕ) (q : Region) → get d.regions r ≡ Some q → (f : Region → Region) → after.regions ≡ (region_changed f d r).regions
-        → ((k : K) → pots.place k ≡ r → pots.left k (f q) + cond (pots.draws k e.0) e.1 0 ≡ pots.left k q)
-        → ((k : K) → pots.place k ≢ r → pots.draws k e.0 ≡ false) → Drains d e after
-    region_drains r q around f changed here others k x found = elim (cases_eq (pots.place k) r) [
+        → ((k : K) → pots.pot_region k ≡ r → pots.left k (f q) + cond (pots.draws k e.0) e.1 0 ≡ pots.left k q)
+        → ((k : K) → pots.pot_region k ≢ r → pots.draws k e.0 ≡ false) → Drains d e after
+    region_drains r q around f changed here others k x found = elim (cases_eq (pots.pot_region k) r) [
       | inl same ↦
           let new : Some (f q) ≡ Some x = sym (get-insert_same d.regions r (f q)) ∙ ap (get (insert d.regions r (f q))) (sym same) ∙ put in
           let value : f q ≡ x = cc in
           (q, ap (get d.regions) same ∙ around, subst (λ y. pots.left k y + cond (pots.draws k e.0) e.1 0 ≡ pots.left k q) value (here k same))
       | inr apart ↦
-          (x, sym (get-insert_other d.regions r (pots.place k) (f q) apart) ∙ put, subst (λ b. pots.left k x + cond b e.1 0 ≡ pots.left k x) (sym (others k apart)) (no_less (pots.left k x)))
+          (x, sym (get-insert_other d.regions r (pots.pot_region k) (f q) apart) ∙ put, subst (λ b. pots.left k x + cond b e.1 0 ≡ pots.left k x) (sym (others k apart)) (no_less (pots.left k x)))
     ]
       where
-        put : get (insert d.regions r (f q)) (pots.place k) ≡ Some x
-        put = sym (ap (λ m. get m (pots.place k)) (changed ∙ changed-known f d.regions r q around)) ∙ found
+        put : get (insert d.regions r (f q)) (pots.pot_region k) ≡ Some x
+        put = sym (ap (λ m. get m (pots.pot_region k)) (changed ∙ changed-known f d.regions r q around)) ∙ found
 
     -- pots are drained as they should be where a share is 0 and no region changes
     pub nothing_drains : after.regions ≡ d.regions → e.1 ≡ 0 → Drains d e after
-    nothing_drains same none k x found = (x, sym (ap (λ m. get m (pots.place k)) same) ∙ found, ap (λ s. pots.left k x + cond (pots.draws k e.0) s 0) none ∙ neither (pots.draws k e.0) (pots.left k x))
+    nothing_drains same none k x found = (x, sym (ap (λ m. get m (pots.pot_region k)) same) ∙ found, ap (λ s. pots.left k x + cond (pots.draws k e.0) s 0) none ∙ neither (pots.draws k e.0) (pots.left k x))
       where
         neither : (b : Bool) (a : ℕ) → a + cond b 0 0 ≡ a
         neither true a = no_less a
@@ -203,7 +203,7 @@ who_stand units r n = stands_in r (get units n)
 module _ (units : FinMap nat_cmp Unit) (left : Region → ℕ) where
   -- the pots of regions, by region: each has what `left` says of the region
   abbrev pub region_pots : DrawnPots ℕ
-  region_pots = record { place = λ r. r; draws = who_stand units; left = λ r q. left q }
+  region_pots = record { pot_region = λ r. r; draws = who_stand units; left = λ r q. left q }
 
   module _ (d : CampaignValue) (e : ℕ × ℕ) (u : Unit) (q : Region) (there : get units e.0 ≡ Some u) (around : get d.regions u.region ≡ Some q) where
     -- the pots of regions are drained as they should be where the unit's region changes and has less by its share
@@ -236,8 +236,8 @@ module _ (pot_of : ℕ → ℕ) (wants : FinMap nat_cmp ℕ) (c : CampaignValue)
       let (is, stands) = shared n share found drawing in
       let (want, u, wanted, low, at, region) = only_takers_get pot_of wants c n share is in
       let here : u.region ≡ r = eqb-true u.region r (ap (stands_in r) (sym at) ∙ stands) in
-      let (i, less, found) = taker_place wants c.units n want u wanted at in
-      let among : IsIn n (takers_in wants c.units u.region) = place_in (takers_in wants c.units u.region) n i less found in
+      let (i, less, found) = taker_index wants c.units n want u wanted at in
+      let among : IsIn n (takers_in wants c.units u.region) = in_by_index (takers_in wants c.units u.region) n i less found in
       (subst (λ k. IsIn n (takers_in wants c.units k)) here among, ap (λ o. unwrap_or o 0) is)
 
   least : (drawing pot all : ℕ) → drawing ≤ min pot all → drawing ≤ pot

@@ -306,10 +306,10 @@ module _ (p : ℕ → Bool) where
       either rest true = (each_so _ _ (λ k both. both.0) (filter p ns) (kept_each (λ k. nat_cmp n k ≡ Less) ns h.0), rest)
       either rest false = rest
 
-  kept_place : (ns : List ℕ) (n i : ℕ) → i < length ns → get_or ns i 0 ≡ n → p n ≡ true → (j : ℕ) × (j < length (filter p ns)) × (get_or (filter p ns) j 0 ≡ n)
-  kept_place [] n i l at h = absurd (omega arith)
-  kept_place (k ∷ ns) n zero l at h = subst (λ b. (j : ℕ) × (j < length (cond b (k ∷ filter p ns) (filter p ns))) × (get_or (cond b (k ∷ filter p ns) (filter p ns)) j 0 ≡ n)) (sym (ap p at ∙ h)) (0, omega arith, at)
-  kept_place (k ∷ ns) n (suc i) l at h = either (kept_place ns n i (omega arith) at h) (p k)
+  kept_index : (ns : List ℕ) (n i : ℕ) → i < length ns → get_or ns i 0 ≡ n → p n ≡ true → (j : ℕ) × (j < length (filter p ns)) × (get_or (filter p ns) j 0 ≡ n)
+  kept_index [] n i l at h = absurd (omega arith)
+  kept_index (k ∷ ns) n zero l at h = subst (λ b. (j : ℕ) × (j < length (cond b (k ∷ filter p ns) (filter p ns))) × (get_or (cond b (k ∷ filter p ns) (filter p ns)) j 0 ≡ n)) (sym (ap p at ∙ h)) (0, omega arith, at)
+  kept_index (k ∷ ns) n (suc i) l at h = either (kept_index ns n i (omega arith) at h) (p k)
     where
       either : (j : ℕ) × (j < length (filter p ns)) × (get_or (filter p ns) j 0 ≡ n) → (b : Bool) → (j : ℕ) × (j < length (cond b (k ∷ filter p ns) (filter p ns))) × (get_or (cond b (k ∷ filter p ns) (filter p ns)) j 0 ≡ n)
       either (j, low, is) true = (suc j, omega arith, is)
@@ -356,14 +356,14 @@ module _ (r : ℕ) where
         | false ↦ rest
       ])
 
-  listed_place : (es : List (ℕ × Unit)) (n : ℕ) (u : Unit) → find nat_cmp n es ≡ Some u → stands u ≡ true → (i : ℕ) × (i < length (listed es)) × (get_or (listed es) i 0 ≡ n)
-  listed_place [] n u is h = none_some u is
-  listed_place (e ∷ es) n u is h =
+  listed_index : (es : List (ℕ × Unit)) (n : ℕ) (u : Unit) → find nat_cmp n es ≡ Some u → stands u ≡ true → (i : ℕ) × (i < length (listed es)) × (get_or (listed es) i 0 ≡ n)
+  listed_index [] n u is h = none_some u is
+  listed_index (e ∷ es) n u is h =
       subst (λ (ns : List ℕ). (i : ℕ) × (i < length ns) × (get_or ns i 0 ≡ n)) (sym (chosen-cons stands e es))
       (elim (nat_cmp n e.0) as (λ o. nat_cmp n e.0 ≡ o → cond (is_eq o) (Some e.1) (find nat_cmp n es) ≡ Some u → (i : ℕ) × (i < length (cond (stands e.1) (e.0 ∷ listed es) (listed es))) × (get_or (cond (stands e.1) (e.0 ∷ listed es) (listed es)) i 0 ≡ n)) [
-        | Less ↦ λ _ g. behind (listed_place es n u g h) (stands e.1)
+        | Less ↦ λ _ g. behind (listed_index es n u g h) (stands e.1)
         | Equal ↦ λ o g. here (sym (nat_cmp-IsAntisymmetric n e.0 o)) (stands e.1) (let one : e.1 ≡ u = cc in ap stands one ∙ h)
-        | Greater ↦ λ _ g. behind (listed_place es n u g h) (stands e.1)
+        | Greater ↦ λ _ g. behind (listed_index es n u g h) (stands e.1)
       ] refl is)
     where
       behind : (i : ℕ) × (i < length (listed es)) × (get_or (listed es) i 0 ≡ n) → (b : Bool) → (i : ℕ) × (i < length (cond b (e.0 ∷ listed es) (listed es))) × (get_or (cond b (e.0 ∷ listed es) (listed es)) i 0 ≡ n)
@@ -395,10 +395,10 @@ module _ (wants : FinMap nat_cmp ℕ) (units : FinMap nat_cmp Unit) where
   takers_risen r = kept_risen (λ n. is_some (get wants n)) (numbers_in r units) (listed_risen r (entries units) sorted_units)
 
   -- each unit that has a want in a region has an index in the list of those that have one
-  pub taker_place : (n want : ℕ) (u : Unit) → get wants n ≡ Some want → get units n ≡ Some u → (i : ℕ) × (i < length (takers_in wants units u.region)) × (get_or (takers_in wants units u.region) i 0 ≡ n)
-  taker_place n want u wanted is =
-      let (i, low, at) = listed_place u.region (entries units) n u (sym (get-entries units n) ∙ is) (same_number u.region) in
-      kept_place (λ k. is_some (get wants k)) (numbers_in u.region units) n i low at (ap is_some wanted)
+  pub taker_index : (n want : ℕ) (u : Unit) → get wants n ≡ Some want → get units n ≡ Some u → (i : ℕ) × (i < length (takers_in wants units u.region)) × (get_or (takers_in wants units u.region) i 0 ≡ n)
+  taker_index n want u wanted is =
+      let (i, low, at) = listed_index u.region (entries units) n u (sym (get-entries units n) ∙ is) (same_number u.region) in
+      kept_index (λ k. is_some (get wants k)) (numbers_in u.region units) n i low at (ap is_some wanted)
 
 -- ---- shares of all regions
 
@@ -517,7 +517,7 @@ each_taker_gets pot_of wants c n want u wanted is region =
     let r = u.region in
     let takers = takers_in wants c.units r in
     let given = shares (pot_of r) (wants_in wants c.units r) in
-    let (i, low, at) = taker_place wants c.units n want u wanted is in
+    let (i, low, at) = taker_index wants c.units n want u wanted is in
     let long : length given ≡ length takers = length-shares (pot_of r) (wants_in wants c.units r) ∙ length-map takers (want_of wants) in
     let share : share_of pot_of wants c n ≡ Some (get_or given i 0) =
     ap (share_of pot_of wants c) (sym at) ∙ sym (get_or-map (share_of pot_of wants c) takers i 0 None low)

@@ -220,7 +220,7 @@ told_there units items k n = stands_in k.0 (get units n) && is_for k.1 (get item
 
 -- the pots of SELL or BUY, by region and item
 abbrev pub item_pots : Trade → WorldValue → FinMap nat_cmp Unit → FinMap nat_cmp ℕ → DrawnPots (ℕ × ℕ)
-item_pots trade w units items = record { place = λ k. k.0; draws = told_there units items; left = λ k q. pot_by trade (limit_of w k.1 k.0) (amount_of q.stocks k.1) }
+item_pots trade w units items = record { pot_region = λ k. k.0; draws = told_there units items; left = λ k q. pot_by trade (limit_of w k.1 k.0) (amount_of q.stocks k.1) }
 
 -- after a trade of `share` pieces the market's pot has that many less
 pot_less : (trade : Trade) (h : HoldingValue) (limit stock share : ℕ) (m : Market) → limit ≡ m.limit → HasPot trade stock share (Some m)

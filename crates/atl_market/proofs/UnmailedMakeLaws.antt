@@ -51,8 +51,8 @@ begin_men : (w : WorldValue) (c : CampaignValue) (n kind : ℕ) (k : Kind) (u : 
 unfolding begin
 begin_men w c n kind k u = let size = size_added k u.holding 0 in men_unless c (after_start c n kind k u.region size) (Done size) (begin_fault w c u k) (begun_men c n kind k u.region size)
 
-gone_on_men : (c : CampaignValue) (n material size place done : ℕ) → HaveTheirMen c (after_building_on c n material size place done)
-gone_on_men c n material size place done = let used = with_used c n material size in men_twice c used (after_building_on c n material size place done) (used_men c n material size) (men_same used (after_building_on c n material size place done) refl)
+gone_on_men : (c : CampaignValue) (n material size structure done : ℕ) → HaveTheirMen c (after_building_on c n material size structure done)
+gone_on_men c n material size structure done = let used = with_used c n material size in men_twice c used (after_building_on c n material size structure done) (used_men c n material size) (men_same used (after_building_on c n material size structure done) refl)
 
 go_on_men : (w : WorldValue) (c : CampaignValue) (n : ℕ) (u : Unit) → HaveTheirMen c (go_on w n c u).0
 unfolding go_on

@@ -95,17 +95,17 @@ inside_fault u s k = first_fault (
     ∷ (amount_of u.holding.items k.material == 0, NoMaterial)
     ∷ [])
 
--- a campaign after unit `n` used `size` of a material for the structure numbered `place`, of which `done` is done then
-abbrev pub after_building_on : CampaignValue → (n material size place done : ℕ) → CampaignValue
-after_building_on c n material size place done = with_done (with_used c n material size) place done
+-- a campaign after unit `n` used `size` of a material for a structure, by its number, of which `done` is done then
+abbrev pub after_building_on : CampaignValue → (n material size structure done : ℕ) → CampaignValue
+after_building_on c n material size structure done = with_done (with_used c n material size) structure done
 
 -- a structure with its kind, if that is one of the world
 abbrev pub with_kind : WorldValue → Structure → Option (Structure × Kind)
 with_kind w s = option_map (λ k. (s, k)) (slice_get w.kinds s.kind)
 
--- the structure numbered `place` with its kind, if there is one
-abbrev pub structure_and_kind_at : WorldValue → CampaignValue → (place : ℕ) → Option (Structure × Kind)
-structure_and_kind_at w c place = option_and_then (with_kind w) (get c.structures place)
+-- the structure under a number with its kind, if there is one
+abbrev pub structure_and_kind_at : WorldValue → CampaignValue → (structure : ℕ) → Option (Structure × Kind)
+structure_and_kind_at w c structure = option_and_then (with_kind w) (get c.structures structure)
 
 -- what `BUILD` makes of a campaign and its outcome, by the structure and kind that unit `n` is inside, if it is inside one
 abbrev pub go_on_at : CampaignValue → (n : ℕ) → Unit → Option (Structure × Kind) → CampaignValue × Outcome
