@@ -1,6 +1,6 @@
 use Rattle.std.proofs.Common.{rules, ◌≡◌}
 use Rattle.atl_month.specs.Upkeep.{upkeep, upkeep_inputs_of, upkeep_results}
-use Rattle.atl_month.proofs.AloneLaws.{upkeep_is_of_peers}
+use Rattle.atl_month.proofs.UpkeepPeersLaws.{upkeep_is_of_peers}
 use Rattle.atl_month.proofs.UpkeepLaws.{all_can_pay, inputs_in_order, upkeep_leaves_well}
 use Rattle.atl_month.proofs.upkeep.UpkeepPhasePhase.run.Goals as goal
 
