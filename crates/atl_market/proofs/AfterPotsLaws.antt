@@ -1,4 +1,4 @@
--- What each payment of a phase with pots makes of a unit and of its region: so all change at once.
+-- Laws that TAX, RECRUIT, WORK and PRODUCE change all units and regions at once, from what one payment changes.
 use Rattle.std.proofs.Common.{◌≡◌, ℕ, ◌+◌, ◌-◌, ◌*◌, true, false, Option, Some, None, refl, ap, ◌∙◌, arith}
 use Rattle.std.specs.List.{slice_get}
 use Rattle.std.specs.Option.{option_map_or}
@@ -10,19 +10,19 @@ use Rattle.atl_state.specs.Campaign.{CampaignValue}
 use Rattle.atl_records.specs.declared.records.Unit.{Unit}
 use Rattle.atl_records.proofs.EveryLaws.{get-insert_other}
 use Rattle.atl_state.proofs.RegionLaws.{changed-known, get-insert_same}
-use Rattle.atl_market.specs.AtOnce.{stays}
+use Rattle.atl_market.specs.AtOnce.{unchanged_region}
 use Rattle.atl_market.specs.Goods.{with_made, with_used}
 use Rattle.atl_market.specs.AfterPots.{ProducesAtOnce, RecruitsAtOnce, TaxesAtOnce, WorksAtOnce, maker_by, maker_of, with_less, with_less_money, with_less_peasants, with_more, with_more_money, with_recruits}
 use Rattle.atl_market.specs.PotPhase.{items_by, wants_by}
 use Rattle.atl_market.specs.Produce.{after_production, produce_pots, with_item_made, with_raw_used}
-use Rattle.atl_market.specs.Recruit.{after_recruiting, recruit_pots, recruits_at, with_men}
+use Rattle.atl_market.specs.Recruit.{after_recruiting, recruit_pots, recruits_at, with_paid_recruits}
 use Rattle.atl_market.specs.Tax.{after_tax, money_at, tax_pots}
 use Rattle.atl_market.specs.Work.{after_work, places_at, wages_for, work_pots}
 use Rattle.atl_market.proofs.AtOnceLaws.{Pays, all_at_once}
 use Rattle.atl_market.proofs.GoodsLaws.{made_unit, used_unit}
 use Rattle.atl_market.proofs.PotLaws.{only_takers_get, pots_give}
 use Rattle.atl_market.proofs.ProduceLaws.{given_can, produced_others}
-use Rattle.atl_market.proofs.MoneyInTurnLaws.{others_stay, paid_unit}
+use Rattle.atl_market.proofs.MoreMoneyLaws.{others_stay, paid_unit}
 use Rattle.atl_market.proofs.RecruitLaws.{leave, recruited_is, recruited_others}
 use Rattle.atl_market.proofs.TaxLaws.{drain, taxed_is}
 use Rattle.atl_market.proofs.WantLaws.{given_is_wanted}
@@ -32,12 +32,14 @@ use Rattle.atl_market.proofs.WorkLaws.{wages_leave_others, worked_is}
 less_none : (a : ℕ) → a - 0 ≡ a
 less_none a = omega arith
 
+-- taking one amount and then another is taking both together
 less_both : (a s t : ℕ) → a - s - t ≡ a - (s + t)
 less_both a s t = omega arith
 
 -- ---- TAX
 
 module _ (w : WorldValue) where
+  -- one payment of TAX changes its unit and region alone, by so much money
   tax_pays : Pays true (λ d e. after_tax d e) (λ n. with_more_money) with_less_money
   tax_pays = record {
     mine = λ d e u is (q, around). ap (λ (s : CampaignValue). get s.units e.0) (taxed_is w d e u q is around) ∙ get-insert_same d.units e.0 (paid_unit d e.0 u e.1);
@@ -60,10 +62,11 @@ taxes_at_once w c os =
 -- ---- RECRUIT
 
 module _ (w : WorldValue) where
+  -- one payment of RECRUIT changes its unit and region alone, by its recruits and their price
   recruit_pays : Pays true (after_recruiting w) (λ n. with_recruits w) with_less_peasants
   recruit_pays = record {
     mine = λ d e u is (q, around).
-        ap (λ (s : CampaignValue). get s.units e.0) (recruited_is w d e u q is around) ∙ get-insert_same d.units e.0 (record u { holding = with_men u.holding e.1 (e.1 * w.rules.recruit_price) });
+        ap (λ (s : CampaignValue). get s.units e.0) (recruited_is w d e u q is around) ∙ get-insert_same d.units e.0 (record u { holding = with_paid_recruits u.holding e.1 (e.1 * w.rules.recruit_price) });
     others = λ d e u is here k apart. recruited_others w d e k apart;
     region = λ d e u q is around.
         ap (λ (s : CampaignValue). get s.regions u.region) (recruited_is w d e u q is around) ∙ ap (λ m. get m u.region) (changed-known (leave q e.1) d.regions u.region q around)
@@ -83,7 +86,8 @@ recruits_at_once w c os =
 -- ---- WORK
 
 module _ (w : WorldValue) where
-  work_pays : Pays false (after_work w) (λ n u places. with_more_money u (wages_for w u.region places)) stays
+  -- one payment of WORK changes its unit alone, by its wages
+  work_pays : Pays false (after_work w) (λ n u places. with_more_money u (wages_for w u.region places)) unchanged_region
   work_pays = record {
     mine = λ d e u is here. ap (λ (s : CampaignValue). get s.units e.0) (worked_is w d e u is) ∙ get-insert_same d.units e.0 (paid_unit d e.0 u (wages_for w u.region e.1));
     others = λ d e u is here k apart. ap (λ (s : CampaignValue). get s.units k) (worked_is w d e u is) ∙ wages_leave_others w d e.0 u (wages_for w u.region e.1) is k apart;
@@ -95,7 +99,7 @@ module _ (w : WorldValue) where
 
 pub works_at_once : WorksAtOnce
 works_at_once w c os =
-    all_at_once work_pots w (λ n u places. with_more_money u (wages_for w u.region places)) stays c os (work_pays w)
+    all_at_once work_pots w (λ n u places. with_more_money u (wages_for w u.region places)) unchanged_region c os (work_pays w)
     (λ n share is. let (u, o, there, own, low) = given_is_wanted work_pots w c (λ items. pots_give (places_at w) c) os n share is in (u, there, tt))
 
 -- ---- PRODUCE
@@ -107,9 +111,11 @@ module _ (asked : FinMap nat_cmp ℕ) (w : WorldValue) where
   made_regions : (d : CampaignValue) (n i amount : ℕ) → (with_made d n i amount).regions ≡ d.regions
   made_regions d n i amount = by_unit d n (λ (s : CampaignValue). s.regions ≡ d.regions) _ refl (λ u is. refl)
 
+  -- the regions of the second campaign are those of the first
   abbrev HasItsRegions : CampaignValue → CampaignValue → Type 0
   HasItsRegions d s = s.regions ≡ d.regions
 
+  -- making leaves all regions as they are
   produced_regions : (d : CampaignValue) (e : ℕ × ℕ) → (after_production asked w d e).regions ≡ d.regions
   unfolding after_production
   produced_regions d e =
@@ -119,6 +125,7 @@ module _ (asked : FinMap nat_cmp ℕ) (w : WorldValue) where
       made_regions (with_raw_used d e.0 amount x.raw) e.0 i e.1
       ∙ by_option (HasItsRegions d) (λ r. with_used d e.0 r amount) x.raw d refl (λ r raw. used_regions d e.0 r amount)))
 
+  -- the unit after it made its items
   produced_unit : (d : CampaignValue) (e : ℕ × ℕ) (u : Unit) → get d.units e.0 ≡ Some u → get (after_production asked w d e).units e.0 ≡ Some (maker_by w u e.1 (get asked e.0))
   unfolding after_production
   produced_unit d e u is = by_item (get asked e.0)
@@ -135,7 +142,8 @@ module _ (asked : FinMap nat_cmp ℕ) (w : WorldValue) where
       by_item None = is
       by_item (Some i) = by_world i (slice_get w.items i)
 
-  produce_pays : Pays false (after_production asked w) (λ n u made. maker_by w u made (get asked n)) stays
+  -- one unit's making changes that unit alone, by what it made and the raw items
+  produce_pays : Pays false (after_production asked w) (λ n u made. maker_by w u made (get asked n)) unchanged_region
   produce_pays = record {
     mine = λ d e u is here. produced_unit d e u is;
     others = λ d e u is here k apart. produced_others asked w d e k apart;
@@ -148,5 +156,5 @@ module _ (asked : FinMap nat_cmp ℕ) (w : WorldValue) where
 pub produces_at_once : ProducesAtOnce
 produces_at_once w c os =
     let items = items_by produce_pots w c os in
-    all_at_once produce_pots w (λ n u made. maker_by w u made (get items n)) stays c os (produce_pays items w)
+    all_at_once produce_pots w (λ n u made. maker_by w u made (get items n)) unchanged_region c os (produce_pays items w)
     (λ n made is. let (u, there, low) = given_can w c os n made is in (u, there, tt))

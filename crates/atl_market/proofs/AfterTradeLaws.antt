@@ -1,4 +1,4 @@
--- What each trade makes of a unit and of the stocks of its region: so all units trade at once.
+-- Laws that SELL and BUY change all units and stocks at once, from what one trade changes.
 use Rattle.std.proofs.Common.{◌≡◌, ◌≢◌, ◌==◌, ◌&&◌, ℕ, ◌+◌, ◌≤◌, ◌<◌, Bool, true, false, cond, Option, Some, None, List, [], ◌∷◌, refl, sym, ap, subst, ◌∙◌, inl, inr, arith}
 use Rattle.std.specs.Prelude.{fold}
 use Rattle.std.specs.List.{AllByRecursion}
@@ -37,39 +37,45 @@ use Rattle.atl_market.proofs.PotLaws.{found_other}
 use Rattle.atl_market.proofs.TradeLaws.{market_is, stock_is, told_there, traded_is, traded_others, trades_give}
 use Rattle.atl_market.proofs.WantLaws.{given_is_named}
 
--- ---- what a deal leaves
+-- ---- what a trade leaves
 
--- of what a unit holds, whatever the stock is
+-- what a unit holds after a trade, whatever the stock is
 trade_is : (trade : Trade) (h : HoldingValue) (stock share : ℕ) (m : Market) → with_trade_result h m.item (trade_result_of trade h stock share m) ≡ with_trade trade h share m
 trade_is Sell h stock share m = refl
 trade_is Buy h stock share m = refl
 
--- of the stock, whatever the unit holds
+-- what the stock is after a trade, whatever the unit holds
 stock_traded : (trade : Trade) (h : HoldingValue) (stock share : ℕ) (m : Market) → (trade_result_of trade h stock share m).stock ≡ stock_after trade stock share
 stock_traded Sell h stock share m = refl
 stock_traded Buy h stock share m = refl
 
+-- trading nothing leaves the stock as it is
 none_traded : (trade : Trade) (stock : ℕ) → stock_after trade stock 0 ≡ stock
 none_traded Sell stock = omega arith
 none_traded Buy stock = omega arith
 
+-- trading twice changes the stock as trading both amounts at once
 traded_twice : (trade : Trade) (stock s t : ℕ) → stock_after trade (stock_after trade stock s) t ≡ stock_after trade stock (s + t)
 traded_twice Sell stock s t = omega arith
 traded_twice Buy stock s t = omega arith
 
 module _ (d : CampaignValue) (n : ℕ) (u : Unit) (i : ℕ) (entry : Entry) (deal : TradeResult) (is : get d.units n ≡ Some u) where
+  -- the units after a trade is set: unit `n` with its new holding, the others as they were
   dealt_units : (with_result d n u i entry deal).units ≡ insert d.units n (record u { holding = with_trade_result u.holding i deal })
   dealt_units = ap (λ o. (with_held d n (with_trade_result u.holding i deal) o).units) is
 
+  -- the regions after a trade is set: the unit's region with its new stock, the others as they were
   dealt_regions : (with_result d n u i entry deal).regions ≡ changed (λ r. restocked r i deal.stock) d.regions u.region
   dealt_regions = ap (λ o. changed (λ r. restocked r i deal.stock) (with_held d n (with_trade_result u.holding i deal) o).regions u.region) is
 
 -- ---- one unit trades
 
 module _ (trade : Trade) (items : FinMap nat_cmp ℕ) (w : WorldValue) where
+  -- what a unit is after a trade of so many
   abbrev trader : ℕ → UnitChange
   trader n u share = trader_of trade u share (market_for w u (get items n))
 
+  -- the unit of a trade is after it what its share makes of it
   unit_traded : (d : CampaignValue) (e : ℕ × ℕ) (u : Unit) → get d.units e.0 ≡ Some u → get (after_trade trade items w d e).units e.0 ≡ Some (trader e.0 u e.1)
   unit_traded d e u is = by_market (market_for w u (get items e.0)) refl
     where
@@ -82,12 +88,14 @@ module _ (trade : Trade) (items : FinMap nat_cmp ℕ) (w : WorldValue) where
           ∙ ap (λ k. get k e.0) (dealt_units d e.0 u m.item (trade_entry trade) deal is) ∙ get-insert_same d.units e.0 (record u { holding = with_trade_result u.holding m.item deal })
           ∙ ap (λ h. Some (record u { holding = h })) (trade_is trade u.holding stock e.1 m)
 
--- what a unit that is told to trade an item leaves of a region's stock of it
+-- what the trade of a unit leaves of a region's stocks
 module _ (trade : Trade) (items : FinMap nat_cmp ℕ) (w : WorldValue) (units : FinMap nat_cmp Unit) (d : CampaignValue) (e : ℕ × ℕ) (u : Unit)
     (is : get d.units e.0 ≡ Some u) (there : get units e.0 ≡ Some u) where
+  -- how many of item `i` the unit takes from, or adds to, the stock of region `r`
   abbrev drawn_here : (r i : ℕ) → ℕ
   drawn_here r i = cond (told_there units items (r, i) e.0) e.1 0
 
+  -- region `r`, which was `q`, is after the trade there with its stocks changed as they should be
   abbrev IsTraded : ℕ → Region → Type 0
   IsTraded r q = HasNewStocks q (stock_after trade) (drawn_here r) (get (after_trade trade items w d e).regions r)
 
@@ -95,6 +103,7 @@ module _ (trade : Trade) (items : FinMap nat_cmp ℕ) (w : WorldValue) (units : 
   none_drawn true share none = none
   none_drawn false share none = refl
 
+  -- without a market, and with a share of 0, each region's stocks are as they should be
   without_market : market_for w u (get items e.0) ≡ None → e.1 ≡ 0 → (r : ℕ) (q : Region) → get d.regions r ≡ Some q → IsTraded r q
   without_market at none r q around = record {
     stocks = q.stocks;
@@ -103,24 +112,29 @@ module _ (trade : Trade) (items : FinMap nat_cmp ℕ) (w : WorldValue) (units : 
   }
 
   module _ (m : Market) (at : market_for w u (get items e.0) ≡ Some m) (told : get items e.0 ≡ Some m.item) where
+    -- the result of the unit's trade
     abbrev deal : TradeResult
     deal = trade_result_of trade u.holding (stock_of d u.region m.item) e.1 m
 
+    -- a region with the stock that the trade leaves
     abbrev restock : Region → Region
     restock q = restocked q m.item deal.stock
 
+    -- the trade changes the stock of the unit's region, and no other region
     regions_are : (r : ℕ) → get (after_trade trade items w d e).regions r ≡ get (changed restock d.regions u.region) r
     regions_are r =
         ap (λ (s : CampaignValue). get s.regions r) (traded_is trade items w d e u is (Some m) at)
         ∙ ap (λ k. get k r) (dealt_regions d e.0 u m.item (trade_entry trade) deal is)
 
+    -- the unit draws from the pot of its own region and item alone
     draws : (r i : ℕ) → told_there units items (r, i) e.0 ≡ (u.region == r && m.item == i)
     draws r i = ap (λ o. stands_in r o && is_for i (get items e.0)) there ∙ ap (λ o. u.region == r && is_for i o) told
 
+    -- a pot from which the unit doesn't draw stays as it is
     undrawn : (r i stock : ℕ) → told_there units items (r, i) e.0 ≡ false → stock ≡ stock_after trade stock (drawn_here r i)
     undrawn r i stock other = sym (ap (λ b. stock_after trade stock (cond b e.1 0)) other ∙ none_traded trade stock)
 
-    -- the region where the unit stands
+    -- the trade leaves the stocks of the unit's own region as it should
     here : (r : ℕ) (q : Region) → r ≡ u.region → get d.regions r ≡ Some q → IsTraded r q
     here r q same around = record {
       stocks = with_amount_of q.stocks m.item deal.stock;
@@ -149,7 +163,7 @@ module _ (trade : Trade) (items : FinMap nat_cmp ℕ) (w : WorldValue) (units : 
               ∙ undrawn r i (amount_of q.stocks i) (mine i ∙ other_number m.item i (λ one. apart (sym one)))
         ]
 
-    -- any other
+    -- the trade leaves the stocks of any other region as it should
     elsewhere : (r : ℕ) (q : Region) → r ≢ u.region → get d.regions r ≡ Some q → IsTraded r q
     elsewhere r q apart around = record {
       stocks = q.stocks;
@@ -157,6 +171,7 @@ module _ (trade : Trade) (items : FinMap nat_cmp ℕ) (w : WorldValue) (units : 
       amounts = λ i. undrawn r i (amount_of q.stocks i) (draws r i ∙ ap (λ b. b && m.item == i) (other_number u.region r (λ same. apart (sym same))));
     }
 
+  -- the trade of a unit leaves each region's stocks as it should
   region_traded : IsWorld w → (market_for w u (get items e.0) ≡ None → e.1 ≡ 0) → (r : ℕ) (q : Region) → get d.regions r ≡ Some q → IsTraded r q
   region_traded world none r q around = by_market (market_for w u (get items e.0)) refl
     where
@@ -169,14 +184,16 @@ module _ (trade : Trade) (items : FinMap nat_cmp ℕ) (w : WorldValue) (units : 
 -- ---- one unit trades after the other
 
 module _ (trade : Trade) (items : FinMap nat_cmp ℕ) (w : WorldValue) where
+  -- a campaign after the trade of one share
   abbrev step : CampaignValue → ℕ × ℕ → CampaignValue
   step d e = after_trade trade items w d e
 
-  -- who has traded doesn't trade again
+  -- a unit whose number is below those still to come stays as it is
   traded_once : (d : CampaignValue) (es : List (ℕ × ℕ)) (n : ℕ) → AllByRecursion (λ e. n < e.0) es → get (fold (after_trade trade items w) d es).units n ≡ get d.units n
   traded_once d [] n above = refl
   traded_once d (e ∷ es) n above = traded_once (step d e) es n above.1 ∙ traded_others trade items w d e n (λ same. absurd (omega (arith, same, above.0)))
 
+  -- after all trades each unit has changed by its share, if it has one
   units_traded : (d : CampaignValue) (es : List (ℕ × ℕ)) → Rise es → (n : ℕ) (u : Unit) → get d.units n ≡ Some u
       → get (fold (after_trade trade items w) d es).units n ≡ Some (paid_unit (trader trade items w n) u (find nat_cmp n es))
   units_traded d [] rise n u is = is
@@ -191,10 +208,11 @@ module _ (trade : Trade) (items : FinMap nat_cmp ℕ) (w : WorldValue) where
   ]
 
   module _ (c : CampaignValue) where
-    -- a unit is there, and has no share where there is no market for it
+    -- the unit of a share is there, and its share is 0 where there is no market for it
     abbrev Trades : ℕ × ℕ → Type 0
     Trades e = (u : Unit) × (get c.units e.0 ≡ Some u) × (market_for w u (get items e.0) ≡ None → e.1 ≡ 0)
 
+    -- after all trades each region's stocks have changed by what its units traded
     regions_traded : IsWorld w → (d : CampaignValue) (es : List (ℕ × ℕ)) → Rise es → AreUntouched c d es → AllByRecursion Trades es → (r : ℕ) (q : Region) → get d.regions r ≡ Some q
         → HasNewStocks q (stock_after trade) (λ i. drawn (told_there c.units items (r, i)) es) (get (fold (after_trade trade items w) d es).regions r)
     regions_traded world d [] rise same all r q around = record { stocks = q.stocks; region = around; amounts = λ i. sym (none_traded trade (amount_of q.stocks i)) }
@@ -213,16 +231,18 @@ module _ (trade : Trade) (items : FinMap nat_cmp ℕ) (w : WorldValue) where
         }
 
 module _ (trade : Trade) (w : WorldValue) (c : CampaignValue) (os : List Task) where
+  -- the item that each unit's order names
   abbrev named : FinMap nat_cmp ℕ
   named = items_by (trade_pots trade) w c os
 
+  -- the shares of all units
   abbrev given : FinMap nat_cmp ℕ
   given = given_by (trade_pots trade) w c os
 
   none_left : (share : ℕ) → share ≤ 0 → share ≡ 0
   none_left share low = omega (arith, low)
 
-  -- who wants something by an order has the market of the item that the order names
+  -- a unit whose region has no market for its order's item has a share of 0
   without_share : (n share : ℕ) (u : Unit) (asked : ℕ) (s : Option ℕ) → share ≤ trade_want trade u.holding asked (market_for w u s)
       → ((i : ℕ) → s ≡ Some i → get named n ≡ Some i) → market_for w u (get named n) ≡ None → share ≡ 0
   without_share n share u asked None low told at = none_left share low

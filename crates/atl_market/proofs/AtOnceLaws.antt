@@ -1,4 +1,4 @@
--- All pots and all units change at once.
+-- The law that payments one after the other change all units and regions at once, where each changes its own alone.
 use Rattle.std.proofs.Common.{◌≡◌, ◌≢◌, ℕ, ◌+◌, ◌<◌, ◌==◌, Bool, true, false, cond, List, [], ◌∷◌, map, filter, sum, Some, refl, sym, ap, subst, ◌∙◌, inl, inr, arith}
 use Rattle.std.specs.Prelude.{⊤, fold}
 use Rattle.std.specs.List.{AllByRecursion}
@@ -19,15 +19,16 @@ use Rattle.atl_market.specs.PotPhase.{PotMeaning, after_sharing, given_by, items
 use Rattle.atl_market.proofs.DrawLaws.{AreUntouched, Drawers, all_pairs, drawn, still, untouched, who_stand}
 use Rattle.atl_market.proofs.PotLaws.{found_other}
 
+-- 0 more than a number is the number
 no_more : (a : ℕ) → 0 + a ≡ a
 no_more a = omega arith
 
--- where a payment needs the unit's region: that it is there; else nothing
+-- a unit's region is there, if the payment needs it (`needs`)
 abbrev pub Around : Bool → CampaignValue → Unit → Type 0
 Around true d u = IsThere d.regions u.region
 Around false d u = ⊤
 
--- what one payment makes of a unit and of its region, and that it changes no other
+-- one payment changes its unit by `gets` and its unit's region by `gives`, and no other unit or region
 pub record Pays (needs : Bool) (step : CampaignValue → ℕ × ℕ → CampaignValue) (gets : ℕ → UnitChange) (gives : RegionChange) : Type 0 where
   pub mine : (d : CampaignValue) (e : ℕ × ℕ) (u : Unit) → get d.units e.0 ≡ Some u → Around needs d u → get (step d e).units e.0 ≡ Some (gets e.0 u e.1)
   pub others : (d : CampaignValue) (e : ℕ × ℕ) (u : Unit) → get d.units e.0 ≡ Some u → Around needs d u → (k : ℕ) → k ≢ e.0 → get (step d e).units k ≡ get d.units k
@@ -53,15 +54,18 @@ module _ {needs : Bool} {step : CampaignValue → ℕ × ℕ → CampaignValue} 
     abbrev CanBePaid : CampaignValue → ℕ × ℕ → Type 0
     CanBePaid d e = (u : Unit) × (get c.units e.0 ≡ Some u) × Around needs d u
 
+    -- in campaign `d` the shares still to come can be paid: their units are as in `c`, and there
     record AreReady (d : CampaignValue) (es : List (ℕ × ℕ)) : Type 0 where
       rise : Rise es
       same : AreUntouched c d es
       payable : AllByRecursion (CanBePaid d) es
 
+    -- after a payment the units still to come can be paid
     payable_still : (d : CampaignValue) (e : ℕ × ℕ) (u : Unit) (es : List (ℕ × ℕ)) → get d.units e.0 ≡ Some u → Around needs d u → AllByRecursion (CanBePaid d) es → AllByRecursion (CanBePaid (step d e)) es
     payable_still d e u [] is here all = tt
     payable_still d e u (f ∷ es) is here ((v, there, around), all) = ((v, there, still_around d e u v is here around), payable_still d e u es is here all)
 
+    -- after the first payment the others can be made
     ready_still : (d : CampaignValue) (e : ℕ × ℕ) (es : List (ℕ × ℕ)) (u : Unit) → get d.units e.0 ≡ Some u → Around needs d u → AreReady d (e ∷ es) → AreReady (step d e) es
     ready_still d e es u is here ready = record {
       rise = ready.rise.1;
@@ -69,7 +73,7 @@ module _ {needs : Bool} {step : CampaignValue → ℕ × ℕ → CampaignValue} 
       payable = payable_still d e u es is here ready.payable.1;
     }
 
-    -- who was paid isn't paid again
+    -- a unit whose number is below those still to come stays as it is
     paid_once : (d : CampaignValue) (es : List (ℕ × ℕ)) (n : ℕ) → AreReady d es → AllByRecursion (λ e. n < e.0) es → get (fold step d es).units n ≡ get d.units n
     paid_once d [] n ready above = refl
     paid_once d (e ∷ es) n ready above =
@@ -77,6 +81,7 @@ module _ {needs : Bool} {step : CampaignValue → ℕ × ℕ → CampaignValue} 
         let now : get d.units e.0 ≡ Some u = ready.same.0 ∙ there in
         paid_once (step d e) es n (ready_still d e es u now here ready) above.1 ∙ pays.others d e u now here n (λ same. absurd (omega (arith, same, above.0)))
 
+    -- after all payments each unit has changed by its share, if it has one
     units_paid : (d : CampaignValue) (es : List (ℕ × ℕ)) → AreReady d es → (n : ℕ) (u : Unit) → get d.units n ≡ Some u → get (fold step d es).units n ≡ Some (paid_unit (gets n) u (find nat_cmp n es))
     units_paid d [] ready n u is = is
     units_paid d (e ∷ es) ready n u is =
@@ -93,6 +98,7 @@ module _ {needs : Bool} {step : CampaignValue → ℕ × ℕ → CampaignValue} 
               units_paid (step d e) es rest n u (pays.others d e v now here n apart ∙ is) ∙ ap (λ o. Some (paid_unit (gets n) u o)) (sym (found_other e es n apart))
         ]
 
+    -- after all payments each region has changed by what its units got
     regions_drained : (d : CampaignValue) (es : List (ℕ × ℕ)) → AreReady d es → (r : ℕ) (q : Region) → get d.regions r ≡ Some q → get (fold step d es).regions r ≡ Some (gives q (drawn (who_stand c.units r) es))
     regions_drained d [] ready r q is = is ∙ ap Some (sym (pays.nothing q))
     regions_drained d (e ∷ es) ready r q is =
@@ -111,7 +117,7 @@ module _ {needs : Bool} {step : CampaignValue → ℕ × ℕ → CampaignValue} 
               ∙ sym (ap (λ b. Some (gives q (cond b e.1 0 + drawn (who_stand c.units r) es))) other)
         ]
 
--- what is drawn is all that those got who draw
+-- what is drawn from a pot is the sum of what the units that draw from it got
 pub drawn_is : (draws : Drawers) (es : List (ℕ × ℕ)) → drawn draws es ≡ sum (map (λ e. e.1) (filter (λ e. draws e.0) es))
 drawn_is draws [] = refl
 drawn_is draws (e ∷ es) = by_test (draws e.0) (drawn_is draws es)
@@ -125,6 +131,7 @@ drawn_is draws (e ∷ es) = by_test (draws e.0) (drawn_is draws es)
 abbrev pub GivesWhoIsThere : Bool → PotMeaning → WorldValue → CampaignValue → List Task → Type 0
 GivesWhoIsThere needs p w c os = (n share : ℕ) → get (given_by p w c os) n ≡ Some share → (u : Unit) × (get c.units n ≡ Some u) × Around needs c u
 
+-- a phase whose payments change their own unit and region alone pays all units at once
 pub all_at_once : {needs : Bool} (p : PotMeaning) (w : WorldValue) (gets : ℕ → UnitChange) (gives : RegionChange) (c : CampaignValue) (os : List Task)
     → Pays needs (p.paid (items_by p w c os) w) gets gives → GivesWhoIsThere needs p w c os → PaysAtOnce p w gets gives c os
 unfolding after_sharing

@@ -1,4 +1,4 @@
--- A structure is begun by a unit, and more is done of one: what that leaves.
+-- Laws of BUILD: beginning a structure, and doing more of one, keeps what BUILD needs (`CanBuild`).
 use Rattle.std.proofs.Common.{◌≡◌, ℕ, ◌≤◌, Bool, true, false, codes, decimal, ◌++◌, Some, refl, sym, ap, ◌∙◌, lit≤}
 use Rattle.std.specs.Prelude.{pos, IsTrue, if◌then◌else◌}
 use Rattle.std.specs.FinMap.{get}
@@ -24,6 +24,7 @@ use Rattle.atl_instant.proofs.OrderEffectLaws.{not_drawn}
 
 -- ---- where units hold what they held, and nothing is booked
 
+-- a change that keeps the books, all totals and what BUILD may book keeps what BUILD needs
 pub still_well : (w : WorldValue) (c d : CampaignValue) → CanBuild w d → IsSameMonth c d → d.books ≡ c.books → ((t : Thing) → total d t ≡ total c t) → ((e : Entry) (t : Thing) → build_reserve d e t ≡ build_reserve c e t) → StepsWell CanBuild build_reserve w c d
 still_well w c d can same books totals reserves = record {
   holds_still = can;
@@ -34,13 +35,15 @@ still_well w c d can same books totals reserves = record {
 
 -- ---- a structure more
 
-pub sort_name_ok : (k : Kind) (number : ℕ) → number ≤ last_unit → IsTrue (name_ok (name_prefix k ++ decimal number))
-sort_name_ok k number l = by_sort k.ship
+-- the first name of a structure is a valid name
+pub first_name_ok : (k : Kind) (number : ℕ) → number ≤ last_unit → IsTrue (name_ok (name_prefix k ++ decimal number))
+first_name_ok k number l = by_sort k.ship
   where
     by_sort : (ship : Bool) → name_ok ((if ship then codes "Ship " else codes "Building ") ++ decimal number) ≡ true
     by_sort true = numbered_name_ok (codes "Ship ") (record { bytes = refl; begins = refl; some = lit≤ tt; few = lit≤ tt }) number l
     by_sort false = numbered_name_ok (codes "Building ") (record { bytes = refl; begins = refl; some = lit≤ tt; few = lit≤ tt }) number l
 
+-- adding a structure keeps what BUILD needs
 pub raised_well : (w : WorldValue) (c : CampaignValue) (s : Structure) (fresh : IsFresh w c s) (room : c.next_structure ≤ most_structures) (can : CanBuild w c) → StepsWell CanBuild build_reserve w c (raised w c s fresh room can.steady)
 raised_well w c s fresh room can =
     still_well w c (raised w c s fresh room can.steady) (record { steady = steady_raised w c s fresh room can.steady; kinds = can.kinds })
@@ -48,6 +51,7 @@ raised_well w c s fresh room can =
 
 -- ---- more of a structure is done
 
+-- doing more of a structure, up to its kind's size, keeps what BUILD needs
 pub built_well : (w : WorldValue) (c : CampaignValue) (k : ℕ) (s : Structure) (done : ℕ) (is : get c.structures k ≡ Some s) (more : s.done ≤ done) (most : done ≤ size_of w s.kind) (can : CanBuild w c) → StepsWell CanBuild build_reserve w c (built w c k s done is)
 built_well w c k s done is more most can =
     still_well w c (built w c k s done is) (record { steady = steady_built w c k s done is more most can.steady; kinds = can.kinds })

@@ -1,4 +1,4 @@
--- BUILD leaves a campaign well, and spares who doesn't order it.
+-- Laws of BUILD: it leaves a campaign well, leaves units without an order as they are, and the code does what is defined.
 use Rattle.std.proofs.Common.{◌≡◌, ◌≢◌, ◌==◌, ℕ, ◌+◌, ◌-◌, ◌*◌, ◌≤◌, ◌<◌, Bool, true, false, not, [], ◌∷◌, length, Option, Some, None, refl, sym, ap, subst, ◌∙◌, arith}
 use Rattle.std.proofs.lemmas.Bool.{not-false, true≢false}
 use Rattle.std.specs.Prelude.{IfSome, min, nat_le, nat_lt, option_and_then, option_map, if◌then◌else◌}
@@ -45,26 +45,28 @@ use Rattle.atl_instant.proofs.PlacingLaws.{place_stays}
 use Rattle.atl_instant.proofs.QuitLaws.{sum_within}
 use Rattle.atl_instant.proofs.OrderEffectLaws.{no_worse_spares, well_same, well_twice}
 use Rattle.atl_instant.proofs.UnbookedLaws.{stays_spared}
-use Rattle.atl_market.specs.Build.{after_building_on, after_start, begin, begin_fault, build_effect, build_moves, build_step, go_on, go_on_at, inside_fault, is_structure_limit, new_structure, size_added, structure_and_kind_at, with_kind, with_new}
+use Rattle.atl_market.specs.Build.{after_building_on, after_start, begin, begin_fault, build_effect, build_moves, build_step, go_on, go_on_at, inside_fault, is_structure_limit, new_structure, size_added, structure_and_kind_at, with_kind, with_new_structure}
 use Rattle.atl_market.specs.Bounds.{CanBuild, build_reserve}
 use Rattle.atl_market.specs.Making.{CanUse}
-use Rattle.atl_market.proofs.BuildBegunLaws.{built_well, raised_well, sort_name_ok}
+use Rattle.atl_market.proofs.BuildBegunLaws.{built_well, first_name_ok, raised_well}
 use Rattle.atl_market.proofs.BuildPlaceLaws.{place_well}
 use Rattle.atl_market.proofs.BuildUsedLaws.{others_stay, used, used_for_well, used_room, user, user_there}
 use Rattle.atl_market.proofs.GoodsLaws.{used_is}
 
+-- a number that isn't 0 is at least 1
 some : (n : ℕ) → (n == 0) ≡ false → 1 ≤ n
 some n is = grind (arith, nat_tests)
 
 more_than : (a b : ℕ) → nat_le a b ≡ false → b < a
 more_than a b is = grind (arith, nat_tests)
 
--- ---- the structures are as many as numbers are given
+-- ---- structures are numbered from 1 without a gap
 
+-- where fewer than 10,000 structures are there, the next number is at most 10,000
 pub next_within : (c : CampaignValue) → IsNumbered c.structures c.next_structure → len c.structures < most_structures → c.next_structure ≤ most_structures
 next_within c numbered room = omega (arith, numbered.count, room)
 
--- the next number tells whether no further structure can come
+-- no further structure may be begun exactly if the next number is above 10,000
 pub limit_by_next : (c : CampaignValue) → IsNumbered c.structures c.next_structure → nat_lt most_structures c.next_structure ≡ is_structure_limit c
 limit_by_next c numbered = rw numbered.count (by_count most_structures (len c.structures))
   where
@@ -73,7 +75,7 @@ limit_by_next c numbered = rw numbered.count (by_count most_structures (len c.st
 
 -- ---- where no fault fits
 
--- a unit that begins a structure of a kind
+-- a unit has all that it needs to begin a structure of a kind
 pub record CanBegin (w : WorldValue) (c : CampaignValue) (u : Unit) (k : Kind) : Type 0 where
   pub men : 1 ≤ u.holding.men
   pub land : is_land_at w u.region ≡ true
@@ -81,6 +83,7 @@ pub record CanBegin (w : WorldValue) (c : CampaignValue) (u : Unit) (k : Kind) :
   pub material : 1 ≤ amount_of u.holding.items k.material
   pub room : len c.structures < most_structures
 
+-- a unit without a fault has it
 pub can_begin : (w : WorldValue) (c : CampaignValue) (u : Unit) (k : Kind) → begin_fault w c u k ≡ None → CanBegin w c u k
 can_begin w c u k is =
     let limit = (is_structure_limit c, StructureLimit) ∷ [] in
@@ -99,13 +102,14 @@ can_begin w c u k is =
       room = more_than most_structures (len c.structures) five.0;
     }
 
--- a unit that goes on with a structure
+-- a unit has all that it needs to go on with a structure
 pub record CanGoOn (u : Unit) (s : Structure) (k : Kind) : Type 0 where
   pub men : 1 ≤ u.holding.men
   pub missing : s.done < k.size
   pub skill : k.level ≤ level_in u.holding k.skill
   pub material : 1 ≤ amount_of u.holding.items k.material
 
+-- a unit without a fault has it
 pub can_go_on : (u : Unit) (s : Structure) (k : Kind) → inside_fault u s k ≡ None → CanGoOn u s k
 can_go_on u s k is =
     let material = (amount_of u.holding.items k.material == 0, NoMaterial) ∷ [] in
@@ -123,6 +127,7 @@ can_go_on u s k is =
 
 -- ---- the size that is added
 
+-- the least of three numbers from 1 on is at least 1
 least_of : (x y z : ℕ) → 1 ≤ x → 1 ≤ y → 1 ≤ z → 1 ≤ min (min x y) z
 least_of x y z a b c = omega (arith, a, b, c)
 
@@ -136,56 +141,69 @@ product : (a b : ℕ) → 1 ≤ a → 1 ≤ b → 1 ≤ a * b
 product a b l m = let h : a * 1 ≤ a * b = mul-le-mul_left a m in omega (arith, l, h)
 
 module _ (k : Kind) (h : HoldingValue) (done : ℕ) where
+  -- the size that is added is at most the material held
   pub size_held : size_added k h done ≤ amount_of h.items k.material
   size_held = within_of (h.men * level_in h k.skill) (amount_of h.items k.material) (k.size - done)
 
+  -- the size that is added is at most what is missing of the structure
   pub size_missing : size_added k h done ≤ k.size - done
   size_missing = missing_of (h.men * level_in h k.skill) (amount_of h.items k.material) (k.size - done)
 
+  -- a unit with men, level and material adds at least 1 to a structure that isn't complete
   size_some : 1 ≤ h.men → 1 ≤ level_in h k.skill → 1 ≤ amount_of h.items k.material → done < k.size → 1 ≤ size_added k h done
   size_some men level material missing =
       least_of (h.men * level_in h k.skill) (amount_of h.items k.material) (k.size - done) (product h.men (level_in h k.skill) men level) material (omega (arith, missing))
 
+-- the size of a kind, found by the kind's number
 kind_size : (w : WorldValue) (i : ℕ) (k : Kind) → slice_get w.kinds i ≡ Some k → size_of w i ≡ k.size
 kind_size w i k is = ap (λ o. option_map_or (λ (x : Kind). x.size) o most_size) is
 
 -- ---- a structure is begun
 
 module _ (w : WorldValue) (c : CampaignValue) (n kind : ℕ) (u : Unit) (k : Kind) (is : get c.units n ≡ Some u) where
+  -- the size of the new structure
   abbrev size : ℕ
   size = size_added k u.holding 0
 
+  -- the campaign after the unit used its material
   abbrev one : CampaignValue
   one = used w c n k.material size u is
 
+  -- from the campaign after the material was used: the structure is begun and entered
   abbrev from_used : CampaignValue → CampaignValue
-  from_used d = with_place (with_new d kind k u.region size) n u.region c.next_structure
+  from_used d = with_place (with_new_structure d kind k u.region size) n u.region c.next_structure
 
+  -- beginning a structure is using the material and then this
   begun_is : after_start c n kind k u.region size ≡ from_used one
   begun_is = ap from_used (used_is w c n k.material size u is)
 
+  -- beginning a structure leaves the other units as they are
   begun_stays : (j : ℕ) → j ≢ n → get (after_start c n kind k u.region size).units j ≡ get c.units j
   begun_stays j apart =
-      ap (λ (d : CampaignValue). get d.units j) begun_is ∙ place_stays (with_new one kind k u.region size) n u.region c.next_structure j apart
+      ap (λ (d : CampaignValue). get d.units j) begun_is ∙ place_stays (with_new_structure one kind k u.region size) n u.region c.next_structure j apart
       ∙ others_stay w c n k.material size u is j apart
 
   module _ (kind_is : slice_get w.kinds kind ≡ Some k) (can : CanBuild w c) (fit : CanBegin w c u k) where
+    -- the kind is one of the world's
     good : IsKind (length w.items) (length w.skills) k
     good = can.kinds kind k kind_is
 
     room : c.next_structure ≤ most_structures
     room = next_within c can.steady.next.structures fit.room
 
+    -- using the material keeps what BUILD needs
     one_well : StepsWell CanBuild build_reserve w c one
     one_well = used_for_well w c n k.material size u is (size_held k u.holding 0) good.material can
 
+    -- the new structure
     abbrev new : Structure
     new = new_structure c.next_structure kind k u.region size
 
+    -- the new structure may be added to the campaign
     fresh : IsFresh w one new
     fresh = record {
       kind = slice_get_within w.kinds kind k kind_is;
-      name = sort_name_ok k c.next_structure (omega (arith, room));
+      name = first_name_ok k c.next_structure (omega (arith, room));
       region = (can.steady.known.units n u is).region;
       land = fit.land;
       least = size_some k u.holding 0 fit.men (omega (arith, good.level_least, fit.skill)) fit.material (omega (arith, good.size_least));
@@ -193,9 +211,11 @@ module _ (w : WorldValue) (c : CampaignValue) (n kind : ℕ) (u : Unit) (k : Kin
       ownerless = refl;
     }
 
+    -- the campaign in which the new structure is added, and not entered yet
     two : CampaignValue
     two = raised w one new fresh room one_well.holds_still.steady
 
+    -- beginning a structure keeps what BUILD needs
     begun_well : StepsWell CanBuild build_reserve w c (after_start c n kind k u.region size)
     unfolding two
     begun_well =
@@ -210,18 +230,23 @@ module _ (w : WorldValue) (c : CampaignValue) (n kind : ℕ) (u : Unit) (k : Kin
 -- ---- more of a structure is done
 
 module _ (w : WorldValue) (c : CampaignValue) (n : ℕ) (u : Unit) (s : Structure) (k : Kind) (is : get c.units n ≡ Some u) where
+  -- the size that the unit adds
   abbrev added : ℕ
   added = size_added k u.holding s.done
 
+  -- the campaign after the unit used its material
   abbrev paid : CampaignValue
   paid = used w c n k.material added u is
 
+  -- from that campaign: so much of the structure is done
   abbrev further : CampaignValue → CampaignValue
   further d = with_done d u.structure (s.done + added)
 
+  -- going on is using the material and then this
   on_is : after_building_on c n k.material added u.structure (s.done + added) ≡ further paid
   on_is = ap further (used_is w c n k.material added u is)
 
+  -- going on with a structure leaves the other units as they are
   on_stays : (j : ℕ) → j ≢ n → get (after_building_on c n k.material added u.structure (s.done + added)).units j ≡ get c.units j
   on_stays j apart = ap (λ (d : CampaignValue). get d.units j) on_is ∙ others_stay w c n k.material added u is j apart
 
@@ -229,12 +254,14 @@ module _ (w : WorldValue) (c : CampaignValue) (n : ℕ) (u : Unit) (s : Structur
     paid_well : StepsWell CanBuild build_reserve w c paid
     paid_well = used_for_well w c n k.material added u is (size_held k u.holding s.done) (can.kinds s.kind k kind_is).material can
 
+    -- what is done then is at most the kind's size
     most : s.done + added ≤ size_of w s.kind
     most = subst (λ x. s.done + added ≤ x) (sym (kind_size w s.kind k kind_is)) (up added s.done k.size (size_missing k u.holding s.done) fit.missing)
       where
         up : (a d m : ℕ) → a ≤ m - d → d < m → d + a ≤ m
         up a d m l h = omega (arith, l, h)
 
+    -- going on keeps what BUILD needs
     on_well : StepsWell CanBuild build_reserve w c (after_building_on c n k.material added u.structure (s.done + added))
     on_well =
         let done_is = built_is w paid u.structure s (s.done + added) there in
@@ -243,7 +270,7 @@ module _ (w : WorldValue) (c : CampaignValue) (n : ℕ) (u : Unit) (s : Structur
 
 -- ---- an order
 
--- what is so of the campaign as it is, and of that in which the structure is begun, is so of the campaign behind the order
+-- what holds of the campaign as it is, and as the structure is begun, holds of it after `BUILD kind`
 begin_cases : (P : CampaignValue → Type 0) (w : WorldValue) (c : CampaignValue) (n kind : ℕ) (k : Kind) (u : Unit) → P c
     → (CanBegin w c u k → P (after_start c n kind k u.region (size_added k u.holding 0))) → P (begin w n kind k c u).0
 unfolding begin
@@ -253,7 +280,7 @@ begin_cases P w c n kind k u same go = by_fault (begin_fault w c u k) refl
     by_fault (Some fault) e = same
     by_fault None e = go (can_begin w c u k e)
 
--- and so where a unit goes on
+-- what holds of the campaign as it is, and as more is done of the structure, holds of it after `BUILD`
 go_on_cases : (P : CampaignValue → Type 0) (w : WorldValue) (c : CampaignValue) (n : ℕ) (u : Unit) → P c
     → ((s : Structure) (k : Kind) → get c.structures u.structure ≡ Some s → slice_get w.kinds s.kind ≡ Some k → CanGoOn u s k
     → P (after_building_on c n k.material (size_added k u.holding s.done) u.structure (s.done + size_added k u.holding s.done))) → P (go_on w n c u).0
@@ -278,9 +305,11 @@ go_on_cases P w c n u same go = by_structure (get c.structures u.structure) refl
     by_structure (Some s) there = by_kind s there (slice_get w.kinds s.kind) refl
 
 module _ (w : WorldValue) (c : CampaignValue) (n : ℕ) (u : Unit) (is : get c.units n ≡ Some u) where
+  -- `BUILD kind` keeps what BUILD needs
   begin_well : (kind : ℕ) (k : Kind) → slice_get w.kinds kind ≡ Some k → CanBuild w c → StepsWell CanBuild build_reserve w c (begin w n kind k c u).0
   begin_well kind k kind_is can = begin_cases (λ d. StepsWell CanBuild build_reserve w c d) w c n kind k u (well_same w c can) (λ fit. begun_well w c n kind u k is kind_is can fit)
 
+  -- `BUILD` keeps what BUILD needs
   go_on_well : CanBuild w c → StepsWell CanBuild build_reserve w c (go_on w n c u).0
   go_on_well can = go_on_cases (λ d. StepsWell CanBuild build_reserve w c d) w c n u (well_same w c can) (λ s k there kind_is fit. on_well w c n u s k is there kind_is can fit)
 
@@ -292,6 +321,7 @@ module _ (w : WorldValue) (c : CampaignValue) (n : ℕ) (u : Unit) (is : get c.u
 
 -- ---- what all units hold of an item
 
+-- what BUILD may still book is within the bound of the phase
 reserve_within : (w : WorldValue) (c : CampaignValue) → CanBuild w c → (e : Entry) (t : Thing) → build_reserve c e t ≤ build_moves e t
 reserve_within w c can e t = by_thing t
   where
@@ -318,6 +348,7 @@ reserve_within w c can e t = by_thing t
 
 -- ---- the phase
 
+-- BUILD carries out its orders as a phase of orders must: within its bounds, and others are no worse off
 pub build_orderly : IsOrderly build_step CanBuild build_reserve build_moves IsOwnOrder IsNoWorse
 build_orderly = record {
   well = λ w a c t x can fit own. well w c t.unit x own.there can t.order_value.operands;
@@ -359,36 +390,40 @@ can_use w c n item amount u is enough known can room = record {
   room = used_room c n item amount u is enough room;
 }
 
--- ---- what the code does is what is said
+-- ---- the code does what is defined
 
--- a structure and its kind that stand under a number
-built_is_both : (w : WorldValue) (c : CampaignValue) (place : ℕ) (s : Structure) (k : Kind) → get c.structures place ≡ Some s → slice_get w.kinds s.kind ≡ Some k → structure_and_kind_at w c place ≡ Some (s, k)
-built_is_both w c place s k there kind_is = ap (option_and_then (with_kind w)) there ∙ ap (option_map {U = Structure × Kind} (λ x. (s, x))) kind_is
+-- a structure under a number, and its kind, are what `structure_and_kind_at` finds
+built_is_both : (w : WorldValue) (c : CampaignValue) (structure : ℕ) (s : Structure) (k : Kind) → get c.structures structure ≡ Some s → slice_get w.kinds s.kind ≡ Some k → structure_and_kind_at w c structure ≡ Some (s, k)
+built_is_both w c structure s k there kind_is = ap (option_and_then (with_kind w)) there ∙ ap (option_map {U = Structure × Kind} (λ x. (s, x))) kind_is
 
-abbrev begun_told : CampaignValue → (n kind : ℕ) → Kind → (region size : ℕ) → CampaignValue × Outcome
-begun_told c n kind k region size = (after_start c n kind k region size, Done size)
+-- a campaign and outcome after a structure was begun
+abbrev begun_outcome : CampaignValue → (n kind : ℕ) → Kind → (region size : ℕ) → CampaignValue × Outcome
+begun_outcome c n kind k region size = (after_start c n kind k region size, Done size)
 
-abbrev on_told : CampaignValue → (n material size place done : ℕ) → CampaignValue × Outcome
-on_told c n material size place done = (after_building_on c n material size place done, Done size)
+-- a campaign and outcome after more was done of a structure
+abbrev on_outcome : CampaignValue → (n material size structure done : ℕ) → CampaignValue × Outcome
+on_outcome c n material size structure done = (after_building_on c n material size structure done, Done size)
 
+-- where no fault fits, what the code does and returns for `BUILD kind` is what is defined
 pub begin_done : (w : WorldValue) (c d : CampaignValue) (f n kind : ℕ) (u : Unit) (k : Kind) (size told : ℕ) → of_faction f (get c.units n) ≡ Some u → begin_fault w c u k ≡ None
     → d ≡ after_start c n kind k u.region size → told ≡ size → size ≡ size_added k u.holding 0 → (d, Done told) ≡ faction_effect (begin w n kind k) c f n
 unfolding begin
 begin_done w c d f n kind u k size told is none first told_is size_is =
-    let whole = begun_told c n kind k u.region (size_added k u.holding 0) in
+    let whole = begun_outcome c n kind k u.region (size_added k u.holding 0) in
     let chain : faction_effect (begin w n kind k) c f n ≡ whole = ap (effect_on (begin w n kind k) c) is ∙ ap (λ o. unless c o whole) none in
     rw (first, told_is, size_is) (sym chain)
 
+-- where no fault fits, what the code does and returns for `BUILD` is what is defined
 pub go_on_done : (w : WorldValue) (c d : CampaignValue) (f n : ℕ) (u : Unit) (s : Structure) (k : Kind) (size told : ℕ) → of_faction f (get c.units n) ≡ Some u → get c.structures u.structure ≡ Some s → slice_get w.kinds s.kind ≡ Some k
     → inside_fault u s k ≡ None → d ≡ after_building_on c n k.material size u.structure (s.done + size) → told ≡ size → size ≡ size_added k u.holding s.done → (d, Done told) ≡ faction_effect (go_on w n) c f n
 unfolding go_on
 go_on_done w c d f n u s k size told is there kind_is none first told_is size_is =
     let added = size_added k u.holding s.done in
-    let whole = on_told c n k.material added u.structure (s.done + added) in
+    let whole = on_outcome c n k.material added u.structure (s.done + added) in
     let chain : faction_effect (go_on w n) c f n ≡ whole = ap (effect_on (go_on w n) c) is ∙ ap (go_on_at c n u) (built_is_both w c u.structure s k there kind_is) ∙ ap (λ o. unless c o whole) none in
     rw (first, told_is, size_is) (sym chain)
 
--- what is done then isn't more than the kind's size
+-- where no fault fits, what is done of a structure then is at most the greatest size of a kind
 pub done_small : (u : Unit) (s : Structure) (k : Kind) → inside_fault u s k ≡ None → k.size ≤ most_size → s.done + size_added k u.holding s.done ≤ most_size
 done_small u s k none small = up (size_added k u.holding s.done) s.done k.size (size_missing k u.holding s.done) (can_go_on u s k none).missing small
   where

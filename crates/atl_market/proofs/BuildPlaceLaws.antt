@@ -1,4 +1,4 @@
--- A unit that builds leaves a structure for another of its region.
+-- Laws of BUILD: moving a unit from its structure into another of its region keeps what BUILD needs (`CanBuild`).
 use Rattle.std.proofs.Common.{◌≡◌, ◌≢◌, ℕ, ◌+◌, false, true, Some, refl, sym, subst, arith}
 use Rattle.std.specs.FinMap.{get}
 use Rattle.atl_tables.specs.Worlds.{WorldValue}
@@ -21,15 +21,18 @@ cancelled : (a b h g : ℕ) → a + h ≡ b + g → g ≡ h → a ≡ b
 cancelled a b h g e f = omega (arith, e, f)
 
 module _ (w : WorldValue) (c : CampaignValue) (n : ℕ) (u : Unit) (s : ℕ) (is : get c.units n ≡ Some u) (can : CanBuild w c) (apart : u.structure ≢ s) where
+  -- the campaign after unit `n` went into structure `s`
   abbrev then : CampaignValue
   then = behind w c n u s is can.steady apart
 
+  -- what BUILD may still book stays the same
   reserve_stays : (e : Entry) (t : Thing) → build_reserve then e t ≡ build_reserve c e t
   reserve_stays e t =
       let f = λ (x : Unit). usable e t x.holding in
       let moved : Unit = record u { structure = s } in
       cancelled (build_reserve then e t) (build_reserve c e t) (f u) (f moved) (sum_over-insert_known f c.units n u moved is) refl
 
+  -- moving a unit into a structure of its region, on water into a ship, keeps what BUILD needs
   pub place_well : (s ≢ 0 → (x : Structure) × (get c.structures s ≡ Some x) × (x.region ≡ u.region)) → (is_land_at w u.region ≡ false → (x : Structure) × (get c.structures s ≡ Some x) × (is_ship w x ≡ true)) → StepsWell CanBuild build_reserve w c (with_place c n u.region s)
   place_well inside afloat =
       subst (StepsWell CanBuild build_reserve w c) (sym (place_is w c n u s is can.steady apart))

@@ -1,4 +1,4 @@
--- A unit uses some of an item that it holds for a structure, as far as its reserve goes.
+-- Laws of BUILD: using material that a unit holds keeps what BUILD needs, within its bound on the books (`build_reserve`).
 use Rattle.std.proofs.Common.{◌≡◌, ◌≢◌, ◌==◌, ℕ, ◌+◌, ◌-◌, ◌*◌, ◌≤◌, ◌<◌, Bool, true, false, cond, length, Some, refl, sym, ap, subst, ◌∙◌, arith}
 use Rattle.std.specs.Prelude.{pos, neg_ℤ, if◌then◌else◌}
 use Rattle.std.proofs.lemmas.Bool.Decides.{nat_tests}
@@ -34,10 +34,11 @@ use Rattle.atl_market.proofs.ThereLaws.{by_unit}
 
 -- ---- what a unit holds less
 
+-- a holding with so much less of an item
 abbrev with_less : HoldingValue → (item amount : ℕ) → HoldingValue
 with_less h item amount = record h { items = with_amount_of h.items item (amount_of h.items item - amount) }
 
--- so much of an item is gone, and nothing of another
+-- the holding has so much less of that item, and as much as before of any other
 item_less : (h : HoldingValue) (item amount j : ℕ) → amount ≤ amount_of h.items item → amount_of h.items j ≡ amount_of (with_less h item amount).items j + cond (eq_by_cmp nat_cmp j item) amount 0
 item_less h item amount j enough =
     by_test (eq_by_cmp nat_cmp j item) refl ∙ ap (λ x. x + cond (eq_by_cmp nat_cmp j item) amount 0) (sym (set_amount h.items item (amount_of h.items item - amount) j))
@@ -49,11 +50,12 @@ item_less h item amount j enough =
     by_test true is = here (amount_of h.items j) (amount_of h.items item) amount enough (ap (amount_of h.items) (alike item j is))
     by_test false is = omega arith
 
--- how much of it is booked under an entry
+-- how much of an item's use is booked under an entry, of a thing: all of it under Used and the item, else 0
 abbrev used_of : (item amount : ℕ) → Entry → Thing → ℕ
 used_of item amount e (Item j) = if entry_index e == entry_index Used then cond (eq_by_cmp nat_cmp j item) amount 0 else 0
 used_of item amount e t = 0
 
+-- what a holding may still have booked is less by what was used
 usable_less : (h : HoldingValue) (item amount : ℕ) → amount ≤ amount_of h.items item → (e : Entry) (t : Thing) → usable e t h ≡ usable e t (with_less h item amount) + used_of item amount e t
 usable_less h item amount enough e Money = refl
 usable_less h item amount enough e People = refl
@@ -90,27 +92,33 @@ only_used item amount e t = by_number (amount_number e t == amount_number Used (
 
 -- ---- the campaign
 
+-- a sum in which one term is less by `x` is less by `x`
 shrunk : (s t f g x : ℕ) → s + f ≡ t + g → f ≡ g + x → s + x ≡ t
 shrunk s t f g x e h = omega (arith, e, h)
 
 module _ (w : WorldValue) (c : CampaignValue) (n item amount : ℕ) (u : Unit) (is : get c.units n ≡ Some u) where
+  -- the unit after it used so much of the item
   abbrev pub user : Unit
   user = record u { holding = with_less u.holding item amount }
 
+  -- the campaign after the unit used so much of the item, which is booked
   abbrev pub used : CampaignValue
   used = with_amount (item_held c n u item (amount_of u.holding.items item - amount)) Used (Item item) (neg_ℤ (pos amount))
 
-  -- the unit is there, and the others stay
+  -- the unit is there after it used the item
   pub user_there : get used.units n ≡ Some user
   user_there = get-insert_same c.units n user
 
+  -- the other units stay as they are
   pub others_stay : (k : ℕ) → k ≢ n → get used.units k ≡ get c.units k
   others_stay k apart = get-insert_other c.units n k user apart
 
   module _ (enough : amount ≤ amount_of u.holding.items item) (known : item < length w.items) (can : CanBuild w c) where
+    -- using the item leaves the campaign well
     well : LeavesWell IsSteady (moves_only amount Used (Item item)) w c used
     well = subst (LeavesWell IsSteady (moves_only amount Used (Item item)) w c) (used_is w c n item amount u is) (used_up_to w c n item amount amount (omega arith) u is known enough can.steady)
 
+    -- what BUILD may still book is less by what the books moved
     drawn : (e : Entry) (t : Thing) → UsesBound (build_reserve c e t) (build_reserve used e t) (amount_in c.books e t) (amount_in used.books e t)
     drawn e t =
         let f = λ (x : Unit). usable e t x.holding in
@@ -118,6 +126,7 @@ module _ (w : WorldValue) (c : CampaignValue) (n item amount : ℕ) (u : Unit) (
         (shrunk (build_reserve used e t) (build_reserve c e t) (f u) (f user) (used_of item amount e t) (sum_over-insert_known f c.units n u user is) (usable_less u.holding item amount enough e t))
         (near_more (moves_only amount Used (Item item) e t) (used_of item amount e t) (amount_in c.books e t) (amount_in used.books e t) (only_used item amount e t) (well.near e t))
 
+    -- using the item keeps what BUILD needs, and leaves the books within its bound
     pub used_for_well : StepsWell CanBuild build_reserve w c used
     used_for_well = record {
       holds_still = record { steady = well.leaves_it; kinds = can.kinds };
@@ -128,15 +137,17 @@ module _ (w : WorldValue) (c : CampaignValue) (n item amount : ℕ) (u : Unit) (
 
 -- ---- what stays
 
--- the structures, and the number that comes next
+-- using an item changes no structure
 pub same_structures : (c : CampaignValue) (n item amount : ℕ) → (with_used c n item amount).structures ≡ c.structures
 same_structures c n item amount = by_unit c n (λ (d : CampaignValue). d.structures ≡ c.structures) _ refl (λ u is. refl)
 
+-- using an item keeps the next structure's number
 pub same_next : (c : CampaignValue) (n item amount : ℕ) → (with_used c n item amount).next_structure ≡ c.next_structure
 same_next c n item amount = by_unit c n (λ (d : CampaignValue). d.next_structure ≡ c.next_structure) _ refl (λ u is. refl)
 
 -- ---- there is room for what a unit may use
 
+-- books with room for all that BUILD may use have room for what a unit uses of an item that it holds
 pub used_room : (c : CampaignValue) (n item amount : ℕ) (u : Unit) → get c.units n ≡ Some u → amount ≤ amount_of u.holding.items item → HaveRoom (build_reserve c) c → HasRoom amount (amount_in c.books Used (Item item))
 used_room c n item amount u is enough room =
     let f = λ (x : Unit). usable Used (Item item) x.holding in

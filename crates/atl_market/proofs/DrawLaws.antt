@@ -1,4 +1,4 @@
--- What units with their shares draw from pots: a pot holds enough for all of them.
+-- Laws that each pot has enough for all shares that units draw from it, one unit after the other.
 use Rattle.std.proofs.Common.{◌≡◌, ◌≢◌, ℕ, ◌+◌, ◌<◌, ◌≤◌, ◌==◌, ◌⊎◌, zero, suc, Bool, true, false, cond, List, [], ◌∷◌, length, get_or, map, sum, Some, refl, sym, ap, subst, ◌∙◌, inl, inr, arith}
 use Rattle.std.specs.Prelude.{min, unwrap_or}
 use Rattle.std.specs.declared.cmp.Ordering.TheVariants.{Less}
@@ -19,19 +19,20 @@ use Rattle.atl_records.proofs.EveryLaws.{each-from_every, get-insert_other, othe
 use Rattle.atl_state.proofs.RegionLaws.{changed-known, get-insert_same}
 use Rattle.atl_market.specs.AtOnce.{stands_in}
 use Rattle.atl_market.specs.Pots.{amount_given, pot_shares, takers_in, wants_in}
-use Rattle.atl_market.proofs.PotLaws.{IsRisen, gives_each_pot, only_takers_get, taker_place, takers_risen}
+use Rattle.atl_market.proofs.PotLaws.{IsRisen, gives_each_pot, only_takers_get, taker_index, takers_risen}
 
 -- a number is one of a list
 abbrev IsIn : ℕ → List ℕ → Type 0
 IsIn n [] = ⊥
 IsIn n (k ∷ ks) = (n ≡ k) ⊎ IsIn n ks
 
-place_in : (ns : List ℕ) (n i : ℕ) → i < length ns → get_or ns i 0 ≡ n → IsIn n ns
-place_in [] n i low at = absurd (omega arith)
-place_in (k ∷ ns) n zero low at = inl (sym at)
-place_in (k ∷ ns) n (suc i) low at = inr (place_in ns n i (omega arith) at)
+-- the number at an index of a list is one of the list
+in_by_index : (ns : List ℕ) (n i : ℕ) → i < length ns → get_or ns i 0 ≡ n → IsIn n ns
+in_by_index [] n i low at = absurd (omega arith)
+in_by_index (k ∷ ns) n zero low at = inl (sym at)
+in_by_index (k ∷ ns) n (suc i) low at = inr (in_by_index ns n i (omega arith) at)
 
--- numbers that rise are above the first
+-- a number of a sorted list is above the number that comes ahead of the list
 risen_above : (n : ℕ) (ns : List ℕ) → AllByRecursion (λ k. nat_cmp n k ≡ Less) ns → (k : ℕ) → IsIn k ns → n < k
 risen_above n [] h k is = absurd is
 risen_above n (m ∷ ns) h k is = elim is [
@@ -39,38 +40,42 @@ risen_above n (m ∷ ns) h k is = elim is [
   | inr rest ↦ risen_above n ns h.1 k rest
 ]
 
+-- a number of a list that is above its first is one of the rest
 another : (k n : ℕ) (ns : List ℕ) → n < k → IsIn k (n ∷ ns) → IsIn k ns
 another k n ns above is = elim is [ inl same ↦ absurd (omega (arith, above, same)) | inr rest ↦ rest ]
 
+-- a number that is one of a list, and isn't its first, is one of the rest
 not_this : (k n : ℕ) (ns : List ℕ) → k ≢ n → IsIn k (n ∷ ns) → IsIn k ns
 not_this k n ns apart is = elim is [ inl same ↦ absurd (apart same) | inr rest ↦ rest ]
 
--- what is so of each number and its share, of them as pairs
+-- what holds of each number and its share holds of them as pairs
 pub all_pairs : (P : ℕ × ℕ → Type 0) (es : List (ℕ × ℕ)) → EachOf (λ n share. P (n, share)) es → AllByRecursion P es
 all_pairs P [] h = tt
 all_pairs P (e ∷ es) h = (h.0, all_pairs P es h.1)
 
 -- ---- what is drawn from one pot
 
--- a pot by the units that draw from it, of their numbers
+-- which units draw from a pot, by their numbers
 abbrev pub Drawers : Type 0
 Drawers = ℕ → Bool
 
 module _ (draws : Drawers) where
-  -- what the units of a pot draw by these shares
+  -- the sum of those shares whose units draw from the pot
   abbrev pub drawn : List (ℕ × ℕ) → ℕ
   drawn [] = 0
   drawn (e ∷ es) = cond (draws e.0) e.1 0 + drawn es
 
   module _ (amount : ℕ → ℕ) where
-    -- who draws is one of the list, and draws its amount
+    -- an entry's unit, if it draws from the pot, is one of a list, and its share is its amount
     abbrev pub Listed : List ℕ → ℕ × ℕ → Type 0
     Listed ns e = draws e.0 ≡ true → IsIn e.0 ns × (amount e.0 ≡ e.1)
 
+    -- shares of units above the first of a list are those of units in the rest
     narrowed : (n : ℕ) (ns : List ℕ) (es : List (ℕ × ℕ)) → AllByRecursion (λ f. n < f.0) es → AllByRecursion (Listed (n ∷ ns)) es → AllByRecursion (Listed ns) es
     narrowed n ns [] above all = tt
     narrowed n ns (f ∷ es) above all = (λ draws. let (is, same) = all.0 draws in (another f.0 n ns above.0 is, same), narrowed n ns es above.1 all.1)
 
+    -- numbers above one are above any that is no greater
     lower : (n k : ℕ) (es : List (ℕ × ℕ)) → n ≤ k → AllByRecursion (λ f. k < f.0) es → AllByRecursion (λ f. n < f.0) es
     lower n k [] low above = tt
     lower n k (f ∷ es) low above = (omega (arith, low, above.0), lower n k es low above.1)
@@ -78,6 +83,7 @@ module _ (draws : Drawers) where
     none_first : (rest : ℕ) → rest ≡ 0 → 0 + rest ≡ 0
     none_first rest h = omega (arith, h)
 
+    -- where no unit draws, nothing is drawn
     nothing_drawn : (es : List (ℕ × ℕ)) → AllByRecursion (Listed []) es → drawn es ≡ 0
     nothing_drawn [] all = refl
     nothing_drawn (e ∷ es) all =
@@ -95,9 +101,11 @@ module _ (draws : Drawers) where
     skipped : (drawing others first all : ℕ) → drawing ≤ others → all ≡ first + others → drawing ≤ all
     skipped drawing others first all h e = omega (arith, h, e)
 
+    -- what the units of a list draw is at most the sum of their amounts
     abbrev Bounded : List ℕ → Type 0
     Bounded ns = (es : List (ℕ × ℕ)) → IsRisen ns → Rise es → AllByRecursion (Listed ns) es → drawn es ≤ sum (map amount ns)
 
+    -- what the units of a list with one more draw is at most the sum of their amounts
     with_first : (n : ℕ) (ns : List ℕ) → Bounded ns → (es : List (ℕ × ℕ)) → IsRisen (n ∷ ns) → Rise es → AllByRecursion (Listed (n ∷ ns)) es → drawn es ≤ sum (map amount (n ∷ ns))
     with_first n ns rest [] up rise all = omega arith
     with_first n ns rest (e ∷ es) up rise all =
@@ -117,38 +125,39 @@ module _ (draws : Drawers) where
           | false ↦ λ _. none_of (drawn es) (sum (map amount (n ∷ ns))) (with_first n ns rest es up rise.1 all.1)
         ] refl
 
+    -- what the units of a list draw is at most the sum of their amounts
     pub drawn_among : (ns : List ℕ) → Bounded ns
     drawn_among [] es up rise all = let none = nothing_drawn es all in omega (arith, none)
     drawn_among (n ∷ ns) es up rise all = with_first n ns (drawn_among ns) es up rise all
 
 -- ---- one unit draws after the other
 
--- pots, each in a region, with the units that draw from it and what a region has of it
+-- pots by a key: the region of each (`pot_region`), which units draw from it (`draws`), and what is left of it in a region (`left`)
 pub record DrawnPots (K : Type 0) : Type 0 where
-  pub place : K → ℕ
+  pub pot_region : K → ℕ
   pub draws : K → Drawers
   pub left : K → Region → ℕ
 
 module _ {K : Type 0} (pots : DrawnPots K) where
-  -- each pot has enough for what its units are to draw
+  -- each pot has enough for those of some shares whose units draw from it
   abbrev pub HaveEnough : CampaignValue → List (ℕ × ℕ) → Type 0
-  HaveEnough d es = (k : K) (q : Region) → get d.regions (pots.place k) ≡ Some q → drawn (pots.draws k) es ≤ pots.left k q
+  HaveEnough d es = (k : K) (q : Region) → get d.regions (pots.pot_region k) ≡ Some q → drawn (pots.draws k) es ≤ pots.left k q
 
-  -- each pot has less by a unit's share where the unit draws from it, and else what it had
+  -- after a unit's turn each pot has less by its share if the unit draws from it, else what it had
   abbrev pub Drains : CampaignValue → ℕ × ℕ → CampaignValue → Type 0
   Drains d e after =
-      (k : K) (x : Region) → get after.regions (pots.place k) ≡ Some x
-      → (q : Region) × (get d.regions (pots.place k) ≡ Some q) × (pots.left k x + cond (pots.draws k e.0) e.1 0 ≡ pots.left k q)
+      (k : K) (x : Region) → get after.regions (pots.pot_region k) ≡ Some x
+      → (q : Region) × (get d.regions (pots.pot_region k) ≡ Some q) × (pots.left k x + cond (pots.draws k e.0) e.1 0 ≡ pots.left k q)
 
   module _ (d : CampaignValue) (e : ℕ × ℕ) (es : List (ℕ × ℕ)) (enough : HaveEnough d (e ∷ es)) where
-    -- a unit can draw its share
-    pub first_draws : (k : K) (q : Region) → get d.regions (pots.place k) ≡ Some q → pots.draws k e.0 ≡ true → e.1 ≤ pots.left k q
+    -- where pots have enough for all shares, each has enough for the share of the first unit that draws from it
+    pub first_draws : (k : K) (q : Region) → get d.regions (pots.pot_region k) ≡ Some q → pots.draws k e.0 ≡ true → e.1 ≤ pots.left k q
     first_draws k q around mine = at_least (pots.left k q) (subst (λ b. cond b e.1 0 + drawn (pots.draws k) es ≤ pots.left k q) mine (enough k q around))
       where
         at_least : (all : ℕ) → e.1 + drawn (pots.draws k) es ≤ all → e.1 ≤ all
         at_least all h = omega (arith, h)
 
-    -- and leaves enough for the others
+    -- after the first unit's turn the pots have enough for the others
     pub others_draw : (after : CampaignValue) → Drains d e after → HaveEnough after es
     others_draw after drains k x is =
         let (q, around, less) = drains k x is in
@@ -161,60 +170,64 @@ module _ {K : Type 0} (pots : DrawnPots K) where
     no_less : (a : ℕ) → a + 0 ≡ a
     no_less a = omega arith
 
-    -- a region changes, and each pot there has less by the share of the unit, where that draws from it
+    -- pots are drained as they should be where one region changes, and its pots have less by the share if the unit draws from them
     pub region_drains : (r : ℕ) (q : Region) → get d.regions r ≡ Some q → (f : Region → Region) → after.regions ≡ (region_changed f d r).regions
-        → ((k : K) → pots.place k ≡ r → pots.left k (f q) + cond (pots.draws k e.0) e.1 0 ≡ pots.left k q)
-        → ((k : K) → pots.place k ≢ r → pots.draws k e.0 ≡ false) → Drains d e after
-    region_drains r q around f changed here others k x found = elim (cases_eq (pots.place k) r) [
+        → ((k : K) → pots.pot_region k ≡ r → pots.left k (f q) + cond (pots.draws k e.0) e.1 0 ≡ pots.left k q)
+        → ((k : K) → pots.pot_region k ≢ r → pots.draws k e.0 ≡ false) → Drains d e after
+    region_drains r q around f changed here others k x found = elim (cases_eq (pots.pot_region k) r) [
       | inl same ↦
           let new : Some (f q) ≡ Some x = sym (get-insert_same d.regions r (f q)) ∙ ap (get (insert d.regions r (f q))) (sym same) ∙ put in
           let value : f q ≡ x = cc in
           (q, ap (get d.regions) same ∙ around, subst (λ y. pots.left k y + cond (pots.draws k e.0) e.1 0 ≡ pots.left k q) value (here k same))
       | inr apart ↦
-          (x, sym (get-insert_other d.regions r (pots.place k) (f q) apart) ∙ put, subst (λ b. pots.left k x + cond b e.1 0 ≡ pots.left k x) (sym (others k apart)) (no_less (pots.left k x)))
+          (x, sym (get-insert_other d.regions r (pots.pot_region k) (f q) apart) ∙ put, subst (λ b. pots.left k x + cond b e.1 0 ≡ pots.left k x) (sym (others k apart)) (no_less (pots.left k x)))
     ]
       where
-        put : get (insert d.regions r (f q)) (pots.place k) ≡ Some x
-        put = sym (ap (λ m. get m (pots.place k)) (changed ∙ changed-known f d.regions r q around)) ∙ found
+        put : get (insert d.regions r (f q)) (pots.pot_region k) ≡ Some x
+        put = sym (ap (λ m. get m (pots.pot_region k)) (changed ∙ changed-known f d.regions r q around)) ∙ found
 
-    -- nothing is drawn, and no region changes
+    -- pots are drained as they should be where a share is 0 and no region changes
     pub nothing_drains : after.regions ≡ d.regions → e.1 ≡ 0 → Drains d e after
-    nothing_drains same none k x found = (x, sym (ap (λ m. get m (pots.place k)) same) ∙ found, ap (λ s. pots.left k x + cond (pots.draws k e.0) s 0) none ∙ neither (pots.draws k e.0) (pots.left k x))
+    nothing_drains same none k x found = (x, sym (ap (λ m. get m (pots.pot_region k)) same) ∙ found, ap (λ s. pots.left k x + cond (pots.draws k e.0) s 0) none ∙ neither (pots.draws k e.0) (pots.left k x))
       where
         neither : (b : Bool) (a : ℕ) → a + cond b 0 0 ≡ a
         neither true a = no_less a
         neither false a = no_less a
 
--- ---- the pots of regions: those draw who stand there
+-- ---- the pots of regions: the units of the region draw from them
 
+-- which units draw from a region's pot: those that are in the region
 abbrev pub who_stand : FinMap nat_cmp Unit → ℕ → Drawers
 who_stand units r n = stands_in r (get units n)
 
 module _ (units : FinMap nat_cmp Unit) (left : Region → ℕ) where
+  -- the pots of regions, by region: each has what `left` says of the region
   abbrev pub region_pots : DrawnPots ℕ
-  region_pots = record { place = λ r. r; draws = who_stand units; left = λ r q. left q }
+  region_pots = record { pot_region = λ r. r; draws = who_stand units; left = λ r q. left q }
 
   module _ (d : CampaignValue) (e : ℕ × ℕ) (u : Unit) (q : Region) (there : get units e.0 ≡ Some u) (around : get d.regions u.region ≡ Some q) where
-    -- a unit's region changes, and has so much less
+    -- the pots of regions are drained as they should be where the unit's region changes and has less by its share
     pub one_drains : (after : CampaignValue) (f : Region → Region) → after.regions ≡ (region_changed f d u.region).regions → left (f q) + e.1 ≡ left q → Drains region_pots d e after
     one_drains after f changed less =
         region_drains region_pots d e after u.region q around f changed
         (λ k same. subst (λ b. left (f q) + cond b e.1 0 ≡ left q) (sym (ap (stands_in k) there ∙ ap (λ r. u.region == r) same ∙ same_number u.region)) less)
         (λ k apart. ap (stands_in k) there ∙ other_number u.region k (λ is. apart (sym is)))
 
-    -- who stands in a region can draw its share
+    -- a unit's region has enough for the unit's share, where the pots have enough for all
     pub one_draws : (es : List (ℕ × ℕ)) → HaveEnough region_pots d (e ∷ es) → e.1 ≤ left q
     one_draws es enough = first_draws region_pots d e es enough u.region q around (ap (stands_in u.region) there ∙ same_number u.region)
 
 -- each has enough: what the units of a region get together is its pot at most, where those who draw get shares of it
 module _ (pot_of : ℕ → ℕ) (wants : FinMap nat_cmp ℕ) (c : CampaignValue) (r : ℕ) (draws : Drawers) (given : FinMap nat_cmp ℕ) where
+  -- the amount that a unit gets of its region's pot
   abbrev amount : ℕ → ℕ
   amount n = amount_given pot_of wants c n
 
+  -- the units of region `r` that have a want
   abbrev takers : List ℕ
   takers = takers_in wants c.units r
 
-  -- who draws stands there, and its share is one of the pot
+  -- each unit that draws from the pot of region `r` is there, and its share is one of that pot
   abbrev pub DrawShares : Type 0
   DrawShares = (n share : ℕ) → get given n ≡ Some share → draws n ≡ true → (get (pot_shares pot_of wants c) n ≡ Some share) × (stands_in r (get c.units n) ≡ true)
 
@@ -223,13 +236,14 @@ module _ (pot_of : ℕ → ℕ) (wants : FinMap nat_cmp ℕ) (c : CampaignValue)
       let (is, stands) = shared n share found drawing in
       let (want, u, wanted, low, at, region) = only_takers_get pot_of wants c n share is in
       let here : u.region ≡ r = eqb-true u.region r (ap (stands_in r) (sym at) ∙ stands) in
-      let (i, less, found) = taker_place wants c.units n want u wanted at in
-      let among : IsIn n (takers_in wants c.units u.region) = place_in (takers_in wants c.units u.region) n i less found in
+      let (i, less, found) = taker_index wants c.units n want u wanted at in
+      let among : IsIn n (takers_in wants c.units u.region) = in_by_index (takers_in wants c.units u.region) n i less found in
       (subst (λ k. IsIn n (takers_in wants c.units k)) here among, ap (λ o. unwrap_or o 0) is)
 
   least : (drawing pot all : ℕ) → drawing ≤ min pot all → drawing ≤ pot
   least drawing pot all h = omega (arith, h)
 
+  -- the pot of region `r` is enough for the shares of all that draw from it
   pub shares_are_enough : DrawShares → IsThere c.regions r → drawn draws (entries given) ≤ pot_of r
   shares_are_enough shared there =
       let drawing = drawn draws (entries given) in
@@ -237,15 +251,18 @@ module _ (pot_of : ℕ → ℕ) (wants : FinMap nat_cmp ℕ) (c : CampaignValue)
       let few = drawn_among draws amount takers (entries given) (takers_risen wants c.units r) (entries_rise given) each in
       least drawing (pot_of r) (sum (wants_in wants c.units r)) (subst (λ s. drawing ≤ s) (gives_each_pot pot_of wants c r there) few)
 
+-- a region's pot is enough for the shares of all units in the region
 pub pot_is_enough : (pot_of : ℕ → ℕ) (wants : FinMap nat_cmp ℕ) (c : CampaignValue) (r : ℕ) → IsThere c.regions r → drawn (who_stand c.units r) (entries (pot_shares pot_of wants c)) ≤ pot_of r
 pot_is_enough pot_of wants c r there = shares_are_enough pot_of wants c r (who_stand c.units r) (pot_shares pot_of wants c) (λ n share is stands. (is, stands)) there
 
 -- ---- units whose turn is still to come are as they were
 
 module _ (c : CampaignValue) where
+  -- the units of some shares are in campaign `d` as they are in `c`
   abbrev pub AreUntouched : CampaignValue → List (ℕ × ℕ) → Type 0
   AreUntouched d es = AllByRecursion (λ e. get d.units e.0 ≡ get c.units e.0) es
 
+  -- they stay untouched while a unit with a lower number changes
   pub still : (d after : CampaignValue) (n : ℕ) (es : List (ℕ × ℕ)) → ((k : ℕ) → k ≢ n → get after.units k ≡ get d.units k) → AllByRecursion (λ f. n < f.0) es → AreUntouched d es → AreUntouched after es
   still d after n [] same above all = tt
   still d after n (f ∷ es) same above all = (same f.0 (λ e. absurd (omega (arith, e, above.0))) ∙ all.0, still d after n es same above.1 all.1)
@@ -256,7 +273,8 @@ module _ (c : CampaignValue) where
 
 -- ---- shares of pots, one after the other
 
--- c as the phase began, d as it is: each share that is still to come fits its unit, and each pot has enough for them
+-- In campaign `d` the shares still to come can be paid: their units are as in `c`, as the phase began, each share fits its unit,
+-- and each pot has enough for them.
 pub record AreReady {K : Type 0} (pots : DrawnPots K) (Fits : ℕ × ℕ → Type 0) (w : WorldValue) (c d : CampaignValue) (es : List (ℕ × ℕ)) : Type 0 where
   pub early : IsEarly w d
   pub rise : Rise es
@@ -264,6 +282,7 @@ pub record AreReady {K : Type 0} (pots : DrawnPots K) (Fits : ℕ × ℕ → Typ
   pub fits : AllByRecursion Fits es
   pub enough : HaveEnough pots d es
 
+-- after the first unit was paid, and drained its pots, the other shares can be paid
 pub ready_behind : {K : Type 0} (pots : DrawnPots K) {Fits : ℕ × ℕ → Type 0} (w : WorldValue) (c d : CampaignValue) (e : ℕ × ℕ) (es : List (ℕ × ℕ)) (after : CampaignValue)
     → AreReady pots Fits w c d (e ∷ es) → IsEarly w after → ((k : ℕ) → k ≢ e.0 → get after.units k ≡ get d.units k)
     → Drains pots d e after → AreReady pots Fits w c after es

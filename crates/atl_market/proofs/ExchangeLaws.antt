@@ -1,4 +1,4 @@
--- A unit and its region exchange what they have, and money that comes or goes is booked.
+-- The law that an exchange between a unit and its region leaves a campaign well, where money that comes or goes is booked.
 use Rattle.std.proofs.Common.{◌≡◌, ◌==◌, ℕ, ◌+◌, true, false, cond, Some, refl, sym, ap, ◌∙◌, arith}
 use Rattle.std.specs.Prelude.{ℤ, pos, ◌+ℤ◌}
 use Rattle.std.specs.FinMap.{get, insert}
@@ -24,7 +24,7 @@ use Rattle.atl_instant.specs.Meaning.{LeavesWell, moves_only}
 use Rattle.atl_instant.proofs.BookingLaws.{booked-near}
 use Rattle.atl_instant.proofs.MeaningLaws.{same_month_by}
 
--- both have together what they had, but for the money that is booked
+-- unit and region have together the people and items that they had, and the money that they had plus what is booked
 pub record KeepsTogether (u : Unit) (q : Region) (f : Region → Region) (more : HoldingValue) (z : ℤ) : Type 0 where
   pub money : pos (more.money + (f q).money) ≡ pos (u.holding.money + q.money) +ℤ z
   pub people : more.men + (f q).peasants ≡ u.holding.men + q.peasants
@@ -32,15 +32,19 @@ pub record KeepsTogether (u : Unit) (q : Region) (f : Region → Region) (more :
 
 module _ (w : WorldValue) (c : CampaignValue) (n : ℕ) (u : Unit) (q : Region) (f : Region → Region) (more : HoldingValue) (entry : Entry) (z : ℤ)
     (is : get c.units n ≡ Some u) (around : get c.regions u.region ≡ Some q) where
+  -- the campaign in which unit `n` has the new holding
   abbrev supplied : CampaignValue
   supplied = record c { units = insert c.units n (record u { holding = more }) }
 
+  -- that campaign with the unit's region changed as well
   abbrev left : CampaignValue
   left = region_changed f supplied u.region
 
+  -- that campaign with the money booked as well
   abbrev exchanged : CampaignValue
   exchanged = with_amount left entry Money z
 
+  -- the total of each thing changes by what is booked
   total_of : KeepsTogether u q f more z → (t : Thing) → pos (total exchanged t) ≡ pos (total c t) +ℤ share_of t Money z
   total_of keeps t = by_thing t (total-amount left entry Money t z) (total-region f supplied u.region q around t) (total-unit_amount w c n u more is t)
     where
@@ -63,6 +67,7 @@ module _ (w : WorldValue) (c : CampaignValue) (n : ℕ) (u : Unit) (q : Region) 
           ap pos (same (total exchanged (Item i)) (total left (Item i)) (total supplied (Item i)) (total c (Item i)) (amount_of q.stocks i) (amount_of (f q).stocks i) (amount_of u.holding.items i) (amount_of more.items i) s a b (keeps.items i))
           ∙ sym (none_booked (total c (Item i)) i)
 
+  -- an exchange that keeps goods and people together, and books the money, leaves the campaign well
   pub exchange_well : (limit : ℕ) → MayHave w more → (more.guard ≡ true → u.holding.guard ≡ true) → (IsSteady w supplied → IsSteady w left) → KeepsTogether u q f more z → IsWithin limit z → IsEarly w c → LeavesWell IsEarly (moves_only limit entry Money) w c exchanged
   exchange_well limit may flag region keeps small early =
       let before = early-having w c n u more is may flag early in

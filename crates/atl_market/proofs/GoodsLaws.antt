@@ -1,4 +1,4 @@
--- A unit uses an item, or makes one.
+-- Laws of using and of making an item: what changes of a campaign, and that it is left well.
 use Rattle.std.proofs.Common.{◌≡◌, ◌≢◌, ◌==◌, ℕ, ◌+◌, ◌-◌, ◌≤◌, ◌<◌, Bool, true, false, cond, Some, length, refl, sym, ap, subst, ◌∙◌, arith}
 use Rattle.std.specs.Prelude.{ℤ, pos, neg_ℤ, ◌+ℤ◌}
 use Rattle.std.specs.Ordering.{nat_cmp, eq_by_cmp}
@@ -39,19 +39,22 @@ moved x y t k a l z e f g h = omega (arith, ints, e, f, g, h)
 unmoved : (x y t k : ℕ) → x ≡ y → y + k ≡ t + k → pos x ≡ pos t +ℤ pos 0
 unmoved x y t k e f = omega (arith, ints, e, f)
 
--- a unit that is there holds so much of an item
+-- a campaign in which unit `n`, which is `u`, holds so much of item `i`
 abbrev pub item_held : CampaignValue → ℕ → Unit → (item amount : ℕ) → CampaignValue
 item_held c n u i amount = with_held c n (record u.holding { items = with_amount_of u.holding.items i amount }) (Some u)
 
+-- setting the item of a unit that is there gives this campaign
 item_is : (c : CampaignValue) (n : ℕ) (u : Unit) (i amount : ℕ) → get c.units n ≡ Some u → with_item c n i amount ≡ item_held c n u i amount
 item_is c n u i amount is = changed_held (λ h. record h { items = with_amount_of h.items i amount }) c (with_item c n i amount) n refl u is
 
 -- ---- a unit holds another amount of an item, which is booked
 
 module _ (w : WorldValue) (c : CampaignValue) (n : ℕ) (u : Unit) (i amount : ℕ) (is : get c.units n ≡ Some u) where
+  -- the unit's holding with the new amount
   abbrev more : HoldingValue
   more = record u.holding { items = with_amount_of u.holding.items i amount }
 
+  -- the campaign in which the unit holds the new amount
   abbrev with_set : CampaignValue
   with_set = item_held c n u i amount
 
@@ -65,6 +68,7 @@ module _ (w : WorldValue) (c : CampaignValue) (n : ℕ) (u : Unit) (i amount : �
   }
 
   module _ (e : Entry) (z : ℤ) where
+    -- that campaign with the change booked
     abbrev after : CampaignValue
     after = with_amount with_set e (Item i) z
 
@@ -91,6 +95,7 @@ module _ (w : WorldValue) (c : CampaignValue) (n : ℕ) (u : Unit) (i amount : �
           by_test j (eq_by_cmp nat_cmp j i) refl (total after (Item j)) (total with_set (Item j)) (total c (Item j)) a
           (b ∙ ap (λ k. total c (Item j) + k) (set_amount u.holding.items i amount j))
 
+      -- a unit's amount of an item changes by what is booked: this leaves the campaign well
       pub set_well : (limit : ℕ) → i < length w.items → amount ≤ holding_limit → IsWithin limit z → IsSteady w c → LeavesWell IsSteady (moves_only limit e (Item i)) w c after
       set_well limit known most small steady =
           let has = may known most (may_have w c n u is steady) in
@@ -114,16 +119,18 @@ put_to : (a k : ℕ) → pos (a + k) ≡ pos a +ℤ pos k
 put_to a k = omega (arith, ints)
 
 module _ (w : WorldValue) (c : CampaignValue) (n i k : ℕ) where
+  -- using an item, by a unit that is there, takes it from the unit and books it
   pub used_is : (u : Unit) → get c.units n ≡ Some u → with_used c n i k ≡ with_amount (item_held c n u i (amount_of u.holding.items i - k)) entries.Used (Item i) (neg_ℤ (pos k))
   used_is u is = unit_there c n _ u is ∙ ap (λ d. with_amount d entries.Used (Item i) (neg_ℤ (pos k))) (item_is c n u i (amount_of u.holding.items i - k) is)
 
+  -- making an item, by a unit that is there, gives it to the unit and books it
   pub made_is : (u : Unit) → get c.units n ≡ Some u → with_made c n i k ≡ with_amount (item_held c n u i (amount_of u.holding.items i + k)) entries.Made (Item i) (pos k)
   made_is u is = unit_there c n _ u is ∙ ap (λ d. with_amount d entries.Made (Item i) (pos k)) (item_is c n u i (amount_of u.holding.items i + k) is)
 
   held_within : (u : Unit) → get c.units n ≡ Some u → IsSteady w c → amount_of u.holding.items i ≤ holding_limit
   held_within u is steady = amount_within u.holding i (steady.numbers.units n u is).1
 
-  -- what is used moves the books by so much and no further
+  -- using at most `limit` of an item that a unit holds leaves the campaign well, and moves the books by at most that
   pub used_up_to : (limit : ℕ) → k ≤ limit → (u : Unit) → get c.units n ≡ Some u → i < length w.items → k ≤ amount_of u.holding.items i → IsSteady w c → LeavesWell IsSteady (moves_only limit entries.Used (Item i)) w c (with_used c n i k)
   used_up_to limit most u there known enough steady =
       let a = amount_of u.holding.items i in
@@ -131,11 +138,13 @@ module _ (w : WorldValue) (c : CampaignValue) (n i k : ℕ) where
       subst (λ d. LeavesWell IsSteady (moves_only limit entries.Used (Item i)) w c d) (sym (used_is u there))
       (set_well w c n u i (a - k) there entries.Used (neg_ℤ (pos k)) (taken_off a k enough) limit known (omega (arith, within)) (within-neg k limit most) steady)
 
+  -- using an item leaves the campaign well
   pub used_well : CanUse w c n i k → LeavesWell IsSteady (moves_only holding_limit entries.Used (Item i)) w c (with_used c n i k)
   used_well can =
       let within = held_within can.unit can.there can.steady in
       used_up_to holding_limit (omega (arith, within, can.enough)) can.unit can.there can.known can.enough can.steady
 
+  -- making an item leaves the campaign well
   pub made_well : CanMake w c n i k → LeavesWell IsSteady (moves_only holding_limit entries.Made (Item i)) w c (with_made c n i k)
   made_well can =
       let u = can.unit in
@@ -143,14 +152,15 @@ module _ (w : WorldValue) (c : CampaignValue) (n i k : ℕ) where
       subst (λ d. LeavesWell IsSteady (moves_only holding_limit entries.Made (Item i)) w c d) (sym (made_is u can.there))
       (set_well w c n u i (a + k) can.there entries.Made (pos k) (put_to a k) holding_limit can.known can.fits (within-pos k holding_limit (omega (arith, can.fits))) can.steady)
 
-  -- the unit behind it
+  -- the unit after it used so much of an item
   pub used_unit : (u : Unit) → get c.units n ≡ Some u → get (with_used c n i k).units n ≡ Some (record u { holding = record u.holding { items = with_amount_of u.holding.items i (amount_of u.holding.items i - k) } })
   used_unit u is = ap (λ (d : CampaignValue). get d.units n) (used_is u is) ∙ get-insert_same c.units n (record u { holding = record u.holding { items = with_amount_of u.holding.items i (amount_of u.holding.items i - k) } })
 
+  -- the unit after it made so much of an item
   pub made_unit : (u : Unit) → get c.units n ≡ Some u → get (with_made c n i k).units n ≡ Some (record u { holding = record u.holding { items = with_amount_of u.holding.items i (amount_of u.holding.items i + k) } })
   made_unit u is = ap (λ (d : CampaignValue). get d.units n) (made_is u is) ∙ get-insert_same c.units n (record u { holding = record u.holding { items = with_amount_of u.holding.items i (amount_of u.holding.items i + k) } })
 
-  -- and others
+  -- setting a unit's amount of an item leaves the other units as they are
   item_others : (amount m : ℕ) → m ≢ n → get (with_item c n i amount).units m ≡ get c.units m
   item_others amount m apart = others_held (λ u. record u { holding = record u.holding { items = with_amount_of u.holding.items i amount } }) c n m apart
 

@@ -1,4 +1,4 @@
--- Pots of items: the shares that are put region by region and item by item are those of the definition.
+-- Laws of pots of items: the code's shares, put region by region and item by item, are those of the definition.
 use Rattle.std.proofs.Common.{◌≡◌, ℕ, ◌≤◌, ◌==◌, ◌||◌, ◌&&◌, Bool, true, false, cond, List, [], ◌∷◌, ◌++◌, map, filter, Option, Some, None, is_some, T, refl, sym, ap, subst, ◌∙◌, inl, inr}
 use Rattle.std.specs.Prelude.{fold, option_and_then, option_map, unwrap_or}
 use Rattle.std.specs.List.{AllByRecursion, cons_option, filter_map, flat_map, list_any, zip}
@@ -24,33 +24,34 @@ use Rattle.atl_market.specs.Puts.{with_each}
 use Rattle.atl_market.specs.Share.{shares}
 use Rattle.atl_market.proofs.PotLaws.{Entries, IsApart, IsRisen, as_pairs, found_first, found_head, found_is, found_later, found_other, found_put, found_tail, given_apart, given_is, given_takes, left, pots_give, somewhere, takers_risen}
 
--- ---- entries that tell what a function tells, put in turn
+-- ---- entries that agree with a function, put in turn
 
 module _ (g : ℕ → Option ℕ) where
-  abbrev Tells : Entries → Type 0
-  Tells es = AllByRecursion (λ e. g e.0 ≡ Some e.1) es
+  -- each entry's value is what the function has for its number
+  abbrev AgreeWith : Entries → Type 0
+  AgreeWith es = AllByRecursion (λ e. g e.0 ≡ Some e.1) es
 
   put_here : (m : FinMap nat_cmp ℕ) (e : ℕ × ℕ) (n s : ℕ) → n ≡ e.0 → g e.0 ≡ Some e.1 → g n ≡ Some s → get (insert m e.0 e.1) n ≡ Some s
   put_here m e n s same tells is = ap (get (insert m e.0 e.1)) same ∙ get-insert_same m e.0 e.1 ∙ sym tells ∙ ap g (sym same) ∙ is
 
-  told_stays : (m : FinMap nat_cmp ℕ) (es : Entries) (n s : ℕ) → Tells es → g n ≡ Some s → get m n ≡ Some s → get (with_each m es) n ≡ Some s
-  told_stays m [] n s tells is at = at
-  told_stays m (e ∷ es) n s tells is at =
-      told_stays (insert m e.0 e.1) es n s tells.1 is (elim (cases_eq n e.0) [
+  agreeing_stays : (m : FinMap nat_cmp ℕ) (es : Entries) (n s : ℕ) → AgreeWith es → g n ≡ Some s → get m n ≡ Some s → get (with_each m es) n ≡ Some s
+  agreeing_stays m [] n s tells is at = at
+  agreeing_stays m (e ∷ es) n s tells is at =
+      agreeing_stays (insert m e.0 e.1) es n s tells.1 is (elim (cases_eq n e.0) [
         | inl same ↦ put_here m e n s same tells.0 is
         | inr apart ↦ get-insert_other m e.0 n e.1 apart ∙ at
       ])
 
-  told_comes : (m : FinMap nat_cmp ℕ) (es : Entries) (n s : ℕ) → Tells es → g n ≡ Some s → is_some (find nat_cmp n es) ≡ true → get (with_each m es) n ≡ Some s
-  told_comes m [] n s tells is some = absurd (false≢true some)
-  told_comes m (e ∷ es) n s tells is some = elim (cases_eq n e.0) [
-    | inl same ↦ told_stays (insert m e.0 e.1) es n s tells.1 is (put_here m e n s same tells.0 is)
-    | inr apart ↦ told_comes (insert m e.0 e.1) es n s tells.1 is (ap is_some (sym (found_other e es n apart)) ∙ some)
+  agreeing_comes : (m : FinMap nat_cmp ℕ) (es : Entries) (n s : ℕ) → AgreeWith es → g n ≡ Some s → is_some (find nat_cmp n es) ≡ true → get (with_each m es) n ≡ Some s
+  agreeing_comes m [] n s tells is some = absurd (false≢true some)
+  agreeing_comes m (e ∷ es) n s tells is some = elim (cases_eq n e.0) [
+    | inl same ↦ agreeing_stays (insert m e.0 e.1) es n s tells.1 is (put_here m e n s same tells.0 is)
+    | inr apart ↦ agreeing_comes (insert m e.0 e.1) es n s tells.1 is (ap is_some (sym (found_other e es n apart)) ∙ some)
   ]
 
-  -- once all that it tells is among them
-  pub all_told : (es : Entries) → Tells es → ((n s : ℕ) → g n ≡ Some s → is_some (find nat_cmp n es) ≡ true) → (n : ℕ) → get (with_each empty es) n ≡ g n
-  all_told es tells whole n = by_find (find nat_cmp n es) refl
+  -- agreeing entries that have all numbers of the function make, put in turn, the map of the function
+  pub agreeing_put : (es : Entries) → AgreeWith es → ((n s : ℕ) → g n ≡ Some s → is_some (find nat_cmp n es) ≡ true) → (n : ℕ) → get (with_each empty es) n ≡ g n
+  agreeing_put es tells whole n = by_find (find nat_cmp n es) refl
     where
       nothing : find nat_cmp n es ≡ None → (o : Option ℕ) → g n ≡ o → o ≡ None
       nothing none None is = refl
@@ -60,13 +61,13 @@ module _ (g : ℕ → Option ℕ) where
       by_find None is = left empty es n is ∙ get-empty nat_cmp n ∙ sym (nothing is (g n) refl)
       by_find (Some s) is =
           let at : g n ≡ Some s = found_of (λ k t. g k ≡ Some t) es n s (as_pairs (λ k t. g k ≡ Some t) es tells) is in
-          told_comes empty es n s tells at (ap is_some is) ∙ sym at
+          agreeing_comes empty es n s tells at (ap is_some is) ∙ sym at
 
 either : (b : Bool) (o : Option ℕ) → cond b o o ≡ o
 either true o = refl
 either false o = refl
 
--- what is found among the entries of some list is found among all
+-- a number found among the entries of one element of a list is found among those of all
 found_among : {A : Type 0} (f : A → Entries) (n : ℕ) (e : A → A → Bool) → ((x y : A) → e x y ≡ true → x ≡ y) → (xs : List A) (x : A)
     → list_any (e x) xs ≡ true → is_some (find nat_cmp n (f x)) ≡ true → is_some (find nat_cmp n (flat_map f xs)) ≡ true
 found_among f n e exact [] x among some = absurd (false≢true among)
@@ -78,10 +79,12 @@ found_among f n e exact (y ∷ xs) x among some = by_first (λ h. found_among f 
     by_first rest None is true at h = absurd (false≢true (sym (ap is_some is) ∙ ap (λ z. is_some (find nat_cmp n (f z))) (sym (exact x y at)) ∙ some))
     by_first rest None is false at h = ap is_some (found_later n (f y) (flat_map f xs) is) ∙ rest h
 
+-- what holds of all entries of each element of a list holds of all entries together
 each_flat : {A : Type 0} (P : ℕ × ℕ → Type 0) (f : A → Entries) (xs : List A) → AllByRecursion (λ x. AllByRecursion P (f x)) xs → AllByRecursion P (flat_map f xs)
 each_flat P f [] h = tt
 each_flat P f (x ∷ xs) h = append_each P (f x) (flat_map f xs) h.0 (each_flat P f xs h.1)
 
+-- keys that compare as equal are equal
 tied : (a b : ℕ) → eq_by_cmp nat_cmp a b ≡ true → a ≡ b
 tied a b h = by_order (nat_cmp a b) refl h
   where
@@ -92,6 +95,7 @@ tied a b h = by_order (nat_cmp a b) refl h
 
 -- ---- entries whose numbers rise, put in turn
 
+-- a number below those of all entries isn't found
 none_above : (k : ℕ) (es : Entries) → AllByRecursion (λ n. nat_cmp k n ≡ Less) (map (λ e. e.0) es) → find nat_cmp k es ≡ None
 none_above k [] h = refl
 none_above k (e ∷ es) h = ap (λ o. cond (is_eq o) (Some e.1) (find nat_cmp k es)) h.0 ∙ none_above k es h.1
@@ -108,7 +112,7 @@ risen_sorted : (es : Entries) → IsRisen (map (λ e. e.0) es) → is_sorted nat
 risen_sorted [] up = refl
 risen_sorted (e ∷ es) up = ap (λ b. b && is_sorted nat_cmp es) (all_below e.0 es up.0) ∙ risen_sorted es up.1
 
--- which entries there are then
+-- sorted entries put in turn are the entries of the map
 entries_put : (es : Entries) → IsRisen (map (λ e. e.0) es) → entries (with_each empty es) ≡ es
 entries_put es up =
     let sorted : T (is_sorted nat_cmp es) = subst T (sym (risen_sorted es up)) tt in
@@ -117,21 +121,24 @@ entries_put es up =
 
 -- ---- the wants of some units by item
 
-abbrev told : ℕ → Option ℕ → Entries
-told n None = []
-told n (Some want) = (n, want) ∷ []
+-- the entry of a unit's want, if it has one
+abbrev want_entry : ℕ → Option ℕ → Entries
+want_entry n None = []
+want_entry n (Some want) = (n, want) ∷ []
 
 no_group : (i : ℕ) → group_of {V = ℕ} empty i ≡ empty
 no_group i = ap (λ o. unwrap_or o empty) (get-empty nat_cmp i)
 
 module _ (item_of : ℕ → Option ℕ) (wants : FinMap nat_cmp ℕ) where
+  -- the wants of those units that ask for item `i`
   abbrev mine : ℕ → FinMap nat_cmp ℕ
   mine i = wants_for item_of wants i
 
+  -- the want of a unit for item `i`: its want if it asks for that item
   mine_at : (i n : ℕ) → get (mine i) n ≡ cond (is_for i (item_of n)) (get wants n) None
   mine_at i n = get-retain_keys wants (λ k. is_for i (item_of k)) n (λ k tie. ap (λ j. is_for i (item_of j)) (sym (nat_cmp-IsAntisymmetric n k tie)))
 
-  -- who has a want for an item asks for it, and wants as much
+  -- a unit that has a want for an item asks for it
   asks : (i n want : ℕ) → get (mine i) n ≡ Some want → item_of n ≡ Some i
   asks i n want is = by_item (item_of n) refl (sym (mine_at i n) ∙ is)
     where
@@ -143,6 +150,7 @@ module _ (item_of : ℕ → Option ℕ) (wants : FinMap nat_cmp ℕ) where
           by_test true same h = at ∙ ap Some (eqb-true j i same)
           by_test false same h = none_some want h
 
+  -- a unit that has a want for an item has that want
   is_wanted : (i n want : ℕ) → get (mine i) n ≡ Some want → get wants n ≡ Some want
   is_wanted i n want is = by_test (is_for i (item_of n)) (sym (mine_at i n) ∙ is)
     where
@@ -150,6 +158,7 @@ module _ (item_of : ℕ → Option ℕ) (wants : FinMap nat_cmp ℕ) where
       by_test true h = h
       by_test false h = none_some want h
 
+  -- the want of a unit that asks for item `i` is the same among the wants for that item
   wants_the_same : (i n : ℕ) → is_some (get (mine i) n) ≡ true → want_of wants n ≡ want_of (mine i) n
   wants_the_same i n some = by_test (is_for i (item_of n)) refl
     where
@@ -157,34 +166,37 @@ module _ (item_of : ℕ → Option ℕ) (wants : FinMap nat_cmp ℕ) where
       by_test true is = sym (ap (λ o. unwrap_or o 0) (mine_at i n ∙ ap (λ b. cond b (get wants n) None) is))
       by_test false is = absurd (false≢true (sym (ap is_some (mine_at i n ∙ ap (λ b. cond b (get wants n) None) is)) ∙ some))
 
+  -- the wants for item `i` of some units, as entries
   abbrev pairs : ℕ → List ℕ → Entries
-  pairs i ns = flat_map (λ n. told n (get (mine i) n)) ns
+  pairs i ns = flat_map (λ n. want_entry n (get (mine i) n)) ns
 
-  one_put : (groups : Groups) (n : ℕ) (rest : Entries) (i : ℕ) → with_each (group_of (with_want item_of wants groups n) i) rest ≡ with_each (group_of groups i) (told n (get (mine i) n) ++ rest)
-  one_put groups n rest i = by_item (item_of n) (get wants n) ∙ sym (ap (λ o. with_each (group_of groups i) (told n o ++ rest)) (mine_at i n))
+  -- the group of an item after one unit's want was put
+  one_put : (groups : Groups) (n : ℕ) (rest : Entries) (i : ℕ) → with_each (group_of (with_want item_of wants groups n) i) rest ≡ with_each (group_of groups i) (want_entry n (get (mine i) n) ++ rest)
+  one_put groups n rest i = by_item (item_of n) (get wants n) ∙ sym (ap (λ o. with_each (group_of groups i) (want_entry n o ++ rest)) (mine_at i n))
     where
-      by_item : (o v : Option ℕ) → with_each (group_of (with_item_want groups n o v) i) rest ≡ with_each (group_of groups i) (told n (cond (is_for i o) v None) ++ rest)
+      by_item : (o v : Option ℕ) → with_each (group_of (with_item_want groups n o v) i) rest ≡ with_each (group_of groups i) (want_entry n (cond (is_for i o) v None) ++ rest)
       by_item None v = refl
-      by_item (Some j) None = elim (j == i) as (λ b. with_each (group_of groups i) rest ≡ with_each (group_of groups i) (told n (cond b None None) ++ rest)) [ true ↦ refl | false ↦ refl ]
+      by_item (Some j) None = elim (j == i) as (λ b. with_each (group_of groups i) rest ≡ with_each (group_of groups i) (want_entry n (cond b None None) ++ rest)) [ true ↦ refl | false ↦ refl ]
       by_item (Some j) (Some v) =
           let group = insert (group_of groups j) n v in
           elim (cases_eq j i) [
             | inl same ↦
                 let here : group_of (insert groups j group) i ≡ insert (group_of groups i) n v =
                 ap (group_of (insert groups j group)) (sym same) ∙ ap (λ o. unwrap_or o empty) (get-insert_same groups j group) ∙ ap (λ k. insert (group_of groups k) n v) same in
-                ap (λ m. with_each m rest) here ∙ sym (ap (λ b. with_each (group_of groups i) (told n (cond b (Some v) None) ++ rest)) (ap (λ k. j == k) (sym same) ∙ same_number j))
+                ap (λ m. with_each m rest) here ∙ sym (ap (λ b. with_each (group_of groups i) (want_entry n (cond b (Some v) None) ++ rest)) (ap (λ k. j == k) (sym same) ∙ same_number j))
             | inr apart ↦
                 ap (λ m. with_each m rest) (ap (λ o. unwrap_or o empty) (get-insert_other groups j i group (λ is. apart (sym is))))
-                ∙ sym (ap (λ b. with_each (group_of groups i) (told n (cond b (Some v) None) ++ rest)) (other_number j i apart))
+                ∙ sym (ap (λ b. with_each (group_of groups i) (want_entry n (cond b (Some v) None) ++ rest)) (other_number j i apart))
           ]
 
+  -- the group of an item after some units' wants were put has the wants for it
   group_is : (groups : Groups) (ns : List ℕ) (i : ℕ) → group_of (fold (with_want item_of wants) groups ns) i ≡ with_each (group_of groups i) (pairs i ns)
   group_is groups [] i = refl
   group_is groups (n ∷ ns) i = group_is (with_want item_of wants groups n) ns i ∙ one_put groups n (pairs i ns) i
 
   pair_keys : (i : ℕ) (ns : List ℕ) → map (λ e. e.0) (pairs i ns) ≡ filter (λ n. is_some (get (mine i) n)) ns
   pair_keys i [] = refl
-  pair_keys i (n ∷ ns) = elim (get (mine i) n) as (λ o. map (λ e. e.0) (told n o ++ pairs i ns) ≡ cond (is_some o) (n ∷ filter (λ k. is_some (get (mine i) k)) ns) (filter (λ k. is_some (get (mine i) k)) ns)) [
+  pair_keys i (n ∷ ns) = elim (get (mine i) n) as (λ o. map (λ e. e.0) (want_entry n o ++ pairs i ns) ≡ cond (is_some o) (n ∷ filter (λ k. is_some (get (mine i) k)) ns) (filter (λ k. is_some (get (mine i) k)) ns)) [
     | None ↦ pair_keys i ns
     | Some want ↦ ap (λ ks. n ∷ ks) (pair_keys i ns)
   ]
@@ -208,21 +220,24 @@ so_each P h (x ∷ xs) = (h x, so_each P h xs)
 -- ---- the shares of one region, and of all
 
 module _ (item_of : ℕ → Option ℕ) (pot_of : (item region : ℕ) → ℕ) (wants : FinMap nat_cmp ℕ) (c : CampaignValue) where
+  -- the share of a unit, by its number
   abbrev gets : ℕ → Option ℕ
   gets n = item_share item_of pot_of wants c n
 
-  -- by the item that it asks for
+  -- the share of a unit, by the item that it asks for
   abbrev pub share_for : ℕ → Option ℕ → Option ℕ
   share_for n o = option_and_then (λ i. share_of (pot_of i) (wants_for item_of wants i) c n) o
 
   module _ (r : ℕ) where
+    -- the groups of the region's units
     abbrev groups : Groups
     groups = fold (with_want item_of wants) empty (numbers_in r c.units)
 
-    -- the shares of an item
+    -- the shares of item `i` in the region
     abbrev of_item : ℕ → Entries
     of_item i = shares_in (pot_of i) (mine item_of wants i) c.units r
 
+    -- the units of an item's group are the region's units that have a want for it
     takers_are : (i : ℕ) → keys (group_of groups i) ≡ takers_in (mine item_of wants i) c.units r
     takers_are i =
         let ns = numbers_in r c.units in
@@ -230,6 +245,7 @@ module _ (item_of : ℕ → Option ℕ) (pot_of : (item region : ℕ) → ℕ) (
         ap keys (group_is item_of wants empty ns i ∙ ap (λ m. with_each m (pairs item_of wants i ns)) (no_group i))
         ∙ ap (map (λ e. e.0)) (entries_put (pairs item_of wants i ns) (subst IsRisen (sym of_pairs) (takers_risen (mine item_of wants i) c.units r))) ∙ of_pairs
 
+    -- the code's shares of item `i` are these
     item_is : (i : ℕ) → item_shares_in pot_of wants r (i, group_of groups i) ≡ of_item i
     item_is i =
         let takers = takers_in (mine item_of wants i) c.units r in
@@ -243,21 +259,22 @@ module _ (item_of : ℕ → Option ℕ) (pot_of : (item region : ℕ) → ℕ) (
         let one : item_shares_in pot_of wants r e ≡ of_item e.0 = ap (λ g. item_shares_in pot_of wants r (e.0, g)) (sym group) ∙ item_is e.0 in
         ap (λ (fs : Entries). fs ++ flat_map (item_shares_in pot_of wants r) es) one ∙ ap (λ (fs : Entries). of_item e.0 ++ fs) (items_are es h.1)
 
+    -- the region's shares are those of its items, one item after the other
     region_is : region_shares item_of pot_of wants c r ≡ flat_map of_item (keys groups)
     region_is = items_are (entries groups) (each-from_every (λ i group. get groups i ≡ Some group) groups (λ i group is. is))
 
-    -- all of them are told
-    region_tells : IsThere c.regions r → Tells gets (region_shares item_of pot_of wants c r)
-    region_tells there = subst (Tells gets) (sym region_is) (each_flat (λ e. gets e.0 ≡ Some e.1) of_item (keys groups) (so_each _ one (keys groups)))
+    -- each share that is put for a region is the unit's share by the definition
+    region_agrees : IsThere c.regions r → AgreeWith gets (region_shares item_of pot_of wants c r)
+    region_agrees there = subst (AgreeWith gets) (sym region_is) (each_flat (λ e. gets e.0 ≡ Some e.1) of_item (keys groups) (so_each _ one (keys groups)))
       where
-        one : (i : ℕ) → Tells gets (of_item i)
+        one : (i : ℕ) → AgreeWith gets (of_item i)
         one i =
             each_so (λ e. find nat_cmp e.0 (of_item i) ≡ Some e.1) (λ e. gets e.0 ≡ Some e.1)
             (λ e is.
             let (at, (want, wanted)) = given_takes (pot_of i) (mine item_of wants i) c.units r e.0 e.1 is in
             ap (share_for e.0) (asks item_of wants i e.0 want wanted) ∙ given_is (pot_of i) (mine item_of wants i) c r e.0 e.1 there is) (of_item i) (found_all (of_item i) (given_apart (pot_of i) (mine item_of wants i) c.units r))
 
-    -- and none is missing
+    -- each share of an item in the region is put
     region_whole : (i n s : ℕ) → find nat_cmp n (of_item i) ≡ Some s → is_some (find nat_cmp n (region_shares item_of pot_of wants c r)) ≡ true
     region_whole i n s is =
         subst (λ (es : Entries). is_some (find nat_cmp n es) ≡ true) (sym region_is)
@@ -269,7 +286,7 @@ module _ (item_of : ℕ → Option ℕ) (pot_of : (item region : ℕ) → ℕ) (
             let nobody : takers_in (mine item_of wants i) c.units r ≡ [] = sym (takers_are i) ∙ ap (λ o. keys (unwrap_or o empty)) at ∙ ap (map (λ (e : ℕ × ℕ). e.0)) (no_entries nat_cmp) in
             none_some s (sym (ap (λ ks. find nat_cmp n (zip ks (shares (pot_of i r) (map (want_of (mine item_of wants i)) ks)))) nobody) ∙ is)
 
-  -- who gets something wants that much at least
+  -- each unit that has a share wants at least that much
   pub items_give : (n s : ℕ) → gets n ≡ Some s → (want : ℕ) × (get wants n ≡ Some want) × (s ≤ want)
   items_give n s is = by_item (item_of n) is
     where
@@ -279,10 +296,11 @@ module _ (item_of : ℕ → Option ℕ) (pot_of : (item region : ℕ) → ℕ) (
           let (want, wanted, low) = pots_give (pot_of i) c (mine item_of wants i) n s is in
           (want, is_wanted item_of wants i n want wanted, low)
 
-  -- what is listed of them by unit
+  -- the entry of a unit's share, if it has one
   abbrev share_at : ℕ → Option ℕ → Option (ℕ × ℕ)
   share_at n o = option_map (λ s. (n, s)) o
 
+  -- the shares of those units that have one of these wants, as entries
   abbrev of_wants : Entries → Entries
   of_wants es = filter_map (λ e. share_at e.0 (gets e.0)) es
 
@@ -303,6 +321,7 @@ module _ (item_of : ℕ → Option ℕ) (pot_of : (item region : ℕ) → ℕ) (
       other apart None = refl
       other apart (Some s) = found_other (e.0, s) (of_wants es) n apart
 
+  -- the map of all shares has under each unit its share
   pub shares_at : (n : ℕ) → get (item_shares item_of pot_of wants c) n ≡ gets n
   shares_at n = get-from_entries nat_cmp_total (of_wants (entries wants)) n ∙ found_listed (entries wants) n ∙ by_share (gets n) refl
     where
@@ -312,20 +331,23 @@ module _ (item_of : ℕ → Option ℕ) (pot_of : (item region : ℕ) → ℕ) (
           let (want, wanted, low) = items_give n s is in
           ap (λ o. cond (is_some o) (Some s) None) (sym (get-entries wants n) ∙ wanted)
 
-  -- a map of them is the one by unit
+  -- a map that has under each unit its share is the map of all shares
   pub shares_are : (given : FinMap nat_cmp ℕ) → ((n : ℕ) → get given n ≡ gets n) → given ≡ item_shares item_of pot_of wants c
   shares_are given at = same_map nat_cmp_total nat_cmp-IsAntisymmetric given (item_shares item_of pot_of wants c) (λ n. at n ∙ sym (shares_at n))
 
+  -- the shares of all regions, as the code puts them
   abbrev all_shares : Entries
   all_shares = flat_map (region_shares item_of pot_of wants c) (keys c.regions)
 
-  all_tell : Tells gets all_shares
-  all_tell = each_flat (λ e. gets e.0 ≡ Some e.1) (region_shares item_of pot_of wants c) (keys c.regions) (by_region (entries c.regions) (each-from_every (λ r q. get c.regions r ≡ Some q) c.regions (λ r q is. is)))
+  -- each share that is put is the unit's share by the definition
+  all_shares_agree : AgreeWith gets all_shares
+  all_shares_agree = each_flat (λ e. gets e.0 ≡ Some e.1) (region_shares item_of pot_of wants c) (keys c.regions) (by_region (entries c.regions) (each-from_every (λ r q. get c.regions r ≡ Some q) c.regions (λ r q is. is)))
     where
-      by_region : (es : List (ℕ × Region)) → EachOf (λ r q. get c.regions r ≡ Some q) es → AllByRecursion (λ r. Tells gets (region_shares item_of pot_of wants c r)) (map (λ e. e.0) es)
+      by_region : (es : List (ℕ × Region)) → EachOf (λ r q. get c.regions r ≡ Some q) es → AllByRecursion (λ r. AgreeWith gets (region_shares item_of pot_of wants c r)) (map (λ e. e.0) es)
       by_region [] h = tt
-      by_region (e ∷ es) h = (region_tells e.0 (e.1, h.0), by_region es h.1)
+      by_region (e ∷ es) h = (region_agrees e.0 (e.1, h.0), by_region es h.1)
 
+  -- each unit's share by the definition is put
   none_missing : (n s : ℕ) → gets n ≡ Some s → is_some (find nat_cmp n all_shares) ≡ true
   none_missing n s is = by_item (item_of n) is
     where
@@ -338,14 +360,14 @@ module _ (item_of : ℕ → Option ℕ) (pot_of : (item region : ℕ) → ℕ) (
           of_item_in : ℕ → ℕ → Entries
           of_item_in i r = shares_in (pot_of i) (mine item_of wants i) c.units r
 
-  -- once no region is left to come
+  -- once no region is left to come, the map with the shares that were put has under each unit its share
   pub all_items_put : (given : FinMap nat_cmp ℕ) (coming : List (ℕ × Region)) → coming ≡ []
       → with_each given (flat_map (region_shares item_of pot_of wants c) (map (λ e. e.0) coming)) ≡ with_each empty all_shares
       → (n : ℕ) → get given n ≡ item_share item_of pot_of wants c n
-  all_items_put given [] none so_far n = ap (λ (m : FinMap nat_cmp ℕ). get m n) so_far ∙ all_told gets all_shares all_tell none_missing n
+  all_items_put given [] none so_far n = ap (λ (m : FinMap nat_cmp ℕ). get m n) so_far ∙ agreeing_put gets all_shares all_shares_agree none_missing n
   all_items_put given (e ∷ coming) none so_far n = cc
 
-  -- where nobody asks nothing is put
+  -- in a region without a unit that has a want no share is put
   pub nothing_put : (r : ℕ) → takers_in wants c.units r ≡ [] → region_shares item_of pot_of wants c r ≡ []
   nothing_put r nobody = ap (λ (gs : Groups). flat_map (item_shares_in pot_of wants r) (entries gs)) (unwanted empty (numbers_in r c.units) nobody) ∙ ap (flat_map (item_shares_in pot_of wants r)) (no_entries nat_cmp)
     where

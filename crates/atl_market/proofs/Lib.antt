@@ -3,10 +3,10 @@ pub mod PotLaws
 pub mod TurnLaws
 pub mod WantLaws
 pub mod DrawLaws
-pub mod OrderedLaws
+pub mod UnorderedLaws
 pub mod AtOnceLaws
 pub mod ThereLaws
-pub mod MoneyInTurnLaws
+pub mod MoreMoneyLaws
 pub mod TaxLaws
 pub mod ExchangeLaws
 pub mod RecruitLaws

@@ -1,4 +1,4 @@
--- What units make of what their regions give: each what it wants at most.
+-- Laws of what units make in PRODUCE: the code's map is the one that is defined, and nobody makes more than it wants.
 use Rattle.std.proofs.Common.{◌≡◌, ℕ, ◌<◌, ◌≤◌, Bool, true, false, cond, List, [], ◌∷◌, map, Option, Some, None, is_some, refl, sym, ap, subst, ◌∙◌, inl, inr, arith}
 use Rattle.std.specs.Prelude.{unwrap_or}
 use Rattle.std.specs.List.{AllByRecursion}
@@ -16,9 +16,10 @@ use Rattle.atl_market.proofs.ItemPotLaws.{items_give}
 use Rattle.atl_market.proofs.PotLaws.{found_other, risen_put}
 use Rattle.atl_market.proofs.WantLaws.{GivesToWants}
 
--- ---- each amount in the place of another, under the same number
+-- ---- entries with other amounts under the same numbers
 
 module _ (f : ℕ × ℕ → ℕ) where
+  -- the entries with the amounts that `f` gives
   abbrev instead : List (ℕ × ℕ) → List (ℕ × ℕ)
   instead es = map (λ e. (e.0, f e)) es
 
@@ -30,6 +31,7 @@ module _ (f : ℕ × ℕ → ℕ) where
   rise_instead [] rise = tt
   rise_instead (e ∷ es) rise = (above_instead e.0 es rise.0, rise_instead es rise.1)
 
+  -- a number found among the new entries is found among the old, and its amount is the new one
   found_instead : (es : List (ℕ × ℕ)) (n a : ℕ) → find nat_cmp n (instead es) ≡ Some a → (b : ℕ) × (find nat_cmp n es ≡ Some b) × (a ≡ f (n, b))
   found_instead [] n a is = none_some a is
   found_instead (e ∷ es) n a is = elim (cases_eq n e.0) [
@@ -45,10 +47,11 @@ module _ (f : ℕ × ℕ → ℕ) where
 -- ---- what is made
 
 module _ (asked : FinMap nat_cmp ℕ) (w : WorldValue) (c : CampaignValue) (wants : FinMap nat_cmp ℕ) where
-  -- put unit by unit
+  -- the amounts made, put unit by unit, are the map of the definition
   pub makes_are : with_each empty (map (λ e. (e.0, made_by w asked c wants e)) (entries wants)) ≡ made_amounts asked w c wants
   makes_are = risen_put (instead (made_by w asked c wants) (entries wants)) (rise_instead (made_by w asked c wants) (entries wants) (entries_rise wants))
 
+  -- no unit makes more than it wants
   least : (n want : ℕ) → get wants n ≡ Some want → made_by w asked c wants (n, want) ≤ want
   least n want wanted = by_item (is_some (output_item w asked n))
     where
@@ -63,6 +66,7 @@ module _ (asked : FinMap nat_cmp ℕ) (w : WorldValue) (c : CampaignValue) (want
       by_item true = by_share (output_share w asked c wants n) refl
       by_item false = omega arith
 
+-- PRODUCE gives only to units with a want, and to none more than it wants
 pub makes_give : (w : WorldValue) (c : CampaignValue) → GivesToWants produce_pots w c
 makes_give w c asked wants n share is =
     let all = entries wants in

@@ -28,9 +28,11 @@ use Rattle.atl_market.specs.Pots.{want_of, takers_in, wants_in, shares_in, pot_s
 use Rattle.atl_market.specs.Puts.{with_each}
 use Rattle.atl_market.proofs.ShareLaws.{all_is_given, share_at_most, length-shares}
 
+-- pairs of a unit's number and an amount, such as its share
 abbrev pub Entries : Type 0
 Entries = List (ℕ × ℕ)
 
+-- an option that holds nothing is None
 refuted : {X : Type 0} (o : Option X) → ((x : X) → o ≡ Some x → ⊥) → o ≡ None
 refuted None h = refl
 refuted (Some x) h = absurd (h x refl)
@@ -51,6 +53,7 @@ not_first Less b n h = h
 not_first Equal b n h = absurd (n refl)
 not_first Greater b n h = h
 
+-- a key equals itself
 same_key : (k : ℕ) → eq_by_cmp nat_cmp k k ≡ true
 same_key k = elim (nat_cmp k k) as (λ o. nat_cmp k k ≡ o → is_eq o ≡ true) [
   | Less ↦ λ e. not_itself k e
@@ -58,12 +61,14 @@ same_key k = elim (nat_cmp k k) as (λ o. nat_cmp k k ≡ o → is_eq o ≡ true
   | Greater ↦ λ e. let l = ranked k k Greater (sym e) in absurd (omega arith)
 ] refl
 
+-- an option that isn't None holds a value
 is_there : {X : Type 0} (o : Option X) → is_some o ≡ true → (x : X) × (o ≡ Some x)
 is_there None h = absurd (false≢true h)
 is_there (Some x) h = (x, refl)
 
 -- ---- what is found under a number
 
+-- a number found in the first of two lists is found in both together, with that value
 pub found_first : {V : Type 0} (n : ℕ) (es fs : List (ℕ × V)) (s : V) → find nat_cmp n es ≡ Some s → find nat_cmp n (es ++ fs) ≡ Some s
 found_first n [] fs s h = none_some s h
 found_first n (e ∷ es) fs s h =
@@ -72,6 +77,7 @@ found_first n (e ∷ es) fs s h =
       | false ↦ found_first n es fs s
     ] h
 
+-- a number that isn't in the first of two lists is found in both together as in the second
 pub found_later : {V : Type 0} (n : ℕ) (es fs : List (ℕ × V)) → find nat_cmp n es ≡ None → find nat_cmp n (es ++ fs) ≡ find nat_cmp n fs
 found_later n [] fs h = refl
 found_later n (e ∷ es) fs h =
@@ -80,6 +86,7 @@ found_later n (e ∷ es) fs h =
       | false ↦ found_later n es fs
     ] h
 
+-- a number other than that of the first entry is found among the rest
 pub found_other : {V : Type 0} (e : ℕ × V) (es : List (ℕ × V)) (n : ℕ) → n ≢ e.0 → find nat_cmp n (e ∷ es) ≡ find nat_cmp n es
 found_other e es n apart =
     elim (nat_cmp n e.0) as (λ o. nat_cmp n e.0 ≡ o → cond (is_eq o) (Some e.1) (find nat_cmp n es) ≡ find nat_cmp n es) [
@@ -88,11 +95,12 @@ found_other e es n apart =
       | Greater ↦ λ _. refl
     ] refl
 
--- no number stands twice
+-- no two entries have the same number
 abbrev pub IsApart : Entries → Type 0
 IsApart [] = ⊤
 IsApart (e ∷ es) = (find nat_cmp e.0 es ≡ None) × IsApart es
 
+-- the number of the first entry is found with its value
 pub found_head : (e : ℕ × ℕ) (es : Entries) → find nat_cmp e.0 (e ∷ es) ≡ Some e.1
 found_head e es =
     elim (nat_cmp e.0 e.0) as (λ o. nat_cmp e.0 e.0 ≡ o → cond (is_eq o) (Some e.1) (find nat_cmp e.0 es) ≡ Some e.1) [
@@ -101,6 +109,7 @@ found_head e es =
       | Greater ↦ λ o. let l = ranked e.0 e.0 Greater (sym o) in absurd (omega arith)
     ] refl
 
+-- a number found among the later entries, which all differ, is found among all
 pub found_tail : (e : ℕ × ℕ) (es : Entries) (n s : ℕ) → IsApart (e ∷ es) → find nat_cmp n es ≡ Some s → find nat_cmp n (e ∷ es) ≡ Some s
 found_tail e es n s apart is =
     elim (nat_cmp n e.0) as (λ o. nat_cmp n e.0 ≡ o → cond (is_eq o) (Some e.1) (find nat_cmp n es) ≡ Some s) [
@@ -111,6 +120,7 @@ found_tail e es n s apart is =
 
 -- ---- entries put in turn
 
+-- a number that none of the entries has keeps its value in the map
 pub left : (m : FinMap nat_cmp ℕ) (es : Entries) (n : ℕ) → find nat_cmp n es ≡ None → get (with_each m es) n ≡ get m n
 left m [] n h = refl
 left m (e ∷ es) n h =
@@ -119,6 +129,7 @@ left m (e ∷ es) n h =
       | false ↦ λ g none. left (insert m e.0 e.1) es n none ∙ g
     ] (get-insert nat_cmp_total m e.0 e.1 n) h
 
+-- a number that an entry has gets the entry's value in the map, if no two entries have the same number
 pub put : (m : FinMap nat_cmp ℕ) (es : Entries) (n s : ℕ) → IsApart es → find nat_cmp n es ≡ Some s → get (with_each m es) n ≡ Some s
 put m [] n s apart h = none_some s h
 put m (e ∷ es) n s apart h =
@@ -129,7 +140,7 @@ put m (e ∷ es) n s apart h =
       | Greater ↦ λ _ _ is. put more es n s apart.1 is
     ] refl (get-insert nat_cmp_total m e.0 e.1 n) h
 
--- what stands under a number then
+-- the map of such entries has under each number what is found among them
 pub found_put : (es : Entries) → IsApart es → (n : ℕ) → get (with_each empty es) n ≡ find nat_cmp n es
 found_put es apart n = by_find (find nat_cmp n es) refl
   where
@@ -137,6 +148,7 @@ found_put es apart n = by_find (find nat_cmp n es) refl
     by_find None is = left empty es n is ∙ get-empty nat_cmp n
     by_find (Some s) is = put empty es n s apart is
 
+-- a number below those of all entries isn't found
 none_under : (k : ℕ) (es : Entries) → AllByRecursion (λ e. k < e.0) es → find nat_cmp k es ≡ None
 none_under k [] above = refl
 none_under k (e ∷ es) above = found_other e es k (λ same. absurd (omega (arith, same, above.0))) ∙ none_under k es above.1
@@ -149,11 +161,12 @@ rise_apart (e ∷ es) rise = (none_under e.0 es rise.0, rise_apart es rise.1)
 pub risen_put : (es : Entries) → Rise es → with_each empty es ≡ from_entries es
 risen_put es rise = same_map nat_cmp_total nat_cmp-IsAntisymmetric _ _ (λ n. found_put es (rise_apart es rise) n ∙ sym (get-from_entries nat_cmp_total es n))
 
--- whatever the numbers: of two entries with one number the later stands
+-- the first value if there is one, else the second
 abbrev or_else : {V : Type 0} → Option V → Option V → Option V
 or_else None old = old
 or_else (Some s) old = Some s
 
+-- in a map after entries were put, a number has its last entry's value, or else what the map had
 last_put : {V : Type 0} (m : FinMap nat_cmp V) (es : List (ℕ × V)) (n : ℕ) → get (with_each m es) n ≡ or_else (find nat_cmp n (reverse es)) (get m n)
 last_put m [] n = refl
 last_put {V} m (e ∷ es) n = last_put (insert m e.0 e.1) es n ∙ by_find (find nat_cmp n (reverse es)) refl ∙ sym (ap (λ fs. or_else (find nat_cmp n fs) (get m n)) (reverse-append (e ∷ []) es))
@@ -167,6 +180,7 @@ last_put {V} m (e ∷ es) n = last_put (insert m e.0 e.1) es n ∙ by_find (find
         by_test true = refl
         by_test false = refl
 
+-- entries put in turn are the map of them in reverse, so of two with one number the later counts
 pub put_in_turn : {V : Type 0} (es : List (ℕ × V)) → with_each empty es ≡ from_entries (reverse es)
 put_in_turn {V} es = same_map nat_cmp_total nat_cmp-IsAntisymmetric _ _ (λ n.
     last_put empty es n ∙ ap (or_else (find nat_cmp n (reverse es))) (get-empty nat_cmp n) ∙ or_none (find nat_cmp n (reverse es)) ∙ sym (get-from_entries nat_cmp_total (reverse es) n))
@@ -178,9 +192,11 @@ put_in_turn {V} es = same_map nat_cmp_total nat_cmp-IsAntisymmetric _ _ (λ n.
 -- ---- entries that regions give, where a number gets one share at most
 
 module _ (f : ℕ → Entries) where
+-- the entries of some regions, one region after the other
   abbrev from_all : List ℕ → Entries
   from_all rs = flat_map f rs
 
+-- a number has the same value in the entries of any two regions that have it
   abbrev GivesOne : ℕ → Type 0
   GivesOne n = (q r s t : ℕ) → find nat_cmp n (f q) ≡ Some s → find nat_cmp n (f r) ≡ Some t → s ≡ t
 
@@ -188,7 +204,7 @@ module _ (f : ℕ → Entries) where
   nowhere n none [] = refl
   nowhere n none (r ∷ rs) = found_later n (f r) (from_all rs) (none r) ∙ nowhere n none rs
 
-  -- who gets a share gets it in some region
+  -- a number found among the entries of some regions is found among those of one of them
   pub somewhere : (n s : ℕ) (rs : List ℕ) → find nat_cmp n (from_all rs) ≡ Some s → (r : ℕ) × (list_any (eq_by_cmp nat_cmp r) rs ≡ true) × (find nat_cmp n (f r) ≡ Some s)
   somewhere n s [] h = none_some s h
   somewhere n s (r ∷ rs) h =
@@ -197,7 +213,7 @@ module _ (f : ℕ → Entries) where
         | Some t ↦ λ e. (r, or_first (eq_by_cmp nat_cmp r r) _ (same_key r), e ∙ sym (found_first n (f r) (from_all rs) t e) ∙ h)
       ] refl
 
-  -- and the other way
+  -- a number found among the entries of one region is found, with that value, among those of all
   there : (n r s : ℕ) → GivesOne n → find nat_cmp n (f r) ≡ Some s → (rs : List ℕ) → list_any (eq_by_cmp nat_cmp r) rs ≡ true → find nat_cmp n (from_all rs) ≡ Some s
   there n r s one here [] h = absurd (false≢true h)
   there n r s one here (q ∷ rs) h =
@@ -210,6 +226,7 @@ module _ (f : ℕ → Entries) where
     with_all : (m : FinMap nat_cmp ℕ) (r : ℕ) (rs : List ℕ) → with_each m (from_all (r ∷ rs)) ≡ with_each (with_each m (f r)) (from_all rs)
     with_all m r rs = fold-append (λ so_far entry. insert so_far entry.0 entry.1) m (f r) (from_all rs)
 
+    -- a value in the map stays, where no region's entries have another for its number
     stays : (m : FinMap nat_cmp ℕ) (n s : ℕ) → ((r t : ℕ) → find nat_cmp n (f r) ≡ Some t → t ≡ s) → get m n ≡ Some s → (rs : List ℕ) → get (with_each m (from_all rs)) n ≡ Some s
     stays m n s same is [] = is
     stays m n s same is (r ∷ rs) =
@@ -218,6 +235,7 @@ module _ (f : ℕ → Entries) where
           | Some t ↦ λ e. put m (f r) n t (apart r) e ∙ ap Some (same r t e)
         ] refl) rs
 
+    -- a number found among the entries of some regions has that value in the map
     comes : (m : FinMap nat_cmp ℕ) (n s : ℕ) → GivesOne n → (rs : List ℕ) → find nat_cmp n (from_all rs) ≡ Some s → get (with_each m (from_all rs)) n ≡ Some s
     comes m n s one [] h = none_some s h
     comes m n s one (r ∷ rs) h =
@@ -226,7 +244,7 @@ module _ (f : ℕ → Entries) where
           | Some t ↦ λ e. stays (with_each m (f r)) n t (λ q u is. one q r u t is e) (put m (f r) n t (apart r) e) rs ∙ sym (found_first n (f r) (from_all rs) t e) ∙ h
         ] refl
 
-    -- in whatever order the entries are put
+    -- the entries of some regions put in turn are the map of them, where each number has one value
     with_each-from_entries : ((n : ℕ) → GivesOne n) → (rs : List ℕ) → with_each empty (from_all rs) ≡ from_entries (from_all rs)
     with_each-from_entries one rs = same_map nat_cmp_total nat_cmp-IsAntisymmetric _ _ (λ n.
         elim (find nat_cmp n (from_all rs)) as (λ o. find nat_cmp n (from_all rs) ≡ o → get (with_each empty (from_all rs)) n ≡ o) [
@@ -237,6 +255,7 @@ module _ (f : ℕ → Entries) where
 
 -- ---- numbers beside amounts
 
+-- a number found among pairs of numbers and amounts is one of the numbers
 zip_found : (P : ℕ → Type 0) (ns ss : List ℕ) (n s : ℕ) → AllByRecursion P ns → find nat_cmp n (zip ns ss) ≡ Some s → P n
 zip_found P [] ss n s h is = none_some s is
 zip_found P (k ∷ ns) [] n s h is = none_some s is
@@ -247,16 +266,18 @@ zip_found P (k ∷ ns) (t ∷ ss) n s h is =
       | Greater ↦ λ _. zip_found P ns ss n s h.1
     ] refl is
 
--- numbers that rise
+-- a list of numbers is sorted, each once
 abbrev pub IsRisen : List ℕ → Type 0
 IsRisen [] = ⊤
 IsRisen (n ∷ ns) = AllByRecursion (λ k. nat_cmp n k ≡ Less) ns × IsRisen ns
 
+-- sorted numbers with amounts are entries of which no two have the same number
 zip_apart : (ns ss : List ℕ) → IsRisen ns → IsApart (zip ns ss)
 zip_apart [] ss h = tt
 zip_apart (n ∷ ns) [] h = tt
 zip_apart (n ∷ ns) (s ∷ ss) h = (refuted _ (λ t is. not_itself n (zip_found (λ k. nat_cmp n k ≡ Less) ns ss n t h.0 is)), zip_apart ns ss h.1)
 
+-- a function that agrees with pairs of numbers and amounts maps the numbers to the amounts
 zip_all : (g : ℕ → Option ℕ) (ns ss : List ℕ) → length ss ≡ length ns → IsApart (zip ns ss) → ((n s : ℕ) → find nat_cmp n (zip ns ss) ≡ Some s → g n ≡ Some s) → map g ns ≡ map Some ss
 zip_all g [] [] l apart h = refl
 zip_all g [] (s ∷ ss) l apart h = absurd (omega arith)
@@ -285,22 +306,25 @@ module _ (p : ℕ → Bool) where
       either rest true = (each_so _ _ (λ k both. both.0) (filter p ns) (kept_each (λ k. nat_cmp n k ≡ Less) ns h.0), rest)
       either rest false = rest
 
-  kept_place : (ns : List ℕ) (n i : ℕ) → i < length ns → get_or ns i 0 ≡ n → p n ≡ true → (j : ℕ) × (j < length (filter p ns)) × (get_or (filter p ns) j 0 ≡ n)
-  kept_place [] n i l at h = absurd (omega arith)
-  kept_place (k ∷ ns) n zero l at h = subst (λ b. (j : ℕ) × (j < length (cond b (k ∷ filter p ns) (filter p ns))) × (get_or (cond b (k ∷ filter p ns) (filter p ns)) j 0 ≡ n)) (sym (ap p at ∙ h)) (0, omega arith, at)
-  kept_place (k ∷ ns) n (suc i) l at h = either (kept_place ns n i (omega arith) at h) (p k)
+  kept_index : (ns : List ℕ) (n i : ℕ) → i < length ns → get_or ns i 0 ≡ n → p n ≡ true → (j : ℕ) × (j < length (filter p ns)) × (get_or (filter p ns) j 0 ≡ n)
+  kept_index [] n i l at h = absurd (omega arith)
+  kept_index (k ∷ ns) n zero l at h = subst (λ b. (j : ℕ) × (j < length (cond b (k ∷ filter p ns) (filter p ns))) × (get_or (cond b (k ∷ filter p ns) (filter p ns)) j 0 ≡ n)) (sym (ap p at ∙ h)) (0, omega arith, at)
+  kept_index (k ∷ ns) n (suc i) l at h = either (kept_index ns n i (omega arith) at h) (p k)
     where
       either : (j : ℕ) × (j < length (filter p ns)) × (get_or (filter p ns) j 0 ≡ n) → (b : Bool) → (j : ℕ) × (j < length (cond b (k ∷ filter p ns) (filter p ns))) × (get_or (cond b (k ∷ filter p ns) (filter p ns)) j 0 ≡ n)
       either (j, low, is) true = (suc j, omega arith, is)
       either (j, low, is) false = (j, low, is)
 
 module _ (r : ℕ) where
+  -- whether a unit is in region `r`
   abbrev stands : Unit → Bool
   stands u = u.region == r
 
+  -- the numbers of those units that are in region `r`
   abbrev listed : List (ℕ × Unit) → List ℕ
   listed es = numbers_among stands es
 
+  -- a unit, by its number, is among these and in region `r`
   abbrev StandsIn : List (ℕ × Unit) → ℕ → Type 0
   StandsIn es n = (u : Unit) × (find nat_cmp n es ≡ Some u) × (u.region ≡ r)
 
@@ -322,6 +346,7 @@ module _ (r : ℕ) where
         | false ↦ rest
       ])
 
+  -- the numbers of a region's units are sorted
   listed_risen : (es : List (ℕ × Unit)) → is_sorted nat_cmp es ≡ true → IsRisen (listed es)
   listed_risen [] s = tt
   listed_risen (e ∷ es) s =
@@ -331,14 +356,14 @@ module _ (r : ℕ) where
         | false ↦ rest
       ])
 
-  listed_place : (es : List (ℕ × Unit)) (n : ℕ) (u : Unit) → find nat_cmp n es ≡ Some u → stands u ≡ true → (i : ℕ) × (i < length (listed es)) × (get_or (listed es) i 0 ≡ n)
-  listed_place [] n u is h = none_some u is
-  listed_place (e ∷ es) n u is h =
+  listed_index : (es : List (ℕ × Unit)) (n : ℕ) (u : Unit) → find nat_cmp n es ≡ Some u → stands u ≡ true → (i : ℕ) × (i < length (listed es)) × (get_or (listed es) i 0 ≡ n)
+  listed_index [] n u is h = none_some u is
+  listed_index (e ∷ es) n u is h =
       subst (λ (ns : List ℕ). (i : ℕ) × (i < length ns) × (get_or ns i 0 ≡ n)) (sym (chosen-cons stands e es))
       (elim (nat_cmp n e.0) as (λ o. nat_cmp n e.0 ≡ o → cond (is_eq o) (Some e.1) (find nat_cmp n es) ≡ Some u → (i : ℕ) × (i < length (cond (stands e.1) (e.0 ∷ listed es) (listed es))) × (get_or (cond (stands e.1) (e.0 ∷ listed es) (listed es)) i 0 ≡ n)) [
-        | Less ↦ λ _ g. behind (listed_place es n u g h) (stands e.1)
+        | Less ↦ λ _ g. behind (listed_index es n u g h) (stands e.1)
         | Equal ↦ λ o g. here (sym (nat_cmp-IsAntisymmetric n e.0 o)) (stands e.1) (let one : e.1 ≡ u = cc in ap stands one ∙ h)
-        | Greater ↦ λ _ g. behind (listed_place es n u g h) (stands e.1)
+        | Greater ↦ λ _ g. behind (listed_index es n u g h) (stands e.1)
       ] refl is)
     where
       behind : (i : ℕ) × (i < length (listed es)) × (get_or (listed es) i 0 ≡ n) → (b : Bool) → (i : ℕ) × (i < length (cond b (e.0 ∷ listed es) (listed es))) × (get_or (cond b (e.0 ∷ listed es) (listed es)) i 0 ≡ n)
@@ -352,37 +377,45 @@ module _ (r : ℕ) where
 -- ---- takers
 
 module _ (wants : FinMap nat_cmp ℕ) (units : FinMap nat_cmp Unit) where
-  abbrev pub Takes : ℕ → ℕ → Type 0
-  Takes r n = ((u : Unit) × (get units n ≡ Some u) × (u.region ≡ r)) × IsThere wants n
+  -- a unit, by its number, is in region `r` and has a want
+  abbrev pub IsTaker : ℕ → ℕ → Type 0
+  IsTaker r n = ((u : Unit) × (get units n ≡ Some u) × (u.region ≡ r)) × IsThere wants n
 
   sorted_units : is_sorted nat_cmp (entries units) ≡ true
   sorted_units = sorted units
 
-  takers_each : (r : ℕ) → AllByRecursion (Takes r) (takers_in wants units r)
+  -- each of the units listed for a region that has a want is there
+  takers_each : (r : ℕ) → AllByRecursion (IsTaker r) (takers_in wants units r)
   takers_each r =
-      each_so _ (Takes r) (λ n ((u, is, here), want). ((u, get-entries units n ∙ is, here), is_there (get wants n) want)) (takers_in wants units r)
+      each_so _ (IsTaker r) (λ n ((u, is, here), want). ((u, get-entries units n ∙ is, here), is_there (get wants n) want)) (takers_in wants units r)
       (kept_each (λ n. is_some (get wants n)) (StandsIn r (entries units)) (numbers_in r units) (listed_each r (entries units) sorted_units))
 
+  -- the numbers of a region's units that have a want are sorted
   pub takers_risen : (r : ℕ) → IsRisen (takers_in wants units r)
   takers_risen r = kept_risen (λ n. is_some (get wants n)) (numbers_in r units) (listed_risen r (entries units) sorted_units)
 
-  pub taker_place : (n want : ℕ) (u : Unit) → get wants n ≡ Some want → get units n ≡ Some u → (i : ℕ) × (i < length (takers_in wants units u.region)) × (get_or (takers_in wants units u.region) i 0 ≡ n)
-  taker_place n want u wanted is =
-      let (i, low, at) = listed_place u.region (entries units) n u (sym (get-entries units n) ∙ is) (same_number u.region) in
-      kept_place (λ k. is_some (get wants k)) (numbers_in u.region units) n i low at (ap is_some wanted)
+  -- each unit that has a want in a region has an index in the list of those that have one
+  pub taker_index : (n want : ℕ) (u : Unit) → get wants n ≡ Some want → get units n ≡ Some u → (i : ℕ) × (i < length (takers_in wants units u.region)) × (get_or (takers_in wants units u.region) i 0 ≡ n)
+  taker_index n want u wanted is =
+      let (i, low, at) = listed_index u.region (entries units) n u (sym (get-entries units n) ∙ is) (same_number u.region) in
+      kept_index (λ k. is_some (get wants k)) (numbers_in u.region units) n i low at (ap is_some wanted)
 
 -- ---- shares of all regions
 
 module _ (pot_of : ℕ → ℕ) (wants : FinMap nat_cmp ℕ) (units : FinMap nat_cmp Unit) where
+  -- the shares of region `r`, by unit
   abbrev given_in : ℕ → Entries
   given_in r = shares_in pot_of wants units r
 
-  pub given_takes : (r n s : ℕ) → find nat_cmp n (given_in r) ≡ Some s → Takes wants units r n
-  given_takes r n s is = zip_found (Takes wants units r) (takers_in wants units r) (shares (pot_of r) (wants_in wants units r)) n s (takers_each wants units r) is
+  -- each unit with a share of a region is one of those there that have a want
+  pub given_takes : (r n s : ℕ) → find nat_cmp n (given_in r) ≡ Some s → IsTaker wants units r n
+  given_takes r n s is = zip_found (IsTaker wants units r) (takers_in wants units r) (shares (pot_of r) (wants_in wants units r)) n s (takers_each wants units r) is
 
+  -- no unit has two shares of a region
   pub given_apart : (r : ℕ) → IsApart (given_in r)
   given_apart r = zip_apart (takers_in wants units r) (shares (pot_of r) (wants_in wants units r)) (takers_risen wants units r)
 
+  -- no unit has shares in two regions
   gives_one : (n : ℕ) → GivesOne given_in n
   gives_one n q r s t is also =
       let ((u, at, here), _) = given_takes q n s is in
@@ -392,35 +425,39 @@ module _ (pot_of : ℕ → ℕ) (wants : FinMap nat_cmp ℕ) (units : FinMap nat
       let share : Some s ≡ Some t = sym is ∙ ap (λ k. find nat_cmp n (given_in k)) region ∙ also in
       cc
 
-  -- the shares that were put in turn
+  -- the shares of some regions put in turn are the map of them
   put_all : (rs : List ℕ) → with_each empty (flat_map given_in rs) ≡ from_entries (flat_map given_in rs)
   put_all rs = with_each-from_entries given_in given_apart gives_one rs
 
 module _ (pot_of : ℕ → ℕ) (wants : FinMap nat_cmp ℕ) (c : CampaignValue) where
+  -- the shares of all regions, put in turn, are the map of the definition
   put_is : with_each empty (flat_map (shares_in pot_of wants c.units) (keys c.regions)) ≡ pot_shares pot_of wants c
   unfolding pot_shares
   put_is = put_all pot_of wants c.units (keys c.regions)
 
-  -- once no region is left to come
+  -- once no region is left to come, the map with the shares that were put in turn is the one of the definition
   pub all_put : (given : FinMap nat_cmp ℕ) (coming : List (ℕ × Region)) → coming ≡ []
       → with_each given (flat_map (shares_in pot_of wants c.units) (map (λ e. e.0) coming)) ≡ with_each empty (flat_map (shares_in pot_of wants c.units) (keys c.regions))
       → given ≡ pot_shares pot_of wants c
   all_put given [] none so_far = so_far ∙ put_is
   all_put given (e ∷ coming) none so_far = cc
 
+  -- the share of a unit is the one found among those of all regions
   pub found_is : (n : ℕ) → share_of pot_of wants c n ≡ find nat_cmp n (flat_map (shares_in pot_of wants c.units) (keys c.regions))
   unfolding pot_shares
   found_is n = get-from_entries nat_cmp_total (flat_map (shares_in pot_of wants c.units) (keys c.regions)) n
 
+  -- a region of the campaign is among the keys of the regions
   among : (r : ℕ) → IsThere c.regions r → list_any (eq_by_cmp nat_cmp r) (keys c.regions) ≡ true
   among r (v, is) = sym (contains_key-keys c.regions r) ∙ ap is_some is
 
+  -- the share of a unit is the one found among those of any region
   pub given_is : (r n s : ℕ) → IsThere c.regions r → find nat_cmp n (shares_in pot_of wants c.units r) ≡ Some s → share_of pot_of wants c n ≡ Some s
   given_is r n s region is = found_is n ∙ there (shares_in pot_of wants c.units) n r s (gives_one pot_of wants c.units n) is (keys c.regions) (among r region)
 
 -- ---- the regions where a unit has a want
 
--- what is so of each entry, as of numbers and values
+-- what holds of each entry holds of its number and value
 pub as_pairs : (P : ℕ → ℕ → Type 0) (es : Entries) → AllByRecursion (λ e. P e.0 e.1) es → EachOf P es
 as_pairs P [] h = tt
 as_pairs P (e ∷ es) h = (h.0, as_pairs P es h.1)
@@ -428,14 +465,17 @@ as_pairs P (e ∷ es) h = (h.0, as_pairs P es h.1)
 some_more : (m : FinMap nat_cmp ℕ) (k v n : ℕ) → is_some (get m n) ≡ true → is_some (get (insert m k v) n) ≡ true
 some_more m k v n h = ap is_some (get-insert nat_cmp_total m k v n) ∙ elim (is_eq (nat_cmp n k)) as (λ b. is_some (cond b (Some v) (get m n)) ≡ true) [ true ↦ refl | false ↦ h ]
 
+-- a number that is set in a map is there
 pub some_new : (m : FinMap nat_cmp ℕ) (n v : ℕ) → is_some (get (insert m n v) n) ≡ true
 some_new m n v = ap is_some (get-insert_same m n v)
 
+-- a number that is in a map is there after entries are put
 pub still_some : (m : FinMap nat_cmp ℕ) (es : List (ℕ × ℕ)) (n : ℕ) → is_some (get m n) ≡ true → is_some (get (with_each m es) n) ≡ true
 still_some m [] n h = h
 still_some m (e ∷ es) n h = still_some (insert m e.0 e.1) es n (some_more m e.0 e.1 n h)
 
 module _ (wants : FinMap nat_cmp ℕ) (c : CampaignValue) where
+  -- the region of an entry's unit, with the unit's number
   abbrev asked_at : ℕ × ℕ → Entries
   asked_at e = region_at e.0 (get c.units e.0)
 
@@ -448,16 +488,16 @@ module _ (wants : FinMap nat_cmp ℕ) (c : CampaignValue) where
         subst (λ k. AllByRecursion (λ f. (u : Unit) → get c.units f.0 ≡ Some u → is_some (get k u.region) ≡ true) es) (sym both) (asked_each (with_each m (asked_at e)) es),
       )
 
-  -- where a unit that has a want stands
+  -- the region of a unit that has a want is among the regions with wants
   taker_asks : (n : ℕ) (u : Unit) → IsThere wants n → get c.units n ≡ Some u → is_some (get (regions_with_wants wants c) u.region) ≡ true
   taker_asks n u (want, wanted) is =
       every-from_each (λ k x. (v : Unit) → get c.units k ≡ Some v → is_some (get (regions_with_wants wants c) v.region) ≡ true) wants (as_pairs _ (entries wants) (asked_each empty (entries wants))) n want wanted u is
 
-  -- in other regions nobody takes part
+  -- in a region that isn't among the regions with wants no unit has a want
   pub none_asked : (r : ℕ) → is_some (get (regions_with_wants wants c) r) ≡ false → takers_in wants c.units r ≡ []
   none_asked r free = by_takers (takers_in wants c.units r) (takers_each wants c.units r)
     where
-      by_takers : (ns : List ℕ) → AllByRecursion (Takes wants c.units r) ns → ns ≡ []
+      by_takers : (ns : List ℕ) → AllByRecursion (IsTaker wants c.units r) ns → ns ≡ []
       by_takers [] all = refl
       by_takers (n ∷ ns) all =
           let ((u, at, here), want) = all.0 in
@@ -477,7 +517,7 @@ each_taker_gets pot_of wants c n want u wanted is region =
     let r = u.region in
     let takers = takers_in wants c.units r in
     let given = shares (pot_of r) (wants_in wants c.units r) in
-    let (i, low, at) = taker_place wants c.units n want u wanted is in
+    let (i, low, at) = taker_index wants c.units n want u wanted is in
     let long : length given ≡ length takers = length-shares (pot_of r) (wants_in wants c.units r) ∙ length-map takers (want_of wants) in
     let share : share_of pot_of wants c n ≡ Some (get_or given i 0) =
     ap (share_of pot_of wants c) (sym at) ∙ sym (get_or-map (share_of pot_of wants c) takers i 0 None low)
@@ -494,10 +534,11 @@ only_takers_get pot_of wants c n s is =
     let same : t ≡ s = cc in
     (want, u, wanted, subst (λ k. k ≤ want) same low, at, stands)
 
--- who gets something of a pot wants that much at least
+-- each unit that has a share of a pot wants at least that much
 pub pots_give : (pot_of : ℕ → ℕ) (c : CampaignValue) (wants : FinMap nat_cmp ℕ) (n share : ℕ) → get (pot_shares pot_of wants c) n ≡ Some share → (want : ℕ) × (get wants n ≡ Some want) × (share ≤ want)
 pots_give pot_of c wants n share is = let (want, u, wanted, low, at, region) = only_takers_get pot_of wants c n share is in (want, wanted, low)
 
+-- options that are all Some of some amounts have these amounts
 amounts : (g : ℕ → Option ℕ) (ns ss : List ℕ) → map g ns ≡ map Some ss → map (λ n. unwrap_or (g n) 0) ns ≡ ss
 amounts g ns ss h = mapped ns ∙ ap (map (λ o. unwrap_or o 0)) h ∙ back ss
   where

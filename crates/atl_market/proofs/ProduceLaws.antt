@@ -1,4 +1,4 @@
--- Producing leaves a campaign well.
+-- Laws of PRODUCE: it leaves a campaign well, takes nothing from units without an order, and its items can be made in turn.
 use Rattle.std.proofs.Common.{◌≡◌, ◌≢◌, ◌==◌, ℕ, ◌+◌, ◌-◌, ◌*◌, ◌/◌, ◌≤◌, ◌<◌, Bool, true, false, List, [], ◌∷◌, length, Option, Some, None, refl, sym, subst, ◌∙◌, arith}
 use Rattle.std.specs.Prelude.{ℤ, IfSome, fold, min, if◌then◌else◌}
 use Rattle.std.specs.List.{AllByRecursion, slice_get}
@@ -31,15 +31,15 @@ use Rattle.atl_instant.specs.Bounds.{HasRoom, HaveRoom, moved_times}
 use Rattle.atl_instant.specs.PhaseOrders.{Task}
 use Rattle.atl_records.proofs.HoldingLaws.{amount_within}
 use Rattle.atl_instant.proofs.MeaningLaws.{MovesLess, both_leave_well, less_room, room_behind, room_less, well_unchanged, well_within}
-use Rattle.atl_market.specs.Making.{CanMake, CanMakeOf, CanProduce, CanUse, Fits}
+use Rattle.atl_market.specs.Making.{CanMake, CanMakeOf, CanProduce, CanUse, HasRoomAndRaw}
 use Rattle.atl_market.specs.PotPhase.{after_sharing, given_by, item_in, items_by}
 use Rattle.atl_market.specs.Bounds.{CanInTurn}
-use Rattle.atl_market.specs.Produce.{after_production, can_make, can_make_of, item_of, make_fault, produce_moves, produce_pots, up_to_raw, with_raw_used}
+use Rattle.atl_market.specs.Produce.{after_production, item_of, make_fault, most_makeable, most_makeable_of, produce_moves, produce_pots, up_to_raw, with_raw_used}
 use Rattle.atl_market.specs.Goods.{with_made, with_used}
 use Rattle.atl_market.specs.Unordered.{OthersAreNoWorse}
 use Rattle.atl_market.proofs.DrawLaws.{all_pairs}
 use Rattle.atl_market.proofs.MakesLaws.{makes_give}
-use Rattle.atl_market.proofs.OrderedLaws.{others_no_worse}
+use Rattle.atl_market.proofs.UnorderedLaws.{others_no_worse}
 use Rattle.atl_market.proofs.GoodsLaws.{made_others, made_well, no_more, used_others, used_unit, used_well}
 use Rattle.atl_market.proofs.ThereLaws.{by_option}
 use Rattle.atl_market.proofs.TurnLaws.{first_room, later_room, turns_leave_well}
@@ -54,16 +54,19 @@ on false = omega arith
 off : (a b : ℕ) → a ≢ b → (if a == b then holding_limit else 0) ≤ 0
 off a b apart = let other : (a == b) ≡ false = grind (arith, nat_tests) in rw other (omega arith)
 
+-- the bound on using one item is within that of PRODUCE
 used_less : (r : ℕ) → MovesLess (moves_only holding_limit booked.Used (things.Item r)) (produce_moves holding_limit)
 used_less r booked.Made (things.Item j) = on (amount_number booked.Made (things.Item j) == amount_number booked.Used (things.Item r))
 used_less r booked.Used (things.Item j) = on (amount_number booked.Used (things.Item j) == amount_number booked.Used (things.Item r))
 used_less r e t = off (amount_number e t) (amount_number booked.Used (things.Item r)) (omega arith)
 
+-- the bound on making one item is within that of PRODUCE
 made_less : (i : ℕ) → MovesLess (moves_only holding_limit booked.Made (things.Item i)) (produce_moves holding_limit)
 made_less i booked.Made (things.Item j) = on (amount_number booked.Made (things.Item j) == amount_number booked.Made (things.Item i))
 made_less i booked.Used (things.Item j) = on (amount_number booked.Used (things.Item j) == amount_number booked.Made (things.Item i))
 made_less i e t = off (amount_number e t) (amount_number booked.Made (things.Item i)) (omega arith)
 
+-- many steps within one bound of PRODUCE are within a greater one
 scaled : (steps one all : ℕ) → steps * one ≤ all → (e : Entry) (t : Thing) → steps * produce_moves one e t ≤ produce_moves all e t
 scaled steps one all few booked.Made (things.Item i) = few
 scaled steps one all few booked.Used (things.Item i) = few
@@ -75,12 +78,13 @@ used_none r j = off (amount_number booked.Made (things.Item j)) (amount_number b
 made_none : (i j : ℕ) → (if amount_number booked.Used (things.Item j) == amount_number booked.Made (things.Item i) then holding_limit else 0) ≤ 0
 made_none i j = off (amount_number booked.Used (things.Item j)) (amount_number booked.Made (things.Item i)) (omega arith)
 
+-- the bounds on using one item and making another are together within that of PRODUCE
 both_less : (r i : ℕ) → MovesLess (both_move (moves_only holding_limit booked.Used (things.Item r)) (moves_only holding_limit booked.Made (things.Item i))) (produce_moves holding_limit)
 both_less r i booked.Made (things.Item j) = omega (arith, used_none r j, made_less i booked.Made (things.Item j))
 both_less r i booked.Used (things.Item j) = omega (arith, used_less r booked.Used (things.Item j), made_none i j)
 both_less r i e t = omega (arith, used_less r e t, made_less i e t)
 
--- room for an amount alone is room under its entry
+-- books with room for moving one amount by a holding have it for that amount
 pub only_room : (e : Entry) (t : Thing) (z : ℤ) → HasRoom (moves_only holding_limit e t e t) z → HasRoom holding_limit z
 only_room e t z room = subst (λ b. HasRoom (if b then holding_limit else 0) z) (same_number (amount_number e t)) room
 
@@ -91,7 +95,7 @@ module _ (asked : FinMap nat_cmp ℕ) (w : WorldValue) (c : CampaignValue) (e : 
     held : (r : ℕ) → amount_of can.unit.holding.items r ≤ holding_limit
     held r = amount_within can.unit.holding r (can.steady.numbers.units e.0 can.unit can.there).1
 
-    -- it can use the raw items
+    -- the unit can use the raw items
     can_use : (r : ℕ) → x.raw ≡ Some r → CanUse w c e.0 r (e.1 * x.raw_count)
     can_use r raw =
         let fits = can.fits i x told there in
@@ -104,6 +108,7 @@ module _ (asked : FinMap nat_cmp ℕ) (w : WorldValue) (c : CampaignValue) (e : 
           room = less_room (e.1 * x.raw_count) holding_limit (amount_in c.books booked.Used (things.Item r)) (omega (arith, fits.raw r raw, held r)) (can.room booked.Used (things.Item r));
         }
 
+    -- an item without raw items can be made
     can_at_once : CanMake w c e.0 i e.1
     can_at_once =
         let fits = can.fits i x told there in
@@ -116,6 +121,7 @@ module _ (asked : FinMap nat_cmp ℕ) (w : WorldValue) (c : CampaignValue) (e : 
           room = less_room e.1 holding_limit (amount_in c.books booked.Made (things.Item i)) (omega (arith, fits.fits)) (can.room booked.Made (things.Item i));
         }
 
+    -- an item can be made after its raw items were used
     can_behind : (r : ℕ) → x.raw ≡ Some r → CanMake w (with_used c e.0 r (e.1 * x.raw_count)) e.0 i e.1
     can_behind r raw =
         let fits = can.fits i x told there in
@@ -137,7 +143,7 @@ module _ (asked : FinMap nat_cmp ℕ) (w : WorldValue) (c : CampaignValue) (e : 
         below : (a b : ℕ) → a ≤ b → b + e.1 ≤ holding_limit → a + e.1 ≤ holding_limit
         below a b l m = omega (arith, l, m)
 
-    -- and make the item then
+    -- the unit can make the item after it used the raw items
     can_make_then : CanMake w (with_raw_used c e.0 (e.1 * x.raw_count) x.raw) e.0 i e.1
     can_make_then = by_raw x.raw refl
       where
@@ -145,6 +151,7 @@ module _ (asked : FinMap nat_cmp ℕ) (w : WorldValue) (c : CampaignValue) (e : 
         by_raw None is = can_at_once
         by_raw (Some r) is = can_behind r is
 
+    -- the unit can use the raw items and make the item
     pub can_make_item : CanMakeOf w c e.0 e.1 i x
     can_make_item = record {
       use_raw = can_use;
@@ -152,6 +159,7 @@ module _ (asked : FinMap nat_cmp ℕ) (w : WorldValue) (c : CampaignValue) (e : 
       make = can_make_then;
     }
 
+    -- using the raw items and making the item leaves the campaign well
     item_well : LeavesWell IsSteady (produce_moves holding_limit) w c (with_made (with_raw_used c e.0 (e.1 * x.raw_count) x.raw) e.0 i e.1)
     item_well = by_raw x.raw refl
       where
@@ -164,6 +172,7 @@ module _ (asked : FinMap nat_cmp ℕ) (w : WorldValue) (c : CampaignValue) (e : 
             well_within (both_move one two) (produce_moves holding_limit) w c (with_made d e.0 i e.1) (both_less r i)
             (both_leave_well one two w c d (with_made d e.0 i e.1) (used_well w c e.0 r (e.1 * x.raw_count) (can_use r is)) (made_well w d e.0 i e.1 (can_behind r is)))
 
+  -- making by a unit leaves the campaign well
   pub produced_well : CanProduce asked w c e → LeavesWell IsSteady (produce_moves holding_limit) w c (after_production asked w c e)
   unfolding after_production
   produced_well can =
@@ -171,7 +180,7 @@ module _ (asked : FinMap nat_cmp ℕ) (w : WorldValue) (c : CampaignValue) (e : 
       by_option (λ d. LeavesWell IsSteady (produce_moves holding_limit) w c d) _ (get asked e.0) c unchanged (λ i told.
       by_option (λ d. LeavesWell IsSteady (produce_moves holding_limit) w c d) _ (slice_get w.items i) c unchanged (λ x is. item_well can i x told is))
 
-  -- nothing changes for other units
+  -- unit `k` is in this campaign as it was
   abbrev IsStill : ℕ → CampaignValue → Type 0
   IsStill k d = get d.units k ≡ get c.units k
 
@@ -189,7 +198,7 @@ produce_keeps_others w c os = others_no_worse produce_pots w (λ items. produced
 
 -- ---- what a unit makes it can make
 
--- who makes something without an item has a fault
+-- an order that names no item of the world has a fault
 needs_item : (w : WorldValue) (h : HoldingValue) → make_fault h (item_of w None) ≡ None → ⊥
 needs_item w h fine = by_men (h.men == 0) fine
   where
@@ -198,21 +207,23 @@ needs_item w h fine = by_men (h.men == 0) fine
     by_men false never = none_some NoSkill (sym never)
 
 module _ (w : WorldValue) (c : CampaignValue) (os : List Task) where
+  -- the item that each unit's order names
   abbrev items : FinMap nat_cmp ℕ
   items = items_by produce_pots w c os
 
-  -- a unit makes what it can make at most
+  -- the unit of a share is there and can make at least so much
   abbrev Makes : ℕ × ℕ → Type 0
-  Makes e = (u : Unit) × (get c.units e.0 ≡ Some u) × (e.1 ≤ can_make w u.holding (get items e.0))
+  Makes e = (u : Unit) × (get c.units e.0 ≡ Some u) × (e.1 ≤ most_makeable w u.holding (get items e.0))
 
+  -- each unit makes at most what it can make
   pub given_can : Every (λ n made. Makes (n, made)) (given_by produce_pots w c os)
   given_can n made is =
       let (u, t, there, own, low, fine, named) = given_is_named produce_pots w c (makes_give w c) os n made is in
       (u, there, by_item u (item_in t.order_value.operands) low fine named)
     where
-      by_item : (u : Unit) (s : Option ℕ) → made ≤ can_make w u.holding s → make_fault u.holding (item_of w s) ≡ None → ((i : ℕ) → s ≡ Some i → get items n ≡ Some i) → made ≤ can_make w u.holding (get items n)
+      by_item : (u : Unit) (s : Option ℕ) → made ≤ most_makeable w u.holding s → make_fault u.holding (item_of w s) ≡ None → ((i : ℕ) → s ≡ Some i → get items n ≡ Some i) → made ≤ most_makeable w u.holding (get items n)
       by_item u None low fine named = absurd (needs_item w u.holding fine)
-      by_item u (Some i) low fine named = subst (λ o. made ≤ can_make w u.holding o) (sym (named i refl)) low
+      by_item u (Some i) low fine named = subst (λ o. made ≤ most_makeable w u.holding o) (sym (named i refl)) low
 
 up_to_most : (h : HoldingValue) (count : ℕ) (raw : Option ℕ) (most : ℕ) → up_to_raw h count raw most ≤ most
 up_to_most h count None most = omega arith
@@ -232,9 +243,10 @@ raw_in items r None is known = none_some r is
 raw_in items r (Some k) is known = let same : k ≡ r = cc in subst (λ m. m < items) same known
 
 module _ (asked : FinMap nat_cmp ℕ) (w : WorldValue) (c : CampaignValue) (world : IsWorld w) (steady : IsSteady w c) where
-  fits_by : (n made : ℕ) (u : Unit) → get c.units n ≡ Some u → made ≤ can_make w u.holding (get asked n) → (i : ℕ) (x : Item) → get asked n ≡ Some i → slice_get w.items i ≡ Some x → Fits w u made i x
+  -- a unit has room and raw items for as much as it can make
+  fits_by : (n made : ℕ) (u : Unit) → get c.units n ≡ Some u → made ≤ most_makeable w u.holding (get asked n) → (i : ℕ) (x : Item) → get asked n ≡ Some i → slice_get w.items i ≡ Some x → HasRoomAndRaw w u made i x
   fits_by n made u there low i x told is =
-      let all : made ≤ can_make_of u.holding i x = subst (λ o. made ≤ option_map_or (can_make_of u.holding i) o 0) is (subst (λ o. made ≤ can_make w u.holding o) told low) in
+      let all : made ≤ most_makeable_of u.holding i x = subst (λ o. made ≤ option_map_or (most_makeable_of u.holding i) o 0) is (subst (λ o. made ≤ most_makeable w u.holding o) told low) in
       let skilled = u.holding.men * level_in_any u.holding x.skill in
       let most = min skilled (holding_limit - amount_of u.holding.items i) in
       record {
@@ -246,18 +258,20 @@ module _ (asked : FinMap nat_cmp ℕ) (w : WorldValue) (c : CampaignValue) (worl
 
 -- ---- all steps can be taken
 
--- a unit is there and can make so much
+-- the unit of a share is there, and has room and raw items for so much of its item
 abbrev HasRoomFor : (FinMap nat_cmp ℕ) → WorldValue → CampaignValue → ℕ × ℕ → Type 0
-HasRoomFor asked w c e = (u : Unit) × (get c.units e.0 ≡ Some u) × ((i : ℕ) (x : Item) → get asked e.0 ≡ Some i → slice_get w.items i ≡ Some x → Fits w u e.1 i x)
+HasRoomFor asked w c e = (u : Unit) × (get c.units e.0 ≡ Some u) × ((i : ℕ) (x : Item) → get asked e.0 ≡ Some i → slice_get w.items i ≡ Some x → HasRoomAndRaw w u e.1 i x)
 
 module _ (asked : FinMap nat_cmp ℕ) (w : WorldValue) where
   abbrev step_moves : BookBound
   step_moves = produce_moves holding_limit
 
+  -- the units still to come have room after another unit changed
   still : (c d : CampaignValue) (n : ℕ) (es : List (ℕ × ℕ)) → ((k : ℕ) → k ≢ n → get d.units k ≡ get c.units k) → AllByRecursion (λ f. n < f.0) es → AllByRecursion (HasRoomFor asked w c) es → AllByRecursion (HasRoomFor asked w d) es
   still c d n [] same above all = tt
   still c d n (f ∷ es) same above ((u, there, fits), all) = ((u, same f.0 (λ e. absurd (omega (arith, e, above.0))) ∙ there, fits), still c d n es same above.1 all)
 
+  -- shares for which the units and the books have room can be made in turn
   pub produce_in_turn : (c : CampaignValue) (es : List (ℕ × ℕ)) → Rise es → IsSteady w c → HaveRoom (moved_times (length es) step_moves) c → AllByRecursion (HasRoomFor asked w c) es → CanInTurn (CanProduce asked w) (after_production asked w) c es
   produce_in_turn c [] rise steady room all = tt
   produce_in_turn c (e ∷ es) rise steady room ((u, there, fits), all) =
@@ -283,9 +297,11 @@ module _ (w : WorldValue) (c : CampaignValue) (world : IsWorld w) (steady : IsSt
   few : length shares ≤ most_units
   few = omega (arith, few_given produce_pots w c (makes_give w c) os, steady.numbers.few_units)
 
+  -- all steps together move each amount by less than 10^14
   little : MovesLess (moved_times (length shares) (produce_moves holding_limit)) (produce_moves most_moved)
   little e t = scaled (length shares) holding_limit most_moved (omega (arith, few)) e t
 
+  -- all shares of PRODUCE can be made in turn
   pub can_share_out : HaveRoom (produce_moves most_moved) c → CanInTurn (CanProduce named w) (after_production named w) c shares
   can_share_out room =
       produce_in_turn named w c shares (entries_rise (given_by produce_pots w c os)) steady (room_less (moved_times (length shares) (produce_moves holding_limit)) (produce_moves most_moved) c little room)

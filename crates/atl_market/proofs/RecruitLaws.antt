@@ -1,4 +1,4 @@
--- Recruiting leaves a campaign well.
+-- Laws of RECRUIT: it leaves a campaign well, takes nothing from units without an order, and its payments can be made in turn.
 use Rattle.std.proofs.Common.{◌≡◌, ◌≢◌, ℕ, ◌+◌, ◌-◌, ◌*◌, ◌/◌, ◌≤◌, Some, List, [], ◌∷◌, length, refl, sym, ap, subst, ◌∙◌, arith}
 use Rattle.std.specs.Prelude.{ℤ, fold, pos, neg_ℤ, min}
 use Rattle.std.specs.Option.{option_map_or}
@@ -37,12 +37,12 @@ use Rattle.atl_instant.proofs.MarkLaws.{marks_by}
 use Rattle.atl_instant.proofs.MeaningLaws.{room_less, well_within}
 use Rattle.atl_market.specs.PotPhase.{after_sharing, given_by}
 use Rattle.atl_market.specs.Bounds.{CanInTurn}
-use Rattle.atl_market.specs.Recruit.{after_recruiting, recruit_moves, recruit_pots, recruits_at, with_men}
+use Rattle.atl_market.specs.Recruit.{after_recruiting, recruit_moves, recruit_pots, recruits_at, with_paid_recruits}
 use Rattle.atl_market.specs.Unordered.{OthersAreNoWorse}
 use Rattle.atl_market.proofs.DrawLaws.{AreReady, Drains, DrawnPots, HaveEnough, all_pairs, drawn, one_drains, one_draws, pot_is_enough, ready_behind, region_pots, untouched, who_stand}
 use Rattle.atl_state.proofs.HavingLaws.{MayHave, may_have}
 use Rattle.atl_market.proofs.ExchangeLaws.{KeepsTogether, exchange_well}
-use Rattle.atl_market.proofs.OrderedLaws.{others_no_worse}
+use Rattle.atl_market.proofs.UnorderedLaws.{others_no_worse}
 use Rattle.atl_market.proofs.ThereLaws.{by_region, by_unit, region_there, unit_there}
 use Rattle.atl_market.proofs.TurnLaws.{few_holdings, first_room, later_room, turns_leave_well}
 use Rattle.atl_market.proofs.PotLaws.{pots_give}
@@ -54,21 +54,26 @@ peasants_of q = q.peasants
 
 -- ---- one unit gets its recruits
 
+-- a region `r` with the peasants of `q` less the recruits
 abbrev pub leave : Region → ℕ → Region → Region
 leave q recruits r = record r { peasants = q.peasants - recruits }
 
+-- a campaign in which recruits joined unit `u`, which paid for them
 abbrev pub joined : CampaignValue → ℕ → Unit → (recruits cost : ℕ) → CampaignValue
-joined c n u recruits cost = record c { units = insert c.units n (record u { holding = with_men u.holding recruits cost }) }
+joined c n u recruits cost = record c { units = insert c.units n (record u { holding = with_paid_recruits u.holding recruits cost }) }
 
+-- a campaign in which recruits left region `q` and joined unit `u`, and their cost is booked
 abbrev pub recruited_to : CampaignValue → ℕ → Unit → Region → (recruits cost : ℕ) → CampaignValue
 recruited_to c n u q recruits cost = with_amount (region_changed (leave q recruits) (joined c n u recruits cost) u.region) Recruiting Money (neg_ℤ (pos cost))
 
 module _ (w : WorldValue) (c : CampaignValue) (n : ℕ) (u : Unit) (q : Region) (recruits cost : ℕ) (is : get c.units n ≡ Some u) (around : get c.regions u.region ≡ Some q) where
+  -- the campaign after recruiting
   abbrev after : CampaignValue
   after = recruited_to c n u q recruits cost
 
+  -- what the unit holds after recruiting
   abbrev more : HoldingValue
-  more = with_men u.holding recruits cost
+  more = with_paid_recruits u.holding recruits cost
 
   abbrev peopled : CampaignValue
   peopled = joined c n u recruits cost
@@ -76,10 +81,12 @@ module _ (w : WorldValue) (c : CampaignValue) (n : ℕ) (u : Unit) (q : Region) 
   abbrev left : CampaignValue
   left = region_changed (leave q recruits) peopled u.region
 
+  -- the steps of recruiting give this campaign
   recruits_are : with_amount (with_peasants (with_holding c n more) u.region (q.peasants - recruits)) Recruiting Money (neg_ℤ (pos cost)) ≡ after
   recruits_are = ap (λ o. with_amount (with_peasants (with_held c n more o) u.region (q.peasants - recruits)) Recruiting Money (neg_ℤ (pos cost))) is
 
   module _ (fits : u.holding.men + recruits ≤ men_limit) (payable : cost ≤ u.holding.money) (enough : recruits ≤ q.peasants) (early : IsEarly w c) where
+    -- the unit may hold that
     may : MayHave w more
     may =
         let old = may_have w c n u is early.steady in
@@ -92,6 +99,7 @@ module _ (w : WorldValue) (c : CampaignValue) (n : ℕ) (u : Unit) (q : Region) 
           days = λ s days there. let (some, most) = old.days s days there in (some, omega (arith, most));
         }
 
+    -- unit and region keep their people together, and the money that is paid is booked
     together : KeepsTogether u q (leave q recruits) more (neg_ℤ (pos cost))
     together = record { money = omega (arith, ints, payable); people = omega (arith, enough); items = λ i. refl }
 
@@ -104,18 +112,18 @@ module _ (w : WorldValue) (c : CampaignValue) (n : ℕ) (u : Unit) (q : Region) 
 
 -- ---- what is marked
 
--- as the region and the books change
+-- setting a region's peasants and booking their cost sets the dirty flags of all that changes
 pub leaving_marks : (c d e : MarkedCampaign) (region peasants : ℕ) (z : ℤ) → d.value ≡ with_peasants c.value region peasants → d.marks ≡ mark_region c region
     → e.value ≡ with_amount d.value Recruiting Money z → e.marks ≡ mark_amount d Recruiting Money → MarksChanges c e
 leaving_marks c d e region peasants z d_is d_marks e_is e_marks =
     marks-trans c d e (marks_by c d _ d_is d_marks (marks-region (λ r. record r { peasants = peasants }) (λ r. refl) c region))
     (marks_by d e _ e_is e_marks (marks-amount d Recruiting Money z))
 
--- a unit that is there has another holding
+-- replacing the holding of a unit that is there replaces it under the unit's number alone
 pub held_is : (c d : CampaignValue) (n : ℕ) (u : Unit) (h : HoldingValue) → get c.units n ≡ Some u → d ≡ with_holding c n h → d ≡ record c { units = insert c.units n (record u { holding = h }) }
 held_is c d n u h is same = same ∙ ap (with_held c n h) is
 
--- it has other men, and then other money
+-- setting a unit's men and then its money replaces its holding by one with these
 pub joined_is : (a b c : CampaignValue) (n : ℕ) (u : Unit) (men money : ℕ) → get a.units n ≡ Some u → b ≡ state.with_men a n men → c ≡ with_money b n money → c ≡ with_holding a n (record u.holding { men = men; money = money })
 joined_is a b c n u men money is b_is c_is =
     let peopled = record u { holding = record u.holding { men = men } } in
@@ -126,7 +134,7 @@ joined_is a b c n u men money is b_is c_is =
     let second : changed (λ u. record u { holding = record u.holding { money = money } }) b.units n ≡ insert a.units n paid = ap (changed_at _ b.units n) there ∙ ap (λ m. insert m n paid) units ∙ insert_over a.units n peopled paid in
     c_is ∙ ap (λ m. record b { units = m }) second ∙ ap (λ (s : CampaignValue). record s { units = insert a.units n paid }) b_is ∙ sym (ap (with_held a n (record u.holding { men = men; money = money })) is)
 
--- and its row alone is marked
+-- setting a unit's men and money sets the dirty flags of all that changes
 pub joined_marks : (a b c : MarkedCampaign) (n men money : ℕ) → b.value ≡ state.with_men a.value n men → b.marks ≡ mark_unit_row a n → c.value ≡ with_money b.value n money → c.marks ≡ mark_unit_row b n → MarksChanges a c
 joined_marks a b c n men money b_is b_marks c_is c_marks =
     marks-trans a b c (marks_by a b _ b_is b_marks (marks-unit_row (λ u. record u { holding = record u.holding { men = men } }) (λ u. refl) a n))
@@ -135,9 +143,11 @@ joined_marks a b c n men money b_is b_marks c_is c_marks =
 -- ---- one step
 
 module _ (w : WorldValue) (c : CampaignValue) (e : ℕ × ℕ) where
+  -- what the recruits of a share cost
   abbrev price : ℕ
   price = e.1 * w.rules.recruit_price
 
+  -- recruiting by a unit that is there, in a region that is there, gives the campaign above
   pub recruited_is : (u : Unit) (q : Region) → get c.units e.0 ≡ Some u → get c.regions u.region ≡ Some q → after_recruiting w c e ≡ recruited_to c e.0 u q e.1 price
   unfolding after_recruiting
   recruited_is u q is around = unit_there c e.0 _ u is ∙ region_there c u.region _ q around ∙ recruits_are w c e.0 u q e.1 price is around
@@ -145,6 +155,7 @@ module _ (w : WorldValue) (c : CampaignValue) (e : ℕ × ℕ) where
   made_is : (can : CanRecruit w c e) → after_recruiting w c e ≡ recruited_to c e.0 can.at.unit can.at.region e.1 price
   made_is can = recruited_is can.at.unit can.at.region can.at.there can.at.around
 
+  -- recruiting by a unit leaves the campaign well
   pub recruited_well : CanRecruit w c e → LeavesWell IsEarly (recruit_moves holding_limit) w c (after_recruiting w c e)
   recruited_well can =
       subst (λ d. LeavesWell IsEarly (recruit_moves holding_limit) w c d) (sym (made_is can))
@@ -157,13 +168,14 @@ module _ (w : WorldValue) (c : CampaignValue) (e : ℕ × ℕ) where
       less : (all : ℕ) → e.1 ≤ all → all - e.1 + e.1 ≡ all
       less all enough = omega (arith, enough)
 
+  -- recruiting by a unit leaves the other units as they are
   pub recruited_others : (k : ℕ) → k ≢ e.0 → get (after_recruiting w c e).units k ≡ get c.units k
   unfolding after_recruiting
   recruited_others k apart =
       by_unit c e.0 (λ (d : CampaignValue). get d.units k ≡ get c.units k) _ refl (λ u is.
       by_region c u.region (λ (d : CampaignValue). get d.units k ≡ get c.units k) _ refl (λ q around.
-      ap (λ o. get (with_held c e.0 (with_men u.holding e.1 price) o).units k) is
-      ∙ get-insert_other c.units e.0 k (record u { holding = with_men u.holding e.1 price }) apart))
+      ap (λ o. get (with_held c e.0 (with_paid_recruits u.holding e.1 price) o).units k) is
+      ∙ get-insert_other c.units e.0 k (record u { holding = with_paid_recruits u.holding e.1 price }) apart))
 
 pub recruit_keeps_others : (w : WorldValue) (c : CampaignValue) (os : List Task) → OthersAreNoWorse os c (after_sharing recruit_pots w c os)
 recruit_keeps_others w c os = others_no_worse recruit_pots w (λ items. recruited_others w) c (λ items. pots_give (recruits_at w c) c) os
@@ -174,7 +186,7 @@ abbrev step_moves : BookBound
 step_moves = recruit_moves holding_limit
 
 module _ (w : WorldValue) (c : CampaignValue) where
-  -- the peasants of the regions
+  -- the pots of RECRUIT, by region: their peasants
   abbrev pots : DrawnPots ℕ
   pots = region_pots c.units peasants_of
 
@@ -182,13 +194,15 @@ module _ (w : WorldValue) (c : CampaignValue) where
   abbrev CanHave : ℕ × ℕ → Type 0
   CanHave e = (u : Unit) × (get c.units e.0 ≡ Some u) × (u.holding.men + e.1 ≤ men_limit) × (e.1 * w.rules.recruit_price ≤ u.holding.money)
 
+  -- the shares still to come can be given in campaign `d`
   abbrev AreToJoin : CampaignValue → List (ℕ × ℕ) → Type 0
   AreToJoin = AreReady pots CanHave w c
 
-  -- there is room in the books for their price
+  -- the books have room for the price of all shares still to come
   abbrev CanBook : CampaignValue → List (ℕ × ℕ) → Type 0
   CanBook d es = HaveRoom (moved_times (length es) step_moves) d
 
+  -- the first of the shares still to come can be given
   first_can : (d : CampaignValue) (e : ℕ × ℕ) (es : List (ℕ × ℕ)) → AreToJoin d (e ∷ es) → CanBook d (e ∷ es) → CanRecruit w d e
   first_can d e es ready room =
       let (u, there, fits, payable) = ready.fits.0 in
@@ -197,6 +211,7 @@ module _ (w : WorldValue) (c : CampaignValue) where
       let draws = one_draws c.units peasants_of d e u q there around es ready.enough in
       record { at = record { unit = u; there = now; region = q; around = around }; fits = fits; payable = payable; enough = draws; early = ready.early; room = first_room step_moves d e es room }
 
+  -- the shares still to come can be given in turn
   all_can : (d : CampaignValue) (es : List (ℕ × ℕ)) → AreToJoin d es → CanBook d es → CanInTurn (CanRecruit w) (after_recruiting w) d es
   all_can d [] ready room = tt
   all_can d (e ∷ es) ready room =
@@ -220,6 +235,7 @@ module _ (w : WorldValue) (c : CampaignValue) where
         let few : share ≤ money / price = omega (arith, low) in
         omega (arith, mul-le-mul_right price few, mul-div-le money price, mul_comm (money / price) price)
 
+    -- each unit has room for its recruits and can pay for them
     each_fits : Every (λ n share. CanHave (n, share)) (given_by recruit_pots w c os)
     each_fits n share is =
         let (u, o, there, own, low) = given_is_wanted recruit_pots w c (λ items. pots_give (recruits_at w c) c) os n share is in
@@ -228,6 +244,7 @@ module _ (w : WorldValue) (c : CampaignValue) where
     part : (all one : ℕ) → all / one ≤ all
     part all one = div-le_self all one
 
+    -- each region has peasants enough for all its recruits
     all_enough : HaveEnough pots c shares
     all_enough r q around =
         let few : drawn (who_stand c.units r) shares ≤ q.peasants / w.rules.recruit_fraction = subst (λ pot. drawn (who_stand c.units r) shares ≤ pot) (ap (λ o. option_map_or (λ (x : Region). x.peasants / w.rules.recruit_fraction) o 0) around) (pot_is_enough _ _ c r (q, around)) in
@@ -236,9 +253,11 @@ module _ (w : WorldValue) (c : CampaignValue) where
     few : length shares ≤ most_units
     few = omega (arith, few_given recruit_pots w c (λ items. pots_give (recruits_at w c) c) os, early.steady.numbers.few_units)
 
+    -- all steps together move each amount by less than 10^14
     little : (e : Entry) (t : Thing) → moved_times (length shares) step_moves e t ≤ recruit_moves most_moved e t
     little e t = few_holdings (length shares) few Recruiting Money e t
 
+    -- all shares of RECRUIT can be given in turn
     pub can_share_out : CanInTurn (CanRecruit w) (after_recruiting w) c shares
     can_share_out = all_can c shares (record {
       early = early;

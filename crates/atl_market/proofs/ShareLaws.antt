@@ -1,4 +1,4 @@
--- Laws of shares.
+-- Laws of the shares of a pot: none is above its want, all is given, each is near its part; and of the code's running remainder.
 use Rattle.std.proofs.Common.{◌≡◌, ℕ, ◌+◌, ◌-◌, ◌*◌, ◌/◌, ◌%◌, ◌<◌, ◌≤◌, List, [], ◌∷◌, ◌++◌, length, get_or, min, inl, inr, zero, suc, sum, refl, ap, sym, ◌∙◌, add-zero, zero-add, arith}
 use Rattle.std.proofs.Math.Nat.{mul-div-le, mul-add, add-mul-div_left, div-add-mod, mod-lt, mul-div_left, mul-zero, zero-div, div-lt_iff_lt-mul, lt-mul-div-succ, div-le_of_le-mul, mul-le-mul_left, le-div_iff_mul-le, mul_comm}
 use Rattle.std.proofs.lemmas.List.Sums.{sum_by-cons, sum_by-append}
@@ -6,11 +6,11 @@ use Rattle.std.proofs.lemmas.Bool.Decides.{nat_tests}
 use Rattle.std.proofs.lemmas.Bool.{cases_lt}
 use Rattle.atl_market.specs.Share.{IsNearPart, SplittingKeepsOthers, share_upto, shares, shares_after}
 
--- the quotient and what is left of it
+-- what the first wants together get is the quotient `pot * x / total`, rounded down
 quotient : (pot total x : ℕ) → 0 < total → (total * share_upto pot total x ≤ pot * x) × (pot * x < total * share_upto pot total x + total)
 quotient pot total x p = (mul-div-le (pot * x) total, omega (arith, lt-mul-div-succ (pot * x) p))
 
--- more people get no less
+-- what more of the first wants together get is no less
 pub upto_mono : (pot total x y : ℕ) → 0 < total → x ≤ y → share_upto pot total x ≤ share_upto pot total y
 upto_mono pot total x y p h =
     (le-div_iff_mul-le p).1 (omega (arith, mul_comm (share_upto pot total x) total, (quotient pot total x p).0, mul-le-mul_left pot h))
@@ -25,7 +25,7 @@ part_le pot total before want p h =
     let few : share_upto pot total (before + want) < share_upto pot total before + want + 1 = (div-lt_iff_lt-mul p).1 room in
     omega arith
 
--- what a run of wants is given in all
+-- the shares of wants that follow on `before`, and what those ahead got, add up to what all of these together get
 pub sum-shares_after : (pot total before : ℕ) → 0 < total → (wants : List ℕ) → sum (shares_after pot total before wants) + share_upto pot total before ≡ share_upto pot total (before + sum wants)
 sum-shares_after pot total before p [] = zero-add (share_upto pot total before) ∙ ap (share_upto pot total) (sym (add-zero before))
 sum-shares_after pot total before p (w ∷ ws) =
@@ -37,6 +37,7 @@ sum-shares_after pot total before p (w ∷ ws) =
     let same : share_upto pot total ((before + w) + sum ws) ≡ share_upto pot total (before + sum (w ∷ ws)) = ap (share_upto pot total) (omega arith) in
     omega arith
 
+-- the shares of two lists of wants, one after the other, are those of the first and then those of the second
 pub shares_after-append : (pot total before : ℕ) (xs ys : List ℕ) → shares_after pot total before (xs ++ ys) ≡ shares_after pot total before xs ++ shares_after pot total (before + sum xs) ys
 shares_after-append pot total before [] ys = ap (λ n. shares_after pot total n ys) (omega arith)
 shares_after-append pot total before (x ∷ xs) ys =
@@ -44,7 +45,7 @@ shares_after-append pot total before (x ∷ xs) ys =
     (shares_after-append pot total (before + x) xs ys
     ∙ ap (λ n. shares_after pot total (before + x) xs ++ shares_after pot total n ys) (let e : sum (x ∷ xs) ≡ x + sum xs = sum_by-cons (λ x. x) x xs in omega arith))
 
--- what a share is off by, from its exact part: less than one
+-- a share of a pot that isn't enough differs from `pot * want / total` by less than one
 pub share_near : (pot total before want : ℕ) → 0 < total →
     ((share_upto pot total (before + want) - share_upto pot total before) * total < pot * want + total)
     × (pot * want < (share_upto pot total (before + want) - share_upto pot total before) * total + total)
@@ -59,14 +60,15 @@ share_near pot total before want p =
     let q1 = quotient pot total (before + want) p in
     (omega arith, omega arith)
 
--- the wants that the pot is enough for
+-- where the pot is enough for all wants, the shares are the wants
 pub shares-enough : (pot : ℕ) (wants : List ℕ) → sum wants ≤ pot → shares pot wants ≡ wants
 shares-enough pot wants h = grind (arith, nat_tests)
 
+-- where the pot isn't enough, the shares are the differences of what the first wants together get
 pub shares-short : (pot : ℕ) (wants : List ℕ) → pot < sum wants → shares pot wants ≡ shares_after pot (sum wants) 0 wants
 shares-short pot wants h = grind (arith, nat_tests)
 
--- what holds of each want and its share, in place
+-- what holds of any want and its share holds of the want and the share at each index `i`
 each_behind : (P : ℕ → ℕ → Type 0) (pot total : ℕ) → ((before want : ℕ) → P want (share_upto pot total (before + want) - share_upto pot total before)) → P 0 0 → (before : ℕ) (wants : List ℕ) (i : ℕ) → P (get_or wants i 0) (get_or (shares_after pot total before wants) i 0)
 each_behind P pot total here none before [] i = none
 each_behind P pot total here none before (w ∷ ws) zero = here before w
@@ -107,6 +109,7 @@ length-shares pot wants = elim (cases_lt pot (sum wants)) [
   | inr h ↦ ap length (shares-enough pot wants h)
 ]
 
+-- after a list is split the sum of all wants is the same
 sum-split : (ahead parts behind : List ℕ) → sum (ahead ++ parts ++ behind) ≡ sum (ahead ++ sum parts ∷ behind)
 sum-split ahead parts behind =
     let one : sum (ahead ++ parts ++ behind) ≡ sum (ahead ++ parts) + sum behind = sum_by-append (λ x. x) (ahead ++ parts) behind in
@@ -115,6 +118,7 @@ sum-split ahead parts behind =
     let four : sum (sum parts ∷ behind) ≡ sum parts + sum behind = sum_by-cons (λ x. x) (sum parts) behind in
     omega arith
 
+-- the shares of a list in which one want is split, and of the list with the one want, taken apart at that want
 split_behind : (pot total : ℕ) → 0 < total → (ahead parts behind : List ℕ)
     → (shares_after pot total 0 (ahead ++ parts ++ behind) ≡ shares_after pot total 0 ahead ++ shares_after pot total (sum ahead) parts ++ shares_after pot total (sum ahead + sum parts) behind)
     × (shares_after pot total 0 (ahead ++ sum parts ∷ behind) ≡ shares_after pot total 0 ahead ++ sum (shares_after pot total (sum ahead) parts) ∷ shares_after pot total (sum ahead + sum parts) behind)
@@ -159,13 +163,13 @@ splitting_keeps_others pot ahead parts behind =
       )
     ]
 
--- left is the remainder of the quotient behind `before`
-pub record IsLeft (pot total before left : ℕ) : Type 0 where
+-- `left` is the remainder of `pot * before / total`, which the code carries from want to want
+pub record IsRemainder (pot total before left : ℕ) : Type 0 where
   pub small : left < total
   pub whole : total * share_upto pot total before + left ≡ pot * before
 
--- the next share and remainder, by the running remainder
-pub next_share : (pot total before left want : ℕ) → 0 < total → IsLeft pot total before left →
+-- the quotient of the pot times the next want plus the remainder, by the sum of the wants, is the next share
+pub next_share : (pot total before left want : ℕ) → 0 < total → IsRemainder pot total before left →
     (pot * want + left) / total ≡ share_upto pot total (before + want) - share_upto pot total before
 next_share pot total before left want p h =
     let low = share_upto pot total before in
@@ -174,8 +178,9 @@ next_share pot total before left want p h =
     let split : share_upto pot total (before + want) ≡ due / total + low = ap (λ n. n / total) all ∙ add-mul-div_left due low p in
     omega arith
 
-pub next_left : (pot total before left want : ℕ) → 0 < total → IsLeft pot total before left →
-    IsLeft pot total (before + want) ((pot * want + left) % total)
+-- the remainder of that division is the next running remainder
+pub next_left : (pot total before left want : ℕ) → 0 < total → IsRemainder pot total before left →
+    IsRemainder pot total (before + want) ((pot * want + left) % total)
 next_left pot total before left want p h =
     let low = share_upto pot total before in
     let due = pot * want + left in

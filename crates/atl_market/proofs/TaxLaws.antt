@@ -1,4 +1,4 @@
--- Tax leaves a campaign well.
+-- Laws of TAX: it leaves a campaign well, takes nothing from a unit, and its payments can be made in turn.
 use Rattle.std.proofs.Common.{◌≡◌, ◌≢◌, ℕ, ◌+◌, ◌-◌, ◌≤◌, Some, List, [], ◌∷◌, length, refl, sym, ap, subst, ◌∙◌, arith}
 use Rattle.std.specs.Prelude.{fold, pos, min}
 use Rattle.std.specs.Option.{option_map_or}
@@ -36,7 +36,7 @@ use Rattle.atl_market.specs.PotPhase.{after_sharing, given_by}
 use Rattle.atl_market.specs.Bounds.{CanInTurn}
 use Rattle.atl_market.specs.Tax.{after_tax, money_at, tax_pots}
 use Rattle.atl_market.proofs.DrawLaws.{AreReady, Drains, DrawnPots, HaveEnough, all_pairs, drawn, one_drains, one_draws, pot_is_enough, ready_behind, region_pots, untouched, who_stand}
-use Rattle.atl_market.proofs.MoneyInTurnLaws.{others_stay, paid, richer, richer_is, richer_no_worse}
+use Rattle.atl_market.proofs.MoreMoneyLaws.{others_stay, paid, richer, richer_is, richer_no_worse}
 use Rattle.atl_market.proofs.ThereLaws.{by_region, by_unit, region_there, unit_there}
 use Rattle.atl_market.proofs.TurnLaws.{turns_leave_well}
 use Rattle.atl_market.proofs.PotLaws.{pots_give}
@@ -48,20 +48,25 @@ money_of q = q.money
 
 -- ---- one unit takes its share
 
+-- a region `r` with the money of `q` less a share
 abbrev pub drain : Region → ℕ → Region → Region
 drain q share r = record r { money = q.money - share }
 
+-- a campaign in which a unit took its share of the money of its region `q`
 abbrev pub drained : CampaignValue → ℕ → Unit → Region → ℕ → CampaignValue
 drained c n u q share = region_changed (drain q share) (richer c n u share) u.region
 
 module _ (w : WorldValue) (c : CampaignValue) (n : ℕ) (u : Unit) (q : Region) (share : ℕ) (is : get c.units n ≡ Some u) (around : get c.regions u.region ≡ Some q) where
+  -- the campaign after the unit took its share
   abbrev after : CampaignValue
   after = drained c n u q share
 
+  -- setting the unit's money and its region's gives this campaign
   pub tax_is : with_region_money (with_money c n (u.holding.money + share)) u.region (q.money - share) ≡ after
   tax_is = ap (λ d. with_region_money d u.region (q.money - share)) (richer_is c n u share is)
 
   module _ (enough : share ≤ q.money) where
+    -- the total of each thing is the same as before
     same_total : (t : Thing) → total after t + region_amount t q ≡ total (richer c n u share) t + region_amount t (drain q share q)
         → total (richer c n u share) t + unit_amount t u.holding ≡ total c t + unit_amount t (paid c n u share) → total after t ≡ total c t
     same_total Money a b = omega (arith, a, b, enough)
@@ -88,6 +93,7 @@ module _ (w : WorldValue) (c : CampaignValue) (n : ℕ) (u : Unit) (q : Region) 
 
 -- ---- what is marked
 
+-- setting the money of a unit and of a region sets the dirty flags of all that changes
 pub tax_marks : (c d e : MarkedCampaign) (n money region left : ℕ) → d.value ≡ with_money c.value n money → d.marks ≡ mark_unit_row c n
     → e.value ≡ with_region_money d.value region left → e.marks ≡ mark_region d region → MarksChanges c e
 tax_marks c d e n money region left d_is d_marks e_is e_marks =
@@ -97,10 +103,12 @@ tax_marks c d e n money region left d_is d_marks e_is e_marks =
 -- ---- one step
 
 module _ (w : WorldValue) (c : CampaignValue) (e : ℕ × ℕ) where
+  -- tax of a unit that is there, in a region that is there, moves its share from the region to it
   pub taxed_is : (u : Unit) (q : Region) → get c.units e.0 ≡ Some u → get c.regions u.region ≡ Some q → after_tax c e ≡ drained c e.0 u q e.1
   unfolding after_tax
   taxed_is u q is around = unit_there c e.0 _ u is ∙ region_there c u.region _ q around ∙ tax_is w c e.0 u q e.1 is around
 
+  -- tax of a unit leaves the campaign well
   pub taxed_well : CanTax w c e → LeavesWell IsEarly moves_nothing w c (after_tax c e)
   taxed_well can =
       subst (λ d. LeavesWell IsEarly moves_nothing w c d) (sym (taxed_is can.at.unit can.at.region can.at.there can.at.around))
@@ -136,17 +144,19 @@ tax_keeps_units w c os = each_no_worse w c (entries (given_by tax_pots w c os))
 -- ---- all steps can be taken
 
 module _ (w : WorldValue) (c : CampaignValue) where
-  -- the money of the regions
+  -- the pots of TAX, by region: their money
   abbrev pots : DrawnPots ℕ
   pots = region_pots c.units money_of
 
-  -- a unit is there and has room for so much
+  -- the unit of a share is there and has room for so much money
   abbrev HasRoomFor : ℕ × ℕ → Type 0
   HasRoomFor e = (u : Unit) × (get c.units e.0 ≡ Some u) × (u.holding.money + e.1 ≤ holding_limit)
 
+  -- the shares still to come can be paid in campaign `d`
   abbrev AreTaken : CampaignValue → List (ℕ × ℕ) → Type 0
   AreTaken = AreReady pots HasRoomFor w c
 
+  -- the first of the shares still to come can be paid
   first_can : (d : CampaignValue) (e : ℕ × ℕ) (es : List (ℕ × ℕ)) → AreTaken d (e ∷ es) → CanTax w d e
   first_can d e es ready =
       let (u, there, fits) = ready.fits.0 in
@@ -155,6 +165,7 @@ module _ (w : WorldValue) (c : CampaignValue) where
       let draws = one_draws c.units money_of d e u q there around es ready.enough in
       record { at = record { unit = u; there = now; region = q; around = around }; fits = fits; enough = draws; early = ready.early }
 
+  -- the shares still to come can be paid in turn
   all_can : (d : CampaignValue) (es : List (ℕ × ℕ)) → AreTaken d es → CanInTurn (CanTax w) after_tax d es
   all_can d [] ready = tt
   all_can d (e ∷ es) ready =
@@ -171,14 +182,17 @@ module _ (w : WorldValue) (c : CampaignValue) where
     wanted_fits : (money men share : ℕ) → money ≤ holding_limit → share ≤ min men (holding_limit - money) → money + share ≤ holding_limit
     wanted_fits money men share fits low = omega (arith, fits, low)
 
+    -- each unit has room for its share
     each_fits : Every (λ n share. HasRoomFor (n, share)) (given_by tax_pots w c os)
     each_fits n share is =
         let (u, o, there, own, low) = given_is_wanted tax_pots w c (λ items. pots_give (money_at c) c) os n share is in
         (u, there, wanted_fits u.holding.money _ share (early.steady.numbers.units n u there).1.money low)
 
+    -- each region has money enough for all shares
     all_enough : HaveEnough pots c shares
     all_enough r q around = subst (λ pot. drawn (who_stand c.units r) shares ≤ pot) (ap (λ o. option_map_or money_of o 0) around) (pot_is_enough _ _ c r (q, around))
 
+    -- all shares of TAX can be paid in turn
     pub can_share_out : CanInTurn (CanTax w) after_tax c shares
     can_share_out = all_can c shares (record {
       early = early;

@@ -1,4 +1,4 @@
--- What is made of a campaign for a unit or a region: what holds of it where that is there and where it isn't.
+-- Laws of a change that is made for a unit or a region only if it is there.
 use Rattle.std.proofs.Common.{◌≡◌, ℕ, Option, Some, None, refl, ap}
 use Rattle.std.specs.Option.{option_map_or}
 use Rattle.std.specs.FinMap.{get}
@@ -7,6 +7,7 @@ use Rattle.atl_records.specs.declared.records.Unit.{Unit}
 use Rattle.atl_state.specs.Campaign.{CampaignValue}
 use Rattle.atl_instant.specs.There.{at_region, at_unit}
 
+-- what holds of the result with a value and of the result without one holds of the result
 pub by_option : {A B : Type 0} (P : B → Type 0) (f : A → B) (o : Option A) (otherwise : B) → P otherwise → ((x : A) → o ≡ Some x → P (f x)) → P (option_map_or f o otherwise)
 by_option {A} P f o otherwise without with = by_case o refl
   where
@@ -15,14 +16,18 @@ by_option {A} P f o otherwise without with = by_case o refl
     by_case (Some x) is = with x is
 
 module _ (c : CampaignValue) (n : ℕ) where
+  -- where the unit is there, the change is made
   pub unit_there : (change : Unit → CampaignValue) (u : Unit) → get c.units n ≡ Some u → at_unit c n change ≡ change u
   unit_there change u is = ap (λ o. option_map_or change o c) is
 
+  -- what holds of the campaign as it was and as changed holds of the result
   pub by_unit : (P : CampaignValue → Type 0) (change : Unit → CampaignValue) → P c → ((u : Unit) → get c.units n ≡ Some u → P (change u)) → P (at_unit c n change)
   by_unit P change without with = by_option P change (get c.units n) c without with
 
+  -- where the region is there, the change is made
   pub region_there : (change : Region → CampaignValue) (q : Region) → get c.regions n ≡ Some q → at_region c n change ≡ change q
   region_there change q is = ap (λ o. option_map_or change o c) is
 
+  -- what holds of the campaign as it was and as changed holds of the result
   pub by_region : (P : CampaignValue → Type 0) (change : Region → CampaignValue) → P c → ((q : Region) → get c.regions n ≡ Some q → P (change q)) → P (at_region c n change)
   by_region P change without with = by_option P change (get c.regions n) c without with

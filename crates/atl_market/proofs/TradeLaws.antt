@@ -1,4 +1,4 @@
--- Trading leaves a campaign well.
+-- Laws of SELL and BUY: they leave a campaign well, take nothing from units without an order, and can be carried out in turn.
 use Rattle.std.proofs.Common.{◌≡◌, ◌≢◌, ◌==◌, ◌&&◌, ℕ, ◌+◌, ◌-◌, ◌*◌, ◌/◌, ◌≤◌, ◌<◌, Bool, true, false, cond, Option, Some, None, List, [], ◌∷◌, length, refl, sym, ap, subst, ◌∙◌, arith}
 use Rattle.std.specs.Prelude.{IsSome, fold, pos, neg_ℤ, ◌+ℤ◌, min, option_and_then, unwrap_or}
 use Rattle.std.specs.Option.{option_map_or}
@@ -58,15 +58,16 @@ use Rattle.atl_market.specs.declared.trade.Trade.TheVariants.{Sell, Buy}
 use Rattle.atl_market.proofs.DrawLaws.{AreReady, Drains, DrawnPots, HaveEnough, all_pairs, drawn, first_draws, nothing_drains, ready_behind, region_drains, shares_are_enough, untouched}
 use Rattle.atl_market.proofs.ExchangeLaws.{KeepsTogether, exchange_well}
 use Rattle.atl_market.proofs.ItemPotLaws.{items_give, share_for, shares_at}
-use Rattle.atl_market.proofs.OrderedLaws.{others_no_worse}
+use Rattle.atl_market.proofs.UnorderedLaws.{others_no_worse}
 use Rattle.atl_market.proofs.ProduceLaws.{only_room}
 use Rattle.atl_market.proofs.ThereLaws.{by_option, by_unit, unit_there}
 use Rattle.atl_market.proofs.TurnLaws.{few_holdings, first_room, later_room, turns_leave_well}
 use Rattle.atl_market.proofs.WantLaws.{GivesToWants, few_given, given_is_named}
 
--- ---- a deal that keeps the goods and the money together
+-- ---- a trade keeps the goods of unit and region together, and books the money
 
-pub record Fits (w : WorldValue) (u : Unit) (i before : ℕ) (d : TradeResult) : Type 0 where
+-- the result of a trade is within all limits, keeps the goods together, and books the change of the unit's money
+pub record ResultFits (w : WorldValue) (u : Unit) (i before : ℕ) (d : TradeResult) : Type 0 where
   pub money : d.money ≤ holding_limit
   pub amount : d.amount ≤ holding_limit
   pub stock : d.stock ≤ stock_limit w u.region i
@@ -74,16 +75,20 @@ pub record Fits (w : WorldValue) (u : Unit) (i before : ℕ) (d : TradeResult) :
   pub paid : pos d.money ≡ pos u.holding.money +ℤ d.booked
   pub small : IsWithin holding_limit d.booked
 
+-- a campaign in which unit `n` has the money and the amount of an item that a trade leaves
 abbrev pub supplied : CampaignValue → ℕ → Unit → ℕ → TradeResult → CampaignValue
 supplied c n u i d = record c { units = insert c.units n (record u { holding = with_trade_result u.holding i d }) }
 
+-- a campaign after a trade: unit, stock and books as its result says
 abbrev pub dealt_to : CampaignValue → ℕ → Unit → ℕ → Entry → TradeResult → CampaignValue
 dealt_to c n u i entry d = with_amount (region_changed (λ r. restocked r i d.stock) (supplied c n u i d) u.region) entry Money d.booked
 
 module _ (w : WorldValue) (c : CampaignValue) (n : ℕ) (u : Unit) (q : Region) (i : ℕ) (entry : Entry) (d : TradeResult) (is : get c.units n ≡ Some u) (around : get c.regions u.region ≡ Some q) where
+  -- the campaign after the trade
   abbrev after : CampaignValue
   after = dealt_to c n u i entry d
 
+  -- what the unit holds after the trade
   abbrev more : HoldingValue
   more = with_trade_result u.holding i d
 
@@ -93,10 +98,12 @@ module _ (w : WorldValue) (c : CampaignValue) (n : ℕ) (u : Unit) (q : Region) 
   abbrev left : CampaignValue
   left = region_changed (λ r. restocked r i d.stock) paid u.region
 
+  -- the steps of a trade give this campaign
   pub deal_is : with_result c n u i entry d ≡ after
   deal_is = ap (λ o. with_amount (with_stock (with_held c n more o) u.region i d.stock) entry Money d.booked) is
 
-  module _ (fits : Fits w u i (amount_of q.stocks i) d) (known : i < length w.items) (market : IsSome (market_of w u.region i)) (early : IsEarly w c) where
+  module _ (fits : ResultFits w u i (amount_of q.stocks i) d) (known : i < length w.items) (market : IsSome (market_of w u.region i)) (early : IsEarly w c) where
+    -- the unit may hold that
     may : MayHave w more
     may =
         let old = may_have w c n u is early.steady in
@@ -108,6 +115,7 @@ module _ (w : WorldValue) (c : CampaignValue) (n : ℕ) (u : Unit) (q : Region) 
           days = old.days;
         }
 
+    -- unit and region keep their goods together, and the money is booked
     together : KeepsTogether u q (λ r. restocked r i d.stock) more d.booked
     together = record { money = omega (arith, ints, fits.paid); people = refl; items = items }
       where
@@ -121,6 +129,7 @@ module _ (w : WorldValue) (c : CampaignValue) (n : ℕ) (u : Unit) (q : Region) 
             ap (λ k. k + amount_of (restocked q i d.stock).stocks j) (set_amount u.holding.items i d.amount j)
             ∙ ap (λ k. cond (eq_by_cmp nat_cmp j i) d.amount (amount_of u.holding.items j) + k) (set_amount q.stocks i d.stock j) ∙ by_test j (eq_by_cmp nat_cmp j i) refl
 
+    -- a trade whose result fits leaves the campaign well
     pub deal_well : LeavesWell IsEarly (moves_only holding_limit entry Money) w c after
     deal_well =
         exchange_well w c n u q (λ r. restocked r i d.stock) more entry d.booked is around holding_limit may (λ g. g)
@@ -128,11 +137,13 @@ module _ (w : WorldValue) (c : CampaignValue) (n : ℕ) (u : Unit) (q : Region) 
 
 -- ---- the market that a unit trades with
 
+-- a market of unit `u`'s region that trades the item which an order names
 pub record IsMarketFor (w : WorldValue) (u : Unit) (item : Option ℕ) (m : Market) : Type 0 where
   pub told : item ≡ Some m.item
   pub there : market_of w u.region m.item ≡ Some m
   pub bounds : IsMarket (length w.items) m.item m
 
+-- the market that is found for a unit's order is such a one
 pub market_is : (w : WorldValue) → IsWorld w → (u : Unit) (item : Option ℕ) (m : Market) → market_for w u item ≡ Some m → IsMarketFor w u item m
 market_is w world u None m is = none_some m is
 market_is w world u (Some i) m is = by_plan (get w.regions u.region) refl is
@@ -171,7 +182,8 @@ module _ (w : WorldValue) (u : Unit) (m : Market) (stock share : ℕ) (there : m
   up_to : (a k limit : ℕ) → k ≤ a → a ≤ limit → k ≤ limit
   up_to a k limit few most = omega (arith, few, most)
 
-  pub deal_fits : (trade : Trade) → CanAfford trade u.holding share (Some m) → HasPot trade stock share (Some m) → Fits w u m.item stock (trade_result_of trade u.holding stock share m)
+  -- where the unit can afford the trade and the market has the pot, the result fits
+  pub deal_fits : (trade : Trade) → CanAfford trade u.holding share (Some m) → HasPot trade stock share (Some m) → ResultFits w u m.item stock (trade_result_of trade u.holding stock share m)
   deal_fits Sell (enough, room) pot = record {
     money = room;
     amount = less (amount_of u.holding.items m.item) share holding_limit (amount_within u.holding m.item holds);
@@ -194,7 +206,7 @@ module _ (w : WorldValue) (u : Unit) (m : Market) (stock share : ℕ) (there : m
 pub stock_is : (c : CampaignValue) (r : ℕ) (q : Region) (i : ℕ) → get c.regions r ≡ Some q → stock_of c r i ≡ amount_of q.stocks i
 stock_is c r q i around = ap (λ o. option_map_or (λ (x : Region). amount_of x.stocks i) o 0) around
 
--- a region has no more of an item than its market takes
+-- a region's stock of an item is at most the limit of its market
 stock_low : (w : WorldValue) (c : CampaignValue) (r : ℕ) (q : Region) (i : ℕ) → IsEarly w c → get c.regions r ≡ Some q → amount_of q.stocks i ≤ stock_limit w r i
 stock_low w c r q i early around = by_amount (get q.stocks i) refl
   where
@@ -202,24 +214,26 @@ stock_low w c r q i early around = by_amount (get q.stocks i) refl
     by_amount None is = omega arith
     by_amount (Some a) is = ((early.steady.numbers.regions r q around).stocks i a is).1
 
--- who draws from the pot of a region and an item: the units that stand there and are told to trade it
+-- which units draw from the pot of a region and an item: those that are there and whose order names the item
 abbrev pub told_there : FinMap nat_cmp Unit → FinMap nat_cmp ℕ → ℕ × ℕ → ℕ → Bool
 told_there units items k n = stands_in k.0 (get units n) && is_for k.1 (get items n)
 
+-- the pots of SELL or BUY, by region and item
 abbrev pub item_pots : Trade → WorldValue → FinMap nat_cmp Unit → FinMap nat_cmp ℕ → DrawnPots (ℕ × ℕ)
-item_pots trade w units items = record { place = λ k. k.0; draws = told_there units items; left = λ k q. pot_by trade (limit_of w k.1 k.0) (amount_of q.stocks k.1) }
+item_pots trade w units items = record { pot_region = λ k. k.0; draws = told_there units items; left = λ k q. pot_by trade (limit_of w k.1 k.0) (amount_of q.stocks k.1) }
 
--- a pot has less by what is traded
+-- after a trade of `share` pieces the market's pot has that many less
 pot_less : (trade : Trade) (h : HoldingValue) (limit stock share : ℕ) (m : Market) → limit ≡ m.limit → HasPot trade stock share (Some m)
     → pot_by trade limit (trade_result_of trade h stock share m).stock + share ≡ pot_by trade limit stock
 pot_less Sell h limit stock share m same pot = omega (arith, same, pot)
 pot_less Buy h limit stock share m same pot = omega (arith, pot)
 
--- what a unit makes of a campaign by the market that it trades with, if there is one
+-- a campaign after a unit traded with a market; unchanged where there is none
 abbrev pub traded_at : Trade → CampaignValue → ℕ × ℕ → Unit → Option Market → CampaignValue
 traded_at trade c e u o = option_map_or (λ m. with_result c e.0 u m.item (trade_entry trade) (trade_result_of trade u.holding (stock_of c u.region m.item) e.1 m)) o c
 
 module _ (trade : Trade) (items : FinMap nat_cmp ℕ) (w : WorldValue) (c : CampaignValue) (e : ℕ × ℕ) where
+  -- the trade of a unit that is there is the one with the market of its order
   pub traded_is : (u : Unit) → get c.units e.0 ≡ Some u → (o : Option Market) → market_for w u (get items e.0) ≡ o → after_trade trade items w c e ≡ traded_at trade c e u o
   unfolding after_trade
   traded_is u is o at = unit_there c e.0 _ u is ∙ ap (traded_at trade c e u) at
@@ -231,24 +245,27 @@ module _ (trade : Trade) (items : FinMap nat_cmp ℕ) (w : WorldValue) (c : Camp
     market : IsMarketFor w can.at.unit (get items e.0) m
     market = market_is w can.world can.at.unit (get items e.0) m at
 
+    -- the trade of the unit is the one with this market
     made_is : after_trade trade items w c e ≡ dealt_to c e.0 can.at.unit m.item (trade_entry trade) deal
     made_is =
         traded_is can.at.unit can.at.there (Some m) at
         ∙ ap (λ stock. with_result c e.0 can.at.unit m.item (trade_entry trade) (trade_result_of trade can.at.unit.holding stock e.1 m)) (stock_is c can.at.unit.region can.at.region m.item can.at.around)
         ∙ deal_is w c e.0 can.at.unit can.at.region m.item (trade_entry trade) deal can.at.there can.at.around
 
-    fits : Fits w can.at.unit m.item (amount_of can.at.region.stocks m.item) deal
+    fits : ResultFits w can.at.unit m.item (amount_of can.at.region.stocks m.item) deal
     fits =
         let u = can.at.unit in
         let limit : stock_limit w u.region m.item ≡ m.limit = ap (λ o. option_map_or (λ (x : Market). x.limit) o most_amount) market.there in
         let low = subst (λ k. amount_of can.at.region.stocks m.item ≤ k) limit (stock_low w c u.region can.at.region m.item can.early can.at.around) in
         deal_fits w u m (amount_of can.at.region.stocks m.item) e.1 market.there (can.early.steady.numbers.units e.0 u can.at.there).1 low trade (subst (CanAfford trade u.holding e.1) at can.deal) (can.pot m at)
 
+    -- the trade with this market leaves the campaign well
     made_well : LeavesWell IsEarly (trade_moves trade holding_limit) w c (after_trade trade items w c e)
     made_well =
         subst (λ d. LeavesWell IsEarly (trade_moves trade holding_limit) w c d) (sym made_is)
         (deal_well w c e.0 can.at.unit can.at.region m.item (trade_entry trade) deal can.at.there can.at.around fits market.bounds.item (subst IsSome (sym market.there) refl) can.early)
 
+    -- the trade with this market drains the pots as it should
     made_drains : (units : FinMap nat_cmp Unit) → get units e.0 ≡ Some can.at.unit → Drains (item_pots trade w units items) c e (after_trade trade items w c e)
     made_drains units there =
         region_drains (item_pots trade w units items) c e (after_trade trade items w c e) can.at.unit.region can.at.region can.at.around (λ r. restocked r m.item deal.stock) (ap (λ (d : CampaignValue). d.regions) made_is)
@@ -279,6 +296,7 @@ module _ (trade : Trade) (items : FinMap nat_cmp ℕ) (w : WorldValue) (c : Camp
             ∙ no_less (pot_by trade (limit_of w k.1 k.0) (amount_of (with_amount_of can.at.region.stocks m.item deal.stock) k.1))
             ∙ ap (pot_by trade (limit_of w k.1 k.0)) (set_amount can.at.region.stocks m.item deal.stock k.1 ∙ ap (λ b. cond b deal.stock (amount_of can.at.region.stocks k.1)) is)
 
+  -- the trade of a unit leaves the campaign well
   pub traded_well : CanTrade trade items w c e → LeavesWell IsEarly (trade_moves trade holding_limit) w c (after_trade trade items w c e)
   traded_well can = by_market (market_for w can.at.unit (get items e.0)) refl
     where
@@ -296,6 +314,7 @@ module _ (trade : Trade) (items : FinMap nat_cmp ℕ) (w : WorldValue) (c : Camp
           nothing_drains (item_pots trade w units items) c e (after_trade trade items w c e) (ap (λ (d : CampaignValue). d.regions) (traded_is can.at.unit can.at.there None at)) (subst (CanAfford trade can.at.unit.holding e.1) at can.deal)
       by_market (Some m) at = made_drains can m at units there
 
+  -- the trade of a unit leaves the other units as they are
   pub traded_others : (k : ℕ) → k ≢ e.0 → get (after_trade trade items w c e).units k ≡ get c.units k
   unfolding after_trade
   traded_others k apart =
@@ -306,6 +325,7 @@ module _ (trade : Trade) (items : FinMap nat_cmp ℕ) (w : WorldValue) (c : Camp
 
 -- ---- who gets something
 
+-- SELL and BUY give only to units with a want, and to none more than it wants
 pub trades_give : (trade : Trade) (w : WorldValue) (c : CampaignValue) → GivesToWants (trade_pots trade) w c
 trades_give trade w c items wants n share is = items_give (get items) (trade_pot trade w c) wants c n share (sym (shares_at (get items) (trade_pot trade w c) wants c n) ∙ is)
 
@@ -323,6 +343,7 @@ module _ (h : HoldingValue) (m : Market) (told share : ℕ) (holds : IsHolding h
   room_for : (a k limit : ℕ) → a ≤ limit → k ≤ limit - a → a + k ≤ limit
   room_for a k limit fits few = omega (arith, fits, few)
 
+  -- a unit can afford at most what it wants
   pub wanted_fits : (trade : Trade) → share ≤ trade_want trade h told (Some m) → CanAfford trade h share (Some m)
   wanted_fits Sell low =
       let (few, payable) = few_of told (amount_of h.items m.item) ((holding_limit - h.money) / m.pays) low in
@@ -340,17 +361,19 @@ module _ (trade : Trade) (items : FinMap nat_cmp ℕ) (w : WorldValue) (world : 
   abbrev pots : DrawnPots (ℕ × ℕ)
   pots = item_pots trade w c.units items
 
-  -- a unit is there, and can trade so many
+  -- the unit of a share is there, and can afford so many
   abbrev CanHave : ℕ × ℕ → Type 0
   CanHave e = (u : Unit) × (get c.units e.0 ≡ Some u) × CanAfford trade u.holding e.1 (market_for w u (get items e.0))
 
+  -- the shares still to come can be traded in campaign `d`
   abbrev AreToTrade : CampaignValue → List (ℕ × ℕ) → Type 0
   AreToTrade = AreReady pots CanHave w c
 
-  -- there is room in the books for what they pay
+  -- the books have room for the money of all shares still to come
   abbrev CanBook : CampaignValue → List (ℕ × ℕ) → Type 0
   CanBook d es = HaveRoom (moved_times (length es) step_moves) d
 
+  -- where a share is at most the market's pot, the market has it
   has_pot : (limit stock share : ℕ) (m : Market) → limit ≡ m.limit → stock ≤ m.limit → share ≤ pot_by trade limit stock → HasPot trade stock share (Some m)
   has_pot limit stock share m same low few = by_trade trade few
     where
@@ -358,6 +381,7 @@ module _ (trade : Trade) (items : FinMap nat_cmp ℕ) (w : WorldValue) (world : 
       by_trade Sell few = omega (arith, same, low, few)
       by_trade Buy few = few
 
+  -- the first of the shares still to come can be traded
   first_can : (d : CampaignValue) (e : ℕ × ℕ) (es : List (ℕ × ℕ)) → AreToTrade d (e ∷ es) → CanBook d (e ∷ es) → CanTrade trade items w d e
   first_can d e es ready room =
       let (u, there, deal) = ready.fits.0 in
@@ -380,6 +404,7 @@ module _ (trade : Trade) (items : FinMap nat_cmp ℕ) (w : WorldValue) (world : 
         room = first_room step_moves d e es room;
       }
 
+  -- the shares still to come can be traded in turn
   all_can : (d : CampaignValue) (es : List (ℕ × ℕ)) → AreToTrade d es → CanBook d es → CanInTurn (CanTrade trade items w) (after_trade trade items w) d es
   all_can d [] ready room = tt
   all_can d (e ∷ es) ready room =
@@ -410,6 +435,7 @@ module _ (trade : Trade) (w : WorldValue) (world : IsWorld w) (c : CampaignValue
   abbrev MayTrade : ℕ × ℕ → Type 0
   MayTrade = CanHave trade named w world c
 
+  -- each unit can afford its share
   each_fits : Every (λ n share. MayTrade (n, share)) given
   each_fits n share is =
       let (u, t, there, own, low, fine, told) = given_is_named (trade_pots trade) w c (trades_give trade w c) os n share is in
@@ -423,6 +449,7 @@ module _ (trade : Trade) (w : WorldValue) (world : IsWorld w) (c : CampaignValue
       by_item u there asked None low fine told = none_some NoMarket (sym fine)
       by_item u there asked (Some i) low fine told = subst (λ o. CanAfford trade u.holding share (market_for w u o)) (sym (told i refl)) (by_market asked u there (market_for w u (Some i)) low)
 
+  -- each market's pot is enough for all shares
   all_enough : HaveEnough drawn_pots c shares
   all_enough k q around =
       let wants = wants_by (trade_pots trade) w c os in
@@ -439,9 +466,11 @@ module _ (trade : Trade) (w : WorldValue) (world : IsWorld w) (c : CampaignValue
   few : length shares ≤ most_units
   few = omega (arith, few_given (trade_pots trade) w c (trades_give trade w c) os, early.steady.numbers.few_units)
 
+  -- all steps together move each amount by less than 10^14
   little : (e : Entry) (t : Thing) → moved_times (length shares) moves e t ≤ trade_moves trade most_moved e t
   little e t = few_holdings (length shares) few (trade_entry trade) Money e t
 
+  -- all shares of SELL or BUY can be traded in turn
   pub can_share_out : CanInTurn (CanTrade trade named w) (after_trade trade named w) c shares
   can_share_out = all_can trade named w world c c shares (record {
     early = early;
@@ -460,10 +489,10 @@ module _ (trade : Trade) (w : WorldValue) (world : IsWorld w) (c : CampaignValue
 -- ---- what the code does
 
 -- the result of a trade can be booked
-pub can_settle : (trade : Trade) (items : FinMap nat_cmp ℕ) (w : WorldValue) (c : CampaignValue) (n share : ℕ) → CanTrade trade items w c (n, share)
+pub can_book_result : (trade : Trade) (items : FinMap nat_cmp ℕ) (w : WorldValue) (c : CampaignValue) (n share : ℕ) → CanTrade trade items w c (n, share)
     → (u : Unit) (m : Market) (stock : ℕ) (entry : Entry) (d : TradeResult) → get c.units n ≡ Some u → market_for w u (get items n) ≡ Some m → stock ≡ stock_of c u.region m.item
     → entry ≡ trade_entry trade → d ≡ trade_result_of trade u.holding stock share m → CanBookTrade c n entry d
-can_settle trade items w c n share can u m stock entry d there at stock_at entry_at d_at =
+can_book_result trade items w c n share can u m stock entry d there at stock_at entry_at d_at =
     let e : ℕ × ℕ = (n, share) in
     let same : can.at.unit ≡ u = same_Some _ _ (sym can.at.there ∙ there) in
     let mine : market_for w can.at.unit (get items n) ≡ Some m = ap (λ v. market_for w v (get items n)) same ∙ at in
@@ -481,7 +510,7 @@ can_settle trade items w c n share can u m stock entry d there at stock_at entry
       room = subst (λ f. HasRoom holding_limit (amount_in c.books f Money)) (sym entry_at) (only_room (trade_entry trade) Money (amount_in c.books (trade_entry trade) Money) (can.room (trade_entry trade) Money));
     }
 
--- no stock is above the largest amount
+-- each stock is at most 999,999,999
 pub stock_most : (w : WorldValue) (c : CampaignValue) (r i : ℕ) → IsWorld w → IsEarly w c → stock_of c r i ≤ most_amount
 stock_most w c r i world early = by_region (get c.regions r) refl
   where
@@ -502,11 +531,14 @@ stock_most w c r i world early = by_region (get c.regions r) refl
 
 -- a unit with other goods, and then the stock of a region
 module _ (c d e : MarkedCampaign) (n region item stock : ℕ) (f : HoldingValue → HoldingValue) (set : ChangesHolding c d n f) (put : e.value ≡ with_stock d.value region item stock) where
+  -- the books stay as they were
   pub settled_books : e.value.books ≡ c.value.books
   settled_books = ap (λ (s : CampaignValue). s.books) put ∙ ap (λ (s : CampaignValue). s.books) set.value
 
+  -- setting a unit's goods and then a stock sets the dirty flags of all that changes
   pub settled_marks : e.marks ≡ mark_stock d region item stock → MarksChanges c e
   settled_marks put_marks = marks-trans c d e set.marks (marks_by d e _ put put_marks (marks-stock d region item stock))
 
+  -- the campaign after a unit's goods and a stock were set
   pub settled_what : (u : Unit) → get c.value.units n ≡ Some u → e.value ≡ with_stock (with_holding c.value n (f u.holding)) region item stock
   settled_what u is = put ∙ ap (λ s. with_stock s region item stock) (changed_held f c.value d.value n set.value u is ∙ sym (ap (with_held c.value n (f u.holding)) is))

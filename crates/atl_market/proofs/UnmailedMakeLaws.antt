@@ -20,7 +20,7 @@ use Rattle.atl_state.proofs.RegionLaws.{changed-known}
 use Rattle.atl_instant.proofs.PhaseSpecLaws.{PhaseLeavesUnmailed}
 use Rattle.atl_instant.proofs.UnmailedLaws.{HaveTheirMen, OthersHaveMen, SparesMen, carried_leaves, items_of_no_worse, men_put, men_same, men_stay, men_twice, men_unless, others_men, own_faction, unmailed_spared}
 use Rattle.atl_instant.proofs.UnmailedStepLaws.{place_men}
-use Rattle.atl_market.specs.Build.{after_building_on, after_start, begin, begin_fault, build_effect, build_spec, build_step, go_on, go_on_at, inside_fault, is_building, outside_fault, size_added, with_kind, with_new}
+use Rattle.atl_market.specs.Build.{after_building_on, after_start, begin, begin_fault, build_effect, build_spec, build_step, go_on, go_on_at, inside_fault, is_building, outside_fault, size_added, with_kind, with_new_structure}
 use Rattle.atl_market.specs.Goods.{with_made, with_used}
 use Rattle.atl_market.specs.Produce as produce
 use Rattle.atl_market.proofs.ThereLaws.{by_option, by_unit}
@@ -28,7 +28,7 @@ use Rattle.atl_market.proofs.UnmailedPotLaws.{ordered_for, others_items, paid_me
 
 -- ---- what a unit uses
 
--- a unit that is there has so much of an item
+-- a unit with so much of an item
 abbrev item_set : (item amount : ℕ) → Unit → Unit
 item_set i amount u = record u { holding = record u.holding { items = with_amount_of u.holding.items i amount } }
 
@@ -43,7 +43,7 @@ used_men c n i amount =
 begun_men : (c : CampaignValue) (n kind : ℕ) (k : Kind) (region size : ℕ) → HaveTheirMen c (after_start c n kind k region size)
 begun_men c n kind k region size =
     let used = with_used c n k.material size in
-    let new = with_new used kind k region size in
+    let new = with_new_structure used kind k region size in
     men_twice c used (with_place new n region c.next_structure) (used_men c n k.material size)
     (men_twice used new (with_place new n region c.next_structure) (men_same used new refl) (place_men new n region c.next_structure))
 
@@ -51,8 +51,8 @@ begin_men : (w : WorldValue) (c : CampaignValue) (n kind : ℕ) (k : Kind) (u : 
 unfolding begin
 begin_men w c n kind k u = let size = size_added k u.holding 0 in men_unless c (after_start c n kind k u.region size) (Done size) (begin_fault w c u k) (begun_men c n kind k u.region size)
 
-gone_on_men : (c : CampaignValue) (n material size place done : ℕ) → HaveTheirMen c (after_building_on c n material size place done)
-gone_on_men c n material size place done = let used = with_used c n material size in men_twice c used (after_building_on c n material size place done) (used_men c n material size) (men_same used (after_building_on c n material size place done) refl)
+gone_on_men : (c : CampaignValue) (n material size structure done : ℕ) → HaveTheirMen c (after_building_on c n material size structure done)
+gone_on_men c n material size structure done = let used = with_used c n material size in men_twice c used (after_building_on c n material size structure done) (used_men c n material size) (men_same used (after_building_on c n material size structure done) refl)
 
 go_on_men : (w : WorldValue) (c : CampaignValue) (n : ℕ) (u : Unit) → HaveTheirMen c (go_on w n c u).0
 unfolding go_on

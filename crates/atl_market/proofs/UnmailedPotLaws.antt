@@ -30,7 +30,7 @@ use Rattle.atl_market.specs.declared.trade.Trade.{Trade}
 use Rattle.atl_market.specs.declared.trade.Trade.TheVariants.{Buy, Sell}
 use Rattle.atl_market.specs.Unordered.{OthersAreNoWorse, is_ordered}
 use Rattle.atl_market.specs.Work.{after_work, wages_for, work_orders, work_pots, work_spec}
-use Rattle.atl_market.proofs.OrderedLaws.{unordered_stays}
+use Rattle.atl_market.proofs.UnorderedLaws.{unordered_stays}
 use Rattle.atl_market.proofs.PotLaws.{pots_give}
 use Rattle.atl_market.proofs.RecruitLaws.{recruited_others}
 use Rattle.atl_market.proofs.ThereLaws.{by_region, by_unit}
@@ -38,6 +38,7 @@ use Rattle.atl_market.proofs.TradeLaws.{traded_others, trades_give}
 
 -- ---- all phases with pots
 
+-- the orders of a phase by its keywords, without regard to the campaign
 abbrev pub ordered_for : (Verb → Bool) → CampaignValue → MonthValue → List Task
 ordered_for is_of c = orders_by_unit is_of
 
@@ -52,10 +53,10 @@ module _ (p : PotMeaning) (w : WorldValue) (c : CampaignValue) where
       nobody true = refl
       nobody false = refl
 
-  -- what is told of the orders tells of nobody who starved
-  told_of_pots : (events : List Event) (os : List Task) (n : ℕ) → starved_in (events ++ events_by p w c os) n ≡ starved_in events n
+  -- the events of a phase with pots report of no unit that men starved
+  pots_report_none_starved : (events : List Event) (os : List Task) (n : ℕ) → starved_in (events ++ events_by p w c os) n ≡ starved_in events n
   unfolding events_by
-  told_of_pots events os n =
+  pots_report_none_starved events os n =
       sum_by-append (λ (e : Event). if e.unit == n then men_starved_by e.verb e.outcome else 0) events (map (event_of p w c (given_by p w c os)) os)
       ∙ ap (λ x. starved_in events n + x) (none_starve (given_by p w c os) os n) ∙ plus_none (starved_in events n)
     where
@@ -64,19 +65,21 @@ module _ (p : PotMeaning) (w : WorldValue) (c : CampaignValue) where
 
 -- a phase with pots
 module _ (p : PotMeaning) (orders : CampaignValue → MonthValue → List Task) where
+  -- the meaning of a phase with pots that finds its orders by `orders`
   abbrev pub shared : Meaning
   shared = pots_meaning p orders
 
+  -- such a phase leaves what it should to units of a faction without a mailing, if it keeps their men and their items
   pub shared_leave : {keeps : Frame} → ((w : WorldValue) (c : CampaignValue) (m : MonthValue) → UnmailedAre HasItsMen m c (shared w c m).0) → ((w : WorldValue) (c d : CampaignValue) (m : MonthValue) → keeps w m c d → UnmailedAre HasItsItems m c d) → LeavesUnmailed shared keeps
   shared_leave {keeps} men items =
-      whole_leaves {meaning = shared} {keeps = keeps} (λ w c m. refl) (λ w c m n. told_of_pots p w c m.events (orders c m) n) (λ w c m h. men w c m) (λ w c m h. items w c (shared w c m).0 m h)
+      whole_leaves {meaning = shared} {keeps = keeps} (λ w c m. refl) (λ w c m n. pots_report_none_starved p w c m.events (orders c m) n) (λ w c m h. men w c m) (λ w c m h. items w c (shared w c m).0 m h)
 
-  -- payments that keep the men of all units
+  -- where each payment keeps the men of all units, the phase keeps those of units of a faction without a mailing
   pub paid_men : ((w : WorldValue) (items : FinMap nat_cmp ℕ) (d : CampaignValue) (e : ℕ × ℕ) → HaveTheirMen d (p.paid items w d e)) → (w : WorldValue) (c : CampaignValue) (m : MonthValue) → UnmailedAre HasItsMen m c (shared w c m).0
   unfolding after_sharing
   paid_men paid w c m n u there none = let items = items_by p w c (orders c m) in men_in_turn (p.paid items w) (paid w items) c (entries (given_by p w c (orders c m))) n u there
 
--- a phase that takes nothing from any unit
+-- a phase after which no unit is worse off keeps the items of units of a faction without a mailing
 pub none_worse : (w : WorldValue) (c d : CampaignValue) (m : MonthValue) → AreNoWorse c d → UnmailedAre HasItsItems m c d
 none_worse w c d m h n u there none = let (v, behind, better) = h n u there in record { unit = v; there = behind; spared = items_of_no_worse u v better }
 
@@ -123,7 +126,7 @@ module _ (is_of : Verb → Bool) (m : MonthValue) where
       let ts = orders_by_unit is_of m in
       none_listed n u.faction ts (recursion_from_All (λ t. t.faction ≢ u.faction) ts (none_ordered is_of ByUnit m u.faction none))
 
-  -- a phase that takes nothing from units without an order takes nothing from it
+  -- a phase that takes nothing from units without an order keeps the items of units of a faction without a mailing
   pub others_items : (c d : CampaignValue) → OthersAreNoWorse (orders_by_unit is_of m) c d → UnmailedAre HasItsItems m c d
   others_items c d h n u there none = let (v, behind, better) = h n u there (unordered n u none) in record { unit = v; there = behind; spared = items_of_no_worse u v better }
 

@@ -1,4 +1,4 @@
--- Who gets something of a pot in a phase: each by an order, and at most what it wants.
+-- Laws that each unit that gets something of a pot in a phase has an order without fault, and gets at most what it wants by it.
 use Rattle.std.proofs.Common.{◌≡◌, ◌≢◌, ℕ, ◌==◌, ◌<◌, ◌≤◌, Bool, true, false, cond, List, [], ◌∷◌, ◌++◌, length, Option, Some, None, is_some, refl, sym, ap, subst, ◌∙◌, inl, inr, arith}
 use Rattle.std.specs.Prelude.{Result, Ok, Err, is_ok, option_map}
 use Rattle.std.specs.List.{AllByRecursion, IsDistinct, cons_option, filter_map}
@@ -32,32 +32,34 @@ use Rattle.atl_market.specs.PotPhase.{PotMeaning, given_by, item_by, item_in, it
 use Rattle.atl_market.specs.Pots.{AreWants}
 use Rattle.atl_market.specs.Puts.{with_any, with_each}
 
--- who gets something wants that much at least
+-- a phase gives only to units with a want, and to none more than it wants
 abbrev pub GivesToWants : PotMeaning → WorldValue → CampaignValue → Type 0
 GivesToWants p w c =
     (items wants : FinMap nat_cmp ℕ) (n share : ℕ) → get (p.grants items w c wants) n ≡ Some share
     → (want : ℕ) × (get wants n ≡ Some want) × (share ≤ want)
 
--- entries put one list behind the other
+-- two lists of entries put one after the other are put as the first and then the second
 pub appended_entries : {V : Type 0} (m : FinMap nat_cmp V) (es fs : List (ℕ × V)) → with_each m (es ++ fs) ≡ with_each (with_each m es) fs
 appended_entries m es fs = fold-append (λ so_far entry. insert so_far entry.0 entry.1) m es fs
 
--- an entry, if there is one, and others behind it
+-- an entry, if there is one, put ahead of others, is put first
 pub any_then : {V : Type 0} (m : FinMap nat_cmp V) (o : Option (ℕ × V)) (es : List (ℕ × V)) → with_each m (cons_option o es) ≡ with_each (with_any m o) es
 any_then m None es = refl
 any_then m (Some e) es = refl
 
+-- what holds of all entries of a map and of a list holds of all of the map in which the list is put
 pub every-with_each : (P : ℕ → ℕ → Type 0) (m : FinMap nat_cmp ℕ) (es : List (ℕ × ℕ)) → AllByRecursion (λ e. P e.0 e.1) es → Every P m → Every P (with_each m es)
 every-with_each P m [] each old = old
 every-with_each P m (e ∷ es) each old = every-with_each P (insert m e.0 e.1) es each.1 (every-insert P m e.0 e.1 each.0 old)
 
+-- a map of wants stays one with a further want of at most 999,999,999
 pub one_want : (m : FinMap nat_cmp ℕ) (n want : ℕ) → want ≤ most_amount → AreWants m → AreWants (insert m n want)
 one_want m n want low old = every-insert (λ number want. want ≤ most_amount) m n want low old
 
 differs : (k n : ℕ) → k < n → eq_by_cmp nat_cmp k n ≡ false
 differs k n l = sym (unsigned_ties k n) ∙ (let t : (k == n) ≡ false = grind (arith, nat_tests) in t)
 
--- numbers that rise differ
+-- entries sorted by their numbers, each once, differ in their numbers
 rise_apart : (es : List (ℕ × ℕ)) → Rise es → IsDistinct (eq_by_cmp nat_cmp) (keys_of es)
 unfolding IsDistinct
 rise_apart [] h = tt
@@ -68,40 +70,44 @@ rise_apart (e ∷ es) h = (others e.0 es h.0, rise_apart es h.1)
     others k (f ∷ es) h = (differs k f.0 h.0, others k es h.1)
 
 module _ (p : PotMeaning) (w : WorldValue) (c : CampaignValue) where
-  -- a unit wants so much by some order for it without fault, and the item that this names is the unit's
+  -- some order for unit `n` has no fault and wants so much, and the item that it names, if any, is the unit's in `items`
   abbrev IsWanted : FinMap nat_cmp ℕ → ℕ → ℕ → Type 0
   IsWanted items n want =
       (u : Unit) × (t : Task) × (get c.units n ≡ Some u) × (t.unit ≡ n) × (want ≡ p.want w u t) × (p.fault w u t ≡ None) × ((i : ℕ) → item_in t.order_value.operands ≡ Some i → get items n ≡ Some i)
 
-  -- a unit that carries an order out
-  pub record Carries (t : Task) (u : Unit) : Type 0 where
+  -- unit `u` carries order `t` out: it is there, its own faction wrote the order, and there is no fault
+  pub record CarriesOut (t : Task) (u : Unit) : Type 0 where
     pub there : get c.units t.unit ≡ Some u
     pub own : (u.faction == t.faction) ≡ true
     pub fine : p.fault w u t ≡ None
 
+  -- the unit of an order unless the phase finds a fault, or NotYours without a unit
   abbrev unless_fault : Task → Option Unit → Result Unit EventFault
   unless_fault t o = option_map_or (λ v. option_map_or Err (p.fault w v t) (Ok v)) o (Err NotYours)
 
-  pub carries : (t : Task) (u : Unit) → unit_for p w c t ≡ Ok u → Carries t u
+  -- a unit that is returned for an order carries it out
+  pub carries_out : (t : Task) (u : Unit) → unit_for p w c t ≡ Ok u → CarriesOut t u
   unfolding unit_for
-  carries t u is = by_unit (get c.units t.unit) refl is
+  carries_out t u is = by_unit (get c.units t.unit) refl is
     where
-      by_fault : (v : Unit) → get c.units t.unit ≡ Some v → (v.faction == t.faction) ≡ true → (f : Option EventFault) → p.fault w v t ≡ f → option_map_or Err f (Ok v) ≡ Ok u → Carries t u
+      by_fault : (v : Unit) → get c.units t.unit ≡ Some v → (v.faction == t.faction) ≡ true → (f : Option EventFault) → p.fault w v t ≡ f → option_map_or Err f (Ok v) ≡ Ok u → CarriesOut t u
       by_fault v at own (Some f) fault h = none_some u (ap result_ok h)
-      by_fault v at own None fault h = subst (Carries t) (same_Some _ _ (ap result_ok h)) (record { there = at; own = own; fine = fault })
+      by_fault v at own None fault h = subst (CarriesOut t) (same_Some _ _ (ap result_ok h)) (record { there = at; own = own; fine = fault })
 
-      by_test : (v : Unit) → get c.units t.unit ≡ Some v → (b : Bool) → (v.faction == t.faction) ≡ b → unless_fault t (cond b (Some v) None) ≡ Ok u → Carries t u
+      by_test : (v : Unit) → get c.units t.unit ≡ Some v → (b : Bool) → (v.faction == t.faction) ≡ b → unless_fault t (cond b (Some v) None) ≡ Ok u → CarriesOut t u
       by_test v at true own h = by_fault v at own (p.fault w v t) refl h
       by_test v at false own h = none_some u (ap result_ok h)
 
-      by_unit : (o : Option Unit) → get c.units t.unit ≡ o → unless_fault t (of_faction t.faction o) ≡ Ok u → Carries t u
+      by_unit : (o : Option Unit) → get c.units t.unit ≡ o → unless_fault t (of_faction t.faction o) ≡ Ok u → CarriesOut t u
       by_unit None at h = none_some u (ap result_ok h)
       by_unit (Some v) at h = by_test v at (v.faction == t.faction) refl h
 
   module _ (m items : FinMap nat_cmp ℕ) (t : Task) where
+    -- the entry with what the unit of an order wants, if there is one
     abbrev wanting : Result Unit EventFault → Option (ℕ × ℕ)
     wanting r = option_map (λ u. (t.unit, p.want w u t)) (result_ok r)
 
+    -- the entry with the item that the order names, if it names one
     abbrev named : Option ℕ → Option (ℕ × ℕ)
     named s = option_map (λ i. (t.unit, i)) s
 
@@ -112,11 +118,12 @@ module _ (p : PotMeaning) (w : WorldValue) (c : CampaignValue) where
     item_elsewhere None n apart = refl
     item_elsewhere (Some i) n apart = get-insert_other items t.unit n i apart
 
+    -- one order: what its unit wants is wanted by that order
     wanted_by : (r : Result Unit EventFault) → unit_for p w c t ≡ r → Every (IsWanted items) m → Every (IsWanted (with_any items (cond (is_ok r) (named (item_in t.order_value.operands)) None))) (with_any m (wanting r))
     wanted_by (Err f) is old = old
     wanted_by (Ok u) is old = λ n want there. elim (cases_eq n t.unit) [
       | inl same ↦
-          let of = carries t u is in
+          let of = carries_out t u is in
           let mine : Some (p.want w u t) ≡ Some want = sym (get-insert_same m t.unit (p.want w u t)) ∙ ap (get (insert m t.unit (p.want w u t))) (sym same) ∙ there in (
             u,
             t,
@@ -131,6 +138,7 @@ module _ (p : PotMeaning) (w : WorldValue) (c : CampaignValue) where
           (v, o, here, own, wanted, fine, λ i is_i. item_elsewhere (item_in t.order_value.operands) n apart ∙ names i is_i)
     ]
 
+  -- all orders: what the units want is wanted by them
   all_wanted : (m items : FinMap nat_cmp ℕ) (ts : List Task) → Every (IsWanted items) m → Every (IsWanted (with_each items (filter_map (item_by p w c) ts))) (with_each m (filter_map (want_by p w c) ts))
   all_wanted m items [] old = old
   all_wanted m items (t ∷ ts) old =
@@ -144,7 +152,7 @@ module _ (p : PotMeaning) (w : WorldValue) (c : CampaignValue) where
       (subst (λ k. Every (IsWanted k) (with_each empty (filter_map (want_by p w c) ts))) (put_in_turn (filter_map (item_by p w c) ts)) (all_wanted empty empty ts (every-empty (IsWanted empty))))
 
   module _ (gives : GivesToWants p w c) where
-    -- a unit gets at most what it wants by some order without fault, and the item that this names is the unit's
+    -- each unit gets at most what it wants by some order without fault, and the item that this names is the unit's
     pub given_is_named : (ts : List Task) →
         Every (λ n share. (u : Unit) × (t : Task) × (get c.units n ≡ Some u) × (t.unit ≡ n) × (share ≤ p.want w u t) × (p.fault w u t ≡ None) × ((i : ℕ) → item_in t.order_value.operands ≡ Some i → get (items_by p w c ts) n ≡ Some i)) (given_by p w c ts)
     given_is_named ts n share is =
@@ -152,10 +160,11 @@ module _ (p : PotMeaning) (w : WorldValue) (c : CampaignValue) where
         let (u, t, there, own, same, fine, named) = wants_are_wanted ts n want wanted in
         (u, t, there, own, subst (λ k. share ≤ k) same low, fine, named)
 
+    -- each unit gets at most what it wants by some order for it
     pub given_is_wanted : (ts : List Task) → Every (λ n share. (u : Unit) × (t : Task) × (get c.units n ≡ Some u) × (t.unit ≡ n) × (share ≤ p.want w u t)) (given_by p w c ts)
     given_is_wanted ts n share is = let (u, t, there, own, low, fine, named) = given_is_named ts n share is in (u, t, there, own, low)
 
-    -- no more units get something than there are
+    -- each unit that gets something is there
     in_units : (os : List Task) (n : ℕ) → is_some (get (given_by p w c os) n) ≡ true → is_some (get c.units n) ≡ true
     in_units os n got = by_share (get (given_by p w c os) n) refl got
       where
@@ -163,6 +172,7 @@ module _ (p : PotMeaning) (w : WorldValue) (c : CampaignValue) where
         by_share None is h = absurd (false≢true h)
         by_share (Some share) is h = let (u, o, there, own, low) = given_is_wanted os n share is in ap is_some there
 
+    -- no more units get something than there are
     pub few_given : (os : List Task) → length (entries (given_by p w c os)) ≤ len c.units
     few_given os =
         let m = given_by p w c os in

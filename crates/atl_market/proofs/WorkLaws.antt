@@ -1,4 +1,4 @@
--- Work leaves a campaign well.
+-- Laws of WORK: it leaves a campaign well, takes nothing from a unit, and its wages can be paid in turn.
 use Rattle.std.proofs.Common.{◌≡◌, ◌≢◌, ◌==◌, ℕ, ◌+◌, ◌-◌, ◌*◌, ◌/◌, ◌%◌, ◌≤◌, ◌<◌, false, cond, Option, Some, None, List, [], ◌∷◌, length, refl, sym, ap, subst, ◌∙◌, arith}
 use Rattle.std.specs.Prelude.{pos, ◌+ℤ◌, fold}
 use Rattle.std.specs.List.{AllByRecursion}
@@ -42,7 +42,7 @@ use Rattle.atl_market.specs.PotPhase.{after_sharing, given_by}
 use Rattle.atl_market.specs.Bounds.{CanInTurn}
 use Rattle.atl_market.specs.Work.{after_work, places_at, wages_for, work_moves, work_pots, work_want}
 use Rattle.atl_market.proofs.DrawLaws.{all_pairs}
-use Rattle.atl_market.proofs.MoneyInTurnLaws.{others_stay, paid, richer, richer_is, richer_no_worse}
+use Rattle.atl_market.proofs.MoreMoneyLaws.{others_stay, paid, richer, richer_is, richer_no_worse}
 use Rattle.atl_market.proofs.ThereLaws.{by_unit, unit_there}
 use Rattle.atl_market.proofs.TurnLaws.{few_holdings, first_room, later_room, turns_leave_well}
 use Rattle.atl_market.proofs.PotLaws.{pots_give}
@@ -52,18 +52,22 @@ use Rattle.atl_market.specs.Payable.{CanWork}
 -- ---- one unit gets its wages
 
 module _ (w : WorldValue) (c : CampaignValue) (n : ℕ) (u : Unit) (money : ℕ) (is : get c.units n ≡ Some u) where
+  -- what the unit holds after it was paid
   abbrev more : HoldingValue
   more = paid c n u money
 
+  -- the campaign in which the unit holds that, without booking
   abbrev given : CampaignValue
   given = richer c n u money
 
+  -- a campaign in which unit `n` got wages, which are booked
   abbrev pub wages_paid : CampaignValue
   wages_paid = with_amount given Wages Money (pos money)
 
   wages_are : with_amount (with_money c n (u.holding.money + money)) Wages Money (pos money) ≡ wages_paid
   wages_are = ap (λ d. with_amount d Wages Money (pos money)) (richer_is c n u money is)
 
+  -- the total of each thing grows by what is booked
   total_paid : (t : Thing) → pos (total wages_paid t) ≡ pos (total c t) +ℤ share_of t Money (pos money)
   total_paid t = total_of t (total-amount given Wages Money t (pos money)) (total-unit_amount w c n u more is t)
     where
@@ -91,7 +95,7 @@ module _ (w : WorldValue) (c : CampaignValue) (n : ℕ) (u : Unit) (money : ℕ)
     near = booked-near c.books Wages Money (pos money) holding_limit (within-pos money holding_limit (omega (arith, fits)));
   }
 
-  -- nothing else changes
+  -- the other units stay as they are
   pub wages_leave_others : (k : ℕ) → k ≢ n → get wages_paid.units k ≡ get c.units k
   wages_leave_others k apart = others_stay c n u money is k apart
 
@@ -100,6 +104,7 @@ module _ (w : WorldValue) (c : CampaignValue) (n : ℕ) (u : Unit) (money : ℕ)
 
 -- ---- what is marked
 
+-- setting a unit's money and booking wages sets the dirty flags of all that changes
 pub wages_marks : (c d e : MarkedCampaign) (n money unit_amount : ℕ) → d.value ≡ with_money c.value n unit_amount → d.marks ≡ mark_unit_row c n
     → e.value ≡ with_amount d.value Wages Money (pos money) → e.marks ≡ mark_amount d Wages Money → MarksChanges c e
 wages_marks c d e n money unit_amount d_is d_marks e_is e_marks =
@@ -109,10 +114,12 @@ wages_marks c d e n money unit_amount d_is d_marks e_is e_marks =
 -- ---- one step
 
 module _ (w : WorldValue) (c : CampaignValue) (e : ℕ × ℕ) where
+  -- the work of a unit that is there gives it its wages
   pub worked_is : (u : Unit) (is : get c.units e.0 ≡ Some u) → after_work w c e ≡ wages_paid w c e.0 u (wages_for w u.region e.1) is
   unfolding after_work
   worked_is u is = unit_there c e.0 _ u is ∙ wages_are w c e.0 u (wages_for w u.region e.1) is
 
+  -- the work of a unit leaves the campaign well
   pub worked_well : CanWork w c e → LeavesWell IsSteady (work_moves holding_limit) w c (after_work w c e)
   worked_well can =
       subst (λ d. LeavesWell IsSteady (work_moves holding_limit) w c d) (sym (worked_is can.unit can.there))
@@ -139,7 +146,7 @@ work_keeps_units w c os = each_no_worse w c (entries (given_by work_pots w c os)
 
 -- ---- all steps can be taken
 
--- a unit is there and has room for the wages of so many places
+-- the unit of a share is there and has room for the wages of so many work places
 abbrev pub HasRoomFor : WorldValue → CampaignValue → ℕ × ℕ → Type 0
 HasRoomFor w c e = (u : Unit) × (get c.units e.0 ≡ Some u) × (u.holding.money + wages_for w u.region e.1 ≤ holding_limit)
 
@@ -147,10 +154,12 @@ module _ (w : WorldValue) where
   abbrev step_moves : BookBound
   step_moves = work_moves holding_limit
 
+  -- the units still to come have room after another unit changed
   still : (c d : CampaignValue) (n : ℕ) (es : List (ℕ × ℕ)) → ((k : ℕ) → k ≢ n → get d.units k ≡ get c.units k) → AllByRecursion (λ f. n < f.0) es → AllByRecursion (HasRoomFor w c) es → AllByRecursion (HasRoomFor w d) es
   still c d n [] same above all = tt
   still c d n (f ∷ es) same above ((u, there, fits), all) = ((u, same f.0 (λ e. absurd (omega (arith, e, above.0))) ∙ there, fits), still c d n es same above.1 all)
 
+  -- shares for whose wages the units and the books have room can be paid in turn
   pub work_in_turn : (c : CampaignValue) (es : List (ℕ × ℕ)) → Rise es → IsSteady w c → HaveRoom (moved_times (length es) step_moves) c → AllByRecursion (HasRoomFor w c) es → CanInTurn (CanWork w) (after_work w) c es
   work_in_turn c [] rise steady room all = tt
   work_in_turn c (e ∷ es) rise steady room ((u, there, fits), all) =
@@ -158,7 +167,7 @@ module _ (w : WorldValue) where
       let well = worked_well w c e can in
       (can, work_in_turn (after_work w c e) es rise.1 well.leaves_it (later_room step_moves w c (after_work w c e) e es well room) (still c (after_work w c e) e.0 es (worked_others w c e can) rise.0 all))
 
-  -- what a unit wants it has room for
+  -- a unit has room for the wages of as many work places as it wants
   wanted_fits : (u : Unit) (o : Option Terrain) (places : ℕ) → u.holding.money ≤ holding_limit → places ≤ work_want u o → u.holding.money + places * option_map_or (λ (t : Terrain). t.wage) o 0 ≤ holding_limit
   wanted_fits u None places fits low = omega (arith, fits)
   wanted_fits u (Some t) places fits low =
@@ -172,6 +181,7 @@ module _ (w : WorldValue) where
     abbrev shares : List (ℕ × ℕ)
     shares = entries (given_by work_pots w c os)
 
+    -- each unit has room for its wages
     each_fits : Every (λ n places. HasRoomFor w c (n, places)) (given_by work_pots w c os)
     each_fits n places is =
         let (u, o, there, own, low) = given_is_wanted work_pots w c (λ items. pots_give (places_at w) c) os n places is in
@@ -180,9 +190,11 @@ module _ (w : WorldValue) where
     few : length shares ≤ most_units
     few = omega (arith, few_given work_pots w c (λ items. pots_give (places_at w) c) os, steady.numbers.few_units)
 
+    -- all steps together move each amount by less than 10^14
     little : (e : Entry) (t : Thing) → moved_times (length shares) step_moves e t ≤ work_moves most_moved e t
     little e t = few_holdings (length shares) few Wages Money e t
 
+    -- all shares of WORK can be paid in turn
     pub can_share_out : HaveRoom (work_moves most_moved) c → CanInTurn (CanWork w) (after_work w) c shares
     can_share_out room = work_in_turn c shares (entries_rise (given_by work_pots w c os)) steady (room_less (moved_times (length shares) step_moves) (work_moves most_moved) c little room) (all_pairs (HasRoomFor w c) shares (each-from_every (λ n places. HasRoomFor w c (n, places)) (given_by work_pots w c os) each_fits))
 

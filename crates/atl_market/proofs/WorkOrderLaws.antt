@@ -1,4 +1,4 @@
--- The orders of WORK: no two have one key, so those that are collected and sorted are what the map lists.
+-- Laws of the orders of WORK: no two have the same key, so the code's sorted list is the one that is defined.
 use Rattle.std.proofs.Common.{◌≡◌, ℕ, ◌≢◌, ◌==◌, ◌<◌, ◌&&◌, ◌||◌, ◌++◌, not, Bool, true, false, cond, List, [], ◌∷◌, map, filter, get_or, is_some, T, Some, refl, sym, ap, subst, ◌∙◌, inl, inr, arith, IsPermutation, flat_map}
 use Rattle.std.specs.Prelude.{nat_lt}
 use Rattle.std.specs.declared.cmp.Ordering.{Ordering}
@@ -38,9 +38,10 @@ is_so : (b : Bool) → T b → b ≡ true
 is_so true h = refl
 is_so false h = absurd h
 
--- ---- values that a map lists under keys of their own differ
+-- ---- values that a map lists, each under its own key, differ in their keys
 
 module _ {K X : Type 0} (R : K → K → Ordering) (exact : IsAntisymmetric R) (key : X → K) where
+  -- each entry is under the key of its value
   abbrev AreKeyed : List (K × X) → Type 0
   AreKeyed = AllByRecursion (λ e. e.0 ≡ key e.1)
 
@@ -74,29 +75,36 @@ module _ {K X : Type 0} (R : K → K → Ordering) (exact : IsAntisymmetric R) (
   listed_apart [] up all = tt
   listed_apart (e ∷ es) up all = let parts = and_parts _ _ up in (others e.1 e.0 es all.0 parts.0 all.1, listed_apart es parts.1 all.1)
 
+  -- the values of a map from their keys differ in their keys
   values_apart : IsTotalOrder R → (xs : List X) → IsDistinct (λ x y. eq_by_cmp R (key x) (key y)) (values (from_entries {R = R} (map (λ x. (key x, x)) xs)))
   values_apart o xs = let m = from_entries {R = R} (map (λ x. (key x, x)) xs) in listed_apart (entries m) (is_so _ (entries_sorted m)) (keyed-listed o xs)
 
 -- ---- keys that differ
 
+-- the key of an order of WORK: unit, line, faction, index in the mailing
 abbrev work_key : Task → List ℕ
 work_key = key_of ByUnit
 
+-- whether two orders have the same key
 abbrev same_work : Task → Task → Bool
 same_work a b = eq_by_cmp (slice_cmp nat_cmp) (work_key a) (work_key b)
 
+-- orders that `same_work` finds alike have the same key
 keys_tie : (a b : Task) → same_work a b ≡ true → work_key a ≡ work_key b
 keys_tie a b h = slice_cmp-IsAntisymmetric nat_cmp-IsAntisymmetric (work_key a) (work_key b) ((Equal-is (slice_cmp nat_cmp (work_key a) (work_key b))).0 h)
 
+-- orders of which no two are of one unit and one faction differ in their keys
 apart_by : (a b : Task) → (a.unit ≡ b.unit → a.faction ≡ b.faction → ⊥) → same_work a b ≡ false
 apart_by a b differ = false_from_ne_true (same_work a b) (λ h. let e = keys_tie a b h in differ (ap (λ k. get_or k 0 0) e) (ap (λ k. get_or k 2 0) e))
 
+-- no two month-long orders have the same key
 long_apart : (m : MonthValue) → IsDistinct same_work (orders_by_unit is_month_long m)
 long_apart m = values_apart (slice_cmp nat_cmp) (slice_cmp-IsAntisymmetric nat_cmp-IsAntisymmetric) (key_of ByUnit) nat_list_cmp_total _
 
 -- ---- the units that have an order of their own faction
 
 module _ (c : CampaignValue) where
+  -- an order of a unit's own faction has its unit in the map of writers
   abbrev IsListed : FinMap nat_cmp ℕ → Task → Type 0
   IsListed writers o = is_of_faction o.faction (get c.units o.unit) ≡ true → is_some (get writers o.unit) ≡ true
 
@@ -112,9 +120,11 @@ module _ (c : CampaignValue) where
   -- ---- the work of units without an order
 
   module _ (os : List Task) where
+    -- the map of the units that have an order of their own faction
     abbrev writers : FinMap nat_cmp ℕ
     writers = own_writers c os
 
+    -- an order is the work of a unit without an order: of its own faction, and not in the map of writers
     pub record IsIdle (o : Task) : Type 0 where
       pub unit : Unit
       pub there : get c.units o.unit ≡ Some unit
@@ -129,16 +139,19 @@ module _ (c : CampaignValue) where
     idle_each [] h = tt
     idle_each ((n, u) ∷ es) h = append_each IsIdle (idle_by writers (n, u)) (flat_map (idle_by writers) es) (idle_if n u _ refl h.0) (idle_each es h.1)
 
+    -- each order that is added for a unit without an order is one
     each_idle : AllByRecursion IsIdle (all_idle c os)
     each_idle = idle_each (entries c.units) (each-from_every (λ n u. get c.units n ≡ Some u) c.units (λ n u is. is))
 
     of_unit : (e : ℕ × Unit) → AllByRecursion (λ o. o.unit ≡ e.0) (idle_by writers e)
     of_unit (n, u) = elim (nat_lt 0 u.holding.men && not (is_some (get writers n))) as (λ b. AllByRecursion (λ (o : Task). o.unit ≡ n) (cond b (idle_task n u.faction ∷ []) [])) [ true ↦ (refl, tt) | false ↦ tt ]
 
+    -- at most one order is added for a unit
     just_one : (e : ℕ × Unit) → IsDistinct same_work (idle_by writers e)
     unfolding IsDistinct
     just_one (n, u) = elim (nat_lt 0 u.holding.men && not (is_some (get writers n))) as (λ b. IsDistinct same_work (cond b (idle_task n u.faction ∷ []) [])) [ true ↦ (tt, tt) | false ↦ tt ]
 
+    -- no two of the orders for units without an order have the same key
     idle_apart : IsDistinct same_work (all_idle c os)
     idle_apart =
         flat_apart same_work (idle_by writers) (λ (e f : ℕ × Unit). e.0 < f.0) (λ e o. o.unit ≡ e.0)
@@ -149,6 +162,7 @@ module _ (c : CampaignValue) where
     same_faction : (a b : ℕ) → a ≡ b → (a == b) ≡ true
     same_faction a b e = grind (arith, nat_tests)
 
+    -- a written order and one that is added for a unit without an order differ in their keys
     written_idle : (o i : Task) → IsListed writers o → IsIdle i → same_work o i ≡ false
     written_idle o i listed idle =
         apart_by o i (λ unit faction.
@@ -156,6 +170,7 @@ module _ (c : CampaignValue) where
         let own : is_of_faction o.faction (get c.units o.unit) ≡ true = ap (is_of_faction o.faction) there ∙ same_faction idle.unit.faction o.faction (sym idle.own ∙ sym faction) in
         false≢true (sym (ap (λ n. is_some (get writers n)) unit ∙ idle.unordered) ∙ listed own))
 
+    -- no two of the orders of WORK, written or not, have the same key
     work_apart : IsDistinct same_work os → IsDistinct same_work (all_work c os)
     work_apart apart =
         let chosen = filter (λ (o : Task). is_work o.order_value.verb) os in
@@ -165,6 +180,7 @@ module _ (c : CampaignValue) where
 
 -- ---- who has an order
 
+-- a unit is in the map after some orders exactly if it was, or has an order of its own faction among them
 writes_own : (c : CampaignValue) (os : List Task) (n : ℕ) (u : Unit) → get c.units n ≡ Some u → (m : FinMap nat_cmp ℕ) → is_some (get (with_each m (flat_map (own_unit c) os)) n) ≡ (is_ordered os n u || is_some (get m n))
 writes_own c [] n u is m = refl
 writes_own c (o ∷ os) n u is m =
@@ -198,6 +214,7 @@ writes_own c (o ∷ os) n u is m =
           ∙ sym (ap (λ b. (b && o.faction == u.faction) || is_some (get m n)) (other_number o.unit n (λ same. apart (sym same))))
     ]
 
+-- a unit is in the map of writers exactly if it has an order of its own faction
 is_writer : (c : CampaignValue) (os : List Task) (n : ℕ) (u : Unit) → get c.units n ≡ Some u → is_some (get (own_writers c os) n) ≡ is_ordered os n u
 is_writer c os n u is = writes_own c os n u is empty ∙ ap (λ o. is_ordered os n u || is_some o) (get-empty nat_cmp n) ∙ or_false (is_ordered os n u)
   where
@@ -206,6 +223,7 @@ is_writer c os n u is = writes_own c os n u is empty ∙ ap (λ o. is_ordered os
     or_false false = refl
 
 module _ (c : CampaignValue) (ts : List Task) where
+  -- the orders that are defined for those of some units that are without an order
   abbrev of_idle : List (ℕ × Unit) → List Task
   of_idle es = map (λ e. idle_task e.0 e.1.faction) (filter (is_idle ts) es)
 
@@ -222,9 +240,11 @@ module _ (c : CampaignValue) (ts : List Task) where
       by_test true = refl
       by_test false = refl
 
+  -- the code's list of all work has the orders that are defined
   all_are : all_work c ts ≡ written_work ts ++ idle_work c ts
   all_are = ap (λ os. written_work ts ++ os) (idle_are (entries c.units) (each-from_every (λ n u. get c.units n ≡ Some u) c.units (λ n u is. is)))
 
+-- the code's list of all work, sorted by its keys, is the list of orders that is defined
 pub work_sorted : (c : CampaignValue) (m : MonthValue) (os list : List PhaseOrder) → map task_of os ≡ all_work c (orders_by_unit is_month_long m) → IsPermutation os list → IsSortedByKey (λ o. key_of ByUnit (task_of o)) (slice_cmp nat_cmp) list → map task_of list ≡ work_orders c m
 unfolding work_orders
 work_sorted c m os list are moved up =

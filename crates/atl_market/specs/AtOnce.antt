@@ -1,4 +1,4 @@
--- All pots and all units change at once: what a unit and a region are then follows from what they were as the phase began. See docs/RULES.md, "Pots".
+-- What it means that a phase changes all units and regions at once, each by what it was and the shares. See docs/RULES.md, "Pots".
 use Rattle.std.specs.Prelude.{◌≡◌, ◌==◌, ◌&&◌, ℕ, Bool, false, List, map, filter, sum, Option, Some}
 use Rattle.std.specs.Option.{option_map_or}
 use Rattle.std.specs.Ordering.{nat_cmp}
@@ -12,26 +12,28 @@ use Rattle.atl_instant.specs.PhaseOrders.{Task}
 use Rattle.atl_market.specs.ItemPots.{is_for}
 use Rattle.atl_market.specs.PotPhase.{PotMeaning, after_sharing, given_by}
 
--- a unit that is there and stands in a region
+-- whether a unit is there and is in a region, by the region's number
 abbrev pub stands_in : ℕ → Option Unit → Bool
 stands_in region unit = option_map_or (λ u. u.region == region) unit false
 
--- all that the units of a region got
+-- the sum of what the units in a region got; `given` has the amounts by unit
 abbrev pub given_in : FinMap nat_cmp ℕ → FinMap nat_cmp Unit → (region : ℕ) → ℕ
 given_in given units region = sum (map (λ e. e.1) (filter (λ e. stands_in region (get units e.0)) (entries given)))
 
--- a unit with a share, and a region without so much
+-- a change of a unit by its share: what the unit is with it
 abbrev pub UnitChange : Type 0
 UnitChange = Unit → (share : ℕ) → Unit
 
+-- a change of a region by the amount that it gives to units: what the region is then
 abbrev pub RegionChange : Type 0
 RegionChange = Region → (given : ℕ) → Region
 
--- a unit by what it got, if it got something
+-- a unit after it got its share by the change `gets`; the unit as it was where it got none
 abbrev pub paid_unit : UnitChange → Unit → Option ℕ → Unit
 paid_unit gets u share = option_map_or (gets u) share u
 
--- By `gets` a unit follows from what it was and its share, and by `gives` a region from what it was and all that its units got.
+-- A phase pays all units at once: after it each unit is `gets` of what it was and its share, and each region `gives` of what it
+-- was and all that its units got.
 pub record PaysAtOnce (p : PotMeaning) (w : WorldValue) (gets : ℕ → UnitChange) (gives : RegionChange) (c : CampaignValue) (os : List Task) : Type 0 where
   pub units :
       (n : ℕ) (u : Unit) → get c.units n ≡ Some u
@@ -40,25 +42,25 @@ pub record PaysAtOnce (p : PotMeaning) (w : WorldValue) (gets : ℕ → UnitChan
       (r : ℕ) (q : Region) → get c.regions r ≡ Some q
       → get (after_sharing p w c os).regions r ≡ Some (gives q (given_in (given_by p w c os) c.units r))
 
--- a region that gives nothing that it has
-abbrev pub stays : RegionChange
-stays q share = q
+-- the change of a region that stays as it is, whatever its units got
+abbrev pub unchanged_region : RegionChange
+unchanged_region q share = q
 
 -- ---- pots by region and item: each changes what the region has of the item
 
--- all that those units of a region got that ask for an item
+-- the sum of what those units in a region got that ask for an item; `item_of` has the item by unit
 abbrev pub given_of : (item_of : ℕ → Option ℕ) → FinMap nat_cmp ℕ → FinMap nat_cmp Unit → (region item : ℕ) → ℕ
 given_of item_of given units region item =
     sum (map (λ e. e.1) (filter (λ e. stands_in region (get units e.0) && is_for item (item_of e.0)) (entries given)))
 
--- A region is what it was but for its stocks: by `becomes` the stock of each item follows from what it was and what was given of the item.
+-- A region is there with only its stocks changed: each item's is `becomes` of what it was and of what was given of the item.
 pub record HasNewStocks (q : Region) (becomes : (stock given : ℕ) → ℕ) (given : (item : ℕ) → ℕ) (after : Option Region) : Type 0 where
   pub stocks : FinMap nat_cmp ℕ
   pub region : after ≡ Some (record q { stocks = stocks })
   pub amounts : (item : ℕ) → amount_of stocks item ≡ becomes (amount_of q.stocks item) (given item)
 
--- By `gets` a unit follows from what it was and its share, and by `becomes` a region's stock of an item from what it was
--- and all that those of its units got that ask for the item.
+-- A phase with pots of items pays all units at once: after it each unit is `gets` of what it was and its share, and each stock of
+-- a region `becomes` of what it was and all that those of its units got that ask for the item.
 pub record PaysItemsAtOnce (p : PotMeaning) (w : WorldValue) (item_of : ℕ → Option ℕ) (gets : ℕ → UnitChange)
     (becomes : (stock given : ℕ) → ℕ) (c : CampaignValue) (os : List Task) : Type 0 where
   pub units :

@@ -1,5 +1,5 @@
--- What BUILD needs of a campaign and its world (`CanBuild`). The rest is for proofs alone: when a phase with pots can pay in turn, and how far BUILD
--- may still move the books.
+-- What BUILD needs of a campaign and its world (`CanBuild`). The rest is for proofs alone: that steps can be taken in turn
+-- (`CanInTurn`), and how far BUILD may still move the books (`build_reserve`).
 use Rattle.std.specs.Prelude.{⊤, ℕ, ◌≡◌, ◌==◌, length, List, [], ◌∷◌, Some, if◌then◌else◌}
 use Rattle.std.specs.List.{slice_get}
 use Rattle.atl_tables.specs.Worlds.{IsKind, WorldValue}
@@ -15,21 +15,21 @@ use Rattle.atl_state.specs.Good.{IsSteady}
 use Rattle.atl_state.specs.Campaign.{CampaignValue}
 use Rattle.atl_instant.specs.Bounds.{RemainingBound}
 
--- steps in turn, each of which can be taken when its turn comes
+-- each step of a list can be taken (`can`) in the campaign that the steps ahead of it leave
 abbrev pub CanInTurn : {X : Type 0} → (CampaignValue → X → Type 0) → (CampaignValue → X → CampaignValue) → CampaignValue → List X → Type 0
 CanInTurn can step c [] = ⊤
 CanInTurn can step c (x ∷ xs) = can c x × CanInTurn can step (step c x) xs
 
--- a steady campaign, in a world whose kinds are of its items and skills
+-- what BUILD needs: the campaign is steady, and each kind of the world names a material and a skill of the world
 pub record CanBuild (w : WorldValue) (c : CampaignValue) : Type 0 where
   pub steady : IsSteady w c
   pub kinds : (i : ℕ) (k : Kind) → slice_get w.kinds i ≡ Some k → IsKind (length w.items) (length w.skills) k
 
--- what of a thing a unit may use: all that it holds of an item
+-- what a holding may still have booked under an entry, of a thing: under Used all that it has of an item, else 0
 abbrev pub usable : Entry → Thing → HoldingValue → ℕ
 usable e (Item i) h = if entry_index e == entry_index Used then amount_of h.items i else 0
 usable e t h = 0
 
--- no more than all units hold
+-- the bound on what BUILD may still book: Used of an item by all that the units hold of it, nothing else
 abbrev pub build_reserve : RemainingBound
 build_reserve c e t = sum_over (λ u. usable e t u.holding) c.units

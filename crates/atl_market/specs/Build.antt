@@ -31,23 +31,24 @@ use Rattle.atl_instant.specs.OrderEffects.{IsOwnOrder, OrderEffect, OrderMeaning
 use Rattle.atl_instant.specs.PhaseSpecs.{PhaseSpec, goes_by_orders}
 use Rattle.atl_market.specs.Goods.{with_used}
 
+-- whether a keyword is BUILD
 abbrev pub is_building : Verb → Bool
 is_building verbs.Build = true
 is_building verb = false
 
 -- ---- what a unit adds
 
--- the least of men times level, the material held, and what is missing of a structure
+-- how much a unit adds to a structure: the least of men times level, the material held, and what is missing to the kind's size
 abbrev pub size_added : Kind → HoldingValue → (done : ℕ) → ℕ
 size_added k h done = min (min (h.men * level_in h k.skill) (amount_of h.items k.material)) (k.size - done)
 
 -- ---- BUILD kind
 
--- no further structure can come: 10,000 stand
+-- whether no further structure may be begun: there are 10,000 of them
 abbrev pub is_structure_limit : CampaignValue → Bool
 is_structure_limit c = nat_le most_structures (len c.structures)
 
--- NoMen, AtSea, NoSkill, NoMaterial, StructureLimit
+-- the first fault of `BUILD kind`, if there is one: NoMen, AtSea, NoSkill, NoMaterial, StructureLimit
 abbrev pub begin_fault : WorldValue → CampaignValue → Unit → Kind → Option EventFault
 begin_fault w c u k = first_fault (
     (u.holding.men == 0, NoMen)
@@ -57,23 +58,23 @@ begin_fault w c u k = first_fault (
     ∷ (is_structure_limit c, StructureLimit)
     ∷ [])
 
--- what a structure's first name begins with
+-- the text ahead of the number in a new structure's name: `Ship ` or `Building `, as bytes
 abbrev pub name_prefix : Kind → List ℕ
 name_prefix k = if k.ship then codes "Ship " else codes "Building "
 
--- a structure as it is begun, which nobody owns yet
+-- a structure as it is begun: of a kind, in a region, with `size` of it done, named by its number, without an owner
 abbrev pub new_structure : (number kind : ℕ) → Kind → (region size : ℕ) → Structure
 new_structure number kind k region size = record { kind = kind; name = name_prefix k ++ decimal number; region = region; done = size; owner = 0 }
 
--- a campaign with one structure more
-abbrev pub with_new : CampaignValue → (kind : ℕ) → Kind → (region size : ℕ) → CampaignValue
-with_new c kind k region size = with_structure_begun c (new_structure c.next_structure kind k region size)
+-- a campaign in which one structure more is begun, under the next number of structures
+abbrev pub with_new_structure : CampaignValue → (kind : ℕ) → Kind → (region size : ℕ) → CampaignValue
+with_new_structure c kind k region size = with_structure_begun c (new_structure c.next_structure kind k region size)
 
--- a unit uses so much for a new structure, leaves its old one and enters this, which it owns
+-- a campaign after unit `n` used `size` of the material, began a structure with it, left its old one and entered the new one
 abbrev pub after_start : CampaignValue → (n kind : ℕ) → Kind → (region size : ℕ) → CampaignValue
-after_start c n kind k region size = with_place (with_new (with_used c n k.material size) kind k region size) n region c.next_structure
+after_start c n kind k region size = with_place (with_new_structure (with_used c n k.material size) kind k region size) n region c.next_structure
 
--- BUILD kind: nothing changes where a fault fits
+-- the effect of `BUILD kind` by unit `n`: a structure is begun and the outcome is its size; with a fault nothing changes
 unfoldable pub begin : WorldValue → (n kind : ℕ) → Kind → OrderEffect
 begin w n kind k c u =
     let size = size_added k u.holding 0 in
@@ -81,11 +82,11 @@ begin w n kind k c u =
 
 -- ---- BUILD
 
--- why a unit that is inside no structure builds at none
+-- the fault of `BUILD` by a unit that is inside no structure: NoMen, else NotInside
 abbrev pub outside_fault : Unit → Option EventFault
 outside_fault u = first_fault ((u.holding.men == 0, NoMen) ∷ (true, NotInside) ∷ [])
 
--- NoMen, Complete, NoSkill, NoMaterial
+-- the first fault of `BUILD` by a unit inside a structure, if there is one: NoMen, Complete, NoSkill, NoMaterial
 abbrev pub inside_fault : Unit → Structure → Kind → Option EventFault
 inside_fault u s k = first_fault (
     (u.holding.men == 0, NoMen)
@@ -94,48 +95,52 @@ inside_fault u s k = first_fault (
     ∷ (amount_of u.holding.items k.material == 0, NoMaterial)
     ∷ [])
 
--- a unit uses so much for a structure, of which so much is done then
-abbrev pub after_building_on : CampaignValue → (n material size place done : ℕ) → CampaignValue
-after_building_on c n material size place done = with_done (with_used c n material size) place done
+-- a campaign after unit `n` used `size` of a material for a structure, by its number, of which `done` is done then
+abbrev pub after_building_on : CampaignValue → (n material size structure done : ℕ) → CampaignValue
+after_building_on c n material size structure done = with_done (with_used c n material size) structure done
 
--- a structure with its kind
+-- a structure with its kind, if that is one of the world
 abbrev pub with_kind : WorldValue → Structure → Option (Structure × Kind)
 with_kind w s = option_map (λ k. (s, k)) (slice_get w.kinds s.kind)
 
--- those under a number
-abbrev pub structure_and_kind_at : WorldValue → CampaignValue → (place : ℕ) → Option (Structure × Kind)
-structure_and_kind_at w c place = option_and_then (with_kind w) (get c.structures place)
+-- the structure under a number with its kind, if there is one
+abbrev pub structure_and_kind_at : WorldValue → CampaignValue → (structure : ℕ) → Option (Structure × Kind)
+structure_and_kind_at w c structure = option_and_then (with_kind w) (get c.structures structure)
 
--- a unit goes on with the structure that it is inside, of its kind, if it is inside one
+-- what `BUILD` makes of a campaign and its outcome, by the structure and kind that unit `n` is inside, if it is inside one
 abbrev pub go_on_at : CampaignValue → (n : ℕ) → Unit → Option (Structure × Kind) → CampaignValue × Outcome
 go_on_at c n u None = unless c (outside_fault u) (c, Done 0)
 go_on_at c n u (Some (s, k)) =
     let size = size_added k u.holding s.done in
     unless c (inside_fault u s k) (after_building_on c n k.material size u.structure (s.done + size), Done size)
 
--- BUILD: nothing changes where a fault fits
+-- the effect of `BUILD` by unit `n`: it goes on with the structure that it is inside; with a fault nothing changes
 unfoldable pub go_on : WorldValue → (n : ℕ) → OrderEffect
 go_on w n c u = go_on_at c n u (structure_and_kind_at w c u.structure)
 
--- ---- the step
+-- ---- the effect of an order
 
+-- the effect of an order of unit `n` by its operands: with a kind of the world `begin`, with none `go_on`, else no effect
 abbrev pub build_effect : WorldValue → (n : ℕ) → OperandsValue → Option OrderEffect
 build_effect w n (operands.Kind (Some kind)) = option_map (begin w n kind) (slice_get w.kinds kind)
 build_effect w n (operands.Kind None) = Some (go_on w n)
 build_effect w n other = None
 
+-- the effect of each order of BUILD, which needs no alias
 abbrev pub build_step : OrderMeaning
 build_step w aliases t = build_effect w t.unit t.order_value.operands
 
--- ---- how far it moves the books
+-- ---- how far BUILD moves the books
 
+-- the bound on what BUILD books: Used of each item by less than 10^14, nothing else
 abbrev pub build_moves : BookBound
 build_moves e (Item i) = if entry_index e == entry_index Used then most_moved else 0
 build_moves e t = 0
 
 -- ---- the phase
 
--- a unit for which its own faction wrote no such order is no worse off; the items that are used are booked
+-- The specification of the phase BUILD: it carries out orders one by one, and books Used of items. A unit without such an order of
+-- its own faction is no worse off.
 abbrev pub build_spec : PhaseSpec
 build_spec = record (goes_by_orders build_step is_building IsOwnOrder IsNoWorse) {
   moving = build_moves;

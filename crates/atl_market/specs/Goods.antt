@@ -1,4 +1,4 @@
--- Units use items and make items; both are booked.
+-- A campaign after a unit used or made so much of an item, which is booked: the steps of BUILD and PRODUCE.
 use Rattle.std.specs.Prelude.{◌+◌, ◌-◌, ℕ, pos, neg_ℤ}
 use Rattle.atl_records.specs.declared.books.Entry.TheVariants.{Made, Used}
 use Rattle.atl_records.specs.declared.books.Thing.TheVariants.{Item}
@@ -6,13 +6,13 @@ use Rattle.atl_records.specs.Holdings.{amount_of}
 use Rattle.atl_state.specs.Campaign.{CampaignValue, with_amount, with_item}
 use Rattle.atl_instant.specs.There.{at_unit}
 
--- a unit, by its number, uses so much of an item
+-- a campaign after unit `n` used so much of item `i`, booked as used; unchanged where the unit isn't there
 abbrev pub with_used : CampaignValue → ℕ → (item amount : ℕ) → CampaignValue
 with_used c n i amount =
     at_unit c n (λ u.
     with_amount (with_item c n i (amount_of u.holding.items i - amount)) Used (Item i) (neg_ℤ (pos amount)))
 
--- a unit, by its number, makes so much of an item
+-- a campaign after unit `n` made so much of item `i`, booked as made; unchanged where the unit isn't there
 abbrev pub with_made : CampaignValue → ℕ → (item amount : ℕ) → CampaignValue
 with_made c n i amount =
     at_unit c n (λ u.

@@ -1,4 +1,4 @@
--- For proofs alone: how the code finds the units that work without an order.
+-- For proofs alone: the orders of WORK and the work of units without an order, in the order in which the code lists them.
 use Rattle.std.specs.Prelude.{◌&&◌, ◌++◌, ℕ, List, [], ◌∷◌, is_some, nat_lt, not, if◌then◌else◌}
 use Rattle.std.specs.List.{flat_map}
 use Rattle.std.specs.Ordering.{nat_cmp}
@@ -10,19 +10,22 @@ use Rattle.atl_instant.specs.OrderEffects.{is_of_faction}
 use Rattle.atl_market.specs.Puts.{with_each}
 use Rattle.atl_market.specs.Work.{idle_task, written_work}
 
--- the unit of an order that its own faction wrote
+-- the unit of an order with the faction that wrote it, if the unit is of that faction; else nothing
 abbrev pub own_unit : CampaignValue → Task → List (ℕ × ℕ)
 own_unit c t = if is_of_faction t.faction (get c.units t.unit) then (t.unit, t.faction) ∷ [] else []
 
--- by unit, the faction that wrote an order for a unit of its own
+-- a map from each unit for which its own faction wrote one of these orders to that faction
 abbrev pub own_writers : CampaignValue → List Task → FinMap nat_cmp ℕ
 own_writers c ts = with_each empty (flat_map (own_unit c) ts)
 
+-- the work of a unit that has men and isn't among the `writers`; else nothing
 abbrev pub idle_by : FinMap nat_cmp ℕ → ℕ × Unit → List Task
 idle_by writers (n, u) = if nat_lt 0 u.holding.men && not (is_some (get writers n)) then idle_task n u.faction ∷ [] else []
 
+-- the work of all units with men for which their own faction wrote none of these orders, by unit
 abbrev pub all_idle : CampaignValue → List Task → List Task
 all_idle c ts = flat_map (idle_by (own_writers c ts)) (entries c.units)
 
+-- the orders of WORK among some orders, and then the work of the units without an order
 abbrev pub all_work : CampaignValue → List Task → List Task
 all_work c ts = written_work ts ++ all_idle c ts

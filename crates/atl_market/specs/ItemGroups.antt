@@ -8,23 +8,25 @@ use Rattle.atl_state.specs.Campaign.{CampaignValue, numbers_in}
 use Rattle.atl_market.specs.Pots.{want_of}
 use Rattle.atl_market.specs.Share.{shares}
 
+-- the wants of units by item, and of each item by unit
 abbrev pub Groups : Type 0
 Groups = FinMap nat_cmp (FinMap nat_cmp ℕ)
 
+-- the groups with a unit's want under its item; unchanged where it asks for no item or has no want
 abbrev pub with_item_want : Groups → ℕ → Option ℕ → Option ℕ → Groups
 with_item_want groups number (Some item) (Some want) = insert groups item (insert (group_of groups item) number want)
 with_item_want groups number item want = groups
 
--- a unit's want beside those of its item
+-- the groups with the want of a unit, by its number, under the item that it asks for
 abbrev pub with_want : (ℕ → Option ℕ) → FinMap nat_cmp ℕ → Groups → ℕ → Groups
 with_want item_of wants groups number = with_item_want groups number (item_of number) (get wants number)
 
--- the units of a group with their shares of what a region has of its item
+-- the units of one item's group with their shares of what a region has of that item
 abbrev pub item_shares_in : (pot_of : ℕ → ℕ → ℕ) → FinMap nat_cmp ℕ → (region : ℕ) → ℕ × FinMap nat_cmp ℕ → List (ℕ × ℕ)
 item_shares_in pot_of wants region group =
     zip (keys group.1) (shares (pot_of group.0 region) (map (want_of wants) (keys group.1)))
 
--- and those of all items in a region
+-- the units of a region with their shares of all items, item by item
 abbrev pub region_shares : (ℕ → Option ℕ) → (pot_of : ℕ → ℕ → ℕ) → FinMap nat_cmp ℕ → CampaignValue → (region : ℕ) → List (ℕ × ℕ)
 region_shares item_of pot_of wants c region =
     flat_map (item_shares_in pot_of wants region) (entries (fold (with_want item_of wants) empty (numbers_in region c.units)))

@@ -1,4 +1,4 @@
--- Pots of items: in each region, those that ask for one item share what the region has of it. See docs/RULES.md, "Pots".
+-- Pots of items: the units of a region that ask for the same item share what the region has of it. See docs/RULES.md, "Pots".
 use Rattle.std.specs.Prelude.{◌==◌, ℕ, Bool, false, Option, option_and_then, option_map}
 use Rattle.std.specs.List.{filter_map}
 use Rattle.std.specs.Option.{option_map_or}
@@ -7,22 +7,22 @@ use Rattle.std.specs.FinMap.{FinMap, entries, from_entries, retain_keys}
 use Rattle.atl_state.specs.Campaign.{CampaignValue}
 use Rattle.atl_market.specs.Pots.{share_of}
 
--- whether an item is asked for
+-- whether a unit that asks for `asked` asks for this item
 abbrev pub is_for : ℕ → Option ℕ → Bool
 is_for item asked = option_map_or (λ other. other == item) asked false
 
 module _ (item_of : ℕ → Option ℕ) where
-  -- the wants of the units that ask for an item
+  -- the wants, by unit, of those units that ask for an item
   abbrev pub wants_for : FinMap nat_cmp ℕ → (item : ℕ) → FinMap nat_cmp ℕ
   wants_for wants item = retain_keys wants (λ number. is_for item (item_of number))
 
   module _ (pot_of : (item region : ℕ) → ℕ) (wants : FinMap nat_cmp ℕ) (c : CampaignValue) where
-    -- What a unit, by its number, gets: its share of what its region has of the item that it asks for.
+    -- The share that a unit, by its number, gets of what its region has of the item that it asks for, if it asks for one.
     abbrev pub item_share : ℕ → Option ℕ
     item_share number =
         option_and_then (λ item. share_of (pot_of item) (wants_for wants item) c number) (item_of number)
 
-    -- and by unit, what each gets that has a want
+    -- the shares of all units that have a want and get one, by unit
     abbrev pub item_shares : FinMap nat_cmp ℕ
     item_shares =
         from_entries (filter_map (λ e. option_map (λ share. (e.0, share)) (item_share e.0)) (entries wants))

@@ -1,4 +1,4 @@
--- For proofs alone: when a unit can use and make items.
+-- For proofs alone: when a unit can use and make items, and produce.
 use Rattle.std.specs.Prelude.{◌≡◌, ◌≤◌, ◌<◌, ◌+◌, ◌*◌, ℕ, length, Some}
 use Rattle.std.specs.List.{slice_get}
 use Rattle.std.specs.Ordering.{nat_cmp}
@@ -16,7 +16,7 @@ use Rattle.atl_state.specs.Campaign.{CampaignValue}
 use Rattle.atl_instant.specs.Bounds.{HasRoom, HaveRoom}
 use Rattle.atl_market.specs.Produce.{produce_moves, with_raw_used}
 
--- ---- a unit, by its number, can use and make so much of an item: it is there, holds enough or has room, and so have the books
+-- unit `n` can use so much of item `i`: it is there and holds enough, and the books have room for it
 pub record CanUse (w : WorldValue) (c : CampaignValue) (n i amount : ℕ) : Type 0 where
   pub unit : Unit
   pub there : get c.units n ≡ Some unit
@@ -25,6 +25,7 @@ pub record CanUse (w : WorldValue) (c : CampaignValue) (n i amount : ℕ) : Type
   pub steady : IsSteady w c
   pub room : HasRoom amount (amount_in c.books Used (things.Item i))
 
+-- unit `n` can make so much of item `i`: it is there and has room for it, and so have the books
 pub record CanMake (w : WorldValue) (c : CampaignValue) (n i amount : ℕ) : Type 0 where
   pub unit : Unit
   pub there : get c.units n ≡ Some unit
@@ -33,23 +34,24 @@ pub record CanMake (w : WorldValue) (c : CampaignValue) (n i amount : ℕ) : Typ
   pub steady : IsSteady w c
   pub room : HasRoom amount (amount_in c.books Made (things.Item i))
 
--- it can use the raw items of so many, and make them then
+-- unit `n` can use the raw items for `made` of item `i`, and make these then
 pub record CanMakeOf (w : WorldValue) (c : CampaignValue) (n made i : ℕ) (x : Item) : Type 0 where
   pub use_raw : (r : ℕ) → x.raw ≡ Some r → CanUse w c n r (made * x.raw_count)
   pub few_raw : (r : ℕ) → x.raw ≡ Some r → made * x.raw_count ≤ holding_limit
   pub make : CanMake w (with_raw_used c n (made * x.raw_count) x.raw) n i made
 
--- it has room for so much of an item, and raw items for it
-pub record Fits (w : WorldValue) (u : Unit) (made i : ℕ) (x : Item) : Type 0 where
+-- a unit has room for `made` of item `i`, and holds the raw items for them
+pub record HasRoomAndRaw (w : WorldValue) (u : Unit) (made i : ℕ) (x : Item) : Type 0 where
   pub known : i < length w.items
   pub fits : amount_of u.holding.items i + made ≤ holding_limit
   pub raw_known : (r : ℕ) → x.raw ≡ Some r → r < length w.items
   pub raw : (r : ℕ) → x.raw ≡ Some r → made * x.raw_count ≤ amount_of u.holding.items r
 
--- A unit is there and has room and raw items for so much of its item, and no amount of the books moves by more than a holding in a step.
+-- The unit of a share can make so much of its item: it is there, has room and raw items for it, and the books have room for
+-- a holding's limit made and used.
 pub record CanProduce (asked : FinMap nat_cmp ℕ) (w : WorldValue) (c : CampaignValue) (e : ℕ × ℕ) : Type 0 where
   pub unit : Unit
   pub there : get c.units e.0 ≡ Some unit
-  pub fits : (i : ℕ) (x : Item) → get asked e.0 ≡ Some i → slice_get w.items i ≡ Some x → Fits w unit e.1 i x
+  pub fits : (i : ℕ) (x : Item) → get asked e.0 ≡ Some i → slice_get w.items i ≡ Some x → HasRoomAndRaw w unit e.1 i x
   pub steady : IsSteady w c
   pub room : HaveRoom (produce_moves holding_limit) c

@@ -1,4 +1,4 @@
--- For proofs alone: when a share of a pot can be paid.
+-- For proofs alone: when a unit's share of a pot can be paid to it, in TAX, RECRUIT and WORK.
 use Rattle.std.specs.Prelude.{◌≡◌, ◌≤◌, ◌+◌, ◌*◌, ℕ, Some}
 use Rattle.std.specs.FinMap.{get}
 use Rattle.atl_tables.specs.Worlds.{WorldValue}
@@ -11,14 +11,14 @@ use Rattle.atl_instant.specs.Bounds.{HaveRoom}
 use Rattle.atl_market.specs.Recruit.{recruit_moves}
 use Rattle.atl_market.specs.Work.{wages_for, work_moves}
 
--- a unit, by its number, is there, and so is its region
+-- unit `n` is there, and so is its region (`around`)
 pub record IsSomewhere (c : CampaignValue) (n : ℕ) : Type 0 where
   pub unit : Unit
   pub there : get c.units n ≡ Some unit
   pub region : Region
   pub around : get c.regions unit.region ≡ Some region
 
--- a unit, by its number, can take so much: it has room for it, and its region has it
+-- a unit, by its number, can take so much tax: it has room for the money, and its region has it
 pub record CanTax (w : WorldValue) (c : CampaignValue) (e : ℕ × ℕ) : Type 0 where
   pub at : IsSomewhere c e.0
   pub fits : at.unit.holding.money + e.1 ≤ holding_limit
@@ -34,7 +34,7 @@ pub record CanRecruit (w : WorldValue) (c : CampaignValue) (e : ℕ × ℕ) : Ty
   pub early : IsEarly w c
   pub room : HaveRoom (recruit_moves holding_limit) c
 
--- a unit, by its number, can get so many places: it is there, and has room for the wages, as the books have
+-- a unit, by its number, can be paid for so many work places: it is there and has room for the wages, and so have the books
 pub record CanWork (w : WorldValue) (c : CampaignValue) (e : ℕ × ℕ) : Type 0 where
   pub unit : Unit
   pub there : get c.units e.0 ≡ Some unit

@@ -1,5 +1,5 @@
--- A phase in which the units of each region share a pot. Who takes part and what there is to share is read from the campaign as the phase
--- began, and all pots and all units change at once. See docs/RULES.md, "Pots".
+-- A phase in which the units of each region share a pot: who takes part, what each gets, and what is reported. All of it is read
+-- from the campaign as the phase began. See docs/RULES.md, "Pots".
 use Rattle.std.specs.Prelude.{ℕ, Bool, List, map, reverse, Option, Some, None, option_map, unwrap_or, Result, Ok, Err, if◌then◌else◌}
 use Rattle.std.specs.List.{filter_map, fold}
 use Rattle.std.specs.Option.{option_map_or}
@@ -25,80 +25,81 @@ use Rattle.atl_instant.specs.Meaning.{Meaning}
 
 -- ---- what an order names
 
--- the item, if it names one
+-- the item that an order's operands name, if they name one
 abbrev pub item_in : OperandsValue → Option ℕ
 item_in (operands.Item i) = Some i
 item_in (operands.Goods n i) = Some i
 item_in other = None
 
--- how many it asks for; 0 where it names no number
+-- how many an order's operands ask for; 0 where they name no number
 abbrev pub count_in : OperandsValue → ℕ
 count_in (operands.Number n) = n
 count_in (operands.Goods n i) = n
 count_in other = 0
 
--- ---- what a phase says of its pots
+-- ---- the meaning of a phase with pots
 
+-- what is particular to one phase with pots: its faults, wants and shares, and what a share changes
 pub record PotMeaning : Type 0 where
-  -- why a unit doesn't carry out an order of its own faction
+  -- the fault of an order of the unit's own faction, if there is one
   pub fault : WorldValue → Unit → Task → Option EventFault
-  -- how much of the pot of its region a unit wants by an order
+  -- how much a unit wants of the pot of its region by an order
   pub want : WorldValue → Unit → Task → ℕ
-  -- what the units get by the items that their orders name, and by what they want
+  -- what each unit gets, from the items that the orders name and from the wants, all by unit
   pub grants : (items : FinMap nat_cmp ℕ) → WorldValue → CampaignValue → (wants : FinMap nat_cmp ℕ) → FinMap nat_cmp ℕ
-  -- what the event says of a unit that got so much of the pot
+  -- the number in the event of a unit that got so much of the pot
   pub event_number : WorldValue → Unit → ℕ → ℕ
-  -- a unit, by its number, gets so much of the pot of its region, or of that of its item there
+  -- the campaign after a unit, by its number, got so much of the pot of its region, or of that of its item there
   pub paid : (items : FinMap nat_cmp ℕ) → WorldValue → CampaignValue → ℕ × ℕ → CampaignValue
 
--- Entries by unit. If a unit had several, the last would count. It has one at most: of the orders of a phase that its own
--- faction wrote for it only one stands.
+-- A map from entries by unit. If a unit had several, the last would count. It has one at most: of the orders of a phase that its
+-- own faction wrote for it only one counts.
 abbrev pub by_unit : List (ℕ × ℕ) → FinMap nat_cmp ℕ
 by_unit es = from_entries (reverse es)
 
 module _ (p : PotMeaning) (w : WorldValue) (c : CampaignValue) where
   -- ---- who takes part
 
-  -- The unit that carries an order out, or why none does: the unit is there, its own faction wrote the order, and the
-  -- phase finds no fault.
+  -- The unit that carries an order out, or the order's fault: NotYours where the unit isn't there or isn't the faction's, else
+  -- what the phase finds.
   unfoldable pub unit_for : Task → Result Unit EventFault
   unit_for t =
       option_map_or (λ u. option_map_or Err (p.fault w u t) (Ok u)) (of_faction t.faction (get c.units t.unit)) (Err NotYours)
 
-  -- the unit that carries an order out, by its number, with what it wants
+  -- the number of the unit that carries an order out, with what it wants; none where the order has a fault
   abbrev pub want_by : Task → Option (ℕ × ℕ)
   want_by t = option_map (λ u. (t.unit, p.want w u t)) (result_ok (unit_for t))
 
-  -- the same with the item that the order names, if it names one
+  -- the number of the unit that carries an order out, with the item that the order names; none with a fault or without an item
   abbrev pub item_by : Task → Option (ℕ × ℕ)
   item_by t = if is_ok (unit_for t) then option_map (λ item. (t.unit, item)) (item_in t.order_value.operands) else None
 
-  -- by unit, what each wants
+  -- what each unit wants, of those that carry out an order
   abbrev pub wants_by : List Task → FinMap nat_cmp ℕ
   wants_by ts = by_unit (filter_map want_by ts)
 
-  -- by unit, the item that its order names
+  -- the item that each unit's order names, of those that carry out an order
   abbrev pub items_by : List Task → FinMap nat_cmp ℕ
   items_by ts = by_unit (filter_map item_by ts)
 
   -- ---- what they get
 
-  -- by unit, how much each gets
+  -- how much each unit gets, by unit
   abbrev pub given_by : List Task → FinMap nat_cmp ℕ
   given_by ts = p.grants (items_by ts) w c (wants_by ts)
 
-  -- the campaign in which each has got it
+  -- the campaign after each unit got its share
   unfoldable pub after_sharing : List Task → CampaignValue
   after_sharing ts = fold (p.paid (items_by ts) w) c (entries (given_by ts))
 
   -- ---- what is reported
 
-  -- the fault of an order; or what its event says of its unit, where so much was given
+  -- the outcome of an order: its fault, or Done with the event's number for the amount in `given` (0 where there is none)
   abbrev pub outcome_of : FinMap nat_cmp ℕ → Task → Result Unit EventFault → Outcome
   outcome_of given t (Err fault) = Fault (event_fault_number fault)
   outcome_of given t (Ok u) = Done (p.event_number w u (unwrap_or (get given t.unit) 0))
 
-  -- what came of an order, where so much was given
+  -- the event of an order, by the amounts in `given`
   abbrev pub event_of : FinMap nat_cmp ℕ → Task → Event
   event_of given t = event_for t (outcome_of given t (unit_for t))
 
@@ -106,10 +107,10 @@ module _ (p : PotMeaning) (w : WorldValue) (c : CampaignValue) where
   unfoldable pub events_by : List Task → List Event
   events_by ts = map (event_of (given_by ts)) ts
 
--- what a phase makes of a campaign and of what the month carries, with the orders that it finds
+-- the meaning of a phase with pots: the campaign after sharing, and the month with the events; `orders` finds the phase's orders
 abbrev pub pots_meaning : PotMeaning → (CampaignValue → MonthValue → List Task) → Meaning
 pots_meaning p orders w c m = (after_sharing p w c (orders c m), with_events m (events_by p w c (orders c m)))
 
--- with the orders of its verbs
+-- the meaning of a phase with pots whose orders are those of the month with its keywords
 abbrev pub pots_by_orders : PotMeaning → (Verb → Bool) → Meaning
 pots_by_orders p is_of = pots_meaning p (λ c m. orders_by_unit is_of m)

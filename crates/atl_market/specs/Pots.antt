@@ -1,4 +1,4 @@
--- What each unit gets of the pot of its region. See docs/RULES.md, "Pots".
+-- What each unit gets of the pot of its region, and the laws of it. See docs/RULES.md, "Pots".
 use Rattle.std.specs.Prelude.{◌≡◌, ◌≤◌, ℕ, List, map, filter, sum, min, is_some, unwrap_or, Option, Some}
 use Rattle.std.specs.List.{flat_map, zip}
 use Rattle.std.specs.Ordering.{nat_cmp}
@@ -9,15 +9,15 @@ use Rattle.atl_state.specs.Campaign.{CampaignValue, numbers_in}
 use Rattle.atl_records.specs.declared.records.Unit.{Unit}
 use Rattle.atl_market.specs.Share.{shares}
 
--- each want is at most the largest amount
+-- each want is at most 999,999,999 (`most_amount`)
 abbrev pub AreWants : FinMap nat_cmp ℕ → Type 0
 AreWants wants = Every (λ number want. want ≤ most_amount) wants
 
--- what a unit wants
+-- what a unit wants, by its number; 0 where it has no want
 abbrev pub want_of : FinMap nat_cmp ℕ → ℕ → ℕ
 want_of wants number = unwrap_or (get wants number) 0
 
--- those of some units that have a want
+-- those of some units' numbers whose unit has a want
 abbrev pub takers_among : FinMap nat_cmp ℕ → List ℕ → List ℕ
 takers_among wants numbers = filter (λ number. is_some (get wants number)) numbers
 
@@ -25,30 +25,30 @@ takers_among wants numbers = filter (λ number. is_some (get wants number)) numb
 abbrev pub takers_in : FinMap nat_cmp ℕ → FinMap nat_cmp Unit → ℕ → List ℕ
 takers_in wants units region = takers_among wants (numbers_in region units)
 
--- their wants
+-- the wants of a region's units that have one, in unit order
 abbrev pub wants_in : FinMap nat_cmp ℕ → FinMap nat_cmp Unit → ℕ → List ℕ
 wants_in wants units region = map (want_of wants) (takers_in wants units region)
 
--- each with its share of the region's pot
+-- a region's units that have a want, each with its share of the region's pot, in unit order
 abbrev pub shares_in : (ℕ → ℕ) → FinMap nat_cmp ℕ → FinMap nat_cmp Unit → ℕ → List (ℕ × ℕ)
 shares_in pot_of wants units region = zip (takers_in wants units region) (shares (pot_of region) (wants_in wants units region))
 
--- by unit, what it gets of the pot of its region
+-- what each unit gets of the pot of its region, by unit; `pot_of` has the pot of each region
 unfoldable pub pot_shares : (ℕ → ℕ) → FinMap nat_cmp ℕ → CampaignValue → FinMap nat_cmp ℕ
 pot_shares pot_of wants c = from_entries (flat_map (shares_in pot_of wants c.units) (keys c.regions))
 
 -- ---- laws
 
 module _ (pot_of : ℕ → ℕ) (wants : FinMap nat_cmp ℕ) (c : CampaignValue) where
-  -- what a unit gets
+  -- what a unit gets of the pot of its region, if it has a share
   abbrev pub share_of : ℕ → Option ℕ
   share_of number = get (pot_shares pot_of wants c) number
 
-  -- what a unit gets, where it is not listed 0
+  -- what a unit gets of the pot of its region; 0 where it has no share
   abbrev pub amount_given : ℕ → ℕ
   amount_given number = unwrap_or (share_of number) 0
 
--- who gets something wants that much at least, and stands in a region of the campaign
+-- each unit that has a share wants at least that much, and is in a region of the campaign
 abbrev pub OnlyTakersGet : Type 0
 OnlyTakersGet =
     (pot_of : ℕ → ℕ) (wants : FinMap nat_cmp ℕ) (c : CampaignValue) (number share : ℕ)
@@ -59,7 +59,7 @@ OnlyTakersGet =
     × (get c.units number ≡ Some u)
     × IsThere c.regions u.region
 
--- who has a want and stands in a region of the campaign gets a share, at most its want
+-- each unit that has a want and is in a region of the campaign has a share, at most its want
 abbrev pub EachTakerGets : Type 0
 EachTakerGets =
     (pot_of : ℕ → ℕ) (wants : FinMap nat_cmp ℕ) (c : CampaignValue) (number want : ℕ) (u : Unit)
@@ -68,21 +68,21 @@ EachTakerGets =
     → IsThere c.regions u.region
     → (share : ℕ) × (share_of pot_of wants c number ≡ Some share) × (share ≤ want)
 
--- the takers of a region get the shares of its pot, in unit order
+-- the units of a region that have a want get the shares of its pot by their wants, in unit order
 abbrev pub SharesEachPot : Type 0
 SharesEachPot =
     (pot_of : ℕ → ℕ) (wants : FinMap nat_cmp ℕ) (c : CampaignValue) (region : ℕ)
     → IsThere c.regions region
     → map (share_of pot_of wants c) (takers_in wants c.units region) ≡ map Some (shares (pot_of region) (wants_in wants c.units region))
 
--- together they get the pot, or what they want where that is less
+-- the units of a region that have a want get its whole pot together, or all that they want where that is less
 abbrev pub GivesEachPot : Type 0
 GivesEachPot =
     (pot_of : ℕ → ℕ) (wants : FinMap nat_cmp ℕ) (c : CampaignValue) (region : ℕ)
     → IsThere c.regions region
     → sum (map (amount_given pot_of wants c) (takers_in wants c.units region)) ≡ min (pot_of region) (sum (wants_in wants c.units region))
 
--- nothing but a region's pot, takers and wants counts there
+-- the shares in a region follow from its pot, its units with a want and their wants alone: with these alike they are alike
 abbrev pub OtherRegionsDoNotCount : Type 0
 OtherRegionsDoNotCount =
     (pot_of other_pots : ℕ → ℕ) (wants other_wants : FinMap nat_cmp ℕ) (c other : CampaignValue) (region : ℕ)

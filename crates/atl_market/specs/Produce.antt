@@ -1,4 +1,4 @@
--- PRODUCE: units make items, of raw items that they hold, or of what the terrain of their region gives. See docs/RULES.md, "Producing".
+-- PRODUCE: units make items out of raw items, or out of what the terrain of their region gives. See docs/RULES.md, "Producing".
 use Rattle.std.specs.Prelude.{◌-◌, ◌*◌, ◌/◌, ◌==◌, ℕ, Bool, true, false, map, min, nat_lt, Option, Some, None, is_some, option_and_then, unwrap_or, if◌then◌else◌, [], ◌∷◌}
 use Rattle.std.specs.List.{slice_get}
 use Rattle.std.specs.Ordering.{nat_cmp}
@@ -25,32 +25,33 @@ use Rattle.atl_market.specs.ItemPots.{item_share}
 use Rattle.atl_market.specs.PotPhase.{PotMeaning, item_in, pots_by_orders}
 use Rattle.atl_market.specs.Unordered.{spares_unordered}
 
+-- whether a keyword is PRODUCE
 abbrev pub is_produce : Verb → Bool
 is_produce verbs.Produce = true
 is_produce verb = false
 
--- the item that a unit is told to make, where it is one of the world
+-- the world's item under the number that an order names (`asked`), if there is one
 abbrev pub item_of : WorldValue → Option ℕ → Option Item
 item_of w asked = option_and_then (slice_get w.items) asked
 
 -- ---- how much a unit can make
 
--- no more than so many, nor than the raw items that it holds are enough for, if the item is made of any
+-- the lesser of `most` and how many the raw items held are enough for, `count` each; `most` where no raw item goes in
 abbrev pub up_to_raw : HoldingValue → (count : ℕ) → (raw : Option ℕ) → (most : ℕ) → ℕ
 up_to_raw h count raw most = option_map_or (λ r. min (amount_of h.items r / count) most) raw most
 
--- as much as its men can, as it has room for, and as its raw items are enough for
-abbrev pub can_make_of : HoldingValue → (item : ℕ) → Item → ℕ
-can_make_of h i x =
+-- the most of an item that a unit can make: by its men times level, its room for the item, and its raw items
+abbrev pub most_makeable_of : HoldingValue → (item : ℕ) → Item → ℕ
+most_makeable_of h i x =
     up_to_raw h x.raw_count x.raw (min (h.men * level_in_any h x.skill) (holding_limit - amount_of h.items i))
 
--- of what it is told to make; 0 of what is no item of the world
-abbrev pub can_make : WorldValue → HoldingValue → Option ℕ → ℕ
-can_make w h asked = option_map_or (λ i. option_map_or (can_make_of h i) (slice_get w.items i) 0) asked 0
+-- the most that a unit can make of the item that its order names; 0 where that is no item of the world
+abbrev pub most_makeable : WorldValue → HoldingValue → Option ℕ → ℕ
+most_makeable w h asked = option_map_or (λ i. option_map_or (most_makeable_of h i) (slice_get w.items i) 0) asked 0
 
 -- ---- what the terrains give
 
--- the item that a unit makes out of what its region gives: the one that it is told to make, if no raw item goes into it
+-- the item that a unit makes out of what its region gives: the one that its order names, if no raw item goes into it
 abbrev pub output_item : WorldValue → FinMap nat_cmp ℕ → ℕ → Option ℕ
 output_item w asked n = option_and_then (λ x. if is_some x.raw then None else get asked n) (item_of w (get asked n))
 
@@ -58,48 +59,48 @@ output_item w asked n = option_and_then (λ x. if is_some x.raw then None else g
 abbrev pub output_at : WorldValue → (item region : ℕ) → ℕ
 output_at w i region = option_map_or (λ t. unwrap_or (slice_get t.output i) 0) (terrain_of w region) 0
 
--- what a unit gets, by its number, of what its region gives of the item that it makes so
+-- the share that a unit, by its number, gets of what its region gives of the item that it makes without raw items
 abbrev pub output_share : WorldValue → FinMap nat_cmp ℕ → CampaignValue → FinMap nat_cmp ℕ → ℕ → Option ℕ
 output_share w asked c wants n = item_share (output_item w asked) (output_at w) wants c n
 
 -- ---- who makes how much
 
 -- how much a unit makes, by its number and its want: its share of what its region gives of the item, or, out of raw items,
--- what it wants
+-- all that it wants
 abbrev pub made_by : WorldValue → FinMap nat_cmp ℕ → CampaignValue → FinMap nat_cmp ℕ → ℕ × ℕ → ℕ
 made_by w asked c wants (n, want) =
     if is_some (output_item w asked n) then unwrap_or (output_share w asked c wants n) 0 else want
 
--- by unit, how much each makes that wants to
+-- how much each unit that has a want makes, by unit
 abbrev pub made_amounts : FinMap nat_cmp ℕ → WorldValue → CampaignValue → FinMap nat_cmp ℕ → FinMap nat_cmp ℕ
 made_amounts asked w c wants = from_entries (map (λ e. (e.0, made_by w asked c wants e)) (entries wants))
 
 -- ---- what changes
 
--- a unit uses so much of a raw item, if there is one
+-- a campaign after unit `n` used so much of a raw item; unchanged where none is given
 abbrev pub with_raw_used : CampaignValue → ℕ → (amount : ℕ) → (raw : Option ℕ) → CampaignValue
 with_raw_used c n amount raw = option_map_or (λ r. with_used c n r amount) raw c
 
--- a unit makes so many of an item, and uses the raw items for them
+-- a campaign after unit `n` made so many of an item, and used the raw items for them
 abbrev pub with_item_made : CampaignValue → ℕ → (made item : ℕ) → Item → CampaignValue
 with_item_made c n made i x = with_made (with_raw_used c n (made * x.raw_count) x.raw) n i made
 
--- a unit, by its number, makes so many of the item that it is told to make
+-- a campaign after a unit, by its number, made so many of the item that its order names
 unfoldable pub after_production : FinMap nat_cmp ℕ → WorldValue → CampaignValue → ℕ × ℕ → CampaignValue
 after_production asked w c (n, made) =
     option_map_or (λ i. option_map_or (with_item_made c n made i) (slice_get w.items i) c) (get asked n) c
 
 -- ---- the faults
 
--- no skill makes the item, or the unit's level is too low
+-- whether no skill makes the item, or the unit's level in that skill is too low
 abbrev pub is_unskilled : HoldingValue → Item → Bool
 is_unskilled h x = if is_some x.skill then nat_lt (level_in_any h x.skill) x.level else true
 
--- the raw items that it holds are enough for none
+-- whether raw items go into the item and those held are enough for none of it
 abbrev pub lacks_raw : HoldingValue → (count : ℕ) → (raw : Option ℕ) → Bool
 lacks_raw h count raw = option_map_or (λ r. amount_of h.items r / count == 0) raw false
 
--- Why a unit doesn't make an item. A thing that is none of the world's items, no skill makes.
+-- The first fault of PRODUCE, if there is one: NoMen, NoSkill, NoMaterial. No skill makes what is no item of the world.
 abbrev pub make_fault : HoldingValue → Option Item → Option EventFault
 make_fault h None = first_fault ((h.men == 0, NoMen) ∷ (true, NoSkill) ∷ [])
 make_fault h (Some x) =
@@ -107,20 +108,21 @@ make_fault h (Some x) =
 
 -- ---- the phase
 
--- By the item that each order names. The event says how many were made.
+-- PRODUCE as a phase with pots: faults, wants and shares by the item that each order names. The event says how many were made.
 abbrev pub produce_pots : PotMeaning
 produce_pots = record {
   fault = λ w u t. make_fault u.holding (item_of w (item_in t.order_value.operands));
-  want = λ w u t. can_make w u.holding (item_in t.order_value.operands);
+  want = λ w u t. most_makeable w u.holding (item_in t.order_value.operands);
   grants = made_amounts;
   event_number = λ w u made. made;
   paid = after_production;
 }
 
+-- the meaning of the phase PRODUCE
 abbrev pub produce_meaning : Meaning
 produce_meaning = pots_by_orders produce_pots is_produce
 
--- what is made and what is used is of items
+-- the bound on what PRODUCE books: Made and Used of each item by at most `most`, nothing else
 abbrev pub produce_moves : ℕ → BookBound
 produce_moves most Made (things.Item i) = most
 produce_moves most Used (things.Item i) = most
@@ -130,6 +132,7 @@ produce_moves most e t = 0
 abbrev pub produce_keeps : Frame
 produce_keeps = spares_unordered is_produce
 
+-- the specification of the phase PRODUCE, which books Made and Used of items
 abbrev pub produce_spec : PhaseSpec
 produce_spec = record {
   meaning = produce_meaning;

@@ -22,36 +22,37 @@ use Rattle.atl_market.specs.PotPhase.{PotMeaning, count_in, pots_by_orders}
 use Rattle.atl_market.specs.Unordered.{spares_unordered}
 use Rattle.atl_instant.specs.PhaseSpecs.{PhaseSpec, books_money}
 
+-- whether a keyword is RECRUIT
 abbrev pub is_recruit : Verb → Bool
 is_recruit verbs.Recruit = true
 is_recruit verb = false
 
--- why a unit recruits nobody
+-- the fault of RECRUIT, if there is one: NotEnough where the unit's money is less than the price of one recruit
 abbrev pub recruit_fault : WorldValue → Unit → Option EventFault
 recruit_fault w u = first_fault ((nat_lt u.holding.money w.rules.recruit_price, NotEnough) ∷ [])
 
--- as many as it asks for, as it can pay for, and as it has room for
+-- how many recruits a unit wants: the least of what its order asks for, what it can pay for, and its room for men
 abbrev pub recruit_want : WorldValue → Unit → ℕ → ℕ
 recruit_want w u asked = min asked (min (u.holding.money / w.rules.recruit_price) (men_limit - u.holding.men))
 
--- so many of a region's peasants can be recruited
+-- how many of a region's peasants can be recruited this month, which is its pot; 0 where there is no region
 abbrev pub recruits_at : WorldValue → CampaignValue → ℕ → ℕ
 recruits_at w c region = option_map_or (λ q. q.peasants / w.rules.recruit_fraction) (get c.regions region) 0
 
--- what a unit holds with so many recruits, who have studied nothing
-abbrev pub with_men : HoldingValue → (recruits cost : ℕ) → HoldingValue
-with_men h recruits cost = record h { men = h.men + recruits; money = h.money - cost }
+-- a holding with so many recruits more, who have studied nothing, and their cost less
+abbrev pub with_paid_recruits : HoldingValue → (recruits cost : ℕ) → HoldingValue
+with_paid_recruits h recruits cost = record h { men = h.men + recruits; money = h.money - cost }
 
--- so many peasants of its region join a unit, by its number, which pays for them; that is booked
+-- a campaign after so many peasants of its region joined a unit, by its number; their price is paid and booked
 unfoldable pub after_recruiting : WorldValue → CampaignValue → ℕ × ℕ → CampaignValue
 after_recruiting w c (n, recruits) =
     let cost = recruits * w.rules.recruit_price in
     at_unit c n (λ u.
     at_region c u.region (λ q.
-    let joined = with_holding c n (with_men u.holding recruits cost) in
+    let joined = with_holding c n (with_paid_recruits u.holding recruits cost) in
     with_amount (with_peasants joined u.region (q.peasants - recruits)) Recruiting Money (neg_ℤ (pos cost))))
 
--- By how many each order asks for. The event says how many came.
+-- RECRUIT as a phase with pots: each order asks for a number of recruits. The event says how many joined.
 abbrev pub recruit_pots : PotMeaning
 recruit_pots = record {
   fault = λ w u t. recruit_fault w u;
@@ -61,10 +62,11 @@ recruit_pots = record {
   paid = λ items. after_recruiting;
 }
 
+-- the meaning of the phase RECRUIT
 abbrev pub recruit_meaning : Meaning
 recruit_meaning = pots_by_orders recruit_pots is_recruit
 
--- what is paid for recruits is of money
+-- the bound on what RECRUIT books: Recruiting of money by at most `most`, nothing else
 abbrev pub recruit_moves : ℕ → BookBound
 recruit_moves most = moves_only most Recruiting Money
 
@@ -72,5 +74,6 @@ recruit_moves most = moves_only most Recruiting Money
 abbrev pub recruit_keeps : Frame
 recruit_keeps = spares_unordered is_recruit
 
+-- the specification of the phase RECRUIT, which books Recruiting of money
 abbrev pub recruit_spec : PhaseSpec
 recruit_spec = books_money Recruiting recruit_meaning recruit_keeps

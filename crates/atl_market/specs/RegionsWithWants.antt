@@ -1,4 +1,4 @@
--- For proofs alone: the regions where a unit has a want. In others no pot is shared.
+-- For proofs alone: the regions in which some unit has a want; in others no pot is shared.
 use Rattle.std.specs.Prelude.{ℕ, List, [], ◌∷◌, Option, Some, None}
 use Rattle.std.specs.List.{flat_map}
 use Rattle.std.specs.Ordering.{nat_cmp}
@@ -7,11 +7,11 @@ use Rattle.atl_state.specs.Campaign.{CampaignValue}
 use Rattle.atl_records.specs.declared.records.Unit.{Unit}
 use Rattle.atl_market.specs.Puts.{with_each}
 
--- where a unit stands
+-- the region that a unit is in, with the unit's number; nothing where the unit isn't there
 abbrev pub region_at : ℕ → Option Unit → List (ℕ × ℕ)
 region_at n None = []
 region_at n (Some u) = (u.region, n) ∷ []
 
--- by region, a unit there that has a want
+-- a map from each region in which a unit has a want to one such unit
 abbrev pub regions_with_wants : FinMap nat_cmp ℕ → CampaignValue → FinMap nat_cmp ℕ
 regions_with_wants wants c = with_each empty (flat_map (λ e. region_at e.0 (get c.units e.0)) (entries wants))

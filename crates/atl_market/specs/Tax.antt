@@ -18,30 +18,31 @@ use Rattle.atl_market.specs.Pots.{pot_shares}
 use Rattle.atl_market.specs.PotPhase.{PotMeaning, pots_by_orders}
 use Rattle.atl_instant.specs.PhaseSpecs.{PhaseSpec, books_none}
 
+-- whether a keyword is TAX
 abbrev pub is_tax : Verb → Bool
 is_tax verbs.Tax = true
 is_tax verb = false
 
--- why a unit takes no tax
+-- the first fault of TAX, if there is one: NoMen, NotGuarding
 abbrev pub tax_fault : Unit → Option EventFault
 tax_fault u = first_fault ((u.holding.men == 0, NoMen) ∷ (not u.holding.guard, NotGuarding) ∷ [])
 
--- as much as its men take, as far as it has room for it
+-- how much money a unit wants: what its men take, at most its room for money
 abbrev pub tax_want : WorldValue → Unit → ℕ
 tax_want w u = min (u.holding.men * w.rules.tax_per_man) (holding_limit - u.holding.money)
 
--- the money of a region
+-- the money of a region, which is its pot; 0 where there is no region
 abbrev pub money_at : CampaignValue → ℕ → ℕ
 money_at c region = option_map_or (λ q. q.money) (get c.regions region) 0
 
--- a unit, by its number, takes so much of its region's money
+-- a campaign after a unit, by its number, took so much of its region's money
 unfoldable pub after_tax : CampaignValue → ℕ × ℕ → CampaignValue
 after_tax c (n, share) =
     at_unit c n (λ u.
     at_region c u.region (λ q.
     with_region_money (with_money c n (u.holding.money + share)) u.region (q.money - share)))
 
--- The event says how much was taken.
+-- TAX as a phase with pots: each region's pot is its money. The event says how much was taken.
 abbrev pub tax_pots : PotMeaning
 tax_pots = record {
   fault = λ w u t. tax_fault u;
@@ -51,9 +52,10 @@ tax_pots = record {
   paid = λ items w c e. after_tax c e;
 }
 
+-- the meaning of the phase TAX
 abbrev pub tax_meaning : Meaning
 tax_meaning = pots_by_orders tax_pots is_tax
 
--- what a region's people pay was theirs: no entry of the books changes
+-- the specification of the phase TAX: money only goes from regions to units, so nothing is booked
 abbrev pub tax_spec : PhaseSpec
 tax_spec = books_none tax_meaning spares_all

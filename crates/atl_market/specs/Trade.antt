@@ -30,59 +30,61 @@ use Rattle.atl_market.specs.ItemPots.{item_shares}
 use Rattle.atl_market.specs.PotPhase.{PotMeaning, count_in, item_in, pots_by_orders}
 use Rattle.atl_market.specs.Unordered.{spares_unordered}
 
--- the trade of a phase
+-- whether a phase sells or buys, as a `Trade`
 abbrev pub trade_of : (sells : Bool) → Trade
 trade_of true = Sell
 trade_of false = Buy
 
+-- whether a keyword is the one of a trade, SELL or BUY
 abbrev pub is_trade : Trade → Verb → Bool
 is_trade Sell verbs.Sell = true
 is_trade Buy verbs.Buy = true
 is_trade trade verb = false
 
--- the market of a unit's region for the item that the unit is told to trade
+-- the market of a unit's region for the item that its order names, if there is one
 abbrev pub market_for : WorldValue → Unit → (item : Option ℕ) → Option Market
 market_for w u item = option_and_then (market_of w u.region) item
 
 -- ---- who trades
 
--- none of the item to sell, or too little money to buy one
+-- whether a unit has none of the item to sell, or less money than one costs
 abbrev pub has_too_little : Trade → HoldingValue → Market → Bool
 has_too_little Sell h m = amount_of h.items m.item == 0
 has_too_little Buy h m = nat_lt h.money m.price
 
--- why a unit doesn't trade
+-- the first fault of SELL or BUY, if there is one: NoMarket, NotEnough
 abbrev pub trade_fault : Trade → HoldingValue → Option Market → Option EventFault
 trade_fault trade h None = Some NoMarket
 trade_fault trade h (Some m) = first_fault ((has_too_little trade h m, NotEnough) ∷ [])
 
--- SELL: as many as it has, and as it has room for the money of. BUY: as many as it can pay for, and as it has room for.
+-- The most pieces that a unit can trade. SELL: by what it has of the item and its room for money. BUY: by its money and its room
+-- for the item.
 abbrev pub most_tradable : Trade → HoldingValue → Market → ℕ
 most_tradable Sell h m = min (amount_of h.items m.item) ((holding_limit - h.money) / m.pays)
 most_tradable Buy h m = min (h.money / m.price) (holding_limit - amount_of h.items m.item)
 
--- how many of them a unit wants to trade that is told to trade so many
+-- how many pieces a unit wants to trade: what its order asks for (`told`), at most what it can; 0 without a market
 abbrev pub trade_want : Trade → HoldingValue → (told : ℕ) → Option Market → ℕ
 trade_want trade h told market = option_map_or (λ m. min told (most_tradable trade h m)) market 0
 
 -- ---- the pots
 
--- SELL: as many as the stock is below the market's limit. BUY: the stock.
+-- The pot of a market. SELL: its limit less its stock. BUY: its stock.
 abbrev pub pot_by : Trade → (limit stock : ℕ) → ℕ
 pot_by Sell limit stock = limit - stock
 pot_by Buy limit stock = stock
 
--- how many of an item a region's market takes at most; where there is none, 0
+-- the limit of the stock of a region's market for an item; 0 where there is no market
 abbrev pub limit_of : WorldValue → (item region : ℕ) → ℕ
 limit_of w item region = option_map_or (λ m. m.limit) (market_of w region item) 0
 
--- the pot of an item and a region
+-- the pot of an item in a region, for SELL or BUY
 abbrev pub trade_pot : Trade → WorldValue → CampaignValue → (item region : ℕ) → ℕ
 trade_pot trade w c item region = pot_by trade (limit_of w item region) (stock_of c region item)
 
 -- ---- what changes
 
--- what a trade of so many leaves of a unit's money, of how much it has of the item, and of the stock, and what is booked
+-- the result of trading `share` pieces: the unit's money, its amount of the item and the stock after it, and the money to book
 abbrev pub trade_result_of : Trade → HoldingValue → (stock share : ℕ) → Market → TradeResult
 trade_result_of Sell h stock share m = record {
   money = h.money + share * m.pays;
@@ -97,22 +99,22 @@ trade_result_of Buy h stock share m = record {
   booked = neg_ℤ (pos (share * m.price));
 }
 
--- the entry under which it is booked, of money
+-- the entry of the books for the money of a trade: Sold or Bought
 abbrev pub trade_entry : Trade → Entry
 trade_entry Sell = Sold
 trade_entry Buy = Bought
 
--- what a unit holds as a deal leaves it
+-- a holding with the money and the amount of an item that a trade leaves
 abbrev pub with_trade_result : HoldingValue → (item : ℕ) → TradeResult → HoldingValue
 with_trade_result h item d = record h { money = d.money; items = with_amount_of h.items item d.amount }
 
--- a unit, the stock of its region, and the books as a deal leaves them
+-- a campaign with unit `n`, the stock of its region and the books as the result of a trade leaves them
 abbrev pub with_result : CampaignValue → ℕ → Unit → (item : ℕ) → Entry → TradeResult → CampaignValue
 with_result c n u item entry d =
     let paid = with_holding c n (with_trade_result u.holding item d) in
     with_amount (with_stock paid u.region item d.stock) entry Money d.booked
 
--- a unit, by its number, trades so many of its item, where its region has a market for that
+-- a campaign after a unit, by its number, traded so many of its order's item; unchanged where its region has no market for it
 unfoldable pub after_trade : Trade → FinMap nat_cmp ℕ → WorldValue → CampaignValue → ℕ × ℕ → CampaignValue
 after_trade trade items w c (n, share) =
     at_unit c n (λ u.
@@ -122,7 +124,7 @@ after_trade trade items w c (n, share) =
 
 -- ---- the phases
 
--- By the item that each order names, and by how many it asks for. The event says how many were traded.
+-- SELL or BUY as a phase with pots, by the item and the number that each order names. The event says how many were traded.
 abbrev pub trade_pots : Trade → PotMeaning
 trade_pots trade = record {
   fault = λ w u t. trade_fault trade u.holding (market_for w u (item_in t.order_value.operands));
@@ -132,9 +134,11 @@ trade_pots trade = record {
   paid = after_trade trade;
 }
 
+-- the meaning of the phase SELL or BUY
 abbrev pub trade_meaning : Trade → Meaning
 trade_meaning trade = pots_by_orders (trade_pots trade) (is_trade trade)
 
+-- the bound on what SELL or BUY books: Sold or Bought of money by at most `most`, nothing else
 abbrev pub trade_moves : Trade → ℕ → BookBound
 trade_moves trade most = moves_only most (trade_entry trade) Money
 
@@ -142,8 +146,10 @@ trade_moves trade most = moves_only most (trade_entry trade) Money
 abbrev pub trade_keeps : Trade → Frame
 trade_keeps trade = spares_unordered (is_trade trade)
 
+-- the specification of the phase SELL, which books Sold of money
 abbrev pub sell_spec : PhaseSpec
 sell_spec = books_money Sold (trade_meaning Sell) (trade_keeps Sell)
 
+-- the specification of the phase BUY, which books Bought of money
 abbrev pub buy_spec : PhaseSpec
 buy_spec = books_money Bought (trade_meaning Buy) (trade_keeps Buy)

@@ -1,4 +1,4 @@
--- For proofs alone: when a unit can trade.
+-- For proofs alone: when a unit can trade with its market, and when the result can be booked.
 use Rattle.std.specs.Prelude.{⊤, ◌≡◌, ◌≤◌, ◌+◌, ◌*◌, ℕ, Option, Some, None}
 use Rattle.std.specs.Ordering.{nat_cmp}
 use Rattle.std.specs.FinMap.{FinMap, get}
@@ -20,25 +20,25 @@ use Rattle.atl_market.specs.declared.trade.Trade.TheVariants.{Sell, Buy}
 use Rattle.atl_market.specs.Payable.{IsSomewhere}
 use Rattle.atl_market.specs.Trade.{market_for, trade_moves}
 
--- a unit has so many of the item to sell and room for their money, or can pay for them and has room for them
+-- a unit can trade `share` pieces: it has them and room for their money, or can pay for them and has room for them
 abbrev pub CanAfford : Trade → HoldingValue → (share : ℕ) → Option Market → Type 0
 CanAfford trade h share None = share ≡ 0
 CanAfford Sell h share (Some m) = (share ≤ amount_of h.items m.item) × (h.money + share * m.pays ≤ holding_limit)
 CanAfford Buy h share (Some m) = (share * m.price ≤ h.money) × (amount_of h.items m.item + share ≤ holding_limit)
 
--- the market takes them, or has them
+-- the market has room for `share` pieces (SELL), or has them in stock (BUY)
 abbrev pub HasPot : Trade → (stock share : ℕ) → Option Market → Type 0
 HasPot trade stock share None = ⊤
 HasPot Sell stock share (Some m) = stock + share ≤ m.limit
 HasPot Buy stock share (Some m) = share ≤ stock
 
--- a market's prices and its limit
+-- a market's prices are at least 1, and its limit is at most 999,999,999
 pub record IsPriced (m : Market) : Type 0 where
   pub price : 1 ≤ m.price
   pub pays : 1 ≤ m.pays
   pub limit : m.limit ≤ most_amount
 
--- a unit, by its number, can trade so many of its item
+-- A unit, by its number, can trade so many of its order's item: it can afford them, and the market's pot and the books allow them.
 pub record CanTrade (trade : Trade) (items : FinMap nat_cmp ℕ) (w : WorldValue) (c : CampaignValue) (e : ℕ × ℕ) : Type 0 where
   pub at : IsSomewhere c e.0
   pub deal : CanAfford trade at.unit.holding e.1 (market_for w at.unit (get items e.0))
@@ -47,7 +47,7 @@ pub record CanTrade (trade : Trade) (items : FinMap nat_cmp ℕ) (w : WorldValue
   pub early : IsEarly w c
   pub room : HaveRoom (trade_moves trade holding_limit) c
 
--- a deal is within the limits of a unit, and can be booked
+-- the result of a trade is within the limits of unit `n`, which is there, and the books have room for it
 pub record CanBookTrade (c : CampaignValue) (n : ℕ) (entry : Entry) (d : TradeResult) : Type 0 where
   pub unit : Unit
   pub there : get c.units n ≡ Some unit

@@ -1,4 +1,4 @@
--- Units without an order of their own faction in a phase, and what the phase leaves them.
+-- That a phase leaves each unit for which its own faction wrote no order of the phase no worse off.
 use Rattle.std.specs.Prelude.{◌≡◌, ◌==◌, ◌&&◌, ℕ, Bool, false, List, Some}
 use Rattle.std.specs.List.{list_any}
 use Rattle.std.specs.FinMap.{get}
@@ -10,14 +10,14 @@ use Rattle.atl_instant.specs.Meaning.{Frame}
 use Rattle.atl_instant.specs.PhaseOrders.{Task, orders_by_unit}
 use Rattle.atl_instant.specs.NoWorse.{IsNoWorse}
 
--- whether a unit, by its number, has an order of its own faction
+-- whether one of these orders is for a unit, by its number, and of the unit's own faction
 abbrev pub is_ordered : List Task → ℕ → Unit → Bool
 is_ordered os n u = list_any (λ o. o.unit == n && o.faction == u.faction) os
 
--- each unit without one is still there, and no worse off
+-- each unit without an order of its own faction among these is still there, and no worse off
 abbrev pub OthersAreNoWorse : List Task → CampaignValue → CampaignValue → Type 0
 OthersAreNoWorse os before after = Every (λ n u. is_ordered os n u ≡ false → (v : Unit) × (get after.units n ≡ Some v) × IsNoWorse u v) before.units
 
--- a phase that takes nothing from a unit for which its own faction wrote no order of it
+-- what a phase with these keywords leaves alone: each unit without such an order of its own faction is no worse off
 abbrev pub spares_unordered : (Verb → Bool) → Frame
 spares_unordered is_of w m before after = OthersAreNoWorse (orders_by_unit is_of m) before after

@@ -1,4 +1,4 @@
--- WORK: the places of each region's terrain are shared among the units that work, and each place pays the wage. See docs/RULES.md, "Work".
+-- WORK: units share the work places of their region's terrain, and each place pays the wage. See docs/RULES.md, "Work".
 use Rattle.std.specs.Prelude.{◌+◌, ◌-◌, ◌*◌, ◌/◌, ◌==◌, ◌&&◌, ◌++◌, ℕ, pos, Bool, true, false, List, [], ◌∷◌, map, filter, min, nat_lt, Option, not}
 use Rattle.std.specs.Option.{option_map_or}
 use Rattle.std.specs.Ordering.{nat_cmp}
@@ -32,31 +32,32 @@ use Rattle.atl_instant.specs.PhaseSpecs.{PhaseSpec, books_money}
 
 -- ---- who works
 
--- the work of a unit that has none: with line 0, as if its faction had written it
+-- an order of WORK for a unit that has none: on line 0, as if its faction had written it
 abbrev pub idle_task : (unit faction : ℕ) → Task
 idle_task unit faction = record { faction = faction; unit = unit; line = 0; place = 0; order_value = order_of verbs.Work Nothing }
 
--- a unit with men for which its own faction wrote none of these orders
+-- whether a unit has men and its own faction wrote none of these orders for it
 abbrev pub is_idle : List Task → ℕ × Unit → Bool
 is_idle ts (n, u) = nat_lt 0 u.holding.men && not (is_ordered ts n u)
 
--- the work of those units
+-- orders of WORK for all units with men for which their own faction wrote none of these orders, by unit
 abbrev pub idle_work : CampaignValue → List Task → List Task
 idle_work c ts = map (λ e. idle_task e.0 e.1.faction) (filter (is_idle ts) (entries c.units))
 
+-- whether a keyword is WORK
 abbrev pub is_work : Verb → Bool
 is_work verbs.Work = true
 is_work verb = false
 
--- those of some orders that are WORK
+-- the orders of WORK among some orders
 abbrev pub written_work : List Task → List Task
 written_work ts = filter (λ t. is_work t.order_value.verb) ts
 
--- by unit, line and faction, as the orders of a phase are
+-- orders sorted by unit, line and faction, as the orders of a phase are
 abbrev pub sorted_by_unit : List Task → List Task
 sorted_by_unit ts = values (from_entries {R = slice_cmp nat_cmp} (map (λ t. (key_of ByUnit t, t)) ts))
 
--- who works: by the month-long orders that are WORK, and the units without a month-long order
+-- the orders of the phase WORK: the month-long ones that are WORK, and one for each unit with men without a month-long order
 unfoldable pub work_orders : CampaignValue → MonthValue → List Task
 work_orders c m =
     let month_long = orders_by_unit is_month_long m in
@@ -64,32 +65,35 @@ work_orders c m =
 
 -- ---- what they earn
 
+-- the wage of a region's terrain for one work place; 0 where there is no terrain
 abbrev pub wage_at : WorldValue → ℕ → ℕ
 wage_at w region = option_map_or (λ t. t.wage) (terrain_of w region) 0
 
+-- how many work places a region's terrain has, which is its pot; 0 where there is no terrain
 abbrev pub places_at : WorldValue → ℕ → ℕ
 places_at w region = option_map_or (λ t. t.places) (terrain_of w region) 0
 
--- a place for each of a unit's men, as far as it has room for the wages
+-- how many work places a unit wants: one for each man, as far as it has room for the wages
 abbrev pub work_want : Unit → Option Terrain → ℕ
 work_want u terrain =
     option_map_or (λ t. min u.holding.men ((holding_limit - u.holding.money) / t.wage)) terrain 0
 
--- what so many places in a region pay
+-- the wages, in money, that so many work places in a region pay
 abbrev pub wages_for : WorldValue → ℕ → ℕ → ℕ
 wages_for w region places = places * wage_at w region
 
--- a unit, by its number, is paid its wages for so many places, which are booked
+-- a campaign after a unit, by its number, was paid for so many work places, which is booked
 unfoldable pub after_work : WorldValue → CampaignValue → ℕ × ℕ → CampaignValue
 after_work w c (n, places) =
     at_unit c n (λ u.
     let wages = wages_for w u.region places in
     with_amount (with_money c n (u.holding.money + wages)) Wages Money (pos wages))
 
+-- the fault of WORK, if there is one: NoMen
 abbrev pub work_fault : Unit → Option EventFault
 work_fault u = first_fault ((u.holding.men == 0, NoMen) ∷ [])
 
--- The event says how much money was paid.
+-- WORK as a phase with pots: each region's pot is its work places. The event says how much money was paid.
 abbrev pub work_pots : PotMeaning
 work_pots = record {
   fault = λ w u t. work_fault u;
@@ -99,12 +103,14 @@ work_pots = record {
   paid = λ items. after_work;
 }
 
+-- the meaning of the phase WORK
 abbrev pub work_meaning : Meaning
 work_meaning = pots_meaning work_pots work_orders
 
--- wages are of money
+-- the bound on what WORK books: Wages of money by at most `most`, nothing else
 abbrev pub work_moves : ℕ → BookBound
 work_moves most = moves_only most Wages Money
 
+-- the specification of the phase WORK, which books Wages of money and takes nothing from any unit
 abbrev pub work_spec : PhaseSpec
 work_spec = books_money Wages work_meaning spares_all

@@ -11,7 +11,7 @@ ghost use Rattle.atl_records.specs.Limits.{last_unit, most_structures};
 ghost use Rattle.atl_records.specs.declared.records.Unit.{Unit};
 ghost use Rattle.atl_instant.specs.Bounds.{HaveRoom};
 ghost use Rattle.atl_instant.specs.OrderEffects.{faction_effect};
-ghost use Rattle.atl_market.specs.Build.{after_building_on, after_start, begin, begin_fault, build_moves, build_spec, build_step, go_on, inside_fault, is_building, is_structure_limit, name_prefix, outside_fault, size_added, with_new};
+ghost use Rattle.atl_market.specs.Build.{after_building_on, after_start, begin, begin_fault, build_moves, build_spec, build_step, go_on, inside_fault, is_building, is_structure_limit, name_prefix, outside_fault, size_added, with_new_structure};
 ghost use Rattle.atl_market.specs.Bounds.{CanBuild, build_reserve};
 ghost use Rattle.atl_market.specs.Making.{CanUse};
 
@@ -27,18 +27,19 @@ use atl_state::{
 use atl_tables::{Kind, Text, World};
 use std::alloc::{AllocError, Global};
 
-/// Units begin structures, and go on with those that they are inside. See docs/RULES.md, "Building".
+/// The phase BUILD: units begin structures, and go on with those that they are inside. See
+/// docs/RULES.md, "Building".
 #[derive(Drop, Clone, Copy)]
 pub struct BuildPhase;
 
-/// A kind of the world by its number.
+/// The world's kind of structures under a number, if there is one.
 fn kind_of(world: &World, number: u16) -> Option<&Kind>
     ensures { option_copied result ≡ slice_get world.now.kinds number }
 {
     world.kinds().get(usize::from(number))
 }
 
-/// How much material a unit adds in a month to a structure of a kind, of which so much is done.
+/// How much material a unit adds in a month to a structure of a kind, of which `done` is done.
 fn size_added(kind: &Kind, holding: &Holding, done: u32) -> u32
     ensures { result ≡ size_added kind.now holding.now done }
 {
@@ -47,8 +48,8 @@ fn size_added(kind: &Kind, holding: &Holding, done: u32) -> u32
     work.min(material).min(kind.size.saturating_sub(done))
 }
 
-/// Whether no further structure can come: the structures are numbered from 1 without a gap, so that the next number tells
-/// how many stand.
+/// Whether no further structure may be begun. The structures are numbered from 1 without a gap, so
+/// the next number says how many there are.
 fn is_structure_limit(campaign: &Campaign) -> bool
     requires { IsNumbered campaign.now.value.structures campaign.now.value.next_structure }
     ensures { result ≡ is_structure_limit campaign.now.value }
@@ -56,7 +57,7 @@ fn is_structure_limit(campaign: &Campaign) -> bool
     campaign.next_structure() > MOST_STRUCTURES
 }
 
-/// Why a unit doesn't begin a structure of a kind.
+/// The first fault of `BUILD kind`, if there is one.
 fn begin_fault(world: &World, campaign: &Campaign, unit: &Unit, kind: &Kind) -> Option<EventFault>
     requires { IsNumbered campaign.now.value.structures campaign.now.value.next_structure }
     ensures { result ≡ begin_fault world.now campaign.now.value unit.now kind.now }
@@ -76,7 +77,7 @@ fn begin_fault(world: &World, campaign: &Campaign, unit: &Unit, kind: &Kind) -> 
     }
 }
 
-/// Why a unit that is inside no structure doesn't go on with one.
+/// The fault of `BUILD` by a unit that is inside no structure: NoMen, else NotInside.
 fn outside_fault(unit: &Unit) -> EventFault
     ensures { Some result ≡ outside_fault unit.now }
 {
@@ -87,7 +88,7 @@ fn outside_fault(unit: &Unit) -> EventFault
     }
 }
 
-/// Why a unit doesn't go on with the structure that it is inside, which is of a kind.
+/// The first fault of `BUILD` by a unit inside a structure of a kind, if there is one.
 fn inside_fault(unit: &Unit, structure: &Structure, kind: &Kind) -> Option<EventFault>
     ensures { result ≡ inside_fault unit.now structure.now kind.now }
 {
@@ -104,7 +105,7 @@ fn inside_fault(unit: &Unit, structure: &Structure, kind: &Kind) -> Option<Event
     }
 }
 
-/// The name of a structure that has none of its own yet: `Ship 7` or `Building 7`.
+/// The first name of a structure, by its kind and number: `Ship 7` or `Building 7`.
 fn name_of(alloc: Global, kind: &Kind, number: u32) -> Result<Text, AllocError>
     requires { number ≤ last_unit }
     ensures { IfOk result (λ name. name ≡ name_prefix kind.now ++ decimal number) }
@@ -117,7 +118,8 @@ fn name_of(alloc: Global, kind: &Kind, number: u32) -> Result<Text, AllocError>
     Ok(Text::from_string(letters))
 }
 
-/// A structure that is begun, which nobody owns yet. The answer is its number.
+/// Adds a structure of a kind, of which `size` is done and which nobody owns yet, and returns its
+/// number.
 fn raise(
     alloc: Global,
     campaign: &mut Campaign,
@@ -130,7 +132,7 @@ fn raise(
         ≡ None }
     requires room { campaign.old.value.next_structure ≤ most_structures }
     ensures what { OnOk result
-        (campaign.new.value ≡ with_new campaign.old.value number kind.now region size) }
+        (campaign.new.value ≡ with_new_structure campaign.old.value number kind.now region size) }
     ensures number { IfOk result (λ place. place ≡ campaign.old.value.next_structure) }
     ensures marks { OnOk result (MarksChanges campaign.old campaign.new) }
 {
@@ -144,7 +146,8 @@ fn raise(
     })
 }
 
-/// A unit uses so much for a new structure, leaves its old one and enters this.
+/// A unit uses `size` of its material for a new structure, leaves its old one and enters the new
+/// one.
 fn start(
     alloc: Global,
     world: &World,
@@ -169,7 +172,7 @@ fn start(
     Ok(())
 }
 
-/// A unit begins a structure of a kind, by its number, or nothing changes where a fault fits.
+/// Carries out `BUILD kind`: the unit begins a structure; with a fault nothing changes.
 #[tactic(auto, unfolding(crate::specs::Build::begin))]
 fn begin(
     alloc: Global,
@@ -202,7 +205,7 @@ fn begin(
     Ok(Outcome::Done(u64::from(size)))
 }
 
-/// A unit uses so much for a structure, of which so much is done then.
+/// Takes `size` of a material from a unit, and sets how much of a structure is done.
 fn add(
     world: &World,
     campaign: &mut Campaign,
@@ -223,7 +226,8 @@ fn add(
     Ok(())
 }
 
-/// A unit goes on with the structure that it is inside, or nothing changes where a fault fits.
+/// Carries out `BUILD`: the unit goes on with the structure that it is inside; with a fault nothing
+/// changes.
 #[tactic(auto, unfolding(crate::specs::Build::go_on))]
 fn go_on(
     world: &World,

@@ -1,4 +1,4 @@
-//! Units use items and make items; both are booked.
+//! Takes used items from a unit and gives it made items; both are booked.
 ghost use Rattle.std.specs.Prelude.{◌≡◌, OnOk, Some};
 ghost use Rattle.std.specs.FinMap as map;
 ghost use Rattle.atl_state.specs.Covers.{MarksChanges};
@@ -12,7 +12,7 @@ use atl_state::{Campaign, Entry, Thing};
 use atl_tables::World;
 use std::alloc::AllocError;
 
-/// How much of an item a unit holds that is there.
+/// How much of an item a unit holds; 0 where the unit isn't there.
 fn held_of(campaign: &Campaign, number: u32, item: u16) -> u32
     ensures { (u : Unit) → map.get campaign.now.value.units number ≡ Some u
         → result ≡ amount_of u.holding.items item }
@@ -23,7 +23,7 @@ fn held_of(campaign: &Campaign, number: u32, item: u16) -> u32
     }
 }
 
-/// A unit uses so much of an item, which is booked.
+/// Takes so much of an item from a unit, which is booked as used.
 pub(crate) fn use_item(
     world: &World,
     campaign: &mut Campaign,
@@ -42,7 +42,7 @@ pub(crate) fn use_item(
     Ok(())
 }
 
-/// A unit makes so much of an item, which is booked.
+/// Gives a unit so much of an item, which is booked as made.
 pub(crate) fn make_item(
     world: &World,
     campaign: &mut Campaign,

@@ -15,17 +15,17 @@ use atl_state::Campaign;
 use atl_tables::Numbered;
 use std::alloc::{AllocError, Global};
 
-/// Who asks for which item, and how much of it there is to share in each region.
+/// The pots of items: which item each unit asks for, and how much of it each region has to share.
 pub(crate) trait ItemPots {
     ghost use Rattle.std.specs.Prelude.{ℕ, Option, ◌≡◌, ◌≤◌};
 
-    // The item that a unit asks for, by the unit's number.
+    // The item that a unit asks for, by the unit's number, if it asks for one.
     ghost item_of: { Self → ℕ → Option ℕ };
 
-    // By the numbers of the item and of the region.
+    // The pot of an item in a region, by their numbers.
     ghost pot_of: { Self → ℕ → ℕ → ℕ };
 
-    // When they can be asked for.
+    // What must hold for `pot` to be called.
     ghost ready: { Self → Type 0 };
 
     /// The item that a unit asks for, if it asks for one.
@@ -39,10 +39,10 @@ pub(crate) trait ItemPots {
         ensures bound { result ≤ most_amount };
 }
 
-/// Wants by item, and of each item by unit.
+/// The wants of units by item, and of each item by unit.
 type Groups = Numbered<Numbered<u32>>;
 
-/// Puts a unit's want beside those of its item, where it has a want and asks for an item.
+/// Puts a unit's want into the groups under the item that it asks for, if it has both.
 fn note_want<P: ItemPots>(
     alloc: Global,
     pots: &P,
@@ -58,7 +58,7 @@ fn note_want<P: ItemPots>(
     }
 }
 
-/// The wants of these units by item.
+/// The wants of these units by item, and of each item by unit.
 fn wants_by_item<P: ItemPots>(
     alloc: Global,
     pots: &P,
@@ -75,7 +75,7 @@ fn wants_by_item<P: ItemPots>(
     Ok(groups)
 }
 
-/// The units that have one of these wants, in unit order.
+/// The numbers of the units that have one of these wants, in unit order.
 fn takers_of(alloc: Global, wants: &Numbered<u32>) -> Result<Vec<u32>, AllocError>
     ensures { IfOk result (λ takers. takers.items ≡ finmap.keys wants.now) }
 {
@@ -86,7 +86,8 @@ fn takers_of(alloc: Global, wants: &Numbered<u32>) -> Result<Vec<u32>, AllocErro
     Ok(takers)
 }
 
-/// Puts the shares of all that one region has, item by item.
+/// Shares what one region has, item by item, among the groups of its units, and puts the shares
+/// into a map by unit.
 fn share_items<P: ItemPots>(
     alloc: Global,
     pots: &P,
@@ -108,7 +109,8 @@ fn share_items<P: ItemPots>(
     Ok(())
 }
 
-/// Puts the shares of one region. It goes over the units that stand there once, if one of them has a want, and no further.
+/// Shares all items of one region among its units, and puts the shares into a map by unit. It goes
+/// over the units of the region once, and only if one of them has a want.
 fn share_region<P: ItemPots>(
     alloc: Global,
     campaign: &Campaign,
@@ -132,8 +134,9 @@ fn share_region<P: ItemPots>(
     share_items(alloc, pots, wants, region, &groups, given)
 }
 
-/// What units get of what their regions have of the items that they ask for, by unit, all at once. It goes over the regions
-/// once, and over the units of those where one has a want once, for however many items. AllocError without memory.
+/// What units get of what their regions have of the items that they ask for, by unit, all at once.
+/// It goes once over the regions, and once over the units of those where one has a want, for
+/// however many items. AllocError without memory.
 pub(crate) fn item_shares<P: ItemPots>(
     alloc: Global,
     campaign: &Campaign,

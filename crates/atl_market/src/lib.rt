@@ -1,5 +1,5 @@
-//! Pots, how they are shared, and the phases that share them: trade, tax, recruits, building,
-//! producing and work.
+//! How a pot is shared, the pots of regions and of items, and the phases that share them: SELL,
+//! BUY, TAX, RECRUIT, PRODUCE and WORK; and the phase BUILD.
 #![tactic(auto)]
 
 mod build;

@@ -7,14 +7,14 @@ ghost use Rattle.atl_state.specs.Covers.{MarksChanges};
 ghost use Rattle.atl_records.specs.Limits.{holding_limit};
 ghost use Rattle.atl_tables.specs.declared.world.Item.{Item};
 ghost use Rattle.atl_market.specs.Making.{CanMakeOf, CanUse};
-ghost use Rattle.atl_market.specs.Produce.{can_make, can_make_of, is_unskilled, item_of, lacks_raw, make_fault, up_to_raw, with_item_made, with_raw_used};
+ghost use Rattle.atl_market.specs.Produce.{is_unskilled, item_of, lacks_raw, make_fault, most_makeable, most_makeable_of, up_to_raw, with_item_made, with_raw_used};
 
 use crate::goods::{make_item, use_item};
 use atl_state::{Campaign, EventFault, HOLDING_LIMIT, Holding, level_in_any};
 use atl_tables::{Item, World};
 use std::alloc::AllocError;
 
-/// An item of the world, by its number.
+/// The world's item under the number that an order names, if there is one.
 pub(crate) fn item_of(world: &World, asked: Option<u16>) -> Option<&Item>
     ensures value { option_copied result ≡ item_of world.now asked }
     ensures bounds { IfSome result (λ item. 1 ≤ item.now.raw_count) }
@@ -22,14 +22,14 @@ pub(crate) fn item_of(world: &World, asked: Option<u16>) -> Option<&Item>
     world.item(asked?)
 }
 
-/// Whether a unit hasn't the skill to make an item.
+/// Whether no skill makes an item, or a unit's level in that skill is too low.
 fn is_unskilled(holding: &Holding, item: &Item) -> bool
     ensures { result ≡ is_unskilled holding.now item.now }
 {
     item.skill.is_none() || level_in_any(holding, item.skill) < item.level
 }
 
-/// Whether the raw items are enough for none.
+/// Whether raw items go into an item, `count` each, and those held are enough for none of it.
 fn lacks_raw(holding: &Holding, count: u32, raw: Option<u16>) -> bool
     requires { 1 ≤ count }
     ensures { result ≡ lacks_raw holding.now count raw }
@@ -40,7 +40,7 @@ fn lacks_raw(holding: &Holding, count: u32, raw: Option<u16>) -> bool
     }
 }
 
-/// So many, but no more than the raw items are enough for.
+/// The lesser of `most` and how many the raw items held are enough for, `count` each.
 fn up_to_raw(holding: &Holding, count: u32, raw: Option<u16>, most: u32) -> u32
     requires { 1 ≤ count }
     ensures value { result ≡ up_to_raw holding.now count raw most }
@@ -52,7 +52,7 @@ fn up_to_raw(holding: &Holding, count: u32, raw: Option<u16>, most: u32) -> u32
     }
 }
 
-/// Why a unit doesn't make an item of the world, or a thing that is none.
+/// The first fault of PRODUCE, if there is one: NoMen, NoSkill, NoMaterial.
 pub(crate) fn make_fault(world: &World, holding: &Holding, asked: Option<u16>) -> Option<EventFault>
     ensures { result ≡ make_fault holding.now (item_of world.now asked) }
 {
@@ -71,10 +71,10 @@ pub(crate) fn make_fault(world: &World, holding: &Holding, asked: Option<u16>) -
     }
 }
 
-/// How much of an item a unit can make, at most 999,999,999.
-fn can_make_of(holding: &Holding, number: u16, item: &Item) -> u32
+/// The most of an item that a unit can make, at most 999,999,999.
+fn most_makeable_of(holding: &Holding, number: u16, item: &Item) -> u32
     requires { 1 ≤ item.now.raw_count }
-    ensures value { result ≡ can_make_of holding.now number item.now }
+    ensures value { result ≡ most_makeable_of holding.now number item.now }
     ensures bound { result ≤ most_amount }
 {
     let skilled = holding.men() * level_in_any(holding, item.skill);
@@ -82,18 +82,18 @@ fn can_make_of(holding: &Holding, number: u16, item: &Item) -> u32
     up_to_raw(holding, item.raw_count, item.raw, skilled.min(room))
 }
 
-/// How much a unit can make of what it is told to make, at most 999,999,999.
-pub(crate) fn can_make(world: &World, holding: &Holding, asked: Option<u16>) -> u32
-    ensures value { result ≡ can_make world.now holding.now asked }
+/// The most that a unit can make of the item that its order names, at most 999,999,999.
+pub(crate) fn most_makeable(world: &World, holding: &Holding, asked: Option<u16>) -> u32
+    ensures value { result ≡ most_makeable world.now holding.now asked }
     ensures bound { result ≤ most_amount }
 {
     match (asked, item_of(world, asked)) {
-        (Some(number), Some(item)) => can_make_of(holding, number, item),
+        (Some(number), Some(item)) => most_makeable_of(holding, number, item),
         _ => 0,
     }
 }
 
-/// A unit uses the raw items of so many, where one is named.
+/// Takes from a unit the raw items for `made` of an item, if any go into it.
 fn use_raw(
     world: &World,
     campaign: &mut Campaign,
@@ -115,7 +115,7 @@ fn use_raw(
     }
 }
 
-/// A unit makes so many of an item, and uses the raw items.
+/// Takes from a unit the raw items for `made` of an item, and gives it these.
 fn make_of(
     world: &World,
     campaign: &mut Campaign,
@@ -134,7 +134,7 @@ fn make_of(
     Ok(())
 }
 
-/// A unit makes so many of a thing, where that is one of the world's items.
+/// Takes the raw items for `made` of an item, and gives these, if it is one of the world's items.
 pub(crate) fn make(
     world: &World,
     campaign: &mut Campaign,

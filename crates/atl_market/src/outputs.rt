@@ -1,5 +1,5 @@
-//! How much the units make of what the terrains of their regions give. See docs/RULES.md,
-//! "Producing".
+//! How much each unit makes in PRODUCE: its share of what the terrain of its region gives, or what
+//! its raw items allow. See docs/RULES.md, "Producing".
 ghost use Rattle.std.specs.Prelude.{⊤, ℕ, ◌≡◌, map, IfOk};
 ghost use Rattle.std.specs.FinMap as finmap;
 ghost use Rattle.atl_market.specs.Pots.{AreWants};
@@ -12,14 +12,14 @@ use atl_state::Campaign;
 use atl_tables::{Numbered, World};
 use std::alloc::{AllocError, Global};
 
-/// What the terrains of the regions give of the items that the units are told to make.
+/// The pots of PRODUCE: what each region's terrain gives of the items that orders name.
 #[derive(Drop)]
 struct Outputs<'a> {
     world: &'a World,
     asked: &'a Numbered<u16>,
 }
 
-/// The item that a unit makes out of what its region gives.
+/// The item that a unit makes out of what its region gives, without raw items, if it makes one so.
 fn output_item(world: &World, asked: &Numbered<u16>, unit: u32) -> Option<u16>
     ensures { result ≡ output_item world.now asked.now unit }
 {
@@ -50,7 +50,7 @@ impl<'a> ItemPots for Outputs<'a> {
     }
 }
 
-/// How much a unit makes that wants so much.
+/// How much a unit makes that wants so much: its share, or its want where it uses raw items.
 fn made_by(
     world: &World,
     campaign: &Campaign,
@@ -70,7 +70,7 @@ fn made_by(
     }
 }
 
-/// How much the units make by what they want, by unit.
+/// How much each unit that has a want makes, by unit. AllocError without memory.
 pub(crate) fn made_amounts(
     alloc: Global,
     world: &World,

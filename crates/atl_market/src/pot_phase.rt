@@ -1,4 +1,5 @@
-//! A phase in which the units of each region share a pot. See docs/RULES.md, "Pots".
+//! Phases in which the units of each region share a pot: their trait, and the one body that shares
+//! out and reports. See docs/RULES.md, "Pots".
 ghost use Rattle.std.specs.Prelude.{ℕ, ◌≡◌, ◌≤◌, IfOk, OnOk, fold, map};
 ghost use Rattle.std.specs.FinMap.{FinMap, entries};
 ghost use Rattle.std.specs.Result.{result_map_both};
@@ -19,28 +20,29 @@ use atl_state::{Campaign, Event, EventFault, Outcome, Unit};
 use atl_tables::{Numbered, World};
 use std::alloc::{AllocError, Global};
 
-/// A phase in which the units of each region share a pot.
+/// What is particular to one phase in which the units of each region share a pot.
 pub(crate) trait PotPhase {
     ghost meaning: { Self → PotMeaning };
 
-    // What it needs of the campaign.
+    // What the phase needs of the campaign.
     ghost needs: { Self → WorldValue → CampaignValue → Type 0 };
 
-    // When a unit, by its number, can get so much of its pot, by the items that orders name.
+    // When a unit, by its number, can be given so much of its pot; the map has each unit's item.
     ghost can_pay: { Self → FinMap nat_cmp ℕ → WorldValue → CampaignValue → ℕ × ℕ → Type 0 };
 
-    /// Why a unit doesn't carry out an order of its own faction.
+    /// The fault of an order of the unit's own faction, if there is one.
     fn fault(&self, world: &World, unit: &Unit, order: PhaseOrder<'_>) -> Option<EventFault>
         ensures { result ≡ PotMeaning.fault (meaning self.now) world.now unit.now
             (task_of order.entry) };
 
-    /// How much of the pot of its region a unit wants by an order, at most 999,999,999.
+    /// How much a unit wants of the pot of its region by an order, at most 999,999,999.
     fn want(&self, world: &World, unit: &Unit, order: PhaseOrder<'_>) -> u32
         ensures value { result ≡ PotMeaning.want (meaning self.now) world.now unit.now
             (task_of order.entry) }
         ensures bound { result ≤ most_amount };
 
-    /// What the units get by the items that their orders name, and by what they want. AllocError without memory.
+    /// What each unit gets, from the items that the orders name and from the wants, all by unit.
+    /// AllocError without memory.
     fn grants(
         &self,
         alloc: Global,
@@ -54,11 +56,12 @@ pub(crate) trait PotPhase {
         ensures { IfOk result (λ given. given
             ≡ PotMeaning.grants (meaning self.now) items.now world.now campaign.now.value wants.now) };
 
-    /// What the event says of a unit that got so much of the pot.
+    /// The number in the event of a unit that got so much of the pot.
     fn event_number(&self, world: &World, unit: &Unit, share: u32) -> u64
         ensures { result ≡ PotMeaning.event_number (meaning self.now) world.now unit.now share };
 
-    /// A unit gets so much of the pot of its region. AllocError without memory; the campaign may then be changed in part.
+    /// Gives a unit so much of the pot of its region, or of that of its item there. AllocError
+    /// without memory; the campaign may then be changed in part.
     fn pay(
         &self,
         world: &World,
@@ -74,7 +77,7 @@ pub(crate) trait PotPhase {
         ensures marks { OnOk result (MarksChanges campaign.old campaign.new) };
 }
 
-/// The item that an order names.
+/// The item that an order names, if it names one.
 pub(crate) fn named_item(order: PhaseOrder<'_>) -> Option<u16>
     ensures { result ≡ item_in (task_of order.entry).order_value.operands }
 {
@@ -96,7 +99,7 @@ pub(crate) fn named_count(order: PhaseOrder<'_>) -> u32
     }
 }
 
-/// The unit that carries an order out, or why none does.
+/// The unit that carries an order out, or the order's fault.
 #[tactic(auto, unfolding(crate::specs::PotPhase::unit_for))]
 fn unit_for<'c, P: PotPhase>(
     phase: &P,
@@ -116,7 +119,7 @@ fn unit_for<'c, P: PotPhase>(
     }
 }
 
-/// Notes what a unit wants by an order, if it carries the order out.
+/// Puts what a unit wants by an order into a map by unit, if the order has no fault.
 #[tactic(auto, using(crate::proofs::WantLaws::one_want))]
 fn note_want<P: PotPhase>(
     phase: &P,
@@ -137,7 +140,7 @@ fn note_want<P: PotPhase>(
     Ok(())
 }
 
-/// What the units want by their orders, by unit.
+/// What each unit wants by its order, by unit; of orders with a fault nothing.
 #[tactic(auto, using(crate::proofs::WantLaws::any_then))]
 fn wants_of<P: PotPhase>(
     alloc: Global,
@@ -158,7 +161,7 @@ fn wants_of<P: PotPhase>(
     Ok(wants)
 }
 
-/// Notes the item that an order names, if a unit carries the order out.
+/// Puts the item that an order names into a map by unit, if the order has no fault.
 fn note_item<P: PotPhase>(
     phase: &P,
     world: &World,
@@ -176,7 +179,7 @@ fn note_item<P: PotPhase>(
     Ok(())
 }
 
-/// The items that the orders name which are carried out, by unit.
+/// The item that each unit's order names, by unit; of orders with a fault nothing.
 #[tactic(auto, using(crate::proofs::WantLaws::any_then))]
 fn items_of<P: PotPhase>(
     alloc: Global,
@@ -195,7 +198,7 @@ fn items_of<P: PotPhase>(
     Ok(items)
 }
 
-/// What the units get, by unit.
+/// How much each unit gets, by unit.
 fn given_of<P: PotPhase>(
     alloc: Global,
     phase: &P,
@@ -213,7 +216,7 @@ fn given_of<P: PotPhase>(
     phase.grants(alloc, world, campaign, items, &wants)
 }
 
-/// What came of an order, where so much was given.
+/// The event of an order, by the amounts in `given`.
 fn event_of<P: PotPhase>(
     phase: &P,
     world: &World,
@@ -234,7 +237,7 @@ fn event_of<P: PotPhase>(
     order.event(outcome)
 }
 
-/// What came of each order, where so much was given.
+/// The event of each order, by the amounts in `given`.
 fn events_of<P: PotPhase>(
     alloc: Global,
     phase: &P,
@@ -254,7 +257,7 @@ fn events_of<P: PotPhase>(
     Ok(events)
 }
 
-/// Each unit gets what it was given.
+/// Gives each unit its share, in the order of their numbers.
 fn pay_all<P: PotPhase>(
     phase: &P,
     world: &World,
@@ -276,9 +279,10 @@ fn pay_all<P: PotPhase>(
     Ok(())
 }
 
-/// Shares the pots of all regions among the units by their orders, all at once: who takes part, what each wants and what
-/// there is to share is read from the campaign as it is handed in. The answer is an event for each order. AllocError without
-/// memory; the campaign may then be changed in part. See docs/RULES.md, "Pots".
+/// Shares the pots of all regions among the units by their orders, all at once, and returns an
+/// event for each order. Who takes part, what each wants and what there is to share is read from
+/// the campaign as it is handed in. AllocError without memory; the campaign may then be changed in
+/// part. See docs/RULES.md, "Pots".
 #[tactic(auto, unfolding(crate::specs::PotPhase::after_sharing, crate::specs::PotPhase::events_by))]
 pub(crate) fn share_out<P: PotPhase>(
     alloc: Global,

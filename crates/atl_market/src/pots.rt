@@ -1,4 +1,5 @@
-//! The pots of all regions, shared at once. See docs/RULES.md, "Pots".
+//! Shares the pots of all regions at once, each among the units in its region. See docs/RULES.md,
+//! "Pots".
 ghost use Rattle.std.specs.Prelude.{◌≡◌, ◌≤◌, All, IfOk, OnOk, length, map};
 ghost use Rattle.std.specs.List.{zip};
 ghost use Rattle.atl_tables.specs.Limits.{most_amount};
@@ -12,14 +13,14 @@ use atl_state::Campaign;
 use atl_tables::Numbered;
 use std::alloc::{AllocError, Global};
 
-/// What there is to share in each region.
+/// The pot of each region: how much there is to share in it.
 pub trait Pots {
     ghost use Rattle.std.specs.Prelude.{ℕ};
 
-    // By the number of the region.
+    // The pot of a region, by its number.
     ghost pot_of: { Self → ℕ → ℕ };
 
-    // When they can be asked for.
+    // What must hold for `pot` to be called.
     ghost ready: { Self → Type 0 };
 
     /// The pot of a region, at most 999,999,999.
@@ -29,7 +30,7 @@ pub trait Pots {
         ensures bound { result ≤ most_amount };
 }
 
-/// Those of these units that have a want.
+/// The numbers of those of these units that have a want, in their order.
 fn takers_of(alloc: Global, units: &[u32], wants: &Numbered<u32>) -> Result<Vec<u32>, AllocError>
     ensures { IfOk result (λ takers. takers.items ≡ takers_among wants.now units.now) }
 {
@@ -42,7 +43,7 @@ fn takers_of(alloc: Global, units: &[u32], wants: &Numbered<u32>) -> Result<Vec<
     Ok(takers)
 }
 
-/// What a unit wants.
+/// What a unit wants, by its number; 0 where it has no want.
 fn want_of(wants: &Numbered<u32>, number: u32) -> u64
     requires { AreWants wants.now }
     ensures value { result ≡ want_of wants.now number }
@@ -54,7 +55,7 @@ fn want_of(wants: &Numbered<u32>, number: u32) -> u64
     }
 }
 
-/// What these units want.
+/// What each of these units wants, in their order.
 fn wants_of(alloc: Global, takers: &[u32], wants: &Numbered<u32>) -> Result<Vec<u64>, AllocError>
     requires { AreWants wants.now }
     ensures value { IfOk result (λ wanted. wanted.items ≡ map (want_of wants.now) takers.now) }
@@ -67,7 +68,7 @@ fn wants_of(alloc: Global, takers: &[u32], wants: &Numbered<u32>) -> Result<Vec<
     Ok(wanted)
 }
 
-/// Puts each unit's share under its number.
+/// Puts the share of each of these units into a map by unit, under its number.
 fn put_shares(takers: &[u32], shares: &[u64], given: &mut Numbered<u32>) -> Result<(), AllocError>
     requires length { length shares.now ≡ length takers.now }
     requires bound { All (λ share. share ≤ most_amount) shares.now }
@@ -79,7 +80,8 @@ fn put_shares(takers: &[u32], shares: &[u64], given: &mut Numbered<u32>) -> Resu
     Ok(())
 }
 
-/// Puts the shares of one pot, of at most 999,999,999, among these units in their order, each by what it wants.
+/// Shares one pot of at most 999,999,999 among these units by their wants, and puts the shares into
+/// a map by unit.
 pub(crate) fn share_pot(
     alloc: Global,
     pot: u64,
@@ -97,7 +99,7 @@ pub(crate) fn share_pot(
     put_shares(takers, &shares, given)
 }
 
-/// The regions where a unit has a want.
+/// A map from each region in which a unit has a want to one such unit.
 pub(crate) fn regions_with_wants(
     alloc: Global,
     campaign: &Campaign,
@@ -114,7 +116,8 @@ pub(crate) fn regions_with_wants(
     Ok(asked)
 }
 
-/// Puts the shares of one region's pot. It goes over the units that stand there, if one of them has a want, and no further.
+/// Shares one region's pot among its units, and puts the shares into a map by unit. It goes over
+/// the units of the region only if one of them has a want.
 fn share_region<P: Pots>(
     alloc: Global,
     campaign: &Campaign,
@@ -141,10 +144,11 @@ fn share_region<P: Pots>(
     share_pot(alloc, pots.pot(region), &takers, wants, given)
 }
 
-/// What units get of the pots of their regions, by unit, all at once. Those of a region's units that have a want share its
-/// pot, in unit order, by what they want; each want is at most 999,999,999. Who has no want, or stands in no region of the
-/// campaign, gets nothing and is not listed. It goes over the regions once, and over the units of those where one has a want.
-/// AllocError without memory. See docs/RULES.md, "Shares".
+/// What units get of the pots of their regions, by unit, all at once. The units of a region that
+/// have a want share its pot, in unit order, by their wants; each want is at most 999,999,999. A
+/// unit that has no want, or is in no region of the campaign, gets nothing and is not listed. It
+/// goes over the regions once, and over the units of those where one has a want. AllocError without
+/// memory. See docs/RULES.md, "Shares".
 pub fn pot_shares<P: Pots>(
     alloc: Global,
     campaign: &Campaign,
@@ -164,15 +168,16 @@ pub fn pot_shares<P: Pots>(
     Ok(given)
 }
 
-/// Does nothing. Its clauses are the laws of who gets something: only units that have a want and stand in a region of the
-/// campaign do, each of them does, and none gets more than it wants.
+/// Does nothing. Its clauses are the laws of who gets a share of `pot_shares`: only units that have
+/// a want and are in a region of the campaign, each of them, and none more than it wants.
 pub fn takers_alone_get()
     ensures only { OnlyTakersGet }
     ensures each { EachTakerGets }
 {}
 
-/// Does nothing. Its clauses are the laws of one region: its takers get the shares of its pot in unit order, which add up to
-/// the pot or to all their wants, whichever is less; and no other region counts. See docs/RULES.md, "Shares".
+/// Does nothing. Its clauses are the laws of one region's pot: the units there that have a want get
+/// its shares in unit order; these add up to the lesser of the pot and of all their wants; and no
+/// other region counts. See docs/RULES.md, "Shares".
 pub fn each_pot_is_shared()
     ensures shares { SharesEachPot }
     ensures sum { GivesEachPot }

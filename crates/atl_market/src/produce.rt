@@ -7,7 +7,7 @@ ghost use Rattle.atl_market.specs.Making.{CanProduce};
 ghost use Rattle.atl_market.specs.Produce.{after_production, is_produce, produce_keeps, produce_meaning, produce_moves, produce_pots};
 ghost use Rattle.atl_market.specs.AfterPots.{ProducesAtOnce};
 
-use crate::making::{can_make, make, make_fault};
+use crate::making::{make, make_fault, most_makeable};
 use crate::outputs::made_amounts;
 use crate::pot_phase::{PotPhase, named_item, share_out};
 use atl_instant::{Arrangement, Month, Phase, PhaseOrder, PhaseResult, PhaseVerbs, add_events};
@@ -16,7 +16,8 @@ use atl_state::{Campaign, EventFault, Unit};
 use atl_tables::{Numbered, World};
 use std::alloc::{AllocError, Global};
 
-/// Production: units make items, of raw items or of what the terrain of their region gives. See docs/RULES.md, "Producing".
+/// The phase PRODUCE: units make items of raw items, or of what the terrain of their region gives.
+/// See docs/RULES.md, "Producing".
 #[derive(Drop, Clone, Copy)]
 pub struct ProducePhase;
 
@@ -40,7 +41,7 @@ impl PotPhase for ProducePhase {
     }
 
     fn want(&self, world: &World, unit: &Unit, order: PhaseOrder<'_>) -> u32 {
-        can_make(world, &unit.holding, named_item(order))
+        most_makeable(world, &unit.holding, named_item(order))
     }
 
     fn grants(
@@ -74,7 +75,7 @@ impl PotPhase for ProducePhase {
     }
 }
 
-/// Does nothing. Its clause is what is so of every world.
+/// Does nothing. Its clause says that a world is well-formed (`IsWorld`), which every `World` is.
 pub(crate) fn world_is_sound(world: &World)
     ensures { IsWorld world.now }
 {
@@ -104,8 +105,9 @@ impl Phase for ProducePhase {
     }
 }
 
-/// Does nothing. Its clause is the law that all units produce at once: each has what it made more than as the phase began,
-/// and the raw items that went into it less, and no region changes. See docs/RULES.md, "Producing".
+/// Does nothing. Its clause is the law that all units produce at once: each has what it made more
+/// than as the phase began, and the raw items that went into it less, and no region changes. See
+/// docs/RULES.md, "Producing".
 pub fn units_produce_all_at_once()
     ensures { ProducesAtOnce }
 {}

@@ -11,7 +11,7 @@ ghost use Rattle.atl_state.specs.Campaign.{with_amount, with_peasants};
 ghost use Rattle.atl_instant.specs.Holdings.{MarksNoGoods};
 ghost use Rattle.atl_instant.specs.Meaning.{most_moved};
 ghost use Rattle.atl_instant.specs.Bounds.{HaveRoom};
-ghost use Rattle.atl_market.specs.Recruit.{after_recruiting, is_recruit, recruit_keeps, recruit_meaning, recruit_moves, recruit_pots, recruits_at, with_men};
+ghost use Rattle.atl_market.specs.Recruit.{after_recruiting, is_recruit, recruit_keeps, recruit_meaning, recruit_moves, recruit_pots, recruits_at, with_paid_recruits};
 ghost use Rattle.atl_market.specs.Payable.{CanRecruit};
 ghost use Rattle.atl_market.specs.AfterPots.{RecruitsAtOnce};
 
@@ -25,7 +25,8 @@ use atl_state::{Campaign, Entry, EventFault, MEN_LIMIT, Thing, Unit};
 use atl_tables::{Numbered, World};
 use std::alloc::{AllocError, Global};
 
-/// Recruiting: peasants of a region join its units, at a price. See docs/RULES.md, "Recruiting".
+/// The phase RECRUIT: peasants of a region join its units, at a price. See docs/RULES.md,
+/// "Recruiting".
 #[derive(Drop, Clone, Copy)]
 pub struct RecruitPhase;
 
@@ -37,7 +38,7 @@ impl PhaseVerbs for RecruitPhase {
     }
 }
 
-/// How many peasants can be recruited in the regions.
+/// The pots of RECRUIT: how many peasants of each region can be recruited.
 #[derive(Drop)]
 struct RecruitPots<'a> {
     world: &'a World,
@@ -57,7 +58,8 @@ impl<'a> Pots for RecruitPots<'a> {
     }
 }
 
-/// Recruits join a unit that is there, which pays for them. Its goods stay as they are, and unmarked.
+/// Adds recruits to a unit that is there, and takes their cost from its money. It sets no dirty
+/// flag of goods.
 fn join_unit(campaign: &mut Campaign, unit: u32, recruits: u32, cost: u32)
     requires fits { (u : Unit) → finmap.get campaign.old.value.units unit ≡ Some u
         → u.holding.men + recruits ≤ men_limit }
@@ -65,7 +67,7 @@ fn join_unit(campaign: &mut Campaign, unit: u32, recruits: u32, cost: u32)
         → cost ≤ u.holding.money }
     ensures what { (u : Unit) → finmap.get campaign.old.value.units unit ≡ Some u
         → campaign.new.value ≡ with_holding campaign.old.value unit
-        (with_men u.holding recruits cost) }
+        (with_paid_recruits u.holding recruits cost) }
     ensures marks { MarksChanges campaign.old campaign.new }
     ensures goods { MarksNoGoods campaign.old.marks campaign.new.marks }
 {
@@ -77,7 +79,7 @@ fn join_unit(campaign: &mut Campaign, unit: u32, recruits: u32, cost: u32)
     }
 }
 
-/// A region has so many peasants left, and what was paid for recruits is booked.
+/// Sets how many peasants a region has left, and books what was paid for the recruits.
 fn leave_region(campaign: &mut Campaign, region: u32, peasants: u32, cost: u32)
     requires little { cost ≤ holding_limit }
     requires things { 2 ≤ campaign.old.value.books.things }
@@ -177,8 +179,9 @@ impl Phase for RecruitPhase {
     }
 }
 
-/// Does nothing. Its clause is the law that all recruits join at once: each unit has its own more and their price less than
-/// as the phase began, and each region those that joined its units less. See docs/RULES.md, "Recruiting".
+/// Does nothing. Its clause is the law that all recruits join at once: each unit has its own more
+/// and their price less than as the phase began, and each region those that joined its units less.
+/// See docs/RULES.md, "Recruiting".
 pub fn recruits_join_all_at_once()
     ensures { RecruitsAtOnce }
 {}

@@ -1,4 +1,4 @@
-//! Shares a pot among wants with one running remainder. See docs/RULES.md, "Shares".
+//! The shares of a pot among wants. See docs/RULES.md, "Shares".
 ghost use Rattle.std.specs.Prelude.{◌≡◌, ◌≤◌, ◌<◌, ◌*◌, ℕ, length, sum, min, slice_index, All, IfOk};
 ghost use Rattle.atl_tables.specs.Limits.{most_amount};
 ghost use Rattle.atl_market.specs.Share.{IsNearPart, SplittingKeepsOthers, shares};
@@ -18,7 +18,7 @@ fn sum_of(wants: &[u64]) -> u128
     total
 }
 
-/// The shares, with one running remainder.
+/// The share of each want of a pot, in their order, by one division each with a running remainder.
 fn proportional_shares(alloc: Global, pot: u64, wants: &[u64]) -> Result<Vec<u64>, AllocError>
     requires pot { pot ≤ most_amount }
     requires wants { All (λ want. want ≤ most_amount) wants.now }
@@ -39,10 +39,11 @@ fn proportional_shares(alloc: Global, pot: u64, wants: &[u64]) -> Result<Vec<u64
     Ok(given)
 }
 
-/// What each of these wants gets of a pot, in their order: what it wants where the pot is enough for all, else its share. A
-/// share is never more than the want, all shares together are the pot or what is wanted, whichever is less, and where the
-/// pot is short a share is off by less than one from the part of the pot that its want is of all wants. The pot and each
-/// want are at most 999,999,999. AllocError without memory. See docs/RULES.md, "Shares".
+/// What each of these wants gets of a pot, in their order: all of it where the pot is enough, else
+/// its share. A share is never more than the want. All shares together are the lesser of the pot
+/// and of all wants. Where the pot is short, a share differs by less than one from the pot times
+/// its want divided by all wants. The pot and each want are at most 999,999,999. AllocError without
+/// memory. See docs/RULES.md, "Shares".
 #[tactic(auto, using(crate::proofs::ShareLaws::share_at_most, crate::proofs::ShareLaws::share_is_near, crate::proofs::ShareLaws::all_is_given))]
 pub fn share(alloc: Global, pot: u64, wants: &[u64]) -> Result<Vec<u64>, AllocError>
     requires pot { pot ≤ most_amount }
@@ -58,8 +59,8 @@ pub fn share(alloc: Global, pot: u64, wants: &[u64]) -> Result<Vec<u64>, AllocEr
     proportional_shares(alloc, pot, wants)
 }
 
-/// Does nothing. Its clause is the law that splitting a want among neighbours gives them together what it got, and all
-/// others the same. See docs/RULES.md, "Shares".
+/// Does nothing. Its clause is the law that splitting a want into several that follow one another
+/// gives these together what it got, and all others the same. See docs/RULES.md, "Shares".
 pub fn splitting_keeps_others()
     ensures { SplittingKeepsOthers }
 {}

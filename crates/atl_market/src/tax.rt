@@ -1,4 +1,4 @@
-//! TAX: units on guard take the money of their region. See docs/RULES.md, "Tax".
+//! TAX: the units on guard share the money of their region. See docs/RULES.md, "Tax".
 ghost use Rattle.std.specs.Prelude.{◌≡◌, ◌≤◌};
 ghost use Rattle.atl_tables.specs.Worlds.{WorldValue};
 ghost use Rattle.atl_state.specs.Covers.{MarksChanges};
@@ -19,7 +19,7 @@ use atl_state::{Campaign, EventFault, HOLDING_LIMIT, Unit};
 use atl_tables::{Numbered, World};
 use std::alloc::{AllocError, Global};
 
-/// Tax: the units on guard share the money of their region. See docs/RULES.md, "Tax".
+/// The phase TAX: the units on guard share the money of their region. See docs/RULES.md, "Tax".
 #[derive(Drop, Clone, Copy)]
 pub struct TaxPhase;
 
@@ -31,7 +31,7 @@ impl PhaseVerbs for TaxPhase {
     }
 }
 
-/// The money of the regions.
+/// The pots of TAX: the money of each region.
 #[derive(Drop)]
 struct RegionMoney<'a> {
     campaign: &'a Campaign,
@@ -50,7 +50,7 @@ impl<'a> Pots for RegionMoney<'a> {
     }
 }
 
-/// A unit has so much money, and its region so much.
+/// Sets the money of a unit and that of its region.
 fn hand_over(campaign: &mut Campaign, unit: u32, money: u32, region: u32, left: u32)
     requires { money ≤ holding_limit }
     ensures what { campaign.new.value
@@ -145,8 +145,9 @@ impl Phase for TaxPhase {
     }
 }
 
-/// Does nothing. Its clause is the law that all units take their shares at once: each has its share more than as the phase
-/// began, and each region what its units took less. See docs/RULES.md, "Tax".
+/// Does nothing. Its clause is the law that all units take their tax at once: each has its share
+/// more than as the phase began, and each region what its units took less. See docs/RULES.md,
+/// "Tax".
 pub fn tax_pays_all_at_once()
     ensures { TaxesAtOnce }
 {}

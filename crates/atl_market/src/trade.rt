@@ -24,24 +24,24 @@ use atl_state::{Campaign, Entry, EventFault, HOLDING_LIMIT, Holding, Thing, Unit
 use atl_tables::{Market, Numbered, World};
 use std::alloc::{AllocError, Global};
 
-/// Trading: units sell items to the markets of their regions, or buy items of them.
+/// The phase SELL or BUY: units sell items to the markets of their regions, or buy from them.
 #[derive(Drop, Clone, Copy)]
 pub struct TradePhase<const SELLS: bool>;
 
-/// Selling.
+/// The phase SELL. See docs/RULES.md, "Selling".
 pub type SellPhase = TradePhase<true>;
 
-/// Buying.
+/// The phase BUY. See docs/RULES.md, "Buying".
 pub type BuyPhase = TradePhase<false>;
 
-/// What a unit does with the market of its region.
+/// Whether units sell to the markets of their regions or buy from them.
 #[derive(Drop, Clone, Copy, Debug)]
 pub(crate) enum Trade {
     Sell,
     Buy,
 }
 
-/// What a trade leaves.
+/// The amounts that a trade of one unit leaves, and what is booked of it.
 #[derive(Drop, Clone, Copy, Debug)]
 pub(crate) struct TradeResult {
     /// The unit's money.
@@ -66,7 +66,7 @@ impl Trade {
     }
 }
 
-/// The market of a unit's region for the item that the unit is told to trade.
+/// The market of a unit's region for the item that its order names, if there is one.
 fn market_for<'a>(world: &'a World, unit: &Unit, item: Option<u16>) -> Option<&'a Market>
     ensures value { option_copied result ≡ market_for world.now unit.now item }
     ensures bounds { IfSome result (λ market. IsPriced market.now) }
@@ -84,7 +84,7 @@ fn has_too_little(trade: Trade, holding: &Holding, market: &Market) -> bool
     }
 }
 
-/// Why a unit doesn't trade.
+/// The first fault of SELL or BUY, if there is one: NoMarket, NotEnough.
 fn trade_fault(trade: Trade, holding: &Holding, market: Option<&Market>) -> Option<EventFault>
     ensures { result ≡ trade_fault trade holding.now (option_copied market.entry) }
 {
@@ -98,7 +98,7 @@ fn trade_fault(trade: Trade, holding: &Holding, market: Option<&Market>) -> Opti
     }
 }
 
-/// How many of an item a unit can trade, at most 999,999,999.
+/// The most pieces of a market's item that a unit can trade, at most 999,999,999.
 fn most_tradable(trade: Trade, holding: &Holding, market: &Market) -> u32
     requires { IsPriced market.now }
     ensures value { result ≡ most_tradable trade holding.now market.now }
@@ -112,7 +112,7 @@ fn most_tradable(trade: Trade, holding: &Holding, market: &Market) -> u32
     }
 }
 
-/// What a trade of so many leaves of what a unit holds and of the stock.
+/// The result of trading `share` pieces with a market that has `stock` of them.
 fn trade_result_of(
     trade: Trade,
     holding: &Holding,
@@ -166,8 +166,8 @@ fn set_goods(
     campaign.set_item(number, item, amount)
 }
 
-/// A unit of a region, the region's stock and the books become what a deal leaves of them. AllocError without memory; the
-/// campaign may then be changed in part.
+/// Sets a unit's goods, its region's stock and the books to what the result of a trade says.
+/// AllocError without memory; the campaign may then be changed in part.
 fn book_trade(
     campaign: &mut Campaign,
     number: u32,
@@ -188,7 +188,7 @@ fn book_trade(
     Ok(())
 }
 
-/// How many of an item a region's market takes at most; where there is none, 0.
+/// The limit of the stock of a region's market for an item; 0 where there is no market.
 fn limit_of(world: &World, item: u32, region: u32) -> u32
     ensures value { result ≡ limit_of world.now item region }
     ensures bound { result ≤ most_amount }
@@ -202,7 +202,7 @@ fn limit_of(world: &World, item: u32, region: u32) -> u32
     }
 }
 
-/// The stocks of the markets, or what is missing of them, for the units that are told to trade.
+/// The pots of SELL and BUY: of each market the limit less its stock, or its stock.
 #[derive(Drop)]
 struct MarketPots<'a> {
     trade: Trade,
@@ -299,7 +299,7 @@ impl PotPhase for Trade {
     }
 }
 
-/// The trade of a phase.
+/// Whether a phase sells or buys, as a `Trade`.
 fn trade_of(sells: bool) -> Trade
     ensures { result ≡ trade_of sells }
 {
@@ -345,9 +345,10 @@ impl<const SELLS: bool> Phase for TradePhase<SELLS> {
     }
 }
 
-/// Does nothing. Its clause is the law that all units sell at once, and all buy at once: each has its share less or
-/// more than as the phase began, and the money for it more or less, and each region has of each item all that its units
-/// sold of it more, or all that they bought of it less. See docs/RULES.md, "Selling" and "Buying".
+/// Does nothing. Its clause is the law that all units sell at once, and all buy at once: each has
+/// its share less or more than as the phase began, and the money for it more or less, and each
+/// region has of each item all that its units sold of it more, or all that they bought of it less.
+/// See docs/RULES.md, "Selling" and "Buying".
 pub fn units_trade_all_at_once()
     ensures { TradesAtOnce }
 {}

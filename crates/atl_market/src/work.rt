@@ -1,4 +1,4 @@
-//! WORK: units share the places of their region's terrain, each of which pays the wage. See
+//! WORK: units share the work places of their region's terrain, and each place pays the wage. See
 //! docs/RULES.md, "Work".
 ghost use Rattle.std.specs.Prelude.{⊤, pos, ◌≡◌, ◌≤◌, ◌+◌, ◌++◌, map, IfOk, OnOk};
 ghost use Rattle.std.specs.List.Sorted.{IsPermutation, IsSortedByKey};
@@ -34,11 +34,12 @@ use atl_state::{Campaign, Entry, EventFault, HOLDING_LIMIT, Thing, Unit};
 use atl_tables::{Numbered, Sequence, World};
 use std::alloc::{AllocError, Global};
 
-/// Work for wages: by orders, and of the units with men that have no month-long order. See docs/RULES.md, "Work".
+/// The phase WORK: units with an order, or with men and without a month-long order, share the work
+/// places of their region's terrain for wages. See docs/RULES.md, "Work".
 #[derive(Drop, Clone, Copy)]
 pub struct WorkPhase;
 
-/// By unit, the faction that wrote an order for a unit of its own.
+/// A map from each unit for which its own faction wrote one of these orders to that faction.
 fn own_writers(
     alloc: Global,
     campaign: &Campaign,
@@ -62,7 +63,7 @@ fn is_work(verb: Verb) -> bool
     matches!(verb, Verb::Work)
 }
 
-/// The orders of WORK among the month-long ones.
+/// The orders of WORK among some orders, in their order.
 fn written_work<'m>(
     alloc: Global,
     orders: &[PhaseOrder<'m>],
@@ -78,7 +79,8 @@ fn written_work<'m>(
     Ok(list)
 }
 
-/// Puts the work of the units without an order behind other orders, each as if it stood in a mailing.
+/// Appends to a list an order of WORK for each unit with men for which its own faction wrote none
+/// of these orders. `mailing` and `work` are what these refer to.
 fn add_idle<'m>(
     alloc: Global,
     campaign: &Campaign,
@@ -107,7 +109,7 @@ fn add_idle<'m>(
     Ok(())
 }
 
-/// Sorts orders by unit, line and faction, and last by their place.
+/// Sorts orders by unit, line and faction, and last by their index in the mailing (`place`).
 fn sort(list: &mut Vec<PhaseOrder<'_>>)
     ensures moved { IsPermutation list.old.items list.new.items }
     ensures sorted { IsSortedByKey (λ o. key_of ByUnit (task_of o)) (slice_cmp nat_cmp)
@@ -127,7 +129,8 @@ fn sort(list: &mut Vec<PhaseOrder<'_>>)
     );
 }
 
-/// The orders of WORK, with the work of the units that have none, each as if it stood in a mailing.
+/// The orders of the phase: those of WORK, and one for each unit with men without a month-long
+/// order, sorted. `mailing` and `work` are what the latter refer to.
 fn work_orders<'m>(
     alloc: Global,
     campaign: &Campaign,
@@ -146,7 +149,7 @@ fn work_orders<'m>(
     Ok(list)
 }
 
-/// A mailing that says nothing.
+/// An empty mailing of faction 0, for the orders that no mailing holds.
 fn no_mailing(alloc: Global) -> Mailing {
     Mailing {
         faction: 0,
@@ -156,7 +159,7 @@ fn no_mailing(alloc: Global) -> Mailing {
     }
 }
 
-/// The places to work in the regions.
+/// The pots of WORK: how many work places each region's terrain has.
 #[derive(Drop)]
 struct WorkPlaces<'a> {
     world: &'a World,
@@ -175,7 +178,7 @@ impl<'a> Pots for WorkPlaces<'a> {
     }
 }
 
-/// The wage of a region's terrain.
+/// The wage of a region's terrain for one work place; 0 where there is no terrain.
 fn wage_at(world: &World, region: u32) -> u32
     ensures { result ≡ wage_at world.now region }
 {
@@ -185,14 +188,14 @@ fn wage_at(world: &World, region: u32) -> u32
     }
 }
 
-/// What so many places in a region pay.
+/// The wages, in money, that so many work places in a region pay.
 fn wages_for(world: &World, region: u32, places: u32) -> u64
     ensures { result ≡ wages_for world.now region places }
 {
     u64::from(places) * u64::from(wage_at(world, region))
 }
 
-/// A unit that held so much gets its wages, which are booked.
+/// Adds wages to the money `held` by a unit, and books them.
 fn pay_wages(campaign: &mut Campaign, number: u32, held: u32, money: u32)
     requires fits { held + money ≤ holding_limit }
     requires things { 2 ≤ campaign.old.value.books.things }
@@ -293,8 +296,9 @@ impl Phase for WorkPhase {
     }
 }
 
-/// Does nothing. Its clause is the law that all units are paid at once: each by what it held and where it stood as the phase
-/// began, and nothing else of a unit changes, nor of a region. See docs/RULES.md, "Work".
+/// Does nothing. Its clause is the law that all units are paid their wages at once: each by what it
+/// held and where it was as the phase began, and nothing else of a unit changes, nor of a region.
+/// See docs/RULES.md, "Work".
 pub fn work_pays_all_at_once()
     ensures { WorksAtOnce }
 {}

@@ -1,4 +1,4 @@
--- Two maps with as many values, where one has each number of the other.
+-- The law that of two maps with as many values, where one has each number of the other, the other has each number of the one.
 use Rattle.std.proofs.Common.{◌≡◌, ℕ, suc, zero, ◌+◌, ◌-◌, ◌≤◌, cond, List, [], ◌∷◌, length, Option, Some, None, refl, sym, ap, ◌∙◌, inl, inr, arith}
 use Rattle.std.specs.Prelude.{is_some}
 use Rattle.std.specs.Ordering.{nat_cmp}
@@ -10,9 +10,9 @@ use Rattle.atl_records.proofs.EveryLaws.{first, get-insert_other, none_some}
 use Rattle.atl_records.proofs.RemovedLaws.{get-remove_other, still}
 
 module _ {V : Type 0} where
-  -- one map has each number of the other
-  abbrev HasAll : FinMap nat_cmp V → FinMap nat_cmp V → Type 0
-  HasAll a b = (n : ℕ) → IsThere b n → IsThere a n
+  -- the second map has each number of the first
+  abbrev HasAllNumbers : FinMap nat_cmp V → FinMap nat_cmp V → Type 0
+  HasAllNumbers a b = (n : ℕ) → IsThere b n → IsThere a n
 
   len_without : (m : FinMap nat_cmp V) (n : ℕ) (v : V) → get m n ≡ Some v → len (remove m n) ≡ len m - 1
   len_without m n v is = len-remove nat_cmp_total m n ∙ ap (λ o. cond (is_some o) (len m - 1) (len m)) is
@@ -27,13 +27,13 @@ module _ {V : Type 0} where
       by_count zero none = none_some v (sym (get-empty nat_cmp n) ∙ ap (λ e. get e n) (sym (empty_of_len m none)) ∙ is)
       by_count (suc k) some = omega arith
 
-  has_all_without : (a b : FinMap nat_cmp V) (n : ℕ) → HasAll a b → HasAll (remove a n) (remove b n)
+  has_all_without : (a b : FinMap nat_cmp V) (n : ℕ) → HasAllNumbers a b → HasAllNumbers (remove a n) (remove b n)
   has_all_without a b n all m (v, there) =
       let (apart, at) = still b n m v there in
       let (x, is) = all m (v, at) in
       (x, get-remove_other a n m apart ∙ is)
 
-  at_least : (k : ℕ) (a b : FinMap nat_cmp V) → len b ≡ k → HasAll a b → k ≤ len a
+  at_least : (k : ℕ) (a b : FinMap nat_cmp V) → len b ≡ k → HasAllNumbers a b → k ≤ len a
   at_least zero a b count all = omega arith
   at_least (suc k) a b count all = by_entries (λ c d less has. at_least k c d less has) (entries b) refl
     where
@@ -43,21 +43,21 @@ module _ {V : Type 0} where
       more : (x y : ℕ) → k ≤ y → y ≡ x - 1 → 1 ≤ x → suc k ≤ x
       more x y l is some = omega (arith, l, is, some)
 
-      by_entries : ((c d : FinMap nat_cmp V) → len d ≡ k → HasAll c d → k ≤ len c) → (es : List (ℕ × V)) → entries b ≡ es → suc k ≤ len a
+      by_entries : ((c d : FinMap nat_cmp V) → len d ≡ k → HasAllNumbers c d → k ≤ len c) → (es : List (ℕ × V)) → entries b ≡ es → suc k ≤ len a
       by_entries step [] is = absurd (omega (arith, count, len-entries b ∙ ap length is))
       by_entries step (e ∷ es) is =
           let here : get b e.0 ≡ Some e.1 = get-entries b e.0 ∙ ap (find nat_cmp e.0) is ∙ first e es in
           let (x, there) = all e.0 (e.1, here) in
           more (len a) (len (remove a e.0)) (step (remove a e.0) (remove b e.0) (fewer (len b) (len (remove b e.0)) count (len_without b e.0 e.1 here)) (has_all_without a b e.0 all)) (len_without a e.0 x there) (some_values a e.0 x there)
 
-  has_all_with : (a b : FinMap nat_cmp V) (n : ℕ) (v : V) → HasAll a b → get a n ≡ Some v → HasAll a (insert b n v)
+  has_all_with : (a b : FinMap nat_cmp V) (n : ℕ) (v : V) → HasAllNumbers a b → get a n ≡ Some v → HasAllNumbers a (insert b n v)
   has_all_with a b n v all here m (x, there) = elim (cases_eq m n) [
     | inl same ↦ (v, ap (get a) same ∙ here)
     | inr apart ↦ all m (x, sym (get-insert_other b n m v apart) ∙ there)
   ]
 
-  -- then the other has each number of the one
-  pub has_all_back : (a b : FinMap nat_cmp V) → len b ≡ len a → HasAll a b → HasAll b a
+  -- if they have as many values, the first has each number of the second
+  pub has_all_back : (a b : FinMap nat_cmp V) → len b ≡ len a → HasAllNumbers a b → HasAllNumbers b a
   has_all_back a b count all n (v, here) = by_value (get b n) refl
     where
       too_many : (x y z : ℕ) → x ≡ y → z ≡ x + 1 → z ≤ y → IsThere b n

@@ -9,7 +9,7 @@ pub mod CountLaws
 pub mod MonthLaws
 pub mod UpkeepSharingLaws
 pub mod UpkeepLaws
-pub mod AloneLaws
+pub mod UpkeepPeersLaws
 pub mod UnmailedEndLaws
 pub mod PhaseLaws
 pub mod MoveLaws

@@ -1,4 +1,4 @@
--- A campaign behind the phases of a month is good again once the month is counted and the mail is taken away.
+-- Laws of a whole month: with the month counted and the mail removed the campaign is good again, and mail order doesn't count.
 use Rattle.std.proofs.Common.{◌≡◌, ℕ, ◌+◌, ◌*◌, ◌≤◌, ◌<◌, List, ap, ◌∙◌, arith}
 use Rattle.std.specs.Prelude.{ℤ}
 use Rattle.std.specs.FinMap.{FinMap, empty, get, len}
@@ -20,7 +20,7 @@ use Rattle.atl_instant.specs.Meaning.{BookBound, Condition, IsNear, IsSameMonth,
 use Rattle.atl_instant.specs.Bounds.{HaveRoom}
 use Rattle.atl_instant.proofs.MonthLaws.{mailings_have_no_order}
 use Rattle.atl_instant.proofs.MeaningLaws.{MovesLess, near_more, room_when_sound}
-use Rattle.atl_month.specs.Month.{BooksAreNear, MonthHasNoOrder, after_month, month_meaning, month_moves, month_of, new_month, phases_moving}
+use Rattle.atl_month.specs.Month.{BooksAreNear, MailOrderDoesNotCount, after_month, month_meaning, month_moves, month_of, new_month, phases_moving}
 use Rattle.atl_month.specs.AfterSweep.{IsSwept}
 use Rattle.atl_month.proofs.CountLaws.{has_all_back}
 use Rattle.atl_month.proofs.MoveLaws.{month_within, moves_in_month, phases_little}
@@ -34,15 +34,18 @@ module _ (w : WorldValue) (d : CampaignValue) where
   finished_balances old t = old t
 
 module _ (w : WorldValue) (c d : CampaignValue) (moving : BookBound) (little : MovesLess moving moves_in_month) (early : c.month < last_month) (well : LeavesWell IsSwept moving w c d) where
+  -- the phases of a month leave the month's number, the reports and the factions as before
   abbrev same : IsSameMonth c d
   same = well.same_month
 
   near_within : (a b : ℤ) (m more most : ℕ) → m ≤ 200000000000000 → more + 200000000000000 ≤ most → IsNear m a b → IsWithin more a → IsWithin most b
   near_within a b m more most l fits near within = record { most = omega (arith, ints, near.above, within.most); least = omega (arith, ints, near.below, within.least) }
 
+  -- a bound on the books that grows with the months and factions has room for one month more
   bound_grows : (a b f g : ℕ) → b ≡ a → g ≡ f → (200000000000000 * (a + 1) + 1000000000 * f) + 200000000000000 ≤ 200000000000000 * ((b + 1) + 1) + 1000000000 * g
   bound_grows a b f g month count = omega (arith, month, count)
 
+  -- each amount of the books is within its bound after the month
   amounts_within : AreAmountsWithin c → AreAmountsWithin (after_month d)
   amounts_within old e t =
       near_within (amount_in c.books e t) (amount_in d.books e t) (moving e t) (amount_bound c) (amount_bound (after_month d)) (little e t)
@@ -61,6 +64,7 @@ module _ (w : WorldValue) (c d : CampaignValue) (moving : BookBound) (little : M
     mail = every-empty _;
   }
 
+  -- after the phases of a month, counted and without mail, a good campaign is good again
   pub finished_good : IsGood w c → IsGood w (after_month d)
   finished_good old = record {
     sound = finished_sound old.sound;
@@ -80,16 +84,17 @@ module _ {leaves : Condition} (w : WorldValue) (c d : CampaignValue) (well : Lea
 pub phases_room : (w : WorldValue) (c : CampaignValue) → IsSound w c → HaveRoom phases_moving c
 phases_room w c sound = room_when_sound w c phases_moving (λ e t. omega (arith, phases_little e t)) sound
 
--- what comes of some phases over a month that has begun, and the events of it
-told_of : (phases : Meaning) (w : WorldValue) (c d : CampaignValue) (m n : MonthValue) (begin : MonthValue) (events : List Event) → (d, n) ≡ phases w c m → m ≡ begin → events ≡ n.events
+-- what some phases make of a month as it begins, given by its parts: the campaign and the events
+phases_result : (phases : Meaning) (w : WorldValue) (c d : CampaignValue) (m n : MonthValue) (begin : MonthValue) (events : List Event) → (d, n) ≡ phases w c m → m ≡ begin → events ≡ n.events
     → ◌≡◌ {A = CampaignValue × List Event} (d, events) ((phases w c begin).0, (phases w c begin).1.events)
-told_of phases w c d m n begin events meaning begins told = ap (λ (es : List Event). (d, es)) told ∙ ap (λ (p : CampaignValue × MonthValue). (p.0, p.1.events)) (meaning ∙ ap (phases w c) begins)
+phases_result phases w c d m n begin events meaning begins told = ap (λ (es : List Event). (d, es)) told ∙ ap (λ (p : CampaignValue × MonthValue). (p.0, p.1.events)) (meaning ∙ ap (phases w c) begins)
 
+-- a campaign and events that the phases of a month make are those of the month
 pub month_is : (w : WorldValue) (c d : CampaignValue) (m n : MonthValue) (readings : FinMap nat_cmp Reading) (words : List ℕ) (events : List Event)
     → (d, n) ≡ month_meaning w c m → m ≡ new_month readings words → events ≡ n.events → (d, events) ≡ month_of w c readings words
 unfolding month_of
-month_is w c d m n readings words events meaning begins told = told_of month_meaning w c d m n (new_month readings words) events meaning begins told
+month_is w c d m n readings words events meaning begins told = phases_result month_meaning w c d m n (new_month readings words) events meaning begins told
 
--- in which order mailings come isn't seen
-pub month_has_no_order : MonthHasNoOrder
-month_has_no_order w c words mailings others own same = ap (λ readings. month_of w c readings words) (mailings_have_no_order mailings others own same)
+-- mailings in another order make the same campaign and events
+pub mail_order_does_not_count : MailOrderDoesNotCount
+mail_order_does_not_count w c words mailings others own same = ap (λ readings. month_of w c readings words) (mailings_have_no_order mailings others own same)

@@ -9,10 +9,10 @@ use Rattle.atl_instant.specs.Meaning.{BookBound}
 use Rattle.atl_instant.specs.PhaseSpecs.{EachPhase, MovesItsOwn}
 use Rattle.atl_instant.proofs.MeaningLaws.{MovesLess}
 use Rattle.atl_instant.proofs.PhaseSpecLaws.{each_also, moved_within}
-use Rattle.atl_month.specs.Month.{PhasesMoveLittle, TwoMoveAtMost, closing_phases, early_phases, later_phases, month_moves, moving_phases, phases_moving}
-use Rattle.atl_month.proofs.PhaseLaws.{IsPhase, closing_move, early_are, later_are}
+use Rattle.atl_month.specs.Month.{PhasesMoveLittle, TwoMoveAtMost, early_phases, last_phases, later_phases, month_moves, moving_phases, phases_moving}
+use Rattle.atl_month.proofs.PhaseLaws.{IsPhase, early_are, last_move, later_are}
 
--- so far a month moves any amount at most
+-- the bound on how far a month moves any amount of the books: the same for all amounts
 abbrev pub moves_in_month : BookBound
 moves_in_month e t = most_in_month
 
@@ -22,22 +22,26 @@ early_move = each_also (λ phase (is : IsPhase phase). is.moves) early_phases ea
 later_move : EachPhase MovesItsOwn later_phases
 later_move = each_also (λ phase (is : IsPhase phase). is.moves) later_phases later_are
 
+-- each phase of a month moves the amounts of its own entries alone, each by less than 10^14
 pub each_little : PhasesMoveLittle
-each_little = (early_move, later_move, closing_move)
+each_little = (early_move, later_move, last_move)
 
+-- the phases of a month together move no amount further than `month_moves`
 pub month_within : MovesLess phases_moving month_moves
 month_within e t =
-    omega (arith, moved_within early_phases early_move e t, moved_within later_phases later_move e t, moved_within closing_phases closing_move e t)
+    omega (arith, moved_within early_phases early_move e t, moved_within later_phases later_move e t, moved_within last_phases last_move e t)
 
 -- ---- two phases at most move an amount
 
 few : (n : ℕ) → nat_le n 2 ≡ true → n ≤ 2
 few n is = grind (arith, nat_tests, is)
 
+-- at most two phases of a month may move an amount
 pub two_at_most : TwoMoveAtMost
 two_at_most e Money = few (moving_phases e Money) (each_entry (λ k. nat_le (moving_phases k Money) 2) refl e)
 two_at_most e People = few (moving_phases e People) (each_entry (λ k. nat_le (moving_phases k People) 2) refl e)
 two_at_most e (Item i) = few (moving_phases e (Item i)) (each_entry (λ k. nat_le (moving_phases k (Item i)) 2) refl e)
 
+-- the phases of a month together move no amount further than `moves_in_month`
 pub phases_little : MovesLess phases_moving moves_in_month
 phases_little e t = omega (arith, month_within e t, two_at_most e t)

@@ -1,4 +1,4 @@
--- What a unit without men passes on.
+-- Laws of the sweep: what holds of a campaign after a unit without men passed on money or items (`PassesOn`).
 use Rattle.std.proofs.Common.{◌≡◌, ◌≢◌, ◌==◌, ℕ, ◌+◌, ◌-◌, ◌≤◌, ◌<◌, min, Bool, true, false, cond, List, [], ◌∷◌, length, Option, Some, None, refl, sym, ap, subst, ◌∙◌, arith}
 use Rattle.std.specs.Prelude.{ℤ, pos, neg_ℤ, ◌+ℤ◌, fold}
 use Rattle.std.proofs.lemmas.Int.{ints}
@@ -40,11 +40,11 @@ use Rattle.atl_month.specs.Sweep.{IsKept, accepted_of, after_passing_item, after
 
 -- ---- more than is booked
 
--- there is so much more of a thing than is booked
+-- the campaign has so much more of a thing than its books say
 abbrev pub Owes : CampaignValue → Thing → ℕ → Type 0
 Owes c s more = pos (total c s) ≡ booked c.books s +ℤ pos more
 
--- ---- a unit that keeps all
+-- ---- a unit of which nothing is taken (`IsKept`)
 
 pub kept-refl : (u : Unit) → IsKept u u
 kept-refl u = record { no_worse = no_worse u; men = refl; days = refl }
@@ -52,7 +52,7 @@ kept-refl u = record { no_worse = no_worse u; men = refl; days = refl }
 pub kept-trans : (u v x : Unit) → IsKept u v → IsKept v x → IsKept u x
 kept-trans u v x one two = record { no_worse = no_worse_twice u v x one.no_worse two.no_worse; men = two.men ∙ one.men; days = two.days ∙ one.days }
 
--- with so much money, and these items
+-- a unit with no less money and no less of any item is kept
 kept-with : (u : Unit) (money : ℕ) (items : FinMap nat_cmp ℕ) → u.holding.money ≤ money → ((i : ℕ) → amount_of u.holding.items i ≤ amount_of items i)
     → IsKept u (record u { holding = record u.holding { money = money; items = items } })
 kept-with u money items more all = record {
@@ -63,8 +63,8 @@ kept-with u money items more all = record {
 
 -- ---- what passing on does
 
--- What a campaign was, and what it is once something of a unit was passed on: there is so much more of each thing than
--- is booked, so far were the amounts of the books moved, and each unit keeps all.
+-- Campaign `c`, and `d` after something of unit `n` was passed on: `d` has so much more of each thing than is booked, its books
+-- moved by at most `moving`, unit `n` itself is unchanged, and nothing is taken from any unit.
 pub record PassesOn (w : WorldValue) (n : ℕ) (owing : Thing → ℕ) (moving : BookBound) (c d : CampaignValue) : Type 0 where
   pub steady : IsSteady w d
   pub owes : (s : Thing) (x : ℕ) → Owes c s x → Owes d s (x + owing s)
@@ -103,18 +103,20 @@ passes-trans {o} {p} {i} {j} w n a b c one two = record {
     grouped : (x y z : ℕ) → (x + y) + z ≡ x + (y + z)
     grouped x y z = omega arith
 
+-- what is owed of a thing after a part of it was given and the rest booked as lost
 owed : (b : Bool) (taken lost x before after : ℕ) (books : ℤ) → after ≡ before + cond b taken 0 → pos before ≡ books +ℤ pos x
     → pos after ≡ (books +ℤ cond b (neg_ℤ (pos lost)) (pos 0)) +ℤ pos (x + cond b (taken + lost) 0)
 owed true taken lost x before after books e h = omega (arith, ints, e, h)
 owed false taken lost x before after books e h = omega (arith, ints, e, h)
 
+-- what is owed of a thing after an amount was booked as lost
 owed_all : (b : Bool) (lost x all : ℕ) (books : ℤ) → pos all ≡ books +ℤ pos x
     → pos all ≡ (books +ℤ cond b (neg_ℤ (pos lost)) (pos 0)) +ℤ pos (x + cond b lost 0)
 owed_all true lost x all books h = omega (arith, ints, h)
 owed_all false lost x all books h = omega (arith, ints, h)
 
 module _ (w : WorldValue) (c : CampaignValue) (n : ℕ) (t : Thing) (inside : thing_index t < things_of w) (steady : IsSteady w c) where
-  -- an amount that nobody takes
+  -- booking an amount as lost passes it on
   pub all_lost : (amount : ℕ) → PassesOn w n (λ s. part_of s t amount) (moves_only amount Lost t) c (with_lost c t amount)
   all_lost amount = record {
     steady = steady-amount w c Lost t (neg_ℤ (pos amount)) inside steady;
@@ -134,15 +136,18 @@ module _ (w : WorldValue) (c : CampaignValue) (n : ℕ) (t : Thing) (inside : th
   module _ (k : ℕ) (v : Unit) (h : HoldingValue) (is : get c.units k ≡ Some v) (apart : n ≢ k) (may : MayHold w v h)
       (kept : IsKept v (record v { holding = h })) (taken lost : ℕ)
       (more : (s : Thing) → unit_amount s h ≡ unit_amount s v.holding + part_of s t taken) where
+    -- the campaign in which the receiver has its part, without booking the rest
     abbrev given : CampaignValue
     given = with_held c k h (Some v)
 
+    -- the total of each thing grows by the part that is given
     grown : (s : Thing) → total given s ≡ total c s + part_of s t taken
     grown s = sum (total given s) (unit_amount s v.holding) (total c s) (unit_amount s h) (part_of s t taken) (total-unit_amount w c k v h is s) (more s)
       where
         sum : (a x b y p : ℕ) → a + x ≡ b + y → y ≡ x + p → a ≡ b + p
         sum a x b y p e f = omega (arith, e, f)
 
+    -- giving a part of an amount to a unit and booking the rest as lost passes it on
     pub part_lost : PassesOn w n (λ s. part_of s t (taken + lost)) (moves_only (taken + lost) Lost t) c (with_lost given t lost)
     part_lost = record {
       steady = steady-amount w given Lost t (neg_ℤ (pos lost)) inside (steady-unit_amount w c k v h is may steady);
@@ -186,6 +191,7 @@ nothing_added : (b : Bool) (x n : ℕ) → b ≡ false → x ≡ x + cond b n 0
 nothing_added true x n e = cc
 nothing_added false x n e = omega arith
 
+-- a holding with more of one item has as much more of it, and as much as before of others
 more_amount : (items : FinMap nat_cmp ℕ) (i n j : ℕ)
     → amount_of (with_amount_of items i (amount_of items i + n)) j ≡ amount_of items j + cond (2 + j == 2 + i) n 0
 more_amount items i n j =
@@ -210,12 +216,14 @@ more_amount items i n j =
 
 -- ---- the part that a unit takes, and the rest
 
+-- the part that is accepted and the rest are the amount
 whole : (amount have : ℕ) → accepted_of amount have + (amount - accepted_of amount have) ≡ amount
 whole amount have = omega (arith, least amount (holding_limit - have))
   where
     least : (a b : ℕ) → min a b ≤ a
     least a b = omega arith
 
+-- what a unit accepts fits into its room
 fits : (amount have : ℕ) → have ≤ holding_limit → have + accepted_of amount have ≤ holding_limit
 fits amount have l = omega (arith, least amount (holding_limit - have))
   where
@@ -223,6 +231,7 @@ fits amount have l = omega (arith, least amount (holding_limit - have))
     least a b = omega arith
 
 module _ (w : WorldValue) (c : CampaignValue) (n k : ℕ) (apart : n ≢ k) (steady : IsSteady w c) where
+  -- this campaign is `c` after an amount of a thing was passed on
   abbrev Passed : Thing → ℕ → CampaignValue → Type 0
   Passed t amount d = PassesOn w n (λ s. part_of s t amount) (moves_only amount Lost t) c d
 
@@ -231,18 +240,20 @@ module _ (w : WorldValue) (c : CampaignValue) (n k : ℕ) (apart : n ≢ k) (ste
   more_money h n People = nothing_added false h.men n refl
   more_money h n (Item i) = nothing_added (2 + i == 0) (amount_of h.items i) n (let e : (2 + i == 0) ≡ false = grind (arith, nat_tests) in e)
 
-  -- all of an amount is left, where nothing is taken of it
+  -- where nothing of an amount is taken, all of it is booked as lost
   all_left : (t : Thing) (amount : ℕ) → Passed t amount (with_lost c t amount) → Passed t amount (with_lost c t (amount - 0))
   all_left t amount lost = subst (λ a. Passed t amount (with_lost c t a)) (same amount) lost
     where
       same : (x : ℕ) → x ≡ x - 0
       same x = omega arith
 
+  -- the campaign after money went to unit `k`, if it is there
   abbrev money_to : (amount : ℕ) → Option Unit → CampaignValue
   money_to amount o =
       let taken = option_map_or (λ v. accepted_of amount v.holding.money) o 0 in
       with_lost (option_map_or (λ v. with_money c k (v.holding.money + taken)) o c) Money (amount - taken)
 
+  -- money that unit `k` gets, or that is lost, is passed on
   pub pass_money : (amount : ℕ) → Passed Money amount (after_passing_money c k amount)
   unfolding after_passing_money
   pass_money amount = by_unit (get c.units k) refl
@@ -268,11 +279,13 @@ module _ (w : WorldValue) (c : CampaignValue) (n k : ℕ) (apart : n ≢ k) (ste
   more_item h i n People = nothing_added (1 == 2 + i) h.men n (let e : (1 == 2 + i) ≡ false = grind (arith, nat_tests) in e)
   more_item h i n (Item j) = more_amount h.items i n j
 
+  -- the campaign after an item went to unit `k`, if it is there
   abbrev item_to : (i amount : ℕ) → Option Unit → CampaignValue
   item_to i amount o =
       let taken = option_map_or (λ v. accepted_of amount (amount_of v.holding.items i)) o 0 in
       with_lost (option_map_or (λ v. with_item c k i (amount_of v.holding.items i + taken)) o c) (Item i) (amount - taken)
 
+  -- so much of an item that unit `k` gets, or that is lost, is passed on
   pub pass_item : (i amount : ℕ) → i < length w.items → Passed (Item i) amount (after_passing_item k c (i, amount))
   unfolding after_passing_item
   pass_item i amount known = by_unit (get c.units k) refl
@@ -312,6 +325,7 @@ module _ (w : WorldValue) (c : CampaignValue) (n k : ℕ) (apart : n ≢ k) (ste
 
 -- ---- all that a unit has
 
+-- items that unit `k` gets, or that are lost, are passed on one after the other
 pub pass_items : (w : WorldValue) (c : CampaignValue) (n k : ℕ) → n ≢ k → (es : List (ℕ × ℕ)) → EachOf (λ i a. i < length w.items) es → IsSteady w c
     → PassesOn w n (owing_items es) (moving_items es) c (fold (after_passing_item k) c es)
 pass_items w c n k apart [] known steady = passes-refl w n c steady

@@ -1,4 +1,4 @@
--- What each phase of a month is: which entries of the books it moves, and what it leaves to a faction without a mailing.
+-- Laws of each phase of a month: it moves its own entries of the books alone, and what it leaves to a faction without a mailing.
 use Rattle.std.proofs.Common.{◌≡◌, ◌≢◌, ◌==◌, ◌&&◌, not, ℕ, ◌+◌, ◌*◌, ◌≤◌, Bool, true, false, [], ◌∷◌, refl, sym, subst, arith}
 use Rattle.std.specs.Prelude.{if◌then◌else◌}
 use Rattle.std.proofs.lemmas.Bool.Decides.{nat_tests}
@@ -35,29 +35,30 @@ use Rattle.atl_instant.specs.Guard.{guard_spec}
 use Rattle.atl_action.specs.Walk.{walk_spec}
 use Rattle.atl_action.specs.Sail.{sail_spec}
 use Rattle.atl_action.specs.Study.{learn_spec}
-use Rattle.atl_month.specs.Month.{closing_phases, early_phases, later_phases}
+use Rattle.atl_month.specs.Month.{early_phases, last_phases, later_phases}
 use Rattle.atl_month.specs.Season.{season_spec}
 use Rattle.atl_month.specs.Sweep.{sweep_spec}
 use Rattle.atl_month.specs.Upkeep.{upkeep_spec}
-use Rattle.atl_month.proofs.UnmailedEndLaws.{season_leaves, sweep_closes, upkeep_leaves}
+use Rattle.atl_month.proofs.UnmailedEndLaws.{season_leaves, sweep_leaves, upkeep_leaves}
 
 -- ---- the books
 
--- a phase that may move some amounts moves no others
+-- the bound `moving` is at most 10^14 - 1 under the entries that a phase lists for each thing, and 0 elsewhere
 abbrev MovesAlone : BookBound → MovedEntries → Type 0
 MovesAlone moving moved = (e : Entry) (t : Thing) → moving e t ≤ (if may_move moved e t then most_moved else 0)
 
+-- a bound of 0 is within any list of entries
 nothing : (moved : MovedEntries) → MovesAlone moves_nothing moved
 nothing moved e t = omega arith
 
--- the amounts of one thing
+-- of one thing, the amounts under two entries are the same only if the entries are
 same_thing : (a x y : ℕ) (p : Bool) → (x == y) ≡ p → (q : Bool) → (entry_count * a + x == entry_count * a + y) ≡ q → (if q then most_moved else 0) ≤ (if p then most_moved else 0)
 same_thing a x y true e false f = omega arith
 same_thing a x y true e true f = omega arith
 same_thing a x y false e false f = omega arith
 same_thing a x y false e true f = absurd (grind (arith, nat_tests, e, f))
 
--- and those of two
+-- of two things, the amounts under an entry differ
 other_thing : (m n : ℕ) → m ≢ n → (if m == n then most_moved else 0) ≤ 0
 other_thing m n apart = subst (λ q. (if q then most_moved else 0) ≤ 0) (sym (other_number m n apart)) (omega arith)
 
@@ -118,6 +119,7 @@ sweep_alone e (Item i) = both_hold (entry_index e == entry_index entries.Lost) (
 
 -- ---- each phase
 
+-- a phase of a month moves its own entries alone, and leaves what it should to a faction without a mailing
 pub record IsPhase (phase : PhaseSpec) : Type 0 where
   pub moves : MovesItsOwn phase
   pub leaves : PhaseLeavesUnmailed phase
@@ -130,6 +132,7 @@ infixr 5 ◌▹◌
 ◌▹◌ : {A B : Type 0} → A → B → A × B
 one ▹ others = (one, others)
 
+-- the phases from FORM to RECRUIT do
 pub early_are : EachPhase IsPhase early_phases
 early_are =
     is_phase form_spec (nothing no_moved_entries) form_leaves
@@ -143,6 +146,7 @@ early_are =
     ▹ is_phase recruit_spec (money_alone entries.Recruiting) recruit_leaves
     ▹ tt
 
+-- the phases from GUARD 1 to PRODUCE do
 pub later_are : EachPhase IsPhase later_phases
 later_are =
     is_phase guard_spec (nothing no_moved_entries) guard_leaves
@@ -154,8 +158,10 @@ later_are =
     ▹ is_phase produce_spec produce_alone produce_leaves
     ▹ tt
 
-pub closing_move : EachPhase MovesItsOwn closing_phases
-closing_move = work_alone ▹ upkeep_alone ▹ season_alone ▹ sweep_alone ▹ tt
+-- WORK, upkeep, season and sweep move their own entries alone
+pub last_move : EachPhase MovesItsOwn last_phases
+last_move = work_alone ▹ upkeep_alone ▹ season_alone ▹ sweep_alone ▹ tt
 
-pub closing_leave : CloseTogether closing_phases
-closing_leave = work_leaves ▹ upkeep_leaves ▹ season_leaves ▹ sweep_closes
+-- WORK, upkeep, season and sweep together leave what they should to a faction without a mailing
+pub last_leave : CloseTogether last_phases
+last_leave = work_leaves ▹ upkeep_leaves ▹ season_leaves ▹ sweep_leaves

@@ -1,4 +1,4 @@
--- Who receives what units without men leave: from one unit to the next, and while they are swept.
+-- Laws of the receivers of the sweep: the code's map has them, and they stay the same while units are swept.
 use Rattle.std.proofs.Common.{◌≡◌, ◌≢◌, ◌==◌, ◌&&◌, ℕ, ◌≤◌, ◌<◌, Bool, true, false, cond, List, [], ◌∷◌, Option, Some, refl, sym, ap, subst, ◌∙◌, inl, inr, ◌⊎◌, arith}
 use Rattle.std.specs.Prelude.{nat_lt, unwrap_or, if◌then◌else◌}
 use Rattle.std.proofs.lemmas.Bool.Decides.{nat_tests}
@@ -27,7 +27,7 @@ use Rattle.atl_month.proofs.SweepAllLaws.{swept_at_keeps, swept_at_leaves_well, 
 -- ---- the first of those that pass a test
 
 module _ {V : Type 0} (p : V → Bool) where
-  -- what is listed of a number and others
+  -- a number of a list with one more number, if that is listed, is that one or one of the others
   either_listed : {P : Type 0} (b : Bool) (n k : ℕ) (ns : List ℕ) → (k ≡ n → P) → (IsListed k ns → P) → IsListed k (cond b (n ∷ ns) ns) → P
   either_listed true n k ns here rest (inl same) = here same
   either_listed true n k ns here rest (inr h) = rest h
@@ -39,6 +39,7 @@ module _ {V : Type 0} (p : V → Bool) where
       either_listed (p e.1) e.0 k (numbers_among p es) (λ same. let l = below x e.0 (and_parts _ _ low).0 in omega (arith, same, l)) (below_listed x k es (and_parts _ _ low).1)
       (subst (IsListed k) (chosen-cons p e es) h)
 
+  -- the least of the numbers listed is the first
   first_least : (k : ℕ) (es : List (ℕ × V)) → is_sorted nat_cmp es ≡ true → IsListed k (numbers_among p es) → first_or_zero (numbers_among p es) ≤ k
   first_least k [] s h = absurd h
   first_least k (e ∷ es) s h =
@@ -51,10 +52,11 @@ module _ {V : Type 0} (p : V → Bool) where
       by_test true least above (inr rest) = let l = above rest in omega arith
       by_test false least above rest = least rest
 
-  -- what passes in one map passes in the other
+  -- number `k` of a map is there and its value passes the test
   abbrev PassesIn : FinMap nat_cmp V → ℕ → Type 0
   PassesIn m k = (v : V) × (get m k ≡ Some v) × (p v ≡ true)
 
+  -- where the same numbers pass in one map as in another, the first of the one is no greater
   first_below : (m o : FinMap nat_cmp V) → Every (λ k v. 1 ≤ k) m → ((k : ℕ) → PassesIn o k → PassesIn m k) → first_or_zero (numbers_where p o) ≢ 0
       → (first_or_zero (numbers_where p m) ≢ 0) × (first_or_zero (numbers_where p m) ≤ first_or_zero (numbers_where p o))
   first_below m o low also some =
@@ -67,6 +69,7 @@ module _ {V : Type 0} (p : V → Bool) where
       there [] least k h = absurd h
       there (n ∷ ns) least k h = let l = least n (inl refl) in λ zero. absurd (omega (arith, zero, l))
 
+  -- maps in which the same numbers pass the test have the same first of them
   pub same_first : (m o : FinMap nat_cmp V) → Every (λ k v. 1 ≤ k) m → Every (λ k v. 1 ≤ k) o → ((k : ℕ) → PassesIn o k → PassesIn m k) → ((k : ℕ) → PassesIn m k → PassesIn o k)
       → first_or_zero (numbers_where p m) ≡ first_or_zero (numbers_where p o)
   same_first m o low deep there back =
@@ -94,7 +97,7 @@ module _ (w : WorldValue) (c : CampaignValue) (n : ℕ) (steady : IsSteady w c) 
       let men = (and_parts (u.faction == faction) (nat_lt 0 u.holding.men) both.1).1 in
       grind (arith, nat_tests)
 
-  -- the receivers stay the same
+  -- sweeping a unit leaves each faction's receiver in each region the same
   pub receiver_stays : (region faction : ℕ) → receiver (after_sweeping_unit c n) region faction ≡ receiver c region faction
   receiver_stays region faction =
       same_first (receives region faction) (after_sweeping_unit c n).units c.units
@@ -105,6 +108,7 @@ module _ (w : WorldValue) (c : CampaignValue) (n : ℕ) (steady : IsSteady w c) 
 
 -- ---- as they are noted, unit by unit
 
+-- the receiver of a faction among those of a region; 0 where there is none
 abbrev receiver_under : ℕ → Option (FinMap nat_cmp ℕ) → ℕ
 receiver_under faction o = unwrap_or (get (unwrap_or o empty) faction) 0
 
@@ -130,9 +134,11 @@ module _ (m : ReceiverMap) (region faction n : ℕ) where
       ]
 
 module _ (m : ReceiverMap) (n : ℕ) (u : Unit) (es : List (ℕ × Unit)) (low : 1 ≤ n) where
+  -- the receiver among the units still to be noted; 0 where there is none
   abbrev behind : (region faction : ℕ) → ℕ
   behind r f = first_or_zero (numbers_among (receives r f) es)
 
+  -- noting unit `n` keeps the receiver of a faction in a region: the one noted, else the first of those still to come
   abbrev GoesOn : (region faction : ℕ) → Type 0
   GoesOn r f = or_if_zero (receiver_in (with_receiver_of m n u) r f) (behind r f) ≡ or_if_zero (receiver_in m r f) (first_or_zero (numbers_among (receives r f) ((n, u) ∷ es)))
 
@@ -140,10 +146,11 @@ module _ (m : ReceiverMap) (n : ℕ) (u : Unit) (es : List (ℕ × Unit)) (low :
   first_of_cond true x ns = refl
   first_of_cond false x ns = refl
 
+  -- the first receiver among a unit and others
   opened : (r f : ℕ) → first_or_zero (numbers_among (receives r f) ((n, u) ∷ es)) ≡ cond (receives r f u) n (behind r f)
   opened r f = ap first_or_zero (chosen-cons (receives r f) (n, u) es) ∙ first_of_cond (receives r f u) n (numbers_among (receives r f) es)
 
-  -- for its own faction in its own region
+  -- that holds for the unit's own faction in its own region
   own : GoesOn u.region u.faction
   own =
       by_tests (nat_lt 0 u.holding.men) (receiver_in m u.region u.faction == 0) refl refl
@@ -181,7 +188,7 @@ module _ (m : ReceiverMap) (n : ℕ) (u : Unit) (es : List (ℕ × Unit)) (low :
           ap (λ a. or_if_zero (receiver_in (if a && (x == 0) then with_receiver m u.region u.faction n else m) u.region u.faction) F) k
           ∙ ap (λ a. or_if_zero x (cond a n F)) (sym k)
 
-  -- and for others
+  -- that holds for another faction or region
   others : (r f : ℕ) → (r ≢ u.region) ⊎ (f ≢ u.faction) → GoesOn r f
   others r f apart =
       ap (λ a. or_if_zero a (behind r f)) (by_test (nat_lt 0 u.holding.men && (receiver_in m u.region u.faction == 0)))
@@ -199,6 +206,7 @@ module _ (m : ReceiverMap) (n : ℕ) (u : Unit) (es : List (ℕ × Unit)) (low :
       fails (inl h) = ap (λ a. a && ((u.faction == f) && nat_lt 0 u.holding.men)) (other_number u.region r (λ e. h (sym e)))
       fails (inr h) = ap (λ a. (u.region == r) && (a && nat_lt 0 u.holding.men)) (other_number u.faction f (λ e. h (sym e))) ∙ no_second (u.region == r)
 
+  -- that holds for each faction and region
   pub noted_goes_on : (r f : ℕ) → GoesOn r f
   noted_goes_on r f =
       elim (cases_eq r u.region) [
@@ -210,12 +218,14 @@ module _ (m : ReceiverMap) (n : ℕ) (u : Unit) (es : List (ℕ × Unit)) (low :
         | inr apart ↦ others r f (inl apart)
       ]
 
+-- before any unit is noted, the receivers are the first of all units
 pub nothing_noted : (c : CampaignValue) (m : ReceiverMap) → m ≡ empty → (r f : ℕ) → or_if_zero (receiver_in m r f) (first_or_zero (numbers_among (receives r f) (entries c.units))) ≡ receiver c r f
 nothing_noted c m none r f =
     ap (λ k. or_if_zero (receiver_under f (get k r)) (first_or_zero (numbers_among (receives r f) (entries c.units)))) none
     ∙ ap (λ o. or_if_zero (receiver_under f o) (first_or_zero (numbers_among (receives r f) (entries c.units)))) (get-empty nat_cmp r)
     ∙ ap (λ o. or_if_zero (unwrap_or o 0) (first_or_zero (numbers_among (receives r f) (entries c.units)))) (get-empty nat_cmp f)
 
+-- after all units were noted, the map has the receivers of the campaign
 pub all_noted : (c : CampaignValue) (m : ReceiverMap) → ((r f : ℕ) → or_if_zero (receiver_in m r f) (first_or_zero (numbers_among (receives r f) [])) ≡ receiver c r f) → AreReceivers c m
 all_noted c m h r f = plain (receiver_in m r f) ∙ h r f
   where

@@ -1,4 +1,4 @@
--- What the restocking of a region's markets leaves.
+-- Laws of restocking a region's markets: it leaves a campaign well, changes no unit, and the books have room for it.
 use Rattle.std.proofs.Common.{◌≡◌, ◌≢◌, ◌==◌, ◌&&◌, ℕ, ◌+◌, ◌-◌, ◌*◌, ◌≤◌, ◌<◌, min, Bool, true, false, cond, Option, Some, None, List, [], ◌∷◌, length, refl, sym, ap, subst, ◌∙◌, arith}
 use Rattle.std.specs.Prelude.{ℤ, pos, ◌+ℤ◌, is_some, option_and_then, unwrap_or, if◌then◌else◌}
 use Rattle.std.specs.Ordering.{nat_cmp, is_lt}
@@ -46,12 +46,12 @@ use Rattle.atl_month.specs.Restock.{after_market_restock, after_restock, markets
 
 -- ---- how far new goods move the books
 
--- so much of the item of each market
+-- the bound on what these markets' new goods book: 999,999,999 for each market's item
 abbrev pub stocking : List (ℕ × Market) → BookBound
 stocking [] e t = 0
 stocking (x ∷ xs) e t = moves_only most_amount Stocked (Item x.0) e t + stocking xs e t
 
--- the goods of an item move its own amount alone
+-- new goods of an item move the amount of that item under Stocked alone
 one_stocked : (k : ℕ) (e : Entry) (t : Thing) → moves_only most_amount Stocked (Item k) e t ≤ (if (entry_index e == entry_index Stocked) && (thing_index t == 2 + k) then most_amount else 0)
 one_stocked k e t = by_number (amount_number e t == amount_number Stocked (Item k)) refl
   where
@@ -70,19 +70,20 @@ one_stocked k e t = by_number (amount_number e t == amount_number Stocked (Item 
         at_place (entry_index e == entry_index Stocked) (thing_index t == 2 + k) (let f : (entry_index e == entry_index Stocked) ≡ true = grind (arith, nat_tests) in f) (let g : (thing_index t == 2 + k) ≡ true = grind (arith, nat_tests) in g)
     by_number false is = omega arith
 
--- nothing of it, where the item is another
+-- where the test is false, the bound is 0
 no_part : (a b : Bool) (n : ℕ) → b ≡ false → n ≤ (if a && b then most_amount else 0) → n ≡ 0
 no_part true true n f l = cc
 no_part true false n f l = omega (arith, l)
 no_part false b n f l = omega (arith, l)
 
+-- new goods of one item move no amount of another
 other_item : (k : ℕ) (e : Entry) (t : Thing) → (thing_index t == 2 + k) ≡ false → moves_only most_amount Stocked (Item k) e t ≡ 0
 other_item k e t apart = no_part (entry_index e == entry_index Stocked) (thing_index t == 2 + k) (moves_only most_amount Stocked (Item k) e t) apart (one_stocked k e t)
 
 sum_of_none : (n y : ℕ) → n ≡ 0 → y ≡ 0 → n + y ≡ 0
 sum_of_none n y e f = omega (arith, e, f)
 
--- a thing is the item of none of these markets, whose items are above it
+-- the new goods of markets whose items are all above `k` move nothing of item `k`
 none_above : (k : ℕ) (xs : List (ℕ × Market)) (e : Entry) (t : Thing) → thing_index t ≡ 2 + k → below_all nat_cmp k xs ≡ true → stocking xs e t ≡ 0
 none_above k [] e t at above = refl
 none_above k (x ∷ xs) e t at above =
@@ -93,7 +94,7 @@ none_above k (x ∷ xs) e t at above =
     is_below : (a b : ℕ) → is_lt (nat_cmp a b) ≡ true → a < b
     is_below a b h = grind (arith, nat_tests)
 
--- of the markets of a region, each has an item of its own
+-- the new goods of markets with different items move no amount by more than 999,999,999
 little : (xs : List (ℕ × Market)) → is_sorted nat_cmp xs ≡ true → (e : Entry) (t : Thing) → stocking xs e t ≤ (if entry_index e == entry_index Stocked then most_amount else 0)
 little [] rising e t = omega arith
 little (x ∷ xs) rising e t = with_rest (little xs (and_parts _ _ rising).1 e t)
@@ -124,12 +125,13 @@ little (x ∷ xs) rising e t = with_rest (little xs (and_parts _ _ rising).1 e t
     with_rest : stocking xs e t ≤ bound → first + stocking xs e t ≤ bound
     with_rest rest = by_thing (thing_index t == 2 + x.0) refl rest
 
--- and neither money nor people come into stock
+-- new goods move no amount of money or people
 not_stocked : (xs : List (ℕ × Market)) (e : Entry) (t : Thing) → thing_index t ≤ 1 → stocking xs e t ≡ 0
 not_stocked [] e t low = refl
 not_stocked (x ∷ xs) e t low =
     sum_of_none (moves_only most_amount Stocked (Item x.0) e t) (stocking xs e t) (other_item x.0 e t (grind (arith, nat_tests))) (not_stocked xs e t low)
 
+-- the new goods of markets with different items are within the bound of restocking
 pub stocks_little : (xs : List (ℕ × Market)) → is_sorted nat_cmp xs ≡ true → (e : Entry) (t : Thing) → stocking xs e t ≤ stocks_by most_amount e t
 stocks_little xs rising e Money = omega (arith, not_stocked xs e Money (omega arith))
 stocks_little xs rising e People = omega (arith, not_stocked xs e People (omega arith))
@@ -141,7 +143,7 @@ stocks_little xs rising e (Item i) = item (entry_index e == entry_index Stocked)
 
 -- ---- a market that gets new goods
 
--- what it lacks
+-- what is added up to a limit stays within the limit
 fits : (a b d : ℕ) → d ≤ b → d + min a (b - d) ≤ b
 fits a b d l = omega (arith, least a (b - d))
   where
@@ -149,9 +151,11 @@ fits a b d l = omega (arith, least a (b - d))
     least x y = omega arith
 
 module _ (w : WorldValue) (c : CampaignValue) (n i : ℕ) (m : Market) (r : Region) (here : get c.regions n ≡ Some r) (market : market_of w n i ≡ Some m) (known : IsMarket (length w.items) i m) (steady : IsSteady w c) where
+  -- the stock of the market before
   abbrev stock : ℕ
   stock = amount_of r.stocks i
 
+  -- how many new goods the market gets
   abbrev more : ℕ
   more = restock m stock
 
@@ -174,12 +178,14 @@ module _ (w : WorldValue) (c : CampaignValue) (n i : ℕ) (m : Market) (r : Regi
   inside : thing_index (Item i) < things_of w
   inside = omega (arith, known.item, known.number_is)
 
+  -- the campaign with the new goods in stock, not booked yet
   abbrev filled : CampaignValue
   filled = with_stock c n i (stock + more)
 
   filled_steady : IsSteady w filled
   filled_steady = steady-stock c n i (stock + more) r here w (ap is_some market) (omega (arith, stock_fits, limit_is)) steady
 
+  -- the total of the item grows by the new goods
   filled_total : (t : Thing) → total filled t ≡ total c t + cond (thing_index t == 2 + i) more 0
   filled_total t = by_place (thing_index t == 2 + i) refl
     where
@@ -201,6 +207,7 @@ module _ (w : WorldValue) (c : CampaignValue) (n i : ℕ) (m : Market) (r : Regi
           plain : (k : ℕ) → k ≡ k + 0
           plain k = omega arith
 
+  -- with the new goods booked the books balance
   balanced : Balances c → Balances (with_amount filled Stocked (Item i) (pos more))
   balanced old t =
       ap pos (total-amount filled Stocked (Item i) t (pos more)) ∙ ap pos (filled_total t) ∙ added (thing_index t == 2 + i) (total c t) (booked c.books t) (old t)
@@ -210,6 +217,7 @@ module _ (w : WorldValue) (c : CampaignValue) (n i : ℕ) (m : Market) (r : Regi
       added true x z e = omega (arith, ints, e)
       added false x z e = omega (arith, ints, e)
 
+  -- new goods of a market of region `n` leave the campaign well
   pub market_leaves_well : LeavesWell IsSteady (moves_only most_amount Stocked (Item i)) w c (after_market_restock n c (i, m))
   unfolding after_market_restock
   market_leaves_well =
@@ -223,37 +231,41 @@ module _ (w : WorldValue) (c : CampaignValue) (n i : ℕ) (m : Market) (r : Regi
 
 -- ---- all markets of a region
 
--- a market of the region, which stands under its item
-abbrev pub IsOf : WorldValue → (n i : ℕ) → Market → Type 0
-IsOf w n i m = (market_of w n i ≡ Some m) × IsMarket (length w.items) i m
+-- `m` is the market of region `n` for item `i`, in the world
+abbrev pub IsMarketOf : WorldValue → (n i : ℕ) → Market → Type 0
+IsMarketOf w n i m = (market_of w n i ≡ Some m) × IsMarket (length w.items) i m
 
 module _ (w : WorldValue) (n : ℕ) (there : IsThere w.regions n) where
-  pub one_leaves_well : (c : CampaignValue) (x : ℕ × Market) → IsOf w n x.0 x.1 → IsSteady w c → LeavesWell IsSteady (moves_only most_amount Stocked (Item x.0)) w c (after_market_restock n c x)
+  -- new goods of one of a region's markets leave the campaign well
+  pub one_leaves_well : (c : CampaignValue) (x : ℕ × Market) → IsMarketOf w n x.0 x.1 → IsSteady w c → LeavesWell IsSteady (moves_only most_amount Stocked (Item x.0)) w c (after_market_restock n c x)
   one_leaves_well c x of steady = let (r, here) = (steady.known.regions n).1 there in market_leaves_well w c n x.0 x.1 r here of.0 of.1 steady
 
-  all_leave_well : (xs : List (ℕ × Market)) → EachOf (IsOf w n) xs → (c : CampaignValue) → IsSteady w c → LeavesWell IsSteady (stocking xs) w c (after_restock n c xs)
+  -- new goods of a region's markets, in turn, leave the campaign well
+  all_leave_well : (xs : List (ℕ × Market)) → EachOf (IsMarketOf w n) xs → (c : CampaignValue) → IsSteady w c → LeavesWell IsSteady (stocking xs) w c (after_restock n c xs)
   all_leave_well [] each c steady = well_unchanged (stocking []) w c steady
   all_leave_well (x ∷ xs) each c steady =
       let one = one_leaves_well c x each.0 steady in
       both_leave_well (moves_only most_amount Stocked (Item x.0)) (stocking xs) w c (after_market_restock n c x) (after_restock n c (x ∷ xs)) one
       (all_leave_well xs each.1 (after_market_restock n c x) one.leaves_it)
 
--- no markets
+-- an empty map of markets has no entries
 pub none_there : entries (empty {X = Market} {R = nat_cmp}) ≡ []
 none_there = entries-empty
 
 module _ (w : WorldValue) (world : IsWorld w) (n : ℕ) where
-  -- those of a region, if it is one of the world
+  -- the markets of a region of the world are those of its plan
   pub markets_there : (p : RegionPlan) → get w.regions n ≡ Some p → markets_of w n ≡ p.markets
   markets_there p is = ap (λ o. option_map_or (λ (q : RegionPlan). q.markets) o empty) is
 
+  -- restocking a region that the world doesn't have changes nothing
   pub none_of : (c : CampaignValue) → get w.regions n ≡ None → after_restock n c (entries (markets_of w n)) ≡ c
   none_of c is = ap (λ o. after_restock n c (entries (option_map_or (λ (q : RegionPlan). q.markets) o empty))) is ∙ ap (after_restock n c) none_there
 
-  -- the markets of a region are the world's
-  pub markets_are : (p : RegionPlan) → get w.regions n ≡ Some p → EachOf (IsOf w n) (entries p.markets)
-  markets_are p is = each-from_every (IsOf w n) p.markets (λ i m at. (ap (λ o. option_and_then (λ (q : RegionPlan). get q.markets i) o) is ∙ at, (world.regions n p is).markets i m at))
+  -- each market of a region's plan is the world's market for its item there
+  pub markets_are : (p : RegionPlan) → get w.regions n ≡ Some p → EachOf (IsMarketOf w n) (entries p.markets)
+  markets_are p is = each-from_every (IsMarketOf w n) p.markets (λ i m at. (ap (λ o. option_and_then (λ (q : RegionPlan). get q.markets i) o) is ∙ at, (world.regions n p is).markets i m at))
 
+  -- restocking a region leaves the campaign well
   pub restocked_leaves_well : (c : CampaignValue) → IsSteady w c → LeavesWell IsSteady (stocks_by most_amount) w c (after_restock n c (entries (markets_of w n)))
   restocked_leaves_well c steady = by_plan (get w.regions n) refl
     where
@@ -274,26 +286,28 @@ restocked_keeps n c (x ∷ xs) = restocked_keeps n (after_market_restock n c x) 
 
 -- ---- the code
 
--- what comes into a stock is no more than its market's limit
+-- a market of which the limit is at most 999,999,999 gets at most as many new goods
 pub restock_small : (m : Market) (stock : ℕ) → m.limit ≤ most_amount → restock m stock ≤ most_amount
 restock_small m stock l = omega (arith, l, least m.restock (m.limit - stock))
   where
     least : (x y : ℕ) → min x y ≤ y
     least x y = omega arith
 
--- there is room for the goods of an item
+-- books with room for an item's new goods have room for its amount under Stocked
 pub room_alone : (c : CampaignValue) (i : ℕ) → HaveRoom (moves_only most_amount Stocked (Item i)) c → HasRoom most_amount (amount_in c.books Stocked (Item i))
 room_alone c i room =
     let same : (amount_number Stocked (Item i) == amount_number Stocked (Item i)) ≡ true = grind (arith, nat_tests) in
     subst (λ b. HasRoom (if b then most_amount else 0) (amount_in c.books Stocked (Item i))) same (room Stocked (Item i))
 
--- behind the first market there is room for the others
+-- books with room for the new goods of all markets have room for those of the first
 pub room_for_market : (x : ℕ × Market) (xs : List (ℕ × Market)) (c : CampaignValue) → HaveRoom (stocking (x ∷ xs)) c → HaveRoom (moves_only most_amount Stocked (Item x.0)) c
 room_for_market x xs c room = room_less (moves_only most_amount Stocked (Item x.0)) (stocking (x ∷ xs)) c (λ e t. omega arith) room
 
-pub room_behind_market : (w : WorldValue) (n : ℕ) → IsThere w.regions n → (x : ℕ × Market) (xs : List (ℕ × Market)) (c : CampaignValue) → IsOf w n x.0 x.1 → IsSteady w c → HaveRoom (stocking (x ∷ xs)) c → HaveRoom (stocking xs) (after_market_restock n c x)
+-- after the first market got its goods, they have room for those of the others
+pub room_behind_market : (w : WorldValue) (n : ℕ) → IsThere w.regions n → (x : ℕ × Market) (xs : List (ℕ × Market)) (c : CampaignValue) → IsMarketOf w n x.0 x.1 → IsSteady w c → HaveRoom (stocking (x ∷ xs)) c → HaveRoom (stocking xs) (after_market_restock n c x)
 room_behind_market w n there x xs c of steady room = room_behind (moves_only most_amount Stocked (Item x.0)) (stocking xs) w c (after_market_restock n c x) (one_leaves_well w n there c x of steady) room
 
+-- setting a stock and booking the new goods sets the dirty flags of all that changes
 pub market_marks : (stock more n i : ℕ) (c d e : MarkedCampaign) → d.value ≡ with_stock c.value n i (stock + more) → d.marks ≡ mark_stock c n i (stock + more)
     → e.value ≡ with_amount d.value Stocked (Item i) (pos more) → e.marks ≡ mark_amount d Stocked (Item i) → MarksChanges c e
 market_marks stock more n i c d e d_is d_marks e_is e_marks =

@@ -1,4 +1,4 @@
--- The season leaves a campaign well.
+-- Laws of the season: it leaves a campaign well, changes no unit, and the books have room for it.
 use Rattle.std.proofs.Common.{◌≡◌, ◌==◌, ◌&&◌, ℕ, ◌+◌, ◌-◌, ◌*◌, ◌/◌, ◌%◌, ◌≤◌, min, Bool, true, false, cond, Option, Some, None, List, [], ◌∷◌, length, map, refl, sym, ap, subst, ◌∙◌, arith}
 use Rattle.std.specs.Prelude.{pos, ◌+ℤ◌, fold, zip, option_and_then, if◌then◌else◌}
 use Rattle.std.specs.List.{slice_get}
@@ -53,18 +53,23 @@ income_fits per_peasant limit peasants money l m = omega (arith, least (peasants
 -- ---- the books of a region's season
 
 module _ (w : WorldValue) (c : CampaignValue) (n : ℕ) (r : Region) (born earned : ℕ) (is : get c.regions n ≡ Some r) where
+  -- the campaign with the births, not booked yet
   abbrev peopled : CampaignValue
   peopled = with_peasants c n (r.peasants + born)
 
+  -- that campaign with the income as well, not booked yet
   abbrev paid : CampaignValue
   paid = with_region_money peopled n (r.money + earned)
 
+  -- that campaign with the births booked
   abbrev counted : CampaignValue
   counted = with_amount paid Births People (pos born)
 
+  -- a region with the births
   abbrev more_people : Region → Region
   more_people q = record q { peasants = r.peasants + born }
 
+  -- a region with the income
   abbrev more_money : Region → Region
   more_money q = record q { money = r.money + earned }
 
@@ -78,6 +83,7 @@ module _ (w : WorldValue) (c : CampaignValue) (n : ℕ) (r : Region) (born earne
       steady-amount w counted Income Money (pos earned) (omega arith) (steady-amount w paid Births People (pos born) (omega arith)
       (steady-region more_money peopled n (more_people r) peopled_there w (IsRegion-money (more_people r) (r.money + earned) m grown) stocks (steady-region more_people c n r is w grown stocks old)))
 
+  -- the totals grow by the births and the income
   total_grown : (t : Thing) → pos (total (with_growth c n r.peasants r.money born earned) t) ≡ (pos (total c t) +ℤ share_of t People (pos born)) +ℤ share_of t Money (pos earned)
   total_grown t =
       total_of t (total-amount counted Income Money t (pos earned)) (total-amount paid Births People t (pos born))
@@ -128,12 +134,13 @@ module _ (w : WorldValue) (c : CampaignValue) (n : ℕ) (r : Region) (born earne
     near = growth_near (omega arith) (omega arith);
   }
 
--- there is room for the births first as well
+-- books with room for income and births have it in the order births, income
 pub births_first : (c : CampaignValue) → HaveRoom (grows_by most_amount) c → HaveRoom (both_move (moves_only most_amount Births People) (moves_only most_amount Income Money)) c
 births_first c room = room_less (both_move (moves_only most_amount Births People) (moves_only most_amount Income Money)) (grows_by most_amount) c (λ e t. omega arith) room
 
 -- ---- what the growth of a region marks
 
+-- setting a region's people and money and booking both sets the dirty flags of all that changes
 pub growth_marks : (c d e f g : MarkedCampaign) (n peasants money born earned : ℕ)
     → d.value ≡ with_peasants c.value n peasants → d.marks ≡ mark_region c n
     → e.value ≡ with_region_money d.value n money → e.marks ≡ mark_region d n
@@ -156,7 +163,7 @@ limits_fit w n t world is = terrain_in w (get w.regions n) t world is
 
 -- ---- the season of a region, and of all
 
--- births and income
+-- births and income of a region leave the campaign well
 pub region_grows_well : (w : WorldValue) → IsWorld w → (c : CampaignValue) (n word : ℕ) (t : Terrain) (r : Region) → terrain_of w n ≡ Some t → get c.regions n ≡ Some r → IsSteady w c
     → LeavesWell IsSteady (grows_by most_amount) w c (with_growth c n r.peasants r.money (births w.rules.growth t.peasant_limit word r.peasants) (income w.rules.income t.money_limit (r.peasants + births w.rules.growth t.peasant_limit word r.peasants) r.money))
 region_grows_well w world c n word t r here is steady =
@@ -193,6 +200,7 @@ length-zip [] ys = omega arith
 length-zip (x ∷ xs) [] = omega arith
 length-zip (x ∷ xs) (y ∷ ys) = omega (arith, length-zip xs ys)
 
+-- the season of as many regions as there may be moves each amount by less than 10^14
 pub season_little : (k : ℕ) → k ≤ most_regions → (e : Entry) (t : Thing) → moved_times k (season_moves most_amount) e t ≤ season_moves most_moved e t
 season_little k few e t = scaled (amount_number e t == amount_number Income Money) (amount_number e t == amount_number Births People) ((entry_index e == entry_index Stocked) && is_item t)
   where
@@ -220,7 +228,7 @@ season_leaves_well w world c words steady =
     well_within (moved_times (length pairs) (season_moves most_amount)) (season_moves most_moved) w c (season w c words) (season_little (length pairs) few)
     (fold_leaves_well (season_moves most_amount) w (season_at w) (season_at_leaves_well w world) c pairs steady)
 
--- the season changes no unit
+-- the season of a region changes no unit
 season_at_keeps : (w : WorldValue) (c : CampaignValue) (x : ℕ × ℕ) → (season_at w c x).units ≡ c.units
 unfolding season_at
 season_at_keeps w c (n, word) = by_terrain (terrain_of w n)
@@ -245,6 +253,7 @@ season_keeps_units w c words = each_keeps w c (zip (map (λ (e : ℕ × RegionPl
 
 -- ---- the loop over the regions
 
+-- the season of the first region and then of the others is the season of all
 pub season_goes_on : (w : WorldValue) (c d all : CampaignValue) (regions rest : List (ℕ × RegionPlan)) (words tail : List ℕ) (n word : ℕ) (plan : RegionPlan)
     → regions ≡ (n, plan) ∷ rest → words ≡ word ∷ tail → d ≡ season_at w c (n, word)
     → fold (season_at w) c (zip (map (λ e. e.0) regions) words) ≡ all → fold (season_at w) d (zip (map (λ e. e.0) rest) tail) ≡ all
@@ -253,11 +262,13 @@ season_goes_on w c d all regions rest words tail n word plan listed given is who
     ∙ sym (ap (λ l. fold (season_at w) c (zip (map (λ (e : ℕ × RegionPlan). e.0) l) words)) listed ∙ ap (λ ws. fold (season_at w) c (zip (n ∷ map (λ (e : ℕ × RegionPlan). e.0) rest) ws)) given)
     ∙ whole
 
+-- after the season of a region the books have room for that of the others
 pub room_goes_on : (w : WorldValue) → IsWorld w → (c d : CampaignValue) (regions rest : List (ℕ × RegionPlan)) (n word : ℕ) (plan : RegionPlan)
     → regions ≡ (n, plan) ∷ rest → d ≡ season_at w c (n, word) → IsSteady w c → HaveRoom (moved_times (length regions) (season_moves most_amount)) c → HaveRoom (moved_times (length rest) (season_moves most_amount)) d
 room_goes_on w world c d regions rest n word plan listed is steady room =
     rw is (room_behind_one (season_moves most_amount) w (season_at w) (season_at_leaves_well w world) c (n, word) (n, plan) rest steady (subst (λ (l : List (ℕ × RegionPlan)). HaveRoom (moved_times (length l) (season_moves most_amount)) c) listed room))
 
+-- books with room for the season of all regions have room for that of the first
 pub room_now : (w : WorldValue) → IsWorld w → (c : CampaignValue) (regions rest : List (ℕ × RegionPlan)) (n : ℕ) (plan : RegionPlan)
     → regions ≡ (n, plan) ∷ rest → HaveRoom (moved_times (length regions) (season_moves most_amount)) c → HaveRoom (season_moves most_amount) c
 room_now w world c regions rest n plan listed room =

@@ -1,4 +1,4 @@
--- The sweep of all units without men, and of the factions without units.
+-- Laws of the whole sweep: afterwards each unit has men, and factions without units are gone; units with men keep all.
 use Rattle.std.proofs.Common.{◌≡◌, ◌≢◌, ◌==◌, ◌&&◌, ℕ, suc, ◌*◌, ◌≤◌, not, Bool, true, false, cond, List, [], ◌∷◌, length, filter, map, Option, Some, None, refl, sym, ap, subst, ◌∙◌, inl, inr, arith}
 use Rattle.std.specs.Prelude.{pos, fold, if◌then◌else◌}
 use Rattle.std.proofs.lemmas.Bool.Decides.{nat_tests}
@@ -36,11 +36,13 @@ use Rattle.atl_records.specs.Limits.{most_units}
 
 -- ---- one unit
 
+-- a campaign after unit `n`, if it is there without men, was swept
 abbrev swept_in : CampaignValue → ℕ → Option Unit → CampaignValue
 swept_in c n o =
     option_map_or (λ u. if u.holding.men == 0 then without_unit (after_passing_all c (receiver c u.region u.faction) u) n else c) o c
 
 module _ (w : WorldValue) (c : CampaignValue) (n : ℕ) (steady : IsSteady w c) where
+  -- sweeping a unit leaves the campaign well
   pub swept_at_leaves_well : LeavesWell IsSteady (loses_by most_amount) w c (after_sweeping_unit c n)
   unfolding after_sweeping_unit
   swept_at_leaves_well = by_unit (get c.units n) refl
@@ -54,10 +56,11 @@ module _ (w : WorldValue) (c : CampaignValue) (n : ℕ) (steady : IsSteady w c) 
       by_unit None is = well_unchanged (loses_by most_amount) w c steady
       by_unit (Some u) is = by_men u is (u.holding.men == 0) refl
 
+  -- in this campaign each unit that had men is still there, and nothing is taken from it
   abbrev Kept : CampaignValue → Type 0
   Kept d = Every (λ m x. 1 ≤ x.holding.men → (v : Unit) × (get d.units m ≡ Some v) × IsKept x v) c.units
 
-  -- a unit with men keeps all
+  -- sweeping a unit takes nothing from units with men
   pub swept_at_keeps : Kept (after_sweeping_unit c n)
   unfolding after_sweeping_unit
   swept_at_keeps = by_unit (get c.units n) refl
@@ -80,10 +83,11 @@ module _ (w : WorldValue) (c : CampaignValue) (n : ℕ) (steady : IsSteady w c) 
       by_unit None is = same
       by_unit (Some u) is = by_men u is (u.holding.men == 0) refl
 
+  -- in this campaign each unit was there before, nothing was taken from it, and if it has no men it isn't the swept one
   abbrev Were : CampaignValue → Type 0
   Were d = Every (λ m v. (v.holding.men ≡ 0 → m ≢ n) × ((x : Unit) × (get c.units m ≡ Some x) × IsKept x v)) d.units
 
-  -- each unit that is left was there, and it isn't this one, unless that has men
+  -- after sweeping a unit each unit that is left was there before
   pub swept_at_were : Were (after_sweeping_unit c n)
   unfolding after_sweeping_unit
   swept_at_were = by_unit (get c.units n) refl
@@ -123,6 +127,7 @@ at_least_one n some = by_test (n == 0) refl
     by_test false t = let one = is_unequal n 0 t in grind (arith, nat_tests)
 
 module _ (w : WorldValue) where
+  -- after sweeping all that are listed, each unit has men
   pub all_have_men : (ns : List ℕ) (c : CampaignValue) → IsSteady w c → AreListed ns c → HaveMen (fold after_sweeping_unit c ns)
   all_have_men [] c steady listed = λ m v there. at_least_one v.holding.men (listed m v there)
   all_have_men (n ∷ ns) c steady listed =
@@ -130,6 +135,7 @@ module _ (w : WorldValue) where
       let (apart, (x, was, kept)) = swept_at_were w c n steady m v there in
       behind_it m n ns (apart none) (listed m x was (sym kept.men ∙ none)))
 
+  -- sweeping units takes nothing from units with men
   pub all_keep : (ns : List ℕ) (c : CampaignValue) → IsSteady w c → Every (λ m x. 1 ≤ x.holding.men → (v : Unit) × (get (fold after_sweeping_unit c ns).units m ≡ Some v) × IsKept x v) c.units
   all_keep [] c steady m x there some = (x, there, kept-refl x)
   all_keep (n ∷ ns) c steady m x there some =
@@ -147,7 +153,7 @@ some_at : (ns : List ℕ) → ns ≡ [] → is_empty ns ≡ false → ⊥
 some_at [] e h = cc
 some_at (n ∷ ns) e h = cc
 
--- nothing of the books moves
+-- the bound 0 for each amount of the books
 abbrev pub nothing_moves : BookBound
 nothing_moves e t = 0
 
@@ -159,6 +165,7 @@ module _ (c : CampaignValue) (n : ℕ) where
       by_test true = refl
       by_test false = refl
 
+  -- sweeping a faction leaves the campaign well, and the books as they are
   pub gone_at_leaves_well : (w : WorldValue) → IsSteady w c → LeavesWell IsSteady nothing_moves w c (after_sweeping_faction c n)
   gone_at_leaves_well w steady = by_test (is_empty (numbers_of n c.units)) refl
     where
@@ -175,6 +182,7 @@ module _ (c : CampaignValue) (n : ℕ) where
       by_test true t = by_faction (none_at (numbers_of n c.units) t) (get c.factions n) refl
       by_test false t = well_unchanged nothing_moves w c steady
 
+  -- a faction that isn't gone in this campaign, and has no unit, was so before and isn't faction `n`
   abbrev Remains : CampaignValue → Type 0
   Remains d = Every (λ m f. numbers_of m c.units ≡ [] → f.gone ≡ false → (m ≢ n) × (get c.factions m ≡ Some f)) d.factions
 
@@ -203,7 +211,7 @@ module _ (c : CampaignValue) (n : ℕ) where
       by_test true t = by_faction (get c.factions n) refl
       by_test false t = λ m f there none stays. (λ own. some_at (numbers_of n c.units) (ap (λ k. numbers_of k c.units) (sym own) ∙ none) t, there)
 
--- each faction that has no unit, and is not gone, is listed
+-- each faction that has no unit, and isn't gone, is listed
 abbrev AreToGo : List ℕ → CampaignValue → Type 0
 AreToGo ns c = Every (λ m f. numbers_of m c.units ≡ [] → f.gone ≡ false → IsListed m ns) c.factions
 
@@ -211,6 +219,7 @@ not_false : (b : Bool) → (b ≡ false → ⊥) → b ≡ true
 not_false true h = refl
 not_false false h = absurd (h refl)
 
+-- after sweeping factions that include all without units, these are gone
 all_are_gone : (ns : List ℕ) (c : CampaignValue) → AreToGo ns c → NoneAreGone (fold after_sweeping_faction c ns)
 all_are_gone [] c listed = λ m f there none. not_false f.gone (listed m f there none)
 all_are_gone (n ∷ ns) c listed =
@@ -247,6 +256,7 @@ moves_none : (k : ℕ) (e : Entry) (t : Thing) → moved_times k nothing_moves e
 moves_none k e t = omega arith
 
 module _ (w : WorldValue) (c : CampaignValue) (steady : IsSteady w c) where
+  -- the campaign after the units without men were swept
   abbrev units_swept : CampaignValue
   units_swept = fold after_sweeping_unit c (menless_units c)
 

@@ -1,4 +1,4 @@
--- The sweep leaves a campaign well.
+-- Laws of sweeping one unit without men: it leaves a campaign well, and takes nothing from other units.
 use Rattle.std.proofs.Common.{◌≡◌, ◌≢◌, ◌==◌, ◌&&◌, ℕ, ◌+◌, ◌*◌, ◌≤◌, ◌<◌, not, Bool, true, false, cond, List, [], ◌∷◌, length, Option, Some, refl, sym, ap, subst, ◌∙◌, inl, arith}
 use Rattle.std.specs.Prelude.{ℤ, pos, ◌+ℤ◌, nat_lt, unwrap_or, if◌then◌else◌}
 use Rattle.std.proofs.lemmas.Int.{ints}
@@ -40,12 +40,15 @@ use Rattle.atl_month.proofs.PassingLaws.{Owes, PassesOn, pass_items, pass_money,
 
 -- ---- how much of each thing a unit passes on
 
+-- how much of each thing a unit with this holding passes on
 abbrev owing_all : HoldingValue → Thing → ℕ
 owing_all h s = part_of s Money h.money + owing_items (entries h.items) s
 
+-- the bound on what passing on all of a holding books: Lost of its money and of each item
 abbrev pub moving_all : HoldingValue → BookBound
 moving_all h = both_move (moves_only h.money Lost Money) (moving_items (entries h.items))
 
+-- a unit without men passes on all that it has of each thing
 all_owed : (h : HoldingValue) → h.men ≡ 0 → (s : Thing) → owing_all h s ≡ unit_amount s h
 all_owed h none Money = ap (λ n. h.money + n) (no_money (entries h.items)) ∙ plain h.money
   where
@@ -62,7 +65,7 @@ all_owed h none (Item j) =
 
 -- ---- how far it moves the books
 
--- an amount of what is lost
+-- so much under the entry Lost, 0 under any other
 abbrev of_lost : Entry → ℕ → ℕ
 of_lost e n = cond (entry_index e == 7) n 0
 
@@ -98,13 +101,14 @@ items_moved (x ∷ xs) e s =
     lost_sum e (moves_only x.1 Lost (Item x.0) e s) (moving_items xs e s) (part_of s (Item x.0) x.1) (owing_items xs s)
     (one_moved x.1 (Item x.0) e s) (items_moved xs e s)
 
+-- passing on a holding without men moves each amount of the books by at most what it has
 all_moved : (h : HoldingValue) → h.men ≡ 0 → (e : Entry) (s : Thing) → moving_all h e s ≤ of_lost e (unit_amount s h)
 all_moved h none e s =
     subst (λ n. moving_all h e s ≤ of_lost e n) (all_owed h none s)
     (lost_sum e (moves_only h.money Lost Money e s) (moving_items (entries h.items) e s) (part_of s Money h.money)
     (owing_items (entries h.items) s) (one_moved h.money Money e s) (items_moved (entries h.items) e s))
 
--- within what a unit may hold
+-- what a unit may hold is within the bound of the sweep
 little_lost : (h : HoldingValue) → h.men ≡ 0 → h.money ≤ holding_limit → ((i : ℕ) → amount_of h.items i ≤ holding_limit) → (e : Entry) (s : Thing)
     → of_lost e (unit_amount s h) ≤ loses_by most_amount e s
 little_lost h none money items e Money = by_test (entry_index e == 7)
@@ -128,11 +132,13 @@ little_lost h none money items e (Item j) =
 
 -- ---- who gets it
 
+-- the first number of a list, if it isn't 0, is one of the list
 pub first_listed : (ns : List ℕ) → first_or_zero ns ≢ 0 → IsListed (first_or_zero ns) ns
 first_listed [] some = absurd (some refl)
 first_listed (n ∷ ns) some = inl refl
 
 module _ (w : WorldValue) (c : CampaignValue) (n : ℕ) (u : Unit) (is : get c.units n ≡ Some u) (none : u.holding.men ≡ 0) (steady : IsSteady w c) where
+  -- a unit without men receives nothing
   not_received : (region faction : ℕ) (v : Unit) → get c.units n ≡ Some v → receives region faction v ≡ true → ⊥
   not_received region faction v there t =
       let both = and_parts (v.region == region) ((v.faction == faction) && nat_lt 0 v.holding.men) t in
@@ -143,6 +149,7 @@ module _ (w : WorldValue) (c : CampaignValue) (n : ℕ) (u : Unit) (is : get c.u
       without_men : (men : ℕ) → men ≡ 0 → nat_lt 0 men ≡ true → ⊥
       without_men men e t = let some : 1 ≤ men = grind (arith, nat_tests) in absurd (omega (arith, e, some))
 
+  -- a unit without men isn't its own receiver
   receiver_apart : (region faction : ℕ) → n ≢ receiver c region faction
   receiver_apart region faction same =
       let least = (steady.numbers.units n u is).0 in
@@ -151,15 +158,18 @@ module _ (w : WorldValue) (c : CampaignValue) (n : ℕ) (u : Unit) (is : get c.u
       let (v, there, t) = listed_passing (receives region faction) c.units (receiver c region faction) listed in
       not_received region faction v (ap (get c.units) same ∙ there) t
 
+  -- the number of the unit that receives what unit `n` leaves; 0 where there is none
   abbrev to : ℕ
   to = receiver c u.region u.faction
 
   known : EachOf (λ i a. i < length w.items) (entries u.holding.items)
   known = each-from_every (λ i a. i < length w.items) u.holding.items (steady.known.units n u is).items
 
+  -- the campaign after unit `n` passed on what it has
   abbrev passed : CampaignValue
   passed = after_passing_all c to u
 
+  -- the unit passes on what it has as it should
   passing : PassesOn w n (owing_all u.holding) (moving_all u.holding) c passed
   passing =
       let apart = receiver_apart u.region u.faction in
@@ -170,6 +180,7 @@ module _ (w : WorldValue) (c : CampaignValue) (n : ℕ) (u : Unit) (is : get c.u
   there_still : get passed.units n ≡ Some u
   there_still = passing.unit ∙ is
 
+  -- that campaign without unit `n`
   abbrev swept : CampaignValue
   swept = without_unit passed n
 
@@ -215,14 +226,14 @@ module _ (w : WorldValue) (c : CampaignValue) (n : ℕ) (u : Unit) (is : get c.u
             (passing.near e s));
       }
 
-  -- a unit other than the one that goes keeps all
+  -- each unit other than the one that is removed is still there, and nothing is taken from it
   pub others_keep : Every (λ m x. m ≢ n → (v : Unit) × (get swept.units m ≡ Some v) × IsKept x v) c.units
   others_keep m x there apart =
       let only = only_reduced w passed n u there_still in
       let (v, here, kept) = passing.forth m x there in
       (v, ap (λ (units : FinMap nat_cmp Unit). get units m) only.units ∙ get-remove_other passed.units n m apart ∙ here, kept)
 
-  -- and each unit that is left was there
+  -- each unit that is left was there before, and isn't the one that is removed
   pub others_were : Every (λ m v. (m ≢ n) × ((x : Unit) × (get c.units m ≡ Some x) × IsKept x v)) swept.units
   others_were m v there =
       let only = only_reduced w passed n u there_still in

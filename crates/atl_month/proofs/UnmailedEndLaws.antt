@@ -26,6 +26,7 @@ use Rattle.atl_month.proofs.UpkeepLaws.{days_left, upkeep_in}
 
 -- ---- upkeep
 
+-- a unit that is less by one number of men, and then by another, is less by both
 less_plus : (a b : ℕ) (u v x : Unit) → IsLessBy a u v → IsLessBy b v x → IsLessBy (a + b) u x
 less_plus a b u v x one two = record {
   faction = two.faction ∙ one.faction;
@@ -37,19 +38,22 @@ less_plus a b u v x one two = record {
     less : (j k l : ℕ) → k ≡ j - a → l ≡ k - b → l ≡ j - (a + b)
     less j k l e f = omega (arith, e, f)
 
+-- a unit is less by no men than itself
 nobody_less : (u : Unit) → IsLessBy 0 u u
 nobody_less u = record { faction = refl; name = refl; men = omega arith; items = λ i. omega arith }
 
--- a unit behind its upkeep
+-- a unit after its upkeep
 abbrev supplied_unit : UpkeepResult → Unit → Unit
 supplied_unit s u = record u { holding = after_upkeep s u.holding }
 
+-- how many men a unit has after its upkeep
 abbrev men_left : UpkeepResult → Unit → ℕ
 men_left s u = u.holding.men - s.starved
 
 abbrev held_by : UpkeepResult → Unit → Bool → HoldingValue
 held_by s u b = record (if b then u.holding else record u.holding { men = men_left s u; days = days_left (men_left s u) u.holding }) { money = u.holding.money - s.paid }
 
+-- a unit after its upkeep is less by the men who starved
 fewer_by : (s : UpkeepResult) (u : Unit) → IsLessBy s.starved u (supplied_unit s u)
 fewer_by s u = by_test (men_left s u == u.holding.men) refl
   where
@@ -57,10 +61,11 @@ fewer_by s u = by_test (men_left s u == u.holding.men) refl
     by_test true is = record { faction = refl; name = refl; men = sym (is_equal (men_left s u) u.holding.men is); items = λ i. omega arith }
     by_test false is = record { faction = refl; name = refl; men = refl; items = λ i. omega arith }
 
--- how many men of a unit starve by some settlements
+-- how many men of unit `n` starve by one result of upkeep; 0 where the result is another unit's
 abbrev among : ℕ → UpkeepResult → ℕ
 among n s = if s.unit == n then s.starved else 0
 
+-- upkeep of one unit takes from each unit only those of its men who starve
 supplied_at : (c : CampaignValue) (s : UpkeepResult) (n : ℕ) (u : Unit) → get c.units n ≡ Some u → IsUnaffected (IsLessBy (among n s)) (upkeep_at c s) n u
 unfolding upkeep_at
 supplied_at c s n u there = elim (cases_eq n s.unit) [
@@ -76,6 +81,7 @@ supplied_at c s n u there = elim (cases_eq n s.unit) [
     by_unit apart None = refl
     by_unit apart (Some v) = get-insert_other c.units s.unit n (supplied_unit s v) apart
 
+-- upkeep of some units takes from each unit only those of its men who starve
 all_supplied : (c : CampaignValue) (ss : List UpkeepResult) (n : ℕ) (u : Unit) → get c.units n ≡ Some u → IsUnaffected (IsLessBy (sum_by (among n) ss)) (fold upkeep_at c ss) n u
 all_supplied c [] n u there = record { unit = u; there = there; spared = nobody_less u }
 all_supplied c (s ∷ ss) n u there =
@@ -83,25 +89,28 @@ all_supplied c (s ∷ ss) n u there =
     let two = all_supplied (upkeep_at c s) ss n one.unit one.there in
     record { unit = two.unit; there = two.there; spared = subst (λ k. IsLessBy k u two.unit) (sym (sum_by-cons (among n) s ss)) (less_plus (among n s) (sum_by (among n) ss) u one.unit two.unit one.spared two.spared) }
 
+-- how many men of unit `n` starved by one event
 abbrev by_event : ℕ → Event → ℕ
 by_event n e = if e.unit == n then men_starved_by e.verb e.outcome else 0
 
-abbrev told : ℕ → List UpkeepResult → ℕ
-told n ss = starved_in (map starved_event ss) n
+-- how many men of unit `n` starved by the events of some results of upkeep
+abbrev starved_reported : ℕ → List UpkeepResult → ℕ
+starved_reported n ss = starved_in (map starved_event ss) n
 
--- the events tell of them
-starved_told_of : (ss : List UpkeepResult) (n : ℕ) → told n (filter starves ss) ≡ sum_by (among n) ss
-starved_told_of [] n = refl
-starved_told_of (s ∷ ss) n = by_test (starved_told_of ss n) (s.starved == 0) refl ∙ sym (sum_by-cons (among n) s ss)
+-- the events report, of each unit, all its men who starve
+starved_are_reported : (ss : List UpkeepResult) (n : ℕ) → starved_reported n (filter starves ss) ≡ sum_by (among n) ss
+starved_are_reported [] n = refl
+starved_are_reported (s ∷ ss) n = by_test (starved_are_reported ss n) (s.starved == 0) refl ∙ sym (sum_by-cons (among n) s ss)
   where
     none : (a x : ℕ) (b : Bool) → a ≡ 0 → x ≡ (if b then a else 0) + x
     none a x true is = omega (arith, is)
     none a x false is = omega arith
 
-    by_test : told n (filter starves ss) ≡ sum_by (among n) ss → (b : Bool) → (s.starved == 0) ≡ b → told n (cond (not b) (s ∷ filter starves ss) (filter starves ss)) ≡ among n s + sum_by (among n) ss
+    by_test : starved_reported n (filter starves ss) ≡ sum_by (among n) ss → (b : Bool) → (s.starved == 0) ≡ b → starved_reported n (cond (not b) (s ∷ filter starves ss) (filter starves ss)) ≡ among n s + sum_by (among n) ss
     by_test rest true is = rest ∙ none s.starved (sum_by (among n) ss) (s.unit == n) (is_equal s.starved 0 is)
     by_test rest false is = sum_by-cons (by_event n) (starved_event s) (map starved_event (filter starves ss)) ∙ ap (λ x. among n s + x) rest
 
+-- upkeep leaves a faction without a mailing what it should
 pub upkeep_leaves : LeavesUnmailed upkeep_meaning upkeep_keeps
 upkeep_leaves = record {
   readings = λ w c m. refl;
@@ -115,7 +124,7 @@ upkeep_leaves = record {
     all w c n = sum_by (among n) (upkeep_results w c)
 
     sums : (w : WorldValue) (c : CampaignValue) (m : MonthValue) (n : ℕ) → starved_in (upkeep_meaning w c m).1.events n ≡ starved_in m.events n + all w c n
-    sums w c m n = sum_by-append (by_event n) m.events (map starved_event (filter starves (upkeep_results w c))) ∙ ap (λ x. starved_in m.events n + x) (starved_told_of (upkeep_results w c) n)
+    sums w c m n = sum_by-append (by_event n) m.events (map starved_event (filter starves (upkeep_results w c))) ∙ ap (λ x. starved_in m.events n + x) (starved_are_reported (upkeep_results w c) n)
 
     more : (x y z : ℕ) → z ≡ x + y → x ≤ z
     more x y z is = omega (arith, is)
@@ -125,14 +134,16 @@ upkeep_leaves = record {
 
 -- ---- season and sweep
 
+-- the season leaves a faction without a mailing what it should
 pub season_leaves : LeavesUnmailed season_meaning season_keeps
 season_leaves =
     whole_leaves {meaning = season_meaning} {keeps = season_keeps} (λ w c m. refl) (λ w c m n. refl)
     (λ w c m same n u there none. men_same c (season_meaning w c m).0 same n u there)
     (λ w c m same n u there none. record { unit = u; there = ap (λ (units : FinMap nat_cmp Unit). get units n) same ∙ there; spared = record { name = refl; items = λ i. omega arith } })
 
-pub sweep_closes : ClosesUnmailed sweep_meaning sweep_keeps
-sweep_closes = record {
+-- the sweep, as the last phase, leaves a faction without a mailing what it should
+pub sweep_leaves : ClosesUnmailed sweep_meaning sweep_keeps
+sweep_leaves = record {
   told = λ w c m n. omega arith;
   left = λ w c m keeps n u there none some.
       let (v, behind, kept) = keeps n u there (some_men (starved_in m.events n) u.holding.men some) in

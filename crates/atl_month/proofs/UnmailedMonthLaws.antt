@@ -18,18 +18,19 @@ use Rattle.atl_instant.specs.OrderEffects.{IsUnaffected}
 use Rattle.atl_instant.specs.Unmailed.{IsLeft, IsLessBy, starved_in}
 use Rattle.atl_instant.proofs.UnmailedLaws.{ClosesUnmailed, both_leave, then_closes}
 use Rattle.atl_instant.proofs.PhaseSpecLaws.{closed_together, each_also, leave_together}
-use Rattle.atl_month.specs.Month.{closing_phases, early_phases, later_phases, month_keeps, month_meaning, month_of, new_month}
-use Rattle.atl_month.proofs.PhaseLaws.{IsPhase, closing_leave, early_are, later_are}
+use Rattle.atl_month.specs.Month.{early_phases, last_phases, later_phases, month_keeps, month_meaning, month_of, new_month}
+use Rattle.atl_month.proofs.PhaseLaws.{IsPhase, early_are, last_leave, later_are}
 use Rattle.atl_month.specs.Unmailed.{SentNone, UnmailedAreLeft}
 
 -- ---- the month
 
-month_closes : ClosesUnmailed month_meaning month_keeps
-month_closes =
+-- the phases of a month together leave a faction without a mailing what they should
+month_leaves : ClosesUnmailed month_meaning month_keeps
+month_leaves =
     then_closes (both_leave (leave_together early_phases (each_also (λ phase (is : IsPhase phase). is.leaves) early_phases early_are)) (leave_together later_phases (each_also (λ phase (is : IsPhase phase). is.leaves) later_phases later_are)))
-    (closed_together closing_phases closing_leave)
+    (closed_together last_phases last_leave)
 
--- where no mailing is a faction's, none is read
+-- where none of the mailings is a faction's, the month has no mailing of it
 none_read : (f : ℕ) (ms : List Mailing) → SentNone ms f → get (by_faction (map reading_of ms)) f ≡ None
 none_read f ms none = get-from_entries nat_cmp_total (map (λ r. (r.faction, r)) (map reading_of ms)) f ∙ not_found ms (recursion_from_All (λ m. m.faction ≢ f) ms none)
   where
@@ -42,7 +43,7 @@ none_read f ms none = get-from_entries nat_cmp_total (map (λ r. (r.faction, r))
           | Greater ↦ λ o. not_found ms none.1
         ] refl
 
--- what closes over a month that has begun
+-- what phases leave to factions without a mailing, over a month that begins without events
 left_behind : (phases : Meaning) (keeps : Frame) → ClosesUnmailed phases keeps → (w : WorldValue) (c d : CampaignValue) (m : MonthValue) (events : List Event) → m.events ≡ [] → ◌≡◌ {A = CampaignValue × List Event} (d, events) ((phases w c m).0, (phases w c m).1.events) → keeps w m c d
     → Every (λ n u. get m.readings u.faction ≡ None → IsLeft (starved_in events n) d n u) c.units
 left_behind phases keeps closes w c d m events begins is kept n u there none some =
@@ -53,8 +54,9 @@ left_behind phases keeps closes w c d m events begins is kept n u there none som
     subst (λ k. IsUnaffected (IsLessBy k) d n u) so_many (subst (λ s. IsUnaffected (IsLessBy (starved_in (phases w c m).1.events n - starved_in m.events n)) s n u) (sym state)
     (closes.left w c m (subst (keeps w m c) state kept) n u there none (subst (λ k. k < u.holding.men) (sym so_many) some)))
 
+-- after a month each unit of a faction without a mailing is as it should be left
 pub unmailed_left : (w : WorldValue) (c d : CampaignValue) (ms : List Mailing) (words : List ℕ) (events : List Event) → (d, events) ≡ month_of w c (by_faction (map reading_of ms)) words
     → month_keeps w (new_month (by_faction (map reading_of ms)) words) c d → UnmailedAreLeft ms events c d
 unfolding month_of
 unmailed_left w c d ms words events is kept n u there none =
-    left_behind month_meaning month_keeps month_closes w c d (new_month (by_faction (map reading_of ms)) words) events refl is kept n u there (none_read u.faction ms none)
+    left_behind month_meaning month_keeps month_leaves w c d (new_month (by_faction (map reading_of ms)) words) events refl is kept n u there (none_read u.faction ms none)

@@ -1,4 +1,4 @@
--- Upkeep leaves a campaign well.
+-- Laws of upkeep: it leaves a campaign well, each unit can pay when its turn comes, and the code does what is defined.
 use Rattle.std.proofs.Common.{◌≡◌, ◌≢◌, ◌==◌, ℕ, ◌+◌, ◌-◌, ◌*◌, ◌/◌, ◌≤◌, ◌<◌, Bool, true, false, cond, Option, Some, None, List, [], ◌∷◌, length, map, refl, sym, ap, subst, ◌∙◌, arith}
 use Rattle.std.specs.Prelude.{IsTrue, nat_lt, ◌&&◌, ℤ, pos, neg_ℤ, ◌+ℤ◌, fold, is_some, unwrap_or, if◌then◌else◌}
 use Rattle.std.specs.List.{AllByRecursion, list_any}
@@ -58,13 +58,14 @@ use Rattle.atl_month.specs.UpkeepTaken.{CanPayUpkeep, staying_list}
 use Rattle.atl_month.specs.Upkeep.{after_upkeep, takes_up_to, upkeep, upkeep_at, upkeep_input_of, upkeep_inputs_of, upkeep_results, with_men_left}
 use Rattle.atl_month.proofs.UpkeepSharingLaws.{can_spare}
 
--- ---- what a unit may hold behind it
+-- ---- what a unit may hold after its upkeep
 
--- so many days of a skill of the world over so many men
+-- so many men may have so many days of a skill, which is one of the world
 abbrev IsStudied : WorldValue → (men skill days : ℕ) → Type 0
 IsStudied w men skill days = (skill < length w.skills) × (1 ≤ days) × (days ≤ most_days * men)
 
 module _ (w : WorldValue) (left men : ℕ) (fewer : left ≤ men) where
+  -- the days that stay with fewer men are within what these may have
   part : (days : ℕ) → days ≤ most_days * men → days * left / men ≤ most_days * left
   part days most = div-le_of_le-mul men (scaled days most)
     where
@@ -77,7 +78,7 @@ module _ (w : WorldValue) (left men : ℕ) (fewer : left ≤ men) where
           times : (a b l : ℕ) → a ≤ b → a * l ≤ b * l
           times a b l h = mul-le-mul_right l h
 
--- the days of each skill that go with those who are left
+-- the days of each skill that stay with `left` of a holding's men
 abbrev pub days_left : ℕ → HoldingValue → FinMap nat_cmp ℕ
 days_left left h = amounts_for (going_of left h) (keys h.days)
 
@@ -97,9 +98,11 @@ module _ (w : WorldValue) (h : HoldingValue) (left : ℕ) (fewer : left ≤ h.me
           let (known, _, most) = days k had there in
           (known, some, subst (λ n. n ≤ most_days * left) (sym said) (part w left h.men fewer had most))
 
+  -- a holding with `left` men, days that they may have, and its name, guard flag and items as they were
   abbrev IsWithMen : HoldingValue → Type 0
   IsWithMen k = (k.men ≡ left) × Every (IsStudied w left) k.days × (k.name ≡ h.name) × (k.guard ≡ h.guard) × (k.items ≡ h.items)
 
+  -- a holding with fewer men is as it should be
   less_men : IsWithMen (with_men_left left h)
   less_men = by_men (left == h.men) refl
     where
@@ -111,24 +114,28 @@ module _ (w : WorldValue) (h : HoldingValue) (left : ℕ) (fewer : left ≤ h.me
 
 -- ---- the upkeep of a unit that is there
 
+-- a campaign after the upkeep of unit `u`
 abbrev upkeep_of : CampaignValue → UpkeepResult → Unit → CampaignValue
 upkeep_of c s u =
     let unit_amount = with_held c s.unit (after_upkeep s u.holding) (Some u) in
     let paid = with_amount unit_amount Upkeep Money (neg_ℤ (pos s.paid)) in
     with_amount paid Starved People (neg_ℤ (pos s.starved))
 
--- where it is there
+-- a campaign after the upkeep of a unit, if it is there
 abbrev pub upkeep_in : CampaignValue → UpkeepResult → Option Unit → CampaignValue
 upkeep_in c s o = option_map_or (upkeep_of c s) o c
 
 module _ (w : WorldValue) (c : CampaignValue) (s : UpkeepResult) (u : Unit) (is : get c.units s.unit ≡ Some u) (spare : CanSpare s u.holding.men u.holding.money)
     (steady : IsSteady w c) where
+  -- what the unit held before its upkeep
   abbrev old : HoldingValue
   old = u.holding
 
+  -- what the unit holds after its upkeep
   abbrev now : HoldingValue
   now = after_upkeep s old
 
+  -- how many men the unit has left
   abbrev left : ℕ
   left = old.men - s.starved
 
@@ -165,12 +172,15 @@ module _ (w : WorldValue) (c : CampaignValue) (s : UpkeepResult) (u : Unit) (is 
         guard = guard_kept;
       }
 
+  -- the campaign in which the unit holds what upkeep leaves it, without booking
   abbrev held_back : CampaignValue
   held_back = with_held c s.unit now (Some u)
 
+  -- that campaign with the money booked
   abbrev paid_off : CampaignValue
   paid_off = with_amount held_back Upkeep Money (neg_ℤ (pos s.paid))
 
+  -- the campaign after the unit's upkeep
   abbrev after : CampaignValue
   after = upkeep_in c s (Some u)
 
@@ -236,6 +246,7 @@ module _ (w : WorldValue) (c : CampaignValue) (s : UpkeepResult) (u : Unit) (is 
       (booked-near one_booked Starved People (neg_ℤ (pos s.starved)) most_amount
       (within-neg s.starved most_amount few_starved) e t)
 
+  -- the upkeep of a unit that can pay leaves the campaign well
   unit_leaves_well : LeavesWell IsSteady (takes_up_to most_amount) w c after
   unit_leaves_well = record {
     leaves_it = after_steady;
@@ -246,14 +257,17 @@ module _ (w : WorldValue) (c : CampaignValue) (s : UpkeepResult) (u : Unit) (is 
 
 -- ---- the upkeep of all
 
+-- the upkeep of a unit that is there is the one above
 pub upkeep_at_is : (c : CampaignValue) (s : UpkeepResult) (u : Unit) → get c.units s.unit ≡ Some u → upkeep_at c s ≡ upkeep_in c s (Some u)
 unfolding upkeep_at
 upkeep_at_is c s u is = ap (upkeep_in c s) is
 
+-- the upkeep of a unit that can pay leaves the campaign well
 pub upkeep_at_leaves_well : (w : WorldValue) (c : CampaignValue) (s : UpkeepResult) → CanPayUpkeep w c s
     → LeavesWell IsSteady (takes_up_to most_amount) w c (upkeep_at c s)
 upkeep_at_leaves_well w c s can = rw (upkeep_at_is c s can.unit can.there) (unit_leaves_well w c s can.unit can.there can.spare can.steady)
 
+-- the upkeep of a unit leaves other units as they are
 pub other_unit : (c : CampaignValue) (s : UpkeepResult) (n : ℕ) → n ≢ s.unit → get (upkeep_at c s).units n ≡ get c.units n
 unfolding upkeep_at
 other_unit c s n apart = by_unit (get c.units s.unit)
@@ -262,17 +276,17 @@ other_unit c s n apart = by_unit (get c.units s.unit)
     by_unit None = refl
     by_unit (Some u) = get-insert_other c.units s.unit n (record u { holding = after_upkeep s u.holding }) apart
 
--- a unit whose turn is still to come is as it was
+-- units whose turn is still to come are as they were
 pub each_still : (c : CampaignValue) (s : UpkeepResult) (es : List (ℕ × Unit)) → AllByRecursion (λ e. s.unit < e.0) es
     → EachOf (λ n u. get c.units n ≡ Some u) es → EachOf (λ n u. get (upkeep_at c s).units n ≡ Some u) es
 each_still c s [] above there = tt
 each_still c s (e ∷ es) above there = (other_unit c s e.0 (λ same. omega (arith, above.0, same)) ∙ there.0, each_still c s es above.1 there.1)
 
--- what upkeep takes from one of all units
+-- what upkeep takes from one unit, among all
 abbrev pub settled_one : ℕ → (all : List UpkeepInput) → UpkeepInput → UpkeepResult
 settled_one m all p = upkeep_result_among m (peers_of p.region p.faction all) p
 
--- and from some of them
+-- what upkeep takes from each of some units, among all
 abbrev pub settled_each : ℕ → (all : List UpkeepInput) → List (ℕ × Unit) → List UpkeepResult
 settled_each m all es = map (settled_one m all) (map upkeep_input_of es)
 
@@ -283,6 +297,7 @@ module _ (w : WorldValue) (some : 1 ≤ w.rules.maintenance) (all : List UpkeepI
   abbrev each_of : List (ℕ × Unit) → List UpkeepResult
   each_of es = settled_each w.rules.maintenance all es
 
+  -- the upkeep of some units can be taken in turn
   settled_in_turn : (es : List (ℕ × Unit)) (c : CampaignValue) → Rise es → EachOf (λ n u. get c.units n ≡ Some u) es
       → IsSteady w c → HaveRoom (moved_times (length (each_of es)) step_moves) c → CanInTurn (CanPayUpkeep w) upkeep_at c (each_of es)
   settled_in_turn [] c rise there steady room = tt
@@ -311,8 +326,9 @@ module _ (c : CampaignValue) where
       AllPairs-cons (λ (p q : UpkeepInput). p.unit < q.unit) (upkeep_input_of e) (map upkeep_input_of es)
       (All-map (λ (q : UpkeepInput). e.0 < q.unit) upkeep_input_of es (All-from_recursion (λ (f : ℕ × Unit). e.0 < f.0) es rise.0)) (in_order es rise.1)
 
-  pub purses_in_order : AreInOrder (upkeep_inputs_of c)
-  purses_in_order = in_order (entries c.units) (entries_rise c.units)
+  -- what upkeep reads of all units is sorted by their numbers
+  pub inputs_in_order : AreInOrder (upkeep_inputs_of c)
+  inputs_in_order = in_order (entries c.units) (entries_rise c.units)
 
 module _ (w : WorldValue) (c : CampaignValue) (some : 1 ≤ w.rules.maintenance) (steady : IsSteady w c) (room : HaveRoom (takes_up_to most_moved) c) where
   abbrev list : List UpkeepResult
@@ -321,6 +337,7 @@ module _ (w : WorldValue) (c : CampaignValue) (some : 1 ≤ w.rules.maintenance)
   few : length list ≤ most_units
   few = omega (arith, length-map (upkeep_inputs_of c) (settled_one w.rules.maintenance (upkeep_inputs_of c)), length-map (entries c.units) upkeep_input_of, len-entries c.units, steady.numbers.few_units)
 
+  -- all steps together move each amount by less than 10^14
   little : MovesLess (moved_times (length list) (takes_up_to most_amount)) (takes_up_to most_moved)
   little e t = scaled (length list) few (amount_number e t == amount_number Upkeep Money) (amount_number e t == amount_number Starved People)
     where
@@ -331,21 +348,22 @@ module _ (w : WorldValue) (c : CampaignValue) (some : 1 ≤ w.rules.maintenance)
       scaled k few false true = omega (arith, few)
       scaled k few false false = omega (arith, few)
 
-  -- each unit can spare what is taken from it when its turn comes
-  pub all_settle : CanInTurn (CanPayUpkeep w) upkeep_at c list
-  all_settle =
+  -- each unit can pay what upkeep takes from it when its turn comes
+  pub all_can_pay : CanInTurn (CanPayUpkeep w) upkeep_at c list
+  all_can_pay =
       settled_in_turn w some (upkeep_inputs_of c) (entries c.units) c (entries_rise c.units)
       (each-from_every (λ n u. get c.units n ≡ Some u) c.units (λ n u is. is)) steady
       (room_less (moved_times (length list) (takes_up_to most_amount)) (takes_up_to most_moved) c little room)
 
+  -- the upkeep of all units leaves the campaign well
   pub upkeep_leaves_well : LeavesWell IsSteady (takes_up_to most_moved) w c (upkeep c list)
   upkeep_leaves_well =
       well_within (moved_times (length list) (takes_up_to most_amount)) (takes_up_to most_moved) w c (upkeep c list) little
-      (turns_leave_well (takes_up_to most_amount) w (CanPayUpkeep w) upkeep_at (upkeep_at_leaves_well w) c list steady all_settle)
+      (turns_leave_well (takes_up_to most_amount) w (CanPayUpkeep w) upkeep_at (upkeep_at_leaves_well w) c list steady all_can_pay)
 
 -- ---- where nobody starves
 
--- all men stay, with their days
+-- a holding of which all men are left is as it was
 men_stay : (h : HoldingValue) (left : ℕ) → left ≡ h.men → with_men_left left h ≡ h
 men_stay h left is = by_men (left == h.men) refl
   where
@@ -353,9 +371,11 @@ men_stay h left is = by_men (left == h.men) refl
     by_men true test = refl
     by_men false test = grind (arith, nat_tests)
 
+-- a holding of which nobody starves has only its money changed
 pub paid_alone : (s : UpkeepResult) (h : HoldingValue) → s.starved ≡ 0 → after_upkeep s h ≡ record h { money = h.money - s.paid }
 paid_alone s h fed = ap (λ (k : HoldingValue). record k { money = h.money - s.paid }) (men_stay h (h.men - s.starved) (omega (arith, fed)))
 
+-- where a unit pays nothing and nobody starves, nothing changes
 pub pays_nothing : (c : CampaignValue) (s : UpkeepResult) (u : Unit) → get c.units s.unit ≡ Some u → s.starved ≡ 0 → s.paid ≡ 0
     → c ≡ with_held c s.unit (after_upkeep s u.holding) (Some u)
 pays_nothing c s u is fed none =
@@ -370,7 +390,7 @@ every_set f [] had old = old
 every_set f (e ∷ es) had old =
     every_set f es (with_amount_of had e.0 (f e.0 e.1)) (every_amount (λ k d. 1 ≤ d) had e.0 (f e.0 e.1) (λ some. some) old)
 
--- the days of those who are left, each set where it is, are those that go with them
+-- setting the days of each skill one by one to those that stay gives the days that stay
 days_set : (left : ℕ) (h : HoldingValue) → Every (λ k d. 1 ≤ d) h.days → with_days h.days (staying_list left h.men h.days) ≡ days_left left h
 days_set left h listed =
     set_again h.days stays none listed
@@ -396,7 +416,7 @@ days_set left h listed =
         by_option None is = refl
         by_option (Some d) is = cc
 
--- fewer men stay, with their part of the days, each set where it is
+-- setting the men, the money and the days of each skill gives the holding after upkeep
 pub starved_supplied : (s : UpkeepResult) (h : HoldingValue) → 1 ≤ s.starved → s.starved ≤ h.men → Every (λ k d. 1 ≤ d) h.days
     → record h { men = h.men - s.starved; money = h.money - s.paid; days = with_days h.days (staying_list (h.men - s.starved) h.men h.days) } ≡ after_upkeep s h
 starved_supplied s h some fewer listed = by_men ((h.men - s.starved) == h.men) refl
@@ -411,6 +431,7 @@ starved_supplied s h some fewer listed = by_men ((h.men - s.starved) == h.men) r
 
 -- ---- what is marked
 
+-- taking and booking upkeep sets the dirty flags of all that changes
 pub upkeep_marks : (c d e f : MarkedCampaign) (s : UpkeepResult) (x y : ℤ)
     → MarksChanges c d → e.value ≡ with_amount d.value Upkeep Money x → e.marks ≡ mark_amount d Upkeep Money
     → f.value ≡ with_amount e.value Starved People y → f.marks ≡ mark_amount e Starved People → MarksChanges c f

@@ -1,4 +1,4 @@
--- The accounts of upkeep, unit by unit.
+-- Laws of the accounts of upkeep: gone through unit by unit, they give what the definition says of each unit.
 use Rattle.std.proofs.Common.{◌≡◌, ◌≢◌, ◌==◌, ◌&&◌, ◌++◌, ℕ, zero, suc, ◌+◌, ◌-◌, ◌*◌, ◌≤◌, ◌<◌, min, Bool, true, false, cond, List, [], ◌∷◌, length, get_or, take, filter, sum_by, Option, unwrap_or, refl, sym, ap, ◌∙◌, mul_comm, add-zero, arith}
 use Rattle.std.specs.Prelude.{All, nat_lt}
 use Rattle.std.specs.Ordering.{nat_cmp}
@@ -20,15 +20,18 @@ use Rattle.atl_month.specs.Accounts.{AccountMap, IsOpen, account_after, account_
 use Rattle.atl_instant.specs.InTurn.{amount_in_turn}
 use Rattle.atl_month.specs.UpkeepSharing.{AreInOrder, EachCanSpare, given_among, is_input_of, left_of, paid_by, peers_of, short_of, starved_of, upkeep_result_among}
 
--- ---- an account that is put
+-- ---- an account is set in the map
 
+-- the account of an option; `no_account` where there is none
 abbrev account_or : Option Account → Account
 account_or o = unwrap_or o no_account
 
+-- the account of a faction among those of a region
 abbrev account_in : ℕ → Option (FinMap nat_cmp Account) → Account
 account_in faction o = account_or (get (unwrap_or o empty) faction)
 
 module _ (m : AccountMap) (r f : ℕ) (a : Account) where
+  -- the map with account `a` of faction `f` in region `r`
   abbrev put : AccountMap
   put = with_account m r f a
 
@@ -42,6 +45,7 @@ module _ (m : AccountMap) (r f : ℕ) (a : Account) where
   other_faction g apart =
       ap (account_in g) (get-insert_same m r (insert (group_of m r) f a)) ∙ ap account_or (get-insert_other (group_of m r) f g a apart)
 
+  -- a map in which an account is set has that one there, and elsewhere those that it had
   pub account_put : (s g : ℕ) → account_at put s g ≡ cond ((r == s) && (f == g)) a (account_at m s g)
   account_put s g = by_region (r == s) refl
     where
@@ -56,6 +60,7 @@ module _ (m : AccountMap) (r f : ℕ) (a : Account) where
 -- ---- a unit more
 
 module _ (amount : UpkeepInput → ℕ) (test : UpkeepInput → Bool) (xs : List UpkeepInput) (p : UpkeepInput) where
+  -- the sum over those of some units that pass a test, with one more unit
   pub among_more : sum_by amount (filter test (xs ++ p ∷ [])) ≡ sum_by amount (filter test xs) + cond (test p) (amount p) 0
   among_more =
       ap (sum_by amount) (filter-append test xs (p ∷ [])) ∙ sum_by-append amount (filter test xs) (filter test (p ∷ []))
@@ -65,13 +70,15 @@ module _ (amount : UpkeepInput → ℕ) (test : UpkeepInput → Bool) (xs : List
       one true = omega arith
       one false = refl
 
+-- an account by its four amounts
 abbrev account : (left short given covered : ℕ) → Account
 account left short given covered = record { left = left; short = short; given = given; covered = covered }
 
+-- accounts with the same amounts are the same
 account_is : (a b c d e f g h : ℕ) → a ≡ e → b ≡ f → c ≡ g → d ≡ h → account a b c d ≡ account e f g h
 account_is a b c d e f g h x y z u = rw (x, y, z, u) refl
 
--- The account of each unit is so behind a unit's, if that unit's is so, and those of others stay so.
+-- what holds of the account that is set, and of those of other factions or regions, holds of all accounts
 pub each_account : (P : ℕ → ℕ → Account → Type 0) (m : AccountMap) (p : UpkeepInput) (a : Account)
     → P p.region p.faction a → ((s g : ℕ) → is_input_of s g p ≡ false → P s g (account_at m s g))
     → (s g : ℕ) → P s g (account_at (with_account m p.region p.faction a) s g)
@@ -88,16 +95,17 @@ each_account P m p a here others s g = by_test (is_input_of s g p) refl
         rw (at true is, ← region, ← faction) here
     by_test false is = rw (at false is) (others s g is)
 
+-- a unit is of its own faction and in its own region
 own : (p : UpkeepInput) → is_input_of p.region p.faction p ≡ true
 own p = rw (same_number p.region, same_number p.faction) refl
 
 -- ---- the units are counted
 
--- before the first unit
+-- before the first unit is counted, each account is that of no units
 pub no_accounts : (m s g : ℕ) → account_at empty s g ≡ account_of m [] [] s g
 no_accounts m s g = ap (account_in g) (get-empty nat_cmp s) ∙ ap account_or (get-empty nat_cmp g)
 
--- an account of so many units at most
+-- the sums of an account are at most what `n` units may have left and be short of
 pub record IsFew (n : ℕ) (a : Account) : Type 0 where
   pub left : a.left ≤ holding_limit * n
   pub short : a.short ≤ most_per_head * men_limit * n
@@ -106,6 +114,7 @@ pub none_few : (s g : ℕ) → IsFew 0 (account_at empty s g)
 none_few s g = rw (ap (account_in g) (get-empty nat_cmp s) ∙ ap account_or (get-empty nat_cmp g)) (record { left = omega arith; short = omega arith })
 
 module _ (m : ℕ) (before : List UpkeepInput) (p : UpkeepInput) where
+  -- the units counted so far, and the next
   abbrev more : List UpkeepInput
   more = before ++ p ∷ []
 
@@ -130,6 +139,7 @@ module _ (m : ℕ) (before : List UpkeepInput) (p : UpkeepInput) where
   none_given : (x y : ℕ) → min 0 x ≡ min 0 y
   none_given x y = omega arith
 
+  -- after the next unit is counted, each account is that of all units counted
   pub opened_more : (accounts : AccountMap) (a : Account) → ((s g : ℕ) → account_at accounts s g ≡ account_of m before [] s g)
       → a ≡ with_counted m p (account_at accounts p.region p.faction)
       → (s g : ℕ) → account_at (with_account accounts p.region p.faction a) s g ≡ account_of m more [] s g
@@ -138,6 +148,7 @@ module _ (m : ℕ) (before : List UpkeepInput) (p : UpkeepInput) where
       (is ∙ ap (with_counted m p) (each p.region p.faction) ∙ account_is _ _ _ _ _ _ _ _ (sym left_own) (sym short_own) (none_given _ _) (none_given _ _))
       (λ s g apart. each s g ∙ account_is _ _ _ _ _ _ _ _ (sym (left_other s g apart)) (sym (short_other s g apart)) (none_given _ _) (none_given _ _))
 
+-- after one more unit is counted, each account is within the sums of one more unit
 pub few_more : (m n : ℕ) (accounts : AccountMap) (p : UpkeepInput) (a : Account) → left_of m p ≤ holding_limit → short_of m p ≤ most_per_head * men_limit
     → ((s g : ℕ) → IsFew n (account_at accounts s g)) → a ≡ with_counted m p (account_at accounts p.region p.faction)
     → (s g : ℕ) → IsFew (n + 1) (account_at (with_account accounts p.region p.faction a) s g)
@@ -150,7 +161,7 @@ few_more m n accounts p a left short each is =
 -- ---- the units of lower numbers
 
 module _ {A : Type 0} where
-  -- an element before a list, if a test says so
+  -- an element ahead of a list, if a test says so
   abbrev if_so : Bool → A → List A → List A
   if_so b x xs = cond b (x ∷ xs) xs
 
@@ -174,6 +185,7 @@ module _ {A : Type 0} where
       ap (λ b. if_so b x (filter t xs)) (h 0 x (omega arith))
       ∙ none_pass t xs (λ k d l. h (suc k) d (omega (arith, l)))
 
+-- whether a unit's number is below another
 abbrev is_lower : ℕ → UpkeepInput → Bool
 is_lower n p = nat_lt p.unit n
 
@@ -183,7 +195,7 @@ lower a b l = grind (arith, nat_tests, l)
 no_lower : (a b : ℕ) → b < a + 1 → nat_lt a b ≡ false
 no_lower a b l = grind (arith, nat_tests, l)
 
--- in a list in the order of their numbers they are those that come first
+-- in a list sorted by their numbers, the units below the one at index `i` are the first `i`
 pub lower_first : (all : List UpkeepInput) (i : ℕ) (d : UpkeepInput) → AreInOrder all → i < length all
     → filter (is_lower (get_or all i d).unit) all ≡ take i all
 lower_first [] i d order l = absurd (omega (arith, l))
@@ -197,23 +209,29 @@ lower_first (p ∷ ps) (suc i) d order l =
 
 -- ---- the upkeep of all units
 
+-- what is given in turn, up to an amount, is the lesser of all so far and the amount
 next_dealt : (before want amount : ℕ) → min before amount + min (amount - min before amount) want ≡ min (before + want) amount
 next_dealt before want amount = omega arith
 
+-- what one unit gives or gets in turn is the difference of what is dealt out before and after it
 is_dealt : (before want amount : ℕ) → min (amount - min before amount) want ≡ min (before + want) amount - min before amount
 is_dealt before want amount = omega arith
 
 module _ (m : ℕ) (all before : List UpkeepInput) (p : UpkeepInput) (accounts : AccountMap)
     (each : (s g : ℕ) → account_at accounts s g ≡ account_of m all before s g) where
+  -- the account of the unit's faction in its region, as its turn comes
   abbrev now : Account
   now = account_of m all before p.region p.faction
 
+  -- the units of the unit's faction in its region
   abbrev peers : List UpkeepInput
   peers = peers_of p.region p.faction all
 
+  -- what is to be given among the unit's peers
   abbrev amount : ℕ
   amount = given_among m peers
 
+  -- after a unit's turn each account is that of all units, after one more had its turn
   pub settled_more : (a : Account) → a ≡ account_after m (account_at accounts p.region p.faction) p
       → (s g : ℕ) → account_at (with_account accounts p.region p.faction a) s g ≡ account_of m all (before ++ p ∷ []) s g
   settled_more a is =
@@ -226,11 +244,12 @@ module _ (m : ℕ) (all before : List UpkeepInput) (p : UpkeepInput) (accounts :
       (sym (ap (λ n. min n (given_among m (peers_of s g all))) (left_other m before p s g apart)))
       (sym (ap (λ n. min n (given_among m (peers_of s g all))) (short_other m before p s g apart))))
 
-  -- those of them before the unit are those of lower numbers
+  -- those of the unit's peers that have lower numbers are the peers among the units that had their turn
   before_among : filter (is_lower p.unit) all ≡ before → filter (is_lower p.unit) peers ≡ peers_of p.region p.faction before
   before_among first =
       filters_swap (is_input_of p.region p.faction) (is_lower p.unit) all ∙ ap (peers_of p.region p.faction) first
 
+  -- what upkeep takes by the account is what it takes by the definition
   pub settled_is : filter (is_lower p.unit) all ≡ before → upkeep_result_by m (account_at accounts p.region p.faction) p ≡ upkeep_result_among m peers p
   settled_is first =
       ap (λ b. upkeep_result_by m b p) (each p.region p.faction)
@@ -248,18 +267,20 @@ module _ (m : ℕ) (all before : List UpkeepInput) (p : UpkeepInput) (accounts :
       same_settled : (a b c d : ℕ) → a ≡ c → b ≡ d → settled a b ≡ settled c d
       same_settled a b c d x y = rw (x, y) refl
 
+  -- at most what is to be given was given and covered so far
   pub account_open : IsOpen (account_at accounts p.region p.faction)
   account_open = rw (each p.region p.faction) (record { given = omega arith; covered = omega arith })
 
--- ---- what is taken is there
+-- ---- a unit has what is taken from it
 
--- where no more is missing than so many men cost, no more of them starve
+-- where at most what so many men cost is missing, at most so many starve
 few_starve : (m men short : ℕ) → 1 ≤ m → short ≤ m * men → starved_of m short ≤ men
 few_starve m men short some most =
     let rounded : short + (m - 1) < (men + 1) * m = omega (arith, mul_comm m men) in
     let fewer : starved_of m short < men + 1 = (div-lt_iff_lt-mul some).1 rounded in
     omega arith
 
+-- upkeep takes no more from a unit than its money and its men
 pub can_spare : EachCanSpare
 can_spare m some peers p =
     let given = given_among m peers in

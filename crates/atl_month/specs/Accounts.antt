@@ -1,4 +1,4 @@
--- For proofs alone: the accounts in which the code adds up the upkeep of a faction's units in a region.
+-- For proofs alone: the accounts in which the code adds up the upkeep of a faction's units in a region; all amounts are money.
 use Rattle.std.specs.Prelude.{List, min, unwrap_or, ℕ, ◌+◌, ◌-◌, ◌≤◌}
 use Rattle.std.specs.Ordering.{nat_cmp}
 use Rattle.std.specs.FinMap.{FinMap, get, insert}
@@ -9,35 +9,39 @@ use Rattle.atl_month.specs.declared.upkeep_sharing.UpkeepResult.{UpkeepResult}
 use Rattle.atl_month.specs.UpkeepSharing.{given_among, left_of, paid_by, peers_of, short_of, starved_of}
 use Rattle.atl_tables.specs.Groups.{group_of}
 
+-- accounts by region, and then by faction
 abbrev pub AccountMap : Type 0
 AccountMap = FinMap nat_cmp (FinMap nat_cmp Account)
 
+-- an account without units: all amounts 0
 abbrev pub no_account : Account
 no_account = record { left = 0; short = 0; given = 0; covered = 0 }
 
--- the account of a faction in a region
+-- the account of a faction in a region; `no_account` where the map has none
 abbrev pub account_at : AccountMap → (region faction : ℕ) → Account
 account_at m region faction = unwrap_or (get (group_of m region) faction) no_account
 
+-- a map of accounts in which that of a faction in a region is `a`
 abbrev pub with_account : AccountMap → (region faction : ℕ) → Account → AccountMap
 with_account m region faction a = insert m region (insert (group_of m region) faction a)
 
--- what those of some units that are of a faction and in a region have left, and what they are short of
+-- the money that those of some units that are of a faction and in a region have left after their own upkeep
 abbrev pub left_among : ℕ → (region faction : ℕ) → List UpkeepInput → ℕ
 left_among maintenance region faction inputs = sum_by (left_of maintenance) (peers_of region faction inputs)
 
+-- the money that those of some units that are of a faction and in a region are short of for their own upkeep
 abbrev pub short_among : ℕ → (region faction : ℕ) → List UpkeepInput → ℕ
 short_among maintenance region faction inputs = sum_by (short_of maintenance) (peers_of region faction inputs)
 
--- what is to be given of an account
+-- the money that units of an account with some left give to those that are short: the lesser of all left and all short
 abbrev pub to_give : Account → ℕ
 to_give a = min a.left a.short
 
--- an account with one unit more
+-- an account with what one more unit has left and is short of added
 abbrev pub with_counted : ℕ → UpkeepInput → Account → Account
 with_counted maintenance input a = record a { left = a.left + left_of maintenance input; short = a.short + short_of maintenance input }
 
--- what upkeep takes from a unit by its account
+-- what upkeep takes from a unit, by the account of its faction in its region as it is when the unit's turn comes
 abbrev pub upkeep_result_by : ℕ → Account → UpkeepInput → UpkeepResult
 upkeep_result_by maintenance a input = record {
   unit = input.unit;
@@ -46,19 +50,19 @@ upkeep_result_by maintenance a input = record {
   starved = starved_of maintenance (short_of maintenance input - min (to_give a - a.covered) (short_of maintenance input));
 }
 
--- the account behind it
+-- the account after a unit's turn: what it gave and what it was covered by are added
 abbrev pub account_after : ℕ → Account → UpkeepInput → Account
 account_after maintenance a input = record a {
   given = a.given + min (to_give a - a.given) (left_of maintenance input);
   covered = a.covered + min (to_give a - a.covered) (short_of maintenance input);
 }
 
--- not more was given and covered than was to be given
+-- an account of which at most what is to be given was given and covered so far
 pub record IsOpen (a : Account) : Type 0 where
   pub given : a.given ≤ to_give a
   pub covered : a.covered ≤ to_give a
 
--- the accounts of all these units, once those before have paid
+-- the account of a faction in a region for all these units, after those `before` had their turn
 abbrev pub account_of : ℕ → (all before : List UpkeepInput) → (region faction : ℕ) → Account
 account_of maintenance all before region faction =
     let given = given_among maintenance (peers_of region faction all) in

@@ -1,4 +1,4 @@
--- A month: its phases, one after the other. See docs/RULES.md, "Closing a month".
+-- A month: its phases in order, what they make of a campaign, and how far they move the books. See docs/RULES.md, "Closing a month".
 use Rattle.std.specs.Prelude.{◌≡◌, ◌≤◌, ℕ, ◌+◌, ◌*◌, List, [], ◌∷◌, map}
 use Rattle.std.specs.Ordering.{nat_cmp}
 use Rattle.std.specs.List.Sorted.{IsPermutation}
@@ -34,78 +34,82 @@ use Rattle.atl_month.specs.Season.{season_spec}
 use Rattle.atl_month.specs.Sweep.{sweep_spec}
 use Rattle.atl_month.specs.Upkeep.{upkeep_spec}
 
--- the month before its first phase
+-- what a month carries as its first phase begins: the mailings as they were read, the words of the dice, no alias and no event
 abbrev pub new_month : FinMap nat_cmp Reading → List ℕ → MonthValue
 new_month readings words = record { readings = readings; aliases = empty; words = words; events = [] }
 
 -- ---- the phases
 
--- the phases of orders that are carried out while no flag is set anew
+-- the phases from FORM to RECRUIT, in order, in which no unit begins to guard
 abbrev pub early_phases : List PhaseSpec
 early_phases = form_spec ∷ name_spec ∷ place_spec ∷ give_spec ∷ transfer_spec ∷ sell_spec ∷ buy_spec ∷ tax_spec ∷ recruit_spec ∷ []
 
--- those of the other orders, but for WORK, which units do without an order as well
+-- the phases from GUARD 1 to PRODUCE, in order; WORK is not among them, which units do without an order as well
 abbrev pub later_phases : List PhaseSpec
 later_phases = guard_spec ∷ quit_spec ∷ walk_spec ∷ sail_spec ∷ build_spec ∷ learn_spec ∷ produce_spec ∷ []
 
--- and those behind all these
-abbrev pub closing_phases : List PhaseSpec
-closing_phases = work_spec ∷ upkeep_spec ∷ season_spec ∷ sweep_spec ∷ []
+-- the phases after those: WORK, upkeep, season, sweep
+abbrev pub last_phases : List PhaseSpec
+last_phases = work_spec ∷ upkeep_spec ∷ season_spec ∷ sweep_spec ∷ []
 
+-- the meaning of all phases from FORM to PRODUCE
 abbrev pub orders_meaning : Meaning
 orders_meaning = then_also (meaning_of early_phases) (meaning_of later_phases)
 
+-- what the phases from FORM to PRODUCE leave alone, each over the campaigns before and after that phase
 abbrev pub orders_keep : Frame
 orders_keep = both_keep (meaning_of early_phases) (keeps_of early_phases) (keeps_of later_phases)
 
--- a month, from its first phase to its last
+-- the meaning of a month, from its first phase to its last
 abbrev pub month_meaning : Meaning
-month_meaning = then_also orders_meaning (meaning_of closing_phases)
+month_meaning = then_also orders_meaning (meaning_of last_phases)
 
+-- what the phases of a month leave alone, each over the campaigns before and after that phase
 abbrev pub month_keeps : Frame
-month_keeps = both_keep orders_meaning orders_keep (keeps_of closing_phases)
+month_keeps = both_keep orders_meaning orders_keep (keeps_of last_phases)
 
--- the campaign behind the phases of a month, and what came of the orders
+-- the campaign after the phases of a month, and its events; the month isn't counted and the mail not removed yet
 unfoldable pub month_of : WorldValue → CampaignValue → FinMap nat_cmp Reading → List ℕ → CampaignValue × List Event
 month_of w c readings words = let behind = month_meaning w c (new_month readings words) in (behind.0, behind.1.events)
 
 -- ---- the books
 
--- Each phase of a month moves the amounts of its own entries alone, and each by less than 10^14.
+-- the law that each phase of a month moves the amounts of its own entries alone, and each by less than 10^14
 abbrev pub PhasesMoveLittle : Type 0
-PhasesMoveLittle = EachPhase MovesItsOwn early_phases × EachPhase MovesItsOwn later_phases × EachPhase MovesItsOwn closing_phases
+PhasesMoveLittle = EachPhase MovesItsOwn early_phases × EachPhase MovesItsOwn later_phases × EachPhase MovesItsOwn last_phases
 
--- how many phases of a month may move an amount of the books
+-- how many phases of a month may move the amount under an entry and of a thing
 abbrev pub moving_phases : Entry → Thing → ℕ
-moving_phases e t = moving_phases_of early_phases e t + moving_phases_of later_phases e t + moving_phases_of closing_phases e t
+moving_phases e t = moving_phases_of early_phases e t + moving_phases_of later_phases e t + moving_phases_of last_phases e t
 
--- two at most
+-- the law that at most two phases of a month may move an amount of the books
 abbrev pub TwoMoveAtMost : Type 0
 TwoMoveAtMost = (e : Entry) (t : Thing) → moving_phases e t ≤ 2
 
--- by so much the phases may move it together
+-- the bound on how far the phases from FORM to PRODUCE together may move each amount of the books
 abbrev pub orders_moving : BookBound
 orders_moving = both_move (moving_of early_phases) (moving_of later_phases)
 
+-- the bound on how far all phases of a month together may move each amount of the books
 abbrev pub phases_moving : BookBound
-phases_moving = both_move orders_moving (moving_of closing_phases)
+phases_moving = both_move orders_moving (moving_of last_phases)
 
--- by so much a month may move an amount
+-- the bound on how far a month may move an amount of the books: 10^14 - 1 for each phase that may move it
 abbrev pub month_moves : BookBound
 month_moves e t = moving_phases e t * most_moved
 
--- each amount of the books is moved by so much at most
+-- each amount of the books differs from what it was by at most its bound
 abbrev pub BooksAreNear : BookBound → (before after : CampaignValue) → Type 0
 BooksAreNear moving before after = (e : Entry) (t : Thing) → IsNear (moving e t) (amount_in before.books e t) (amount_in after.books e t)
 
 -- ---- the mailings
 
--- the mailings of a month in another order make the same month
-abbrev pub MonthHasNoOrder : Type 0
-MonthHasNoOrder =
+-- the law that the mailings of a month, given in another order, make the same campaign and the same events
+abbrev pub MailOrderDoesNotCount : Type 0
+MailOrderDoesNotCount =
     (w : WorldValue) (c : CampaignValue) (words : List ℕ) (mailings others : List Mailing) → HaveOwnFactions mailings → IsPermutation mailings others →
     month_of w c (by_faction (map reading_of mailings)) words ≡ month_of w c (by_faction (map reading_of others)) words
 
--- a campaign whose month is counted, and whose mail is taken away
+-- a campaign with its month counted and its mail removed
 abbrev pub after_month : CampaignValue → CampaignValue
 after_month c = without_mail (with_month c (c.month + 1))

@@ -1,4 +1,4 @@
--- Restocking: markets get new goods. See docs/RULES.md, "Season".
+-- Restocking in the season: the stock of each market rises by its `restock`, up to its limit. See docs/RULES.md, "Season".
 use Rattle.std.specs.Prelude.{ℕ, pos, ◌+◌, ◌-◌, ◌==◌, ◌&&◌, min, Bool, true, false, List, fold, if◌then◌else◌}
 use Rattle.std.specs.Ordering.{nat_cmp}
 use Rattle.std.specs.FinMap.{FinMap, empty, get}
@@ -13,30 +13,31 @@ use Rattle.atl_state.specs.Campaign.{CampaignValue, with_amount, with_stock}
 use Rattle.atl_state.specs.Stocks.{stock_of}
 use Rattle.atl_instant.specs.Meaning.{BookBound}
 
--- the markets of a region, by their items
+-- the markets of a region of the world, by their items; none where there is no such region
 abbrev pub markets_of : WorldValue → (region : ℕ) → FinMap nat_cmp Market
 markets_of w region = option_map_or (λ p. p.markets) (get w.regions region) empty
 
--- A market gets its restock; at most up to its limit.
+-- how many new goods a market with so much in stock gets: its `restock`, at most what is missing to its limit
 abbrev pub restock : Market → (stock : ℕ) → ℕ
 restock m stock = min m.restock (m.limit - stock)
 
--- a market of a region, by its item, gets new goods, which are booked
+-- a campaign after a market of a region, by its item, got new goods, which are booked as stocked
 unfoldable pub after_market_restock : (region : ℕ) → CampaignValue → ℕ × Market → CampaignValue
 after_market_restock region c (item, m) =
     let stock = stock_of c region item in
     let more = restock m stock in
     with_amount (with_stock c region item (stock + more)) Stocked (Item item) (pos more)
 
--- each of some markets, in the order of their items
+-- a campaign after each of some markets of a region got new goods, in the order of their items
 abbrev pub after_restock : (region : ℕ) → CampaignValue → List (ℕ × Market) → CampaignValue
 after_restock region c markets = fold (after_market_restock region) c markets
 
+-- whether a thing of the books is an item
 abbrev pub is_item : Thing → Bool
 is_item Money = false
 is_item People = false
 is_item (Item i) = true
 
--- of each item so much at most comes into stock
+-- the bound on what restocking books: Stocked of each item by at most `most`, nothing else
 abbrev pub stocks_by : ℕ → BookBound
 stocks_by most e t = if (entry_index e == entry_index Stocked) && is_item t then most else 0

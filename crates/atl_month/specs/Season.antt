@@ -16,45 +16,45 @@ use Rattle.atl_instant.specs.PhaseSpecs.{PhaseSpec}
 use Rattle.atl_instant.specs.There.{at_region}
 use Rattle.atl_month.specs.Restock.{after_restock, markets_of, stocks_by}
 
--- So many of a hundred peasants are born as the word says, from 0 to the growth; at most up to the terrain's limit.
+-- How many peasants are born: of each hundred as many as the word says, from 0 to `growth`, at most what is missing to the limit.
 abbrev pub births : (growth limit word peasants : ℕ) → ℕ
 births growth limit word peasants = min (peasants * (word % (growth + 1)) / per_hundred) (limit - peasants)
 
--- Each peasant brings his income to the region; at most up to the terrain's limit.
+-- How much money peasants bring to their region: so much each, at most what is missing to the terrain's limit.
 abbrev pub income : (per_peasant limit peasants money : ℕ) → ℕ
 income per_peasant limit peasants money = min (peasants * per_peasant) (limit - money)
 
--- a region of so many peasants and so much money with births and income, which are booked
+-- a campaign in which region `n`, which had these peasants and this money, got births and income, which are booked
 abbrev pub with_growth : CampaignValue → ℕ → (peasants money born earned : ℕ) → CampaignValue
 with_growth c n peasants money born earned =
     let grown = with_region_money (with_peasants c n (peasants + born)) n (money + earned) in
     with_amount (with_amount grown Births People (pos born)) Income Money (pos earned)
 
--- The births of a region come first, and those who are born bring income as well. Then its markets get new goods.
+-- A campaign after the season of region `n`: births, then income, also of those just born, then new goods of its markets.
 abbrev pub season_of : WorldValue → CampaignValue → (n word : ℕ) → Terrain → Region → CampaignValue
 season_of w c n word t r =
     let born = births w.rules.growth t.peasant_limit word r.peasants in
     let earned = income w.rules.income t.money_limit (r.peasants + born) r.money in
     after_restock n (with_growth c n r.peasants r.money born earned) (entries (markets_of w n))
 
--- the season of a region, by its number, with its word
+-- a campaign after the season of a region, by its number, with its word of the dice; unchanged where the region isn't there
 unfoldable pub season_at : WorldValue → CampaignValue → ℕ × ℕ → CampaignValue
 season_at w c (n, word) =
     option_map_or (λ t. at_region c n (season_of w c n word t)) (terrain_of w n) c
 
--- The season of all regions, in the order of their numbers, each with its word.
+-- A campaign after the season of all regions of the world, in the order of their numbers, each with its word of the dice.
 abbrev pub season : WorldValue → CampaignValue → List ℕ → CampaignValue
 season w c words = fold (season_at w) c (zip (map (λ e. e.0) (entries w.regions)) words)
 
--- what the season makes of a campaign; it brings no event
+-- the meaning of the season as a phase: the campaign after it, and the month as it was, without an event
 abbrev pub season_meaning : WorldValue → CampaignValue → MonthValue → CampaignValue × MonthValue
 season_meaning w c m = (season w c m.words, m)
 
--- income is of money, births are of people, each by so much at most
+-- the bound on what births and income book: Income of money and Births of people, each by at most `most`
 abbrev pub grows_by : ℕ → BookBound
 grows_by most = both_move (moves_only most Income Money) (moves_only most Births People)
 
--- and of each item so much at most comes into the stocks of a region
+-- the bound on what the season books: births, income, and Stocked of each item, each by at most `most`
 abbrev pub season_moves : ℕ → BookBound
 season_moves most = both_move (grows_by most) (stocks_by most)
 
@@ -62,6 +62,7 @@ season_moves most = both_move (grows_by most) (stocks_by most)
 abbrev pub season_keeps : Frame
 season_keeps w m before after = after.units ≡ before.units
 
+-- the specification of the season as a phase of the month
 abbrev pub season_spec : PhaseSpec
 season_spec = record {
   meaning = season_meaning;

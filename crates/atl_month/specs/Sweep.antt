@@ -1,4 +1,4 @@
--- The sweep of a month: units without men go, and factions without units. See docs/RULES.md, "Sweep".
+-- The sweep at the end of a month: units without men are removed, and factions without units are gone. See docs/RULES.md, "Sweep".
 use Rattle.std.specs.Prelude.{◌≡◌, ◌≤◌, ◌+◌, ◌-◌, ◌==◌, ◌&&◌, not, min, ℕ, pos, neg_ℤ, nat_lt, Bool, true, false, List, [], ◌∷◌, fold, Some, if◌then◌else◌}
 use Rattle.std.specs.FinMap.{entries, get}
 use Rattle.std.specs.Option.{option_map_or}
@@ -22,31 +22,32 @@ use Rattle.atl_instant.specs.There.{at_unit}
 
 -- ---- who gets what a unit leaves
 
--- a unit of a faction in a region, with men
+-- whether a unit is of this faction, in this region, and has men
 abbrev pub receives : (region faction : ℕ) → Unit → Bool
 receives region faction v = (v.region == region) && ((v.faction == faction) && nat_lt 0 v.holding.men)
 
--- the lowest-numbered one; 0 where there is none
+-- the number of the lowest-numbered unit with men of a faction in a region; 0 where there is none
 abbrev pub receiver : CampaignValue → (region faction : ℕ) → ℕ
 receiver c region faction = first_or_zero (numbers_where (receives region faction) c.units)
 
 -- ---- what it gets, up to its room
 
+-- a campaign in which so much of a thing is booked as lost
 abbrev pub with_lost : CampaignValue → Thing → ℕ → CampaignValue
 with_lost c t amount = with_amount c Lost t (neg_ℤ (pos amount))
 
--- how much of an amount goes to a unit that has so much already
+-- how much of an amount fits to the `have` that a unit holds already, up to 999,999,999 together
 abbrev pub accepted_of : (amount have : ℕ) → ℕ
 accepted_of amount have = min amount (holding_limit - have)
 
--- Money goes to a unit, up to its room, and the rest is lost: all of it if the unit isn't there.
+-- A campaign after money went to unit `to`, up to its room; the rest is booked as lost, all of it where the unit isn't there.
 unfoldable pub after_passing_money : CampaignValue → (to amount : ℕ) → CampaignValue
 after_passing_money c to amount =
     let taken = option_map_or (λ v. accepted_of amount v.holding.money) (get c.units to) 0 in
     let given = at_unit c to (λ v. with_money c to (v.holding.money + taken)) in
     with_lost given Money (amount - taken)
 
--- the same of an item
+-- A campaign after an amount of an item went to unit `to`, up to its room; the rest is booked as lost, all where it isn't there.
 unfoldable pub after_passing_item : ℕ → CampaignValue → ℕ × ℕ → CampaignValue
 after_passing_item to c (item, amount) =
     let taken =
@@ -56,55 +57,58 @@ after_passing_item to c (item, amount) =
 
 -- ---- units without men
 
+-- a campaign after the money and then each item that unit `u` holds went to unit `to`, or are lost
 abbrev pub after_passing_all : CampaignValue → ℕ → Unit → CampaignValue
 after_passing_all c to u = fold (after_passing_item to) (after_passing_money c to u.holding.money) (entries u.holding.items)
 
--- A unit without men gives its money and each item to the lowest-numbered unit with men of its faction in its region, and is removed.
+-- A campaign after unit `n`, if it is there without men, passed its money and items to its receiver and was removed.
 unfoldable pub after_sweeping_unit : CampaignValue → ℕ → CampaignValue
 after_sweeping_unit c n = at_unit c n (λ u.
     if u.holding.men == 0 then without_unit (after_passing_all c (receiver c u.region u.faction) u) n
     else c)
 
--- the units without men, in the order of their numbers
+-- the numbers of the units without men, sorted
 abbrev pub menless_units : CampaignValue → List ℕ
 menless_units c = numbers_where (λ u. u.holding.men == 0) c.units
 
 -- ---- factions without units
 
+-- whether a list has no number
 abbrev pub is_empty : List ℕ → Bool
 is_empty [] = true
 is_empty (n ∷ ns) = false
 
--- a faction that has no unit is gone
+-- a campaign in which faction `n` is gone if it has no unit; else the campaign as it was
 abbrev pub after_sweeping_faction : CampaignValue → ℕ → CampaignValue
 after_sweeping_faction c n = if is_empty (numbers_of n c.units) then with_gone c n else c
 
 -- ---- the phase
 
--- the units first, and then the factions
+-- a campaign after the sweep: first of the units without men, then of the factions that aren't gone yet
 abbrev pub sweep : CampaignValue → CampaignValue
 sweep c =
     let swept = fold after_sweeping_unit c (menless_units c) in
     fold after_sweeping_faction swept (active swept)
 
--- it brings no event
+-- the meaning of the sweep as a phase: the campaign after it, and the month as it was, without an event
 abbrev pub sweep_meaning : WorldValue → CampaignValue → MonthValue → CampaignValue × MonthValue
 sweep_meaning w c m = (sweep c, m)
 
--- money and items may be lost, so much of each at most
+-- the bound on what the sweep books: Lost of money and of each item by at most `most`, nothing else
 abbrev pub loses_by : ℕ → BookBound
 loses_by most e t = if (entry_index e == entry_index Lost) && not (thing_index t == thing_index People) then most else 0
 
--- a unit that is no worse off, with its men and their days as they were
+-- a unit is no worse off, and its men and their days are as they were
 pub record IsKept (before after : Unit) : Type 0 where
   pub no_worse : IsNoWorse before after
   pub men : after.holding.men ≡ before.holding.men
   pub days : after.holding.days ≡ before.holding.days
 
--- the sweep takes nothing from a unit with men
+-- what the sweep leaves alone: each unit with men is still there, no worse off, with its men and their days as they were
 abbrev pub sweep_keeps : Frame
 sweep_keeps w m before after = Every (λ n u. 1 ≤ u.holding.men → (v : Unit) × (get after.units n ≡ Some v) × IsKept u v) before.units
 
+-- the specification of the sweep as a phase of the month, which books Lost of money and items
 abbrev pub sweep_spec : PhaseSpec
 sweep_spec = record {
   meaning = sweep_meaning;

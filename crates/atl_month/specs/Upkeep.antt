@@ -1,4 +1,4 @@
--- The phase of upkeep: what each unit pays, and who starves. See docs/RULES.md, "Upkeep".
+-- The phase of upkeep: a campaign after each unit paid, and its men who aren't paid for starved. See docs/RULES.md, "Upkeep".
 use Rattle.std.specs.Prelude.{◌≡◌, ℕ, pos, neg_ℤ, ◌-◌, ◌==◌, not, ◌++◌, Bool, List, map, filter, fold, Some, if◌then◌else◌}
 use Rattle.std.specs.FinMap.{entries, get, keys}
 use Rattle.atl_tables.specs.Worlds.{WorldValue}
@@ -22,19 +22,19 @@ use Rattle.atl_instant.specs.PhaseSpecs.{PhaseSpec, books_money_and_people}
 use Rattle.atl_instant.specs.There.{at_unit}
 use Rattle.atl_instant.specs.Transfer.{going_of}
 
--- ---- what a unit has to give for it
+-- ---- the upkeep of one unit
 
--- a unit with so many of its men left: of each skill it keeps the days that go with them
+-- a holding with so many of its men left, and of each skill the days times the men left, divided by the men before
 abbrev pub with_men_left : ℕ → HoldingValue → HoldingValue
 with_men_left left h =
     if left == h.men then h
     else record h { men = left; days = amounts_for (going_of left h) (keys h.days) }
 
--- what a unit holds after its upkeep
+-- a holding after the upkeep of its unit: without the money paid and the men who starved
 abbrev pub after_upkeep : UpkeepResult → HoldingValue → HoldingValue
 after_upkeep s h = record (with_men_left (h.men - s.starved) h) { money = h.money - s.paid }
 
--- the campaign after the upkeep of a unit, which is booked
+-- a campaign after the upkeep of one unit, which is booked
 unfoldable pub upkeep_at : CampaignValue → UpkeepResult → CampaignValue
 upkeep_at c s = at_unit c s.unit (λ u.
     let held = with_held c s.unit (after_upkeep s u.holding) (Some u) in
@@ -43,36 +43,41 @@ upkeep_at c s = at_unit c s.unit (λ u.
 
 -- ---- all units
 
+-- what upkeep reads of a unit, given with its number
 abbrev pub upkeep_input_of : ℕ × Unit → UpkeepInput
 upkeep_input_of (n, u) = record { unit = n; region = u.region; faction = u.faction; men = u.holding.men; money = u.holding.money }
 
--- what each unit has before its upkeep, in the order of their numbers
+-- what upkeep reads of all units, in the order of their numbers
 abbrev pub upkeep_inputs_of : CampaignValue → List UpkeepInput
 upkeep_inputs_of c = map upkeep_input_of (entries c.units)
 
+-- what upkeep takes from each unit of a campaign, in the order of their numbers
 abbrev pub upkeep_results : WorldValue → CampaignValue → List UpkeepResult
 upkeep_results w c = upkeep_results_of w.rules.maintenance (upkeep_inputs_of c)
 
+-- a campaign after the upkeep of some units, in turn
 abbrev pub upkeep : CampaignValue → List UpkeepResult → CampaignValue
 upkeep c list = fold upkeep_at c list
 
--- a unit's report of those who starved
+-- whether some men of a unit starve
 abbrev pub starves : UpkeepResult → Bool
 starves s = not (s.starved == 0)
 
+-- the event Starved of a unit, on line 0, with the number of its men who starved
 abbrev pub starved_event : UpkeepResult → Event
 starved_event s = record { faction = s.faction; unit = s.unit; line = 0; verb = verb.Upkeep; outcome = outcome.Starved s.starved }
 
+-- the meaning of upkeep as a phase: the campaign after it, and the month with the Starved events
 abbrev pub upkeep_meaning : WorldValue → CampaignValue → MonthValue → CampaignValue × MonthValue
 upkeep_meaning w c m = (upkeep c (upkeep_results w c), record m { events = m.events ++ map starved_event (filter starves (upkeep_results w c)) })
 
 -- ---- what it moves, and what it keeps
 
--- what is paid is money, and those who starve are people, each up to so much
+-- the bound on what upkeep books: Upkeep of money and Starved of people, each by at most `most`
 abbrev pub takes_up_to : ℕ → BookBound
 takes_up_to most = both_move (moves_only most Upkeep Money) (moves_only most Starved People)
 
--- It takes from each unit what follows from the units of its faction in its region alone.
+-- what upkeep leaves alone: each unit is there, changed only by what follows from the units of its faction in its region
 abbrev pub upkeep_keeps : Frame
 upkeep_keeps w m before after =
     Every (λ n u.
@@ -81,5 +86,6 @@ upkeep_keeps w m before after =
     get after.units n ≡ Some (record u { holding = after_upkeep settled u.holding }))
     before.units
 
+-- the specification of upkeep as a phase of the month
 abbrev pub upkeep_spec : PhaseSpec
 upkeep_spec = books_money_and_people Upkeep Starved upkeep_meaning upkeep_keeps

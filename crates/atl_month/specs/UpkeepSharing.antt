@@ -1,4 +1,4 @@
--- How the units of a faction in a region share the upkeep. See docs/RULES.md, "Upkeep".
+-- How the units of one faction in one region share their upkeep: what each pays and how many starve. See docs/RULES.md, "Upkeep".
 use Rattle.std.specs.Prelude.{ℕ, nat_lt, ◌+◌, ◌-◌, ◌*◌, ◌/◌, ◌==◌, ◌&&◌, Bool, List, filter, map, min, ◌≤◌, ◌<◌}
 use Rattle.std.specs.List.{AllPairs, sum_by}
 use Rattle.atl_records.specs.Limits.{holding_limit, men_limit}
@@ -6,49 +6,51 @@ use Rattle.atl_month.specs.declared.upkeep_sharing.UpkeepInput.{UpkeepInput}
 use Rattle.atl_month.specs.declared.upkeep_sharing.UpkeepResult.{UpkeepResult}
 use Rattle.atl_instant.specs.InTurn.{amount_in_turn}
 
--- the men and the money of a unit
+-- the men and the money of a unit are within the limits of a holding
 pub record IsUpkeepInput (input : UpkeepInput) : Type 0 where
   pub men : input.men ≤ men_limit
   pub money : input.money ≤ holding_limit
 
--- the units come in the order of their numbers
+-- the units are sorted by their numbers, each once
 abbrev pub AreInOrder : List UpkeepInput → Type 0
 AreInOrder inputs = AllPairs (λ p q. p.unit < q.unit) inputs
 
 -- ---- a unit by itself
 
--- what a unit pays of its own upkeep
+-- the money that a unit pays for its own men: the lesser of its money and what they cost
 abbrev pub paid_by : ℕ → UpkeepInput → ℕ
 paid_by maintenance input = min input.money (maintenance * input.men)
 
--- what remains of its money
+-- the money that a unit has left after it paid for its own men
 abbrev pub left_of : ℕ → UpkeepInput → ℕ
 left_of maintenance input = input.money - paid_by maintenance input
 
--- what remains to be paid
+-- the money that a unit is short of for its own men
 abbrev pub short_of : ℕ → UpkeepInput → ℕ
 short_of maintenance input = maintenance * input.men - paid_by maintenance input
 
 -- ---- the units of a faction in a region
 
+-- whether a unit is of this faction and in this region
 abbrev pub is_input_of : (region faction : ℕ) → UpkeepInput → Bool
 is_input_of region faction input = (input.region == region) && (input.faction == faction)
 
+-- those of some units that are of this faction and in this region
 abbrev pub peers_of : (region faction : ℕ) → List UpkeepInput → List UpkeepInput
 peers_of region faction inputs = filter (is_input_of region faction) inputs
 
--- what those with money left give to those who are short
+-- the money that units with some left give to those that are short: the lesser of all left and all short
 abbrev pub given_among : ℕ → (peers : List UpkeepInput) → ℕ
 given_among maintenance peers =
     min (sum_by (left_of maintenance) peers) (sum_by (short_of maintenance) peers)
 
 -- ---- a unit among them
 
--- how many men starve where so much is still short
+-- how many men starve where so much money is still missing: it divided by `maintenance`, rounded up
 abbrev pub starved_of : (maintenance short : ℕ) → ℕ
 starved_of maintenance short = (short + (maintenance - 1)) / maintenance
 
--- what upkeep takes from a unit: those of lower numbers give before it, and are covered before it
+-- what upkeep takes from a unit among its peers: those of lower numbers give before it, and are covered before it
 abbrev pub upkeep_result_among : ℕ → (peers : List UpkeepInput) → UpkeepInput → UpkeepResult
 upkeep_result_among maintenance peers input =
     let given = given_among maintenance peers in
@@ -62,19 +64,19 @@ upkeep_result_among maintenance peers input =
       starved = starved_of maintenance (short_of maintenance input - gets);
     }
 
--- what it takes from all units: from each by those of its faction in its region alone
+-- what upkeep takes from each of some units, by those of its faction in its region alone
 abbrev pub upkeep_results_of : ℕ → List UpkeepInput → List UpkeepResult
 upkeep_results_of maintenance inputs =
     map (λ p. upkeep_result_among maintenance (peers_of p.region p.faction inputs) p) inputs
 
 -- ---- what a unit can spare
 
--- A unit of so many men and so much money can spare what upkeep takes: it pays no more than it has, and no more starve.
+-- what upkeep takes from a unit is no more than its money, and no more than its men
 pub record CanSpare (settled : UpkeepResult) (men money : ℕ) : Type 0 where
   pub paid : settled.paid ≤ money
   pub starved : settled.starved ≤ men
 
--- each unit can
+-- the law that upkeep takes no more from any unit than its money and its men, where `maintenance` is at least 1
 abbrev pub EachCanSpare : Type 0
 EachCanSpare =
     (maintenance : ℕ) → 1 ≤ maintenance → (peers : List UpkeepInput) (input : UpkeepInput) →

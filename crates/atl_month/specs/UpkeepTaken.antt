@@ -1,4 +1,4 @@
--- For proofs alone: when a unit can pay its upkeep, and what it is afterwards.
+-- For proofs alone: when a unit's upkeep can be taken from it, and the campaign afterwards.
 use Rattle.std.specs.Prelude.{◌≡◌, ◌*◌, ◌/◌, ℕ, List, map, Some}
 use Rattle.std.specs.Ordering.{nat_cmp}
 use Rattle.std.specs.FinMap.{FinMap, entries, get}
@@ -13,7 +13,7 @@ use Rattle.atl_month.specs.declared.upkeep_sharing.UpkeepResult.{UpkeepResult}
 use Rattle.atl_month.specs.UpkeepSharing.{CanSpare}
 use Rattle.atl_month.specs.Upkeep.{after_upkeep, takes_up_to}
 
--- the unit is there and can spare it, and the books have room
+-- the unit is there and can spare what upkeep takes, and the books have room for it
 pub record CanPayUpkeep (w : WorldValue) (c : CampaignValue) (s : UpkeepResult) : Type 0 where
   pub unit : Unit
   pub there : get c.units s.unit ≡ Some unit
@@ -21,10 +21,10 @@ pub record CanPayUpkeep (w : WorldValue) (c : CampaignValue) (s : UpkeepResult) 
   pub steady : IsSteady w c
   pub room : HaveRoom (takes_up_to most_amount) c
 
--- the unit, where it is there, holds what its upkeep leaves it, and nothing else is changed
+-- the unit, where it is there, holds what its upkeep leaves it, and nothing else is changed; nothing is booked yet
 abbrev pub IsAfterUpkeep : CampaignValue → UpkeepResult → CampaignValue → Type 0
 IsAfterUpkeep before s after = (u : Unit) → get before.units s.unit ≡ Some u → after ≡ with_held before s.unit (after_upkeep s u.holding) (Some u)
 
--- the days that stay with so many men of these, as they are set one by one
+-- for each skill, with its number, the days times the men left, divided by the men before
 abbrev pub staying_list : (left men : ℕ) → FinMap nat_cmp ℕ → List (ℕ × ℕ)
 staying_list left men days = map (λ e. (e.0, e.1 * left / men)) (entries days)

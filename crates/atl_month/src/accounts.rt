@@ -1,5 +1,5 @@
-//! Accounts of the upkeep: for each faction and region, what is left, short, given and covered. See
-//! docs/RULES.md, "Upkeep".
+//! Accounts of upkeep: for each faction in each region, the money left, short, given and covered.
+//! See docs/RULES.md, "Upkeep".
 ghost use Rattle.std.specs.Prelude.{◌≡◌, OnOk};
 ghost use Rattle.atl_month.specs.Accounts.{account_at, with_account};
 
@@ -7,8 +7,8 @@ use crate::upkeep_sharing::UpkeepInput;
 use atl_tables::Numbered;
 use std::alloc::{AllocError, Global};
 
-/// What is left of the money of a faction's units in a region, and what they are short, together; and how much of it was
-/// given and covered so far. All of it money.
+/// The money that a faction's units in a region have left after their own upkeep and are short of,
+/// added up, and how much of it was given and covered so far.
 #[derive(Drop, Clone, Copy, Debug, PartialEq, Eq)]
 pub(crate) struct Account {
     pub(crate) left: u128,
@@ -17,10 +17,10 @@ pub(crate) struct Account {
     pub(crate) covered: u128,
 }
 
-/// By region, and then by faction.
+/// The accounts by region, and then by faction.
 pub(crate) type Accounts = Numbered<Numbered<Account>>;
 
-/// The account of the units of an input's faction in its region.
+/// The account of an input's faction in its region; all amounts are 0 where there is none yet.
 pub(crate) fn account_of(accounts: &Accounts, input: &UpkeepInput) -> Account
     ensures { result ≡ account_at accounts.now input.now.region input.now.faction }
 {
@@ -33,7 +33,8 @@ pub(crate) fn account_of(accounts: &Accounts, input: &UpkeepInput) -> Account
     })
 }
 
-/// Puts the account of an input's faction in its region. Without memory the accounts are to be given up.
+/// Sets the account of an input's faction in its region. After an AllocError the accounts are no
+/// longer valid.
 pub(crate) fn put_account(
     alloc: Global,
     accounts: &mut Accounts,

@@ -1,4 +1,4 @@
-//! Runs all phases of a month. See docs/RULES.md, "Closing a month".
+//! Closing a month: runs all its phases. See docs/RULES.md, "Closing a month".
 ghost use Rattle.std.specs.Prelude.{◌≡◌, ◌<◌, ℕ, All, IfOk, length, map};
 ghost use Rattle.std.specs.FinMap.{len};
 ghost use Rattle.atl_orders.specs.Mailing.{IsReadWith, reading_of};
@@ -9,7 +9,7 @@ ghost use Rattle.atl_records.specs.Limits.{last_month};
 ghost use Rattle.atl_instant.specs.Month.{HaveOwnFactions, by_faction};
 ghost use Rattle.atl_instant.specs.Fit.{AreFit};
 ghost use Rattle.atl_instant.specs.Meaning.{IsSameMonth, LeavesWell};
-ghost use Rattle.atl_month.specs.Month.{BooksAreNear, MonthHasNoOrder, PhasesMoveLittle, TwoMoveAtMost, after_month, month_keeps, month_meaning, month_moves, month_of, new_month, phases_moving};
+ghost use Rattle.atl_month.specs.Month.{BooksAreNear, MailOrderDoesNotCount, PhasesMoveLittle, TwoMoveAtMost, after_month, month_keeps, month_meaning, month_moves, month_of, new_month, phases_moving};
 ghost use Rattle.atl_month.specs.AfterSweep.{IsSwept};
 ghost use Rattle.atl_month.specs.Unmailed.{UnmailedAreLeft};
 
@@ -24,7 +24,7 @@ use atl_state::{Campaign, Event};
 use atl_tables::World;
 use std::alloc::{AllocError, Global};
 
-/// Runs the phases of a month, one after the other.
+/// Runs all phases of a month, one after the other.
 fn run_phases(alloc: Global, world: &World, campaign: Campaign, month: Month) -> PhaseResult
     requires sound { IsSound world.now campaign.value }
     requires read { AreFit world.now month.readings }
@@ -41,12 +41,14 @@ fn run_phases(alloc: Global, world: &World, campaign: Campaign, month: Month) ->
     Ok((campaign, month))
 }
 
-/// Closes a month: runs its phases over a good campaign, with the mailings of its factions and one word of the dice for each
-/// region, and gives the campaign behind them and what came of the orders. The month isn't counted and the mail is still there:
-/// with these done the campaign is good again. A unit whose faction sent no mailing is behind it with its name, no less of any
-/// item, and all its men but for those of whom its Starved event tells; it is gone only where all starved. The factions and the
-/// reports stay. Each amount of the books is moved by what the phases may that move it, at most; founding and joining stay.
-/// AllocError without memory; the campaign is then given up. See docs/RULES.md, "Closing a month".
+/// Closes a month: runs its phases over a good campaign, and returns the campaign and the events.
+/// It takes the mailings of the factions and one word of the dice for each region. The month isn't
+/// counted and the mail is still there: with these done the campaign is good again. A unit whose
+/// faction sent no mailing is there afterwards with its name, no less of any item, and all its men
+/// but those in its Starved event; it is gone only where all starved. The factions and the reports
+/// stay. No amount of the books moves further than the phases may move it; founding and joining
+/// stay. AllocError without memory; the campaign is then given up. See docs/RULES.md, "Closing a
+/// month".
 pub fn close_month(
     alloc: Global,
     world: &World,
@@ -81,14 +83,14 @@ pub fn close_month(
     Ok((campaign, month.into_events()))
 }
 
-/// The mailings of a month in another order make the same month: neither the campaign nor the events tell in which order they were
-/// given.
+/// Does nothing. Its clause is the law that the mailings of a month, given in another order, make
+/// the same campaign and the same events.
 pub fn months_have_no_order()
-    ensures { MonthHasNoOrder }
+    ensures { MailOrderDoesNotCount }
 {}
 
-/// Does nothing. Its clauses are the laws of what a month books: each phase moves the amounts of its own entries alone, and
-/// each by less than 10^14; and no amount is moved by more than two phases.
+/// Does nothing. Its clauses are the laws of what a month books: each phase moves the amounts of
+/// its own entries alone, each by less than 10^14; and at most two phases move an amount.
 pub fn phases_move_little()
     ensures little { PhasesMoveLittle }
     ensures two { TwoMoveAtMost }

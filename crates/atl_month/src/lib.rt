@@ -1,4 +1,4 @@
-//! Closing a month: its phases in turn, with upkeep, season and sweep.
+//! Closing a month: runs all its phases in order, of which upkeep, season and sweep are here.
 #![tactic(auto)]
 
 mod accounts;

@@ -1,4 +1,4 @@
-//! The numbers of the end of a month. See docs/RULES.md, "Season".
+//! The divisor of births, which are some hundredths of the peasants. See docs/RULES.md, "Season".
 
-/// Births are told for so many peasants.
+/// 100: a region's births are so many for each hundred of its peasants.
 pub(crate) const PER_HUNDRED: u64 = 100;

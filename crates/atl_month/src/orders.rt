@@ -1,4 +1,4 @@
-//! The phases that carry out orders, in turn. See docs/RULES.md, "Closing a month".
+//! The phases from FORM to PRODUCE as one phase. See docs/RULES.md, "Closing a month".
 ghost use Rattle.atl_state.specs.Good.{IsEarly};
 ghost use Rattle.atl_month.specs.Month.{orders_keep, orders_meaning, orders_moving};
 
@@ -12,8 +12,8 @@ use atl_state::Campaign;
 use atl_tables::World;
 use std::alloc::Global;
 
-/// All phases that carry out orders, in their order, but for WORK, which units do without an order as well. See
-/// docs/RULES.md, "Closing a month".
+/// The phases from FORM to PRODUCE, in order, as one phase. WORK is not among them, which units do
+/// without an order as well. See docs/RULES.md, "Closing a month".
 #[derive(Drop, Clone, Copy)]
 pub struct OrderPhases;
 

@@ -1,4 +1,5 @@
-//! Finds the unit that receives what units without men leave. See docs/RULES.md, "Sweep".
+//! Finds the units that receive, in the sweep, what units without men leave. See docs/RULES.md,
+//! "Sweep".
 ghost use Rattle.std.specs.Prelude.{◌≡◌, ◌≤◌, IfOk, OnOk};
 ghost use Rattle.atl_records.specs.Every.{Every};
 ghost use Rattle.atl_month.specs.Receivers.{AreReceivers, receiver_in, with_receiver_of};
@@ -7,17 +8,17 @@ use atl_state::{Campaign, Unit};
 use atl_tables::Numbered;
 use std::alloc::{AllocError, Global};
 
-/// The lowest-numbered units with men, by region and then by faction.
+/// The number of the lowest-numbered unit with men, by region and then by faction.
 pub(crate) type Receivers = Numbered<Numbered<u32>>;
 
-/// The one of a faction in a region, or 0.
+/// The number of the receiving unit of a faction in a region; 0 where there is none.
 pub(crate) fn receiver_in(receivers: &Receivers, region: u32, faction: u32) -> u32
     ensures { result ≡ receiver_in receivers.now region faction }
 {
     receivers.get_under(region, faction).copied().unwrap_or(0)
 }
 
-/// Notes a unit, if it has men and none was noted before it.
+/// Makes a unit its faction's receiver in its region, if it has men and there is none yet.
 fn note(
     alloc: Global,
     receivers: &mut Receivers,
@@ -32,7 +33,7 @@ fn note(
     Ok(())
 }
 
-/// The receivers of a campaign, from one pass over its units.
+/// The receivers of a campaign, from one pass over its units. AllocError without memory.
 pub(crate) fn receivers_of(alloc: Global, campaign: &Campaign) -> Result<Receivers, AllocError>
     requires { Every (λ n u. 1 ≤ n) campaign.now.value.units }
     ensures { IfOk result (AreReceivers campaign.now.value) }

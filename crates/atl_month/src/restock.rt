@@ -1,4 +1,4 @@
-//! Restocks the markets of a region. See docs/RULES.md, "Season".
+//! Gives the markets of a region their new goods. See docs/RULES.md, "Season".
 ghost use Rattle.std.specs.Prelude.{◌≡◌, ◌<◌, Some, OnOk, length};
 ghost use Rattle.std.specs.FinMap.{entries};
 ghost use Rattle.atl_tables.specs.ByNumber.{market_of};
@@ -17,14 +17,14 @@ use atl_state::{Campaign, Entry, Thing};
 use atl_tables::{Market, World};
 use std::alloc::AllocError;
 
-/// How much comes into so large a stock: the market's restock, at most up to its limit.
+/// How many new goods a market with this stock gets: its `restock`, at most up to its limit.
 fn restock(market: &Market, stock: u32) -> u32
     ensures { result ≡ restock market.now stock }
 {
     market.restock.min(market.limit.saturating_sub(stock))
 }
 
-/// A market gets new goods, which are booked.
+/// Gives a market of a region its new goods, which are booked as stocked.
 #[tactic(auto, unfolding(crate::specs::Restock::after_market_restock))]
 fn restock_market(
     world: &World,
@@ -48,7 +48,8 @@ fn restock_market(
     Ok(())
 }
 
-/// The markets of a region get new goods. AllocError without memory; the campaign may then be changed in part.
+/// Gives all markets of a region their new goods. AllocError without memory; the campaign may then
+/// be changed in part.
 pub(crate) fn restock_region(
     world: &World,
     campaign: &mut Campaign,

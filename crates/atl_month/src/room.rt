@@ -1,8 +1,9 @@
-//! A law: books in which no amount passes 9*10^18 have room for one more phase.
+//! The law that books in which no amount passes 9*10^18 have room for one more phase.
 ghost use Rattle.atl_instant.specs.Room.{OnePhaseHasRoom};
 
-/// Where no amount of the books passes 9*10^18 in size, they have room for one phase that moves each of them by less than
-/// 10^14, as each phase of a month does. Of a pair of phases this says nothing: they may move an amount further together.
+/// Does nothing. Its clause is the law that books of which no amount passes 9*10^18 in size have
+/// room for one phase that moves each amount by less than 10^14, as each phase of a month does. It
+/// says nothing of two phases, which together may move an amount further.
 pub fn one_phase_has_room()
     ensures { OnePhaseHasRoom }
 {}

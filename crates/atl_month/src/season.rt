@@ -1,4 +1,4 @@
-//! The season of a month: births, income and new goods of markets. See docs/RULES.md, "Season".
+//! The phase of the season: births, income and new goods of markets. See docs/RULES.md, "Season".
 ghost use Rattle.std.specs.Prelude.{◌≡◌, ◌≤◌, ◌<◌, ◌+◌, OnOk};
 ghost use Rattle.atl_tables.specs.Worlds.{IsWorld};
 ghost use Rattle.atl_tables.specs.Limits.{most_amount, most_growth};
@@ -15,12 +15,14 @@ use atl_state::{Campaign, Entry, Thing};
 use atl_tables::World;
 use std::alloc::{AllocError, Global};
 
-/// Births and income of the regions, and new goods of their markets, with one word of the dice for each region in the order
-/// of their numbers; a region without a word has none of it. See docs/RULES.md, "Season".
+/// The season: each region has births and income, and its markets get new goods. The words of the
+/// dice go to the regions in the order of their numbers; a region without a word has no season. See
+/// docs/RULES.md, "Season".
 #[derive(Drop, Clone, Copy)]
 pub struct SeasonPhase;
 
-/// How many are born among so many peasants: so many of a hundred as the word says, from 0 to the growth, up to the limit.
+/// How many peasants are born: of each hundred as many as the word says, from 0 to `growth`, at
+/// most up to the limit.
 fn births(growth: u32, limit: u32, word: u32, peasants: u32) -> u32
     requires growth { growth ≤ most_growth }
     requires peasants { peasants ≤ most_amount }
@@ -30,7 +32,7 @@ fn births(growth: u32, limit: u32, word: u32, peasants: u32) -> u32
     born.min(u64::from(limit.saturating_sub(peasants))) as u32
 }
 
-/// How much money so many peasants bring their region, up to the limit.
+/// How much money so many peasants bring their region, at most up to the limit.
 fn income(per_peasant: u32, limit: u32, peasants: u32, money: u32) -> u32
     ensures { result ≡ income per_peasant limit peasants money }
 {
@@ -38,7 +40,7 @@ fn income(per_peasant: u32, limit: u32, peasants: u32, money: u32) -> u32
     earned.min(u64::from(limit.saturating_sub(money))) as u32
 }
 
-/// A region with so many peasants and so much money grows by births and income, which are booked.
+/// Adds births and income to a region that has these peasants and this money, and books them.
 fn grow(campaign: &mut Campaign, number: u32, peasants: u32, money: u32, born: u32, earned: u32)
     requires things { 2 ≤ campaign.old.value.books.things }
     requires room { HaveRoom (grows_by most_amount) campaign.old.value }
@@ -54,7 +56,8 @@ fn grow(campaign: &mut Campaign, number: u32, peasants: u32, money: u32, born: u
     campaign.book(Entry::Income, Thing::Money, i64::from(earned));
 }
 
-/// The season of a region. AllocError without memory; the campaign may then be changed in part.
+/// Carries out the season of one region. AllocError without memory; the campaign may then be
+/// changed in part.
 #[tactic(auto, unfolding(crate::specs::Season::season_at))]
 fn turn_region(
     world: &World,
@@ -83,7 +86,7 @@ fn turn_region(
     restock_region(world, campaign, number)
 }
 
-/// The season of the regions, as far as there are words.
+/// Carries out the season of the regions in the order of their numbers, as far as there are words.
 fn turn_regions(world: &World, campaign: &mut Campaign, words: &[u32]) -> Result<(), AllocError>
     requires steady { IsSteady world.now campaign.old.value }
     requires room { HaveRoom (season_moves most_moved) campaign.old.value }

@@ -1,5 +1,5 @@
-//! The sweep of a month: removes units without men, and factions without units. See docs/RULES.md,
-//! "Sweep".
+//! The phase of the sweep: removes units without men; factions without units are gone then. See
+//! docs/RULES.md, "Sweep".
 ghost use Rattle.std.specs.Prelude.{◌≡◌, ◌≤◌, ◌<◌, ◌+◌, IfOk, OnOk, fold, length};
 ghost use Rattle.atl_tables.specs.Limits.{most_amount};
 ghost use Rattle.atl_records.specs.Books.{amount_in, thing_index};
@@ -21,19 +21,20 @@ use atl_state::{Campaign, Entry, HOLDING_LIMIT, Thing};
 use atl_tables::World;
 use std::alloc::{AllocError, Global};
 
-/// Units without men go: each leaves its money and its items to a unit of its faction in its region, and what that one has no
-/// room for is lost. Then factions without units are gone. See docs/RULES.md, "Sweep".
+/// The sweep: each unit without men leaves its money and items to a unit of its faction in its
+/// region and is removed; what that one has no room for is lost. Then factions without units are
+/// gone. See docs/RULES.md, "Sweep".
 #[derive(Drop, Clone, Copy)]
 pub struct SweepPhase;
 
-/// How much of an amount goes to a unit that has so much already.
+/// How much of an amount fits to the `have` that a unit holds already, up to 999,999,999 together.
 fn accepted_of(amount: u32, have: u32) -> u32
     ensures { result ≡ accepted_of amount have }
 {
     amount.min(HOLDING_LIMIT.saturating_sub(have))
 }
 
-/// An amount is lost.
+/// Books an amount of a thing as lost.
 fn lose(campaign: &mut Campaign, thing: Thing, amount: u32)
     requires there { thing_index thing < campaign.old.value.books.things }
     requires room { HasRoom amount (amount_in campaign.old.value.books Lost thing) }
@@ -43,7 +44,7 @@ fn lose(campaign: &mut Campaign, thing: Thing, amount: u32)
     book_taken(campaign, Entry::Lost, thing, amount);
 }
 
-/// Money goes to a unit, up to its room, and the rest is lost.
+/// Gives money to a unit, up to its room; the rest is lost, all of it where the unit isn't there.
 #[tactic(auto, unfolding(crate::specs::Sweep::after_passing_money))]
 fn pass_money(campaign: &mut Campaign, to: u32, amount: u32)
     requires things { 2 ≤ campaign.old.value.books.things }
@@ -62,7 +63,7 @@ fn pass_money(campaign: &mut Campaign, to: u32, amount: u32)
     }
 }
 
-/// So much of an item goes to a unit, up to its room, and the rest is lost.
+/// Gives an item to a unit, up to its room; the rest is lost, all of it where the unit isn't there.
 #[tactic(auto, unfolding(crate::specs::Sweep::after_passing_item))]
 fn pass_item(
     world: &World,
@@ -91,7 +92,7 @@ fn pass_item(
     Ok(())
 }
 
-/// Items go to a unit.
+/// Gives each of some items to a unit, up to its room; the rest is lost.
 fn pass_items(
     world: &World,
     campaign: &mut Campaign,
@@ -111,7 +112,7 @@ fn pass_items(
     Ok(())
 }
 
-/// A unit without men passes on what it has, and is removed.
+/// Removes a unit, if it has no men, after it passed its money and items to its receiver.
 #[tactic(auto, unfolding(crate::specs::Sweep::after_sweeping_unit))]
 fn sweep_unit(
     alloc: Global,
@@ -155,7 +156,7 @@ fn menless_units(alloc: Global, campaign: &Campaign) -> Result<Vec<u32>, AllocEr
     Ok(list)
 }
 
-/// Units without men go.
+/// Removes those of these units that have no men, after they passed on what they have.
 fn sweep_units(
     alloc: Global,
     world: &World,
@@ -177,7 +178,7 @@ fn sweep_units(
     Ok(())
 }
 
-/// A faction without units is gone.
+/// Sets a faction to gone, if it has no unit.
 fn sweep_faction(campaign: &mut Campaign, number: u32)
     ensures what { campaign.new.value ≡ after_sweeping_faction campaign.old.value number }
     ensures marks { MarksChanges campaign.old campaign.new }
@@ -187,7 +188,7 @@ fn sweep_faction(campaign: &mut Campaign, number: u32)
     }
 }
 
-/// Factions without units are gone.
+/// Sets those of these factions to gone that have no unit.
 fn sweep_factions(campaign: &mut Campaign, numbers: &[u32])
     ensures what { campaign.new.value ≡ fold after_sweeping_faction campaign.old.value numbers.now }
     ensures marks { MarksChanges campaign.old campaign.new }

@@ -15,12 +15,12 @@ use atl_state::{Campaign, Entry, Event, EventVerb, Holding, Outcome, Thing};
 use atl_tables::World;
 use std::alloc::{AllocError, Global};
 
-/// The upkeep of all units: the units of one faction in one region pay for each other, and whom they can't keep starves. See
-/// docs/RULES.md, "Upkeep".
+/// The upkeep of all units: those of one faction in one region pay for each other, and men who
+/// aren't paid for starve. See docs/RULES.md, "Upkeep".
 #[derive(Drop, Clone, Copy)]
 pub struct UpkeepPhase;
 
-/// What each unit has before its upkeep.
+/// What upkeep reads of all units, in the order of their numbers.
 fn upkeep_inputs_of(alloc: Global, campaign: &Campaign) -> Result<Vec<UpkeepInput>, AllocError>
     ensures list { IfOk result (λ list. list.items ≡ upkeep_inputs_of campaign.now.value) }
     ensures each { IfOk result (λ list. All IsUpkeepInput list.items) }
@@ -38,7 +38,7 @@ fn upkeep_inputs_of(alloc: Global, campaign: &Campaign) -> Result<Vec<UpkeepInpu
     Ok(inputs)
 }
 
-/// The days of each skill that stay with so many of a unit's men.
+/// For each skill, by its number, the days that stay with `left` of a unit's men.
 fn days_with(alloc: Global, left: u32, holding: &Holding) -> Result<Vec<(u32, u32)>, AllocError>
     requires some { 1 ≤ holding.now.men }
     requires fewer { left ≤ holding.now.men }
@@ -53,7 +53,8 @@ fn days_with(alloc: Global, left: u32, holding: &Holding) -> Result<Vec<(u32, u3
     Ok(list)
 }
 
-/// Takes from a unit what it pays, where nobody of it starves. None of its goods is marked, nor its row where it pays nothing.
+/// Takes from a unit what it pays, where none of its men starves. It sets no dirty flag of its
+/// goods, and where it pays nothing none at all.
 fn pay(campaign: &mut Campaign, settled: &UpkeepResult)
     requires can { (w : WorldValue) × CanPayUpkeep w campaign.old.value settled.now }
     requires fed { settled.now.starved ≡ 0 }
@@ -70,7 +71,8 @@ fn pay(campaign: &mut Campaign, settled: &UpkeepResult)
     }
 }
 
-/// Takes from a unit what it pays and those whom it can't keep, with their days. None of its items is marked.
+/// Takes from a unit what it pays and the men who starve, with their days. It sets no dirty flag of
+/// its items.
 fn starve(alloc: Global, campaign: &mut Campaign, settled: &UpkeepResult) -> Result<(), AllocError>
     requires can { (w : WorldValue) × CanPayUpkeep w campaign.old.value settled.now }
     requires some { 1 ≤ settled.now.starved }
@@ -88,7 +90,8 @@ fn starve(alloc: Global, campaign: &mut Campaign, settled: &UpkeepResult) -> Res
     set_people(campaign, settled.unit, left, &days)
 }
 
-/// Takes from a unit what upkeep takes from it. None of its items is marked, and none of its goods where nobody starves.
+/// Takes from a unit what upkeep takes from it, without booking it. It sets no dirty flag of its
+/// items, and where nobody starves none of its goods.
 fn take_upkeep(
     alloc: Global,
     campaign: &mut Campaign,
@@ -108,7 +111,8 @@ fn take_upkeep(
     starve(alloc, campaign, settled)
 }
 
-/// The upkeep of a unit, which is booked. None of its items is marked, and none of its goods where nobody starves.
+/// Takes from a unit what upkeep takes from it, and books it. It sets no dirty flag of its items,
+/// and where nobody starves none of its goods.
 fn upkeep_of(
     alloc: Global,
     campaign: &mut Campaign,
@@ -127,7 +131,7 @@ fn upkeep_of(
     Ok(())
 }
 
-/// The upkeep of units.
+/// Takes from each of some units what upkeep takes from it, and books it.
 fn upkeep_of_all(
     alloc: Global,
     campaign: &mut Campaign,
@@ -143,7 +147,7 @@ fn upkeep_of_all(
     Ok(())
 }
 
-/// Tells of those who starve.
+/// Adds the event Starved to the month for each unit of which men starve.
 fn report_starved(month: &mut Month, list: &[UpkeepResult]) -> Result<(), AllocError>
     ensures { OnOk result (month.new
         ≡ record month.old {

@@ -1,4 +1,5 @@
-//! How the units of a faction in a region share the upkeep. See docs/RULES.md, "Upkeep".
+//! How the units of one faction in one region share their upkeep: what each pays and how many of
+//! its men starve. See docs/RULES.md, "Upkeep".
 ghost use Rattle.std.specs.Prelude.{◌≡◌, ◌≤◌, [], ℕ, All, IfOk};
 ghost use Rattle.atl_tables.specs.Limits.{most_per_head};
 ghost use Rattle.atl_month.specs.Accounts.{IsOpen, account_after, account_at, account_of, upkeep_result_by};
@@ -8,7 +9,7 @@ use crate::accounts::{Account, Accounts, account_of, put_account};
 use atl_tables::Numbered;
 use std::alloc::{AllocError, Global};
 
-/// What upkeep sees of a unit: its number, the numbers of its region and of its faction, its men and its money.
+/// What upkeep reads of a unit: its number, its region, its faction, its men and its money.
 #[derive(Drop, Clone, Copy, Debug, PartialEq, Eq)]
 pub struct UpkeepInput {
     pub unit: u32,
@@ -18,8 +19,8 @@ pub struct UpkeepInput {
     pub money: u32,
 }
 
-/// What upkeep takes from a unit: its number and that of its faction, the money that it pays, for itself and for others, and how
-/// many of its men starve.
+/// What upkeep takes from a unit of a faction: the money that it pays, for itself and for others,
+/// and how many of its men starve.
 #[derive(Drop, Clone, Copy, Debug, PartialEq, Eq)]
 pub struct UpkeepResult {
     pub unit: u32,
@@ -28,7 +29,7 @@ pub struct UpkeepResult {
     pub starved: u32,
 }
 
-/// What a unit has left of its money behind its own upkeep, and what it is short of.
+/// The money that a unit has left after it paid for its own men, and the money that it is short of.
 fn balance(maintenance: u32, input: &UpkeepInput) -> (u64, u64)
     requires most { maintenance ≤ most_per_head }
     requires input { IsUpkeepInput input.now }
@@ -39,7 +40,7 @@ fn balance(maintenance: u32, input: &UpkeepInput) -> (u64, u64)
     (money.saturating_sub(due), due.saturating_sub(money))
 }
 
-/// The accounts of these units, with nothing given yet.
+/// The accounts of these units by region and faction, with nothing given or covered yet.
 fn open_accounts(
     alloc: Global,
     maintenance: u32,
@@ -62,7 +63,7 @@ fn open_accounts(
     Ok(accounts)
 }
 
-/// Takes a unit's upkeep out of the account of its faction in its region.
+/// What upkeep takes from a unit, by the account of its faction in its region, which it updates.
 fn payment_of(maintenance: u32, account: &mut Account, input: &UpkeepInput) -> UpkeepResult
     requires some { 1 ≤ maintenance }
     requires most { maintenance ≤ most_per_head }
@@ -88,8 +89,9 @@ fn payment_of(maintenance: u32, account: &mut Account, input: &UpkeepInput) -> U
     }
 }
 
-/// What upkeep takes from each of these units, in the order of their numbers: the units of one faction in one region pay for each
-/// other. The maintenance is money of a man a month. AllocError without memory. See docs/RULES.md, "Upkeep".
+/// What upkeep takes from each of these units, which are in the order of their numbers. The units
+/// of one faction in one region pay for each other. The maintenance is what one man costs in a
+/// month. AllocError without memory. See docs/RULES.md, "Upkeep".
 pub fn upkeep_payments(
     alloc: Global,
     maintenance: u32,
@@ -113,7 +115,8 @@ pub fn upkeep_payments(
     Ok(list)
 }
 
-/// What upkeep takes from a unit is there: it pays no more money than it has, and no more men starve than it has.
+/// Does nothing. Its clause is the law that a unit pays no more money in upkeep than it has, and no
+/// more of its men starve than it has.
 pub fn each_unit_can_spare()
     ensures { EachCanSpare }
 {}

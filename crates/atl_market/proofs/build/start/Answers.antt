@@ -3,7 +3,7 @@ use Rattle.atl_state.specs.Owners.{with_place}
 use Rattle.atl_state.specs.Campaign.{CampaignValue}
 use Rattle.atl_state.proofs.CoverLaws.{marks-trans}
 use Rattle.atl_instant.proofs.MarkLaws.{marks-place}
-use Rattle.atl_market.specs.Build.{with_new}
+use Rattle.atl_market.specs.Build.{with_new_structure}
 use Rattle.atl_market.specs.Goods.{with_used}
 use Rattle.atl_market.proofs.BuildUsedLaws.{same_next, same_structures}
 use Rattle.atl_market.proofs.build.start.Goals as goal
@@ -25,11 +25,11 @@ returns-clause-what c =
     let k = c.args.kind.now in
     let n = c.args.unit in
     let used : CampaignValue = with_used old n k.material c.args.size in
-    let new : CampaignValue = with_new used c.args.number k c.args.region c.args.size in
+    let new : CampaignValue = with_new_structure used c.args.number k c.args.region c.args.size in
     let next : ℕ = c.in_ok-next.next in
     let number : next ≡ old.next_structure = c.in_ok-next.ensures.number ∙ ap (λ (d : CampaignValue). d.next_structure) c.in_ok-use_item.ensures.what ∙ same_next old n k.material c.args.size in
     c.in_ok-place.ensures.ok
-    ∙ ap (λ (d : CampaignValue). with_place d n c.args.region next) (c.in_ok-next.ensures.what ∙ ap (λ (d : CampaignValue). with_new d c.args.number k c.args.region c.args.size) c.in_ok-use_item.ensures.what)
+    ∙ ap (λ (d : CampaignValue). with_place d n c.args.region next) (c.in_ok-next.ensures.what ∙ ap (λ (d : CampaignValue). with_new_structure d c.args.number k c.args.region c.args.size) c.in_ok-use_item.ensures.what)
     ∙ ap (with_place new n c.args.region) number
 
 pub returns-clause-marks : goal.returns-clause-marks

@@ -1,10 +1,10 @@
 use Rattle.std.proofs.Common.{◌≡◌, ◌++◌, sum, take, drop}
 use Rattle.atl_market.specs.Share.{shares_after}
-use Rattle.atl_market.proofs.ShareLaws.{IsLeft}
+use Rattle.atl_market.proofs.ShareLaws.{IsRemainder}
 use Rattle.atl_market.proofs.shares.proportional_shares.Given as goal
 
 abbrev pub invariant-loop-want : goal.invariant-loop-want
 invariant-loop-want l = record {
-  left : IsLeft l.pot l.total (sum (take l.want-index l.wants)) l.left;
+  left : IsRemainder l.pot l.total (sum (take l.want-index l.wants)) l.left;
   rest : l.given.items ++ shares_after l.pot l.total (sum (take l.want-index l.wants)) (drop l.want-index l.wants) ≡ shares_after l.pot l.total 0 l.wants;
 }

@@ -1,5 +1,5 @@
-use Rattle.atl_month.proofs.MonthLaws.{month_has_no_order}
+use Rattle.atl_month.proofs.MonthLaws.{mail_order_does_not_count}
 use Rattle.atl_month.proofs.close.months_have_no_order.Goals as goal
 
 pub returns : goal.returns
-returns c = month_has_no_order
+returns c = mail_order_does_not_count

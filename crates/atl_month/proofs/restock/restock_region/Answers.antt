@@ -9,7 +9,7 @@ use Rattle.atl_records.proofs.EveryLaws.{sorted}
 use Rattle.atl_instant.specs.Bounds.{HaveRoom}
 use Rattle.atl_instant.proofs.MeaningLaws.{room_less}
 use Rattle.atl_month.specs.Restock.{after_market_restock, after_restock, stocks_by}
-use Rattle.atl_month.proofs.RestockLaws.{IsOf, markets_are, markets_there, none_of, one_leaves_well, room_behind_market, room_for_market, stocking, stocks_little}
+use Rattle.atl_month.proofs.RestockLaws.{IsMarketOf, markets_are, markets_there, none_of, one_leaves_well, room_behind_market, room_for_market, stocking, stocks_little}
 use Rattle.atl_month.proofs.restock.restock_region.Goals as goal
 
 pub returns-in-None-clause-what : goal.returns-in-None-clause-what
@@ -27,7 +27,7 @@ loop-item-init c =
       can_next = tt;
       is_finite = tt;
       rest = ap (after_restock n before.value) (listed ∙ ap (λ m. entries m) (sym (markets_there w c.region.ensures.world n plan there)));
-      each = subst (EachOf (IsOf w n)) (sym listed) (markets_are w c.region.ensures.world n plan there);
+      each = subst (EachOf (IsMarketOf w n)) (sym listed) (markets_are w c.region.ensures.world n plan there);
       steady = c.requires.steady;
       room =
           subst (λ (es : List (ℕ × Market)). HaveRoom (stocking es) before.value) (sym listed)
@@ -49,7 +49,7 @@ loop-item-preserved c =
     let before = c.loop-item.campaign.value in
     let old = c.loop-item.invariant in
     let there : IsThere w.regions n = (c.in-Some.plan.now, sym c.in-Some.ensures.value) in
-    let each = subst (EachOf (IsOf w n)) c.in-Some-2.ensures.steps old.each in
+    let each = subst (EachOf (IsMarketOf w n)) c.in-Some-2.ensures.steps old.each in
     let room = subst (λ (es : List (ℕ × Market)). HaveRoom (stocking es) before) c.in-Some-2.ensures.steps old.room in
     let is : c.restock_market.new.campaign.value ≡ after_market_restock n before x = c.in_ok-restock_market.ensures.what in
     record {

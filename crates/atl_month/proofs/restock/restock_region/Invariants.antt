@@ -6,7 +6,7 @@ use Rattle.atl_records.specs.Every.{EachOf}
 use Rattle.atl_state.specs.Good.{IsSteady}
 use Rattle.atl_instant.specs.Bounds.{HaveRoom}
 use Rattle.atl_month.specs.Restock.{after_market_restock, after_restock, markets_of}
-use Rattle.atl_month.proofs.RestockLaws.{IsOf, stocking}
+use Rattle.atl_month.proofs.RestockLaws.{IsMarketOf, stocking}
 use Rattle.atl_month.proofs.restock.restock_region.Given as goal
 
 abbrev pub invariant-loop-item : goal.invariant-loop-item
@@ -14,7 +14,7 @@ invariant-loop-item l = record {
   can_next : (goal.iterator-loop-item).can_next l.item-iterator;
   is_finite : (goal.iterator-loop-item).is_finite l.item-iterator;
   rest : fold (after_market_restock l.region) l.campaign.value l.item-iterator ≡ after_restock l.region l.initial.campaign.value (entries (markets_of l.world l.region));
-  each : EachOf (IsOf l.world l.region) l.item-iterator;
+  each : EachOf (IsMarketOf l.world l.region) l.item-iterator;
   steady : IsSteady l.world l.campaign.value;
   room : HaveRoom (stocking l.item-iterator) l.campaign.value;
   marks : MarksChanges l.initial.campaign l.campaign;

@@ -1,20 +1,20 @@
 use Rattle.std.proofs.Common.{rules, ◌≡◌}
 use Rattle.atl_month.specs.Upkeep.{upkeep, upkeep_inputs_of, upkeep_results}
-use Rattle.atl_month.proofs.AloneLaws.{upkeep_is_of_peers}
-use Rattle.atl_month.proofs.UpkeepLaws.{all_settle, purses_in_order, upkeep_leaves_well}
+use Rattle.atl_month.proofs.UpkeepPeersLaws.{upkeep_is_of_peers}
+use Rattle.atl_month.proofs.UpkeepLaws.{all_can_pay, inputs_in_order, upkeep_leaves_well}
 use Rattle.atl_month.proofs.upkeep.UpkeepPhasePhase.run.Goals as goal
 
 pub upkeep_payments-requires-clause-order : goal.upkeep_payments-requires-clause-order
 upkeep_payments-requires-clause-order c =
     let list : c.deref.result.now ≡ upkeep_inputs_of c.args.campaign.value = search rules in
-    rw list (purses_in_order c.args.campaign.value)
+    rw list (inputs_in_order c.args.campaign.value)
 
 pub upkeep_of_all-requires : goal.upkeep_of_all-requires
 upkeep_of_all-requires c =
     let w = c.args.world.now in
     let before = c.args.campaign.value in
     let list : c.deref-2.result.now ≡ upkeep_results w before = search rules in
-    (w, rw list (all_settle w before c.rules.ensures.world.rules.maintenance_least c.requires.needs c.requires.room))
+    (w, rw list (all_can_pay w before c.rules.ensures.world.rules.maintenance_least c.requires.needs c.requires.room))
 
 pub returns-clause-leaves : goal.returns-clause-leaves
 returns-clause-leaves c =

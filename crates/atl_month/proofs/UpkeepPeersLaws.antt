@@ -1,4 +1,4 @@
--- Upkeep takes from a unit what follows from the units of its faction in its region alone.
+-- The law that what upkeep takes from a unit follows from the units of its faction in its region alone.
 use Rattle.std.proofs.Common.{◌≡◌, ℕ, ◌<◌, Some, List, [], ◌∷◌, refl, ap, ◌∙◌, arith}
 use Rattle.std.specs.Prelude.{fold}
 use Rattle.std.specs.List.{AllByRecursion}
@@ -17,15 +17,18 @@ use Rattle.atl_month.proofs.UpkeepLaws.{each_still, other_unit, settled_each, se
 
 -- ---- one unit
 
+-- a unit with what its upkeep leaves it
 abbrev kept : Unit → UpkeepResult → Unit
 kept u s = record u { holding = after_upkeep s u.holding }
 
+-- upkeep leaves a unit what its result says
 own_unit : (c : CampaignValue) (s : UpkeepResult) (u : Unit) → get c.units s.unit ≡ Some u → get (upkeep_at c s).units s.unit ≡ Some (kept u s)
 own_unit c s u is = ap (λ (d : CampaignValue). get d.units s.unit) (upkeep_at_is c s u is) ∙ get-insert_same c.units s.unit (kept u s)
 
 -- ---- some units, in the order of their numbers
 
 module _ (m : ℕ) (all : List UpkeepInput) where
+  -- units whose numbers are below those still to come stay as they are
   others_stay : (es : List (ℕ × Unit)) (c : CampaignValue) (n : ℕ) → AllByRecursion (λ e. n < e.0) es
       → get (fold upkeep_at c (settled_each m all es)).units n ≡ get c.units n
   others_stay [] c n h = refl
@@ -33,6 +36,7 @@ module _ (m : ℕ) (all : List UpkeepInput) where
       let s = settled_one m all (upkeep_input_of e) in
       others_stay es (upkeep_at c s) n h.1 ∙ other_unit c s n (λ same. omega (arith, h.0, same))
 
+  -- unit `n`, which was `u`, is in this campaign with what its upkeep among all units leaves it
   abbrev IsSettled : CampaignValue → ℕ → Unit → Type 0
   IsSettled after n u = get after.units n ≡ Some (kept u (settled_one m all (upkeep_input_of (n, u))))
 
@@ -46,7 +50,7 @@ module _ (m : ℕ) (all : List UpkeepInput) where
         each_settled es next rise.1 (each_still c s es rise.0 there.1),
       )
 
--- each unit is as its peers make it
+-- after upkeep each unit is with what its upkeep among all units leaves it
 pub upkeep_is_of_peers : (w : WorldValue) (c : CampaignValue)
     → Every (IsSettled w.rules.maintenance (upkeep_inputs_of c) (upkeep c (upkeep_results w c))) c.units
 upkeep_is_of_peers w c =

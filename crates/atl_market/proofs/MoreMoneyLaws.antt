@@ -1,4 +1,4 @@
--- A unit with more money.
+-- Laws of a campaign in which one unit has more money: other units stay as they are, and nobody is worse off.
 use Rattle.std.proofs.Common.{◌≡◌, ◌≢◌, ℕ, ◌+◌, Some, refl, sym, ap, subst, ◌∙◌, inl, inr, arith}
 use Rattle.std.specs.FinMap.{get, insert}
 use Rattle.std.proofs.lemmas.Bool.{cases_eq}
@@ -11,20 +11,24 @@ use Rattle.atl_instant.specs.NoWorse.{AreNoWorse, IsNoWorse}
 use Rattle.atl_instant.proofs.NoWorseLaws.{no_worse}
 
 module _ (c : CampaignValue) (n : ℕ) (u : Unit) (money : ℕ) where
+  -- what unit `u` holds with so much more money
   abbrev pub paid : HoldingValue
   paid = record u.holding { money = u.holding.money + money }
 
+  -- unit `u` with so much more money
   abbrev pub paid_unit : Unit
   paid_unit = record u { holding = paid }
 
+  -- the campaign in which unit `n` has so much more money
   abbrev pub richer : CampaignValue
   richer = record c { units = insert c.units n paid_unit }
 
   module _ (is : get c.units n ≡ Some u) where
+    -- setting the money of a unit that is there gives this campaign
     pub richer_is : with_money c n (u.holding.money + money) ≡ richer
     richer_is = ap (λ m. record c { units = m }) (changed-known (λ (v : Unit). record v { holding = record v.holding { money = u.holding.money + money } }) c.units n u is)
 
-    -- nothing else changes
+    -- the other units stay as they are
     pub others_stay : (k : ℕ) → k ≢ n → get richer.units k ≡ get c.units k
     others_stay k apart = get-insert_other c.units n k paid_unit apart
 
