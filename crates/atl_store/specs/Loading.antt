@@ -309,7 +309,7 @@ module _ {S : Type 0} (g : Ghosts S) (old : Held S) where
     pub good : IsGood w c.value
     pub unmarked : c.marks ≡ no_marks
 
-  -- Whatever is answered, nothing is changed (`Spares`, if the disk is clean), a crash leaves only what it could before, and a transaction goes on.
+  -- Whatever is answered, nothing is changed (`Spares`, if the disk is clean), a crash leaves only what it could before, and it is in a transaction if it was in one.
   pub record LeavesAlone (new : Held S) : Type 0 where
     pub spares : HasCleanDisk (state g new) → Spares (state g old) (state g new)
     pub survives : Survives (state g old) (state g new) (λ _. ⊥)

@@ -62,7 +62,7 @@ module _ {S : Type 0} (g : Ghosts S) (sql : List ℕ) (old : Held S) where
     pub survives : Survives (state g old) (state g new) (λ _. ⊥)
     pub idle : new.in_transaction ≡ false
 
-  -- The rows of a query are read one by one: Ok has all of them, or None if one couldn't be read or kept; Err has the fault of its refusal.
+  -- The rows of a query are read one by one: Ok has all of them, or None, of which nothing is said here; Err has the fault of the refusal.
   pub record Streams {A Z : Type 0} (forms : List Form) (shown : A → Row) (result : Result (Option (Vec A Z)) ReadFault) (new : Held S) : Type 0 where
     pub rows : HasCleanDisk (state g new) → IfOk result (λ read. IfSome read (λ all. (rows : List Row) × Selects rows × (map shown all.items ≡ map (first_columns (length forms)) rows) × AreTyped forms rows))
     pub refused : HasCleanDisk (state g new) → IfErr result RefusesToSelect
