@@ -18,7 +18,7 @@ use Rattle.atl_store.specs.Sets.{Is, IsKeyed, rows_in, put, visible}
 use Rattle.atl_store.specs.Shown.{campaign_row, campaign_row_in}
 use Rattle.atl_store.specs.Tables.{Part, Own, Markets, campaign_table, market_table, all_tables, all_indexes, creation_of, first_tables, parts_in, table_of}
 use Rattle.atl_store.specs.UpgradeSteps.{AddsMarkets, IsOld, UpgradesCampaignRow, WritesUpgrade}
-use Rattle.atl_store.specs.Writes.{Runs}
+use Rattle.atl_store.specs.Writes.{RunsStatement}
 use Rattle.atl_store.proofs.CreateTexts.{is_made, makes_table}
 use Rattle.atl_store.proofs.ListLaws.{has_map}
 use Rattle.atl_store.proofs.Made.{Creates}
@@ -60,7 +60,7 @@ module _ (old new : Database) (is : IsOld old) (made : Creates old_schema new_sc
         absurd (free (has_map (λ (u : Table). u.tree) all_tables t (has_left old_schema.tables (market_table ∷ []) t was)));
   }
 
-pub adds_markets : (old new : State) → Runs (creation_of Markets) [] old new → Inside IsOld AddsMarkets old new
+pub adds_markets : (old new : State) → RunsStatement (creation_of Markets) [] old new → Inside IsOld AddsMarkets old new
 adds_markets old new ran = (
   ran.2.1.mode ∙ sym ran.0,
   λ is.

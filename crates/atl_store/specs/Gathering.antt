@@ -24,7 +24,7 @@ use Rattle.atl_state.specs.declared.checking.Rule.TheVariants.{OneRow}
 use Rattle.atl_state.specs.declared.parts.Parts.{Parts}
 use Rattle.atl_state.specs.declared.parts.StoredCampaignRow.{StoredCampaignRow}
 use Rattle.atl_store.specs.Faults.{is_memory}
-use Rattle.atl_store.specs.Loading.{HaveRows, AreOwnRow, IsOther, HasOtherType, KeepsOneRow, other_parts, other_selects, has_places, placed_tables, rows_read, Leaves, AreToldTyped, RefusesOne}
+use Rattle.atl_store.specs.Loading.{HaveRows, AreOwnRow, IsOther, HasOtherType, KeepsOneRow, other_parts, other_selects, has_places, placed_tables, rows_read, AfterReads, AreToldTyped, RefusesOne}
 use Rattle.atl_store.specs.Reading.{Selects, listing_of}
 use Rattle.atl_store.specs.Statements.{selection}
 use Rattle.atl_store.specs.Sets.{IsKeyed, rows_in}
@@ -158,7 +158,7 @@ module _ {S : Type 0} (g : Ghosts S) (old : Held S) where
     pub select : List ℕ × List Form
     pub one : Has selects select
     pub before : Held S
-    pub leaves : Leaves g old before
+    pub leaves : AfterReads g old before
     pub rows : List Row
     pub answered : Selects g select.0 before rows
 
@@ -175,7 +175,7 @@ module _ {S : Type 0} (g : Ghosts S) (old : Held S) where
     pub was_open : HasCleanDisk (state g new) → IfOk result (λ _. IsTrue (state g old).is_open)
     pub found : HasCleanDisk (state g new) → IfOk result (Found selects P)
     pub fails : HasCleanDisk (state g new) → IfErr result (FailsToRead selects)
-    pub leaves : Leaves g old new
+    pub leaves : AfterReads g old new
 
   -- ---- the schema
 

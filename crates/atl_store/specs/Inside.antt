@@ -8,12 +8,12 @@ use Rattle.sqlite.specs.Effect.{Database}
 use Rattle.sqlite.specs.State.{State}
 use Rattle.sqlite_trees.specs.Tree.{Trees}
 use Rattle.atl_store.specs.Sets.{Set, Is, rows_in, put, puts, drop_key}
-use Rattle.atl_store.specs.Tables.{Part, table_of, no_tables, all_tables, all_trees, HasAll, IsSoundly}
+use Rattle.atl_store.specs.Tables.{Part, table_of, no_tables, all_tables, all_trees, HasAll, IsSoundDatabase}
 
--- the schema begins with the tables of a campaign, and the trees list and obey it (`IsSoundly`)
+-- the schema begins with the tables of a campaign, and the trees list and obey it (`IsSoundDatabase`)
 pub record HasTables (db : Database) : Type 0 where
   pub begins : HasAll db.schema
-  pub sound : IsSoundly db.schema db.trees
+  pub sound : IsSoundDatabase db.schema db.trees
 
 -- the database has no table, no index and no view
 abbrev pub IsBlank : Database → Type 0

@@ -10,7 +10,7 @@ use Rattle.atl_tables.specs.Worlds.{WorldValue}
 use Rattle.atl_state.specs.Campaign.{CampaignValue, with_report}
 use Rattle.atl_state.specs.Joining.{joined}
 use Rattle.atl_state.specs.Good.{IsGood}
-use Rattle.atl_store.specs.Tables.{HasAll, IsSoundly}
+use Rattle.atl_store.specs.Tables.{HasAll, IsSoundDatabase}
 use Rattle.atl_store.specs.Inside.{HasTables, Carries, IsBlank}
 use Rattle.atl_store.specs.Making.{has_campaign}
 use Rattle.atl_store.specs.Rows.{Holds}
@@ -24,7 +24,7 @@ use Rattle.atl_store.specs.declared.fault.CreateFault.TheVariants.{NotEmpty, Sto
 pub record Stores (db : Trees) (text : List ℕ) (c : CampaignValue) : Type 0 where
   pub schema : Schema
   pub begins : HasAll schema
-  pub sound : IsSoundly schema db
+  pub sound : IsSoundDatabase schema db
   pub rows : Holds db text c
 
 -- The connection is open and in no transaction, its tables hold exactly the rows of the text and the campaign, and a crash leaves just these.
@@ -42,9 +42,9 @@ HoldsCampaign g conn text c = HasCleanDisk (state g conn) → Keeps (state g con
 
 -- After a fault: the connection, while it is open, keeps the campaign `before`, and is shut only if the disk failed again.
 -- A crash leaves the campaign `before` or `after`, never a part. `faults` counts the failures of the disk before the call.
-pub record Stops (faults : ℕ) (s : State) (text : List ℕ) (before after : CampaignValue) : Type 0 where
+pub record LeavesAfterFault (faults : ℕ) (s : State) (text : List ℕ) (before after : CampaignValue) : Type 0 where
   pub still : IsTrue s.is_open → Keeps s text before
-  pub closes : IsTrue s.is_open ⊎ MoreFaults faults s.faults
+  pub shuts : IsTrue s.is_open ⊎ MoreFaults faults s.faults
   pub crash : (db : Trees) → s.may_leave db → Stores db text before ⊎ Stores db text after
 
 -- The same connection later: if the disk is clean now it was before, no failure of it is forgotten, and a connection whose reads are tested stays so.
@@ -54,15 +54,15 @@ pub record IsLater (old new : State) : Type 0 where
   pub shield : old.IsShielded → new.IsShielded
 
 -- If the connection is open, and before had the tables of a campaign and nothing uncommitted, no table or index is gone and other tables are as they were.
-abbrev pub SparesOthers : State → State → Type 0
-SparesOthers old new = IsTrue new.is_open → HasTables old.now → old.committed ≡ old.now → Carries old.now new.now
+abbrev pub LeavesOthersAlone : State → State → Type 0
+LeavesOthersAlone old new = IsTrue new.is_open → HasTables old.now → old.committed ≡ old.now → Carries old.now new.now
 
 -- ---- creating
 
 -- Nothing is changed: while the connection is open its tables, its last commit and its transaction are as they were. Only a new failure of the disk shuts it.
-pub record Spares (old new : State) : Type 0 where
+pub record ChangesNothing (old new : State) : Type 0 where
   pub same : IsTrue new.is_open → (new.now ≡ old.now) × (new.committed ≡ old.committed) × (new.in_transaction ≡ old.in_transaction)
-  pub closes : IsTrue old.is_open → IsTrue new.is_open ⊎ MoreFaults old.faults new.faults
+  pub shuts : IsTrue old.is_open → IsTrue new.is_open ⊎ MoreFaults old.faults new.faults
 
 -- a crash leaves what it could have left before, or a file that stores this campaign
 abbrev pub MayFound : State → List ℕ → CampaignValue → State → Type 0
@@ -77,23 +77,23 @@ pub record Creates {S : Type 0} (g : Ghosts S) (text : List ℕ) (c : CampaignVa
 -- There was no table `campaign`; if the disk is clean, nothing is changed, and a crash leaves what it could before, or the campaign.
 pub record FailsToCreate {S : Type 0} (g : Ghosts S) (text : List ℕ) (c : CampaignValue) (old new : Held S) : Type 0 where
   pub fresh : has_campaign old.schema ≡ false
-  pub tables : HasCleanDisk (state g new) → Spares (state g old) (state g new)
+  pub tables : HasCleanDisk (state g new) → ChangesNothing (state g old) (state g new)
   pub crash : HasCleanDisk (state g new) → MayFound (state g old) text c (state g new)
 
 -- the database has no table, index or view, and the connection is in no transaction
-abbrev pub IsReady : State → Type 0
-IsReady s = IsBlank s.now × (s.in_transaction ≡ false)
+abbrev pub IsReadyToCreate : State → Type 0
+IsReadyToCreate s = IsBlank s.now × (s.in_transaction ≡ false)
 
 -- The database was ready for `create`, and, if the disk is clean, the fault is that of an error that a statement of `create`, or its commit, gave.
-pub record BreaksOff {S : Type 0} (g : Ghosts S) (text : List ℕ) (c : CampaignValue) (old new : Held S) (fault : CreateFault) : Type 0 where
-  pub ready : IsReady (state g old)
+pub record BreaksOffCreation {S : Type 0} (g : Ghosts S) (text : List ℕ) (c : CampaignValue) (old new : Held S) (fault : CreateFault) : Type 0 where
+  pub ready : IsReadyToCreate (state g old)
   pub told : HasCleanDisk (state g new) → IsTold g (OfFounding text c) create_fault old new fault
 
 -- When `create` may return each fault. If there is a table `campaign` (NotEmpty), or the database isn't ready (Store), nothing at all is changed.
 abbrev pub RefusesToCreate : {S : Type 0} → Ghosts S → List ℕ → CampaignValue → Held S → Held S → CreateFault → Type 0
 RefusesToCreate g text c old new NotEmpty = IsTrue (has_campaign old.schema) × (new ≡ old)
-RefusesToCreate g text c old new Store = FailsToCreate g text c old new × (((¬ IsReady (state g old)) × (new ≡ old)) ⊎ BreaksOff g text c old new Store)
-RefusesToCreate g text c old new Memory = FailsToCreate g text c old new × BreaksOff g text c old new Memory
+RefusesToCreate g text c old new Store = FailsToCreate g text c old new × (((¬ IsReadyToCreate (state g old)) × (new ≡ old)) ⊎ BreaksOffCreation g text c old new Store)
+RefusesToCreate g text c old new Memory = FailsToCreate g text c old new × BreaksOffCreation g text c old new Memory
 
 -- ---- writing
 

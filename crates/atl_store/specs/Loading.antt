@@ -28,7 +28,7 @@ use Rattle.atl_state.specs.declared.parts.StoredHas.{StoredHas}
 use Rattle.atl_state.specs.declared.parts.StoredCampaignRow.{StoredCampaignRow}
 use Rattle.atl_state.specs.declared.parts.StoredMarket.{StoredMarket}
 use Rattle.atl_store.specs.Faults.{is_memory}
-use Rattle.atl_store.specs.Keeps.{HoldsCampaign, Spares}
+use Rattle.atl_store.specs.Keeps.{ChangesNothing, HoldsCampaign}
 use Rattle.atl_store.specs.Reading.{Selects, RefusesToSelect, listing_of}
 use Rattle.atl_store.specs.Rows.{HoldsIn}
 use Rattle.atl_store.specs.Shown.{int, campaign_row_stored, faction_stored, region_stored, unit_stored, structure_stored, mail_stored, report_stored, campaign_forms, faction_forms, region_forms, unit_forms, has_forms, structure_forms, mail_forms, report_forms, books_forms, market_forms}
@@ -135,7 +135,7 @@ pub record Stays (old new : State) : Type 0 where
   pub same : IsTrue new.is_open → (new.now ≡ old.now) × (new.committed ≡ old.committed)
 
 -- The connection after reads: its tables are as they were (`Stays`, if the disk is clean), a crash leaves only what it could before, and it is in no transaction.
-pub record Leaves {S : Type 0} (g : Ghosts S) (old new : Held S) : Type 0 where
+pub record AfterReads {S : Type 0} (g : Ghosts S) (old new : Held S) : Type 0 where
   pub stays : HasCleanDisk (state g new) → Stays (state g old) (state g new)
   pub survives : Survives (state g old) (state g new) (λ _. ⊥)
   pub idle : new.in_transaction ≡ false
@@ -171,7 +171,7 @@ module _ {S : Type 0} (g : Ghosts S) (old : Held S) where
       pub select : List ℕ × List Form
       pub one : Has selects select
       pub before : Held S
-      pub leaves : Leaves g old before
+      pub leaves : AfterReads g old before
       pub refused : RefusesToSelect g select.0 before fault
 
   -- ---- the disk and the memory
@@ -179,21 +179,21 @@ module _ {S : Type 0} (g : Ghosts S) (old : Held S) where
   -- the disk failed while the tables were read
   pub record FailedMeanwhile : Type 0 where
     pub after : Held S
-    pub leaves : Leaves g old after
+    pub leaves : AfterReads g old after
     pub failed : MoreFaults (state g old).faults (state g after).faults
 
   -- the SELECT of the campaign row, asked again after other reads, is refused; `memory` says whether for lack of memory
   pub record RefusesAgain (memory : Bool) : Type 0 where
     pub before : Held S
-    pub leaves : Leaves g old before
+    pub leaves : AfterReads g old before
     pub during : Held S
     pub error : Error
     pub refused : FailsToQuery (selection campaign_table 1) [] (state g before) (state g during) error
     pub memory_is : is_memory error ≡ memory
 
   -- When Memory may be returned: in no transaction, if the SELECT of the campaign row is refused for lack of memory or is answered, as any later step may lack it.
-  abbrev pub WantsMemory : Type 0
-  WantsMemory = (old.in_transaction ≡ false) × (RefusesToSelect g (selection campaign_table 1) old read.Memory ⊎ ((rows : List Row) × Selects g (selection campaign_table 1) old rows))
+  abbrev pub MayReturnMemory : Type 0
+  MayReturnMemory = (old.in_transaction ≡ false) × (RefusesToSelect g (selection campaign_table 1) old read.Memory ⊎ ((rows : List Row) × Selects g (selection campaign_table 1) old rows))
 
 -- ---- by format
 
@@ -231,19 +231,19 @@ module _ (f : Format) {S : Type 0} (g : Ghosts S) (old : Held S) where
 
   -- When Damaged may be returned with each rule: it is the first rule that the rows break.
   -- Ranges also comes if the first rule is kept and a value of another table is of another type than its column.
-  abbrev pub IsDamaged : Rule → Type 0
-  IsDamaged rules.OneRow = BreaksOneRow
-  IsDamaged rules.Ranges = (KeepsOneRow × HasOtherType g old (other_selects f)) ⊎ BreaksRule rules.Ranges
-  IsDamaged rules.Names = BreaksRule rules.Names
-  IsDamaged rules.Known = BreaksRule rules.Known
-  IsDamaged rules.Next = BreaksRule rules.Next
-  IsDamaged rules.Days = BreaksRule rules.Days
-  IsDamaged rules.Gone = BreaksRule rules.Gone
-  IsDamaged rules.Owners = BreaksRule rules.Owners
-  IsDamaged rules.Water = BreaksRule rules.Water
-  IsDamaged rules.Guards = BreaksRule rules.Guards
-  IsDamaged rules.Books = BreaksRule rules.Books
-  IsDamaged rules.Mail = BreaksRule rules.Mail
+  abbrev pub MayReturnDamaged : Rule → Type 0
+  MayReturnDamaged rules.OneRow = BreaksOneRow
+  MayReturnDamaged rules.Ranges = (KeepsOneRow × HasOtherType g old (other_selects f)) ⊎ BreaksRule rules.Ranges
+  MayReturnDamaged rules.Names = BreaksRule rules.Names
+  MayReturnDamaged rules.Known = BreaksRule rules.Known
+  MayReturnDamaged rules.Next = BreaksRule rules.Next
+  MayReturnDamaged rules.Days = BreaksRule rules.Days
+  MayReturnDamaged rules.Gone = BreaksRule rules.Gone
+  MayReturnDamaged rules.Owners = BreaksRule rules.Owners
+  MayReturnDamaged rules.Water = BreaksRule rules.Water
+  MayReturnDamaged rules.Guards = BreaksRule rules.Guards
+  MayReturnDamaged rules.Books = BreaksRule rules.Books
+  MayReturnDamaged rules.Mail = BreaksRule rules.Mail
 
   -- ---- Store and Memory
 
@@ -257,8 +257,8 @@ module _ (f : Format) {S : Type 0} (g : Ghosts S) (old : Held S) where
 
   -- When Store may be returned: in a transaction, or if the SELECT of the campaign row is refused because the database could not go on (`is_failure`);
   -- or, if that row keeps the first rule, if another table can't be read or the tables can't be confirmed.
-  abbrev pub FailsToLoad : Type 0
-  FailsToLoad = (old.in_transaction ≡ true) ⊎ (RefusesToSelect g (selection campaign_table 1) old read.Store ⊎ (KeepsOneRow × (CannotRead ⊎ CannotConfirm)))
+  abbrev pub MayReturnStore : Type 0
+  MayReturnStore = (old.in_transaction ≡ true) ⊎ (RefusesToSelect g (selection campaign_table 1) old read.Store ⊎ (KeepsOneRow × (CannotRead ⊎ CannotConfirm)))
 
   -- the SELECT of `campaign` shows one row, whose format is the other one
   abbrev pub HasOtherFormat : Type 0
@@ -266,11 +266,11 @@ module _ (f : Format) {S : Type 0} (g : Ghosts S) (old : Held S) where
 
   -- when loading in the format `f` may return each fault
   abbrev pub RefusesToLoadIn : LoadFault → Type 0
-  RefusesToLoadIn Store = FailsToLoad
-  RefusesToLoadIn (Damaged rule) = IsDamaged rule
+  RefusesToLoadIn Store = MayReturnStore
+  RefusesToLoadIn (Damaged rule) = MayReturnDamaged rule
   RefusesToLoadIn NotACampaign = RefusesToSelect g (selection campaign_table 1) old read.Refused
   RefusesToLoadIn OtherFormat = HasOtherFormat
-  RefusesToLoadIn Memory = WantsMemory g old
+  RefusesToLoadIn Memory = MayReturnMemory g old
 
 -- The connection is open and in no transaction, and its tables, which are those of the last commit, are those of the format, with rowids that differ.
 -- They hold exactly the rows of the text and the campaign.
@@ -309,8 +309,8 @@ module _ {S : Type 0} (g : Ghosts S) (old : Held S) where
     pub good : IsGood w c.value
     pub unmarked : c.marks ≡ no_marks
 
-  -- Whatever is answered, nothing is changed (`Spares`, if the disk is clean), a crash leaves only what it could before, and it is in a transaction if it was in one.
+  -- Whatever is answered, nothing is changed (`ChangesNothing`, if the disk is clean), a crash leaves only what it could before, and it is in a transaction if it was in one.
   pub record LeavesAlone (new : Held S) : Type 0 where
-    pub spares : HasCleanDisk (state g new) → Spares (state g old) (state g new)
+    pub spares : HasCleanDisk (state g new) → ChangesNothing (state g old) (state g new)
     pub survives : Survives (state g old) (state g new) (λ _. ⊥)
     pub mode : new.in_transaction ≡ old.in_transaction

@@ -18,7 +18,7 @@ use Rattle.atl_state.specs.declared.parts.StoredBooks.{StoredBooks}
 use Rattle.atl_state.specs.declared.parts.StoredMarket.{StoredMarket}
 use Rattle.atl_store.specs.declared.rows.campaign.StoredCampaign.{StoredCampaign}
 use Rattle.atl_store.specs.declared.rows.stored.RowWithId.{RowWithId}
-use Rattle.atl_store.specs.Stored.{Form, Number, Words, Letters, Bytes}
+use Rattle.atl_store.specs.Stored.{Form, Number, Utf8Text, TextBytes, Bytes}
 
 -- an integer, from a natural number
 abbrev pub int : ℕ → Value
@@ -100,7 +100,7 @@ campaign_row_stored s = Int s.id ∷ Int s.format ∷ Int s.month ∷ Int s.next
 
 -- the forms of its columns
 abbrev pub campaign_row_forms : List Form
-campaign_row_forms = Number ∷ Number ∷ Number ∷ Number ∷ Number ∷ Number ∷ Letters ∷ []
+campaign_row_forms = Number ∷ Number ∷ Number ∷ Number ∷ Number ∷ Number ∷ TextBytes ∷ []
 
 -- the campaign row that was read, with its world text
 abbrev pub campaign_stored : StoredCampaign → Row
@@ -108,13 +108,13 @@ campaign_stored s = campaign_row_stored s.head ++ Text (string_bytes s.world) �
 
 -- the forms of its columns
 abbrev pub campaign_forms : List Form
-campaign_forms = campaign_row_forms ++ Words ∷ []
+campaign_forms = campaign_row_forms ++ Utf8Text ∷ []
 
 abbrev pub faction_stored : StoredFaction → Row
 faction_stored s = Int s.number ∷ Text s.joined_as ∷ Text s.name ∷ Text s.pass ∷ Int s.gone ∷ []
 
 abbrev pub faction_forms : List Form
-faction_forms = Number ∷ Letters ∷ Letters ∷ Letters ∷ Number ∷ []
+faction_forms = Number ∷ TextBytes ∷ TextBytes ∷ TextBytes ∷ Number ∷ []
 
 abbrev pub region_stored : StoredRegion → Row
 region_stored s = Int s.number ∷ Int s.peasants ∷ Int s.money ∷ []
@@ -126,13 +126,13 @@ abbrev pub unit_stored : StoredUnit → Row
 unit_stored s = Int s.number ∷ Int s.faction ∷ Text s.name ∷ Int s.region ∷ Int s.structure ∷ Int s.men ∷ Int s.money ∷ Int s.guard ∷ []
 
 abbrev pub unit_forms : List Form
-unit_forms = Number ∷ Number ∷ Letters ∷ Number ∷ Number ∷ Number ∷ Number ∷ Number ∷ []
+unit_forms = Number ∷ Number ∷ TextBytes ∷ Number ∷ Number ∷ Number ∷ Number ∷ Number ∷ []
 
 abbrev pub structure_stored : StoredStructure → Row
 structure_stored s = Int s.number ∷ Int s.kind ∷ Text s.name ∷ Int s.region ∷ Int s.done ∷ Int s.owner ∷ []
 
 abbrev pub structure_forms : List Form
-structure_forms = Number ∷ Number ∷ Letters ∷ Number ∷ Number ∷ Number ∷ []
+structure_forms = Number ∷ Number ∷ TextBytes ∷ Number ∷ Number ∷ Number ∷ []
 
 abbrev pub mail_stored : StoredMail → Row
 mail_stored s = Int s.faction ∷ Blob s.text ∷ []
@@ -144,7 +144,7 @@ abbrev pub report_stored : StoredReport → Row
 report_stored s = Int s.faction ∷ Text s.text ∷ []
 
 abbrev pub report_forms : List Form
-report_forms = Number ∷ Words ∷ []
+report_forms = Number ∷ Utf8Text ∷ []
 
 -- a row of `has` that was read, with its rowid as a last column
 abbrev pub has_stored : RowWithId StoredHas → Row

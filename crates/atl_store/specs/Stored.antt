@@ -13,15 +13,15 @@ first_columns count row = map (column row) (range_with_len 0 count)
 -- what a column is read as: an integer, a text that has to be UTF-8, the bytes of any text, or the bytes of a blob
 pub data Form : Type 0 where
   Number : Form
-  Words : Form
-  Letters : Form
+  Utf8Text : Form
+  TextBytes : Form
   Bytes : Form
 
 -- the value is of this form
 abbrev pub IsOf : Form → Value → Type 0
 IsOf Number v = (n : ℤ) × (v ≡ Int n)
-IsOf Words v = (t : List ℕ) × (v ≡ Text t) × IsUtf8 t
-IsOf Letters v = (t : List ℕ) × (v ≡ Text t)
+IsOf Utf8Text v = (t : List ℕ) × (v ≡ Text t) × IsUtf8 t
+IsOf TextBytes v = (t : List ℕ) × (v ≡ Text t)
 IsOf Bytes v = (b : List ℕ) × (v ≡ Blob b)
 
 -- each value of the row from the column `at` on is of its column's form

@@ -213,18 +213,18 @@ parts_in First = take 9 all_parts
 parts_in Second = all_parts
 
 -- how many tables a format has
-abbrev pub tables_in : Format → ℕ
-tables_in First = 9
-tables_in Second = table_count
+abbrev pub table_count_in : Format → ℕ
+table_count_in First = 9
+table_count_in Second = table_count
 
 -- how many indexes the keys of a format's tables have
-abbrev pub indexes_in : Format → ℕ
-indexes_in First = 3
-indexes_in Second = index_count
+abbrev pub index_count_in : Format → ℕ
+index_count_in First = 3
+index_count_in Second = index_count
 
 -- the schema begins with the tables of a format, and allows others after them (`Begins`)
 abbrev pub HasTablesOf : Format → Schema → Type 0
-HasTablesOf f = Begins (tables_in f) (indexes_in f)
+HasTablesOf f = Begins (table_count_in f) (index_count_in f)
 
 -- For proofs alone: the schema of all ten tables with their indexes, then these other tables and indexes.
 abbrev pub all_and : List Table → List Index → Schema
@@ -239,6 +239,6 @@ abbrev pub all_trees : List ℕ
 all_trees = map (λ t. t.tree) all_tables
 
 -- The trees list the schema and obey it (`IsSound`), and in each of the ten tables the rowids are integers, no two alike.
-pub record IsSoundly (schema : Schema) (db : Trees) : Type 0 where
+pub record IsSoundDatabase (schema : Schema) (db : Trees) : Type 0 where
   pub keyed : (table : Table) → Has all_tables table → IsKeyed (db table.tree)
   pub listed : IsSound schema db

@@ -12,11 +12,11 @@ use Rattle.atl_store.specs.Inside.{Puts}
 use Rattle.atl_store.specs.Rows.{Holds, HoldsIn}
 use Rattle.atl_store.specs.Sets.{Is, IsKeyed, rows_in}
 use Rattle.atl_store.specs.Shown.{CampaignRowValue, campaign_row, campaign_row_in}
-use Rattle.atl_store.specs.Tables.{campaign_table, market_table, first_tables, indexes_in, parts_in, table_of, tables_in}
+use Rattle.atl_store.specs.Tables.{campaign_table, market_table, first_tables, index_count_in, parts_in, table_of, table_count_in}
 
 -- the schema is exactly the nine tables of the first format and their three indexes
 abbrev pub IsJustOld : Schema → Type 0
-IsJustOld schema = schema ≡ first_tables (tables_in First) (indexes_in First)
+IsJustOld schema = schema ≡ first_tables (table_count_in First) (index_count_in First)
 
 -- The database has exactly the tables of the first format; the trees list and obey the schema, and the rowids of each table are integers, no two alike.
 pub record IsOld (db : Database) : Type 0 where

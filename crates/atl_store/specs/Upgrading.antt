@@ -17,7 +17,7 @@ use Rattle.atl_store.specs.declared.fault.UpgradeFault.{UpgradeFault}
 use Rattle.atl_store.specs.declared.fault.UpgradeFault.TheVariants.{Store, Damaged, NotACampaign, NotOld, World, Differs, Memory}
 use Rattle.atl_store.specs.Causes.{Gives}
 use Rattle.atl_store.specs.Faults.{is_memory}
-use Rattle.atl_store.specs.Keeps.{HoldsCampaign, Stores, Spares}
+use Rattle.atl_store.specs.Keeps.{HoldsCampaign, Stores, ChangesNothing}
 use Rattle.atl_store.specs.Loading.{LeavesAlone, LoadsIn, RefusesToLoadIn}
 use Rattle.atl_store.specs.OwnStatements.{OfUpgrade}
 use Rattle.atl_store.specs.Rows.{HoldsIn}
@@ -53,7 +53,7 @@ module _ {S : Type 0} (g : Ghosts S) (text : List ℕ) (old new : Held S) where
     pub idle : new.in_transaction ≡ false
 
   -- A statement of the transaction, or its commit, gave an error on the connection as the reads left it; `memory` says whether it is lack of memory.
-  pub record BreaksOff (memory : Bool) : Type 0 where
+  pub record BreaksOffUpgrade (memory : Bool) : Type 0 where
     pub world : WorldValue
     pub campaign : CampaignValue
     pub matches : Matches (state g old) text world campaign
@@ -95,22 +95,22 @@ module _ {S : Type 0} (g : Ghosts S) (text : List ℕ) (old new : Held S) where
   FailsCheck Memory = RefusesToLoadIn First g old load.Memory ⊎ HasOld
 
   -- the transaction broke off with this fault, which is Store or Memory
-  abbrev pub FailsToWrite : UpgradeFault → Type 0
-  FailsToWrite Store = BreaksOff false
-  FailsToWrite Memory = BreaksOff true
-  FailsToWrite fault = ⊥
+  abbrev pub FailsInTransaction : UpgradeFault → Type 0
+  FailsInTransaction Store = BreaksOffUpgrade false
+  FailsInTransaction Memory = BreaksOffUpgrade true
+  FailsInTransaction fault = ⊥
 
   -- If the disk is clean, a check failed and nothing is changed, or the transaction broke off.
   -- While the connection is open its tables are as they were; a crash leaves what it could before, or the upgraded campaign.
   pub record RefusesToUpgrade (fault : UpgradeFault) : Type 0 where
-    pub cause : HasCleanDisk (state g new) → (FailsCheck fault × LeavesAlone g old new) ⊎ FailsToWrite fault
-    pub spares : HasCleanDisk (state g new) → Spares (state g old) (state g new)
+    pub cause : HasCleanDisk (state g new) → (FailsCheck fault × LeavesAlone g old new) ⊎ FailsInTransaction fault
+    pub spares : HasCleanDisk (state g new) → ChangesNothing (state g old) (state g new)
     pub crash : HasCleanDisk (state g new) → MayUpgrade (state g old) text (state g new)
 
 -- ---- For proofs alone.
 
 -- the campaign is loaded in the first format, and the new text is of a world that differs from its world in markets alone
-pub record IsReady {S : Type 0} (g : Ghosts S) (text : List ℕ) (old mid : Held S) (w : WorldValue) (c : MarkedCampaign) : Type 0 where
+pub record IsReadyToUpgrade {S : Type 0} (g : Ghosts S) (text : List ℕ) (old mid : Held S) (w : WorldValue) (c : MarkedCampaign) : Type 0 where
   pub world : world_of text ≡ Ok w
   pub before : WorldValue
   pub loads : LoadsIn First g old mid before c

@@ -32,8 +32,8 @@ pub record Writes {S : Type 0} (g : Ghosts S) (own : Statements) (Does : State �
   pub survives : Survives (state g old.now) (state g new.now) (λ _. ⊥)
 
 -- This statement ran with these parameters, without an error, in a transaction that was going on.
-abbrev pub Runs : List ℕ → Row → State → State → Type 0
-Runs sql params old new = IsTrue old.in_transaction × (count : ℕ) × ExecutesInside 0 sql params old new (Ok count)
+abbrev pub RunsStatement : List ℕ → Row → State → State → Type 0
+RunsStatement sql params old new = IsTrue old.in_transaction × (count : ℕ) × ExecutesInside 0 sql params old new (Ok count)
 
 -- A step that puts this row into the table, whose key is its first `key` columns.
 abbrev pub WritesRow : {S A : Type 0} → Ghosts S → Table → ℕ → Row → Result A Error → MutBor (Held S) → MutBor (Held S) → Type 0

@@ -12,7 +12,7 @@ ghost use Rattle.atl_store.specs.Faults.{write_fault};
 ghost use Rattle.atl_store.specs.OwnStatements.{OfChange};
 ghost use Rattle.atl_store.specs.Writes.{Writes, Transacts};
 ghost use Rattle.atl_store.specs.Inside.{Inside, HasTables, LeavesOff};
-ghost use Rattle.atl_store.specs.Keeps.{Keeps, Stops, IsLater, MayFound, SparesOthers};
+ghost use Rattle.atl_store.specs.Keeps.{Keeps, LeavesAfterFault, IsLater, MayFound, LeavesOthersAlone};
 
 use crate::campaign_row::rewrite_campaign_row;
 use crate::fault::WriteFault;
@@ -62,7 +62,7 @@ pub fn write_changes<S: Alter>(
         → OnErr result ((text : List ℕ) (before : CampaignValue)
         → Keeps (state S.Store conn.old) text before
         → Covers campaign.old.marks before campaign.old.value
-        → Stops (state S.Store conn.old).faults (state S.Store conn.new) text before
+        → LeavesAfterFault (state S.Store conn.old).faults (state S.Store conn.new) text before
         campaign.old.value) }
     ensures marked { HasCleanDisk (state S.Store conn.new)
         → OnOk result (HasTables (state S.Store conn.old).now
@@ -84,7 +84,7 @@ pub fn write_changes<S: Alter>(
     ensures undone { OnErr result (campaign.new ≡ campaign.old) }
     ensures later { IsLater (state S.Store conn.old) (state S.Store conn.new) }
     ensures others { HasCleanDisk (state S.Store conn.new)
-        → SparesOthers (state S.Store conn.old) (state S.Store conn.new) }
+        → LeavesOthersAlone (state S.Store conn.old) (state S.Store conn.new) }
     ensures idle { conn.new.in_transaction ≡ false }
 {
     write_marked(conn, campaign)?;

@@ -9,7 +9,7 @@ ghost use Rattle.atl_store.specs.Writes.{Writes, Transacts};
 ghost use Rattle.atl_store.specs.Inside.{Inside, IsBlank};
 ghost use Rattle.atl_store.specs.Making.{has_campaign};
 ghost use Rattle.atl_store.specs.Filling.{WritesFounding};
-ghost use Rattle.atl_store.specs.Keeps.{Creates, IsReady, RefusesToCreate, IsLater};
+ghost use Rattle.atl_store.specs.Keeps.{Creates, IsReadyToCreate, RefusesToCreate, IsLater};
 
 use crate::campaign_row::put_campaign_row;
 use crate::fault::CreateFault;
@@ -70,7 +70,7 @@ fn is_blank(schema: &Schema) -> bool
 
 /// Whether the database has no table, index or view and the connection is in no transaction.
 fn is_ready<S: Alter>(conn: &Connection<S>) -> bool
-    ensures ready { IsTrue result ↔ (IsReady (state S.Store conn.now)) }
+    ensures ready { IsTrue result ↔ (IsReadyToCreate (state S.Store conn.now)) }
     ensures settled { IsTrue result → IsTrue (state S.Store conn.now).is_open
         → (state S.Store conn.now).now ≡ (state S.Store conn.now).committed }
 {

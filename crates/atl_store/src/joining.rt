@@ -15,7 +15,7 @@ ghost use Rattle.atl_store.specs.OwnStatements.{OfJoining};
 ghost use Rattle.atl_store.specs.Writes.{Writes, Transacts};
 ghost use Rattle.atl_store.specs.Inside.{Inside, HasTables, Both, Puts, LeavesOff};
 ghost use Rattle.atl_store.specs.Arriving.{HasArrival, IsFound, Settles, WritesJoin};
-ghost use Rattle.atl_store.specs.Keeps.{Keeps, Stops, IsLater, SparesOthers, IsJoining};
+ghost use Rattle.atl_store.specs.Keeps.{Keeps, LeavesAfterFault, IsLater, LeavesOthersAlone, IsJoining};
 
 use crate::campaign_row::put_campaign_row;
 use crate::fault::WriteFault;
@@ -142,7 +142,7 @@ pub fn write_join<S: Alter>(
     ensures err { HasCleanDisk (state S.Store conn.new)
         → OnErr result ((text : List ℕ) (before : CampaignValue)
         → Keeps (state S.Store conn.old) text before → IsJoining before faction campaign.now.value
-        → Stops (state S.Store conn.old).faults (state S.Store conn.new) text before
+        → LeavesAfterFault (state S.Store conn.old).faults (state S.Store conn.new) text before
         campaign.now.value) }
     ensures own { HasCleanDisk (state S.Store conn.new)
         → OnOk result (HasTables (state S.Store conn.old).now
@@ -155,7 +155,7 @@ pub fn write_join<S: Alter>(
         conn.new) }
     ensures later { IsLater (state S.Store conn.old) (state S.Store conn.new) }
     ensures others { HasCleanDisk (state S.Store conn.new)
-        → SparesOthers (state S.Store conn.old) (state S.Store conn.new) }
+        → LeavesOthersAlone (state S.Store conn.old) (state S.Store conn.new) }
     ensures idle { conn.new.in_transaction ≡ false }
 {
     let arrival = arrival_of(campaign, faction);

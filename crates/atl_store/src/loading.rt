@@ -3,7 +3,7 @@ ghost use Rattle.std.specs.Prelude.{◌≡◌, false, IfOk, IfErr};
 ghost use Rattle.sqlite.specs.Held.{state};
 ghost use Rattle.sqlite.specs.State.{HasCleanDisk};
 ghost use Rattle.atl_store.specs.Gathering.{IsSettled, Gathered, IsLoaded};
-ghost use Rattle.atl_store.specs.Loading.{Leaves, Loads, LoadsIn, RefusesToLoad, RefusesToLoadIn, LeavesAlone};
+ghost use Rattle.atl_store.specs.Loading.{AfterReads, Loads, LoadsIn, RefusesToLoad, RefusesToLoadIn, LeavesAlone};
 
 mod confirmed;
 mod gathered;
@@ -32,7 +32,7 @@ fn gather<S: Alter>(
         → IfOk result (λ both. Gathered format S.Store conn.old both.0 both.1) }
     ensures err { HasCleanDisk (state S.Store conn.new)
         → IfErr result (RefusesToLoadIn format S.Store conn.old) }
-    ensures leaves { Leaves S.Store conn.old conn.new }
+    ensures leaves { AfterReads S.Store conn.old conn.new }
 {
     let (own, world) = read_own(alloc, conn, format)?;
     let Some(others) = read_others(alloc, conn, format)? else {
@@ -53,7 +53,7 @@ fn load_idle<S: Alter>(
     ensures ok { IfOk result (λ both. IsLoaded format S.Store conn.old conn.new both.0 both.1) }
     ensures err { HasCleanDisk (state S.Store conn.new)
         → IfErr result (RefusesToLoadIn format S.Store conn.old) }
-    ensures leaves { Leaves S.Store conn.old conn.new }
+    ensures leaves { AfterReads S.Store conn.old conn.new }
 {
     let (world, parts) = gather(alloc, conn, format)?;
     confirm(conn, format)?;

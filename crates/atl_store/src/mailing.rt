@@ -9,7 +9,7 @@ ghost use Rattle.atl_store.specs.OwnStatements.{OfMail};
 ghost use Rattle.atl_store.specs.Writes.{Transacts};
 ghost use Rattle.atl_store.specs.Inside.{HasTables, LeavesOff};
 ghost use Rattle.atl_store.specs.Arriving.{WritesMail};
-ghost use Rattle.atl_store.specs.Keeps.{Keeps, Stops, IsLater, SparesOthers};
+ghost use Rattle.atl_store.specs.Keeps.{Keeps, LeavesAfterFault, IsLater, LeavesOthersAlone};
 
 use crate::fault::WriteFault;
 use crate::rows::mail::put_mail;
@@ -43,7 +43,7 @@ pub fn write_mail<S: Alter>(
     ensures err { HasCleanDisk (state S.Store conn.new)
         → OnErr result ((world : List ℕ) (before : CampaignValue)
         → Keeps (state S.Store conn.old) world before
-        → Stops (state S.Store conn.old).faults (state S.Store conn.new) world before
+        → LeavesAfterFault (state S.Store conn.old).faults (state S.Store conn.new) world before
         (with_mail before faction text.now)) }
     ensures own { HasCleanDisk (state S.Store conn.new)
         → OnOk result (HasTables (state S.Store conn.old).now
@@ -54,7 +54,7 @@ pub fn write_mail<S: Alter>(
         → IfErr result (IsTold S.Store (OfMail faction text.now) write_fault conn.old conn.new) }
     ensures later { IsLater (state S.Store conn.old) (state S.Store conn.new) }
     ensures others { HasCleanDisk (state S.Store conn.new)
-        → SparesOthers (state S.Store conn.old) (state S.Store conn.new) }
+        → LeavesOthersAlone (state S.Store conn.old) (state S.Store conn.new) }
     ensures idle { conn.new.in_transaction ≡ false }
 {
     write_mailing(conn, faction, text)?;

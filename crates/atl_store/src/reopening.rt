@@ -3,7 +3,7 @@ ghost use Rattle.std.specs.Prelude.{List, ℕ, ◌⊎◌, IfOk};
 ghost use Rattle.sqlite.specs.Held.{state};
 ghost use Rattle.sqlite.specs.State.{HasCleanDisk};
 ghost use Rattle.atl_state.specs.Campaign.{CampaignValue};
-ghost use Rattle.atl_store.specs.Keeps.{HoldsCampaign, Keeps, Stops};
+ghost use Rattle.atl_store.specs.Keeps.{HoldsCampaign, Keeps, LeavesAfterFault};
 ghost use Rattle.atl_store.specs.Reopening.{Reopens};
 
 use crate::fault::StoreFault;
@@ -25,7 +25,7 @@ pub fn reopen_connection<S: Alter + Reopen + Drop>(
     ensures stopped { IfOk result
         (λ again. HasCleanDisk (state S.Store again)
         → (faults : ℕ) (text : List ℕ) (before after : CampaignValue)
-        → Stops faults (state S.Store conn) text before after
+        → LeavesAfterFault faults (state S.Store conn) text before after
         → Keeps (state S.Store again) text before ⊎ Keeps (state S.Store again) text after) }
 {
     let mut store = conn.into_store();

@@ -2,7 +2,7 @@
 ghost use Rattle.std.specs.Prelude.{◌≡◌, ◌≤◌, [], length, map, slice_get, take, ◌↔◌, IsTrue};
 ghost use Rattle.atl_store.specs.Tables.{Markets, all_parts, all_tables, campaign_table, creation_of, faction_table};
 ghost use Rattle.atl_store.specs.OwnStatements.{Only, Creations};
-ghost use Rattle.atl_store.specs.Writes.{Writes, Runs};
+ghost use Rattle.atl_store.specs.Writes.{Writes, RunsStatement};
 ghost use Rattle.atl_store.specs.Inside.{Inside, IsBlank};
 ghost use Rattle.atl_store.specs.Making.{AreEmpty};
 
@@ -222,7 +222,7 @@ pub(crate) fn create_tables<S: Alter>(tx: &mut Transaction<'_, S>) -> Result<(),
 
 /// Makes the table of the stocks of markets.
 pub(crate) fn create_market<S: Alter>(tx: &mut Transaction<'_, S>) -> Result<(), Error>
-    ensures { Writes S.Store (Only (creation_of Markets) []) (Runs (creation_of Markets) []) result
+    ensures { Writes S.Store (Only (creation_of Markets) []) (RunsStatement (creation_of Markets) []) result
         tx.old.conn tx.new.conn }
 {
     run(tx, MARKET.text, &[])

@@ -7,7 +7,7 @@ ghost use Rattle.atl_store.specs.Keeps.{IsLater};
 ghost use Rattle.atl_store.specs.Loading.{LeavesAlone};
 ghost use Rattle.atl_store.specs.OwnStatements.{OfUpgrade};
 ghost use Rattle.atl_store.specs.UpgradeSteps.{IsOld, WritesUpgrade};
-ghost use Rattle.atl_store.specs.Upgrading.{FailsCheck, IsReady, RefusesToUpgrade, Upgrades};
+ghost use Rattle.atl_store.specs.Upgrading.{FailsCheck, IsReadyToUpgrade, RefusesToUpgrade, Upgrades};
 ghost use Rattle.atl_store.specs.Writes.{Writes, Transacts};
 
 use crate::campaign_row::upgrade_campaign_row;
@@ -55,7 +55,7 @@ fn world_and_campaign<S: Alter>(
     new_world: &str,
 ) -> Result<(World, Campaign), UpgradeFault>
     ensures ok { IfOk result
-        (λ both. IsReady S.Store new_world.now conn.old conn.new both.0 both.1) }
+        (λ both. IsReadyToUpgrade S.Store new_world.now conn.old conn.new both.0 both.1) }
     ensures err { HasCleanDisk (state S.Store conn.new)
         → IfErr result (FailsCheck S.Store new_world.now conn.old conn.new) }
     ensures alone { LeavesAlone S.Store conn.old conn.new }

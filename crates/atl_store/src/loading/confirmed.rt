@@ -3,7 +3,7 @@ ghost use Rattle.std.specs.Prelude.{◌≡◌, false, OnOk, IfErr};
 ghost use Rattle.sqlite.specs.Held.{state};
 ghost use Rattle.sqlite.specs.State.{HasCleanDisk};
 ghost use Rattle.atl_store.specs.Gathering.{IsSettled, FailsToConfirm, IsConfirmed};
-ghost use Rattle.atl_store.specs.Loading.{Leaves};
+ghost use Rattle.atl_store.specs.Loading.{AfterReads};
 
 use crate::fault::LoadFault;
 use crate::schema::has_tables_of;
@@ -19,7 +19,7 @@ pub(crate) fn confirm<S: Alter>(conn: &mut Connection<S>, format: Format) -> Res
         → OnOk result (IsConfirmed format (state S.Store conn.old) (state S.Store conn.new)) }
     ensures fails { HasCleanDisk (state S.Store conn.new)
         → IfErr result (FailsToConfirm S.Store conn.old format) }
-    ensures leaves { Leaves S.Store conn.old conn.new }
+    ensures leaves { AfterReads S.Store conn.old conn.new }
 {
     if !has_tables_of(conn.schema(), format) {
         return Err(LoadFault::Store);

@@ -7,7 +7,7 @@ ghost use Rattle.atl_tables.specs.Faults.{Reads};
 ghost use Rattle.atl_tables.specs.Formats.{format_number};
 ghost use Rattle.atl_tables.specs.World.{world_by};
 ghost use Rattle.atl_store.specs.Gathering.{IsSettled, own_fault, only_of, ReadsWorld, JudgesOwn, JudgesRows, JudgesFormat, OwnRead};
-ghost use Rattle.atl_store.specs.Loading.{Leaves, RefusesToLoadIn, IsOther, other_format};
+ghost use Rattle.atl_store.specs.Loading.{AfterReads, RefusesToLoadIn, IsOther, other_format};
 ghost use Rattle.atl_store.specs.Shown.{int};
 
 use crate::fault::{LoadFault, ReadFault};
@@ -143,7 +143,7 @@ pub(crate) fn read_own<S: Alter>(
         → IfOk result (λ both. OwnRead S.Store conn.old format both.0 both.1) }
     ensures err { HasCleanDisk (state S.Store conn.new)
         → IfErr result (RefusesToLoadIn format S.Store conn.old) }
-    ensures leaves { Leaves S.Store conn.old conn.new }
+    ensures leaves { AfterReads S.Store conn.old conn.new }
 {
     match select_campaign(conn) {
         Ok(rows) => own_in(alloc, rows.as_slice(), format),

@@ -14,7 +14,7 @@ ghost use Rattle.atl_store.specs.Reading.{Asks};
 ghost use Rattle.atl_store.specs.UpgradeSteps.{UpgradesCampaignRow};
 
 use crate::fault::ReadFault;
-use crate::rows::columns::{letters, three_integers, words};
+use crate::rows::columns::{text_bytes, three_integers, utf8_text};
 use crate::rows::stored::{HasSelect, Stored, select};
 use crate::statement::run;
 use atl_state::parts::StoredCampaignRow;
@@ -128,7 +128,7 @@ fn head(alloc: Global, row: &Row) -> Result<StoredCampaignRow, Error>
         next_faction,
         next_unit,
         next_structure,
-        pass: letters(alloc, row, 6)?,
+        pass: text_bytes(alloc, row, 6)?,
     })
 }
 
@@ -139,7 +139,7 @@ impl Stored for StoredCampaign {
 
     fn from_row(alloc: Global, row: &Row) -> Result<StoredCampaign, Error> {
         let head = head(alloc, row)?;
-        let world = words(row, 7)?;
+        let world = utf8_text(row, 7)?;
         Ok(StoredCampaign { head, world })
     }
 }

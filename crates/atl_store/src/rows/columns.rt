@@ -3,7 +3,7 @@ ghost use Rattle.std.specs.Prelude.{◌≡◌, ◌+◌, ◌≤◌, IsTrue, not, 
 ghost use Rattle.sqlite.specs.declared.types.Value.TheVariants.{Int, Text, Blob};
 ghost use Rattle.sqlite.specs.Order.{column};
 ghost use Rattle.atl_store.specs.Faults.{is_memory};
-ghost use Rattle.atl_store.specs.Stored.{IsOf, Number, Words, Letters, Bytes};
+ghost use Rattle.atl_store.specs.Stored.{IsOf, Number, Utf8Text, TextBytes, Bytes};
 
 use atl_tables::Sequence;
 use sqlite::types::{Type, ValueRef};
@@ -21,20 +21,20 @@ pub(crate) fn integer(row: &Row, at: usize) -> Result<i64, Error>
 }
 
 /// A text of UTF-8.
-pub(crate) fn words(row: &Row, at: usize) -> Result<String, Error>
+pub(crate) fn utf8_text(row: &Row, at: usize) -> Result<String, Error>
     ensures ok { IfOk result (λ s. column row.now at ≡ Text (string_bytes s)) }
     ensures other { IfErr result
-        (λ e. IsTrue (not (is_memory e)) → ¬ IsOf Words (column row.now at)) }
+        (λ e. IsTrue (not (is_memory e)) → ¬ IsOf Utf8Text (column row.now at)) }
 {
     let text = row.get(at)?;
     Ok(text)
 }
 
 /// The bytes of a text, whatever they are.
-pub(crate) fn letters(alloc: Global, row: &Row, at: usize) -> Result<Sequence<u8>, Error>
+pub(crate) fn text_bytes(alloc: Global, row: &Row, at: usize) -> Result<Sequence<u8>, Error>
     ensures ok { IfOk result (λ b. column row.now at ≡ Text b) }
     ensures other { IfErr result
-        (λ e. IsTrue (not (is_memory e)) → ¬ IsOf Letters (column row.now at)) }
+        (λ e. IsTrue (not (is_memory e)) → ¬ IsOf TextBytes (column row.now at)) }
 {
     match row.get_ref(at)? {
         ValueRef::Text(text) => match Sequence::from_slice(alloc, text) {
