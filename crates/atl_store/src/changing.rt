@@ -1,4 +1,4 @@
-//! Writes the changes of a campaign into its tables.
+//! Writes what is marked of a campaign into its tables. See docs/FORMATS.md, "Tables".
 ghost use Rattle.std.specs.Prelude.{◌≡◌, ◌≤◌, false, List, ℕ, IfErr, OnOk, OnErr};
 ghost use Rattle.sqlite.specs.Held.{state};
 ghost use Rattle.sqlite.specs.State.{HasCleanDisk};
@@ -20,7 +20,7 @@ use crate::write_parts::{OtherParts, WrittenPart};
 use atl_state::Campaign;
 use sqlite::{Alter, Connection, Error, Transaction};
 
-/// All that is marked.
+/// Writes all that is marked of a campaign, inside a transaction.
 fn rewrite_all<S: Alter>(tx: &mut Transaction<'_, S>, campaign: &Campaign) -> Result<(), Error>
     requires { campaign.now.value.books.things ≤ most_things }
     ensures { Writes S.Store (OfChange campaign.now.value)
@@ -30,7 +30,7 @@ fn rewrite_all<S: Alter>(tx: &mut Transaction<'_, S>, campaign: &Campaign) -> Re
     OtherParts::rewrite(tx, campaign)
 }
 
-/// The transaction of a change.
+/// Writes all that is marked of a campaign in one transaction.
 fn write_marked<S: Alter>(conn: &mut Connection<S>, campaign: &Campaign) -> Result<(), Error>
     requires idle { conn.old.in_transaction ≡ false }
     requires things { campaign.now.value.books.things ≤ most_things }
@@ -42,11 +42,12 @@ fn write_marked<S: Alter>(conn: &mut Connection<S>, campaign: &Campaign) -> Resu
     tx.commit()
 }
 
-/// Writes what is marked of a campaign into a store that holds all of it that isn't marked, whatever else stands under
-/// marked keys, in one transaction: rows of what is there are put, those of what is gone are deleted, and no other row is
-/// touched. With Ok the store holds the campaign, and nothing of it is marked. Memory where the database says that it has
-/// none, Store where it gives another error; then the tables are as before while the connection is open, a crash leaves
-/// them so or with the campaign, and the marks stay. See docs/FORMATS.md, "Tables".
+/// Writes what is marked of a campaign, in one transaction, into a store that holds the rest of it.
+/// Whatever the store has under marked keys, rows of what is there are put, those of what is gone
+/// are deleted, and no other row is touched. With Ok the store holds the campaign, and nothing of
+/// it is marked. Memory where the database says that it has none, Store where it gives another
+/// error; then the tables are as before while the connection is open, a crash leaves them so or
+/// with the campaign, and the marks stay. See docs/FORMATS.md, "Tables".
 pub fn write_changes<S: Alter>(
     conn: &mut Connection<S>,
     campaign: &mut Campaign,

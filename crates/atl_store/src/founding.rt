@@ -1,4 +1,4 @@
-//! Creates the tables and writes a whole campaign into them.
+//! Creates the tables and writes a whole campaign into them. See docs/FORMATS.md, "Tables".
 ghost use Rattle.std.specs.Prelude.{◌≡◌, ◌≤◌, false, IsTrue, OnOk, OnErr, IfErr, ◌↔◌};
 ghost use Rattle.sqlite.specs.Held.{state};
 ghost use Rattle.atl_store.specs.Tables.{no_tables};
@@ -19,7 +19,7 @@ use atl_state::Campaign;
 use sqlite::{Alter, Connection, Error, Transaction};
 use sqlite_schema::schema::Schema;
 
-/// Makes the tables and puts all rows of the campaign.
+/// Makes the tables and puts all rows of the campaign, inside a transaction.
 fn put_founding<S: Alter>(
     tx: &mut Transaction<'_, S>,
     text: &str,
@@ -35,7 +35,7 @@ fn put_founding<S: Alter>(
     OtherParts::fill(tx, campaign)
 }
 
-/// The transaction of a creation.
+/// Makes the tables and puts all rows of the campaign in one transaction.
 fn write_founding<S: Alter>(
     conn: &mut Connection<S>,
     text: &str,

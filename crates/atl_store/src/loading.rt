@@ -1,4 +1,4 @@
-//! Loads a campaign from its tables. See docs/FORMATS.md, "Tables".
+//! Loads a campaign from its tables. See docs/FORMATS.md, "Opening a file".
 ghost use Rattle.std.specs.Prelude.{◌≡◌, false, IfOk, IfErr};
 ghost use Rattle.sqlite.specs.Held.{state};
 ghost use Rattle.sqlite.specs.State.{HasCleanDisk};
@@ -20,7 +20,7 @@ use own::read_own;
 use sqlite::{Alter, Connection};
 use std::alloc::Global;
 
-/// The world, and the rows of all tables of the format.
+/// Reads the world, and the rows of all tables of the format.
 fn gather<S: Alter>(
     alloc: Global,
     conn: &mut Connection<S>,
@@ -42,7 +42,7 @@ fn gather<S: Alter>(
     Ok((world, parts))
 }
 
-/// Loads what the tables of a connection hold that is in no transaction.
+/// Loads the campaign of a connection that is in no transaction, in a format.
 fn load_idle<S: Alter>(
     alloc: Global,
     conn: &mut Connection<S>,
@@ -61,9 +61,10 @@ fn load_idle<S: Alter>(
     Ok((world, campaign))
 }
 
-/// Loads the campaign that the tables hold in a format, with its world; nothing of it is marked, and it is good. Nothing is
-/// changed, whatever is answered. OtherFormat: the campaign's own rows are one, of the other format, whatever else it says. The
-/// other faults are told as by `load`. See docs/FORMATS.md, "Rules of the tables".
+/// Loads the campaign that the tables hold in a format, with its world; nothing of it is marked,
+/// and it is good. Nothing is changed, whatever is answered. OtherFormat: `campaign` has one row,
+/// of the other format, whatever else it says. The other faults are those of `load`. See
+/// docs/FORMATS.md, "Rules of the tables".
 pub(crate) fn load_as<S: Alter>(
     alloc: Global,
     conn: &mut Connection<S>,
@@ -80,12 +81,13 @@ pub(crate) fn load_as<S: Alter>(
     load_idle(alloc, conn, format)
 }
 
-/// Loads the campaign that the tables hold, with its world; nothing of it is marked, and it is good. Nothing is changed,
-/// whatever is answered. NotACampaign: the campaign's own row can't be asked for. OldFormat: the campaign's own rows are one,
-/// whose format is the first, whatever else it says. Damaged: the rows break this rule of the tables, and none before it; a
-/// value of another type in the campaign's own row breaks the first, one in another table the second. Store: the connection is
-/// in a transaction, a table can't be read, the tables or indexes are not made as `create` makes them, there is a view or a
-/// trigger, or the disk fails. See docs/FORMATS.md, "Rules of the tables".
+/// Loads the campaign that the tables hold, with its world; nothing of it is marked, and it is
+/// good. Nothing is changed, whatever is answered. NotACampaign: the campaign row can't be asked
+/// for. OldFormat: `campaign` has one row, whose format is the first, whatever else it says.
+/// Damaged: the rows break this rule of the tables, and none before it; a value of another type in
+/// the campaign row breaks the first, one in another table the second. Store: the connection is in
+/// a transaction, a table can't be read, the tables or indexes are not made as `create` makes them,
+/// there is a view or a trigger, or the disk fails. See docs/FORMATS.md, "Rules of the tables".
 pub fn load<S: Alter>(
     alloc: Global,
     conn: &mut Connection<S>,

@@ -1,4 +1,4 @@
-//! Writes a mail into the tables.
+//! Writes a mailing into the table `mail`. See docs/RULES.md, "Mail".
 ghost use Rattle.std.specs.Prelude.{◌≡◌, false, List, ℕ, IfErr, OnOk, OnErr};
 ghost use Rattle.sqlite.specs.Held.{state};
 ghost use Rattle.sqlite.specs.State.{HasCleanDisk};
@@ -15,7 +15,7 @@ use crate::fault::WriteFault;
 use crate::rows::mail::put_mail;
 use sqlite::{Alter, Connection, Error};
 
-/// The transaction of a mail.
+/// Puts the row of a faction's mail in one transaction.
 fn write_mailing<S: Alter>(conn: &mut Connection<S>, faction: u32, text: &[u8]) -> Result<(), Error>
     requires { conn.old.in_transaction ≡ false }
     ensures { Transacts S.Store (OfMail faction text.now) HasTables (WritesMail faction text.now)
@@ -26,10 +26,11 @@ fn write_mailing<S: Alter>(conn: &mut Connection<S>, faction: u32, text: &[u8]) 
     tx.commit()
 }
 
-/// Writes the mail of a faction into a store that holds a campaign, in the place of an older one, in one transaction. With
-/// Ok the store holds the campaign with this mail, and no other row is touched. Memory where the database says that it
-/// has none, Store where it gives another error; then the store holds the campaign before while the connection is open, and
-/// a crash leaves the one before or the one after. See docs/FORMATS.md, "Tables".
+/// Writes the mail of a faction into a store that holds a campaign, replacing an older one, in one
+/// transaction. With Ok the store holds the campaign with this mail, and no other row is touched.
+/// Memory where the database says that it has none, Store where it gives another error; then the
+/// store holds the campaign before while the connection is open, and a crash leaves the one before
+/// or the one after. See docs/FORMATS.md, "Tables".
 pub fn write_mail<S: Alter>(
     conn: &mut Connection<S>,
     faction: u32,

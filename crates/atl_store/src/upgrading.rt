@@ -1,4 +1,4 @@
-//! Upgrades a file of the first format. See docs/RULES.md, "Upgrading".
+//! Upgrades a file of the first format to the second. See docs/RULES.md, "Upgrading".
 ghost use Rattle.std.specs.Prelude.{◌≡◌, false, IfOk, IfErr, OnOk};
 ghost use Rattle.sqlite.specs.Held.{state};
 ghost use Rattle.sqlite.specs.State.{HasCleanDisk};
@@ -20,7 +20,7 @@ use atl_tables::{Format, World, read_world};
 use sqlite::{Alter, Connection, Error, Transaction};
 use std::alloc::Global;
 
-/// Makes the table of markets, and gives the campaign's own row the second format and this world text.
+/// Makes the table `market`, and sets the campaign row's format and world text.
 fn put_upgrade<S: Alter>(
     tx: &mut Transaction<'_, S>,
     text: &str,
@@ -33,7 +33,7 @@ fn put_upgrade<S: Alter>(
     upgrade_campaign_row(tx, campaign, text)
 }
 
-/// The transaction of an upgrade.
+/// Makes the table `market` and sets the campaign row in one transaction.
 fn write_upgrade<S: Alter>(
     conn: &mut Connection<S>,
     text: &str,
@@ -48,7 +48,7 @@ fn write_upgrade<S: Alter>(
     tx.commit()
 }
 
-/// The world of the new text with the campaign that the tables hold, where the two worlds differ in markets alone.
+/// The world of the new text, and the campaign that the tables hold, if only markets differ.
 fn world_and_campaign<S: Alter>(
     alloc: Global,
     conn: &mut Connection<S>,
@@ -72,16 +72,17 @@ fn world_and_campaign<S: Alter>(
     Ok((world, campaign))
 }
 
-/// Makes a file of the first format one of the second, with this world text, in one transaction: the table of markets
-/// is made, without a row, and the campaign's own row gets the format and the text. With Ok the connection holds the
-/// campaign that the tables held, of which nothing is marked; it is answered with the world of the text, and the
-/// connection is in no transaction. NotACampaign and Damaged are told as by `load`, by the rules of the first format.
-/// NotOld: the campaign's own rows are one, whose format is the second, whatever else it says. World: the new text is
-/// no world. Differs: its world differs from that of the old text in more than markets. Store is told as by `load`,
-/// too; or there are more tables or indexes than those of the first format; or the database gives an error that is not
-/// lack of memory. Memory: there is none. After a fault the tables are as they were while the connection is open, and a
-/// crash leaves what it left before or, where the transaction was begun, the upgraded campaign. See docs/FORMATS.md,
-/// "Upgrading a file".
+/// Makes a file of the first format one of the second, with this world text, in one transaction:
+/// the table of markets is made, without a row, and the campaign row gets the format and the text.
+/// With Ok the connection holds the campaign that the tables held, of which nothing is marked; it
+/// is answered with the world of the text, and the connection is in no transaction. NotACampaign
+/// and Damaged are told as by `load`, by the rules of the first format. NotOld: `campaign` has one
+/// row, whose format is the second, whatever else it says. World: the new text is no world.
+/// Differs: its world differs from that of the old text in more than markets. Store is told as by
+/// `load`, too; or there are more tables or indexes than those of the first format; or the database
+/// gives an error that is not lack of memory. Memory: there is none. After a fault the tables are
+/// as they were while the connection is open, and a crash leaves what it left before or, where the
+/// transaction was begun, the upgraded campaign. See docs/FORMATS.md, "Upgrading a file".
 pub fn upgrade<S: Alter>(
     alloc: Global,
     conn: &mut Connection<S>,

@@ -1,4 +1,4 @@
-//! The table of reports.
+//! The table `report`: the last report of each faction.
 ghost use Rattle.std.specs.Prelude.{refl};
 ghost use Rattle.atl_store.specs.Tables.{Reports};
 ghost use Rattle.atl_store.specs.Shown.{report_row, report_stored, report_forms};
@@ -13,7 +13,7 @@ use atl_tables::{Entries, Format, MarkedNumbers, Text};
 use sqlite::{Alter, Error, Row, Transaction, params};
 use std::alloc::Global;
 
-/// The report of a faction.
+/// The text of a faction's report.
 impl NumberedRow for Text {
     ghost part = { Reports };
 
