@@ -1,4 +1,4 @@
--- What writing a join, or a mailing, changes in the tables. See docs/RULES.md, "Joining" and "Mail".
+-- What writing a join, or a mailing, changes in the tables. See docs/FORMATS.md, "Tables".
 use Rattle.std.specs.Prelude.{◌≡◌, ◌≢◌, ◌⊎◌, ◌+◌, ◌-◌, ◌≤◌, ℕ, List, [], ◌∷◌, Some, IsSome, take}
 use Rattle.std.specs.FinMap.{get}
 use Rattle.sqlite.specs.Effect.{Database}
@@ -28,7 +28,8 @@ pub record HasArrival (c : CampaignValue) (number : ℕ) : Type 0 where
   pub unit : IsSome (get c.units (c.next_unit - 1))
   pub report : IsSome (get c.reports number)
 
--- the campaign has this faction, this report, and this unit, whose number `place` is `next_unit - 1`; the books have money and people among their things
+-- the campaign has this faction, this report and this unit, whose number `place` is the last, `next_unit - 1`
+-- The books have money and people among their things.
 pub record IsFound (c : CampaignValue) (number : ℕ) (faction : Faction) (place : ℕ) (unit : Unit) (report : List ℕ) : Type 0 where
   pub place_is : c.next_unit ≡ place + 1
   pub faction_is : get c.factions number ≡ Some faction
@@ -36,11 +37,11 @@ pub record IsFound (c : CampaignValue) (number : ℕ) (faction : Faction) (place
   pub report_is : get c.reports number ≡ Some report
   pub things : 2 ≤ c.books.things
 
--- the set of rows with the row of this amount of the books, or without one if it is 0, and with every other row as it was
+-- the set of rows with the row of this amount of the books, or none if it is 0, and every other row as it was
 abbrev pub settled : CampaignValue → Entry → Thing → Set → Set
 settled c entry thing S r = Has (amount_lines c entry thing) r ⊎ (S r × (take 2 r ≢ books_key (entry_index entry + 1) (thing_index thing)))
 
--- the amount of a thing under an entry has its row, or none if it is 0, and every other row and table is as it was
+-- the amount of a thing under an entry has its row, or none if it is 0; all other rows and tables are as they were
 abbrev pub Settles : CampaignValue → Entry → Thing → Database → Database → Type 0
 Settles c entry thing old new = Alters books_table (settled c entry thing (Has (rows_in books_table old.trees))) old new
 
@@ -48,8 +49,8 @@ Settles c entry thing old new = Alters books_table (settled c entry thing (Has (
 abbrev pub HasPut : Table → Row → Database → Database → Type 0
 HasPut table row old new = Is (rows_in table new.trees) (put 1 row (Has (rows_in table old.trees)))
 
--- What a join writes: the campaign row, which keeps this world text, the faction, the unit that came last, the faction's report, and what joining booked.
--- Every other row and table is as it was.
+-- What a join writes: the campaign row, the faction, its unit, which came last, its report, and what joining booked.
+-- The campaign row keeps this world text, and every other row and table is as it was.
 pub record Enters (faction : ℕ) (after : CampaignValue) (text : List ℕ) (old new : Database) : Type 0 where
   pub campaign : Is (rows_in campaign_table new.trees) (λ r. r ≡ campaign_line text after)
   pub member : (f : Faction) → get after.factions faction ≡ Some f → HasPut faction_table (faction_line faction f) old new

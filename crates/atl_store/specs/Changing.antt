@@ -26,7 +26,7 @@ abbrev pub begins : (ℕ → Bool) → Row → Bool
 begins is_so (Int (pos n) ∷ row) = is_so n
 begins is_so row = false
 
--- whether `is_so` holds of a row of `books`: of the index of its entry (its first column less 1) and of the number of its thing (its second column)
+-- whether `is_so` holds of a row of `books`: of its entry's index (the first column less 1) and its thing's number (the second)
 abbrev pub accounts : (ℕ → ℕ → Bool) → Row → Bool
 accounts is_so (Int (pos (suc entry)) ∷ Int (pos thing) ∷ row) = is_so entry thing
 accounts is_so row = false

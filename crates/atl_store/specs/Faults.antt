@@ -27,7 +27,7 @@ abbrev pub is_memory : Error → Bool
 is_memory (SqliteFailure code.OutOfMemory) = true
 is_memory _ = false
 
--- the database could not go on: its disk failed, is full or holds damage, it is shut, something is too big, or a statement takes too many steps
+-- whether the database could not go on: a failed, full or damaged disk, a shut connection, something too big, or too many steps
 abbrev pub is_failure : Error → Bool
 is_failure (SqliteFailure code.SystemIoFailure) = true
 is_failure (SqliteFailure code.DatabaseCorrupt) = true

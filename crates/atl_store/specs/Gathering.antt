@@ -53,7 +53,7 @@ own_fault read.Refused = NotACampaign
 own_fault read.Memory = Memory
 own_fault read.OtherType = Damaged OneRow
 
--- what reading another table gives: its rows, None if a value is of another type (which is reported later), or the fault that ends the loading
+-- what reading another table gives: its rows, None if a value is of another type, or the fault that ends the loading
 abbrev pub kept_of : {A Z : Type 0} → Result (Vec A Z) ReadFault → Result (Option (Vec A Z)) LoadFault
 kept_of (Ok rows) = Ok (Some rows)
 kept_of (Err read.Store) = Err Store
@@ -69,7 +69,7 @@ Lacks P NotACampaign = ⊥
 Lacks P OtherFormat = ⊥
 Lacks P Memory = ⊤
 
--- ---- the campaign's own row
+-- ---- the campaign row
 
 -- the only row of a list of one, else None
 abbrev pub only_of : List StoredCampaign → Option StoredCampaign
@@ -148,7 +148,8 @@ module _ {S : Type 0} (g : Ghosts S) (old : Held S) where
 
   -- ---- the other tables
 
-  -- each of these SELECTs showed some rows; all values are of their types and `P` holds of what was read, or (None) one is of another type
+  -- each of these SELECTs showed some rows: with all values of their types, and `P` holds of what was read
+  -- or, for None, with a value of another type
   abbrev pub Found : {A : Type 0} → List (List ℕ × List Form) → (A → Type 0) → Option A → Type 0
   Found selects P None = HasOtherType g old selects
   Found selects P (Some a) = AreToldTyped g old selects × P a
@@ -162,7 +163,8 @@ module _ {S : Type 0} (g : Ghosts S) (old : Held S) where
     pub rows : List Row
     pub answered : Selects g select.0 before rows
 
-  -- when reading these tables may return each fault: Store if one SELECT is refused for another cause than memory, Memory if one is refused for lack of it, or shows rows
+  -- when reading these tables may return each fault
+  -- Store: a SELECT is refused for another cause than memory. Memory: one is refused for lack of it, or shows rows.
   abbrev pub FailsToRead : List (List ℕ × List Form) → LoadFault → Type 0
   FailsToRead selects Store = RefusesOne g old selects read.Store ⊎ RefusesOne g old selects read.Refused
   FailsToRead selects (Damaged rule) = ⊥
@@ -183,7 +185,8 @@ module _ {S : Type 0} (g : Ghosts S) (old : Held S) where
   abbrev pub IsRefusedAgain : Bool → Type 0
   IsRefusedAgain memory = (during : Held S) × (e : Error) × FailsToQuery (selection campaign_table 1) [] (state g old) (state g during) e × (is_memory e ≡ memory)
 
-  -- when the test of the schema may return each fault: Store if it isn't the format's, else what the SELECT of the campaign row is refused for
+  -- when the test of the schema may return each fault
+  -- Store: the schema isn't the format's. Store or Memory: what the SELECT of the campaign row is refused for.
   abbrev pub FailsToConfirm : Format → LoadFault → Type 0
   FailsToConfirm f Store = (¬ HasTablesOf f old.schema) ⊎ (HasTablesOf f old.schema × IsRefusedAgain false)
   FailsToConfirm f (Damaged rule) = ⊥
@@ -241,7 +244,7 @@ pub record IsConfirmed (f : Format) (old new : State) : Type 0 where
   pub is_open : IsTrue new.is_open
   pub sound : IsSound old.now.schema old.now.trees
 
--- all rows were read (`Gathered`) and the schema confirmed (`IsConfirmed`), if the disk is clean, and the rows keep all rules, with `c` as their campaign
+-- if the disk is clean, all rows were read (`Gathered`) and the schema confirmed; and the rows, which keep all rules, are those of `c`
 pub record IsLoaded (f : Format) {S : Type 0} (g : Ghosts S) (old new : Held S) (w : WorldValue) (c : MarkedCampaign) : Type 0 where
   pub parts : Parts
   pub gathered : HasCleanDisk (state g new) → Gathered f g old w parts

@@ -20,14 +20,15 @@ use Rattle.atl_store.specs.OwnStatements.{OfFounding}
 use Rattle.atl_store.specs.declared.fault.CreateFault.{CreateFault}
 use Rattle.atl_store.specs.declared.fault.CreateFault.TheVariants.{NotEmpty, Store, Memory}
 
--- What a file holds: the tables of a campaign, as its catalog lists them, and in them exactly the rows of the text and the campaign.
+-- What a file holds: the tables of a campaign, as its catalog lists them, with exactly the rows of the text and the campaign.
 pub record Stores (db : Trees) (text : List ℕ) (c : CampaignValue) : Type 0 where
   pub schema : Schema
   pub begins : HasAll schema
   pub sound : IsSoundDatabase schema db
   pub rows : Holds db text c
 
--- The connection is open and in no transaction, its tables hold exactly the rows of the text and the campaign, and a crash leaves just these.
+-- The connection is open and in no transaction, and its tables hold exactly the rows of the text and the campaign.
+-- All is committed, and a crash leaves just this.
 pub record Keeps (s : State) (text : List ℕ) (c : CampaignValue) : Type 0 where
   pub idle : s.in_transaction ≡ false
   pub is_open : IsTrue s.is_open
@@ -47,19 +48,22 @@ pub record LeavesAfterFault (faults : ℕ) (s : State) (text : List ℕ) (before
   pub shuts : IsTrue s.is_open ⊎ MoreFaults faults s.faults
   pub crash : (db : Trees) → s.may_leave db → Stores db text before ⊎ Stores db text after
 
--- The same connection later: if the disk is clean now it was before, no failure of it is forgotten, and a connection whose reads are tested stays so.
+-- The same connection later: a disk that is clean now was clean before, and no failure of it is forgotten.
+-- A connection whose reads are tested (shielded) stays so.
 pub record IsLater (old new : State) : Type 0 where
   pub clean : HasCleanDisk new → HasCleanDisk old
   pub counts : old.faults ≤ new.faults
   pub shield : old.IsShielded → new.IsShielded
 
--- If the connection is open, and before had the tables of a campaign and nothing uncommitted, no table or index is gone and other tables are as they were.
+-- No table or index is gone, and tables that aren't the campaign's hold what they held.
+-- The premises: the connection is open, and before it had the tables of a campaign and nothing uncommitted.
 abbrev pub LeavesOthersAlone : State → State → Type 0
 LeavesOthersAlone old new = IsTrue new.is_open → HasTables old.now → old.committed ≡ old.now → Carries old.now new.now
 
 -- ---- creating
 
--- Nothing is changed: while the connection is open its tables, its last commit and its transaction are as they were. Only a new failure of the disk shuts it.
+-- Nothing is changed: while the connection is open, its tables, its last commit and its transaction are as they were.
+-- Only a new failure of the disk shuts it.
 pub record ChangesNothing (old new : State) : Type 0 where
   pub same : IsTrue new.is_open → (new.now ≡ old.now) × (new.committed ≡ old.committed) × (new.in_transaction ≡ old.in_transaction)
   pub shuts : IsTrue old.is_open → IsTrue new.is_open ⊎ MoreFaults old.faults new.faults
@@ -68,13 +72,15 @@ pub record ChangesNothing (old new : State) : Type 0 where
 abbrev pub MayFound : State → List ℕ → CampaignValue → State → Type 0
 MayFound old text c new = (db : Trees) → new.may_leave db → old.may_leave db ⊎ Stores db text c
 
--- With Ok of `create`: there was no table `campaign`, and now the connection is in no transaction and, if the disk is clean, holds the campaign.
+-- With Ok of `create` there was no table `campaign`, and the connection holds the campaign, if the disk is clean.
+-- It is in no transaction.
 pub record Creates {S : Type 0} (g : Ghosts S) (text : List ℕ) (c : CampaignValue) (old new : Held S) : Type 0 where
   pub fresh : has_campaign old.schema ≡ false
   pub idle : new.in_transaction ≡ false
   pub tables : HoldsCampaign g new text c
 
--- There was no table `campaign`; if the disk is clean, nothing is changed, and a crash leaves what it could before, or the campaign.
+-- There was no table `campaign`, and nothing is changed, if the disk is clean.
+-- A crash leaves what it could have left before, or the campaign.
 pub record FailsToCreate {S : Type 0} (g : Ghosts S) (text : List ℕ) (c : CampaignValue) (old new : Held S) : Type 0 where
   pub fresh : has_campaign old.schema ≡ false
   pub tables : HasCleanDisk (state g new) → ChangesNothing (state g old) (state g new)
@@ -84,12 +90,14 @@ pub record FailsToCreate {S : Type 0} (g : Ghosts S) (text : List ℕ) (c : Camp
 abbrev pub IsReadyToCreate : State → Type 0
 IsReadyToCreate s = IsBlank s.now × (s.in_transaction ≡ false)
 
--- The database was ready for `create`, and, if the disk is clean, the fault is that of an error that a statement of `create`, or its commit, gave.
+-- The database was ready for `create`, and a statement of it, or its commit, gave an error.
+-- The fault is that of the error, if the disk is clean.
 pub record BreaksOffCreation {S : Type 0} (g : Ghosts S) (text : List ℕ) (c : CampaignValue) (old new : Held S) (fault : CreateFault) : Type 0 where
   pub ready : IsReadyToCreate (state g old)
   pub told : HasCleanDisk (state g new) → IsTold g (OfFounding text c) create_fault old new fault
 
--- When `create` may return each fault. If there is a table `campaign` (NotEmpty), or the database isn't ready (Store), nothing at all is changed.
+-- When `create` may return each fault.
+-- If there is a table `campaign` (NotEmpty), or the database isn't ready (Store), nothing at all is changed.
 abbrev pub RefusesToCreate : {S : Type 0} → Ghosts S → List ℕ → CampaignValue → Held S → Held S → CreateFault → Type 0
 RefusesToCreate g text c old new NotEmpty = IsTrue (has_campaign old.schema) × (new ≡ old)
 RefusesToCreate g text c old new Store = FailsToCreate g text c old new × (((¬ IsReadyToCreate (state g old)) × (new ≡ old)) ⊎ BreaksOffCreation g text c old new Store)

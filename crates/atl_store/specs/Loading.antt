@@ -75,7 +75,8 @@ rows_read text p Reports = map report_stored p.reports
 rows_read text p Books = map books_values p.books
 rows_read text p Markets = map market_values p.markets
 
--- The tables of a format have exactly these rows, each as often as it is here; there is no row here of a part that the format doesn't have.
+-- The tables of a format have exactly these rows, each as often as it is here.
+-- There is no row here of a part that the format doesn't have.
 pub record HaveRows (f : Format) (db : Trees) (text : List ℕ) (p : Parts) : Type 0 where
   pub rows : (part : Part) → Has (parts_in f) part → IsPermutation (rows_in (table_of part) db) (rows_read text p part)
   pub none : (part : Part) → ¬ Has (parts_in f) part → rows_read text p part ≡ []
@@ -134,7 +135,8 @@ pub record Stays (old new : State) : Type 0 where
   pub was_open : IsTrue new.is_open → IsTrue old.is_open
   pub same : IsTrue new.is_open → (new.now ≡ old.now) × (new.committed ≡ old.committed)
 
--- The connection after reads: its tables are as they were (`Stays`, if the disk is clean), a crash leaves only what it could before, and it is in no transaction.
+-- The connection after reads: it is in no transaction, and its tables are as they were, if the disk is clean (`Stays`).
+-- A crash leaves only what it could have left before.
 pub record AfterReads {S : Type 0} (g : Ghosts S) (old new : Held S) : Type 0 where
   pub stays : HasCleanDisk (state g new) → Stays (state g old) (state g new)
   pub survives : Survives (state g old) (state g new) (λ _. ⊥)
@@ -191,7 +193,8 @@ module _ {S : Type 0} (g : Ghosts S) (old : Held S) where
     pub refused : FailsToQuery (selection campaign_table 1) [] (state g before) (state g during) error
     pub memory_is : is_memory error ≡ memory
 
-  -- When Memory may be returned: in no transaction, if the SELECT of the campaign row is refused for lack of memory or is answered, as any later step may lack it.
+  -- When Memory may be returned: in no transaction, if the SELECT of the campaign row lacks memory or is answered.
+  -- For any step after that one may lack memory.
   abbrev pub MayReturnMemory : Type 0
   MayReturnMemory = (old.in_transaction ≡ false) × (RefusesToSelect g (selection campaign_table 1) old read.Memory ⊎ ((rows : List Row) × Selects g (selection campaign_table 1) old rows))
 
@@ -203,7 +206,8 @@ module _ (f : Format) {S : Type 0} (g : Ghosts S) (old : Held S) where
     pub begins : HasTablesOf f old.schema
     pub keyed : (table : Table) → Has (placed_tables f) table → IsKeyed ((state g old).now.trees table.tree)
 
-  -- The tables are made as the format has them (`AreMade`), and `rule` is the first rule that their rows break, with a world text that reads as a world.
+  -- The tables are made as the format has them (`AreMade`), and `rule` is the first rule that their rows break.
+  -- The world text reads as a world.
   pub record BreaksRule (rule : Rule) : Type 0 where
     pub made : AreMade
     pub world : WorldValue
@@ -251,12 +255,13 @@ module _ (f : Format) {S : Type 0} (g : Ghosts S) (old : Held S) where
   abbrev pub CannotRead : Type 0
   CannotRead = RefusesOne g old (other_selects f) read.Store ⊎ RefusesOne g old (other_selects f) read.Refused
 
-  -- all other tables are read with values of their types, but they are made otherwise, or the disk failed, or the campaign row, asked for again, is refused, not for memory
+  -- all other tables are read with values of their types, but the tables can't be confirmed
+  -- They are made otherwise, or the disk failed, or the campaign row, asked for again, is refused, not for memory.
   abbrev pub CannotConfirm : Type 0
   CannotConfirm = AreToldTyped g old (other_selects f) × ((¬ AreMade) ⊎ (FailedMeanwhile g old ⊎ RefusesAgain g old false))
 
-  -- When Store may be returned: in a transaction, or if the SELECT of the campaign row is refused because the database could not go on (`is_failure`);
-  -- or, if that row keeps the first rule, if another table can't be read or the tables can't be confirmed.
+  -- When Store may be returned: in a transaction, or if the SELECT of the campaign row could not go on (`is_failure`).
+  -- Also, if that row keeps the first rule, if another table can't be read or the tables can't be confirmed.
   abbrev pub MayReturnStore : Type 0
   MayReturnStore = (old.in_transaction ≡ true) ⊎ (RefusesToSelect g (selection campaign_table 1) old read.Store ⊎ (KeepsOneRow × (CannotRead ⊎ CannotConfirm)))
 
@@ -272,8 +277,8 @@ module _ (f : Format) {S : Type 0} (g : Ghosts S) (old : Held S) where
   RefusesToLoadIn OtherFormat = HasOtherFormat
   RefusesToLoadIn Memory = MayReturnMemory g old
 
--- The connection is open and in no transaction, and its tables, which are those of the last commit, are those of the format, with rowids that differ.
--- They hold exactly the rows of the text and the campaign.
+-- The connection is open and in no transaction, and the tables of the format hold exactly the rows of the text and the campaign.
+-- All is committed, the trees list and obey the schema, and the rowids of each table are integers, no two alike.
 pub record StandsIn (f : Format) (s : State) (text : List ℕ) (c : CampaignValue) : Type 0 where
   pub idle : s.in_transaction ≡ false
   pub is_open : IsTrue s.is_open
@@ -283,7 +288,8 @@ pub record StandsIn (f : Format) (s : State) (text : List ℕ) (c : CampaignValu
   pub keyed : (table : Table) → Has (map table_of (parts_in f)) table → IsKeyed (s.now.trees table.tree)
   pub rows : HoldsIn f s.now.trees text c
 
--- With Ok, on a clean disk, the tables of the format hold the campaign and a text of the world; the campaign is good and fits the format, and nothing of it is marked.
+-- With Ok, on a clean disk, the tables of the format hold the campaign and a text of the world.
+-- The campaign is good and fits the format, and nothing of it is marked.
 pub record LoadsIn (f : Format) {S : Type 0} (g : Ghosts S) (old new : Held S) (w : WorldValue) (c : MarkedCampaign) : Type 0 where
   pub world : HasCleanDisk (state g new) → world_by f (world_text (state g new)) ≡ Ok w
   pub stands : HasCleanDisk (state g new) → StandsIn f (state g new) (world_text (state g new)) c.value
@@ -302,14 +308,16 @@ module _ {S : Type 0} (g : Ghosts S) (old : Held S) where
   RefusesToLoad store.OldFormat = RefusesToLoadIn Second g old OtherFormat
   RefusesToLoad store.Memory = RefusesToLoadIn Second g old Memory
 
-  -- With Ok, on a clean disk, the connection keeps the campaign and a text of the world; the campaign is good, and nothing of it is marked.
+  -- With Ok, on a clean disk, the connection keeps the campaign and a text of the world.
+  -- The campaign is good, and nothing of it is marked.
   pub record Loads (new : Held S) (w : WorldValue) (c : MarkedCampaign) : Type 0 where
     pub world : HasCleanDisk (state g new) → world_of (world_text (state g new)) ≡ Ok w
     pub tables : HoldsCampaign g new (world_text (state g new)) c.value
     pub good : IsGood w c.value
     pub unmarked : c.marks ≡ no_marks
 
-  -- Whatever is answered, nothing is changed (`ChangesNothing`, if the disk is clean), a crash leaves only what it could before, and it is in a transaction if it was in one.
+  -- Whatever is answered, nothing is changed (`ChangesNothing`), if the disk is clean.
+  -- A crash leaves only what it could have left before, and the connection is in a transaction if it was in one.
   pub record LeavesAlone (new : Held S) : Type 0 where
     pub spares : HasCleanDisk (state g new) → ChangesNothing (state g old) (state g new)
     pub survives : Survives (state g old) (state g new) (λ _. ⊥)

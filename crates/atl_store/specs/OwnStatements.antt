@@ -58,7 +58,8 @@ pub data OfFounding (text : List ℕ) (c : CampaignValue) : List ℕ → Row →
   founds_head : OfFounding text c campaign_upsert (campaign_row_values (campaign_row_of c) text)
   founds_row : {sql : List ℕ} {params : Row} → OfRow c sql params → OfFounding text c sql params
 
--- the statements of a change: put a row of the campaign, delete a key that no row of its part has, or delete all rows of one unit (goods) or region (stocks)
+-- The statements of a change: put the campaign row or another row of the campaign, or delete rows.
+-- Deleted is a key that no row of its part has, or all rows of one number in `has` or `market`.
 pub data OfChange (c : CampaignValue) : List ℕ → Row → Type 0 where
   changes_head : OfChange c campaign_upsert (campaign_row_values (campaign_row_of c) [])
   changes_row : {sql : List ℕ} {params : Row} → OfRow c sql params → OfChange c sql params

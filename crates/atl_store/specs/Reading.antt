@@ -23,7 +23,8 @@ pub record Rests (old new : State) : Type 0 where
   pub was_open : IsTrue new.is_open → IsTrue old.is_open
   pub same : IsTrue new.is_open → ((new.now ≡ old.committed) ⊎ (new.now ≡ old.now)) × (new.committed ≡ old.committed)
 
--- `before` is the connection as the SELECT finds it: with the tables and the step limit of `old`, open where that is, and with no fewer failures of the disk
+-- `before` is the connection as the SELECT finds it: with the tables and the step limit of `old`
+-- It is open where `old` is, and its disk has failed no less often.
 pub record IsAsked (old before : State) : Type 0 where
   pub was_open : IsTrue before.is_open → IsTrue old.is_open
   pub is_open : IsTrue old.is_open → IsTrue before.is_open
@@ -40,7 +41,8 @@ module _ {S : Type 0} (g : Ghosts S) (sql : List ℕ) (old : Held S) where
   abbrev pub RefusesToSelect : ReadFault → Type 0
   RefusesToSelect fault = (before during : Held S) × (e : Error) × IsAsked (state g old) (state g before) × FailsToQuery sql [] (state g before) (state g during) e × (fault ≡ read_fault e)
 
-  -- The SELECT is asked, whatever the schema is: Ok has the rows that it shows, Err the fault of its refusal, if the disk is clean. Nothing is changed.
+  -- The SELECT is asked, whatever the schema is: Ok has the rows that it shows, Err the fault of its refusal.
+  -- This is so if the disk is clean. Nothing is changed.
   pub record Asks {Z : Type 0} (result : Result (Vec Row Z) ReadFault) (new : Held S) : Type 0 where
     pub rows : HasCleanDisk (state g new) → IfOk result (λ rows. Selects rows.items)
     pub refused : HasCleanDisk (state g new) → IfErr result RefusesToSelect
@@ -62,7 +64,8 @@ module _ {S : Type 0} (g : Ghosts S) (sql : List ℕ) (old : Held S) where
     pub survives : Survives (state g old) (state g new) (λ _. ⊥)
     pub idle : new.in_transaction ≡ false
 
-  -- The rows of a query are read one by one: Ok has all of them, or None, of which nothing is said here; Err has the fault of the refusal.
+  -- The rows of a query are read one by one: Ok has all of them, or None; Err has the fault of the refusal.
+  -- When it is None isn't said. Nothing is changed.
   pub record Streams {A Z : Type 0} (forms : List Form) (shown : A → Row) (result : Result (Option (Vec A Z)) ReadFault) (new : Held S) : Type 0 where
     pub rows : HasCleanDisk (state g new) → IfOk result (λ read. IfSome read (λ all. (rows : List Row) × Selects rows × (map shown all.items ≡ map (first_columns (length forms)) rows) × AreTyped forms rows))
     pub refused : HasCleanDisk (state g new) → IfErr result RefusesToSelect
@@ -75,7 +78,8 @@ module _ {S : Type 0} (g : Ghosts S) (sql : List ℕ) (old : Held S) where
 abbrev pub AddsRow : {A : Type 0} → List Form → (A → Row) → List A → Row → List A → Type 0
 AddsRow forms shown old row new = (one : _) × (new ≡ old ++ one ∷ []) × (shown one ≡ first_columns (length forms) row) × IsTyped forms row
 
--- Ok has all rows of a table, each as often as it is there, if the disk is clean and the schema begins with the tables of the format `since`
+-- Ok has all rows of a table, each as often as it is there.
+-- The premises: the disk is clean, and the schema begins with the tables of the format `since`.
 abbrev pub GivesTable : {S A Z : Type 0} → Ghosts S → Format → (Trees → List Row) → (A → Row) → Result (Vec A Z) ReadFault → Held S → Held S → Type 0
 GivesTable g since in_table shown result old new = HasCleanDisk (state g new) → HasTablesOf since old.schema → IfOk result (λ all. IsPermutation (in_table (state g old).now.trees) (map shown all.items))
 
@@ -85,7 +89,7 @@ rows_with_ids_in table db = map (λ r. visible table r ++ rowid r ∷ []) (db ta
 
 -- ---- the SELECT of each part
 
--- how a part is read: the first format that has its table, the names of the columns that are shown, the SELECT, and the rows that this shows of the trees
+-- how a part is read: the first format that has it, the names of the columns, the SELECT, and the rows that it shows
 pub record PartSelect : Type 0 where
   pub since : Format
   pub names : List (List ℕ)

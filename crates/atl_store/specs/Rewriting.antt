@@ -83,7 +83,8 @@ RewritesAmounts c entries things old new = Rewrites books_table (of_amounts c.ma
 abbrev pub RewritesBooks : MarkedCampaign → Database → Database → Type 0
 RewritesBooks c old new = Rewrites books_table (amount_marked c.marks.books) (BooksRowsOf c.value.books) old new
 
--- the campaign row says what the campaign says if it is marked, else what it said before, and keeps its world text; every other table is as it was
+-- the campaign row says what the campaign says if it is marked, else what it said before; it keeps its world text
+-- Every other table is as it was.
 abbrev pub RewritesCampaignRow : MarkedCampaign → Database → Database → Type 0
 RewritesCampaignRow c old new = (before : CampaignRowValue) (text : List ℕ) → Is (rows_in campaign_table old.trees) (λ r. r ≡ campaign_row before text) → Alters campaign_table (λ r. r ≡ own_after c before text) old new
 

@@ -1,4 +1,4 @@
--- The rows of each table as SQL shows them: as they are written, and as they are read, with the forms of their columns. See docs/FORMATS.md, "Tables".
+-- The rows of each table as SQL shows them, written and read, with the forms of their columns. See docs/FORMATS.md, "Tables".
 use Rattle.std.specs.Prelude.{ℕ, ℤ, pos, Bool, if◌then◌else◌, List, [], ◌∷◌, ◌++◌, string_bytes}
 use Rattle.sqlite.specs.declared.types.Value.{Value}
 use Rattle.sqlite.specs.declared.types.Value.TheVariants.{Int, Text, Blob}

@@ -10,7 +10,7 @@ use Rattle.sqlite_rules.specs.Lists.{Has}
 abbrev pub first_columns : ℕ → Row → Row
 first_columns count row = map (column row) (range_with_len 0 count)
 
--- what a column is read as: an integer, a text that has to be UTF-8, the bytes of any text, or the bytes of a blob
+-- what a column is read as: an integer, a text of UTF-8, the bytes of any text, or the bytes of a blob
 pub data Form : Type 0 where
   Number : Form
   Utf8Text : Form

@@ -1,4 +1,4 @@
--- The tables of a campaign: their columns, keys and checks, the texts that make them, and the schema that they make together. See docs/FORMATS.md, "Tables".
+-- The tables of a campaign: columns, keys, checks, the texts that make them, and their schema. See docs/FORMATS.md, "Tables".
 use Rattle.std.specs.Prelude.{◌≡◌, false, [], ◌∷◌, ◌++◌, Some, None, codes, pos, take, map, length, List, ℕ, ⊤}
 use Rattle.std.specs.List.{AllByRecursion}
 use Rattle.sqlite.specs.declared.types.Value.TheVariants.{Int}
@@ -28,7 +28,7 @@ number name = field name Integer
 abbrev pub text : List ℕ → Column
 text name = field name Text
 
--- ---- the unique key of a table besides the row's number: the indexes of its columns in a stored row, whose index 0 is the rowid
+-- ---- the unique key of a table, besides the row's number, by the indexes of its columns in a stored row (0 is the rowid)
 
 -- a faction's joined_as
 abbrev pub faction_unique : List ℕ

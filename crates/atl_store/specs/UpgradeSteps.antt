@@ -1,4 +1,4 @@
--- For proofs and for private functions: what the transaction of an upgrade does; and, for all, which schema has just the tables of the first format.
+-- What the transaction of an upgrade does (for proofs and private functions), and which schema is of the first format (for all).
 use Rattle.std.specs.Prelude.{◌≡◌, [], List, ℕ, map}
 use Rattle.sqlite.specs.Effect.{Database}
 use Rattle.sqlite.specs.Schema.{Schema}
@@ -18,7 +18,8 @@ use Rattle.atl_store.specs.Tables.{campaign_table, market_table, first_tables, i
 abbrev pub IsJustOld : Schema → Type 0
 IsJustOld schema = schema ≡ first_tables (table_count_in First) (index_count_in First)
 
--- The database has exactly the tables of the first format; the trees list and obey the schema, and the rowids of each table are integers, no two alike.
+-- The database has exactly the tables of the first format, and its trees list and obey the schema.
+-- The rowids of each table are integers, no two alike.
 pub record IsOld (db : Database) : Type 0 where
   pub just : IsJustOld db.schema
   pub keyed : (table : Table) → Has (map table_of (parts_in First)) table → IsKeyed (db.trees table.tree)
@@ -33,6 +34,6 @@ pub record AddsMarkets (old new : Database) : Type 0 where
 abbrev pub UpgradesCampaignRow : CampaignRowValue → List ℕ → Database → Database → Type 0
 UpgradesCampaignRow head text old new = (before : List ℕ) → Is (rows_in campaign_table old.trees) (λ r. r ≡ campaign_row_in First head before) → Puts campaign_table 1 (campaign_row head text) old new
 
--- if the tables held the campaign in the first format, with any world text, and nothing is in stock, they hold it in the second with this text
+-- if the tables held the campaign in the first format and nothing is in stock, they hold it in the second with this text
 abbrev pub WritesUpgrade : List ℕ → CampaignValue → Database → Database → Type 0
 WritesUpgrade text c old new = (before : List ℕ) → HoldsIn First old.trees before c → HasNoStocks c → Holds new.trees text c

@@ -31,7 +31,7 @@ pub record HoldsOld (s : State) (w : WorldValue) (c : CampaignValue) : Type 0 wh
   pub rows : HoldsIn First s.now.trees text c
   pub good : IsGood w c
 
--- the new text is of the world `w`, and the tables hold the campaign in the first format with a text of that world without its markets
+-- the new text is of the world `w`, and the tables hold the campaign in the first format with a text of `w` without markets
 pub record Matches (s : State) (text : List ℕ) (w : WorldValue) (c : CampaignValue) : Type 0 where
   pub world : world_of text ≡ Ok w
   pub was : HoldsOld s (without_markets w) c
@@ -41,8 +41,8 @@ abbrev pub MayUpgrade : State → List ℕ → State → Type 0
 MayUpgrade old text new = (db : Trees) → new.may_leave db → old.may_leave db ⊎ ((w : WorldValue) × (c : CampaignValue) × Matches old text w c × Stores db text c)
 
 module _ {S : Type 0} (g : Ghosts S) (text : List ℕ) (old new : Held S) where
-  -- With Ok the connection, if the disk is clean, keeps the campaign that the tables held in the first format, with the new text, and is in no transaction.
-  -- The campaign is good, nothing is in stock, and nothing is marked.
+  -- With Ok, on a clean disk, the connection keeps the campaign that the tables held in the first format, with the new text.
+  -- It is in no transaction; the campaign is good, nothing is in stock, and nothing is marked.
   pub record Upgrades (w : WorldValue) (c : MarkedCampaign) : Type 0 where
     pub world : world_of text ≡ Ok w
     pub was : HasCleanDisk (state g new) → HoldsOld (state g old) (without_markets w) c.value
@@ -52,7 +52,8 @@ module _ {S : Type 0} (g : Ghosts S) (text : List ℕ) (old new : Held S) where
     pub unmarked : c.marks ≡ no_marks
     pub idle : new.in_transaction ≡ false
 
-  -- A statement of the transaction, or its commit, gave an error on the connection as the reads left it; `memory` says whether it is lack of memory.
+  -- A statement of the transaction, or its commit, gave an error, on the connection as the reads left it.
+  -- `memory` says whether the error is lack of memory.
   pub record BreaksOffUpgrade (memory : Bool) : Type 0 where
     pub world : WorldValue
     pub campaign : CampaignValue

@@ -14,7 +14,8 @@ use Rattle.atl_store.specs.Statements.{deletion, upsert}
 use Rattle.atl_store.specs.OwnStatements.{Statements, Only, Each}
 use Rattle.atl_store.specs.Causes.{Gives, IsReached}
 
--- A step inside a transaction: with Ok it did `Does` by statements of `own` alone; its error is one that a call of the transaction gave.
+-- A step inside a transaction: with Ok it did `Does` by statements of `own` alone.
+-- With an error, this is one that a call of the transaction gave. All this is so if the disk is clean.
 pub record Writes {S : Type 0} (g : Ghosts S) (own : Statements) (Does : State → State → Type 0) {A : Type 0} (result : Result A Error) (old new : MutBor (Held S)) : Type 0 where
   -- The step stays on the same connection.
   pub same_reference : new.ghost_name ≡ old.ghost_name
@@ -47,8 +48,8 @@ TakesOut g table key k result old new = Writes g (Only (deletion table key) k) (
 abbrev pub WritesRows : {S A : Type 0} → Ghosts S → Table → ℕ → List Row → Result A Error → MutBor (Held S) → MutBor (Held S) → Type 0
 WritesRows g table key rows result old new = Writes g (Each (upsert table key) (Has rows)) (Inside HasTables (PutsRows table key rows)) result old new
 
--- A whole transaction of statements of `own`: with Ok it did `Does`, if the tables were as `Before` says, and committed; with an error it did nothing.
--- That the connection is in no transaction before it is a premise of the calls, and not said here.
+-- A whole transaction of statements of `own`: with Ok it did `Does` and committed it, with an error it did nothing.
+-- `Does` is said only of tables that were as `Before` says. That the connection was in no transaction is a premise of the calls.
 pub record Transacts {S : Type 0} (g : Ghosts S) (own : Statements) (Before : Database → Type 0) (Does : Database → Database → Type 0) {A : Type 0} (result : Result A Error) (old new : Held S) : Type 0 where
   -- With Ok it has done `Does` and committed it, if the disk is clean and the tables were as `Before` says.
   pub ok : HasCleanDisk (state g new) → OnOk result (Commits Before Does (state g old) (state g new))
