@@ -91,6 +91,7 @@ pub record AreOwnRow (f : Format) (rows : List Row) (h : StoredCampaignRow) (tex
   pub utf8 : IsUtf8 text
   pub world : world_by f text ≡ Ok w
 
+-- the other one of the two formats
 abbrev pub other_format : Format → Format
 other_format First = Second
 other_format Second = First

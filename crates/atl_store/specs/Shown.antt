@@ -110,39 +110,51 @@ campaign_stored s = campaign_row_stored s.head ++ Text (string_bytes s.world) �
 abbrev pub campaign_forms : List Form
 campaign_forms = campaign_row_forms ++ Utf8Text ∷ []
 
+-- a row of `faction` that was read
 abbrev pub faction_stored : StoredFaction → Row
 faction_stored s = Int s.number ∷ Text s.joined_as ∷ Text s.name ∷ Text s.pass ∷ Int s.gone ∷ []
 
+-- the forms of the columns of `faction`
 abbrev pub faction_forms : List Form
 faction_forms = Number ∷ TextBytes ∷ TextBytes ∷ TextBytes ∷ Number ∷ []
 
+-- a row of `region` that was read
 abbrev pub region_stored : StoredRegion → Row
 region_stored s = Int s.number ∷ Int s.peasants ∷ Int s.money ∷ []
 
+-- the forms of the columns of `region`
 abbrev pub region_forms : List Form
 region_forms = Number ∷ Number ∷ Number ∷ []
 
+-- a row of `unit` that was read
 abbrev pub unit_stored : StoredUnit → Row
 unit_stored s = Int s.number ∷ Int s.faction ∷ Text s.name ∷ Int s.region ∷ Int s.structure ∷ Int s.men ∷ Int s.money ∷ Int s.guard ∷ []
 
+-- the forms of the columns of `unit`
 abbrev pub unit_forms : List Form
 unit_forms = Number ∷ Number ∷ TextBytes ∷ Number ∷ Number ∷ Number ∷ Number ∷ Number ∷ []
 
+-- a row of `structure` that was read
 abbrev pub structure_stored : StoredStructure → Row
 structure_stored s = Int s.number ∷ Int s.kind ∷ Text s.name ∷ Int s.region ∷ Int s.done ∷ Int s.owner ∷ []
 
+-- the forms of the columns of `structure`
 abbrev pub structure_forms : List Form
 structure_forms = Number ∷ Number ∷ TextBytes ∷ Number ∷ Number ∷ Number ∷ []
 
+-- a row of `mail` that was read
 abbrev pub mail_stored : StoredMail → Row
 mail_stored s = Int s.faction ∷ Blob s.text ∷ []
 
+-- the forms of the columns of `mail`
 abbrev pub mail_forms : List Form
 mail_forms = Number ∷ Bytes ∷ []
 
+-- a row of `report` that was read
 abbrev pub report_stored : StoredReport → Row
 report_stored s = Int s.faction ∷ Text s.text ∷ []
 
+-- the forms of the columns of `report`
 abbrev pub report_forms : List Form
 report_forms = Number ∷ Utf8Text ∷ []
 
@@ -150,6 +162,7 @@ report_forms = Number ∷ Utf8Text ∷ []
 abbrev pub has_stored : RowWithId StoredHas → Row
 has_stored s = Int s.row.unit ∷ Int s.row.sort ∷ Int s.row.thing ∷ Int s.row.amount ∷ Int s.rowid ∷ []
 
+-- the forms of the columns of `has`, and of the rowid after them
 abbrev pub has_forms : List Form
 has_forms = Number ∷ Number ∷ Number ∷ Number ∷ Number ∷ []
 
@@ -157,6 +170,7 @@ has_forms = Number ∷ Number ∷ Number ∷ Number ∷ Number ∷ []
 abbrev pub books_stored : RowWithId StoredBooks → Row
 books_stored s = Int s.row.entry ∷ Int s.row.thing ∷ Int s.row.amount ∷ Int s.rowid ∷ []
 
+-- the forms of the columns of `books`, and of the rowid after them
 abbrev pub books_forms : List Form
 books_forms = Number ∷ Number ∷ Number ∷ Number ∷ []
 
@@ -164,5 +178,6 @@ books_forms = Number ∷ Number ∷ Number ∷ Number ∷ []
 abbrev pub market_stored : RowWithId StoredMarket → Row
 market_stored s = Int s.row.region ∷ Int s.row.item ∷ Int s.row.stock ∷ Int s.rowid ∷ []
 
+-- the forms of the columns of `market`, and of the rowid after them
 abbrev pub market_forms : List Form
 market_forms = Number ∷ Number ∷ Number ∷ Number ∷ []

@@ -48,7 +48,7 @@ market_unique = 1 ∷ 2 ∷ []
 
 -- ---- the tables, each with the number of its tree
 
--- its key is `id`, and its check says `id = 1`
+-- one row, the campaign row: its key is `id`, and its check says `id = 1`
 abbrev pub campaign_table : Table
 campaign_table = table 0 (codes "campaign")
     (number (codes "id") ∷ number (codes "format") ∷ number (codes "month") ∷ number (codes "next_faction") ∷ number (codes "next_unit") ∷ number (codes "next_structure") ∷ text (codes "pass") ∷ text (codes "world") ∷ [])
@@ -67,6 +67,7 @@ unit_table = table 4 (codes "unit")
     (number (codes "number") ∷ number (codes "faction") ∷ text (codes "name") ∷ number (codes "region") ∷ number (codes "structure") ∷ number (codes "men") ∷ number (codes "money") ∷ number (codes "guard") ∷ [])
     (Some 0) (0 ∷ []) [] []
 
+-- what units have: a row for each item and each skill of a unit
 abbrev pub has_table : Table
 has_table = table 5 (codes "has") (number (codes "unit") ∷ number (codes "sort") ∷ number (codes "thing") ∷ number (codes "amount") ∷ []) None has_unique (has_unique ∷ []) []
 
@@ -75,15 +76,18 @@ structure_table = table 7 (codes "structure")
     (number (codes "number") ∷ number (codes "kind") ∷ text (codes "name") ∷ number (codes "region") ∷ number (codes "done") ∷ number (codes "owner") ∷ [])
     (Some 0) (0 ∷ []) [] []
 
+-- a row for each faction that sent a mailing
 abbrev pub mail_table : Table
 mail_table = table 8 (codes "mail") (number (codes "faction") ∷ field (codes "text") Blob ∷ []) (Some 0) (0 ∷ []) [] []
 
 abbrev pub report_table : Table
 report_table = table 9 (codes "report") (number (codes "faction") ∷ text (codes "text") ∷ []) (Some 0) (0 ∷ []) [] []
 
+-- a row for each entry and thing with an amount
 abbrev pub books_table : Table
 books_table = table 10 (codes "books") (number (codes "entry") ∷ number (codes "thing") ∷ number (codes "amount") ∷ []) None books_unique (books_unique ∷ []) []
 
+-- a row for each item of a region that is in stock
 abbrev pub market_table : Table
 market_table = table 12 (codes "market") (number (codes "region") ∷ number (codes "item") ∷ number (codes "stock") ∷ []) None market_unique (market_unique ∷ []) []
 

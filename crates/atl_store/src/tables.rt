@@ -33,6 +33,7 @@ macro_rules! columns {
 
 // ---- the tables, and of each unique key its indexes in a stored row (0 is the rowid)
 
+/// The campaign row, of which there is one.
 const CAMPAIGN: TableDefinition = TableDefinition {
     text: "CREATE TABLE campaign (id INTEGER NOT NULL PRIMARY KEY CHECK (id = 1), format INTEGER NOT NULL, month INTEGER NOT NULL, next_faction INTEGER NOT NULL, next_unit INTEGER NOT NULL, next_structure INTEGER NOT NULL, pass TEXT NOT NULL, world TEXT NOT NULL) STRICT",
     tree: 0,
@@ -72,6 +73,7 @@ const UNIT: TableDefinition = TableDefinition {
     ),
 };
 
+/// What units have: a row for each item and each skill of a unit.
 pub(crate) const HAS: TableDefinition = TableDefinition {
     text: "CREATE TABLE has (unit INTEGER NOT NULL, sort INTEGER NOT NULL, thing INTEGER NOT NULL, amount INTEGER NOT NULL, PRIMARY KEY (unit, sort, thing)) STRICT",
     tree: 5,
@@ -106,6 +108,7 @@ const REPORT: TableDefinition = TableDefinition {
     columns: columns!(Integer: b"faction"; Text: b"text"),
 };
 
+/// The books: a row for each entry and thing with an amount.
 pub(crate) const BOOKS: TableDefinition = TableDefinition {
     text: "CREATE TABLE books (entry INTEGER NOT NULL, thing INTEGER NOT NULL, amount INTEGER NOT NULL, PRIMARY KEY (entry, thing)) STRICT",
     tree: 10,

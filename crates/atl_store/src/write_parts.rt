@@ -18,8 +18,8 @@ use atl_state::{Campaign, Faction, Region, Structure, Unit};
 use atl_tables::{Numbered, Sequence, Text};
 use sqlite::{Alter, Error, Transaction};
 
-/// All parts of a campaign but the campaign row, in the order in which they are written: factions, reports, regions, structures,
-/// books, stocks, units, what these have, and mail.
+/// All parts of a campaign but the campaign row, in the order in which they are written:
+/// factions, reports, regions, structures, books, stocks, units, what these have, and mail.
 pub(crate) type OtherParts = (
     Numbered<Faction>,
     (

@@ -144,6 +144,7 @@ impl Stored for StoredCampaign {
     }
 }
 
+/// The SELECT of all rows of `campaign`.
 const ALL: &str =
     "SELECT id, format, month, next_faction, next_unit, next_structure, pass, world FROM campaign ORDER BY id";
 
