@@ -28,7 +28,7 @@ use Rattle.atl_state.specs.declared.parts.StoredCampaignRow.{StoredCampaignRow}
 use Rattle.atl_store.specs.Faults.{fault_of_check}
 use Rattle.atl_store.specs.Gathering.{IsSettled, Lacks, Found, FailsToRead, FailsToConfirm, ReadRows, AreOfFormat, AreAllApart, HaveKeys, without_ids, width, OwnRead, IsMadeOf, ReadsSome, Gathered, IsConfirmed, IsLoaded}
 use Rattle.atl_store.specs.Keeps.{Keeps, Stores}
-use Rattle.atl_store.specs.Loading.{HaveRows, rows_read, own_stored, KeepsOneRow, BreaksRule, MayReturnDamaged, RefusesToLoadIn, StandsIn, LoadsIn, Loads, LeavesAlone, AfterReads, AreMade, AreToldTyped, MayReturnMemory, FailedMeanwhile, RefusesAgain, has_places, placed_tables, other_parts, other_selects}
+use Rattle.atl_store.specs.Loading.{HaveRows, rows_read, own_stored, KeepsOneRow, BreaksRule, MayReturnDamaged, RefusesToLoadIn, StandsIn, LoadsIn, Loads, LeavesAlone, AfterReads, AreMade, AreToldTyped, MayReturnMemory, FailedMeanwhile, RefusesAgain, shows_rowids, tables_with_rowids, other_parts, other_selects}
 use Rattle.atl_store.specs.Rows.{HoldsIn}
 use Rattle.atl_store.specs.Statements.{selection}
 use Rattle.atl_store.specs.Reading.{listing_of}
@@ -58,8 +58,8 @@ module _ (f : Format) {S : Type 0} (g : Ghosts S) where
 
 -- ---- the parts
 
-not_own : (part : Part) → has_places part ≡ true → Has (other_parts Second) part
-not_own part is = elim (every_part part) [ inl own ↦ absurd (true≢false (sym is ∙ ap has_places own)) | inr other ↦ other ]
+not_own : (part : Part) → shows_rowids part ≡ true → Has (other_parts Second) part
+not_own part is = elim (every_part part) [ inl own ↦ absurd (true≢false (sym is ∙ ap shows_rowids own)) | inr other ↦ other ]
 
 has_own : (f : Format) → Has (parts_in f) Own
 has_own First = inl refl
@@ -70,7 +70,7 @@ read_of : (reads : ReadRows) → map (λ read. read.0) reads ≡ other_parts Sec
 read_of reads parts part there = map_has (λ (read : Part × List Row). read.0) reads part (subst (λ l. Has l part) (sym parts) there)
 
 nothing_unplaced : (part : Part) → without_ids part [] ≡ []
-nothing_unplaced part = elim (cases_Bool (has_places part)) [
+nothing_unplaced part = elim (cases_Bool (shows_rowids part)) [
   | inl is ↦ cut_places part [] is
   | inr is ↦ cut_nothing part [] is
 ]
@@ -99,19 +99,19 @@ module _ (f : Format) {S : Type 0} (g : Ghosts S) (old : Held S) (reads : ReadRo
   all_of read there has begins = elim (are.each read there) [ inl all ↦ all.1 (has_since f old.schema begins read.0 has) | inr none ↦ absurd (none.0 has) ]
 
   -- where the places differ, the tables are keyed, and the other way round
-  all_keyed : map (λ read. read.0) reads ≡ other_parts Second → AreAllApart reads → HasTablesOf f old.schema → (table : Table) → Has (placed_tables f) table → IsKeyed (db table.tree)
+  all_keyed : map (λ read. read.0) reads ≡ other_parts Second → AreAllApart reads → HasTablesOf f old.schema → (table : Table) → Has (tables_with_rowids f) table → IsKeyed (db table.tree)
   all_keyed parts apart begins table there =
-      let part = map_has table_of (filter has_places (parts_in f)) table there in
-      let kept = has_filtered has_places (parts_in f) part.0 part.1 in
+      let part = map_has table_of (filter shows_rowids (parts_in f)) table there in
+      let kept = has_filtered shows_rowids (parts_in f) part.0 part.1 in
       let read = read_of reads parts part.0 (not_own part.0 kept.1) in
       subst (λ (t : Table). IsKeyed (db t.tree)) (sym (part.2 ∙ ap table_of read.2))
-      (places_keyed read.0.0 db read.0.1 (subst (λ p. has_places p ≡ true) read.2 kept.1) (all_of read.0 read.1 (subst (Has (parts_in f)) read.2 kept.0) begins) (apart.each read.0 read.1 (subst (λ p. has_places p ≡ true) read.2 kept.1)))
+      (places_keyed read.0.0 db read.0.1 (subst (λ p. shows_rowids p ≡ true) read.2 kept.1) (all_of read.0 read.1 (subst (Has (parts_in f)) read.2 kept.0) begins) (apart.each read.0 read.1 (subst (λ p. shows_rowids p ≡ true) read.2 kept.1)))
 
   all_apart : AreMade f g old → AreAllApart reads
   unfolding IsDistinct
   all_apart made = record {
     each = λ read there is. elim (are.each read there) [
-      | inl all ↦ keyed_places read.0 db read.1 is (all_of read there all.0 made.begins) (made.keyed (table_of read.0) (has_map table_of (filter has_places (parts_in f)) read.0 (has_kept has_places (parts_in f) read.0 all.0 is)))
+      | inl all ↦ keyed_places read.0 db read.1 is (all_of read there all.0 made.begins) (made.keyed (table_of read.0) (has_map table_of (filter shows_rowids (parts_in f)) read.0 (has_kept shows_rowids (parts_in f) read.0 all.0 is)))
       | inr none ↦ subst (HaveKeys (width read.0)) (sym none.1) (record { apart = tt; ints = tt })
     ];
   }

@@ -22,7 +22,7 @@ use Rattle.atl_store.specs.Loading.{LeavesAlone, LoadsIn, RefusesToLoadIn}
 use Rattle.atl_store.specs.OwnStatements.{OfUpgrade}
 use Rattle.atl_store.specs.Rows.{Holds, HoldsIn}
 use Rattle.atl_store.specs.Tables.{HasTablesOf}
-use Rattle.atl_store.specs.UpgradeSteps.{IsJustOld, IsOld, WritesUpgrade}
+use Rattle.atl_store.specs.UpgradeSteps.{IsFirstFormat, IsJustOld, WritesUpgrade}
 use Rattle.atl_store.specs.Upgrading.{BreaksOffUpgrade, FailsCheck, FailsInTransaction, HasMore, HasOld, HasOtherWorld, HoldsOld, IsReadyToUpgrade, Matches, MayUpgrade, RefusesToUpgrade, Upgrades}
 use Rattle.atl_store.specs.WorldText.{world_text}
 use Rattle.atl_store.specs.Writes.{Transacts}
@@ -128,19 +128,19 @@ module _ {S : Type 0} (g : Ghosts S) (text : List ℕ) (old new : Held S) where
 
 module _ {S : Type 0} (g : Ghosts S) (text : List ℕ) (old mid new : Held S) (w : WorldValue) (c : MarkedCampaign) (alone : LeavesAlone g old mid) (ready : IsReadyToUpgrade g text old mid w c) where
   abbrev Wrote : {A : Type 0} → Result A Error → Type 0
-  Wrote r = Transacts g (OfUpgrade text c.value) IsOld (WritesUpgrade text c.value) r mid new
+  Wrote r = Transacts g (OfUpgrade text c.value) IsFirstFormat (WritesUpgrade text c.value) r mid new
 
   -- the tables are just the old ones
-  is_old : IsJustOld mid.schema → HasCleanDisk (state g mid) → IsOld (state g mid).now
+  is_old : IsJustOld mid.schema → HasCleanDisk (state g mid) → IsFirstFormat (state g mid).now
   is_old just clean = let stands = ready.loads.stands clean in record { just = just; keyed = stands.keyed; listed = stands.listed }
 
   did : (db : Database) → HasCleanDisk (state g mid) → WritesUpgrade text c.value (state g mid).now db → Holds db.trees text c.value
   did db clean wrote = wrote (world_text (state g mid)) (ready.loads.stands clean).rows ready.loads.fits.stocks
 
-  before : Survives (state g mid) (state g new) (MayLeave IsOld (WritesUpgrade text c.value) (state g mid)) → HasCleanDisk (state g new) → HasCleanDisk (state g mid)
+  before : Survives (state g mid) (state g new) (MayLeave IsFirstFormat (WritesUpgrade text c.value) (state g mid)) → HasCleanDisk (state g new) → HasCleanDisk (state g mid)
   before survives clean = omega (arith, survives.clean, clean)
 
-  pub upgrades : (settled : (db : Trees) → IsTrue (state g new).is_open → (state g new).may_leave db → db ≡ (state g new).committed.trees) → IsJustOld mid.schema → (HasCleanDisk (state g new) → Commits IsOld (WritesUpgrade text c.value) (state g mid) (state g new)) → Survives (state g mid) (state g new) (MayLeave IsOld (WritesUpgrade text c.value) (state g mid)) → new.in_transaction ≡ false
+  pub upgrades : (settled : (db : Trees) → IsTrue (state g new).is_open → (state g new).may_leave db → db ≡ (state g new).committed.trees) → IsJustOld mid.schema → (HasCleanDisk (state g new) → Commits IsFirstFormat (WritesUpgrade text c.value) (state g mid) (state g new)) → Survives (state g mid) (state g new) (MayLeave IsFirstFormat (WritesUpgrade text c.value) (state g mid)) → new.in_transaction ≡ false
       → Upgrades g text old new w c
   upgrades settled just done survives over = record {
     world = ready.world;
@@ -148,7 +148,7 @@ module _ {S : Type 0} (g : Ghosts S) (text : List ℕ) (old mid new : Held S) (w
     bare = ready.loads.fits.stocks;
     tables = λ clean.
         let clean_mid = before survives clean in
-        commits_keeps (state g mid) (state g new) text settled IsOld (WritesUpgrade text c.value) c.value (done clean) (is_old just clean_mid) (did new_now clean_mid);
+        commits_keeps (state g mid) (state g new) text settled IsFirstFormat (WritesUpgrade text c.value) c.value (done clean) (is_old just clean_mid) (did new_now clean_mid);
     good = good_either ready.before w c.value ready.same ready.loads.fits.stocks ready.loads.good;
     unmarked = ready.loads.unmarked;
     idle = over;
@@ -170,7 +170,7 @@ module _ {S : Type 0} (g : Ghosts S) (text : List ℕ) (old mid new : Held S) (w
     ];
   }
 
-  module _ (just : IsJustOld mid.schema) (idle : mid.in_transaction ≡ false) (off : HasCleanDisk (state g new) → LeavesOff (state g mid) (state g new)) (survives : Survives (state g mid) (state g new) (MayLeave IsOld (WritesUpgrade text c.value) (state g mid))) where
+  module _ (just : IsJustOld mid.schema) (idle : mid.in_transaction ≡ false) (off : HasCleanDisk (state g new) → LeavesOff (state g mid) (state g new)) (survives : Survives (state g mid) (state g new) (MayLeave IsFirstFormat (WritesUpgrade text c.value) (state g mid))) where
     spared : HasCleanDisk (state g new) → ChangesNothing (state g old) (state g new)
     spared clean =
         let clean_mid = before survives clean in
@@ -180,7 +180,7 @@ module _ {S : Type 0} (g : Ghosts S) (text : List ℕ) (old mid new : Held S) (w
     may_upgrade : HasCleanDisk (state g new) → MayUpgrade (state g old) text (state g new)
     may_upgrade clean db may =
         let clean_mid = before survives clean in
-        elim (may_found (state g mid) (state g new) text c.value IsOld (WritesUpgrade text c.value) (is_old just clean_mid) (λ other. did other clean_mid) clean survives db may) [
+        elim (may_found (state g mid) (state g new) text c.value IsFirstFormat (WritesUpgrade text c.value) (is_old just clean_mid) (λ other. did other clean_mid) clean survives db may) [
           | inl was ↦ elim (alone.survives.crash clean_mid db was) [ inl early ↦ inl early | inr none ↦ absurd none ]
           | inr stored ↦ inr (w, c.value, matched g text old mid alone clean_mid w c ready, stored)
         ]

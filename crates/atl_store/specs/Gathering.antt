@@ -24,7 +24,7 @@ use Rattle.atl_state.specs.declared.checking.Rule.TheVariants.{OneRow}
 use Rattle.atl_state.specs.declared.parts.Parts.{Parts}
 use Rattle.atl_state.specs.declared.parts.StoredCampaignRow.{StoredCampaignRow}
 use Rattle.atl_store.specs.Faults.{is_memory}
-use Rattle.atl_store.specs.Loading.{HaveRows, AreOwnRow, IsOther, HasOtherType, KeepsOneRow, other_parts, other_selects, has_places, placed_tables, rows_read, AfterReads, AreToldTyped, RefusesOne}
+use Rattle.atl_store.specs.Loading.{HaveRows, AreOwnRow, IsOther, HasOtherType, KeepsOneRow, other_parts, other_selects, shows_rowids, tables_with_rowids, rows_read, AfterReads, AreToldTyped, RefusesOne}
 use Rattle.atl_store.specs.Reading.{Selects, listing_of}
 use Rattle.atl_store.specs.Statements.{selection}
 use Rattle.atl_store.specs.Sets.{IsKeyed, rows_in}
@@ -211,11 +211,11 @@ pub record HaveKeys (at : ℕ) (rows : List Row) : Type 0 where
 
 -- no two rows of a part that is shown with rowids have the same one
 pub record AreAllApart (reads : ReadRows) : Type 0 where
-  pub each : (read : Part × List Row) → Has reads read → has_places read.0 ≡ true → HaveKeys (width read.0) read.1
+  pub each : (read : Part × List Row) → Has reads read → shows_rowids read.0 ≡ true → HaveKeys (width read.0) read.1
 
 -- the rows of a part without the rowids that they are shown with
 abbrev pub without_ids : Part → List Row → List Row
-without_ids part rows = if has_places part then map (take (width part)) rows else rows
+without_ids part rows = if shows_rowids part then map (take (width part)) rows else rows
 
 -- `p` holds the campaign row `head` and the rows that were read of all other parts, without their rowids.
 -- No two rows of a part have the same rowid.
@@ -236,7 +236,7 @@ pub record Gathered (f : Format) {S : Type 0} (g : Ghosts S) (old : Held S) (w :
   pub world : world_by f text ≡ Ok w
   pub typed : AreToldTyped g old (other_selects f)
   pub rows : HasTablesOf f old.schema → HaveRows f (state g old).now.trees text p
-  pub keyed : HasTablesOf f old.schema → (table : Table) → Has (placed_tables f) table → IsKeyed ((state g old).now.trees table.tree)
+  pub keyed : HasTablesOf f old.schema → (table : Table) → Has (tables_with_rowids f) table → IsKeyed ((state g old).now.trees table.tree)
 
 -- the old tables are made as the format has them and fit their schema, and the new connection is open
 pub record IsConfirmed (f : Format) (old new : State) : Type 0 where

@@ -124,12 +124,12 @@ abbrev pub other_selects : Format → List (List ℕ × List Form)
 other_selects f = map (λ part. ((listing_of part).select, forms_of part)) (other_parts f)
 
 -- whether a part's table has no INTEGER PRIMARY KEY, so that its rows are shown with their rowids
-abbrev pub has_places : Part → Bool
-has_places part = not (is_some (table_of part).key)
+abbrev pub shows_rowids : Part → Bool
+shows_rowids part = not (is_some (table_of part).key)
 
 -- the tables of a format that have no INTEGER PRIMARY KEY
-abbrev pub placed_tables : Format → List Table
-placed_tables f = map table_of (filter has_places (parts_in f))
+abbrev pub tables_with_rowids : Format → List Table
+tables_with_rowids f = map table_of (filter shows_rowids (parts_in f))
 
 -- if the connection is open it was open before, and its tables and its last commit are as they were
 pub record Stays (old new : State) : Type 0 where
@@ -205,7 +205,7 @@ module _ (f : Format) {S : Type 0} (g : Ghosts S) (old : Held S) where
   -- The schema begins with the tables of the format; in those without an INTEGER PRIMARY KEY the rowids are integers, no two alike.
   pub record AreMade : Type 0 where
     pub begins : HasTablesOf f old.schema
-    pub keyed : (table : Table) → Has (placed_tables f) table → IsKeyed ((state g old).now.trees table.tree)
+    pub keyed : (table : Table) → Has (tables_with_rowids f) table → IsKeyed ((state g old).now.trees table.tree)
 
   -- The tables are made as the format has them (`AreMade`), and `rule` is the first rule that their rows break.
   -- The world text reads as a world.

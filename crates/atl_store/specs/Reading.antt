@@ -101,12 +101,12 @@ abbrev pub whole : Format → Table → ℕ → PartSelect
 whole since t key = record { since = since; names = column_names t; select = selection t key; in_table = rows_in t }
 
 -- the same, and each row's rowid as a last column
-abbrev pub placed : Format → Table → ℕ → PartSelect
-placed since t key = record { since = since; names = column_names t ++ codes "rowid" ∷ []; select = selection_with_ids t key; in_table = rows_with_ids_in t }
+abbrev pub whole_with_ids : Format → Table → ℕ → PartSelect
+whole_with_ids since t key = record { since = since; names = column_names t ++ codes "rowid" ∷ []; select = selection_with_ids t key; in_table = rows_with_ids_in t }
 
 -- how each part is read: goods, books and stocks with their rowids, all others without
 abbrev pub listing_of : Part → PartSelect
-listing_of Goods = placed First has_table 3
-listing_of Books = placed First books_table 2
-listing_of Markets = placed Second market_table 2
+listing_of Goods = whole_with_ids First has_table 3
+listing_of Books = whole_with_ids First books_table 2
+listing_of Markets = whole_with_ids Second market_table 2
 listing_of part = whole First (table_of part) 1

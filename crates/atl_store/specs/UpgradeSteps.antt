@@ -20,7 +20,7 @@ IsJustOld schema = schema ≡ first_tables (table_count_in First) (index_count_i
 
 -- The database has exactly the tables of the first format, and its trees list and obey the schema.
 -- The rowids of each table are integers, no two alike.
-pub record IsOld (db : Database) : Type 0 where
+pub record IsFirstFormat (db : Database) : Type 0 where
   pub just : IsJustOld db.schema
   pub keyed : (table : Table) → Has (map table_of (parts_in First)) table → IsKeyed (db.trees table.tree)
   pub listed : IsSound db.schema db.trees

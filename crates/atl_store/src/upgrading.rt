@@ -6,7 +6,7 @@ ghost use Rattle.atl_store.specs.Inside.{Inside};
 ghost use Rattle.atl_store.specs.Keeps.{IsLater};
 ghost use Rattle.atl_store.specs.Loading.{LeavesAlone};
 ghost use Rattle.atl_store.specs.OwnStatements.{OfUpgrade};
-ghost use Rattle.atl_store.specs.UpgradeSteps.{IsOld, WritesUpgrade};
+ghost use Rattle.atl_store.specs.UpgradeSteps.{IsFirstFormat, WritesUpgrade};
 ghost use Rattle.atl_store.specs.Upgrading.{FailsCheck, IsReadyToUpgrade, RefusesToUpgrade, Upgrades};
 ghost use Rattle.atl_store.specs.Writes.{Writes, Transacts};
 
@@ -27,7 +27,8 @@ fn put_upgrade<S: Alter>(
     campaign: &Campaign,
 ) -> Result<(), Error>
     ensures { Writes S.Store (OfUpgrade text.now campaign.now.value)
-        (Inside IsOld (WritesUpgrade text.now campaign.now.value)) result tx.old.conn tx.new.conn }
+        (Inside IsFirstFormat (WritesUpgrade text.now campaign.now.value)) result tx.old.conn
+        tx.new.conn }
 {
     create_market(tx)?;
     upgrade_campaign_row(tx, campaign, text)
@@ -40,7 +41,7 @@ fn write_upgrade<S: Alter>(
     campaign: &Campaign,
 ) -> Result<(), Error>
     requires { conn.old.in_transaction ≡ false }
-    ensures { Transacts S.Store (OfUpgrade text.now campaign.now.value) IsOld
+    ensures { Transacts S.Store (OfUpgrade text.now campaign.now.value) IsFirstFormat
         (WritesUpgrade text.now campaign.now.value) result conn.old conn.new }
 {
     let mut tx = conn.transaction();
