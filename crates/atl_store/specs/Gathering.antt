@@ -1,4 +1,4 @@
--- For proofs alone: what each step of loading has read, and which fault it returns.
+-- For proofs and for private functions: what each step of loading has read, and which fault it returns.
 use Rattle.std.specs.Prelude.{◌≡◌, ◌≢◌, ◌++◌, ℕ, List, [], ◌∷◌, Bool, false, true, if◌then◌else◌, ◌⊎◌, IsTrue, IsPermutation, drop, length, map, take, pos, Option, Some, None, Result, Ok, Err, IfOk, IfErr, ⊤, string_bytes}
 use Rattle.std.specs.List.{AllByRecursion, IsDistinct}
 use Rattle.std.specs.Ordering.{eq_by_cmp, int_cmp, is_eq}

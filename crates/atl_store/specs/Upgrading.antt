@@ -108,7 +108,7 @@ module _ {S : Type 0} (g : Ghosts S) (text : List ℕ) (old new : Held S) where
     pub spares : HasCleanDisk (state g new) → ChangesNothing (state g old) (state g new)
     pub crash : HasCleanDisk (state g new) → MayUpgrade (state g old) text (state g new)
 
--- ---- For proofs alone.
+-- ---- For proofs and for private functions.
 
 -- the campaign is loaded in the first format, and the new text is of a world that differs from its world in markets alone
 pub record IsReadyToUpgrade {S : Type 0} (g : Ghosts S) (text : List ℕ) (old mid : Held S) (w : WorldValue) (c : MarkedCampaign) : Type 0 where
