@@ -10,7 +10,7 @@ use Rattle.atl_state.specs.Campaign.{CampaignValue}
 use Rattle.atl_state.specs.Founding.{founded_of}
 use Rattle.atl_state.specs.Good.{IsGood}
 use Rattle.atl_store.specs.Making.{has_campaign}
-use Rattle.atl_store.specs.Keeps.{Keeps, IsLater, IsReady, MayFound, Creates, BreaksOff, FailsToCreate, RefusesToCreate}
+use Rattle.atl_store.specs.Keeps.{Keeps, IsLater, IsReadyToCreate, MayFound, Creates, BreaksOffCreation, FailsToCreate, RefusesToCreate}
 use Rattle.atl_store.proofs.StayLaws.{spares_itself}
 use Rattle.atl_store.specs.declared.fault.CreateFault.{CreateFault}
 use Rattle.atl_store.specs.declared.fault.CreateFault.TheVariants.{NotEmpty, Store, Memory}
@@ -95,7 +95,7 @@ module _ {S : Type 0} (g : Ghosts S) where
     refused_by_store NotEmpty refused = record { cause = ((w, made.world), made.pass_is_good, refused.0); leaves = refused.1; later = later }
     refused_by_store Store refused = record { cause = ((w, made.world), made.pass_is_good, refused.0.fresh); leaves = (failed refused.0, broken refused.1); later = later }
       where
-        broken : ((¬ IsReady (state g old)) × (new ≡ old)) ⊎ BreaksOff g text c old new Store → RefusesToWrite g (FoundsBy text pass) old new
+        broken : ((¬ IsReadyToCreate (state g old)) × (new ≡ old)) ⊎ BreaksOffCreation g text c old new Store → RefusesToWrite g (FoundsBy text pass) old new
         broken (inl unasked) = inl unasked
         broken (inr off) = inr (off.ready, λ clean. creation_failed g (FoundsBy text pass) old new (told_by_founding Store (off.told clean)))
     refused_by_store Memory refused = record { cause = tt; leaves = (failed refused.0, inr (λ clean. creation_lacked g (FoundsBy text pass) old new (told_by_founding Memory (refused.1.told clean)))); later = later }

@@ -8,7 +8,7 @@ use Rattle.sqlite.specs.Held.{state}
 use Rattle.sqlite.specs.State.{State, HasCleanDisk}
 use Rattle.atl_tables.specs.Worlds.{WorldValue}
 use Rattle.atl_state.specs.Campaign.{CampaignValue}
-use Rattle.atl_store.specs.Keeps.{HoldsCampaign, IsLater, Keeps, Stops}
+use Rattle.atl_store.specs.Keeps.{HoldsCampaign, IsLater, Keeps, LeavesAfterFault}
 use Rattle.atl_store.proofs.WorldTextLaws.{world_text_is}
 use Rattle.atl_service.specs.declared.command.Command.{Command}
 use Rattle.atl_service.specs.declared.command.Answer.{Answer}
@@ -21,10 +21,10 @@ use Rattle.atl_service.specs.Service.{ServiceValue, text_in}
 use Rattle.atl_service.specs.Runs.{Runs, RunsAt, RunsOpen, Accepts, Closes, RunsAll, Follows, FollowsAt, AreClosed, Headline, Interrupted, HeadlineAt}
 
 -- a count that began lower says the same of the disk
-stops_from : (few many : ℕ) (s : State) (text : List ℕ) (before after : CampaignValue) → few ≤ many → Stops many s text before after → Stops few s text before after
+stops_from : (few many : ℕ) (s : State) (text : List ℕ) (before after : CampaignValue) → few ≤ many → LeavesAfterFault many s text before after → LeavesAfterFault few s text before after
 stops_from few many s text before after h stops = record {
   still = stops.still;
-  closes = elim stops.closes [ inl up ↦ inl up | inr more ↦ inr (lower few many s.faults h more) ];
+  shuts = elim stops.shuts [ inl up ↦ inl up | inr more ↦ inr (lower few many s.faults h more) ];
   crash = stops.crash;
 }
   where
@@ -47,7 +47,7 @@ module _ {S : Type 0} (g : Ghosts S) where
     f.0,
     f.1,
     f.2,
-    λ clean. subst (λ t. Stops few (state g new.conn) t c (step w c x).0) (same clean) (stops_from few many (state g new.conn) t c (step w c x).0 h (f.3 clean)),
+    λ clean. subst (λ t. LeavesAfterFault few (state g new.conn) t c (step w c x).0) (same clean) (stops_from few many (state g new.conn) t c (step w c x).0 h (f.3 clean)),
     record { old = f.4.old; held = λ clean. subst (λ t. Keeps (state g f.4.old) t c) (same clean) (f.4.held clean); cause = f.4.cause },
   )
 
@@ -71,7 +71,7 @@ module _ {S : Type 0} (g : Ghosts S) where
   -- one that closed the service
   closed : (old mid new : ServiceValue S) (c : CampaignValue) (x : Command) (fault : Failure) (cs : List Command) (rs : List Answer) → Closes g c old x mid → HasCause g (OfCommand old.world c x) old.conn mid.conn fault → HoldsCampaign g old.conn (text_in g old.conn) c
       → (HasCleanDisk (state g mid.conn) → HasCleanDisk (state g old.conn)) → FollowsAt g mid cs rs new mid.campaign
-      → AreClosed cs rs × (new.campaign ≡ None) × (HasCleanDisk (state g new.conn) → Stops (state g old.conn).faults (state g new.conn) (text_in g old.conn) c (step old.world c x).0) × IsFault g (text_in g old.conn) old.world c x fault new.conn
+      → AreClosed cs rs × (new.campaign ≡ None) × (HasCleanDisk (state g new.conn) → LeavesAfterFault (state g old.conn).faults (state g new.conn) (text_in g old.conn) c (step old.world c x).0) × IsFault g (text_in g old.conn) old.world c x fault new.conn
       × (new.world ≡ old.world)
   closed old mid new c x fault cs rs closes cause holds clean rest =
       let shut : mid.campaign ≡ None = ap (λ (e : ServiceValue S). e.campaign) closes.same in
@@ -79,7 +79,7 @@ module _ {S : Type 0} (g : Ghosts S) where
       let told : IsFault g (text_in g old.conn) old.world c x fault mid.conn = record { old = old.conn; held = λ h. holds (clean h); cause = cause } in (
         on.0,
         ap (λ (e : ServiceValue S). e.campaign) on.1 ∙ shut,
-        subst (λ (e : ServiceValue S). HasCleanDisk (state g e.conn) → Stops (state g old.conn).faults (state g e.conn) (text_in g old.conn) c (step old.world c x).0) (sym on.1) closes.tables,
+        subst (λ (e : ServiceValue S). HasCleanDisk (state g e.conn) → LeavesAfterFault (state g old.conn).faults (state g e.conn) (text_in g old.conn) c (step old.world c x).0) (sym on.1) closes.tables,
         subst (λ (e : ServiceValue S). IsFault g (text_in g old.conn) old.world c x fault e.conn) (sym on.1) told,
         ap (λ (e : ServiceValue S). e.world) on.1 ∙ ap (λ (e : ServiceValue S). e.world) closes.same,
       )

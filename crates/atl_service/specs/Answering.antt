@@ -8,7 +8,7 @@ use Rattle.atl_orders.specs.declared.fault.MailFault.{MailFault}
 use Rattle.atl_orders.specs.declared.fault.MailFault.TheVariants as mail
 use Rattle.atl_state.specs.Campaign.{CampaignValue}
 use Rattle.atl_state.specs.Good.{IsGood}
-use Rattle.atl_store.specs.Keeps.{Keeps, Stops, IsLater, SparesOthers}
+use Rattle.atl_store.specs.Keeps.{Keeps, LeavesAfterFault, IsLater, LeavesOthersAlone}
 use Rattle.atl_store.specs.declared.fault.WriteFault.{WriteFault}
 use Rattle.atl_store.specs.declared.fault.WriteFault.TheVariants as write
 use Rattle.atl_service.specs.declared.answering.MailError.{MailError}
@@ -45,13 +45,13 @@ pub record Answers {S : Type 0} (g : Ghosts S) (w : WorldValue) (before : Campai
 
 -- There is no answer. Tables that held the campaign before stop at it, and a crash leaves it or the step's.
 abbrev pub GivesUp : {S : Type 0} → Ghosts S → WorldValue → CampaignValue → Held S → Command → Held S → Type 0
-GivesUp g w before old command new = HasCleanDisk (state g new) → (text : List ℕ) → Keeps (state g old) text before → Stops (state g old).faults (state g new) text before (step w before command).0
+GivesUp g w before old command new = HasCleanDisk (state g new) → (text : List ℕ) → Keeps (state g old) text before → LeavesAfterFault (state g old).faults (state g new) text before (step w before command).0
 
 -- answered or not, the connection is in no transaction, no failure of its disk is forgotten, and other tables stay as they are
 pub record LeavesIdle {S : Type 0} (g : Ghosts S) (old new : Held S) : Type 0 where
   pub idle : new.in_transaction ≡ false
   pub later : IsLater (state g old) (state g new)
-  pub others : HasCleanDisk (state g new) → SparesOthers (state g old) (state g new)
+  pub others : HasCleanDisk (state g new) → LeavesOthersAlone (state g old) (state g new)
 
 -- what is told of a fault of the store
 abbrev pub of_write : WriteFault → Failure

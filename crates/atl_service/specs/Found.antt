@@ -11,7 +11,7 @@ use Rattle.atl_tables.specs.declared.fault.WorldFault.TheVariants as world
 use Rattle.atl_state.specs.Campaign.{CampaignValue}
 use Rattle.atl_state.specs.Founding.{founded_of}
 use Rattle.atl_store.specs.Making.{has_campaign}
-use Rattle.atl_store.specs.Keeps.{HoldsCampaign, IsLater, IsReady, Spares, MayFound}
+use Rattle.atl_store.specs.Keeps.{HoldsCampaign, IsLater, IsReadyToCreate, ChangesNothing, MayFound}
 use Rattle.atl_store.specs.declared.fault.CreateFault.{CreateFault}
 use Rattle.atl_store.specs.declared.fault.CreateFault.TheVariants as create
 use Rattle.atl_service.specs.declared.command.Cause.{Cause}
@@ -49,13 +49,13 @@ IsCause text pass is_there Memory = ⊤
 
 -- The database could not be written, or there was no memory: while the connection is open its tables are as they were, and a crash leaves what it left before or the founded campaign. Where the text is no world, or the pass text isn't good, nothing is changed at all.
 pub record FailsToFound {S : Type 0} (g : Ghosts S) (old : Held S) (text pass : List ℕ) (new : Held S) : Type 0 where
-  pub tables : HasCleanDisk (state g new) → Spares (state g old) (state g new)
+  pub tables : HasCleanDisk (state g new) → ChangesNothing (state g old) (state g new)
   pub unfounded : (¬ IsWorldText text) ⊎ (pass_ok pass ≡ false) → new ≡ old
   pub crash : HasCleanDisk (state g new) → (w : WorldValue) → world_of text ≡ Ok w → MayFound (state g old) text (founded_of w pass) (state g new)
 
 -- The database has a table, an index or a view, or the connection is in a transaction, and nothing is changed; or neither is so, and a call of the writing gave another error than lack of memory.
 abbrev pub RefusesToWrite : {S : Type 0} → Ghosts S → Statements → Held S → Held S → Type 0
-RefusesToWrite g own old new = ((¬ IsReady (state g old)) × (new ≡ old)) ⊎ (IsReady (state g old) × FailsToWrite g own old new)
+RefusesToWrite g own old new = ((¬ IsReadyToCreate (state g old)) × (new ≡ old)) ⊎ (IsReadyToCreate (state g old) × FailsToWrite g own old new)
 
 -- After a check that fails nothing is changed. What Store and Memory leave is in `FailsToFound`.
 abbrev pub Leaves : {S : Type 0} → Ghosts S → Held S → List ℕ → List ℕ → Held S → Cause → Type 0

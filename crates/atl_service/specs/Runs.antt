@@ -5,7 +5,7 @@ use Rattle.sqlite.specs.Held.{state}
 use Rattle.sqlite.specs.State.{HasCleanDisk}
 use Rattle.atl_tables.specs.Worlds.{WorldValue}
 use Rattle.atl_state.specs.Campaign.{CampaignValue}
-use Rattle.atl_store.specs.Keeps.{HoldsCampaign, IsLater, Stops}
+use Rattle.atl_store.specs.Keeps.{HoldsCampaign, IsLater, LeavesAfterFault}
 use Rattle.atl_service.specs.declared.command.Command.{Command}
 use Rattle.atl_service.specs.declared.command.Answer.{Answer}
 use Rattle.atl_service.specs.declared.command.Answer.TheVariants.{Joined, Mailed, MonthDone, Text, Refused, Fault}
@@ -27,10 +27,10 @@ pub record Accepts {S : Type 0} (g : Ghosts S) (c : CampaignValue) (old : Servic
 abbrev pub Refuses : {S : Type 0} → CampaignValue → ServiceValue S → Command → Answer → ServiceValue S → Type 0
 Refuses c old command answer new = (step old.world c command ≡ (c, answer)) × (new ≡ old)
 
--- The service is closed. While the connection is open the tables hold the campaign before; a crash leaves that one or the step's (`Stops`).
+-- The service is closed. While the connection is open the tables hold the campaign before; a crash leaves that one or the step's (`LeavesAfterFault`).
 pub record Closes {S : Type 0} (g : Ghosts S) (c : CampaignValue) (old : ServiceValue S) (command : Command) (new : ServiceValue S) : Type 0 where
   pub same : new ≡ record old { conn = new.conn; campaign = None }
-  pub tables : HasCleanDisk (state g new.conn) → Stops (state g old.conn).faults (state g new.conn) (text_in g old.conn) c (step old.world c command).0
+  pub tables : HasCleanDisk (state g new.conn) → LeavesAfterFault (state g old.conn).faults (state g new.conn) (text_in g old.conn) c (step old.world c command).0
 
 -- while the service is open, with this campaign
 abbrev pub RunsOpen : {S : Type 0} → Ghosts S → CampaignValue → ServiceValue S → Command → Answer → ServiceValue S → Type 0
@@ -62,7 +62,7 @@ AreClosed [] (a ∷ rs) = ⊥
 AreClosed (c ∷ cs) [] = ⊥
 
 -- The answers from a campaign on are those of the definition up to the first fault, and Closed after it. Without a fault the tables end with the rows of the last campaign.
--- With one they stay at the campaign of the commands before it (`Stops`), and the fault has its cause. `faults` is how often the disk had failed before.
+-- With one they stay at the campaign of the commands before it (`LeavesAfterFault`), and the fault has its cause. `faults` is how often the disk had failed before.
 abbrev pub Follows : {S : Type 0} → Ghosts S → List ℕ → ℕ → WorldValue → CampaignValue → List Command → List Answer → ServiceValue S → Type 0
 Follows g text faults w c [] [] new = (new.campaign ≡ Some c) × HoldsCampaign g new.conn text c
 Follows g text faults w c (command ∷ cs) (Joined faction unit ∷ rs) new = ((step w c command).1 ≡ Joined faction unit) × Follows g text faults w (step w c command).0 cs rs new
@@ -71,7 +71,7 @@ Follows g text faults w c (command ∷ cs) (MonthDone month ∷ rs) new = ((step
 Follows g text faults w c (command ∷ cs) (Text report ∷ rs) new = ((step w c command).1 ≡ Text report) × Follows g text faults w (step w c command).0 cs rs new
 Follows g text faults w c (command ∷ cs) (Refused why ∷ rs) new = ((step w c command).1 ≡ Refused why) × Follows g text faults w (step w c command).0 cs rs new
 Follows g text faults w c (command ∷ cs) (Fault fault ∷ rs) new =
-    (fault ≢ Closed) × AreClosed cs rs × (new.campaign ≡ None) × (HasCleanDisk (state g new.conn) → Stops faults (state g new.conn) text c (step w c command).0) × IsFault g text w c command fault new.conn
+    (fault ≢ Closed) × AreClosed cs rs × (new.campaign ≡ None) × (HasCleanDisk (state g new.conn) → LeavesAfterFault faults (state g new.conn) text c (step w c command).0) × IsFault g text w c command fault new.conn
 Follows g text faults w c [] (a ∷ rs) new = ⊥
 Follows g text faults w c (command ∷ cs) [] new = ⊥
 
@@ -91,7 +91,7 @@ pub record Headline {S : Type 0} (g : Ghosts S) (text : List ℕ) (w : WorldValu
   pub campaign_is : new.campaign ≡ Some (run_of w c commands).0
   pub tables : HoldsCampaign g new.conn text (run_of w c commands).0
 
--- A fault came at a command, and has its cause: the answers before it are the definition's, the tables stay at the campaign of the commands before it (`Stops`), and all later answers are Closed.
+-- A fault came at a command, and has its cause: the answers before it are the definition's, the tables stay at the campaign of the commands before it (`LeavesAfterFault`), and all later answers are Closed.
 pub record Interrupted {S : Type 0} (g : Ghosts S) (text : List ℕ) (faults : ℕ) (w : WorldValue) (c : CampaignValue) (commands : List Command) (answers : List Answer) (new : ServiceValue S) : Type 0 where
   pub count : ℕ
   pub command : Command
@@ -102,7 +102,7 @@ pub record Interrupted {S : Type 0} (g : Ghosts S) (text : List ℕ) (faults : �
   pub answers_are : answers ≡ (run_of w c (take count commands)).1 ++ Answers.Fault fault ∷ map (λ _. Answers.Fault Closed) (drop (count + 1) commands)
   pub campaign_is : new.campaign ≡ None
   pub cause : IsFault g text w (run_of w c (take count commands)).0 command fault new.conn
-  pub tables : HasCleanDisk (state g new.conn) → Stops faults (state g new.conn) text (run_of w c (take count commands)).0 (run_of w c (take (count + 1) commands)).0
+  pub tables : HasCleanDisk (state g new.conn) → LeavesAfterFault faults (state g new.conn) text (run_of w c (take count commands)).0 (run_of w c (take (count + 1) commands)).0
 
 -- From an open service `Headline` holds, or a fault came (`Interrupted`). From a closed one every answer is Closed, and nothing changes.
 abbrev pub HeadlineAt : {S : Type 0} → Ghosts S → ServiceValue S → List Command → List Answer → ServiceValue S → Option CampaignValue → Type 0

@@ -54,7 +54,7 @@ impl<S: Alter> Model for Service<S> {
 impl<S: Alter> Service<S> {
     ghost use Rattle.atl_state.specs.Good.{IsGood};
     ghost use Rattle.atl_state.specs.Marks.{no_marks};
-    ghost use Rattle.atl_store.specs.Keeps.{HoldsCampaign, IsLater, SparesOthers};
+    ghost use Rattle.atl_store.specs.Keeps.{HoldsCampaign, IsLater, LeavesOthersAlone};
     ghost use Rattle.std.specs.Prelude.{Some, true};
     ghost use Rattle.atl_service.specs.Service.{IsService, text_in};
     ghost use Rattle.atl_service.specs.Runs.{Runs, RunsAll, HeadlineAt};
@@ -82,7 +82,7 @@ impl<S: Alter> Service<S> {
         ensures runs { Runs S.Store self.old command.now result self.new }
         ensures later { IsLater (state S.Store self.old.conn) (state S.Store self.new.conn) }
         ensures others { HasCleanDisk (state S.Store self.new.conn)
-            → SparesOthers (state S.Store self.old.conn) (state S.Store self.new.conn) }
+            → LeavesOthersAlone (state S.Store self.old.conn) (state S.Store self.new.conn) }
         ensures tables { IfSome self.new.campaign
             (λ c. HoldsCampaign S.Store self.new.conn (text_in S.Store self.new.conn) c) }
         ensures balances { IfSome self.new.campaign Balances }

@@ -15,7 +15,7 @@ use Rattle.sqlite_rules.specs.Action.{works, Work, work_for}
 use Rattle.sqlite.specs.Effect.{Database}
 use Rattle.atl_store.specs.Sets.{Set}
 use Rattle.atl_store.proofs.Made.{Makes}
-use Rattle.atl_store.specs.Tables.{all_tables, all_and, all_trees, IsSoundly}
+use Rattle.atl_store.specs.Tables.{all_tables, all_and, all_trees, IsSoundDatabase}
 use Rattle.atl_store.specs.Inside.{HasTables, Carries, Alters, Done}
 use Rattle.atl_store.proofs.ListLaws.{has_map}
 
@@ -40,8 +40,8 @@ pub among_all : (tables : List Table) (t : Table) → Has all_tables t → Has (
 among_all tables t there = has_left all_tables tables t there
 
 -- the trees are sound under the schema as it is known
-pub sound_under : (db : Database) (has : HasTables db) → IsSoundly (all_and has.begins.tables has.begins.indexes) db.trees
-sound_under db has = subst (λ s. IsSoundly s db.trees) has.begins.is has.sound
+pub sound_under : (db : Database) (has : HasTables db) → IsSoundDatabase (all_and has.begins.tables has.begins.indexes) db.trees
+sound_under db has = subst (λ s. IsSoundDatabase s db.trees) has.begins.is has.sound
 
 module _ (t : Table) (old new : Database) (has : HasTables old) (ours : Has all_tables t) where
   abbrev schema : Schema
@@ -50,10 +50,10 @@ module _ (t : Table) (old new : Database) (has : HasTables old) (ours : Has all_
   abbrev OthersStay : Type 0
   OthersStay = (u : Table) → Has schema.tables u → u.tree ≢ t.tree → new.trees u.tree ≡ old.trees u.tree
 
-  pub stays_there : new.schema ≡ schema → IsSoundly schema new.trees → HasTables new
+  pub stays_there : new.schema ≡ schema → IsSoundDatabase schema new.trees → HasTables new
   stays_there is sound = record {
     begins = record { tables = has.begins.tables; indexes = has.begins.indexes; is = is; free = has.begins.free; plain = has.begins.plain };
-    sound = subst (λ s. IsSoundly s new.trees) (sym is) sound;
+    sound = subst (λ s. IsSoundDatabase s new.trees) (sym is) sound;
   }
 
   -- the other tables are carried along

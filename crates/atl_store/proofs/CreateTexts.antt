@@ -18,7 +18,7 @@ use Rattle.sqlite.specs.Command.TheVariants.{CreateTable}
 use Rattle.sqlite.specs.State.{State, Executes}
 use Rattle.sqlite.proofs.Callers.{IsPlain, command_of, statement_of}
 use Rattle.atl_store.specs.Tables.{Part, Own, all_parts, creation_of, table_count, table_of}
-use Rattle.atl_store.specs.Writes.{Writes, Runs}
+use Rattle.atl_store.specs.Writes.{Writes, RunsStatement}
 use Rattle.atl_store.specs.OwnStatements.{Only, Creations}
 use Rattle.atl_store.proofs.Made.{Creates, Extends}
 use Rattle.atl_store.proofs.CreateLaws.{creates}
@@ -74,12 +74,12 @@ made_at i d small =
 
 -- the text is one of them, and makes the one more table
 abbrev pub Makes : Schema → Schema → List ℕ → Type 1
-Makes before after text = Has (map creation_of all_parts) text × ((old new : State) → Runs text [] old new → Extends before after old new)
+Makes before after text = Has (map creation_of all_parts) text × ((old new : State) → RunsStatement text [] old new → Extends before after old new)
 
 makes : (before after : Schema) (table : Table) (text : List ℕ) → Has (map creation_of all_parts) text → IsCreate before after table text → Makes before after text
 makes before after table text listed is = (listed, run)
   where
-    run : (old new : State) → Runs text [] old new → Extends before after old new
+    run : (old new : State) → RunsStatement text [] old new → Extends before after old new
     run old new (inside, count, h) = extends before after table old new inside h.1.mode is.last (λ has. makes_table before after table text is old new count has h.0)
 
 -- elements with these texts
@@ -101,5 +101,5 @@ module _ {S A : Type 0} (g : Ghosts S) {r : Result A Error} {a b : MutBor (Held 
   pub creating : {Does : State → State → Type 0} {before after : Schema} (text : List ℕ) → Makes before after text → Writes g (Only text []) Does r a b → Writes g Creations Does r a b
   creating text makes one = among_only g text [] (makes.0, refl) one
 
-  pub made_by : {before after : Schema} (text : List ℕ) → Makes before after text → Writes g (Only text []) (Runs text []) r a b → Writes g Creations (Extends before after) r a b
+  pub made_by : {before after : Schema} (text : List ℕ) → Makes before after text → Writes g (Only text []) (RunsStatement text []) r a b → Writes g Creations (Extends before after) r a b
   made_by text makes one = weaker g makes.1 (creating text makes one)

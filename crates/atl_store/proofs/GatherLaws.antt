@@ -13,7 +13,7 @@ use Rattle.sqlite_rules.proofs.ListLemmas.{has_left, has_right, has_either, test
 use Rattle.atl_tables.specs.declared.format.Format.{Format}
 use Rattle.atl_tables.specs.declared.format.Format.TheVariants.{First, Second}
 use Rattle.atl_store.specs.Gathering.{IsSettled, kept_of, ReadRows, AreRows, AreAllRows, AreOfFormat, AreNone, late_parts, selects_by, Found, AnswersOne, FailsToRead, ReadsSome}
-use Rattle.atl_store.specs.Loading.{Stays, Leaves, Tells, AreTold, AreToldTyped, HasOtherType, RefusesOne, other_parts, other_selects}
+use Rattle.atl_store.specs.Loading.{Stays, AfterReads, Tells, AreTold, AreToldTyped, HasOtherType, RefusesOne, other_parts, other_selects}
 use Rattle.atl_store.specs.Reading.{ReadsRows, GivesTable, Rests, Selects, RefusesToSelect, listing_of}
 use Rattle.atl_store.specs.Stored.{Form, AreTyped}
 use Rattle.atl_store.specs.Tables.{Part, parts_in}
@@ -62,14 +62,14 @@ each_of_one P x p y (inl same) = subst P (sym same) p
 each_of_one P x p y (inr none) = absurd none
 
 module _ {S : Type 0} (g : Ghosts S) where
-  pub leaves_none : (old : Held S) → old.in_transaction ≡ false → Leaves g old old
+  pub leaves_none : (old : Held S) → old.in_transaction ≡ false → AfterReads g old old
   leaves_none old idle = record {
     stays = λ _. record { was_open = λ up. up; same = λ up. (refl, refl) };
     survives = survives_start (state g old);
     idle = idle;
   }
 
-  pub leaves_then : (old mid new : Held S) → Leaves g old mid → Leaves g mid new → Leaves g old new
+  pub leaves_then : (old mid new : Held S) → AfterReads g old mid → AfterReads g mid new → AfterReads g old new
   leaves_then old mid new one two = record {
     stays = λ clean.
         let first = one.stays (omega (arith, two.survives.clean)) in
@@ -82,7 +82,7 @@ module _ {S : Type 0} (g : Ghosts S) where
     idle = two.idle;
   }
 
-  pub settled_then : (old new : Held S) → IsSettled (state g old) → Leaves g old new → IsSettled (state g new)
+  pub settled_then : (old new : Held S) → IsSettled (state g old) → AfterReads g old new → IsSettled (state g new)
   settled_then old new settled leaves clean up =
       let stays = leaves.stays clean in
       let same = stays.same up in
@@ -179,7 +179,7 @@ module _ {S : Type 0} (g : Ghosts S) where
       other = found.other;
     }
 
-  refuses_then : (old mid : Held S) → Leaves g old mid → (selects : List (List ℕ × List Form)) (fault : ReadFault) → RefusesOne g mid selects fault → RefusesOne g old selects fault
+  refuses_then : (old mid : Held S) → AfterReads g old mid → (selects : List (List ℕ × List Form)) (fault : ReadFault) → RefusesOne g mid selects fault → RefusesOne g old selects fault
   refuses_then old mid first selects fault refused = record {
     select = refused.select;
     one = refused.one;
@@ -188,7 +188,7 @@ module _ {S : Type 0} (g : Ghosts S) where
     refused = refused.refused;
   }
 
-  answers_then : (old mid : Held S) → Leaves g old mid → (selects : List (List ℕ × List Form)) → AnswersOne g mid selects → AnswersOne g old selects
+  answers_then : (old mid : Held S) → AfterReads g old mid → (selects : List (List ℕ × List Form)) → AnswersOne g mid selects → AnswersOne g old selects
   answers_then old mid first selects answers = record {
     select = answers.select;
     one = answers.one;
@@ -199,7 +199,7 @@ module _ {S : Type 0} (g : Ghosts S) where
   }
 
   -- a fault of a later reading
-  pub fails_then : (old mid : Held S) → Leaves g old mid → (selects : List (List ℕ × List Form)) (fault : LoadFault) → FailsToRead g mid selects fault → FailsToRead g old selects fault
+  pub fails_then : (old mid : Held S) → AfterReads g old mid → (selects : List (List ℕ × List Form)) (fault : LoadFault) → FailsToRead g mid selects fault → FailsToRead g old selects fault
   fails_then old mid first selects Store (inl refused) = inl (refuses_then old mid first selects read.Store refused)
   fails_then old mid first selects Store (inr refused) = inr (refuses_then old mid first selects read.Refused refused)
   fails_then old mid first selects (Damaged rule) fails = fails
@@ -237,7 +237,7 @@ module _ {S : Type 0} (g : Ghosts S) where
   found_both xs ys P Q old None None p q = other_within old xs (xs ++ ys) (has_left xs ys) (each_of_both (λ s. (rows : List Row) × Tells g old s.0 rows) xs ys p.all q.all) p
 
   -- what a stage found that begins where another ended
-  found_behind : {A : Type 0} (old mid new : Held S) → Leaves g old mid → (selects : List (List ℕ × List Form)) (P Q : A → Type 0) (r : Result (Option A) LoadFault) → ReadsSome g mid selects P r new → (o : Option A) → r ≡ Ok o
+  found_behind : {A : Type 0} (old mid new : Held S) → AfterReads g old mid → (selects : List (List ℕ × List Form)) (P Q : A → Type 0) (r : Result (Option A) LoadFault) → ReadsSome g mid selects P r new → (o : Option A) → r ≡ Ok o
       → ((state g mid).now ≡ (state g old).now → (a : A) → P a → Q a) → HasCleanDisk (state g new) → Found g old selects Q o
   found_behind old mid new before selects P Q r reads o was weaker clean =
       let up = subst (λ r. IfOk r (λ _. IsTrue (state g mid).is_open)) was (reads.was_open clean) in
@@ -359,7 +359,7 @@ module _ {S : Type 0} (g : Ghosts S) where
   reads_by some others rows old new r f is same reads = subst (λ f. ReadsSome g old (selects_by f some others) (λ a. AreOfFormat f (state g old).now (rows a)) r new) (sym same) reads
 
   -- what was found of a format behind another stage
-  pub format_behind : {A : Type 0} (f : Format) (rows : A → ReadRows) (old mid new : Held S) → Leaves g old mid → (selects : List (List ℕ × List Form)) (r : Result (Option A) LoadFault) → ReadsSome g mid selects (λ a. AreOfFormat f (state g mid).now (rows a)) r new → (o : Option A) → r ≡ Ok o
+  pub format_behind : {A : Type 0} (f : Format) (rows : A → ReadRows) (old mid new : Held S) → AfterReads g old mid → (selects : List (List ℕ × List Form)) (r : Result (Option A) LoadFault) → ReadsSome g mid selects (λ a. AreOfFormat f (state g mid).now (rows a)) r new → (o : Option A) → r ≡ Ok o
       → HasCleanDisk (state g new) → Found g old selects (λ a. AreOfFormat f (state g old).now (rows a)) o
   format_behind f rows old mid new before selects r reads o was clean =
       found_behind old mid new before selects (λ a. AreOfFormat f (state g mid).now (rows a)) (λ a. AreOfFormat f (state g old).now (rows a)) r reads o was (λ same a are. subst (λ (db : Database). AreOfFormat f db (rows a)) same are) clean

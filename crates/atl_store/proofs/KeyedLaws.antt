@@ -19,7 +19,7 @@ use Rattle.atl_tables.specs.declared.format.Format.TheVariants.{Second}
 use Rattle.atl_state.specs.declared.parts.Parts.{Parts}
 use Rattle.atl_state.specs.declared.parts.StoredCampaignRow.{StoredCampaignRow}
 use Rattle.atl_store.specs.Gathering.{AreApart, AreAllApart, HaveKeys, IsMadeOf, Lacks, ReadRows, without_ids, width}
-use Rattle.atl_store.specs.Loading.{has_places, has_values, books_values, market_values, other_parts, rows_read}
+use Rattle.atl_store.specs.Loading.{shows_rowids, has_values, books_values, market_values, other_parts, rows_read}
 use Rattle.atl_store.specs.Reading.{listing_of}
 use Rattle.atl_store.specs.Rows.{lines_of}
 use Rattle.atl_store.specs.Sets.{IsKeyed, visible, rows_in}
@@ -104,23 +104,23 @@ row_place Own r = refl
 row_place part r = refl
 
 -- A part's listing shows all rows with their places, or all rows, whose numbers are in the first column.
-shown_by : (part : Part) → ((has_places part ≡ true) × ((db : Trees) → (listing_of part).in_table db ≡ map (placed_row part) (db (table_of part).tree)))
-    ⊎ ((has_places part ≡ false) × ((db : Trees) → (listing_of part).in_table db ≡ rows_in (table_of part) db) × ((r : Row) → column (visible (table_of part) r) 0 ≡ rowid r))
+shown_by : (part : Part) → ((shows_rowids part ≡ true) × ((db : Trees) → (listing_of part).in_table db ≡ map (placed_row part) (db (table_of part).tree)))
+    ⊎ ((shows_rowids part ≡ false) × ((db : Trees) → (listing_of part).in_table db ≡ rows_in (table_of part) db) × ((r : Row) → column (visible (table_of part) r) 0 ≡ rowid r))
 shown_by Goods = inl (refl, λ db. refl)
 shown_by Books = inl (refl, λ db. refl)
 shown_by Markets = inl (refl, λ db. refl)
 shown_by part = inr (refl, λ db. refl, λ r. refl)
 
-in_places : (part : Part) → has_places part ≡ true → (db : Trees) → (listing_of part).in_table db ≡ map (placed_row part) (db (table_of part).tree)
+in_places : (part : Part) → shows_rowids part ≡ true → (db : Trees) → (listing_of part).in_table db ≡ map (placed_row part) (db (table_of part).tree)
 in_places part is = elim (shown_by part) [ inl places ↦ places.1 | inr whole ↦ absurd (true≢false (sym is ∙ whole.0)) ]
 
-row_number : (part : Part) → has_places part ≡ false → (r : Row) → column (visible (table_of part) r) 0 ≡ rowid r
+row_number : (part : Part) → shows_rowids part ≡ false → (r : Row) → column (visible (table_of part) r) 0 ≡ rowid r
 row_number part is = elim (shown_by part) [ inl places ↦ absurd (true≢false (sym places.0 ∙ is)) | inr whole ↦ whole.2 ]
 
-pub cut_places : (part : Part) (rows : List Row) → has_places part ≡ true → without_ids part rows ≡ map (take (width part)) rows
+pub cut_places : (part : Part) (rows : List Row) → shows_rowids part ≡ true → without_ids part rows ≡ map (take (width part)) rows
 cut_places part rows is = ap (λ b. if b then map (take (width part)) rows else rows) is
 
-pub cut_nothing : (part : Part) (rows : List Row) → has_places part ≡ false → without_ids part rows ≡ rows
+pub cut_nothing : (part : Part) (rows : List Row) → shows_rowids part ≡ false → without_ids part rows ≡ rows
 cut_nothing part rows is = ap (λ b. if b then map (take (width part)) rows else rows) is
 
 module _ (part : Part) (db : Trees) (rows : List Row) where
@@ -129,7 +129,7 @@ module _ (part : Part) (db : Trees) (rows : List Row) where
       subst (λ l. IsPermutation l (map (take (width part)) rows)) (mapped_twice (placed_row part) (take (width part)) (visible (table_of part)) (cut_row part) (db (table_of part).tree))
       (IsPermutation-map (take (width part)) (map (placed_row part) (db (table_of part).tree)) rows same)
 
-  module _ (is : has_places part ≡ true) (same : IsPermutation ((listing_of part).in_table db) rows) where
+  module _ (is : shows_rowids part ≡ true) (same : IsPermutation ((listing_of part).in_table db) rows) where
     same_placed : IsPermutation (map (placed_row part) (db (table_of part).tree)) rows
     same_placed = subst (λ l. IsPermutation l rows) (in_places part is db) same
 
@@ -141,7 +141,7 @@ module _ (part : Part) (db : Trees) (rows : List Row) where
     keyed_places keyed = keyed_shown (placed_row part) (width part) (db (table_of part).tree) rows (row_place part) same_placed keyed
 
   -- and so where the numbers differ
-  pub numbers_keyed : has_places part ≡ false → IsPermutation (rows_in (table_of part) db) rows → HaveKeys 0 rows → IsKeyed (db (table_of part).tree)
+  pub numbers_keyed : shows_rowids part ≡ false → IsPermutation (rows_in (table_of part) db) rows → HaveKeys 0 rows → IsKeyed (db (table_of part).tree)
   numbers_keyed is same keys = keyed_by (visible (table_of part)) 0 (db (table_of part).tree) rows (row_number part is) same keys
 
   pub unplaced_all : IsPermutation ((listing_of part).in_table db) rows → IsPermutation (rows_in (table_of part) db) (without_ids part rows)
@@ -182,15 +182,15 @@ market_placed = record { values_are = λ s. refl; place_is = λ s. refl }
 -- those of a part are what was read of it without the places, which differ
 pub record IsMadeAs (p : Parts) (read : Part × List Row) : Type 0 where
   pub rows : (text : List ℕ) → rows_read text p read.0 ≡ without_ids read.0 read.1
-  pub apart : has_places read.0 ≡ true → HaveKeys (width read.0) read.1
+  pub apart : shows_rowids read.0 ≡ true → HaveKeys (width read.0) read.1
 
-pub made_whole : {p : Parts} {rows : List Row} (part : Part) → has_places part ≡ false → ((text : List ℕ) → rows_read text p part ≡ rows) → IsMadeAs p (part, rows)
+pub made_whole : {p : Parts} {rows : List Row} (part : Part) → shows_rowids part ≡ false → ((text : List ℕ) → rows_read text p part ≡ rows) → IsMadeAs p (part, rows)
 made_whole {p} {rows} part free are = record {
   rows = λ text. are text ∙ sym (cut_nothing part rows free);
   apart = λ placed. absurd (true≢false (sym placed ∙ free));
 }
 
-pub made_placed : {p : Parts} {A : Type 0} {part : Part} {stored : RowWithId A → Row} {values : A → Row} → IsPlacedAs part stored values → has_places part ≡ true → (placed : List (RowWithId A))
+pub made_placed : {p : Parts} {A : Type 0} {part : Part} {stored : RowWithId A → Row} {values : A → Row} → IsPlacedAs part stored values → shows_rowids part ≡ true → (placed : List (RowWithId A))
     → ((text : List ℕ) → rows_read text p part ≡ map values (map (λ s. s.row) placed)) → AreApart placed → IsMadeAs p (part, map stored placed)
 made_placed {p} {A} {part} {stored} {values} is has placed are apart = record {
   rows = λ text. are text ∙ placed_values is placed ∙ sym (cut_places part (map stored placed) has);
@@ -206,7 +206,7 @@ made_of {head} {reads} {p} parts campaign all = record {
 }
 
 -- where two rows of a part are kept at one place, not all are apart
-pub lacks_all : {A B : Type 0} {part : Part} {stored : RowWithId A → Row} {values : A → Row} → IsPlacedAs part stored values → has_places part ≡ true → (placed : List (RowWithId A)) (reads : ReadRows) → Has reads (part, map stored placed)
+pub lacks_all : {A B : Type 0} {part : Part} {stored : RowWithId A → Row} {values : A → Row} → IsPlacedAs part stored values → shows_rowids part ≡ true → (placed : List (RowWithId A)) (reads : ReadRows) → Has reads (part, map stored placed)
     → (fault : LoadFault) → Lacks (AreApart placed) fault → (r : Result B LoadFault) → IsErrAnd r (λ told. told ≡ fault) → IfErr r (Lacks (AreAllApart reads))
 lacks_all is has placed reads there fault lacks (Ok b) told = tt
 lacks_all {A} {B} {part} {stored} is has placed reads there fault lacks (Err f) told = subst (Lacks (AreAllApart reads)) (sym told) (all fault lacks)

@@ -33,7 +33,7 @@ use Rattle.sqlite_rules.proofs.ListLemmas.{all_has, some_from}
 use Rattle.sqlite_rules.proofs.RuleLemmas.{keeps_at}
 use Rattle.atl_store.specs.Inside.{Inside, HasTables, Puts, Drops}
 use Rattle.atl_store.specs.Sets.{table, visible}
-use Rattle.atl_store.specs.Tables.{all_tables, all_indexes, all_and, IsSoundly}
+use Rattle.atl_store.specs.Tables.{all_tables, all_indexes, all_and, IsSoundDatabase}
 use Rattle.atl_store.proofs.CarryLaws.{among_all, unlinked, none_share, sound_under, done_with}
 use Rattle.atl_store.proofs.EditLaws.{delete_query, found_by}
 use Rattle.atl_store.proofs.KeyLaws.{cons_is, unwrapped}
@@ -107,7 +107,7 @@ module _ (tree : ℕ) (name : List ℕ) (columns : List Column) (places : List �
   t = table tree name columns None places (places ∷ []) []
 
   module _ (key : HasKey t at places) where
-    module _ (more : List Table) (indexes : List Index) (db : Trees) (sound : IsSoundly (all_and more indexes) db) where
+    module _ (more : List Table) (indexes : List Index) (db : Trees) (sound : IsSoundDatabase (all_and more indexes) db) where
       abbrev schema : Schema
       schema = all_and more indexes
 

@@ -28,12 +28,12 @@ use Rattle.atl_state.specs.declared.parts.StoredCampaignRow.{StoredCampaignRow}
 use Rattle.atl_store.specs.Faults.{fault_of_check}
 use Rattle.atl_store.specs.Gathering.{IsSettled, Lacks, Found, FailsToRead, FailsToConfirm, ReadRows, AreOfFormat, AreAllApart, HaveKeys, without_ids, width, OwnRead, IsMadeOf, ReadsSome, Gathered, IsConfirmed, IsLoaded}
 use Rattle.atl_store.specs.Keeps.{Keeps, Stores}
-use Rattle.atl_store.specs.Loading.{HaveRows, rows_read, own_stored, KeepsOneRow, BreaksRule, IsDamaged, RefusesToLoadIn, StandsIn, LoadsIn, Loads, LeavesAlone, Leaves, AreMade, AreToldTyped, WantsMemory, FailedMeanwhile, RefusesAgain, has_places, placed_tables, other_parts, other_selects}
+use Rattle.atl_store.specs.Loading.{HaveRows, rows_read, own_stored, KeepsOneRow, BreaksRule, MayReturnDamaged, RefusesToLoadIn, StandsIn, LoadsIn, Loads, LeavesAlone, AfterReads, AreMade, AreToldTyped, MayReturnMemory, FailedMeanwhile, RefusesAgain, shows_rowids, tables_with_rowids, other_parts, other_selects}
 use Rattle.atl_store.specs.Rows.{HoldsIn}
 use Rattle.atl_store.specs.Statements.{selection}
 use Rattle.atl_store.specs.Reading.{listing_of}
 use Rattle.atl_store.specs.Sets.{IsKeyed, rows_in}
-use Rattle.atl_store.specs.Tables.{Part, Own, IsSoundly, HasTablesOf, campaign_table, table_of, parts_in}
+use Rattle.atl_store.specs.Tables.{Part, Own, IsSoundDatabase, HasTablesOf, campaign_table, table_of, parts_in}
 use Rattle.atl_store.specs.WorldText.{world_text}
 use Rattle.atl_store.specs.declared.fault.LoadFault.{LoadFault}
 use Rattle.atl_store.specs.declared.fault.LoadFault.TheVariants.{Store, Damaged, NotACampaign, OtherFormat, Memory}
@@ -58,8 +58,8 @@ module _ (f : Format) {S : Type 0} (g : Ghosts S) where
 
 -- ---- the parts
 
-not_own : (part : Part) → has_places part ≡ true → Has (other_parts Second) part
-not_own part is = elim (every_part part) [ inl own ↦ absurd (true≢false (sym is ∙ ap has_places own)) | inr other ↦ other ]
+not_own : (part : Part) → shows_rowids part ≡ true → Has (other_parts Second) part
+not_own part is = elim (every_part part) [ inl own ↦ absurd (true≢false (sym is ∙ ap shows_rowids own)) | inr other ↦ other ]
 
 has_own : (f : Format) → Has (parts_in f) Own
 has_own First = inl refl
@@ -70,7 +70,7 @@ read_of : (reads : ReadRows) → map (λ read. read.0) reads ≡ other_parts Sec
 read_of reads parts part there = map_has (λ (read : Part × List Row). read.0) reads part (subst (λ l. Has l part) (sym parts) there)
 
 nothing_unplaced : (part : Part) → without_ids part [] ≡ []
-nothing_unplaced part = elim (cases_Bool (has_places part)) [
+nothing_unplaced part = elim (cases_Bool (shows_rowids part)) [
   | inl is ↦ cut_places part [] is
   | inr is ↦ cut_nothing part [] is
 ]
@@ -99,19 +99,19 @@ module _ (f : Format) {S : Type 0} (g : Ghosts S) (old : Held S) (reads : ReadRo
   all_of read there has begins = elim (are.each read there) [ inl all ↦ all.1 (has_since f old.schema begins read.0 has) | inr none ↦ absurd (none.0 has) ]
 
   -- where the places differ, the tables are keyed, and the other way round
-  all_keyed : map (λ read. read.0) reads ≡ other_parts Second → AreAllApart reads → HasTablesOf f old.schema → (table : Table) → Has (placed_tables f) table → IsKeyed (db table.tree)
+  all_keyed : map (λ read. read.0) reads ≡ other_parts Second → AreAllApart reads → HasTablesOf f old.schema → (table : Table) → Has (tables_with_rowids f) table → IsKeyed (db table.tree)
   all_keyed parts apart begins table there =
-      let part = map_has table_of (filter has_places (parts_in f)) table there in
-      let kept = has_filtered has_places (parts_in f) part.0 part.1 in
+      let part = map_has table_of (filter shows_rowids (parts_in f)) table there in
+      let kept = has_filtered shows_rowids (parts_in f) part.0 part.1 in
       let read = read_of reads parts part.0 (not_own part.0 kept.1) in
       subst (λ (t : Table). IsKeyed (db t.tree)) (sym (part.2 ∙ ap table_of read.2))
-      (places_keyed read.0.0 db read.0.1 (subst (λ p. has_places p ≡ true) read.2 kept.1) (all_of read.0 read.1 (subst (Has (parts_in f)) read.2 kept.0) begins) (apart.each read.0 read.1 (subst (λ p. has_places p ≡ true) read.2 kept.1)))
+      (places_keyed read.0.0 db read.0.1 (subst (λ p. shows_rowids p ≡ true) read.2 kept.1) (all_of read.0 read.1 (subst (Has (parts_in f)) read.2 kept.0) begins) (apart.each read.0 read.1 (subst (λ p. shows_rowids p ≡ true) read.2 kept.1)))
 
   all_apart : AreMade f g old → AreAllApart reads
   unfolding IsDistinct
   all_apart made = record {
     each = λ read there is. elim (are.each read there) [
-      | inl all ↦ keyed_places read.0 db read.1 is (all_of read there all.0 made.begins) (made.keyed (table_of read.0) (has_map table_of (filter has_places (parts_in f)) read.0 (has_kept has_places (parts_in f) read.0 all.0 is)))
+      | inl all ↦ keyed_places read.0 db read.1 is (all_of read there all.0 made.begins) (made.keyed (table_of read.0) (has_map table_of (filter shows_rowids (parts_in f)) read.0 (has_kept shows_rowids (parts_in f) read.0 all.0 is)))
       | inr none ↦ subst (HaveKeys (width read.0)) (sym none.1) (record { apart = tt; ints = tt })
     ];
   }
@@ -158,7 +158,7 @@ module _ (f : Format) {S : Type 0} (g : Ghosts S) where
   breaks : (old : Held S) (w : WorldValue) (p : Parts) → Gathered f g old w p → HasTablesOf f old.schema → (rule : Rule) → IsFirstBroken f w p rule → BreaksRule f g old rule
   breaks old w p all begins rule first = record { made = record { begins = begins; keyed = all.keyed begins }; world = w; text = all.text; is_world = all.world; parts = p; rows = all.rows begins; first = first }
 
-  damaged : (old : Held S) (w : WorldValue) (p : Parts) → Gathered f g old w p → HasTablesOf f old.schema → (rule : Rule) → IsFirstBroken f w p rule → IsDamaged f g old rule
+  damaged : (old : Held S) (w : WorldValue) (p : Parts) → Gathered f g old w p → HasTablesOf f old.schema → (rule : Rule) → IsFirstBroken f w p rule → MayReturnDamaged f g old rule
   damaged old w p all begins OneRow first = absurd (first.broken all.first)
   damaged old w p all begins Ranges first = inr (breaks old w p all begins Ranges first)
   damaged old w p all begins Names first = breaks old w p all begins Names first
@@ -173,7 +173,7 @@ module _ (f : Format) {S : Type 0} (g : Ghosts S) where
   damaged old w p all begins Mail first = breaks old w p all begins Mail first
 
   -- behind the first rule a growth may be refused anywhere
-  wants_memory : (old : Held S) → old.in_transaction ≡ false → KeepsOneRow f g old → WantsMemory g old
+  wants_memory : (old : Held S) → old.in_transaction ≡ false → KeepsOneRow f g old → MayReturnMemory g old
   wants_memory old idle kept = (idle, inr (kept.rows, kept.selects))
 
   pub judged_damaged : (old : Held S) → old.in_transaction ≡ false → (w : WorldValue) (p : Parts) → Gathered f g old w p → HasTablesOf f old.schema → (fault : CheckFault) → Checks f w p (Err fault) → RefusesToLoadIn f g old (fault_of_check fault)
@@ -183,7 +183,7 @@ module _ (f : Format) {S : Type 0} (g : Ghosts S) where
   -- ---- what else is refused behind the first rule
 
   -- another table isn't read
-  pub unread_refuses : (old mid : Held S) → old.in_transaction ≡ false → KeepsOneRow f g old → Leaves g old mid → (fault : LoadFault) → FailsToRead g mid (other_selects f) fault → RefusesToLoadIn f g old fault
+  pub unread_refuses : (old mid : Held S) → old.in_transaction ≡ false → KeepsOneRow f g old → AfterReads g old mid → (fault : LoadFault) → FailsToRead g mid (other_selects f) fault → RefusesToLoadIn f g old fault
   unread_refuses old mid idle kept first fault fails = refused fault (fails_then g old mid first (other_selects f) fault fails)
     where
       refused : (fault : LoadFault) → FailsToRead g old (other_selects f) fault → RefusesToLoadIn f g old fault
@@ -194,7 +194,7 @@ module _ (f : Format) {S : Type 0} (g : Ghosts S) where
       refused Memory fails = wants_memory old idle kept
 
   -- the tables are not confirmed
-  module _ (old mid : Held S) (kept : KeepsOneRow f g old) (first : Leaves g old mid) (clean : HasCleanDisk (state g mid)) where
+  module _ (old mid : Held S) (kept : KeepsOneRow f g old) (first : AfterReads g old mid) (clean : HasCleanDisk (state g mid)) where
     was_open : IsTrue (state g old).is_open
     was_open = kept.selects.2.was_open (shown_open (selection campaign_table 1) _ _ kept.rows kept.selects.3)
 
@@ -222,7 +222,7 @@ module _ (f : Format) {S : Type 0} (g : Ghosts S) where
     unconfirmed_refuses idle typed Memory fails = wants_memory old idle kept
 
 -- what was found of the other tables behind the reading of the campaign's own row
-module _ (f : Format) {S : Type 0} (g : Ghosts S) {A : Type 0} (rows : A → ReadRows) (old mid new : Held S) (own : StoredCampaign) (w : WorldValue) (row : OwnRead g old f own w) (before : Leaves g old mid) (r : Result (Option A) LoadFault)
+module _ (f : Format) {S : Type 0} (g : Ghosts S) {A : Type 0} (rows : A → ReadRows) (old mid new : Held S) (own : StoredCampaign) (w : WorldValue) (row : OwnRead g old f own w) (before : AfterReads g old mid) (r : Result (Option A) LoadFault)
     (reads : ReadsSome g mid (other_selects f) (λ a. AreOfFormat f (state g mid).now (rows a)) r new) (o : Option A) (was : r ≡ Ok o) (clean : HasCleanDisk (state g new)) where
   found : (told : Option A) → o ≡ told → Found g old (other_selects f) (λ a. AreOfFormat f (state g old).now (rows a)) told
   found told is = subst (Found g old (other_selects f) (λ a. AreOfFormat f (state g old).now (rows a))) is (format_behind g f rows old mid new before (other_selects f) r reads o was clean)
@@ -257,7 +257,7 @@ module _ {S : Type 0} (g : Ghosts S) where
   is_idle auto true is said = absurd (let k = sym is ∙ said in cc)
   is_idle auto false is said = refl
 
-  pub confirmed_behind : (f : Format) (old mid new : Held S) → Leaves g old mid → Leaves g mid new → HasCleanDisk (state g mid) → HasCleanDisk (state g new) → IsConfirmed f (state g mid) (state g new) → IsConfirmed f (state g old) (state g new)
+  pub confirmed_behind : (f : Format) (old mid new : Held S) → AfterReads g old mid → AfterReads g mid new → HasCleanDisk (state g mid) → HasCleanDisk (state g new) → IsConfirmed f (state g mid) (state g new) → IsConfirmed f (state g old) (state g new)
   confirmed_behind f old mid new one two clean_mid clean confirmed =
       let up = (two.stays clean).was_open confirmed.is_open in
       let same = ((one.stays clean_mid).same up).0 in
@@ -267,11 +267,11 @@ module _ {S : Type 0} (g : Ghosts S) where
         sound = subst (λ (d : Database). IsSound d.schema d.trees) same confirmed.sound;
       }
 
-  pub leaves_alone : (old new : Held S) → old.in_transaction ≡ false → Leaves g old new → LeavesAlone g old new
+  pub leaves_alone : (old new : Held S) → old.in_transaction ≡ false → AfterReads g old new → LeavesAlone g old new
   leaves_alone old new idle leaves = record {
     spares = λ clean. record {
       same = λ up. let same = (leaves.stays clean).same up in (same.0, same.1, leaves.idle ∙ sym idle);
-      closes = leaves.survives.closes clean;
+      shuts = leaves.survives.closes clean;
     };
     survives = leaves.survives;
     mode = leaves.idle ∙ sym idle;
@@ -279,7 +279,7 @@ module _ {S : Type 0} (g : Ghosts S) where
 
 -- ---- the campaign that the tables hold
 
-module _ (f : Format) {S : Type 0} (g : Ghosts S) (old new : Held S) (w : WorldValue) (c : MarkedCampaign) (loaded : IsLoaded f g old new w c) (leaves : Leaves g old new) (settled : IsSettled (state g old)) where
+module _ (f : Format) {S : Type 0} (g : Ghosts S) (old new : Held S) (w : WorldValue) (c : MarkedCampaign) (loaded : IsLoaded f g old new w c) (leaves : AfterReads g old new) (settled : IsSettled (state g old)) where
   new_stands : (clean : HasCleanDisk (state g new)) → StandsIn f (state g new) (loaded.gathered clean).text c.value
   new_stands clean =
       let all = loaded.gathered clean in
@@ -313,7 +313,7 @@ module _ {S : Type 0} (g : Ghosts S) (old new : Held S) where
   -- a connection that holds a campaign in the second format keeps it, where a crash leaves what was committed
   keeps_second : (text : List ℕ) (c : CampaignValue) → ((db : Trees) → IsTrue (state g new).is_open → (state g new).may_leave db → db ≡ (state g new).committed.trees) → StandsIn Second (state g new) text c → Keeps (state g new) text c
   keeps_second text c store stands =
-      let sound : IsSoundly (state g new).now.schema (state g new).now.trees = record { keyed = stands.keyed; listed = stands.listed } in
+      let sound : IsSoundDatabase (state g new).now.schema (state g new).now.trees = record { keyed = stands.keyed; listed = stands.listed } in
       let rows = holds_all (state g new).now.trees text c stands.rows in
       record {
         idle = stands.idle;

@@ -19,7 +19,7 @@ use Rattle.sqlite.specs.Effect.{Database, IsDatabase}
 use Rattle.sqlite.specs.State.{State, Writes}
 use Rattle.sqlite.specs.Does.{Does}
 use Rattle.atl_store.specs.Sets.{visible, rows_in, Is, put, drop_key, IsKeyed}
-use Rattle.atl_store.specs.Tables.{all_tables, IsSoundly}
+use Rattle.atl_store.specs.Tables.{all_tables, IsSoundDatabase}
 use Rattle.atl_store.proofs.Made.{Makes}
 use Rattle.atl_store.proofs.ListLaws.{has_map, map_has, one_rowid}
 use Rattle.atl_store.proofs.EditLaws.{Swaps, Loses}
@@ -77,8 +77,8 @@ module _ (schema : Schema) (among : (u : Table) → Has all_tables u → Has sch
   )
 
   -- the trees stay sound
-  pub stays_sound : (old new : Database) → IsSoundly schema old.trees → IsDatabase new → new.schema ≡ schema → IsKeyed (new.trees t.tree)
-      → ((u : Table) → Has schema.tables u → u.tree ≢ t.tree → new.trees u.tree ≡ old.trees u.tree) → IsSoundly schema new.trees
+  pub stays_sound : (old new : Database) → IsSoundDatabase schema old.trees → IsDatabase new → new.schema ≡ schema → IsKeyed (new.trees t.tree)
+      → ((u : Table) → Has schema.tables u → u.tree ≢ t.tree → new.trees u.tree ≡ old.trees u.tree) → IsSoundDatabase schema new.trees
   stays_sound old new sound base is keyed others = record {
     keyed = λ u listed. elim (cases_Bool (eqb u.tree t.tree)) [
       | inl same ↦ let e : u.tree ≡ t.tree = grind (arith, nat_tests) in subst (λ n. IsKeyed (new.trees n)) (sym e) keyed
@@ -88,7 +88,7 @@ module _ (schema : Schema) (among : (u : Table) → Has all_tables u → Has sch
   }
 
   pub swaps_make : (p : Row → Bool) (n v : Row) (old new : Database) → Swaps schema t p n old.trees new.trees → visible t n ≡ v → Tests p (take key v) (old.trees t.tree)
-      → IsSoundly schema old.trees → IsDatabase new → new.schema ≡ schema → Makes schema t old new (put key v (Has (rows_in t old.trees)))
+      → IsSoundDatabase schema old.trees → IsDatabase new → new.schema ≡ schema → Makes schema t old new (put key v (Has (rows_in t old.trees)))
   swaps_make p n v old new swap shows tests sound base is = record {
     schema_is = is;
     rows = swaps_set p n v old.trees new.trees swap shows tests;
@@ -97,7 +97,7 @@ module _ (schema : Schema) (among : (u : Table) → Has all_tables u → Has sch
   }
 
   pub loses_make : (p : Row → Bool) (k : Row) (old new : Database) → Loses schema t p old.trees new.trees → Tests p k (old.trees t.tree)
-      → IsSoundly schema old.trees → IsDatabase new → new.schema ≡ schema → Makes schema t old new (drop_key key k (Has (rows_in t old.trees)))
+      → IsSoundDatabase schema old.trees → IsDatabase new → new.schema ≡ schema → Makes schema t old new (drop_key key k (Has (rows_in t old.trees)))
   loses_make p k old new lose tests sound base is = record {
     schema_is = is;
     rows = loses_set p k old.trees new.trees lose tests;
@@ -117,7 +117,7 @@ module _ (schema : Schema) (among : (u : Table) → Has all_tables u → Has sch
     over_make : (r : Row) → Has (old.trees t.tree) r → hits schema t unlinked limit params target place project plain new r ≡ true
         → Swaps schema t (λ x. is_eq (value_cmp (rowid x) (rowid r))) (cast_row t (eval_all project (given schema t unlinked limit params target place project plain new r ∷ r ∷ []))) old.trees next.trees
         → Changes → Tests (hits schema t unlinked limit params target place project plain new) (take key v) (old.trees t.tree) → OneRow
-        → Has all_tables t → IsSoundly schema old.trees → IsDatabase next → next.schema ≡ schema → Makes schema t old next (put key v (Has (rows_in t old.trees)))
+        → Has all_tables t → IsSoundDatabase schema old.trees → IsDatabase next → next.schema ≡ schema → Makes schema t old next (put key v (Has (rows_in t old.trees)))
     over_make r there hit over changed tests alone listed sound base is =
         let same : take key (visible t r) ≡ take key v = (tests r there).0 hit in
         swaps_make _ _ v old next over (changed r there same) (λ x k. (
@@ -128,19 +128,19 @@ module _ (schema : Schema) (among : (u : Table) → Has all_tables u → Has sch
     -- whether the row was put or the one that was there was changed
     pub upserts_make : Upserted schema t unlinked limit params target place project plain new old.trees next.trees → visible t (cast_row t new) ≡ v → Changes
         → Tests (hits schema t unlinked limit params target place project plain new) (take key v) (old.trees t.tree) → OneRow
-        → Has all_tables t → IsSoundly schema old.trees → IsDatabase next → next.schema ≡ schema → Makes schema t old next (put key v (Has (rows_in t old.trees)))
+        → Has all_tables t → IsSoundDatabase schema old.trees → IsDatabase next → next.schema ≡ schema → Makes schema t old next (put key v (Has (rows_in t old.trees)))
     upserts_make (inl put_in) shows changed tests alone listed sound base is = swaps_make _ _ v old next put_in.1 shows tests sound base is
     upserts_make (inr over) shows changed tests alone listed sound base is = over_make over.0 over.1 over.2 over.3 changed tests alone listed sound base is
 
     -- where a row with the key is there, only what the update writes counts
     pub updates_make : Upserted schema t unlinked limit params target place project plain new old.trees next.trees → (r : Row) → Has (old.trees t.tree) r → take key (visible t r) ≡ take key v → Changes
         → Tests (hits schema t unlinked limit params target place project plain new) (take key v) (old.trees t.tree) → OneRow
-        → Has all_tables t → IsSoundly schema old.trees → IsDatabase next → next.schema ≡ schema → Makes schema t old next (put key v (Has (rows_in t old.trees)))
+        → Has all_tables t → IsSoundDatabase schema old.trees → IsDatabase next → next.schema ≡ schema → Makes schema t old next (put key v (Has (rows_in t old.trees)))
     updates_make (inl put_in) r there same changed tests alone listed sound base is = absurd (true≢false (sym ((tests r there).1 same) ∙ put_in.0 r there))
     updates_make (inr over) r there same changed tests alone listed sound base is = over_make over.0 over.1 over.2 over.3 changed tests alone listed sound base is
 
     -- the trees are sound, whichever it was
-    pub upserts_sound : Upserted schema t unlinked limit params target place project plain new old.trees next.trees → IsSoundly schema old.trees → IsDatabase next → next.schema ≡ schema → IsSoundly schema next.trees
+    pub upserts_sound : Upserted schema t unlinked limit params target place project plain new old.trees next.trees → IsSoundDatabase schema old.trees → IsDatabase next → next.schema ≡ schema → IsSoundDatabase schema next.trees
     upserts_sound (inl put_in) sound base is = stays_sound old next sound base is put_in.1.keyed put_in.1.others
     upserts_sound (inr over) sound base is = stays_sound old next sound base is over.3.keyed over.3.others
 

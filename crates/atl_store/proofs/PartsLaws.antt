@@ -37,7 +37,7 @@ use Rattle.atl_records.proofs.ListedLaws.{each_amount, amount_of_each}
 use Rattle.atl_store.specs.declared.rows.has.ThingKind.{ThingKind}
 use Rattle.atl_store.specs.declared.rows.has.ThingKind.TheVariants.{Item, Skill}
 use Rattle.atl_store.specs.Gathering.{HaveKeys}
-use Rattle.atl_store.specs.Loading.{HaveRows, rows_read, own_stored, has_values, books_values, market_values, has_places, placed_tables}
+use Rattle.atl_store.specs.Loading.{HaveRows, rows_read, own_stored, has_values, books_values, market_values, shows_rowids, tables_with_rowids}
 use Rattle.atl_store.specs.Rows.{RowsOf, lines_of, HasRowsOf, BooksRowsOf, MarketRowsOf, rows_for, Holds, HoldsIn, campaign_row_of, faction_line, region_line, unit_line, structure_line, things_of}
 use Rattle.atl_store.specs.Sets.{Is, IsKeyed, rows_in}
 use Rattle.atl_store.specs.Shown.{flag, campaign_row_in, mail_row, report_row, faction_stored, region_stored, unit_stored, structure_stored, mail_stored, report_stored}
@@ -230,7 +230,7 @@ only_second Second part late there = refl
 -- tables that have the rows of a campaign
 module _ (f : Format) (db : Trees) (text : List ℕ) (p : Parts) (c : CampaignValue) (have : HaveRows f db text p) (are : AreRowsOf f c p) (things : ℕ) (books : AreBooks things c.books) where
   -- Each part's table has exactly the rows that stand for the part, and they differ in the first column where that is the row's number.
-  by_part : (part : Part) → Has (parts_in f) part → Is (rows_in (table_of part) db) (rows_for (campaign_row_in f (campaign_row_of c) text) c part) × (has_places part ≡ false → HasKeys (rows_in (table_of part) db))
+  by_part : (part : Part) → Has (parts_in f) part → Is (rows_in (table_of part) db) (rows_for (campaign_row_in f (campaign_row_of c) text) c part) × (shows_rowids part ≡ false → HasKeys (rows_in (table_of part) db))
   unfolding rows_of
   by_part Own there = own_held f text c _ p.campaign (have.rows Own there) are.campaign
   by_part Factions there = by_number faction_stored made.faction_row faction_line faction_same (λ n v. refl) _ p.factions c.factions (have.rows Factions there) are.factions
@@ -248,11 +248,11 @@ module _ (f : Format) (db : Trees) (text : List ℕ) (p : Parts) (c : CampaignVa
   rows_hold = record { rows = λ part there. (by_part part there).0 }
 
   -- and are keyed, where those are that have places
-  pub rows_keyed : ((table : Table) → Has (placed_tables f) table → IsKeyed (db table.tree)) → (table : Table) → Has (map table_of (parts_in f)) table → IsKeyed (db table.tree)
+  pub rows_keyed : ((table : Table) → Has (tables_with_rowids f) table → IsKeyed (db table.tree)) → (table : Table) → Has (map table_of (parts_in f)) table → IsKeyed (db table.tree)
   rows_keyed placed table there =
       let part = map_has table_of (parts_in f) table there in
-      subst (λ (t : Table). IsKeyed (db t.tree)) (sym part.2) (elim (cases_Bool (has_places part.0)) [
-        | inl is ↦ placed (table_of part.0) (has_map table_of (filter has_places (parts_in f)) part.0 (has_kept has_places (parts_in f) part.0 part.1 is))
+      subst (λ (t : Table). IsKeyed (db t.tree)) (sym part.2) (elim (cases_Bool (shows_rowids part.0)) [
+        | inl is ↦ placed (table_of part.0) (has_map table_of (filter shows_rowids (parts_in f)) part.0 (has_kept shows_rowids (parts_in f) part.0 part.1 is))
         | inr is ↦ let keys = (by_part part.0 part.1).1 is in numbers_keyed part.0 db keys.0 is keys.1 keys.2
       ])
 

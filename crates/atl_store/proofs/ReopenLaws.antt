@@ -6,7 +6,7 @@ use Rattle.sqlite.specs.State.{HasCleanDisk, IsLive, Opens}
 use Rattle.sqlite_trees.specs.Tree.{Trees}
 use Rattle.sqlite_trees.specs.declared.store.Store.{Ghosts}
 use Rattle.atl_state.specs.Campaign.{CampaignValue}
-use Rattle.atl_store.specs.Keeps.{Keeps, Stops, Stores, HoldsCampaign}
+use Rattle.atl_store.specs.Keeps.{Keeps, LeavesAfterFault, Stores, HoldsCampaign}
 use Rattle.atl_store.specs.Reopening.{Reopens}
 use Rattle.atl_store.specs.Tables.{HasAll}
 use Rattle.atl_store.proofs.ListedLaws.{one_schema}
@@ -30,7 +30,7 @@ module _ {S : Type 0} (g : Ghosts S) where
     pub kept_again : (text : List ℕ) (c : CampaignValue) → HoldsCampaign g old text c → HoldsCampaign g new text c
     kept_again text c holds clean = reopens.keeps clean text c ((holds (reopens.clean clean)).crash (state g new).now.trees (reopens.found clean))
 
-    pub stopped_again : HasCleanDisk (state g new) → (faults : ℕ) (text : List ℕ) (before after : CampaignValue) → Stops faults (state g old) text before after → Keeps (state g new) text before ⊎ Keeps (state g new) text after
+    pub stopped_again : HasCleanDisk (state g new) → (faults : ℕ) (text : List ℕ) (before after : CampaignValue) → LeavesAfterFault faults (state g old) text before after → Keeps (state g new) text before ⊎ Keeps (state g new) text after
     stopped_again clean faults text before after stops = elim (stops.crash (state g new).now.trees (reopens.found clean)) [
       | inl is ↦ inl (reopens.keeps clean text before is)
       | inr is ↦ inr (reopens.keeps clean text after is)

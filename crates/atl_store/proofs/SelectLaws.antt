@@ -22,7 +22,7 @@ use Rattle.sqlite_sql.specs.Term.{eval_all}
 use Rattle.sqlite_trees.specs.Tree.{Trees}
 use Rattle.atl_tables.specs.declared.format.Format.{Format}
 use Rattle.atl_tables.specs.declared.format.Format.TheVariants.{First, Second}
-use Rattle.atl_store.specs.Tables.{Part, Own, Goods, Books, Markets, has_table, books_table, table_of, market_table, market_unique, all_tables, first_and, tables_in, indexes_in, IsHarmless, HasTablesOf}
+use Rattle.atl_store.specs.Tables.{Part, Own, Goods, Books, Markets, has_table, books_table, table_of, market_table, market_unique, all_tables, first_and, table_count_in, index_count_in, IsHarmless, HasTablesOf}
 use Rattle.atl_store.specs.Reading.{listing_of}
 use Rattle.atl_store.specs.Stored.{first_columns}
 use Rattle.atl_store.proofs.ReadLaws.{all_query, all_shown}
@@ -67,10 +67,10 @@ key_of part = 1
 -- It means, whatever came behind the tables of a format: these columns of all rows, in the order of the key; and that is what the listing shows.
 record IsMeant (part : Part) : Type 0 where
   command : (more : List Table) (indexes : List Index)
-      → command_of (understood (first_and (tables_in (listing_of part).since) (indexes_in (listing_of part).since) more indexes) (listing_of part).select)
+      → command_of (understood (first_and (table_count_in (listing_of part).since) (index_count_in (listing_of part).since) more indexes) (listing_of part).select)
       ≡ Select (record { lets = []; body = all_query (table_of part).tree (columns_of part) (map (λ column. (column, ascending Binary)) (first (table_of part) (key_of part))) }) (listing_of part).names
-  plain : (more : List Table) (indexes : List Index) → IsPlain (understood (first_and (tables_in (listing_of part).since) (indexes_in (listing_of part).since) more indexes) (listing_of part).select)
-  unlisted : (more : List Table) (indexes : List Index) → reads_listing (first_and (tables_in (listing_of part).since) (indexes_in (listing_of part).since) more indexes) (listing_of part).select ≡ false
+  plain : (more : List Table) (indexes : List Index) → IsPlain (understood (first_and (table_count_in (listing_of part).since) (index_count_in (listing_of part).since) more indexes) (listing_of part).select)
+  unlisted : (more : List Table) (indexes : List Index) → reads_listing (first_and (table_count_in (listing_of part).since) (index_count_in (listing_of part).since) more indexes) (listing_of part).select ≡ false
   same : (db : Trees) → overlay db [] (table_of part).tree ≡ db (table_of part).tree
   rows : (db : Trees) → map (λ r. eval_all (columns_of part) ([] ∷ r ∷ [])) (db (table_of part).tree) ≡ (listing_of part).in_table db
   whole : (r : Row) → first_columns (length (listing_of part).names) (eval_all (columns_of part) ([] ∷ r ∷ [])) ≡ eval_all (columns_of part) ([] ∷ r ∷ [])
@@ -86,7 +86,7 @@ reads_part part count same old new rows h has =
     let is = meant part in
     let shown : Row → Row = λ r. eval_all (columns_of part) ([] ∷ r ∷ []) in
     let cut = first_columns (length listing.names) in
-    let got = reads_as listing.select [] old new (first_and (tables_in listing.since) (indexes_in listing.since) has.tables has.indexes) has.is _ (is.command has.tables has.indexes) (is.plain has.tables has.indexes) (is.unlisted has.tables has.indexes) rows h in
+    let got = reads_as listing.select [] old new (first_and (table_count_in listing.since) (index_count_in listing.since) has.tables has.indexes) has.is _ (is.command has.tables has.indexes) (is.plain has.tables has.indexes) (is.unlisted has.tables has.indexes) rows h in
     let all = all_shown (table_of part).tree (columns_of part) _ old.now.trees (overlay old.now.trees []) [] rows (is.same old.now.trees) (got.answer Null) in
     let told : IsPermutation (listing.in_table old.now.trees) (map cut rows) = subst (λ was. IsPermutation was (map cut rows)) (is.rows old.now.trees) (whole_shown shown cut is.whole (old.now.trees (table_of part).tree) rows all) in
     subst (λ n. IsPermutation (listing.in_table old.now.trees) (map (first_columns n) rows)) (sym same) told

@@ -33,7 +33,7 @@ use Rattle.sqlite.specs.declared.error.Error.{Error}
 use Rattle.sqlite.specs.Held.{Held}
 use Rattle.std.specs.Borrow.{MutBor}
 use Rattle.atl_store.specs.OwnStatements.{Only}
-use Rattle.atl_store.specs.Writes.{Writes, Runs}
+use Rattle.atl_store.specs.Writes.{Writes, RunsStatement}
 use Rattle.atl_store.proofs.WriteLaws.{weaker, among}
 use Rattle.atl_store.proofs.EditLaws.{Loses, deletes, went, same_value}
 use Rattle.atl_store.proofs.ListLaws.{AreFound}
@@ -147,5 +147,5 @@ done_by sql values What does old new count params inside h same = does old new c
 
 -- a statement that ran is the one of these values, which its parameters are
 pub runs_with : {S A : Type 0} (g : Ghosts S) {r : Result A Error} {a b : MutBor (Held S)} (sql : List ℕ) (values params : Row) (What : Database → Database → Type 0)
-    → DoneBy sql values What → params ≡ values → Writes g (Only sql params) (Runs sql params) r a b → Writes g (Only sql values) (Inside HasTables What) r a b
+    → DoneBy sql values What → params ≡ values → Writes g (Only sql params) (RunsStatement sql params) r a b → Writes g (Only sql values) (Inside HasTables What) r a b
 runs_with g sql values params What done same ran = among g (λ s p only. (only.0, only.1 ∙ same)) (weaker g (λ old new did. done old new did.1 params did.0 did.2 same) ran)

@@ -11,7 +11,7 @@ use Rattle.sqlite.specs.State.{State, HasCleanDisk, Survives}
 use Rattle.atl_state.specs.Campaign.{CampaignValue}
 use Rattle.atl_store.specs.Rows.{Holds}
 use Rattle.atl_store.specs.Inside.{HasTables, Carries, Commits, LeavesOff, MayLeave}
-use Rattle.atl_store.specs.Keeps.{Stores, Keeps, IsLater, IsReady, FailsToCreate, BreaksOff, RefusesToCreate, Stops, Spares, SparesOthers, MayFound}
+use Rattle.atl_store.specs.Keeps.{Stores, Keeps, IsLater, IsReadyToCreate, FailsToCreate, BreaksOffCreation, RefusesToCreate, LeavesAfterFault, ChangesNothing, LeavesOthersAlone, MayFound}
 use Rattle.atl_store.specs.OwnStatements.{Statements, OfFounding}
 use Rattle.atl_store.specs.Causes.{Gives, IsTold}
 use Rattle.atl_store.specs.Faults.{is_memory, create_fault}
@@ -40,7 +40,7 @@ module _ (old new : State) (text : List ℕ) (settled : (db : Trees) → IsTrue 
 
   -- left off: as before, or after a crash before or after
   pub leaves_stops : (Does : Database → Database → Type 0) (before after : CampaignValue) → HasCleanDisk new → LeavesOff old new → Survives old new (MayLeave HasTables Does old) → Keeps old text before
-      → ((db : Database) → Does old.now db → Holds db.trees text after) → Stops old.faults new text before after
+      → ((db : Database) → Does old.now db → Holds db.trees text after) → LeavesAfterFault old.faults new text before after
   leaves_stops Does before after clean off survives keeps holds = record {
     still = λ up.
         let back = off.undone up in
@@ -53,7 +53,7 @@ module _ (old new : State) (text : List ℕ) (settled : (db : Trees) → IsTrue 
           rows = subst (λ (d : Database). Holds d.trees text before) (sym same) keeps.rows;
           crash = λ db may. subst (λ t. Stores t text before) (sym (settled db up may ∙ ap (λ (d : Database). d.trees) (back.1 ∙ keeps.settled))) (stored old.now text before keeps.tables keeps.rows);
         };
-    closes = survives.closes clean keeps.is_open;
+    shuts = survives.closes clean keeps.is_open;
     crash = λ db may. elim (survives.crash clean db may) [
       | inl was ↦ inl (keeps.crash db was)
       | inr made ↦ let did = made.1 keeps.tables in inr (subst (λ t. Stores t text after) (sym made.2) (stored made.0 text after did.tables (holds made.0 did.does)))
@@ -69,18 +69,18 @@ may_found old new text c Before Does before holds clean survives db may = elim (
 ]
 
 -- what a founding that left off has spared, where the connection was in no transaction
-pub leaves_spares : (old new : State) (Commits : Trees → Type 0) → HasCleanDisk new → LeavesOff old new → Survives old new Commits → old.in_transaction ≡ false → (IsTrue old.is_open → old.now ≡ old.committed) → Spares old new
+pub leaves_spares : (old new : State) (Commits : Trees → Type 0) → HasCleanDisk new → LeavesOff old new → Survives old new Commits → old.in_transaction ≡ false → (IsTrue old.is_open → old.now ≡ old.committed) → ChangesNothing old new
 leaves_spares old new Commits clean off survives idle settled = record {
   same = λ up.
       let back = off.undone up in
       let was = settled (off.was_open up) in
       (back.0 ∙ sym was, back.1, off.idle ∙ sym idle);
-  closes = survives.closes clean;
+  shuts = survives.closes clean;
 }
 
 -- the fault of a creation that an error of the database ended
-module _ {S : Type 0} (g : Ghosts S) (text : List ℕ) (c : CampaignValue) (old new : Held S) (ready : IsReady (state g old)) (fails : FailsToCreate g text c old new) where
-  refused_as : (fault : CreateFault) → fault ≢ create.NotEmpty → BreaksOff g text c old new fault → RefusesToCreate g text c old new fault
+module _ {S : Type 0} (g : Ghosts S) (text : List ℕ) (c : CampaignValue) (old new : Held S) (ready : IsReadyToCreate (state g old)) (fails : FailsToCreate g text c old new) where
+  refused_as : (fault : CreateFault) → fault ≢ create.NotEmpty → BreaksOffCreation g text c old new fault → RefusesToCreate g text c old new fault
   refused_as create.NotEmpty other breaks = absurd (other refl)
   refused_as create.Store other breaks = (fails, inr breaks)
   refused_as create.Memory other breaks = (fails, breaks)
@@ -106,18 +106,18 @@ pub not_there : {S : Type 0} (g : Ghosts S) (conn : Held S) (schema : Schema) (f
 not_there g conn schema found shown is none = ap has_campaign (sym shown) ∙ sym is ∙ none
 
 -- where nothing is done, nothing is changed
-pub spares_itself : (s : State) → Spares s s
-spares_itself s = record { same = λ up. (refl, refl, refl); closes = λ up. inl up }
+pub spares_itself : (s : State) → ChangesNothing s s
+spares_itself s = record { same = λ up. (refl, refl, refl); shuts = λ up. inl up }
 
 pub later : (old new : State) (Commits : Trees → Type 0) → Survives old new Commits → IsLater old new
 later old new Commits survives = record { clean = λ clean. omega (arith, survives.clean); counts = survives.counts; shield = survives.shield }
 
 -- ---- other tables
 
-pub commits_spares : (old new : State) (Before : Database → Type 0) (Does : Database → Database → Type 0) → Commits Before Does old new → (HasTables old.now → Before old.now) → SparesOthers old new
+pub commits_spares : (old new : State) (Before : Database → Type 0) (Does : Database → Database → Type 0) → Commits Before Does old new → (HasTables old.now → Before old.now) → LeavesOthersAlone old new
 commits_spares old new Before Does done before up has settled = (done.does (before has)).carries
 
-pub leaves_others : (old new : State) → LeavesOff old new → SparesOthers old new
+pub leaves_others : (old new : State) → LeavesOff old new → LeavesOthersAlone old new
 leaves_others old new off up has settled = subst (Carries old.now) (sym ((off.undone up).0 ∙ settled)) (carries_none old.now)
 
 -- what holds in any case holds where there is an error

@@ -17,8 +17,8 @@ use Rattle.atl_store.specs.Rows.{campaign_row_of, rows_for, campaign_line, Holds
 use Rattle.atl_store.specs.Sets.{Is, IsKeyed, rows_in, put, visible}
 use Rattle.atl_store.specs.Shown.{campaign_row, campaign_row_in}
 use Rattle.atl_store.specs.Tables.{Part, Own, Markets, campaign_table, market_table, all_tables, all_indexes, creation_of, first_tables, parts_in, table_of}
-use Rattle.atl_store.specs.UpgradeSteps.{AddsMarkets, IsOld, UpgradesCampaignRow, WritesUpgrade}
-use Rattle.atl_store.specs.Writes.{Runs}
+use Rattle.atl_store.specs.UpgradeSteps.{AddsMarkets, IsFirstFormat, UpgradesCampaignRow, WritesUpgrade}
+use Rattle.atl_store.specs.Writes.{RunsStatement}
 use Rattle.atl_store.proofs.CreateTexts.{is_made, makes_table}
 use Rattle.atl_store.proofs.ListLaws.{has_map}
 use Rattle.atl_store.proofs.Made.{Creates}
@@ -37,7 +37,7 @@ no_rows : IsKeyed []
 no_rows = record { apart = tt; ints = tt }
 
 -- behind just the tables of the first format
-module _ (old new : Database) (is : IsOld old) (made : Creates old_schema new_schema market_table.tree old new) where
+module _ (old new : Database) (is : IsFirstFormat old) (made : Creates old_schema new_schema market_table.tree old new) where
   has_all : HasTables new
   has_all = record {
     begins = record { tables = []; indexes = []; is = made.schema_is; free = tt; plain = λ i none. absurd none };
@@ -60,7 +60,7 @@ module _ (old new : Database) (is : IsOld old) (made : Creates old_schema new_sc
         absurd (free (has_map (λ (u : Table). u.tree) all_tables t (has_left old_schema.tables (market_table ∷ []) t was)));
   }
 
-pub adds_markets : (old new : State) → Runs (creation_of Markets) [] old new → Inside IsOld AddsMarkets old new
+pub adds_markets : (old new : State) → RunsStatement (creation_of Markets) [] old new → Inside IsFirstFormat AddsMarkets old new
 adds_markets old new ran = (
   ran.2.1.mode ∙ sym ran.0,
   λ is.
@@ -115,8 +115,8 @@ module _ (text : List ℕ) (c : CampaignValue) (old mid new : Database) (first :
       rows part = kept part (λ e. absurd cc) (in_first part (λ e. absurd cc))
 
 -- the head is upgraded behind the new table
-pub upgrade_done : (text : List ℕ) (c : CampaignValue) (start mid end : State) → Inside IsOld AddsMarkets start mid → Inside HasTables (UpgradesCampaignRow (campaign_row_of c) text) mid end → Inside IsOld (WritesUpgrade text c) start end
+pub upgrade_done : (text : List ℕ) (c : CampaignValue) (start mid end : State) → Inside IsFirstFormat AddsMarkets start mid → Inside HasTables (UpgradesCampaignRow (campaign_row_of c) text) mid end → Inside IsFirstFormat (WritesUpgrade text c) start end
 upgrade_done text c start mid end first second =
-    inside_weaker IsOld (Both AddsMarkets (UpgradesCampaignRow (campaign_row_of c) text)) (WritesUpgrade text c) start end
+    inside_weaker IsFirstFormat (Both AddsMarkets (UpgradesCampaignRow (campaign_row_of c) text)) (WritesUpgrade text c) start end
     (λ is did before held bare. upgrade_held text c start.now did.0 end.now did.1 did.2 before held bare)
-    (inside_then IsOld AddsMarkets (UpgradesCampaignRow (campaign_row_of c) text) start mid end first second)
+    (inside_then IsFirstFormat AddsMarkets (UpgradesCampaignRow (campaign_row_of c) text) start mid end first second)

@@ -17,13 +17,13 @@ use Rattle.atl_state.specs.Campaign.{MarkedCampaign}
 use Rattle.atl_store.specs.Causes.{Gives}
 use Rattle.atl_store.specs.Faults.{is_memory, first_fault, new_world_fault, upgrade_fault}
 use Rattle.atl_store.specs.Inside.{Commits, LeavesOff, MayLeave}
-use Rattle.atl_store.specs.Keeps.{IsLater, Spares}
+use Rattle.atl_store.specs.Keeps.{ChangesNothing, IsLater}
 use Rattle.atl_store.specs.Loading.{LeavesAlone, LoadsIn, RefusesToLoadIn}
 use Rattle.atl_store.specs.OwnStatements.{OfUpgrade}
 use Rattle.atl_store.specs.Rows.{Holds, HoldsIn}
 use Rattle.atl_store.specs.Tables.{HasTablesOf}
-use Rattle.atl_store.specs.UpgradeSteps.{IsJustOld, IsOld, WritesUpgrade}
-use Rattle.atl_store.specs.Upgrading.{BreaksOff, FailsCheck, FailsToWrite, HasMore, HasOld, HasOtherWorld, HoldsOld, IsReady, Matches, MayUpgrade, RefusesToUpgrade, Upgrades}
+use Rattle.atl_store.specs.UpgradeSteps.{IsFirstFormat, IsJustOld, WritesUpgrade}
+use Rattle.atl_store.specs.Upgrading.{BreaksOffUpgrade, FailsCheck, FailsInTransaction, HasMore, HasOld, HasOtherWorld, HoldsOld, IsReadyToUpgrade, Matches, MayUpgrade, RefusesToUpgrade, Upgrades}
 use Rattle.atl_store.specs.WorldText.{world_text}
 use Rattle.atl_store.specs.Writes.{Transacts}
 use Rattle.atl_store.specs.declared.fault.LoadFault.{LoadFault}
@@ -64,7 +64,7 @@ module _ {S : Type 0} (g : Ghosts S) (text : List ℕ) (old mid : Held S) (alone
   bare_before : (w : WorldValue) (c : MarkedCampaign) → LoadsIn First g old mid w c → without_markets w ≡ w
   bare_before w c loads = old_has_no_markets (world_text (state g mid)) w (loads.world clean)
 
-  pub matched : (w : WorldValue) (c : MarkedCampaign) → IsReady g text old mid w c → Matches (state g old) text w c.value
+  pub matched : (w : WorldValue) (c : MarkedCampaign) → IsReadyToUpgrade g text old mid w c → Matches (state g old) text w c.value
   matched w c ready = record {
     world = ready.world;
     was = subst (λ v. HoldsOld (state g old) v c.value) (sym (bare_before ready.before c ready.loads) ∙ sym ready.same) (loaded_old ready.before c ready.loads);
@@ -80,7 +80,7 @@ module _ {S : Type 0} (g : Ghosts S) (text : List ℕ) (old mid : Held S) (alone
     differs = λ same. differs (same ∙ sym (bare_before before c loads));
   }
 
-  pub has_more : (w : WorldValue) (c : MarkedCampaign) → IsReady g text old mid w c → ¬ IsJustOld mid.schema → HasMore g text old mid
+  pub has_more : (w : WorldValue) (c : MarkedCampaign) → IsReadyToUpgrade g text old mid w c → ¬ IsJustOld mid.schema → HasMore g text old mid
   has_more w c ready more =
       let stands = ready.loads.stands clean in
       let same = (alone.spares clean).same stands.is_open in
@@ -126,21 +126,21 @@ module _ {S : Type 0} (g : Ghosts S) (text : List ℕ) (old new : Held S) where
 
 -- ---- the transaction
 
-module _ {S : Type 0} (g : Ghosts S) (text : List ℕ) (old mid new : Held S) (w : WorldValue) (c : MarkedCampaign) (alone : LeavesAlone g old mid) (ready : IsReady g text old mid w c) where
+module _ {S : Type 0} (g : Ghosts S) (text : List ℕ) (old mid new : Held S) (w : WorldValue) (c : MarkedCampaign) (alone : LeavesAlone g old mid) (ready : IsReadyToUpgrade g text old mid w c) where
   abbrev Wrote : {A : Type 0} → Result A Error → Type 0
-  Wrote r = Transacts g (OfUpgrade text c.value) IsOld (WritesUpgrade text c.value) r mid new
+  Wrote r = Transacts g (OfUpgrade text c.value) IsFirstFormat (WritesUpgrade text c.value) r mid new
 
   -- the tables are just the old ones
-  is_old : IsJustOld mid.schema → HasCleanDisk (state g mid) → IsOld (state g mid).now
+  is_old : IsJustOld mid.schema → HasCleanDisk (state g mid) → IsFirstFormat (state g mid).now
   is_old just clean = let stands = ready.loads.stands clean in record { just = just; keyed = stands.keyed; listed = stands.listed }
 
   did : (db : Database) → HasCleanDisk (state g mid) → WritesUpgrade text c.value (state g mid).now db → Holds db.trees text c.value
   did db clean wrote = wrote (world_text (state g mid)) (ready.loads.stands clean).rows ready.loads.fits.stocks
 
-  before : Survives (state g mid) (state g new) (MayLeave IsOld (WritesUpgrade text c.value) (state g mid)) → HasCleanDisk (state g new) → HasCleanDisk (state g mid)
+  before : Survives (state g mid) (state g new) (MayLeave IsFirstFormat (WritesUpgrade text c.value) (state g mid)) → HasCleanDisk (state g new) → HasCleanDisk (state g mid)
   before survives clean = omega (arith, survives.clean, clean)
 
-  pub upgrades : (settled : (db : Trees) → IsTrue (state g new).is_open → (state g new).may_leave db → db ≡ (state g new).committed.trees) → IsJustOld mid.schema → (HasCleanDisk (state g new) → Commits IsOld (WritesUpgrade text c.value) (state g mid) (state g new)) → Survives (state g mid) (state g new) (MayLeave IsOld (WritesUpgrade text c.value) (state g mid)) → new.in_transaction ≡ false
+  pub upgrades : (settled : (db : Trees) → IsTrue (state g new).is_open → (state g new).may_leave db → db ≡ (state g new).committed.trees) → IsJustOld mid.schema → (HasCleanDisk (state g new) → Commits IsFirstFormat (WritesUpgrade text c.value) (state g mid) (state g new)) → Survives (state g mid) (state g new) (MayLeave IsFirstFormat (WritesUpgrade text c.value) (state g mid)) → new.in_transaction ≡ false
       → Upgrades g text old new w c
   upgrades settled just done survives over = record {
     world = ready.world;
@@ -148,7 +148,7 @@ module _ {S : Type 0} (g : Ghosts S) (text : List ℕ) (old mid new : Held S) (w
     bare = ready.loads.fits.stocks;
     tables = λ clean.
         let clean_mid = before survives clean in
-        commits_keeps (state g mid) (state g new) text settled IsOld (WritesUpgrade text c.value) c.value (done clean) (is_old just clean_mid) (did new_now clean_mid);
+        commits_keeps (state g mid) (state g new) text settled IsFirstFormat (WritesUpgrade text c.value) c.value (done clean) (is_old just clean_mid) (did new_now clean_mid);
     good = good_either ready.before w c.value ready.same ready.loads.fits.stocks ready.loads.good;
     unmarked = ready.loads.unmarked;
     idle = over;
@@ -158,20 +158,20 @@ module _ {S : Type 0} (g : Ghosts S) (text : List ℕ) (old mid new : Held S) (w
       new_now = (state g new).now
 
   -- the connection after both
-  spares_both : (was_open : IsTrue (state g new).is_open → IsTrue (state g mid).is_open) → (state g old).faults ≤ (state g mid).faults → (state g mid).faults ≤ (state g new).faults → Spares (state g old) (state g mid) → Spares (state g mid) (state g new) → Spares (state g old) (state g new)
+  spares_both : (was_open : IsTrue (state g new).is_open → IsTrue (state g mid).is_open) → (state g old).faults ≤ (state g mid).faults → (state g mid).faults ≤ (state g new).faults → ChangesNothing (state g old) (state g mid) → ChangesNothing (state g mid) (state g new) → ChangesNothing (state g old) (state g new)
   spares_both was_open early late first second = record {
     same = λ up.
         let one = first.same (was_open up) in
         let two = second.same up in
         (two.0 ∙ one.0, two.1 ∙ one.1, two.2 ∙ one.2);
-    closes = λ was. elim (first.closes was) [
-      | inl still ↦ elim (second.closes still) [ inl up ↦ inl up | inr more ↦ inr (omega (arith, early, more)) ]
+    shuts = λ was. elim (first.shuts was) [
+      | inl still ↦ elim (second.shuts still) [ inl up ↦ inl up | inr more ↦ inr (omega (arith, early, more)) ]
       | inr more ↦ inr (omega (arith, late, more))
     ];
   }
 
-  module _ (just : IsJustOld mid.schema) (idle : mid.in_transaction ≡ false) (off : HasCleanDisk (state g new) → LeavesOff (state g mid) (state g new)) (survives : Survives (state g mid) (state g new) (MayLeave IsOld (WritesUpgrade text c.value) (state g mid))) where
-    spared : HasCleanDisk (state g new) → Spares (state g old) (state g new)
+  module _ (just : IsJustOld mid.schema) (idle : mid.in_transaction ≡ false) (off : HasCleanDisk (state g new) → LeavesOff (state g mid) (state g new)) (survives : Survives (state g mid) (state g new) (MayLeave IsFirstFormat (WritesUpgrade text c.value) (state g mid))) where
+    spared : HasCleanDisk (state g new) → ChangesNothing (state g old) (state g new)
     spared clean =
         let clean_mid = before survives clean in
         let stands = ready.loads.stands clean_mid in
@@ -180,15 +180,15 @@ module _ {S : Type 0} (g : Ghosts S) (text : List ℕ) (old mid new : Held S) (w
     may_upgrade : HasCleanDisk (state g new) → MayUpgrade (state g old) text (state g new)
     may_upgrade clean db may =
         let clean_mid = before survives clean in
-        elim (may_found (state g mid) (state g new) text c.value IsOld (WritesUpgrade text c.value) (is_old just clean_mid) (λ other. did other clean_mid) clean survives db may) [
+        elim (may_found (state g mid) (state g new) text c.value IsFirstFormat (WritesUpgrade text c.value) (is_old just clean_mid) (λ other. did other clean_mid) clean survives db may) [
           | inl was ↦ elim (alone.survives.crash clean_mid db was) [ inl early ↦ inl early | inr none ↦ absurd none ]
           | inr stored ↦ inr (w, c.value, matched g text old mid alone clean_mid w c ready, stored)
         ]
 
-    broken_off : (e : Error) (memory : Bool) → is_memory e ≡ memory → Gives g (OfUpgrade text c.value) e mid new → HasCleanDisk (state g mid) → BreaksOff g text old new memory
+    broken_off : (e : Error) (memory : Bool) → is_memory e ≡ memory → Gives g (OfUpgrade text c.value) e mid new → HasCleanDisk (state g mid) → BreaksOffUpgrade g text old new memory
     broken_off e memory is gave clean_mid = record { world = w; campaign = c.value; matches = matched g text old mid alone clean_mid w c ready; before = mid; alone = alone; error = e; memory_is = is; given = gave }
 
-    fails_to_write : (e : Error) (memory : Bool) → is_memory e ≡ memory → Gives g (OfUpgrade text c.value) e mid new → HasCleanDisk (state g mid) → FailsToWrite g text old new (cond memory upgrade.Memory upgrade.Store)
+    fails_to_write : (e : Error) (memory : Bool) → is_memory e ≡ memory → Gives g (OfUpgrade text c.value) e mid new → HasCleanDisk (state g mid) → FailsInTransaction g text old new (cond memory upgrade.Memory upgrade.Store)
     fails_to_write e true is gave clean_mid = broken_off e true is gave clean_mid
     fails_to_write e false is gave clean_mid = broken_off e false is gave clean_mid
 

@@ -10,7 +10,7 @@ use Rattle.sqlite.specs.Held.{Held, state}
 use Rattle.sqlite.specs.Order.{Row}
 use Rattle.sqlite.specs.State.{State, HasCleanDisk, Survives, KeepsCommit, ExecutesInside}
 use Rattle.sqlite.proofs.InsideLemmas.{inside_keeps}
-use Rattle.atl_store.specs.Writes.{Writes, Runs}
+use Rattle.atl_store.specs.Writes.{Writes, RunsStatement}
 use Rattle.atl_store.specs.Sets.{Set}
 use Rattle.atl_store.specs.OwnStatements.{Statements, Only, Each}
 use Rattle.atl_store.proofs.CauseLaws.{gives, gives_after, gives_among, reached_then, reached_among, errs_as}
@@ -63,7 +63,7 @@ module _ {S : Type 0} (g : Ghosts S) where
       survives = survives;
     }
 
-    pub runs : {A : Type 0} (count : ℕ) (a : A) → Ended (Ok count) → Ran (Ok count) → Writes g (Only sql params) (Runs sql params) (Ok a) old new
+    pub runs : {A : Type 0} (count : ℕ) (a : A) → Ended (Ok count) → Ran (Ok count) → Writes g (Only sql params) (RunsStatement sql params) (Ok a) old new
     runs count a ended ran = record {
       same_reference = same;
       does = λ clean. elim (cases_Bool (state g old.now).in_transaction) [

@@ -1,4 +1,4 @@
--- What writing a join, or a mail, changes in the tables.
+-- What writing a join, or a mailing, changes in the tables. See docs/FORMATS.md, "Tables".
 use Rattle.std.specs.Prelude.{◌≡◌, ◌≢◌, ◌⊎◌, ◌+◌, ◌-◌, ◌≤◌, ℕ, List, [], ◌∷◌, Some, IsSome, take}
 use Rattle.std.specs.FinMap.{get}
 use Rattle.sqlite.specs.Effect.{Database}
@@ -20,7 +20,7 @@ use Rattle.atl_store.specs.Shown.{CampaignRowValue, campaign_row, mail_row, repo
 use Rattle.atl_store.specs.Lines.{amount_lines}
 use Rattle.atl_store.specs.Rows.{campaign_line, faction_line, unit_line}
 
--- a faction is there with its report, a unit came last, and the books have places for money and people
+-- the campaign has the faction and its report, a unit came last (`next_unit - 1`), and the books have money and people among their things
 pub record HasArrival (c : CampaignValue) (number : ℕ) : Type 0 where
   pub next : 1 ≤ c.next_unit
   pub things : 2 ≤ c.books.things
@@ -28,7 +28,8 @@ pub record HasArrival (c : CampaignValue) (number : ℕ) : Type 0 where
   pub unit : IsSome (get c.units (c.next_unit - 1))
   pub report : IsSome (get c.reports number)
 
--- the campaign has this faction, its report, and the unit that came last
+-- the campaign has this faction, this report and this unit, whose number `place` is the last, `next_unit - 1`
+-- The books have money and people among their things.
 pub record IsFound (c : CampaignValue) (number : ℕ) (faction : Faction) (place : ℕ) (unit : Unit) (report : List ℕ) : Type 0 where
   pub place_is : c.next_unit ≡ place + 1
   pub faction_is : get c.factions number ≡ Some faction
@@ -36,19 +37,20 @@ pub record IsFound (c : CampaignValue) (number : ℕ) (faction : Faction) (place
   pub report_is : get c.reports number ≡ Some report
   pub things : 2 ≤ c.books.things
 
--- the amount of a thing under an entry has its row, or none where it is 0, and every other row of the books is as it was
+-- the set of rows with the row of this amount of the books, or none if it is 0, and every other row as it was
 abbrev pub settled : CampaignValue → Entry → Thing → Set → Set
 settled c entry thing S r = Has (amount_lines c entry thing) r ⊎ (S r × (take 2 r ≢ books_key (entry_index entry + 1) (thing_index thing)))
 
--- and so is every other table
+-- the amount of a thing under an entry has its row, or none if it is 0; all other rows and tables are as they were
 abbrev pub Settles : CampaignValue → Entry → Thing → Database → Database → Type 0
 Settles c entry thing old new = Alters books_table (settled c entry thing (Has (rows_in books_table old.trees))) old new
 
--- the row stands in the place of the one that has its number, and every other row of the table is as it was
+-- the row replaces the one with its number, or is added, and every other row of the table is as it was
 abbrev pub HasPut : Table → Row → Database → Database → Type 0
 HasPut table row old new = Is (rows_in table new.trees) (put 1 row (Has (rows_in table old.trees)))
 
--- What a joining writes, whatever the tables hold: the campaign's own row with the world text that it had, the faction, the unit that came last, the faction's report, and what joining booked.
+-- What a join writes: the campaign row, the faction, its unit, which came last, its report, and what joining booked.
+-- The campaign row keeps this world text, and every other row and table is as it was.
 pub record Enters (faction : ℕ) (after : CampaignValue) (text : List ℕ) (old new : Database) : Type 0 where
   pub campaign : Is (rows_in campaign_table new.trees) (λ r. r ≡ campaign_line text after)
   pub member : (f : Faction) → get after.factions faction ≡ Some f → HasPut faction_table (faction_line faction f) old new
@@ -57,10 +59,10 @@ pub record Enters (faction : ℕ) (after : CampaignValue) (text : List ℕ) (old
   pub books : Is (rows_in books_table new.trees) (settled after Joining People (settled after Joining Money (Has (rows_in books_table old.trees))))
   pub others : (part : Part) → ¬ Has (Own ∷ Factions ∷ Units ∷ Reports ∷ Books ∷ []) part → new.trees (table_of part).tree ≡ old.trees (table_of part).tree
 
--- a joining is written, whatever the campaign's own row said
+-- a join is written (`Enters`), whatever the campaign row said, if the table `campaign` held one such row
 abbrev pub WritesJoin : ℕ → CampaignValue → Database → Database → Type 0
 WritesJoin faction after old new = (before : CampaignRowValue) (text : List ℕ) → Is (rows_in campaign_table old.trees) (λ r. r ≡ campaign_row before text) → Enters faction after text old new
 
--- a mail is put in the place of an older one of its faction, and every other row and table is as it was
+-- a mailing replaces an older one of its faction, or is added, and every other row and table is as it was
 abbrev pub WritesMail : ℕ → List ℕ → Database → Database → Type 0
 WritesMail faction mail old new = Puts mail_table 1 (mail_row faction mail) old new

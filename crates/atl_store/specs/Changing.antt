@@ -21,61 +21,64 @@ use Rattle.atl_store.specs.Shown.{CampaignRowValue, campaign_row}
 use Rattle.atl_store.specs.Written.{sort_number}
 use Rattle.atl_store.specs.Rows.{campaign_row_of, campaign_line, rows_for}
 
--- whether a row begins with a number of which this is so
+-- whether the first column of a row is a number, 0 or more, for which `is_so` holds
 abbrev pub begins : (ℕ → Bool) → Row → Bool
 begins is_so (Int (pos n) ∷ row) = is_so n
 begins is_so row = false
 
--- whether this is so of the place of a row's entry, which is counted from 1, and of the number of its thing
+-- whether `is_so` holds of a row of `books`: of its entry's index (the first column less 1) and its thing's number (the second)
 abbrev pub accounts : (ℕ → ℕ → Bool) → Row → Bool
 accounts is_so (Int (pos (suc entry)) ∷ Int (pos thing) ∷ row) = is_so entry thing
 accounts is_so row = false
 
--- whether this is so of the unit and the thing of a row of this sort
+-- whether a row of `has` is of this kind (item or skill) and `is_so` holds of its unit and its thing
 abbrev pub of_kind : ThingKind → (ℕ → ℕ → Bool) → Row → Bool
 of_kind sort is_so (Int (pos unit) ∷ Int (pos number) ∷ Int (pos thing) ∷ row) = number == sort_number sort && is_so unit thing
 of_kind sort is_so row = false
 
+-- whether the first column of a row is a marked number
 abbrev pub begins_marked : FinSet nat_cmp → Row → Bool
 begins_marked marks r = begins (contains marks) r
 
--- whether a thing of a unit is one of these
+-- whether this thing of this unit is among `things`
 abbrev pub has_thing : Things → ℕ → ℕ → Bool
 has_thing things unit thing = is_some (get (group_of things unit) thing)
 
--- whether all that a row's unit has is marked, or the row's item or skill alone
+-- whether a row of `has` is marked: with all goods of its unit, or as a single item or skill
 abbrev pub goods_marked : Marks → Row → Bool
 goods_marked marks r = begins_marked marks.goods r || of_kind Item (has_thing marks.items) r || of_kind Skill (has_thing marks.skills) r
 
--- whether the amount of an entry, of which there are so many, and a thing is marked
+-- whether the amount of an entry and a thing is marked; the entry is given by its index, which has to be below `entry_count`
 abbrev pub is_marked_amount : FinSet nat_cmp → ℕ → ℕ → Bool
 is_marked_amount marks entry thing = nat_le (suc entry) entry_count && contains marks (entry_count * thing + entry)
 
+-- whether a row of `books` is of a marked amount
 abbrev pub amount_marked : FinSet nat_cmp → Row → Bool
 amount_marked marks r = accounts (is_marked_amount marks) r
 
+-- `Wanted` for true, `Were` for false
 abbrev pub Chosen : Bool → Type 0 → Type 0 → Type 0
 Chosen true Wanted Were = Wanted
 Chosen false Wanted Were = Were
 
--- of the rows with a marked key those that are wanted, and of the others those that were there
+-- the set of the wanted rows, if their key is marked, and of the rows that were there, if it isn't
 abbrev pub rows_after_rewrite : (Row → Bool) → Set → Set → Set
 rows_after_rewrite is_marked Wanted Were r = Chosen (is_marked r) (Wanted r) (Were r)
 
--- the table's rows with a marked key are those that are wanted, and its others are as they were
+-- the table's rows with a marked key are those that are wanted, and its other rows are as they were
 abbrev pub AreRewritten : Table → (Row → Bool) → Set → Database → Database → Type 0
 AreRewritten table is_marked Wanted old new = Is (rows_in table new.trees) (rows_after_rewrite is_marked Wanted (Has (rows_in table old.trees)))
 
--- what the campaign's own row says where it is marked, and where it isn't
+-- what the campaign row says after a write: what the campaign says if that row is marked (true), else what the row said before
 abbrev pub campaign_row_after : Bool → CampaignValue → CampaignRowValue → CampaignRowValue
 campaign_row_after true c before = campaign_row_of c
 campaign_row_after false c before = before
 
--- the campaign's own row as it is written over one that said this, with this world text
+-- the campaign row after a write over one that said `before`, with this world text
 abbrev pub own_after : MarkedCampaign → CampaignRowValue → List ℕ → Row
 own_after c before text = campaign_row (campaign_row_after c.marks.row c.value before) text
 
--- whether a row of a part's table has a marked key; the campaign's own row is looked at as a whole
+-- whether a row of a part's table has a marked key; the campaign row always counts as marked, since `own_after` looks at its mark
 abbrev pub is_marked : Marks → Part → Row → Bool
 is_marked marks Own = λ r. true
 is_marked marks Factions = begins_marked marks.factions
@@ -88,21 +91,22 @@ is_marked marks Reports = begins_marked marks.reports
 is_marked marks Books = amount_marked marks.books
 is_marked marks Markets = begins_marked marks.stocks
 
--- Tables whose own row of a campaign said this, with this world text, have what is marked written.
+-- In each table the rows with a marked key become the campaign's, and others stay; the campaign row said `before` and keeps this world text.
 pub record WritesMarked (c : MarkedCampaign) (before : CampaignRowValue) (text : List ℕ) (old new : Database) : Type 0 where
   pub rows : (part : Part) → AreRewritten (table_of part) (is_marked c.marks part) (rows_for (own_after c before text) c.value part) old new
 
--- whatever the campaign's own row said
+-- What is marked is written (`WritesMarked`), whatever the campaign row said, if the table `campaign` held one such row.
 abbrev pub WritesChanges : MarkedCampaign → Database → Database → Type 0
 WritesChanges c old new = (before : CampaignRowValue) (text : List ℕ) → Is (rows_in campaign_table old.trees) (λ r. r ≡ campaign_row before text) → WritesMarked c before text old new
 
 -- ---- tables that hold what is not marked of a campaign
 
--- the table's rows with a key that isn't marked are exactly those that are wanted, whatever stands under marked keys
+-- the table's rows with a key that isn't marked are exactly those that are wanted, whatever has a marked key
 abbrev pub HasUnmarked : Table → (Row → Bool) → Set → Trees → Type 0
 HasUnmarked table is_marked Wanted trees = (r : Row) → is_marked r ≡ false → Has (rows_in table trees) r ↔ Wanted r
 
--- The campaign's own row has this world text and, unless it is marked, says what the campaign's says; the rows of all that is not marked are exactly the campaign's.
+-- The campaign row has this world text and, unless it is marked, says what the campaign says.
+-- The rows of all that is not marked are exactly the campaign's.
 pub record HoldsUnmarked (trees : Trees) (text : List ℕ) (c : MarkedCampaign) : Type 0 where
   pub before : CampaignRowValue
   pub campaign : Is (rows_in campaign_table trees) (λ r. r ≡ campaign_row before text)

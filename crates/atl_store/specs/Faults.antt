@@ -1,4 +1,4 @@
--- Which fault an error of the database becomes: Memory where it ran out of memory, else Store.
+-- Which fault an error becomes: of a database, of a check of the rows, or of a world text; and the numbers of the faults.
 use Rattle.std.specs.Prelude.{ℕ, Option, Some, None, Bool, true, false, if◌then◌else◌}
 use Rattle.sqlite.specs.declared.error.Error.{Error}
 use Rattle.sqlite.specs.declared.error.Error.TheVariants.{SqliteFailure}
@@ -22,11 +22,12 @@ use Rattle.atl_store.specs.declared.fault.CreateFault.TheVariants as create
 use Rattle.atl_store.specs.declared.fault.ReadFault.{ReadFault}
 use Rattle.atl_store.specs.declared.fault.ReadFault.TheVariants as read
 
+-- whether the database ran out of memory
 abbrev pub is_memory : Error → Bool
 is_memory (SqliteFailure code.OutOfMemory) = true
 is_memory _ = false
 
--- the database could not go on: its disk failed, something is too big, or it takes too many steps
+-- whether the database could not go on: a failed, full or damaged disk, a shut connection, something too big, or too many steps
 abbrev pub is_failure : Error → Bool
 is_failure (SqliteFailure code.SystemIoFailure) = true
 is_failure (SqliteFailure code.DatabaseCorrupt) = true
@@ -36,26 +37,29 @@ is_failure (SqliteFailure code.TooBig) = true
 is_failure (SqliteFailure code.OperationInterrupted) = true
 is_failure _ = false
 
+-- the fault of a write: Memory if the database ran out of memory, else Store
 abbrev pub write_fault : Error → WriteFault
 write_fault e = if is_memory e then write.Memory else write.Store
 
+-- the fault of `load` for an error of the database
 abbrev pub store_fault : Error → StoreFault
 store_fault e = if is_memory e then store.Memory else store.Store
 
--- of a store that is opened again
+-- the fault of `reopen_connection` for an error of the file
 abbrev pub reopening_fault : StoreError → StoreFault
 reopening_fault error.OutOfMemory = store.Memory
 reopening_fault _ = store.Store
 
+-- the fault of loading in either format for an error of the database
 abbrev pub load_fault : Error → LoadFault
 load_fault e = if is_memory e then load.Memory else load.Store
 
--- of rows that are no campaign's
+-- the fault of loading if the rows fail the check, or there was no memory for it
 abbrev pub fault_of_check : CheckFault → LoadFault
 fault_of_check (check.Damaged rule) = load.Damaged rule
 fault_of_check check.Memory = load.Memory
 
--- of loading by the second format
+-- the fault of `load`, which loads in the second format
 abbrev pub second_fault : LoadFault → StoreFault
 second_fault load.Store = store.Store
 second_fault (load.Damaged rule) = store.Damaged rule
@@ -63,6 +67,7 @@ second_fault load.NotACampaign = store.NotACampaign
 second_fault load.OtherFormat = store.OldFormat
 second_fault load.Memory = store.Memory
 
+-- the number of a fault of `load`, by which callers know it; Memory has none
 abbrev pub fault_number : StoreFault → Option ℕ
 fault_number store.Store = Some 1
 fault_number (store.Damaged rule) = Some 2
@@ -70,12 +75,13 @@ fault_number store.NotACampaign = Some 3
 fault_number store.OldFormat = Some 4
 fault_number store.Memory = None
 
--- ---- of an upgrade
+-- ---- the faults of an upgrade
 
+-- the fault of `upgrade` for an error of the database
 abbrev pub upgrade_fault : Error → UpgradeFault
 upgrade_fault e = if is_memory e then upgrade.Memory else upgrade.Store
 
--- of loading by the first format
+-- the fault of `upgrade` for a fault of loading in the first format
 abbrev pub first_fault : LoadFault → UpgradeFault
 first_fault load.Store = upgrade.Store
 first_fault (load.Damaged rule) = upgrade.Damaged rule
@@ -83,10 +89,12 @@ first_fault load.NotACampaign = upgrade.NotACampaign
 first_fault load.OtherFormat = upgrade.NotOld
 first_fault load.Memory = upgrade.Memory
 
+-- the fault of `upgrade` for a fault of the new world text
 abbrev pub new_world_fault : WorldFault → UpgradeFault
 new_world_fault world.Memory = upgrade.Memory
 new_world_fault fault = upgrade.World fault
 
+-- the number of a fault of `upgrade`; Memory has none
 abbrev pub upgrade_number : UpgradeFault → Option ℕ
 upgrade_number upgrade.Store = Some 1
 upgrade_number (upgrade.Damaged rule) = Some 2
@@ -96,14 +104,16 @@ upgrade_number (upgrade.World fault) = Some 5
 upgrade_number upgrade.Differs = Some 6
 upgrade_number upgrade.Memory = None
 
--- ---- of writing and reading
+-- ---- the faults of creating tables and of reading rows
 
+-- the fault of `create` for an error of the database
 abbrev pub create_fault : Error → CreateFault
 create_fault e = if is_memory e then create.Memory else create.Store
 
+-- the fault of a SELECT: Memory, Store if the database could not go on (`is_failure`), else Refused
 abbrev pub read_fault : Error → ReadFault
 read_fault e = if is_memory e then read.Memory else (if is_failure e then read.Store else read.Refused)
 
--- of a value in a row that was answered
+-- the fault of a value in a row that was shown: Memory, else OtherType
 abbrev pub value_fault : Error → ReadFault
 value_fault e = if is_memory e then read.Memory else read.OtherType

@@ -8,22 +8,22 @@ use Rattle.atl_store.specs.Tables.{Part, campaign_table}
 use Rattle.atl_store.specs.Inside.{Changes}
 use Rattle.atl_store.specs.Rows.{campaign_line, rows_for, Holds}
 
--- where there was no row, the rows are those of the campaign, whose own row is this one
+-- if the part's table had no row, its rows are those of the campaign, whose campaign row is `own`
 abbrev pub Fills : CampaignValue → Row → Part → List Row → List Row → Type 0
 Fills c own part before after = before ≡ [] → Is after (rows_for own c part)
 
--- the tables of these parts are filled, whatever the campaign's own row is, which is none of them
+-- the tables of these parts, of which the campaign row is none, are filled
 abbrev pub FillsParts : CampaignValue → List Part → Database → Database → Type 0
 FillsParts c parts old new = (own : Row) → Changes (Fills c own) parts old new
 
--- that of one part is
+-- the table of one part, which isn't the campaign row, is filled
 abbrev pub FillsPart : CampaignValue → Part → Database → Database → Type 0
 FillsPart c part = FillsParts c (part ∷ [])
 
--- and of these, among which it is
+-- the tables of these parts, of which the campaign row is one, are filled, if there was no campaign row
 abbrev pub FillsWithOwn : List ℕ → CampaignValue → List Part → Database → Database → Type 0
 FillsWithOwn text c parts old new = rows_in campaign_table old.trees ≡ [] → Changes (Fills c (campaign_line text c)) parts old new
 
--- the tables hold the campaign
+-- the tables hold the world text and the campaign afterwards, whatever they held before
 abbrev pub WritesFounding : List ℕ → CampaignValue → Database → Database → Type 0
 WritesFounding text c old new = Holds new.trees text c

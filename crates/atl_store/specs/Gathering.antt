@@ -1,4 +1,4 @@
--- For proofs alone: how far reading the tables has come.
+-- For proofs and for private functions: what each step of loading has read, and which fault it returns.
 use Rattle.std.specs.Prelude.{◌≡◌, ◌≢◌, ◌++◌, ℕ, List, [], ◌∷◌, Bool, false, true, if◌then◌else◌, ◌⊎◌, IsTrue, IsPermutation, drop, length, map, take, pos, Option, Some, None, Result, Ok, Err, IfOk, IfErr, ⊤, string_bytes}
 use Rattle.std.specs.List.{AllByRecursion, IsDistinct}
 use Rattle.std.specs.Ordering.{eq_by_cmp, int_cmp, is_eq}
@@ -24,7 +24,7 @@ use Rattle.atl_state.specs.declared.checking.Rule.TheVariants.{OneRow}
 use Rattle.atl_state.specs.declared.parts.Parts.{Parts}
 use Rattle.atl_state.specs.declared.parts.StoredCampaignRow.{StoredCampaignRow}
 use Rattle.atl_store.specs.Faults.{is_memory}
-use Rattle.atl_store.specs.Loading.{HaveRows, AreOwnRow, IsOther, HasOtherType, KeepsOneRow, other_parts, other_selects, has_places, placed_tables, rows_read, Leaves, AreToldTyped, RefusesOne}
+use Rattle.atl_store.specs.Loading.{HaveRows, AreOwnRow, IsOther, HasOtherType, KeepsOneRow, other_parts, other_selects, shows_rowids, tables_with_rowids, rows_read, AfterReads, AreToldTyped, RefusesOne}
 use Rattle.atl_store.specs.Reading.{Selects, listing_of}
 use Rattle.atl_store.specs.Statements.{selection}
 use Rattle.atl_store.specs.Sets.{IsKeyed, rows_in}
@@ -40,20 +40,20 @@ use Rattle.atl_store.specs.declared.rows.stored.RowWithId.{RowWithId}
 
 -- ---- what a step leaves
 
--- while it is open, the tables are those of the last commit
+-- if the disk is clean and the connection is open, its tables are those of the last commit
 abbrev pub IsSettled : State → Type 0
 IsSettled s = HasCleanDisk s → IsTrue s.is_open → s.now ≡ s.committed
 
--- ---- which fault is told
+-- ---- which fault is returned
 
--- of the campaign's own row
+-- the fault of loading when the campaign row can't be read
 abbrev pub own_fault : ReadFault → LoadFault
 own_fault read.Store = Store
 own_fault read.Refused = NotACampaign
 own_fault read.Memory = Memory
 own_fault read.OtherType = Damaged OneRow
 
--- of another table: a value of another type is remembered, and all else ends the loading
+-- what reading another table gives: its rows, None if a value is of another type, or the fault that ends the loading
 abbrev pub kept_of : {A Z : Type 0} → Result (Vec A Z) ReadFault → Result (Option (Vec A Z)) LoadFault
 kept_of (Ok rows) = Ok (Some rows)
 kept_of (Err read.Store) = Err Store
@@ -61,7 +61,7 @@ kept_of (Err read.Refused) = Err Store
 kept_of (Err read.Memory) = Err Memory
 kept_of (Err read.OtherType) = Ok None
 
--- of a step that is made where this is so: Store where it isn't, and lack of memory
+-- when a step that needs `P` may return each fault: Store if `P` isn't so, and Memory at any time
 abbrev pub Lacks : Type 0 → LoadFault → Type 0
 Lacks P Store = ¬ P
 Lacks P (Damaged rule) = ⊥
@@ -69,61 +69,63 @@ Lacks P NotACampaign = ⊥
 Lacks P OtherFormat = ⊥
 Lacks P Memory = ⊤
 
--- ---- the campaign's own row
+-- ---- the campaign row
 
--- the only row
+-- the only row of a list of one, else None
 abbrev pub only_of : List StoredCampaign → Option StoredCampaign
 only_of [] = None
 only_of (own ∷ []) = Some own
 only_of (own ∷ other ∷ rows) = None
 
--- the only row is this one, whose id is 1 and whose format is this one, with a text of this world
+-- there is one row, `own`; its id is 1, its format is `f`, and its world text reads as the world `w`
 pub record IsOwn (f : Format) (rows : List StoredCampaign) (own : StoredCampaign) (w : WorldValue) : Type 0 where
   pub only : rows ≡ own ∷ []
   pub id : own.head.id ≡ pos 1
   pub format : own.head.format ≡ pos (format_number f)
   pub world : world_by f (string_bytes own.world) ≡ Ok w
 
--- what is judged is this, or nothing is, or there was no memory
+-- Ok has what is as `Is` says; the fault is Memory, or Damaged with the first rule, and then `Nothing` is so
 abbrev pub Judges : {A : Type 0} → (A → Type 0) → Type 0 → Result A LoadFault → Type 0
 Judges Is Nothing (Ok a) = Is a
 Judges Is Nothing (Err Memory) = ⊤
 Judges Is Nothing (Err (Damaged OneRow)) = Nothing
 Judges Is Nothing (Err fault) = ⊥
 
+-- the result of reading a world text: the world, Damaged if it reads as none, or Memory
 abbrev pub ReadsWorld : Format → List ℕ → Result WorldValue LoadFault → Type 0
 ReadsWorld f text r = Judges (λ w. world_by f text ≡ Ok w) ((w : WorldValue) → world_by f text ≢ Ok w) r
 
+-- the result of judging the rows of `campaign` that were read: the only row and its world (`IsOwn`), Damaged, or Memory
 abbrev pub JudgesOwn : Format → List StoredCampaign → Result (StoredCampaign × WorldValue) LoadFault → Type 0
 JudgesOwn f rows r = Judges (λ both. IsOwn f rows both.0 both.1) ((own : StoredCampaign) (w : WorldValue) → ¬ IsOwn f rows own w) r
 
--- The rows that are shown are judged: whether they are the one of a world's text.
+-- the result of judging the rows that SQL showed of `campaign`: the one row and its world (`AreOwnRow`), Damaged, or Memory
 abbrev pub JudgesRows : Format → List Row → Result (StoredCampaign × WorldValue) LoadFault → Type 0
 JudgesRows f rows r = Judges (λ both. AreOwnRow f rows both.0.head (string_bytes both.0.world) both.1) ((h : StoredCampaignRow) (text : List ℕ) (w : WorldValue) → ¬ AreOwnRow f rows h text w) r
 
--- Whether they are one of the other format is judged first.
+-- the same, but OtherFormat if it is one row of the other format, which is judged first
 abbrev pub JudgesFormat : Format → List Row → Result (StoredCampaign × WorldValue) LoadFault → Type 0
 JudgesFormat f rows r = (IsOther f rows × (r ≡ Err OtherFormat)) ⊎ ((¬ IsOther f rows) × JudgesRows f rows r)
 
 -- ---- the rows of other tables, as they were read
 
--- of some parts the rows that were read
+-- the rows that were read, of each part that was read
 abbrev pub ReadRows : Type 0
 ReadRows = List (Part × List Row)
 
--- these are all rows of a part's table, where the schema has the tables of the format since which it is there
+-- these are all rows of the part's table, if the schema begins with the tables of the first format that has it
 abbrev pub AreRows : Database → Part → List Row → Type 0
 AreRows db part rows = HasTablesOf (listing_of part).since db.schema → IsPermutation ((listing_of part).in_table db.trees) rows
 
--- of each of the parts
+-- of each part that was read these are all rows (`AreRows`)
 abbrev pub AreAllRows : Database → ReadRows → Type 0
 AreAllRows db reads = (read : Part × List Row) → Has reads read → AreRows db read.0 read.1
 
--- of each part that the format has these are all rows, and of each other part there is none
+-- of each part that was read these are all rows, if the format has it, and else there is none
 pub record AreOfFormat (f : Format) (db : Database) (reads : ReadRows) : Type 0 where
   pub each : (read : Part × List Row) → Has reads read → (Has (parts_in f) read.0 × AreRows db read.0 read.1) ⊎ ((¬ Has (parts_in f) read.0) × (read.1 ≡ []))
 
--- no row was read
+-- no row was read of any part
 abbrev pub AreNone : ReadRows → Type 0
 AreNone reads = (read : Part × List Row) → Has reads read → read.1 ≡ []
 
@@ -131,13 +133,13 @@ AreNone reads = (read : Part × List Row) → Has reads read → read.1 ≡ []
 abbrev pub late_parts : List Part
 late_parts = drop (length (parts_in First)) all_parts
 
--- some SELECTs, and others that the second format alone asks
+-- the SELECTs `some`, and in the second format `others` too
 abbrev pub selects_by : Format → List (List ℕ × List Form) → List (List ℕ × List Form) → List (List ℕ × List Form)
 selects_by First some others = some
 selects_by Second some others = some ++ others
 
 module _ {S : Type 0} (g : Ghosts S) (old : Held S) where
-  -- one row was read, whose id is 1 and whose format is this one, with a text of the world
+  -- the SELECT of `campaign` showed one row, which keeps the first rule (`AreOwnRow`), and it is the only row of the table
   pub record OwnRead (f : Format) (own : StoredCampaign) (w : WorldValue) : Type 0 where
     pub rows : List Row
     pub selects : Selects g (selection campaign_table 1) old rows
@@ -146,21 +148,23 @@ module _ {S : Type 0} (g : Ghosts S) (old : Held S) where
 
   -- ---- the other tables
 
-  -- each of these SELECTs is answered: what was read is typed and is so, or a value is of another type
+  -- each of these SELECTs showed some rows: with all values of their types, and `P` holds of what was read
+  -- or, for None, with a value of another type
   abbrev pub Found : {A : Type 0} → List (List ℕ × List Form) → (A → Type 0) → Option A → Type 0
   Found selects P None = HasOtherType g old selects
   Found selects P (Some a) = AreToldTyped g old selects × P a
 
-  -- one of them is answered after other readings
+  -- one of these SELECTs, asked after other reads, shows some rows
   pub record AnswersOne (selects : List (List ℕ × List Form)) : Type 0 where
     pub select : List ℕ × List Form
     pub one : Has selects select
     pub before : Held S
-    pub leaves : Leaves g old before
+    pub leaves : AfterReads g old before
     pub rows : List Row
     pub answered : Selects g select.0 before rows
 
-  -- Store where one of them is refused for another cause than memory, Memory where one is refused for lack of it, or answered
+  -- when reading these tables may return each fault
+  -- Store: a SELECT is refused for another cause than memory. Memory: one is refused for lack of it, or shows rows.
   abbrev pub FailsToRead : List (List ℕ × List Form) → LoadFault → Type 0
   FailsToRead selects Store = RefusesOne g old selects read.Store ⊎ RefusesOne g old selects read.Refused
   FailsToRead selects (Damaged rule) = ⊥
@@ -168,19 +172,21 @@ module _ {S : Type 0} (g : Ghosts S) (old : Held S) where
   FailsToRead selects OtherFormat = ⊥
   FailsToRead selects Memory = RefusesOne g old selects read.Memory ⊎ AnswersOne selects
 
+  -- Reading these tables gives what `Found` says, or a fault (`FailsToRead`), if the disk is clean; the tables are as they were.
   pub record ReadsSome {A : Type 0} (selects : List (List ℕ × List Form)) (P : A → Type 0) (result : Result (Option A) LoadFault) (new : Held S) : Type 0 where
     pub was_open : HasCleanDisk (state g new) → IfOk result (λ _. IsTrue (state g old).is_open)
     pub found : HasCleanDisk (state g new) → IfOk result (Found selects P)
     pub fails : HasCleanDisk (state g new) → IfErr result (FailsToRead selects)
-    pub leaves : Leaves g old new
+    pub leaves : AfterReads g old new
 
   -- ---- the schema
 
-  -- the campaign's own row is asked for once more, and refused for lack of memory or not
+  -- the SELECT of the campaign row is refused; `memory` says whether for lack of memory
   abbrev pub IsRefusedAgain : Bool → Type 0
   IsRefusedAgain memory = (during : Held S) × (e : Error) × FailsToQuery (selection campaign_table 1) [] (state g old) (state g during) e × (is_memory e ≡ memory)
 
-  -- Store where the schema is another one, else what is told of that SELECT
+  -- when the test of the schema may return each fault
+  -- Store: the schema isn't the format's. Store or Memory: what the SELECT of the campaign row is refused for.
   abbrev pub FailsToConfirm : Format → LoadFault → Type 0
   FailsToConfirm f Store = (¬ HasTablesOf f old.schema) ⊎ (HasTablesOf f old.schema × IsRefusedAgain false)
   FailsToConfirm f (Damaged rule) = ⊥
@@ -188,30 +194,31 @@ module _ {S : Type 0} (g : Ghosts S) (old : Held S) where
   FailsToConfirm f OtherFormat = ⊥
   FailsToConfirm f Memory = HasTablesOf f old.schema × IsRefusedAgain true
 
--- ---- the places of rows
+-- ---- the rowids
 
--- no two rows are kept at one place
+-- no two rows have the same rowid
 abbrev pub AreApart : {A : Type 0} → List (RowWithId A) → Type 0
 AreApart placed = IsDistinct (eq_by_cmp int_cmp) (map (λ s. s.rowid) placed)
 
--- how many columns a part's table has: a place is shown behind them
+-- how many columns a part's table has: a rowid is shown after them
 abbrev pub width : Part → ℕ
 width part = length (table_of part).columns
 
--- the rows have different integers in this column
+-- the values of this column are integers, no two alike
 pub record HaveKeys (at : ℕ) (rows : List Row) : Type 0 where
   pub apart : IsDistinct (λ a b. is_eq (value_cmp (column a at) (column b at))) rows
   pub ints : AllByRecursion (λ r. is_int (column r at) ≡ true) rows
 
--- no two rows of a part are shown with one place
+-- no two rows of a part that is shown with rowids have the same one
 pub record AreAllApart (reads : ReadRows) : Type 0 where
-  pub each : (read : Part × List Row) → Has reads read → has_places read.0 ≡ true → HaveKeys (width read.0) read.1
+  pub each : (read : Part × List Row) → Has reads read → shows_rowids read.0 ≡ true → HaveKeys (width read.0) read.1
 
--- the rows of a part, without the places that they are shown with
+-- the rows of a part without the rowids that they are shown with
 abbrev pub without_ids : Part → List Row → List Row
-without_ids part rows = if has_places part then map (take (width part)) rows else rows
+without_ids part rows = if shows_rowids part then map (take (width part)) rows else rows
 
--- These were read of all parts but the campaign's own, of which this is the row; they are the rows that are to be judged, and no two of a part are shown with one place.
+-- `p` holds the campaign row `head` and the rows that were read of all other parts, without their rowids.
+-- No two rows of a part have the same rowid.
 pub record IsMadeOf (head : StoredCampaignRow) (reads : ReadRows) (p : Parts) : Type 0 where
   pub parts : map (λ read. read.0) reads ≡ other_parts Second
   pub campaign : p.campaign ≡ head ∷ []
@@ -220,7 +227,8 @@ pub record IsMadeOf (head : StoredCampaignRow) (reads : ReadRows) (p : Parts) : 
 
 -- ---- all of it
 
--- all rows were read: those of the world's text and these
+-- All tables were read: the campaign row keeps the first rule, and each value is of its column's form.
+-- If the tables are the format's, they have exactly these rows, with a text of this world, and rowids that differ.
 pub record Gathered (f : Format) {S : Type 0} (g : Ghosts S) (old : Held S) (w : WorldValue) (p : Parts) : Type 0 where
   pub one : KeepsOneRow f g old
   pub first : Keeps f w p OneRow
@@ -228,15 +236,15 @@ pub record Gathered (f : Format) {S : Type 0} (g : Ghosts S) (old : Held S) (w :
   pub world : world_by f text ≡ Ok w
   pub typed : AreToldTyped g old (other_selects f)
   pub rows : HasTablesOf f old.schema → HaveRows f (state g old).now.trees text p
-  pub keyed : HasTablesOf f old.schema → (table : Table) → Has (placed_tables f) table → IsKeyed ((state g old).now.trees table.tree)
+  pub keyed : HasTablesOf f old.schema → (table : Table) → Has (tables_with_rowids f) table → IsKeyed ((state g old).now.trees table.tree)
 
--- the schema is that of a campaign, and the connection is open
+-- the old tables are made as the format has them and fit their schema, and the new connection is open
 pub record IsConfirmed (f : Format) (old new : State) : Type 0 where
   pub begins : HasTablesOf f old.now.schema
   pub is_open : IsTrue new.is_open
   pub sound : IsSound old.now.schema old.now.trees
 
--- all rows were read of these tables, which are those of a campaign, and judged
+-- if the disk is clean, all rows were read (`Gathered`) and the schema confirmed; and the rows, which keep all rules, are those of `c`
 pub record IsLoaded (f : Format) {S : Type 0} (g : Ghosts S) (old new : Held S) (w : WorldValue) (c : MarkedCampaign) : Type 0 where
   pub parts : Parts
   pub gathered : HasCleanDisk (state g new) → Gathered f g old w parts

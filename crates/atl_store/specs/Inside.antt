@@ -1,4 +1,4 @@
--- The tables inside a transaction, step by step, and after it.
+-- What is done to the tables inside a transaction, and what a whole transaction leaves.
 use Rattle.std.specs.Prelude.{◌≡◌, ◌≢◌, ℕ, List, [], ◌∷◌, false, IsTrue}
 use Rattle.sqlite_value.specs.Order.{Row}
 use Rattle.sqlite_schema.specs.declared.schema.Table.{Table}
@@ -8,77 +8,77 @@ use Rattle.sqlite.specs.Effect.{Database}
 use Rattle.sqlite.specs.State.{State}
 use Rattle.sqlite_trees.specs.Tree.{Trees}
 use Rattle.atl_store.specs.Sets.{Set, Is, rows_in, put, puts, drop_key}
-use Rattle.atl_store.specs.Tables.{Part, table_of, no_tables, all_tables, all_trees, HasAll, IsSoundly}
+use Rattle.atl_store.specs.Tables.{Part, table_of, no_tables, all_tables, all_trees, HasAll, IsSoundDatabase}
 
--- the database begins with the tables of a campaign
+-- the schema begins with the tables of a campaign, and the trees list and obey it (`IsSoundDatabase`)
 pub record HasTables (db : Database) : Type 0 where
   pub begins : HasAll db.schema
-  pub sound : IsSoundly db.schema db.trees
+  pub sound : IsSoundDatabase db.schema db.trees
 
--- the database has no table
+-- the database has no table, no index and no view
 abbrev pub IsBlank : Database → Type 0
 IsBlank db = db.schema ≡ no_tables
 
--- no table and no index goes, and what tables hold beside those of a campaign stays as it was
+-- no table and no index is gone, and tables that aren't a campaign's hold what they held
 pub record Carries (old new : Database) : Type 0 where
   pub tables : (t : Table) → Has old.schema.tables t → Has new.schema.tables t
   pub indexes : (i : Index) → Has old.schema.indexes i → Has new.schema.indexes i
   pub others : (t : Table) → Has old.schema.tables t → ¬ Has all_trees t.tree → new.trees t.tree ≡ old.trees t.tree
 
--- this is done, and the tables of a campaign are there afterwards
+-- `Does` is done, the tables of a campaign are there afterwards, and all others are carried along (`Carries`)
 pub record Done (Does : Database → Database → Type 0) (old new : Database) : Type 0 where
   pub does : Does old new
   pub tables : HasTables new
   pub carries : Carries old new
 
--- inside a transaction, which goes on: what is done to a database of this sort
+-- `Does` is done to the tables, if they were as `Before` says; and a transaction that was going on goes on
 abbrev pub Inside : (Database → Type 0) → (Database → Database → Type 0) → State → State → Type 0
 Inside Before Does old new = (new.in_transaction ≡ old.in_transaction) × (Before old.now → Done Does old.now new.now)
 
--- one after the other
+-- `First` is done, and then `Second`
 abbrev pub Both : (Database → Database → Type 0) → (Database → Database → Type 0) → Database → Database → Type 0
 Both First Second old new = (mid : Database) × First old mid × Second mid new
 
--- the rows of this table are these, and each other table of a campaign is as it was
+-- the rows of this table are exactly this set, and each other table of a campaign is as it was
 pub record Alters (table : Table) (S : Set) (old new : Database) : Type 0 where
   pub rows : Is (rows_in table new.trees) S
   pub others : (t : Table) → Has all_tables t → t.tree ≢ table.tree → new.trees t.tree ≡ old.trees t.tree
 
--- This becomes of the rows of these parts, and each other table of a campaign is as it was.
+-- The rows of each of these parts become what `Becomes` says, and the tables of all other parts are as they were.
 pub record Changes (Becomes : Part → List Row → List Row → Type 0) (parts : List Part) (old new : Database) : Type 0 where
   pub done : (part : Part) → Has parts part → Becomes part (rows_in (table_of part) old.trees) (rows_in (table_of part) new.trees)
   pub others : (part : Part) → ¬ Has parts part → new.trees (table_of part).tree ≡ old.trees (table_of part).tree
 
--- this is done for each of these parts, one after another
+-- `Does` is done for each of these parts, one after another
 abbrev pub InTurn : (Part → Database → Database → Type 0) → List Part → Database → Database → Type 0
 InTurn Does [] old new = new ≡ old
 InTurn Does (part ∷ parts) old new = (mid : Database) × Does part old mid × InTurn Does parts mid new
 
--- the row is put in the place of the one that has its key, which is so many columns
+-- the row replaces the one with its key, the first `key` columns, or is added; all other rows and tables are as they were
 abbrev pub Puts : Table → ℕ → Row → Database → Database → Type 0
 Puts table key row old new = Alters table (put key row (Has (rows_in table old.trees))) old new
 
--- the row that has this key is taken out
+-- the row whose first `key` columns are `k` is deleted; all other rows and tables are as they were
 abbrev pub Drops : Table → ℕ → Row → Database → Database → Type 0
 Drops table key k old new = Alters table (drop_key key k (Has (rows_in table old.trees))) old new
 
--- all these rows are put, one after another
+-- all these rows are put (`Puts`), one after another
 abbrev pub PutsRows : Table → ℕ → List Row → Database → Database → Type 0
 PutsRows table key news old new = Alters table (puts key news (Has (rows_in table old.trees))) old new
 
--- a transaction as a whole: what is done to the tables is committed
+-- a transaction that succeeded: `Does` is done, if the tables were as `Before` says, and committed; the connection is open and in no transaction
 pub record Commits (Before : Database → Type 0) (Does : Database → Database → Type 0) (old new : State) : Type 0 where
   pub does : Before old.now → Done Does old.now new.now
   pub committed : new.committed ≡ new.now
   pub idle : new.in_transaction ≡ false
   pub is_open : IsTrue new.is_open
 
--- nothing is done; where the connection is still open, its tables are those of the last commit
+-- a transaction that failed: while the connection is open, its tables are those of the last commit before; it is in no transaction
 pub record LeavesOff (old new : State) : Type 0 where
   pub was_open : IsTrue new.is_open → IsTrue old.is_open
   pub undone : IsTrue new.is_open → (new.now ≡ old.committed) × (new.committed ≡ old.committed)
   pub idle : new.in_transaction ≡ false
 
--- what a crash may leave after it, beside what it could leave before
+-- what a crash may leave besides: the trees of a database to which `Does` was done, if the tables were as `Before` says
 abbrev pub MayLeave : (Database → Type 0) → (Database → Database → Type 0) → State → Trees → Type 0
 MayLeave Before Does old trees = (db : Database) × (Before old.now → Done Does old.now db) × (trees ≡ db.trees)

@@ -10,7 +10,7 @@ use Rattle.atl_tables.specs.Worlds.{WorldValue}
 use Rattle.atl_state.specs.Campaign.{CampaignValue, with_report}
 use Rattle.atl_state.specs.Joining.{joined}
 use Rattle.atl_state.specs.Good.{IsGood}
-use Rattle.atl_store.specs.Tables.{HasAll, IsSoundly}
+use Rattle.atl_store.specs.Tables.{HasAll, IsSoundDatabase}
 use Rattle.atl_store.specs.Inside.{HasTables, Carries, IsBlank}
 use Rattle.atl_store.specs.Making.{has_campaign}
 use Rattle.atl_store.specs.Rows.{Holds}
@@ -20,14 +20,15 @@ use Rattle.atl_store.specs.OwnStatements.{OfFounding}
 use Rattle.atl_store.specs.declared.fault.CreateFault.{CreateFault}
 use Rattle.atl_store.specs.declared.fault.CreateFault.TheVariants.{NotEmpty, Store, Memory}
 
--- What a file holds: the tables of a campaign, as its catalog lists them, and in them exactly the rows of the text and the campaign.
+-- What a file holds: the tables of a campaign, as its catalog lists them, with exactly the rows of the text and the campaign.
 pub record Stores (db : Trees) (text : List ℕ) (c : CampaignValue) : Type 0 where
   pub schema : Schema
   pub begins : HasAll schema
-  pub sound : IsSoundly schema db
+  pub sound : IsSoundDatabase schema db
   pub rows : Holds db text c
 
--- The connection is open and in no transaction, its tables hold exactly the rows of the text and the campaign, and a crash leaves just these.
+-- The connection is open and in no transaction, and its tables hold exactly the rows of the text and the campaign.
+-- All is committed, and a crash leaves just this.
 pub record Keeps (s : State) (text : List ℕ) (c : CampaignValue) : Type 0 where
   pub idle : s.in_transaction ≡ false
   pub is_open : IsTrue s.is_open
@@ -36,68 +37,75 @@ pub record Keeps (s : State) (text : List ℕ) (c : CampaignValue) : Type 0 wher
   pub rows : Holds s.now.trees text c
   pub crash : (db : Trees) → s.may_leave db → Stores db text c
 
--- This connection holds this campaign, on a disk that is clean so far.
+-- If the disk is clean so far, the connection keeps this world text and this campaign (`Keeps`). Of a disk that isn't clean nothing is said.
 abbrev pub HoldsCampaign : {S : Type 0} → Ghosts S → Held S → List ℕ → CampaignValue → Type 0
 HoldsCampaign g conn text c = HasCleanDisk (state g conn) → Keeps (state g conn) text c
 
--- After a fault, where the disk had failed so often before: the tables hold the campaign before, while the connection is open, and only another failure of the disk shuts it.
--- After a crash they hold the one before or the one after, never a part.
-pub record Stops (faults : ℕ) (s : State) (text : List ℕ) (before after : CampaignValue) : Type 0 where
+-- After a fault: the connection, while it is open, keeps the campaign `before`, and is shut only if the disk failed again.
+-- A crash leaves the campaign `before` or `after`, never a part. `faults` counts the failures of the disk before the call.
+pub record LeavesAfterFault (faults : ℕ) (s : State) (text : List ℕ) (before after : CampaignValue) : Type 0 where
   pub still : IsTrue s.is_open → Keeps s text before
-  pub closes : IsTrue s.is_open ⊎ MoreFaults faults s.faults
+  pub shuts : IsTrue s.is_open ⊎ MoreFaults faults s.faults
   pub crash : (db : Trees) → s.may_leave db → Stores db text before ⊎ Stores db text after
 
--- The same connection later: no failure of its disk is forgotten, and reads that were tested are tested still.
+-- The same connection later: a disk that is clean now was clean before, and no failure of it is forgotten.
+-- A connection whose reads are tested (shielded) stays so.
 pub record IsLater (old new : State) : Type 0 where
   pub clean : HasCleanDisk new → HasCleanDisk old
   pub counts : old.faults ≤ new.faults
   pub shield : old.IsShielded → new.IsShielded
 
--- What tables hold beside those of a campaign is as it was, while the connection is open.
-abbrev pub SparesOthers : State → State → Type 0
-SparesOthers old new = IsTrue new.is_open → HasTables old.now → old.committed ≡ old.now → Carries old.now new.now
+-- No table or index is gone, and tables that aren't the campaign's hold what they held.
+-- The premises: the connection is open, and before it had the tables of a campaign and nothing uncommitted.
+abbrev pub LeavesOthersAlone : State → State → Type 0
+LeavesOthersAlone old new = IsTrue new.is_open → HasTables old.now → old.committed ≡ old.now → Carries old.now new.now
 
 -- ---- creating
 
--- Nothing is created: while the connection is open its tables are as they were, and only another failure of the disk shuts it.
-pub record Spares (old new : State) : Type 0 where
+-- Nothing is changed: while the connection is open, its tables, its last commit and its transaction are as they were.
+-- Only a new failure of the disk shuts it.
+pub record ChangesNothing (old new : State) : Type 0 where
   pub same : IsTrue new.is_open → (new.now ≡ old.now) × (new.committed ≡ old.committed) × (new.in_transaction ≡ old.in_transaction)
-  pub closes : IsTrue old.is_open → IsTrue new.is_open ⊎ MoreFaults old.faults new.faults
+  pub shuts : IsTrue old.is_open → IsTrue new.is_open ⊎ MoreFaults old.faults new.faults
 
--- a crash leaves what it left before, or the campaign
+-- a crash leaves what it could have left before, or a file that stores this campaign
 abbrev pub MayFound : State → List ℕ → CampaignValue → State → Type 0
 MayFound old text c new = (db : Trees) → new.may_leave db → old.may_leave db ⊎ Stores db text c
 
--- Where no table campaign was there, the connection holds the campaign.
+-- With Ok of `create` there was no table `campaign`, and the connection holds the campaign, if the disk is clean.
+-- It is in no transaction.
 pub record Creates {S : Type 0} (g : Ghosts S) (text : List ℕ) (c : CampaignValue) (old new : Held S) : Type 0 where
   pub fresh : has_campaign old.schema ≡ false
   pub idle : new.in_transaction ≡ false
   pub tables : HoldsCampaign g new text c
 
--- The database could not be written.
+-- There was no table `campaign`, and nothing is changed, if the disk is clean.
+-- A crash leaves what it could have left before, or the campaign.
 pub record FailsToCreate {S : Type 0} (g : Ghosts S) (text : List ℕ) (c : CampaignValue) (old new : Held S) : Type 0 where
   pub fresh : has_campaign old.schema ≡ false
-  pub tables : HasCleanDisk (state g new) → Spares (state g old) (state g new)
+  pub tables : HasCleanDisk (state g new) → ChangesNothing (state g old) (state g new)
   pub crash : HasCleanDisk (state g new) → MayFound (state g old) text c (state g new)
 
 -- the database has no table, index or view, and the connection is in no transaction
-abbrev pub IsReady : State → Type 0
-IsReady s = IsBlank s.now × (s.in_transaction ≡ false)
+abbrev pub IsReadyToCreate : State → Type 0
+IsReadyToCreate s = IsBlank s.now × (s.in_transaction ≡ false)
 
--- A creation was begun, and this fault tells the error of a call that ended it.
-pub record BreaksOff {S : Type 0} (g : Ghosts S) (text : List ℕ) (c : CampaignValue) (old new : Held S) (fault : CreateFault) : Type 0 where
-  pub ready : IsReady (state g old)
+-- The database was ready for `create`, and a statement of it, or its commit, gave an error.
+-- The fault is that of the error, if the disk is clean.
+pub record BreaksOffCreation {S : Type 0} (g : Ghosts S) (text : List ℕ) (c : CampaignValue) (old new : Held S) (fault : CreateFault) : Type 0 where
+  pub ready : IsReadyToCreate (state g old)
   pub told : HasCleanDisk (state g new) → IsTold g (OfFounding text c) create_fault old new fault
 
--- Where a table campaign is there, or the connection isn't ready, nothing at all is changed.
+-- When `create` may return each fault.
+-- If there is a table `campaign` (NotEmpty), or the database isn't ready (Store), nothing at all is changed.
 abbrev pub RefusesToCreate : {S : Type 0} → Ghosts S → List ℕ → CampaignValue → Held S → Held S → CreateFault → Type 0
 RefusesToCreate g text c old new NotEmpty = IsTrue (has_campaign old.schema) × (new ≡ old)
-RefusesToCreate g text c old new Store = FailsToCreate g text c old new × (((¬ IsReady (state g old)) × (new ≡ old)) ⊎ BreaksOff g text c old new Store)
-RefusesToCreate g text c old new Memory = FailsToCreate g text c old new × BreaksOff g text c old new Memory
+RefusesToCreate g text c old new Store = FailsToCreate g text c old new × (((¬ IsReadyToCreate (state g old)) × (new ≡ old)) ⊎ BreaksOffCreation g text c old new Store)
+RefusesToCreate g text c old new Memory = FailsToCreate g text c old new × BreaksOffCreation g text c old new Memory
 
 -- ---- writing
 
--- a faction joined the good campaign before, and its first report was stored
+-- `after` is the good campaign `before` once the faction has joined it and its first report is stored
 abbrev pub IsJoining : CampaignValue → ℕ → CampaignValue → Type 0
 IsJoining before faction after =
     (w : WorldValue) × (name : List ℕ) × (pass : List ℕ) × (word : ℕ) × (report : List ℕ) × IsGood w before × (faction ≡ before.next_faction) × (after ≡ with_report (joined w name pass word before) faction report)

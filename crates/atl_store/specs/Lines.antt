@@ -18,18 +18,19 @@ use Rattle.atl_store.specs.Sets.{Set}
 use Rattle.atl_store.specs.Shown.{int, has_row, books_row, market_row}
 use Rattle.atl_store.specs.Written.{sort_number}
 
--- ---- rows that belong to what has a number
+-- ---- groups of rows, each of one number
 
--- no two of the rows have one key, which is so many columns
+-- no two of the rows have the same key, which is the first `key` columns
 abbrev pub DifferInKey : ℕ → List Row → Type 0
 DifferInKey key [] = ⊤
 DifferInKey key (x ∷ xs) = ((y : Row) → Has xs y → take key x ≢ take key y) × DifferInKey key xs
 
--- the rows of all entries, in their order
+-- the rows of all entries, one entry after another
 abbrev pub groups_of : {V : Type 0} → (ℕ → V → List Row) → List (ℕ × V) → List Row
 groups_of lines entries = flat_map (λ e. lines e.0 e.1) entries
 
--- Each value's rows begin with its number and differ in their key, and the rows of all values of the map are those that are wanted.
+-- The rows of each value begin with its number and differ in their key.
+-- The rows of all values of the map together are those that are wanted.
 pub record AreGroups {V : Type 0} (lines : ℕ → V → List Row) (key : ℕ) (values : FinMap nat_cmp V) (Wanted : Set) : Type 0 where
   pub numbered : (n : ℕ) (v : V) (r : Row) → Has (lines n v) r → take 1 r ≡ int n ∷ []
   pub apart : (n : ℕ) (v : V) → DifferInKey key (lines n v)
@@ -38,43 +39,52 @@ pub record AreGroups {V : Type 0} (lines : ℕ → V → List Row) (key : ℕ) (
 
 -- ---- amounts of things
 
--- a row where the amount is not 0
+-- one row if the amount isn't 0, else none
 abbrev pub thing_rows : (ℕ → ℕ → Row) → ℕ → ℕ → List Row
 thing_rows row thing amount = if amount == 0 then [] else row thing amount ∷ []
 
+-- one row for each thing whose amount isn't 0
 abbrev pub amount_rows : (ℕ → ℕ → Row) → List (ℕ × ℕ) → List Row
 amount_rows row amounts = flat_map (λ e. thing_rows row e.0 e.1) amounts
 
 -- ---- what units have
 
+-- the rows of `has` for a unit's things of one kind
 abbrev pub kind_lines : ℕ → ThingKind → List (ℕ × ℕ) → List Row
 kind_lines unit sort things = amount_rows (has_row unit (sort_number sort)) things
 
+-- the rows of `has` for a unit's items, and then for its skills
 abbrev pub goods_lines : ℕ → HoldingValue → List Row
 goods_lines unit held = kind_lines unit Item (entries held.items) ++ kind_lines unit Skill (entries held.days)
 
+-- the rows of `has` for one unit
 abbrev pub unit_lines : ℕ → Unit → List Row
 unit_lines n unit = goods_lines n unit.holding
 
+-- the rows of `has` for all units
 abbrev pub all_goods_lines : List (ℕ × Unit) → List Row
 all_goods_lines units = groups_of unit_lines units
 
 -- ---- the stocks of markets
 
+-- the rows of `market` for one region
 abbrev pub region_lines : ℕ → Region → List Row
 region_lines n region = amount_rows (market_row n) (entries region.stocks)
 
+-- the rows of `market` for all regions
 abbrev pub all_stocks_lines : List (ℕ × Region) → List Row
 all_stocks_lines regions = groups_of region_lines regions
 
 -- ---- the books
 
--- a row where the amount is not 0
+-- the row of `books` for one entry and thing, or none if the amount is 0
 abbrev pub amount_lines : CampaignValue → Entry → Thing → List Row
 amount_lines c entry thing = if int_eq (amount_in c.books entry thing) (pos 0) then [] else books_row (entry_index entry + 1) (thing_index thing) (amount_in c.books entry thing) ∷ []
 
+-- the rows of `books` for one thing under these entries
 abbrev pub entries_lines : CampaignValue → Thing → List Entry → List Row
 entries_lines c thing entries = flat_map (λ entry. amount_lines c entry thing) entries
 
+-- the rows of `books` for these things, by their numbers, under all entries
 abbrev pub things_lines : CampaignValue → List ℕ → List Row
 things_lines c places = flat_map (λ place. entries_lines c (thing_at place) all_entries) places

@@ -1,4 +1,4 @@
--- What `load` returns and leaves.
+-- What `load` returns and leaves. See docs/FORMATS.md, "Opening a file".
 use Rattle.std.specs.Prelude.{◌≡◌, ◌⊎◌, ◌++◌, ℕ, Bool, List, [], ◌∷◌, length, drop, filter, map, is_some, not, pos, true, false, IsTrue, IsPermutation, IsUtf8, Ok}
 use Rattle.sqlite.specs.declared.error.Error.{Error}
 use Rattle.sqlite.specs.declared.types.Value.TheVariants.{Int, Text}
@@ -28,7 +28,7 @@ use Rattle.atl_state.specs.declared.parts.StoredHas.{StoredHas}
 use Rattle.atl_state.specs.declared.parts.StoredCampaignRow.{StoredCampaignRow}
 use Rattle.atl_state.specs.declared.parts.StoredMarket.{StoredMarket}
 use Rattle.atl_store.specs.Faults.{is_memory}
-use Rattle.atl_store.specs.Keeps.{HoldsCampaign, Spares}
+use Rattle.atl_store.specs.Keeps.{ChangesNothing, HoldsCampaign}
 use Rattle.atl_store.specs.Reading.{Selects, RefusesToSelect, listing_of}
 use Rattle.atl_store.specs.Rows.{HoldsIn}
 use Rattle.atl_store.specs.Shown.{int, campaign_row_stored, faction_stored, region_stored, unit_stored, structure_stored, mail_stored, report_stored, campaign_forms, faction_forms, region_forms, unit_forms, has_forms, structure_forms, mail_forms, report_forms, books_forms, market_forms}
@@ -46,19 +46,23 @@ use Rattle.atl_store.specs.declared.fault.StoreFault.TheVariants as store
 
 -- ---- the rows of the tables
 
+-- the campaign row that was read, with this world text, as SQL shows it
 abbrev pub own_stored : List ℕ → StoredCampaignRow → Row
 own_stored text h = campaign_row_stored h ++ Text text ∷ []
 
+-- a row of `has` that was read, as SQL shows it
 abbrev pub has_values : StoredHas → Row
 has_values s = Int s.unit ∷ Int s.sort ∷ Int s.thing ∷ Int s.amount ∷ []
 
+-- a row of `books` that was read, as SQL shows it
 abbrev pub books_values : StoredBooks → Row
 books_values s = Int s.entry ∷ Int s.thing ∷ Int s.amount ∷ []
 
+-- a row of `market` that was read, as SQL shows it
 abbrev pub market_values : StoredMarket → Row
 market_values s = Int s.region ∷ Int s.item ∷ Int s.stock ∷ []
 
--- the rows that were read of each part, as its table has them; the campaign's own have this world text
+-- the rows of each part that were read, as SQL shows them; the campaign row is given this world text
 abbrev pub rows_read : List ℕ → Parts → Part → List Row
 rows_read text p Own = map (own_stored text) p.campaign
 rows_read text p Factions = map faction_stored p.factions
@@ -71,14 +75,15 @@ rows_read text p Reports = map report_stored p.reports
 rows_read text p Books = map books_values p.books
 rows_read text p Markets = map market_values p.markets
 
--- The tables of a format have these rows and no others, each as often as it stands here, and there are none of a part that the format doesn't have.
+-- The tables of a format have exactly these rows, each as often as it is here.
+-- There is no row here of a part that the format doesn't have.
 pub record HaveRows (f : Format) (db : Trees) (text : List ℕ) (p : Parts) : Type 0 where
   pub rows : (part : Part) → Has (parts_in f) part → IsPermutation (rows_in (table_of part) db) (rows_read text p part)
   pub none : (part : Part) → ¬ Has (parts_in f) part → rows_read text p part ≡ []
 
 -- ---- the first rule
 
--- The rows are one, whose id is 1 and whose format is this one, with a text of UTF-8 that reads as a world.
+-- There is one row; its id is 1, its format is `f`, and its world text is UTF-8 and reads as the world `w`.
 pub record AreOwnRow (f : Format) (rows : List Row) (h : StoredCampaignRow) (text : List ℕ) (w : WorldValue) : Type 0 where
   pub is : map (first_columns (length campaign_forms)) rows ≡ own_stored text h ∷ []
   pub id : h.id ≡ pos 1
@@ -86,17 +91,18 @@ pub record AreOwnRow (f : Format) (rows : List Row) (h : StoredCampaignRow) (tex
   pub utf8 : IsUtf8 text
   pub world : world_by f text ≡ Ok w
 
+-- the other one of the two formats
 abbrev pub other_format : Format → Format
 other_format First = Second
 other_format Second = First
 
--- they are one, whose format is the other one, whatever else it says
+-- there is one row, whose format is the other one, whatever else it says
 abbrev pub IsOther : Format → List Row → Type 0
 IsOther f rows = (row : Row) × (rows ≡ row ∷ []) × (column row 1 ≡ int (format_number (other_format f)))
 
 -- ---- the other tables
 
--- what the columns of each part's rows are read as
+-- the forms that the columns of each part's rows are read in
 abbrev pub forms_of : Part → List Form
 forms_of Own = campaign_forms
 forms_of Factions = faction_forms
@@ -109,34 +115,36 @@ forms_of Reports = report_forms
 forms_of Books = books_forms
 forms_of Markets = market_forms
 
--- all parts but the campaign's own row
+-- all parts of a format but the campaign row
 abbrev pub other_parts : Format → List Part
 other_parts f = drop 1 (parts_in f)
 
--- the SELECTs of their tables, each with what its columns are read as
+-- the SELECTs of the other parts, each with the forms of its columns
 abbrev pub other_selects : Format → List (List ℕ × List Form)
 other_selects f = map (λ part. ((listing_of part).select, forms_of part)) (other_parts f)
 
--- whether the key of a part's table is not the row's number, so that its rows are shown with their places
-abbrev pub has_places : Part → Bool
-has_places part = not (is_some (table_of part).key)
+-- whether a part's table has no INTEGER PRIMARY KEY, so that its rows are shown with their rowids
+abbrev pub shows_rowids : Part → Bool
+shows_rowids part = not (is_some (table_of part).key)
 
-abbrev pub placed_tables : Format → List Table
-placed_tables f = map table_of (filter has_places (parts_in f))
+-- the tables of a format that have no INTEGER PRIMARY KEY
+abbrev pub tables_with_rowids : Format → List Table
+tables_with_rowids f = map table_of (filter shows_rowids (parts_in f))
 
--- while the connection is open, its tables are those of the one before
+-- if the connection is open it was open before, and its tables and its last commit are as they were
 pub record Stays (old new : State) : Type 0 where
   pub was_open : IsTrue new.is_open → IsTrue old.is_open
   pub same : IsTrue new.is_open → (new.now ≡ old.now) × (new.committed ≡ old.committed)
 
--- the connection after readings, in no transaction
-pub record Leaves {S : Type 0} (g : Ghosts S) (old new : Held S) : Type 0 where
+-- The connection after reads: it is in no transaction, and its tables are as they were, if the disk is clean (`Stays`).
+-- A crash leaves only what it could have left before.
+pub record AfterReads {S : Type 0} (g : Ghosts S) (old new : Held S) : Type 0 where
   pub stays : HasCleanDisk (state g new) → Stays (state g old) (state g new)
   pub survives : Survives (state g old) (state g new) (λ _. ⊥)
   pub idle : new.in_transaction ≡ false
 
 module _ {S : Type 0} (g : Ghosts S) (old : Held S) where
-  -- asked of these tables, a SELECT shows these rows
+  -- the SELECT, asked of the tables of `old`, shows these rows
   pub record Tells (sql : List ℕ) (rows : List Row) : Type 0 where
     pub before : Held S
     pub during : Held S
@@ -144,15 +152,15 @@ module _ {S : Type 0} (g : Ghosts S) (old : Held S) where
     pub shown : Shown sql [] (state g before) (state g during) rows
 
   module _ (selects : List (List ℕ × List Form)) where
-    -- each of them is answered
+    -- each of these SELECTs shows some rows
     abbrev pub AreTold : Type 0
     AreTold = (select : List ℕ × List Form) → Has selects select → (rows : List Row) × Tells select.0 rows
 
-    -- each is answered, and each value is of the type that its column is read as
+    -- each of these SELECTs shows some rows, in which each value is of its column's form
     abbrev pub AreToldTyped : Type 0
     AreToldTyped = (select : List ℕ × List Form) → Has selects select → (rows : List Row) × Tells select.0 rows × AreTyped select.1 rows
 
-    -- each is answered, and in one answer a value is of another type
+    -- each of these SELECTs shows some rows, and in those of one of them a value is of another form than its column
     pub record HasOtherType : Type 0 where
       pub all : AreTold
       pub select : List ℕ × List Form
@@ -161,44 +169,46 @@ module _ {S : Type 0} (g : Ghosts S) (old : Held S) where
       pub told : Tells select.0 rows
       pub other : ¬ AreTyped select.1 rows
 
-    -- one of them is refused after other readings, and this is told of it
+    -- one of these SELECTs, asked after other reads, is refused, and this is the fault of its error
     pub record RefusesOne (fault : ReadFault) : Type 0 where
       pub select : List ℕ × List Form
       pub one : Has selects select
       pub before : Held S
-      pub leaves : Leaves g old before
+      pub leaves : AfterReads g old before
       pub refused : RefusesToSelect g select.0 before fault
 
   -- ---- the disk and the memory
 
-  -- the disk failed as the tables were read
+  -- the disk failed while the tables were read
   pub record FailedMeanwhile : Type 0 where
     pub after : Held S
-    pub leaves : Leaves g old after
+    pub leaves : AfterReads g old after
     pub failed : MoreFaults (state g old).faults (state g after).faults
 
-  -- the campaign's own row, asked for once more after other readings, is refused for lack of memory or not
+  -- the SELECT of the campaign row, asked again after other reads, is refused; `memory` says whether for lack of memory
   pub record RefusesAgain (memory : Bool) : Type 0 where
     pub before : Held S
-    pub leaves : Leaves g old before
+    pub leaves : AfterReads g old before
     pub during : Held S
     pub error : Error
     pub refused : FailsToQuery (selection campaign_table 1) [] (state g before) (state g during) error
     pub memory_is : is_memory error ≡ memory
 
-  -- Memory is told in no transaction, where the SELECT of the campaign's own row is refused for lack of memory or is answered: what is behind it may want memory anywhere.
-  abbrev pub WantsMemory : Type 0
-  WantsMemory = (old.in_transaction ≡ false) × (RefusesToSelect g (selection campaign_table 1) old read.Memory ⊎ ((rows : List Row) × Selects g (selection campaign_table 1) old rows))
+  -- When Memory may be returned: in no transaction, if the SELECT of the campaign row lacks memory or is answered.
+  -- For any step after that one may lack memory.
+  abbrev pub MayReturnMemory : Type 0
+  MayReturnMemory = (old.in_transaction ≡ false) × (RefusesToSelect g (selection campaign_table 1) old read.Memory ⊎ ((rows : List Row) × Selects g (selection campaign_table 1) old rows))
 
 -- ---- by format
 
 module _ (f : Format) {S : Type 0} (g : Ghosts S) (old : Held S) where
-  -- They are the tables of the format, and no two rows of one whose key is not the row's number are kept at one place.
+  -- The schema begins with the tables of the format; in those without an INTEGER PRIMARY KEY the rowids are integers, no two alike.
   pub record AreMade : Type 0 where
     pub begins : HasTablesOf f old.schema
-    pub keyed : (table : Table) → Has (placed_tables f) table → IsKeyed ((state g old).now.trees table.tree)
+    pub keyed : (table : Table) → Has (tables_with_rowids f) table → IsKeyed ((state g old).now.trees table.tree)
 
-  -- The tables are made so, they keep the first rule, and of the rows that they have this is the first rule that is broken.
+  -- The tables are made as the format has them (`AreMade`), and `rule` is the first rule that their rows break.
+  -- The world text reads as a world.
   pub record BreaksRule (rule : Rule) : Type 0 where
     pub made : AreMade
     pub world : WorldValue
@@ -208,7 +218,7 @@ module _ (f : Format) {S : Type 0} (g : Ghosts S) (old : Held S) where
     pub rows : HaveRows f (state g old).now.trees text parts
     pub first : IsFirstBroken f world parts rule
 
-  -- The campaign's own rows keep the first rule.
+  -- The SELECT of `campaign` shows one row, which keeps the first rule (`AreOwnRow`).
   pub record KeepsOneRow : Type 0 where
     pub rows : List Row
     pub selects : Selects g (selection campaign_table 1) old rows
@@ -217,54 +227,59 @@ module _ (f : Format) {S : Type 0} (g : Ghosts S) (old : Held S) where
     pub world : WorldValue
     pub own : AreOwnRow f rows head text world
 
-  -- They do not, and are not one of the other format.
+  -- The SELECT of `campaign` shows rows that break the first rule and aren't one row of the other format.
   pub record BreaksOneRow : Type 0 where
     pub rows : List Row
     pub selects : Selects g (selection campaign_table 1) old rows
     pub broken : (h : StoredCampaignRow) (text : List ℕ) (w : WorldValue) → ¬ AreOwnRow f rows h text w
     pub of_format : ¬ IsOther f rows
 
-  -- the first rule that is broken
-  abbrev pub IsDamaged : Rule → Type 0
-  IsDamaged rules.OneRow = BreaksOneRow
-  IsDamaged rules.Ranges = (KeepsOneRow × HasOtherType g old (other_selects f)) ⊎ BreaksRule rules.Ranges
-  IsDamaged rules.Names = BreaksRule rules.Names
-  IsDamaged rules.Known = BreaksRule rules.Known
-  IsDamaged rules.Next = BreaksRule rules.Next
-  IsDamaged rules.Days = BreaksRule rules.Days
-  IsDamaged rules.Gone = BreaksRule rules.Gone
-  IsDamaged rules.Owners = BreaksRule rules.Owners
-  IsDamaged rules.Water = BreaksRule rules.Water
-  IsDamaged rules.Guards = BreaksRule rules.Guards
-  IsDamaged rules.Books = BreaksRule rules.Books
-  IsDamaged rules.Mail = BreaksRule rules.Mail
+  -- When Damaged may be returned with each rule: it is the first rule that the rows break.
+  -- Ranges also comes if the first rule is kept and a value of another table is of another type than its column.
+  abbrev pub MayReturnDamaged : Rule → Type 0
+  MayReturnDamaged rules.OneRow = BreaksOneRow
+  MayReturnDamaged rules.Ranges = (KeepsOneRow × HasOtherType g old (other_selects f)) ⊎ BreaksRule rules.Ranges
+  MayReturnDamaged rules.Names = BreaksRule rules.Names
+  MayReturnDamaged rules.Known = BreaksRule rules.Known
+  MayReturnDamaged rules.Next = BreaksRule rules.Next
+  MayReturnDamaged rules.Days = BreaksRule rules.Days
+  MayReturnDamaged rules.Gone = BreaksRule rules.Gone
+  MayReturnDamaged rules.Owners = BreaksRule rules.Owners
+  MayReturnDamaged rules.Water = BreaksRule rules.Water
+  MayReturnDamaged rules.Guards = BreaksRule rules.Guards
+  MayReturnDamaged rules.Books = BreaksRule rules.Books
+  MayReturnDamaged rules.Mail = BreaksRule rules.Mail
 
   -- ---- Store and Memory
 
-  -- one of the other tables can't be read, for another cause than memory
+  -- the SELECT of another table than `campaign` is refused, for another cause than memory
   abbrev pub CannotRead : Type 0
   CannotRead = RefusesOne g old (other_selects f) read.Store ⊎ RefusesOne g old (other_selects f) read.Refused
 
-  -- all is read and each value is of its type, but the tables are made otherwise, or the disk fails before they are known to be a campaign's
+  -- all other tables are read with values of their types, but the tables can't be confirmed
+  -- They are made otherwise, or the disk failed, or the campaign row, asked for again, is refused, not for memory.
   abbrev pub CannotConfirm : Type 0
   CannotConfirm = AreToldTyped g old (other_selects f) × ((¬ AreMade) ⊎ (FailedMeanwhile g old ⊎ RefusesAgain g old false))
 
-  -- Store is told in a transaction, where the SELECT of the campaign's own row is refused for the disk, for size or for steps, or, once that row keeps the first rule, where another table can't be read or the tables can't be confirmed.
-  abbrev pub FailsToLoad : Type 0
-  FailsToLoad = (old.in_transaction ≡ true) ⊎ (RefusesToSelect g (selection campaign_table 1) old read.Store ⊎ (KeepsOneRow × (CannotRead ⊎ CannotConfirm)))
+  -- When Store may be returned: in a transaction, or if the SELECT of the campaign row could not go on (`is_failure`).
+  -- Also, if that row keeps the first rule, if another table can't be read or the tables can't be confirmed.
+  abbrev pub MayReturnStore : Type 0
+  MayReturnStore = (old.in_transaction ≡ true) ⊎ (RefusesToSelect g (selection campaign_table 1) old read.Store ⊎ (KeepsOneRow × (CannotRead ⊎ CannotConfirm)))
 
-  -- the campaign's own rows are one of the other format
+  -- the SELECT of `campaign` shows one row, whose format is the other one
   abbrev pub HasOtherFormat : Type 0
   HasOtherFormat = (rows : List Row) × Selects g (selection campaign_table 1) old rows × IsOther f rows
 
+  -- when loading in the format `f` may return each fault
   abbrev pub RefusesToLoadIn : LoadFault → Type 0
-  RefusesToLoadIn Store = FailsToLoad
-  RefusesToLoadIn (Damaged rule) = IsDamaged rule
+  RefusesToLoadIn Store = MayReturnStore
+  RefusesToLoadIn (Damaged rule) = MayReturnDamaged rule
   RefusesToLoadIn NotACampaign = RefusesToSelect g (selection campaign_table 1) old read.Refused
   RefusesToLoadIn OtherFormat = HasOtherFormat
-  RefusesToLoadIn Memory = WantsMemory g old
+  RefusesToLoadIn Memory = MayReturnMemory g old
 
--- The connection is open and in no transaction, and its tables, which are those of the last commit, are those of the format and hold exactly the rows of the text and the campaign.
+-- The connection is open and in no transaction, and the tables of the format hold exactly the rows of the text and the campaign.
+-- All is committed, the trees list and obey the schema, and the rowids of each table are integers, no two alike.
 pub record StandsIn (f : Format) (s : State) (text : List ℕ) (c : CampaignValue) : Type 0 where
   pub idle : s.in_transaction ≡ false
   pub is_open : IsTrue s.is_open
@@ -274,7 +289,8 @@ pub record StandsIn (f : Format) (s : State) (text : List ℕ) (c : CampaignValu
   pub keyed : (table : Table) → Has (map table_of (parts_in f)) table → IsKeyed (s.now.trees table.tree)
   pub rows : HoldsIn f s.now.trees text c
 
--- The tables of the format hold the good campaign, of which nothing is marked, and a text of its world.
+-- With Ok, on a clean disk, the tables of the format hold the campaign and a text of the world.
+-- The campaign is good and fits the format, and nothing of it is marked.
 pub record LoadsIn (f : Format) {S : Type 0} (g : Ghosts S) (old new : Held S) (w : WorldValue) (c : MarkedCampaign) : Type 0 where
   pub world : HasCleanDisk (state g new) → world_by f (world_text (state g new)) ≡ Ok w
   pub stands : HasCleanDisk (state g new) → StandsIn f (state g new) (world_text (state g new)) c.value
@@ -282,9 +298,10 @@ pub record LoadsIn (f : Format) {S : Type 0} (g : Ghosts S) (old new : Held S) (
   pub good : IsGood w c.value
   pub unmarked : c.marks ≡ no_marks
 
--- ---- of the second format
+-- ---- loading in the second format
 
 module _ {S : Type 0} (g : Ghosts S) (old : Held S) where
+  -- when `load` may return each fault: as loading in the second format does
   abbrev pub RefusesToLoad : StoreFault → Type 0
   RefusesToLoad store.Store = RefusesToLoadIn Second g old Store
   RefusesToLoad (store.Damaged rule) = RefusesToLoadIn Second g old (Damaged rule)
@@ -292,15 +309,17 @@ module _ {S : Type 0} (g : Ghosts S) (old : Held S) where
   RefusesToLoad store.OldFormat = RefusesToLoadIn Second g old OtherFormat
   RefusesToLoad store.Memory = RefusesToLoadIn Second g old Memory
 
-  -- The connection holds the good campaign, of which nothing is marked, and a text of its world.
+  -- With Ok, on a clean disk, the connection keeps the campaign and a text of the world.
+  -- The campaign is good, and nothing of it is marked.
   pub record Loads (new : Held S) (w : WorldValue) (c : MarkedCampaign) : Type 0 where
     pub world : HasCleanDisk (state g new) → world_of (world_text (state g new)) ≡ Ok w
     pub tables : HoldsCampaign g new (world_text (state g new)) c.value
     pub good : IsGood w c.value
     pub unmarked : c.marks ≡ no_marks
 
-  -- Whatever is answered, nothing is changed: while the connection is open its tables are as they were, only another failure of the disk shuts it, and a crash leaves only what it could have left before.
+  -- Whatever is answered, nothing is changed (`ChangesNothing`), if the disk is clean.
+  -- A crash leaves only what it could have left before, and the connection is in a transaction if it was in one.
   pub record LeavesAlone (new : Held S) : Type 0 where
-    pub spares : HasCleanDisk (state g new) → Spares (state g old) (state g new)
+    pub spares : HasCleanDisk (state g new) → ChangesNothing (state g old) (state g new)
     pub survives : Survives (state g old) (state g new) (λ _. ⊥)
     pub mode : new.in_transaction ≡ old.in_transaction

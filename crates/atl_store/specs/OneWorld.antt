@@ -6,6 +6,6 @@ use Rattle.atl_tables.specs.World.{world_of}
 use Rattle.atl_state.specs.Campaign.{CampaignValue}
 use Rattle.atl_store.specs.Rows.{Holds}
 
--- Where the tables hold exactly the rows of two world texts and of two campaigns, and each text reads as a world, the worlds are one world.
+-- If the tables hold two texts with two campaigns, and each text reads as a world, the worlds are equal.
 abbrev pub HoldsOneWorld : Type 0
 HoldsOneWorld = (v w : WorldValue) (db : Trees) (one other : List ℕ) (c d : CampaignValue) → world_of one ≡ Ok v → world_of other ≡ Ok w → Holds db one c → Holds db other d → v ≡ w

@@ -1,4 +1,4 @@
--- The statements that a write may run, with the values of their parameters.
+-- The statements that each write may run, with the values of their parameters.
 use Rattle.std.specs.Prelude.{◌≡◌, ◌≢◌, ◌+◌, ℕ, pos, List, [], ◌∷◌, Some, length, map, take}
 use Rattle.std.specs.FinMap.{get}
 use Rattle.sqlite.specs.Order.{Row}
@@ -17,59 +17,61 @@ use Rattle.atl_store.specs.Rows.{campaign_row_of, faction_line, unit_line, rows_
 use Rattle.atl_store.specs.Statements.{campaign_upsert, upgrading_upsert, deletion, upsert}
 use Rattle.atl_store.specs.Tables.{Part, Markets, all_parts, books_table, creation_of, faction_table, IsGroupedPart, key_of, mail_table, report_table, table_of, unit_table}
 
+-- a set of statements: of texts with the values of their parameters
 abbrev pub Statements : Type 1
 Statements = List ℕ → Row → Type 0
 
--- the statement of this text with each of these rows
+-- the statements of this text, each with one of these rows as its parameters
 abbrev pub Each : List ℕ → Set → Statements
 Each text rows sql params = (sql ≡ text) × rows params
 
--- and with these values alone
+-- the one statement of this text with these parameters
 abbrev pub Only : List ℕ → Row → Statements
 Only text values = Each text (λ row. row ≡ values)
 
--- the texts that make the tables
+-- the statements that make the ten tables; they have no parameters
 abbrev pub Creations : Statements
 Creations sql params = Has (map creation_of all_parts) sql × (params ≡ [])
 
--- the row of an amount of the books is put, or deleted where the amount is 0
+-- the statement of an amount of the books: it puts its row, or deletes it if the amount is 0
 pub data OfAmount (c : CampaignValue) (entry : Entry) (thing : Thing) : List ℕ → Row → Type 0 where
   puts_amount : amount_in c.books entry thing ≢ pos 0 → OfAmount c entry thing (upsert books_table 2) (books_row (entry_index entry + 1) (thing_index thing) (amount_in c.books entry thing))
   drops_amount : amount_in c.books entry thing ≡ pos 0 → OfAmount c entry thing (deletion books_table 2) (books_key (entry_index entry + 1) (thing_index thing))
 
--- a row of a part of the campaign, whatever the campaign's own row says
+-- a row of a part of the campaign, whatever the campaign row is; so never that row itself
 abbrev pub IsRowOf : CampaignValue → Part → Row → Type 0
 IsRowOf c part row = (own : Row) → rows_for own c part row
 
--- no row of the part has this key
+-- the key has as many columns as the part's keys have, and no row of the part has it
 abbrev pub HasNoRow : CampaignValue → Part → Row → Type 0
 HasNoRow c part key = (length key ≡ key_of part) × ((own row : Row) → rows_for own c part row → take (key_of part) row ≢ key)
 
--- a row of the campaign is put into the table of its part
+-- the statements that put a row of the campaign into the table of its part
 pub data OfRow (c : CampaignValue) : List ℕ → Row → Type 0 where
   puts_row : (part : Part) {row : Row} → IsRowOf c part row → OfRow c (upsert (table_of part) (key_of part)) row
 
--- ---- of each writing
+-- ---- the statements of each write
 
--- a founding makes the tables and puts the rows of the campaign
+-- the statements of a founding: they make the tables, and put the campaign row and the rows of the campaign
 pub data OfFounding (text : List ℕ) (c : CampaignValue) : List ℕ → Row → Type 0 where
   founds_tables : {sql : List ℕ} {params : Row} → Creations sql params → OfFounding text c sql params
   founds_head : OfFounding text c campaign_upsert (campaign_row_values (campaign_row_of c) text)
   founds_row : {sql : List ℕ} {params : Row} → OfRow c sql params → OfFounding text c sql params
 
--- A change puts rows of the campaign, and deletes those whose key no row of the campaign has. What belongs to a number is deleted whole, before it is put anew.
+-- The statements of a change: put the campaign row or another row of the campaign, or delete rows.
+-- Deleted is a key that no row of its part has, or all rows of one number in `has` or `market`.
 pub data OfChange (c : CampaignValue) : List ℕ → Row → Type 0 where
   changes_head : OfChange c campaign_upsert (campaign_row_values (campaign_row_of c) [])
   changes_row : {sql : List ℕ} {params : Row} → OfRow c sql params → OfChange c sql params
   drops_row : (part : Part) {key : Row} → HasNoRow c part key → OfChange c (deletion (table_of part) (key_of part)) key
   drops_group : (part : Part) {n : ℕ} → IsGroupedPart part → OfChange c (deletion (table_of part) 1) (int n ∷ [])
 
--- an upgrade makes the table of markets, and puts the campaign's own row anew with another world text
+-- the statements of an upgrade: make the table `market`, and set the format and the world text of the campaign row
 pub data OfUpgrade (text : List ℕ) (c : CampaignValue) : List ℕ → Row → Type 0 where
   upgrades_tables : OfUpgrade text c (creation_of Markets) []
   upgrades_head : OfUpgrade text c upgrading_upsert (campaign_row_values (campaign_row_of c) text)
 
--- a joining puts the campaign's own row, the faction, the unit that came last, the faction's report, and what joining booked
+-- the statements of a join: put the campaign row, the faction, its unit, which came last, its report, and the two amounts booked under joining
 pub data OfJoining (faction : ℕ) (c : CampaignValue) : List ℕ → Row → Type 0 where
   joins_head : OfJoining faction c campaign_upsert (campaign_row_values (campaign_row_of c) [])
   joins_faction : {f : Faction} → get c.factions faction ≡ Some f → OfJoining faction c (upsert faction_table 1) (faction_line faction f)
@@ -78,6 +80,6 @@ pub data OfJoining (faction : ℕ) (c : CampaignValue) : List ℕ → Row → Ty
   joins_money : {sql : List ℕ} {params : Row} → OfAmount c Joining Money sql params → OfJoining faction c sql params
   joins_people : {sql : List ℕ} {params : Row} → OfAmount c Joining People sql params → OfJoining faction c sql params
 
--- a mail is put
+-- the one statement of a mailing: it puts the faction's mail
 abbrev pub OfMail : ℕ → List ℕ → Statements
 OfMail faction text = Only (upsert mail_table 1) (mail_row faction text)

@@ -6,7 +6,8 @@ use Rattle.sqlite.specs.State.{HasCleanDisk}
 use Rattle.atl_state.specs.Campaign.{CampaignValue}
 use Rattle.atl_store.specs.Keeps.{Keeps, Stores}
 
--- The tables are some that a crash might leave of the connection before, and a campaign that the file stores is kept by the new connection.
+-- If the disk is clean, the tables are some that a crash could leave of the connection before.
+-- If they store a campaign (`Stores`), the new connection keeps it.
 pub record Reopens {S : Type 0} (g : Ghosts S) (old new : Held S) : Type 0 where
   pub clean : HasCleanDisk (state g new) → HasCleanDisk (state g old)
   pub found : HasCleanDisk (state g new) → (state g old).may_leave (state g new).now.trees

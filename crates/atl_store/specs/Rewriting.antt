@@ -20,83 +20,88 @@ use Rattle.atl_store.specs.Shown.{CampaignRowValue, campaign_row}
 use Rattle.atl_store.specs.Rows.{RowsOf, HasRowsOf, BooksRowsOf, rows_for}
 use Rattle.atl_store.specs.Changing.{begins, accounts, of_kind, begins_marked, goods_marked, amount_marked, is_marked, rows_after_rewrite, own_after}
 
--- the table's rows with a chosen key are those that are wanted, its others are as they were, and so is every other table
+-- the table's rows with a chosen key are those that are wanted, its other rows are as they were, and so is every other table
 abbrev pub Rewrites : Table → (Row → Bool) → Set → Database → Database → Type 0
 Rewrites table is_chosen Wanted old new = Alters table (rows_after_rewrite is_chosen Wanted (Has (rows_in table old.trees))) old new
 
 -- ---- which rows a step rewrites
 
+-- whether `k` is the number `n`
 abbrev pub is_number : ℕ → ℕ → Bool
 is_number n k = eq_by_cmp nat_cmp k n
 
+-- whether `k` is one of these numbers
 abbrev pub is_among : List ℕ → ℕ → Bool
 is_among ns k = list_any (eq_by_cmp nat_cmp k) ns
 
--- the rows of marked amounts of these entries, by their places, and of these things, by their numbers
+-- whether a row of `books` is of a marked amount, and its entry (by its index) and its thing are as asked
 abbrev pub of_amounts : FinSet nat_cmp → (ℕ → Bool) → (ℕ → Bool) → Row → Bool
 of_amounts marks entries things r = accounts (λ entry thing. entries entry && (things thing && contains marks (entry_count * thing + entry))) r
 
--- whether a thing of a unit is this one, and whether it is one of these of this unit
+-- whether the unit `n` and the thing `t` are this unit and this thing
 abbrev pub is_thing : (unit thing : ℕ) → ℕ → ℕ → Bool
 is_thing unit thing n t = is_number unit n && is_number thing t
 
+-- whether `n` is this unit, and `t` one of these things
 abbrev pub is_of : {V : Type 0} → (unit : ℕ) → FinMap nat_cmp V → ℕ → ℕ → Bool
 is_of unit things n t = is_number unit n && is_some (get things t)
 
--- the one row that has this number, or none
+-- the row of one number becomes the campaign's, or is deleted if there is none
 abbrev pub RewritesNumber : {V : Type 0} → Table → (ℕ → V → Row) → FinMap nat_cmp V → ℕ → Database → Database → Type 0
 RewritesNumber table line values n old new = Rewrites table (begins (is_number n)) (RowsOf line values) old new
 
--- the rows of all that is marked
+-- the row of each marked number becomes the campaign's, or is deleted if there is none
 abbrev pub RewritesMarked : {V : Type 0} → Table → (ℕ → V → Row) → FinMap nat_cmp V → FinSet nat_cmp → Database → Database → Type 0
 RewritesMarked table line values marks old new = Rewrites table (begins_marked marks) (RowsOf line values) old new
 
--- the rows that belong to a number
+-- the rows that belong to one number become those that are wanted
 abbrev pub RewritesGroup : Table → Set → ℕ → Database → Database → Type 0
 RewritesGroup table Wanted n old new = Rewrites table (begins (is_number n)) Wanted old new
 
--- the rows that belong to all that is marked
+-- the rows that belong to each marked number become those that are wanted
 abbrev pub RewritesGroups : Table → Set → FinSet nat_cmp → Database → Database → Type 0
 RewritesGroups table Wanted marks old new = Rewrites table (begins_marked marks) Wanted old new
 
--- the rows of these things of a sort
+-- the rows of `has` of this kind, and of the units and things that are asked for, become the campaign's
 abbrev pub RewritesThings : CampaignValue → ThingKind → (ℕ → ℕ → Bool) → Database → Database → Type 0
 RewritesThings c sort things old new = Rewrites has_table (of_kind sort things) (HasRowsOf c.units) old new
 
--- the single things of a sort that are marked
+-- the single things of a kind that are marked, by unit
 abbrev pub marked_things : Marks → ThingKind → Things
 marked_things marks Item = marks.items
 marked_things marks Skill = marks.skills
 
--- the rows of all that is marked of what units have
+-- all marked rows of `has` become the campaign's
 abbrev pub RewritesGoods : MarkedCampaign → Database → Database → Type 0
 RewritesGoods c old new = Rewrites has_table (goods_marked c.marks) (HasRowsOf c.value.units) old new
 
--- the marked amounts of these entries and things
+-- the rows of the marked amounts of these entries and things become the campaign's
 abbrev pub RewritesAmounts : MarkedCampaign → (ℕ → Bool) → (ℕ → Bool) → Database → Database → Type 0
 RewritesAmounts c entries things old new = Rewrites books_table (of_amounts c.marks.books entries things) (BooksRowsOf c.value.books) old new
 
+-- all marked rows of `books` become the campaign's
 abbrev pub RewritesBooks : MarkedCampaign → Database → Database → Type 0
 RewritesBooks c old new = Rewrites books_table (amount_marked c.marks.books) (BooksRowsOf c.value.books) old new
 
--- the campaign's own row, which keeps its world text
+-- the campaign row says what the campaign says if it is marked, else what it said before; it keeps its world text
+-- Every other table is as it was.
 abbrev pub RewritesCampaignRow : MarkedCampaign → Database → Database → Type 0
 RewritesCampaignRow c old new = (before : CampaignRowValue) (text : List ℕ) → Is (rows_in campaign_table old.trees) (λ r. r ≡ campaign_row before text) → Alters campaign_table (λ r. r ≡ own_after c before text) old new
 
 -- ---- one table after another
 
--- the marked rows are the campaign's, whose own row is this one
+-- the part's marked rows become the campaign's, whose campaign row is `own`, and all others stay
 abbrev pub Becomes : MarkedCampaign → Row → Part → List Row → List Row → Type 0
 Becomes c own part before after = Is after (rows_after_rewrite (is_marked c.marks part) (rows_for own c.value part) (Has before))
 
--- the tables of these parts are rewritten, whatever the campaign's own row says, which is none of them
+-- the marked rows of these parts, of which the campaign row is none, become the campaign's
 abbrev pub RewritesParts : MarkedCampaign → List Part → Database → Database → Type 0
 RewritesParts c parts old new = (own : Row) → Changes (Becomes c own) parts old new
 
--- that of one part is
+-- the marked rows of one part, which isn't the campaign row, become the campaign's
 abbrev pub RewritesPart : MarkedCampaign → Part → Database → Database → Type 0
 RewritesPart c part = RewritesParts c (part ∷ [])
 
--- and of these, among which it is
+-- the marked rows of these parts, of which the campaign row is one, become the campaign's
 abbrev pub RewritesWithOwn : MarkedCampaign → List Part → Database → Database → Type 0
 RewritesWithOwn c parts old new = (before : CampaignRowValue) (text : List ℕ) → Is (rows_in campaign_table old.trees) (λ r. r ≡ campaign_row before text) → Changes (Becomes c (own_after c before text)) parts old new

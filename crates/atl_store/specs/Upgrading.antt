@@ -1,4 +1,4 @@
--- What `upgrade` returns and leaves.
+-- What `upgrade` returns and leaves. See docs/RULES.md, "Upgrading", and docs/FORMATS.md, "Upgrading a file".
 use Rattle.std.specs.Prelude.{◌≡◌, ◌≢◌, ◌⊎◌, ℕ, Bool, List, false, true, Ok, Err}
 use Rattle.sqlite_trees.specs.Tree.{Trees}
 use Rattle.sqlite_trees.specs.declared.store.Store.{Ghosts}
@@ -17,31 +17,32 @@ use Rattle.atl_store.specs.declared.fault.UpgradeFault.{UpgradeFault}
 use Rattle.atl_store.specs.declared.fault.UpgradeFault.TheVariants.{Store, Damaged, NotACampaign, NotOld, World, Differs, Memory}
 use Rattle.atl_store.specs.Causes.{Gives}
 use Rattle.atl_store.specs.Faults.{is_memory}
-use Rattle.atl_store.specs.Keeps.{HoldsCampaign, Stores, Spares}
+use Rattle.atl_store.specs.Keeps.{HoldsCampaign, Stores, ChangesNothing}
 use Rattle.atl_store.specs.Loading.{LeavesAlone, LoadsIn, RefusesToLoadIn}
 use Rattle.atl_store.specs.OwnStatements.{OfUpgrade}
 use Rattle.atl_store.specs.Rows.{HoldsIn}
 use Rattle.atl_store.specs.Tables.{HasTablesOf}
 use Rattle.atl_store.specs.UpgradeSteps.{IsJustOld}
 
--- the tables hold this good campaign in the first format, and a text of this world
+-- the tables hold this campaign, which is good, in the first format, with a text of this world
 pub record HoldsOld (s : State) (w : WorldValue) (c : CampaignValue) : Type 0 where
   pub text : List ℕ
   pub world : old_world_of text ≡ Ok w
   pub rows : HoldsIn First s.now.trees text c
   pub good : IsGood w c
 
--- and the new text is of a world that differs from it in markets alone
+-- the new text is of the world `w`, and the tables hold the campaign in the first format with a text of `w` without markets
 pub record Matches (s : State) (text : List ℕ) (w : WorldValue) (c : CampaignValue) : Type 0 where
   pub world : world_of text ≡ Ok w
   pub was : HoldsOld s (without_markets w) c
 
--- a crash leaves what it left before, or the upgraded campaign
+-- a crash leaves what it could have left before, or the upgraded campaign with the new text
 abbrev pub MayUpgrade : State → List ℕ → State → Type 0
 MayUpgrade old text new = (db : Trees) → new.may_leave db → old.may_leave db ⊎ ((w : WorldValue) × (c : CampaignValue) × Matches old text w c × Stores db text c)
 
 module _ {S : Type 0} (g : Ghosts S) (text : List ℕ) (old new : Held S) where
-  -- The connection holds the campaign that the tables held, with the new text, and is in no transaction; nothing is in stock, and nothing is marked.
+  -- With Ok, on a clean disk, the connection keeps the campaign that the tables held in the first format, with the new text.
+  -- It is in no transaction; the campaign is good, nothing is in stock, and nothing is marked.
   pub record Upgrades (w : WorldValue) (c : MarkedCampaign) : Type 0 where
     pub world : world_of text ≡ Ok w
     pub was : HasCleanDisk (state g new) → HoldsOld (state g old) (without_markets w) c.value
@@ -51,8 +52,9 @@ module _ {S : Type 0} (g : Ghosts S) (text : List ℕ) (old new : Held S) where
     pub unmarked : c.marks ≡ no_marks
     pub idle : new.in_transaction ≡ false
 
-  -- A call of the transaction, on the connection as the readings left it, gave an error, which is lack of memory or not.
-  pub record BreaksOff (memory : Bool) : Type 0 where
+  -- A statement of the transaction, or its commit, gave an error, on the connection as the reads left it.
+  -- `memory` says whether the error is lack of memory.
+  pub record BreaksOffUpgrade (memory : Bool) : Type 0 where
     pub world : WorldValue
     pub campaign : CampaignValue
     pub matches : Matches (state g old) text world campaign
@@ -62,7 +64,7 @@ module _ {S : Type 0} (g : Ghosts S) (text : List ℕ) (old new : Held S) where
     pub memory_is : is_memory error ≡ memory
     pub given : Gives g (OfUpgrade text campaign) error before new
 
-  -- all is as it has to be, but there are more tables or indexes than those of the first format
+  -- everything matches, but there are more tables or indexes than those of the first format
   pub record HasMore : Type 0 where
     pub world : WorldValue
     pub campaign : CampaignValue
@@ -70,11 +72,11 @@ module _ {S : Type 0} (g : Ghosts S) (text : List ℕ) (old new : Held S) where
     pub begins : HasTablesOf First old.schema
     pub more : ¬ IsJustOld old.schema
 
-  -- the tables hold a campaign in the first format
+  -- the tables hold a good campaign in the first format
   abbrev pub HasOld : Type 0
   HasOld = (w : WorldValue) × (c : CampaignValue) × HoldsOld (state g old) w c
 
-  -- and the new text is of a world that differs from its world in more than markets
+  -- the new text is of a world that differs from that of the campaign in more than its markets
   pub record HasOtherWorld : Type 0 where
     pub world : WorldValue
     pub before : WorldValue
@@ -83,7 +85,7 @@ module _ {S : Type 0} (g : Ghosts S) (text : List ℕ) (old new : Held S) where
     pub is : world_of text ≡ Ok world
     pub differs : without_markets world ≢ before
 
-  -- The first check that fails, before the transaction. To read the new text may want memory, too.
+  -- When a check before the transaction may return each fault. Memory may also come from reading the new text.
   abbrev pub FailsCheck : UpgradeFault → Type 0
   FailsCheck NotACampaign = RefusesToLoadIn First g old load.NotACampaign
   FailsCheck NotOld = RefusesToLoadIn First g old load.OtherFormat
@@ -93,22 +95,23 @@ module _ {S : Type 0} (g : Ghosts S) (text : List ℕ) (old new : Held S) where
   FailsCheck Store = RefusesToLoadIn First g old load.Store ⊎ HasMore
   FailsCheck Memory = RefusesToLoadIn First g old load.Memory ⊎ HasOld
 
-  -- what breaks the transaction off
-  abbrev pub FailsToWrite : UpgradeFault → Type 0
-  FailsToWrite Store = BreaksOff false
-  FailsToWrite Memory = BreaksOff true
-  FailsToWrite fault = ⊥
+  -- the transaction broke off with this fault, which is Store or Memory
+  abbrev pub FailsInTransaction : UpgradeFault → Type 0
+  FailsInTransaction Store = BreaksOffUpgrade false
+  FailsInTransaction Memory = BreaksOffUpgrade true
+  FailsInTransaction fault = ⊥
 
-  -- The upgrade is refused by the first check that fails, with nothing changed, or the transaction is broken off. While the connection is open its tables are as they were.
+  -- If the disk is clean, a check failed and nothing is changed, or the transaction broke off.
+  -- While the connection is open its tables are as they were; a crash leaves what it could before, or the upgraded campaign.
   pub record RefusesToUpgrade (fault : UpgradeFault) : Type 0 where
-    pub cause : HasCleanDisk (state g new) → (FailsCheck fault × LeavesAlone g old new) ⊎ FailsToWrite fault
-    pub spares : HasCleanDisk (state g new) → Spares (state g old) (state g new)
+    pub cause : HasCleanDisk (state g new) → (FailsCheck fault × LeavesAlone g old new) ⊎ FailsInTransaction fault
+    pub spares : HasCleanDisk (state g new) → ChangesNothing (state g old) (state g new)
     pub crash : HasCleanDisk (state g new) → MayUpgrade (state g old) text (state g new)
 
--- ---- For proofs alone.
+-- ---- For proofs and for private functions.
 
--- the campaign is loaded, and the new text is of a world that differs from its world in markets alone
-pub record IsReady {S : Type 0} (g : Ghosts S) (text : List ℕ) (old mid : Held S) (w : WorldValue) (c : MarkedCampaign) : Type 0 where
+-- the campaign is loaded in the first format, and the new text is of a world that differs from its world in markets alone
+pub record IsReadyToUpgrade {S : Type 0} (g : Ghosts S) (text : List ℕ) (old mid : Held S) (w : WorldValue) (c : MarkedCampaign) : Type 0 where
   pub world : world_of text ≡ Ok w
   pub before : WorldValue
   pub loads : LoadsIn First g old mid before c

@@ -7,6 +7,7 @@ use Rattle.sqlite.specs.State.{State}
 use Rattle.atl_store.specs.Sets.{rows_in}
 use Rattle.atl_store.specs.Tables.{campaign_table}
 
+-- the bytes of a value that is a text, and nothing for any other value
 abbrev pub text_of : Value → List ℕ
 text_of (Text t) = t
 text_of Null = []
@@ -14,10 +15,11 @@ text_of (Int n) = []
 text_of (Real x) = []
 text_of (Blob b) = []
 
--- the last column of the first row
+-- the eighth column, which is the world text, of the first row
 abbrev pub world_in : List Row → List ℕ
 world_in [] = []
 world_in (r ∷ rows) = text_of (column r 7)
 
+-- the world text in the table `campaign` of a connection
 abbrev pub world_text : State → List ℕ
 world_text s = world_in (rows_in campaign_table s.now.trees)

@@ -1,4 +1,4 @@
--- What one step of a transaction does.
+-- What one step of a transaction does, and what a whole transaction does.
 use Rattle.std.specs.Prelude.{◌≡◌, ℕ, List, false, IsTrue, Result, Ok, IfErr, OnOk, OnErr}
 use Rattle.std.specs.Borrow.{MutBor}
 use Rattle.sqlite_trees.specs.declared.store.Store.{Ghosts}
@@ -14,48 +14,50 @@ use Rattle.atl_store.specs.Statements.{deletion, upsert}
 use Rattle.atl_store.specs.OwnStatements.{Statements, Only, Each}
 use Rattle.atl_store.specs.Causes.{Gives, IsReached}
 
--- A step inside a transaction, which stays on the connection that it is on and runs these statements.
+-- A step inside a transaction: with Ok it did `Does` by statements of `own` alone.
+-- With an error, this is one that a call of the transaction gave. All this is so if the disk is clean.
 pub record Writes {S : Type 0} (g : Ghosts S) (own : Statements) (Does : State → State → Type 0) {A : Type 0} (result : Result A Error) (old new : MutBor (Held S)) : Type 0 where
-  -- The transaction is on the same connection.
+  -- The step stays on the same connection.
   pub same_reference : new.ghost_name ≡ old.ghost_name
-  -- With Ok it has done this, on a disk that is clean.
+  -- With Ok it has done `Does`, if the disk is clean.
   pub does : HasCleanDisk (state g new.now) → OnOk result (Does (state g old.now) (state g new.now))
-  -- With Ok the transaction goes on.
+  -- With Ok the transaction goes on, if it did before.
   pub goes_on : HasCleanDisk (state g new.now) → OnOk result ((state g new.now).in_transaction ≡ (state g old.now).in_transaction)
-  -- With Ok it has run these statements alone, where the transaction was going on.
+  -- With Ok it has run statements of `own` alone, if the transaction was going on.
   pub reaches : HasCleanDisk (state g new.now) → IsTrue (state g old.now).in_transaction → OnOk result (IsReached g own old.now new.now)
-  -- Its error is one that a call gave, where the transaction was going on.
+  -- Its error is one that a call of the transaction gave, if the transaction was going on.
   pub told : HasCleanDisk (state g new.now) → IsTrue (state g old.now).in_transaction → IfErr result (λ e. Gives g own e old.now new.now)
   -- It has committed nothing.
   pub kept : HasCleanDisk (state g new.now) → KeepsCommit (state g old.now) (state g new.now)
   -- A crash leaves only what it could have left before.
   pub survives : Survives (state g old.now) (state g new.now) (λ _. ⊥)
 
--- The statement of this text has run with these parameters, inside the transaction.
-abbrev pub Runs : List ℕ → Row → State → State → Type 0
-Runs sql params old new = IsTrue old.in_transaction × (count : ℕ) × ExecutesInside 0 sql params old new (Ok count)
+-- This statement ran with these parameters, without an error, in a transaction that was going on.
+abbrev pub RunsStatement : List ℕ → Row → State → State → Type 0
+RunsStatement sql params old new = IsTrue old.in_transaction × (count : ℕ) × ExecutesInside 0 sql params old new (Ok count)
 
--- The row is put into the table, whose key is so many columns.
+-- A step that puts this row into the table, whose key is its first `key` columns.
 abbrev pub WritesRow : {S A : Type 0} → Ghosts S → Table → ℕ → Row → Result A Error → MutBor (Held S) → MutBor (Held S) → Type 0
 WritesRow g table key row result old new = Writes g (Only (upsert table key) row) (Inside HasTables (Puts table key row)) result old new
 
--- The rows that have this key are taken out.
+-- A step that deletes the rows whose key, the first `key` columns, is `k`.
 abbrev pub TakesOut : {S A : Type 0} → Ghosts S → Table → ℕ → Row → Result A Error → MutBor (Held S) → MutBor (Held S) → Type 0
 TakesOut g table key k result old new = Writes g (Only (deletion table key) k) (Inside HasTables (Drops table key k)) result old new
 
--- All these rows are put, one after another.
+-- A step that puts all these rows, one after another.
 abbrev pub WritesRows : {S A : Type 0} → Ghosts S → Table → ℕ → List Row → Result A Error → MutBor (Held S) → MutBor (Held S) → Type 0
 WritesRows g table key rows result old new = Writes g (Each (upsert table key) (Has rows)) (Inside HasTables (PutsRows table key rows)) result old new
 
--- A transaction as a whole, on a connection that is in none before it; it runs these statements.
+-- A whole transaction of statements of `own`: with Ok it did `Does` and committed it, with an error it did nothing.
+-- `Does` is said only of tables that were as `Before` says. That the connection was in no transaction is a premise of the calls.
 pub record Transacts {S : Type 0} (g : Ghosts S) (own : Statements) (Before : Database → Type 0) (Does : Database → Database → Type 0) {A : Type 0} (result : Result A Error) (old new : Held S) : Type 0 where
-  -- With Ok it has done this, on a disk that is clean, and it is committed.
+  -- With Ok it has done `Does` and committed it, if the disk is clean and the tables were as `Before` says.
   pub ok : HasCleanDisk (state g new) → OnOk result (Commits Before Does (state g old) (state g new))
-  -- With an error it has done nothing.
+  -- With an error, on a clean disk, the tables are those of the last commit, if the connection is still open.
   pub err : HasCleanDisk (state g new) → OnErr result (LeavesOff (state g old) (state g new))
-  -- Its error is one that one of them gave, or the commit.
+  -- Its error is one that a statement of `own`, or the commit, gave.
   pub told : HasCleanDisk (state g new) → IfErr result (λ e. Gives g own e old new)
-  -- A crash leaves what it could have left before, or what is done.
+  -- A crash leaves what it could have left before, or what the transaction commits.
   pub crash : Survives (state g old) (state g new) (MayLeave Before Does (state g old))
-  -- The transaction is over.
+  -- The connection is in no transaction afterwards.
   pub idle : new.in_transaction ≡ false

@@ -1,4 +1,4 @@
-//! Writes amounts that belong together, row by row.
+//! Writes the amounts of one owner, row by row: a unit's goods, or a region's stocks.
 ghost use Rattle.std.specs.Prelude.{ℕ};
 ghost use Rattle.sqlite.specs.Order.{Row as SqlRow};
 ghost use Rattle.sqlite.specs.Table.{Table};
@@ -8,7 +8,7 @@ ghost use Rattle.atl_store.specs.Writes.{WritesRow, WritesRows};
 use atl_tables::Entries;
 use sqlite::{Alter, Error, Transaction};
 
-/// What amounts of things belong to; each has a row of a table where it is not 0.
+/// An owner of amounts of things; each amount that is not 0 has a row of a table.
 pub(crate) trait AmountWriter: Copy {
     ghost table: { Table };
 
@@ -28,7 +28,7 @@ pub(crate) trait AmountWriter: Copy {
             tx.new.conn };
 }
 
-/// Puts the row of an amount that is not 0.
+/// Puts the row of an amount, if it is not 0.
 fn put_some<O: AmountWriter, S: Alter>(
     tx: &mut Transaction<'_, S>,
     owner: O,
@@ -44,7 +44,7 @@ fn put_some<O: AmountWriter, S: Alter>(
     owner.put(tx, thing, amount)
 }
 
-/// Puts the rows of all amounts.
+/// Puts the rows of all amounts of an owner that are not 0.
 pub(crate) fn put_amounts<O: AmountWriter, S: Alter>(
     tx: &mut Transaction<'_, S>,
     owner: O,

@@ -1,4 +1,4 @@
-//! Writes the campaign row.
+//! Writes the campaign row: in a founding, a join, a change, and an upgrade.
 ghost use Rattle.std.specs.Prelude.{◌≡◌};
 ghost use Rattle.atl_store.specs.Rows.{campaign_row_of};
 ghost use Rattle.atl_store.specs.PutsCampaignRow.{PutsCampaignRow};
@@ -15,6 +15,7 @@ use crate::rows::campaign::{CampaignRow, put_campaign, put_upgraded};
 use atl_state::Campaign;
 use sqlite::{Alter, Error, Transaction};
 
+/// The content of the campaign row, of a campaign.
 fn own_row(campaign: &Campaign) -> CampaignRow<'_>
     ensures { head_shown result ≡ campaign_row_of campaign.now.value }
 {
@@ -27,7 +28,7 @@ fn own_row(campaign: &Campaign) -> CampaignRow<'_>
     }
 }
 
-/// Puts the campaign's own row with this world text. Where the row is there it keeps its own world text.
+/// Puts the campaign row with this world text. A row that is there keeps its own world text.
 pub(crate) fn put_campaign_row<S: Alter>(
     tx: &mut Transaction<'_, S>,
     campaign: &Campaign,
@@ -42,7 +43,7 @@ pub(crate) fn put_campaign_row<S: Alter>(
     put_campaign(tx, &row, world)
 }
 
-/// Gives the campaign's own row the second format and this world text.
+/// Gives the campaign row the second format and this world text.
 pub(crate) fn upgrade_campaign_row<S: Alter>(
     tx: &mut Transaction<'_, S>,
     campaign: &Campaign,
@@ -57,7 +58,7 @@ pub(crate) fn upgrade_campaign_row<S: Alter>(
     put_upgraded(tx, &row, world)
 }
 
-/// Changes the campaign's own row, if it is marked.
+/// Writes the campaign row, without its world text, if it is marked.
 pub(crate) fn rewrite_campaign_row<S: Alter>(
     tx: &mut Transaction<'_, S>,
     campaign: &Campaign,

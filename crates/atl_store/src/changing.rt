@@ -1,4 +1,4 @@
-//! Writes the changes of a campaign into its tables.
+//! Writes what is marked of a campaign into its tables. See docs/FORMATS.md, "Tables".
 ghost use Rattle.std.specs.Prelude.{◌≡◌, ◌≤◌, false, List, ℕ, IfErr, OnOk, OnErr};
 ghost use Rattle.sqlite.specs.Held.{state};
 ghost use Rattle.sqlite.specs.State.{HasCleanDisk};
@@ -12,7 +12,7 @@ ghost use Rattle.atl_store.specs.Faults.{write_fault};
 ghost use Rattle.atl_store.specs.OwnStatements.{OfChange};
 ghost use Rattle.atl_store.specs.Writes.{Writes, Transacts};
 ghost use Rattle.atl_store.specs.Inside.{Inside, HasTables, LeavesOff};
-ghost use Rattle.atl_store.specs.Keeps.{Keeps, Stops, IsLater, MayFound, SparesOthers};
+ghost use Rattle.atl_store.specs.Keeps.{Keeps, LeavesAfterFault, IsLater, MayFound, LeavesOthersAlone};
 
 use crate::campaign_row::rewrite_campaign_row;
 use crate::fault::WriteFault;
@@ -20,7 +20,7 @@ use crate::write_parts::{OtherParts, WrittenPart};
 use atl_state::Campaign;
 use sqlite::{Alter, Connection, Error, Transaction};
 
-/// All that is marked.
+/// Writes all that is marked of a campaign, inside a transaction.
 fn rewrite_all<S: Alter>(tx: &mut Transaction<'_, S>, campaign: &Campaign) -> Result<(), Error>
     requires { campaign.now.value.books.things ≤ most_things }
     ensures { Writes S.Store (OfChange campaign.now.value)
@@ -30,7 +30,7 @@ fn rewrite_all<S: Alter>(tx: &mut Transaction<'_, S>, campaign: &Campaign) -> Re
     OtherParts::rewrite(tx, campaign)
 }
 
-/// The transaction of a change.
+/// Writes all that is marked of a campaign in one transaction.
 fn write_marked<S: Alter>(conn: &mut Connection<S>, campaign: &Campaign) -> Result<(), Error>
     requires idle { conn.old.in_transaction ≡ false }
     requires things { campaign.now.value.books.things ≤ most_things }
@@ -42,11 +42,12 @@ fn write_marked<S: Alter>(conn: &mut Connection<S>, campaign: &Campaign) -> Resu
     tx.commit()
 }
 
-/// Writes what is marked of a campaign into a store that holds all of it that isn't marked, whatever else stands under
-/// marked keys, in one transaction: rows of what is there are put, those of what is gone are deleted, and no other row is
-/// touched. With Ok the store holds the campaign, and nothing of it is marked. Memory where the database says that it has
-/// none, Store where it gives another error; then the tables are as before while the connection is open, a crash leaves
-/// them so or with the campaign, and the marks stay. See docs/FORMATS.md, "Tables".
+/// Writes what is marked of a campaign, in one transaction, into a store that holds the rest of it.
+/// Whatever the store has under marked keys, rows of what is there are put, those of what is gone
+/// are deleted, and no other row is touched. With Ok the store holds the campaign, and nothing of
+/// it is marked. Memory where the database says that it has none, Store where it gives another
+/// error; then the tables are as before while the connection is open, a crash leaves them so or
+/// with the campaign, and the marks stay. See docs/FORMATS.md, "Tables".
 pub fn write_changes<S: Alter>(
     conn: &mut Connection<S>,
     campaign: &mut Campaign,
@@ -62,7 +63,7 @@ pub fn write_changes<S: Alter>(
         → OnErr result ((text : List ℕ) (before : CampaignValue)
         → Keeps (state S.Store conn.old) text before
         → Covers campaign.old.marks before campaign.old.value
-        → Stops (state S.Store conn.old).faults (state S.Store conn.new) text before
+        → LeavesAfterFault (state S.Store conn.old).faults (state S.Store conn.new) text before
         campaign.old.value) }
     ensures marked { HasCleanDisk (state S.Store conn.new)
         → OnOk result (HasTables (state S.Store conn.old).now
@@ -84,7 +85,7 @@ pub fn write_changes<S: Alter>(
     ensures undone { OnErr result (campaign.new ≡ campaign.old) }
     ensures later { IsLater (state S.Store conn.old) (state S.Store conn.new) }
     ensures others { HasCleanDisk (state S.Store conn.new)
-        → SparesOthers (state S.Store conn.old) (state S.Store conn.new) }
+        → LeavesOthersAlone (state S.Store conn.old) (state S.Store conn.new) }
     ensures idle { conn.new.in_transaction ≡ false }
 {
     write_marked(conn, campaign)?;

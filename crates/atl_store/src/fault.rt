@@ -1,4 +1,4 @@
-//! The faults of the store. See docs/FORMATS.md, "Tables".
+//! The faults of the store, and which of them an error becomes. See docs/FORMATS.md, "Tables".
 ghost use Rattle.std.specs.Prelude.{◌≡◌, if◌then◌else◌};
 ghost use Rattle.atl_store.specs.Faults.{is_memory, read_fault, value_fault, write_fault, create_fault, store_fault, reopening_fault, load_fault, fault_of_check, second_fault, upgrade_fault, first_fault, new_world_fault, fault_number, upgrade_number};
 
@@ -33,7 +33,7 @@ pub enum CreateFault {
 /// Why the rows of a table are not read. Nothing is changed.
 #[derive(Drop, Clone, Copy, Debug, PartialEq, Eq)]
 pub enum ReadFault {
-    /// The disk fails, something is too big, or it would take too many steps.
+    /// The disk fails or is full, it is shut, something is too big, or it takes too many steps.
     Store,
     /// The database refuses for another cause: there is no such table, or it lacks a column.
     Refused,
@@ -53,7 +53,7 @@ pub enum StoreFault {
     Damaged(Rule),
     /// There is no table `campaign`, or it lacks a column.
     NotACampaign,
-    /// The campaign has one row of its own, whose format is the first: the file is to be upgraded.
+    /// `campaign` has one row, whose format is the first: the file is to be upgraded.
     OldFormat,
     /// There is no memory for it.
     Memory,
@@ -69,7 +69,7 @@ pub enum LoadFault {
     Damaged(Rule),
     /// There is no table `campaign`, or it lacks a column.
     NotACampaign,
-    /// The campaign has one row of its own, whose format is the other one.
+    /// `campaign` has one row, whose format is the other one.
     OtherFormat,
     /// There is no memory for it.
     Memory,
@@ -85,7 +85,7 @@ pub enum UpgradeFault {
     Damaged(Rule),
     /// There is no table `campaign`, or it lacks a column.
     NotACampaign,
-    /// The campaign has one row of its own, whose format is the second.
+    /// `campaign` has one row, whose format is the second.
     NotOld,
     /// The new world text has this fault, which is not Memory.
     World(WorldFault),
@@ -95,7 +95,7 @@ pub enum UpgradeFault {
     Memory,
 }
 
-/// Its name.
+/// Shows the name of the fault.
 impl fmt::Display for WriteFault {
     fn fmt<W: fmt::Write>(&self, f: &mut fmt::Formatter<W>) -> fmt::Result {
         write!(f, "{self:?}")
@@ -104,7 +104,7 @@ impl fmt::Display for WriteFault {
 
 impl std::error::Error for WriteFault {}
 
-/// Its name.
+/// Shows the name of the fault.
 impl fmt::Display for CreateFault {
     fn fmt<W: fmt::Write>(&self, f: &mut fmt::Formatter<W>) -> fmt::Result {
         write!(f, "{self:?}")
@@ -113,7 +113,7 @@ impl fmt::Display for CreateFault {
 
 impl std::error::Error for CreateFault {}
 
-/// Its name.
+/// Shows the name of the fault.
 impl fmt::Display for ReadFault {
     fn fmt<W: fmt::Write>(&self, f: &mut fmt::Formatter<W>) -> fmt::Result {
         write!(f, "{self:?}")
@@ -122,7 +122,7 @@ impl fmt::Display for ReadFault {
 
 impl std::error::Error for ReadFault {}
 
-/// Its name; of `Damaged` the rule's number, too, as `Damaged 11`.
+/// Shows the name of the fault; of `Damaged` the rule's number, too, as `Damaged 11`.
 impl fmt::Display for StoreFault {
     fn fmt<W: fmt::Write>(&self, f: &mut fmt::Formatter<W>) -> fmt::Result {
         match self {
@@ -134,7 +134,7 @@ impl fmt::Display for StoreFault {
 
 impl std::error::Error for StoreFault {}
 
-/// Its name; of `Damaged` the rule's number, too, as `Damaged 11`; of `World` what is told of the world text.
+/// Shows the fault's name; of `Damaged` the rule's number, too; of `World` the text's fault.
 impl fmt::Display for UpgradeFault {
     fn fmt<W: fmt::Write>(&self, f: &mut fmt::Formatter<W>) -> fmt::Result {
         match self {
@@ -147,7 +147,7 @@ impl fmt::Display for UpgradeFault {
 
 impl std::error::Error for UpgradeFault {}
 
-/// Of two faults the one for lack of memory, or the one for any other cause.
+/// The fault `memory` for an error that is lack of memory, else the fault `other`.
 fn by_cause<F: Drop>(error: Error, memory: F, other: F) -> F
     ensures { result ≡ (if is_memory error then memory else other) }
 {
@@ -359,7 +359,7 @@ impl UpgradeFault {
     }
 }
 
-/// The fault of a value that is not read.
+/// The fault of reading for a value that can't be read: Memory, else OtherType.
 pub(crate) fn unread(error: Error) -> ReadFault
     ensures { result ≡ value_fault error }
 {

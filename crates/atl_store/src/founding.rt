@@ -1,4 +1,4 @@
-//! Creates the tables and writes a whole campaign into them.
+//! Creates the tables and writes a whole campaign into them. See docs/FORMATS.md, "Tables".
 ghost use Rattle.std.specs.Prelude.{◌≡◌, ◌≤◌, false, IsTrue, OnOk, OnErr, IfErr, ◌↔◌};
 ghost use Rattle.sqlite.specs.Held.{state};
 ghost use Rattle.atl_store.specs.Tables.{no_tables};
@@ -9,7 +9,7 @@ ghost use Rattle.atl_store.specs.Writes.{Writes, Transacts};
 ghost use Rattle.atl_store.specs.Inside.{Inside, IsBlank};
 ghost use Rattle.atl_store.specs.Making.{has_campaign};
 ghost use Rattle.atl_store.specs.Filling.{WritesFounding};
-ghost use Rattle.atl_store.specs.Keeps.{Creates, IsReady, RefusesToCreate, IsLater};
+ghost use Rattle.atl_store.specs.Keeps.{Creates, IsReadyToCreate, RefusesToCreate, IsLater};
 
 use crate::campaign_row::put_campaign_row;
 use crate::fault::CreateFault;
@@ -19,7 +19,7 @@ use atl_state::Campaign;
 use sqlite::{Alter, Connection, Error, Transaction};
 use sqlite_schema::schema::Schema;
 
-/// Makes the tables and puts all rows of the campaign.
+/// Makes the tables and puts all rows of the campaign, inside a transaction.
 fn put_founding<S: Alter>(
     tx: &mut Transaction<'_, S>,
     text: &str,
@@ -35,7 +35,7 @@ fn put_founding<S: Alter>(
     OtherParts::fill(tx, campaign)
 }
 
-/// The transaction of a creation.
+/// Makes the tables and puts all rows of the campaign in one transaction.
 fn write_founding<S: Alter>(
     conn: &mut Connection<S>,
     text: &str,
@@ -70,7 +70,7 @@ fn is_blank(schema: &Schema) -> bool
 
 /// Whether the database has no table, index or view and the connection is in no transaction.
 fn is_ready<S: Alter>(conn: &Connection<S>) -> bool
-    ensures ready { IsTrue result ↔ (IsReady (state S.Store conn.now)) }
+    ensures ready { IsTrue result ↔ (IsReadyToCreate (state S.Store conn.now)) }
     ensures settled { IsTrue result → IsTrue (state S.Store conn.now).is_open
         → (state S.Store conn.now).now ≡ (state S.Store conn.now).committed }
 {

@@ -1,4 +1,4 @@
-//! Writes the items and days of units, row by row.
+//! Writes what units have, one row for each item and each skill of a unit.
 ghost use Rattle.std.specs.Prelude.{refl};
 ghost use Rattle.atl_store.specs.Tables.{Goods, has_table};
 ghost use Rattle.atl_store.specs.Shown.{has_row};
@@ -18,7 +18,7 @@ use atl_state::{Campaign, Holding, SlotEntries, Unit};
 use atl_tables::MarkedNumbers;
 use sqlite::{Alter, Error, Transaction};
 
-/// What a unit has of a sort.
+/// A unit's things of one kind: the owner of these amounts.
 #[derive(Clone, Copy)]
 struct UnitThings {
     unit: u32,
@@ -48,7 +48,7 @@ impl AmountWriter for UnitThings {
     }
 }
 
-/// Puts the rows of all that a unit has.
+/// Puts the rows of a unit's items and skills.
 fn put_goods<S: Alter>(
     tx: &mut Transaction<'_, S>,
     unit: u32,
@@ -69,7 +69,7 @@ fn put_goods<S: Alter>(
     put_amounts(tx, skills, holding.days())
 }
 
-/// Puts the rows of all that all units have.
+/// Puts the rows of all units' items and skills.
 pub(crate) fn put_all_goods<S: Alter>(
     tx: &mut Transaction<'_, S>,
     units: SlotEntries<'_, Unit>,
@@ -113,7 +113,7 @@ impl Grouped for Unit {
     }
 }
 
-/// Writes what is marked of what units have: all that a unit has, and single things.
+/// Writes the marked rows of `has`: first all goods of units, then single items and skills.
 pub(crate) fn rewrite_goods<S: Alter>(
     tx: &mut Transaction<'_, S>,
     campaign: &Campaign,

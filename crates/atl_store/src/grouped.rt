@@ -20,13 +20,13 @@ use atl_state::Campaign;
 use atl_tables::MarkedNumbers;
 use sqlite::{Alter, Error, Transaction};
 
-/// What has, beside its own row, rows of another table under its number, which is the first column of their key.
+/// A thing with its own row, and with rows of another table whose key begins with its number.
 pub(crate) trait Grouped: NumberedRow {
     ghost part: { Part };
 
     ghost is_grouped: { IsGroupedPart part };
 
-    // How many columns of the key come behind the number.
+    // How many columns of the key come after the number.
     ghost more: { ℕ };
 
     ghost is_key: { key_of part ≡ suc more };
@@ -54,7 +54,7 @@ pub(crate) trait Grouped: NumberedRow {
             tx.new.conn };
 }
 
-/// Deletes the rows of a number, and puts those of what stands under it.
+/// Deletes the rows of a number, and puts those of the thing that has the number, if there is one.
 fn rewrite_group<V: Grouped + Drop, S: Alter>(
     tx: &mut Transaction<'_, S>,
     campaign: &Campaign,

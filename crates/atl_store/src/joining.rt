@@ -1,4 +1,4 @@
-//! Writes a join into the tables.
+//! Writes a join into the tables. See docs/RULES.md, "Joining".
 ghost use Rattle.std.specs.Prelude.{◌≡◌, [], false, List, ℕ, IfErr, OnOk, OnErr};
 ghost use Rattle.sqlite.specs.Held.{state};
 ghost use Rattle.sqlite.specs.State.{HasCleanDisk};
@@ -15,7 +15,7 @@ ghost use Rattle.atl_store.specs.OwnStatements.{OfJoining};
 ghost use Rattle.atl_store.specs.Writes.{Writes, Transacts};
 ghost use Rattle.atl_store.specs.Inside.{Inside, HasTables, Both, Puts, LeavesOff};
 ghost use Rattle.atl_store.specs.Arriving.{HasArrival, IsFound, Settles, WritesJoin};
-ghost use Rattle.atl_store.specs.Keeps.{Keeps, Stops, IsLater, SparesOthers, IsJoining};
+ghost use Rattle.atl_store.specs.Keeps.{Keeps, LeavesAfterFault, IsLater, LeavesOthersAlone, IsJoining};
 
 use crate::campaign_row::put_campaign_row;
 use crate::fault::WriteFault;
@@ -35,7 +35,7 @@ struct Arrival<'a> {
     report: &'a Text,
 }
 
-/// The faction that joined last.
+/// The faction with this number, its report, and the unit that came last.
 fn arrival_of(campaign: &Campaign, number: u32) -> Arrival<'_>
     requires { HasArrival campaign.now.value number }
     ensures found { IsFound campaign.now.value result.number result.faction.now result.place
@@ -52,7 +52,7 @@ fn arrival_of(campaign: &Campaign, number: u32) -> Arrival<'_>
     }
 }
 
-/// Puts the campaign's own row, the faction and its unit.
+/// Puts the campaign row, the faction and its unit.
 fn put_newcomer<S: Alter>(
     tx: &mut Transaction<'_, S>,
     campaign: &Campaign,
@@ -71,7 +71,7 @@ fn put_newcomer<S: Alter>(
     arrival.unit.put(tx, arrival.place)
 }
 
-/// Puts the report and what joining booked.
+/// Puts the faction's report and the two amounts booked under joining.
 fn put_welcome<S: Alter>(
     tx: &mut Transaction<'_, S>,
     campaign: &Campaign,
@@ -90,7 +90,7 @@ fn put_welcome<S: Alter>(
     settle_amount(tx, campaign, Entry::Joining, Thing::People)
 }
 
-/// Puts all rows of a joining.
+/// Puts all rows of a join, inside a transaction.
 fn put_joining<S: Alter>(
     tx: &mut Transaction<'_, S>,
     campaign: &Campaign,
@@ -106,7 +106,7 @@ fn put_joining<S: Alter>(
     put_welcome(tx, campaign, arrival)
 }
 
-/// The transaction of a joining.
+/// Puts all rows of a join in one transaction.
 fn write_joining<S: Alter>(
     conn: &mut Connection<S>,
     campaign: &Campaign,
@@ -123,11 +123,12 @@ fn write_joining<S: Alter>(
     tx.commit()
 }
 
-/// Writes a joining into a store that holds the campaign before it, in one transaction: the campaign's own row, the
-/// faction, its unit and its report, and what joining booked. The campaign is the one after the joining, with the
-/// faction's first report stored. With Ok the store holds it, and no other row is touched. Memory where the database says
-/// that it has none, Store where it gives another error; then the store holds the campaign before while the connection is
-/// open, and a crash leaves the one before or the one after. See docs/FORMATS.md, "Tables".
+/// Writes a join into a store that holds the campaign before it, in one transaction: the campaign
+/// row, the faction, its unit and its report, and what joining booked. The campaign is the one
+/// after the join, with the faction's first report stored. With Ok the store holds it, and no other
+/// row is touched. Memory where the database says that it has none, Store where it gives another
+/// error; then the store holds the campaign before while the connection is open, and a crash leaves
+/// the one before or the one after. See docs/FORMATS.md, "Tables".
 pub fn write_join<S: Alter>(
     conn: &mut Connection<S>,
     campaign: &Campaign,
@@ -142,7 +143,7 @@ pub fn write_join<S: Alter>(
     ensures err { HasCleanDisk (state S.Store conn.new)
         → OnErr result ((text : List ℕ) (before : CampaignValue)
         → Keeps (state S.Store conn.old) text before → IsJoining before faction campaign.now.value
-        → Stops (state S.Store conn.old).faults (state S.Store conn.new) text before
+        → LeavesAfterFault (state S.Store conn.old).faults (state S.Store conn.new) text before
         campaign.now.value) }
     ensures own { HasCleanDisk (state S.Store conn.new)
         → OnOk result (HasTables (state S.Store conn.old).now
@@ -155,7 +156,7 @@ pub fn write_join<S: Alter>(
         conn.new) }
     ensures later { IsLater (state S.Store conn.old) (state S.Store conn.new) }
     ensures others { HasCleanDisk (state S.Store conn.new)
-        → SparesOthers (state S.Store conn.old) (state S.Store conn.new) }
+        → LeavesOthersAlone (state S.Store conn.old) (state S.Store conn.new) }
     ensures idle { conn.new.in_transaction ≡ false }
 {
     let arrival = arrival_of(campaign, faction);

@@ -1,4 +1,4 @@
-//! Writes the books, row by row.
+//! Writes the books, one row for each entry and thing whose amount is not 0.
 ghost use Rattle.std.specs.Prelude.{◌<◌, ◌≤◌, map};
 ghost use Rattle.std.specs.List.{range_with_len};
 ghost use Rattle.atl_records.specs.Limits.{most_things};
@@ -15,7 +15,7 @@ use crate::rows::books::{BooksRow, drop_books, put_books};
 use atl_state::{Campaign, Entry, Thing};
 use sqlite::{Alter, Error, Transaction};
 
-/// Puts the row of an amount that is not 0.
+/// Puts the row of an amount of the books, if it is not 0.
 fn put_amount<S: Alter>(
     tx: &mut Transaction<'_, S>,
     campaign: &Campaign,
@@ -38,7 +38,7 @@ fn put_amount<S: Alter>(
     put_books(tx, &row)
 }
 
-/// Puts the row of an amount, or takes it out where the amount is 0.
+/// Puts the row of an amount of the books, or deletes it if the amount is 0.
 pub(crate) fn settle_amount<S: Alter>(
     tx: &mut Transaction<'_, S>,
     campaign: &Campaign,
@@ -61,7 +61,7 @@ pub(crate) fn settle_amount<S: Alter>(
     put_books(tx, &row)
 }
 
-/// Puts the rows of a thing under these entries.
+/// Puts the rows of a thing's amounts under these entries that are not 0.
 fn put_entries<S: Alter>(
     tx: &mut Transaction<'_, S>,
     campaign: &Campaign,
@@ -78,7 +78,7 @@ fn put_entries<S: Alter>(
     Ok(())
 }
 
-/// Puts the rows of all things.
+/// Puts the rows of all amounts of the books that are not 0.
 pub(crate) fn put_all_books<S: Alter>(
     tx: &mut Transaction<'_, S>,
     campaign: &Campaign,
@@ -95,7 +95,7 @@ pub(crate) fn put_all_books<S: Alter>(
     Ok(())
 }
 
-/// Puts the row of an amount, or takes it out where the amount is 0, if the amount is marked.
+/// If an amount of the books is marked, puts its row, or deletes it if the amount is 0.
 fn rewrite_amount<S: Alter>(
     tx: &mut Transaction<'_, S>,
     campaign: &Campaign,
@@ -113,7 +113,7 @@ fn rewrite_amount<S: Alter>(
     Ok(())
 }
 
-/// Puts or takes out the rows of the marked amounts of a thing under these entries.
+/// Puts or deletes the rows of a thing's marked amounts under these entries.
 fn rewrite_entries<S: Alter>(
     tx: &mut Transaction<'_, S>,
     campaign: &Campaign,
@@ -131,7 +131,7 @@ fn rewrite_entries<S: Alter>(
     Ok(())
 }
 
-/// Puts or takes out the rows of all marked amounts.
+/// Puts or deletes the rows of all marked amounts of the books.
 pub(crate) fn rewrite_books<S: Alter>(
     tx: &mut Transaction<'_, S>,
     campaign: &Campaign,

@@ -1,5 +1,6 @@
-//! The tables of a campaign: created, written and read over `sqlite`, in memory or in a file. Each writing is one
-//! transaction, and a crash leaves the campaign before it or the one after it. See docs/FORMATS.md, "Tables".
+//! The tables of a campaign: created, written and read over `sqlite`, in memory or in a file. Each
+//! write is one transaction, and a crash leaves the campaign before it or the one after it. See
+//! docs/FORMATS.md, "Tables".
 #![tactic(auto)]
 
 mod amounts;

@@ -1,9 +1,9 @@
-//! Loads a campaign from its tables. See docs/FORMATS.md, "Tables".
+//! Loads a campaign from its tables. See docs/FORMATS.md, "Opening a file".
 ghost use Rattle.std.specs.Prelude.{◌≡◌, false, IfOk, IfErr};
 ghost use Rattle.sqlite.specs.Held.{state};
 ghost use Rattle.sqlite.specs.State.{HasCleanDisk};
 ghost use Rattle.atl_store.specs.Gathering.{IsSettled, Gathered, IsLoaded};
-ghost use Rattle.atl_store.specs.Loading.{Leaves, Loads, LoadsIn, RefusesToLoad, RefusesToLoadIn, LeavesAlone};
+ghost use Rattle.atl_store.specs.Loading.{AfterReads, Loads, LoadsIn, RefusesToLoad, RefusesToLoadIn, LeavesAlone};
 
 mod confirmed;
 mod gathered;
@@ -20,7 +20,7 @@ use own::read_own;
 use sqlite::{Alter, Connection};
 use std::alloc::Global;
 
-/// The world, and the rows of all tables of the format.
+/// Reads the world, and the rows of all tables of the format.
 fn gather<S: Alter>(
     alloc: Global,
     conn: &mut Connection<S>,
@@ -32,7 +32,7 @@ fn gather<S: Alter>(
         → IfOk result (λ both. Gathered format S.Store conn.old both.0 both.1) }
     ensures err { HasCleanDisk (state S.Store conn.new)
         → IfErr result (RefusesToLoadIn format S.Store conn.old) }
-    ensures leaves { Leaves S.Store conn.old conn.new }
+    ensures leaves { AfterReads S.Store conn.old conn.new }
 {
     let (own, world) = read_own(alloc, conn, format)?;
     let Some(others) = read_others(alloc, conn, format)? else {
@@ -42,7 +42,7 @@ fn gather<S: Alter>(
     Ok((world, parts))
 }
 
-/// Loads what the tables of a connection hold that is in no transaction.
+/// Loads the campaign of a connection that is in no transaction, in a format.
 fn load_idle<S: Alter>(
     alloc: Global,
     conn: &mut Connection<S>,
@@ -53,7 +53,7 @@ fn load_idle<S: Alter>(
     ensures ok { IfOk result (λ both. IsLoaded format S.Store conn.old conn.new both.0 both.1) }
     ensures err { HasCleanDisk (state S.Store conn.new)
         → IfErr result (RefusesToLoadIn format S.Store conn.old) }
-    ensures leaves { Leaves S.Store conn.old conn.new }
+    ensures leaves { AfterReads S.Store conn.old conn.new }
 {
     let (world, parts) = gather(alloc, conn, format)?;
     confirm(conn, format)?;
@@ -61,9 +61,10 @@ fn load_idle<S: Alter>(
     Ok((world, campaign))
 }
 
-/// Loads the campaign that the tables hold in a format, with its world; nothing of it is marked, and it is good. Nothing is
-/// changed, whatever is answered. OtherFormat: the campaign's own rows are one, of the other format, whatever else it says. The
-/// other faults are told as by `load`. See docs/FORMATS.md, "Rules of the tables".
+/// Loads the campaign that the tables hold in a format, with its world; nothing of it is marked,
+/// and it is good. Nothing is changed, whatever is answered. OtherFormat: `campaign` has one row,
+/// of the other format, whatever else it says. The other faults are those of `load`. See
+/// docs/FORMATS.md, "Rules of the tables".
 pub(crate) fn load_as<S: Alter>(
     alloc: Global,
     conn: &mut Connection<S>,
@@ -80,12 +81,13 @@ pub(crate) fn load_as<S: Alter>(
     load_idle(alloc, conn, format)
 }
 
-/// Loads the campaign that the tables hold, with its world; nothing of it is marked, and it is good. Nothing is changed,
-/// whatever is answered. NotACampaign: the campaign's own row can't be asked for. OldFormat: the campaign's own rows are one,
-/// whose format is the first, whatever else it says. Damaged: the rows break this rule of the tables, and none before it; a
-/// value of another type in the campaign's own row breaks the first, one in another table the second. Store: the connection is
-/// in a transaction, a table can't be read, the tables or indexes are not made as `create` makes them, there is a view or a
-/// trigger, or the disk fails. See docs/FORMATS.md, "Rules of the tables".
+/// Loads the campaign that the tables hold, with its world; nothing of it is marked, and it is
+/// good. Nothing is changed, whatever is answered. NotACampaign: the campaign row can't be asked
+/// for. OldFormat: `campaign` has one row, whose format is the first, whatever else it says.
+/// Damaged: the rows break this rule of the tables, and none before it; a value of another type in
+/// the campaign row breaks the first, one in another table the second. Store: the connection is in
+/// a transaction, a table can't be read, the tables or indexes are not made as `create` makes them,
+/// there is a view or a trigger, or the disk fails. See docs/FORMATS.md, "Rules of the tables".
 pub fn load<S: Alter>(
     alloc: Global,
     conn: &mut Connection<S>,

@@ -1,4 +1,4 @@
-//! Writes a mail into the tables.
+//! Writes a mailing into the table `mail`. See docs/RULES.md, "Mail".
 ghost use Rattle.std.specs.Prelude.{◌≡◌, false, List, ℕ, IfErr, OnOk, OnErr};
 ghost use Rattle.sqlite.specs.Held.{state};
 ghost use Rattle.sqlite.specs.State.{HasCleanDisk};
@@ -9,13 +9,13 @@ ghost use Rattle.atl_store.specs.OwnStatements.{OfMail};
 ghost use Rattle.atl_store.specs.Writes.{Transacts};
 ghost use Rattle.atl_store.specs.Inside.{HasTables, LeavesOff};
 ghost use Rattle.atl_store.specs.Arriving.{WritesMail};
-ghost use Rattle.atl_store.specs.Keeps.{Keeps, Stops, IsLater, SparesOthers};
+ghost use Rattle.atl_store.specs.Keeps.{Keeps, LeavesAfterFault, IsLater, LeavesOthersAlone};
 
 use crate::fault::WriteFault;
 use crate::rows::mail::put_mail;
 use sqlite::{Alter, Connection, Error};
 
-/// The transaction of a mail.
+/// Puts the row of a faction's mail in one transaction.
 fn write_mailing<S: Alter>(conn: &mut Connection<S>, faction: u32, text: &[u8]) -> Result<(), Error>
     requires { conn.old.in_transaction ≡ false }
     ensures { Transacts S.Store (OfMail faction text.now) HasTables (WritesMail faction text.now)
@@ -26,10 +26,11 @@ fn write_mailing<S: Alter>(conn: &mut Connection<S>, faction: u32, text: &[u8]) 
     tx.commit()
 }
 
-/// Writes the mail of a faction into a store that holds a campaign, in the place of an older one, in one transaction. With
-/// Ok the store holds the campaign with this mail, and no other row is touched. Memory where the database says that it
-/// has none, Store where it gives another error; then the store holds the campaign before while the connection is open, and
-/// a crash leaves the one before or the one after. See docs/FORMATS.md, "Tables".
+/// Writes the mail of a faction into a store that holds a campaign, replacing an older one, in one
+/// transaction. With Ok the store holds the campaign with this mail, and no other row is touched.
+/// Memory where the database says that it has none, Store where it gives another error; then the
+/// store holds the campaign before while the connection is open, and a crash leaves the one before
+/// or the one after. See docs/FORMATS.md, "Tables".
 pub fn write_mail<S: Alter>(
     conn: &mut Connection<S>,
     faction: u32,
@@ -43,7 +44,7 @@ pub fn write_mail<S: Alter>(
     ensures err { HasCleanDisk (state S.Store conn.new)
         → OnErr result ((world : List ℕ) (before : CampaignValue)
         → Keeps (state S.Store conn.old) world before
-        → Stops (state S.Store conn.old).faults (state S.Store conn.new) world before
+        → LeavesAfterFault (state S.Store conn.old).faults (state S.Store conn.new) world before
         (with_mail before faction text.now)) }
     ensures own { HasCleanDisk (state S.Store conn.new)
         → OnOk result (HasTables (state S.Store conn.old).now
@@ -54,7 +55,7 @@ pub fn write_mail<S: Alter>(
         → IfErr result (IsTold S.Store (OfMail faction text.now) write_fault conn.old conn.new) }
     ensures later { IsLater (state S.Store conn.old) (state S.Store conn.new) }
     ensures others { HasCleanDisk (state S.Store conn.new)
-        → SparesOthers (state S.Store conn.old) (state S.Store conn.new) }
+        → LeavesOthersAlone (state S.Store conn.old) (state S.Store conn.new) }
     ensures idle { conn.new.in_transaction ≡ false }
 {
     write_mailing(conn, faction, text)?;

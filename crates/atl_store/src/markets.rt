@@ -1,4 +1,4 @@
-//! The stocks of markets, written row by row.
+//! Writes the stocks of markets, one row for each region and item whose stock is not 0.
 ghost use Rattle.std.specs.Prelude.{refl};
 ghost use Rattle.atl_store.specs.Tables.{Markets, market_table};
 ghost use Rattle.atl_store.specs.Shown.{market_row};
@@ -13,7 +13,7 @@ use atl_state::{Campaign, Region};
 use atl_tables::{Entries, MarkedNumbers};
 use sqlite::{Alter, Error, Transaction};
 
-/// The market of a region.
+/// The markets of a region: the owner of its stocks.
 #[derive(Clone, Copy)]
 struct RegionMarkets {
     region: u32,
@@ -36,7 +36,7 @@ impl AmountWriter for RegionMarkets {
     }
 }
 
-/// Puts the rows of a region's stocks.
+/// Puts the rows of a region's stocks that are not 0.
 fn put_stocks<S: Alter>(
     tx: &mut Transaction<'_, S>,
     number: u32,
@@ -48,7 +48,7 @@ fn put_stocks<S: Alter>(
     put_amounts(tx, RegionMarkets { region: number }, region.stocks.iter())
 }
 
-/// Puts the rows of the stocks of all regions.
+/// Puts the rows of all regions' stocks that are not 0.
 pub(crate) fn put_all_stocks<S: Alter>(
     tx: &mut Transaction<'_, S>,
     regions: Entries<'_, Region>,

@@ -23,7 +23,7 @@ use atl_state::Campaign;
 use atl_tables::{Entries, MarkedNumbers};
 use sqlite::{Alter, Error, Transaction, params};
 
-/// What has a row under its number in a table of its own.
+/// A kind of thing with a number, such as factions: each has one row, whose key is the number.
 pub(crate) trait NumberedRow: Sized {
     ghost part: { Part };
 
@@ -41,7 +41,7 @@ pub(crate) trait NumberedRow: Sized {
 
     ghost are_marked: { (m : Marks) (r : SqlRow) → is_marked m part r ≡ begins_marked (marks m) r };
 
-    /// What stands under a number of a campaign.
+    /// The thing of a campaign that has this number.
     fn of(campaign: &Campaign, number: u32) -> Option<&Self>
         ensures { option_copied result ≡ get (values campaign.now.value) number };
 
@@ -59,14 +59,14 @@ pub(crate) trait NumberedRow: Sized {
             tx.new.conn };
 }
 
-/// What stands in a map of a campaign, under its numbers.
+/// A kind of thing that a campaign holds in a map, by number.
 pub(crate) trait Mapped: NumberedRow {
-    /// All that a campaign has of it, in rising order of the numbers.
+    /// All things of the kind that a campaign has, in rising order of their numbers.
     fn all(campaign: &Campaign) -> Entries<'_, Self>
         ensures { result ≡ entries (Self.values campaign.now.value) };
 }
 
-/// Puts the rows of all entries.
+/// Puts the rows of all things of a map.
 pub(crate) fn put_each<V: NumberedRow + Drop, S: Alter>(
     tx: &mut Transaction<'_, S>,
     values: Entries<'_, V>,
@@ -80,7 +80,7 @@ pub(crate) fn put_each<V: NumberedRow + Drop, S: Alter>(
     Ok(())
 }
 
-/// Deletes the row that has the number, where there is one.
+/// Deletes the row that has the number, if there is one.
 fn take_out<V: NumberedRow, S: Alter>(tx: &mut Transaction<'_, S>, number: u32) -> Result<(), Error>
     ensures { TakesOut S.Store (table_of V.NumberedRow.part) 1 (int number ∷ []) result tx.old.conn
         tx.new.conn }
@@ -88,7 +88,7 @@ fn take_out<V: NumberedRow, S: Alter>(tx: &mut Transaction<'_, S>, number: u32) 
     run(tx, V::removal(), params![number])
 }
 
-/// Puts the row of a number, or deletes it where nothing stands under the number.
+/// Puts the row of the thing with this number, or deletes it if there is no such thing.
 fn rewrite<V: NumberedRow + Drop, S: Alter>(
     tx: &mut Transaction<'_, S>,
     campaign: &Campaign,
@@ -104,7 +104,7 @@ fn rewrite<V: NumberedRow + Drop, S: Alter>(
     }
 }
 
-/// Puts or deletes the rows of all that is marked.
+/// Puts or deletes the rows of all marked numbers.
 pub(crate) fn rewrite_marked<V: NumberedRow + Drop, S: Alter>(
     tx: &mut Transaction<'_, S>,
     campaign: &Campaign,

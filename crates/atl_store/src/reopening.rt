@@ -1,9 +1,9 @@
-//! Opens a database again after a crash.
+//! Opens a database again after a crash, to show what a crash leaves; no command needs it.
 ghost use Rattle.std.specs.Prelude.{List, ℕ, ◌⊎◌, IfOk};
 ghost use Rattle.sqlite.specs.Held.{state};
 ghost use Rattle.sqlite.specs.State.{HasCleanDisk};
 ghost use Rattle.atl_state.specs.Campaign.{CampaignValue};
-ghost use Rattle.atl_store.specs.Keeps.{HoldsCampaign, Keeps, Stops};
+ghost use Rattle.atl_store.specs.Keeps.{HoldsCampaign, Keeps, LeavesAfterFault};
 ghost use Rattle.atl_store.specs.Reopening.{Reopens};
 
 use crate::fault::StoreFault;
@@ -11,9 +11,10 @@ use sqlite::{Alter, Connection};
 use sqlite_trees::store::Reopen;
 use std::alloc::Global;
 
-/// Opens what a crash left of the connection's database. What the connection held of a campaign is there again, its tables
-/// and the rows in them; where a writing was stopped by a fault, it is the campaign before or the one after. Memory: there is no
-/// memory to open it. Store: the disk fails. The database is then given up, and its files stay as they are.
+/// Opens what a crash left of the connection's database. What the connection held of a campaign is
+/// there again, its tables and the rows in them; if a write was stopped by a fault, it is the
+/// campaign before or the one after. Memory: there is no memory to open it. Store: the disk fails.
+/// The database is then given up, and its files stay as they are.
 pub fn reopen_connection<S: Alter + Reopen + Drop>(
     alloc: Global,
     conn: Connection<S>,
@@ -25,7 +26,7 @@ pub fn reopen_connection<S: Alter + Reopen + Drop>(
     ensures stopped { IfOk result
         (λ again. HasCleanDisk (state S.Store again)
         → (faults : ℕ) (text : List ℕ) (before after : CampaignValue)
-        → Stops faults (state S.Store conn) text before after
+        → LeavesAfterFault faults (state S.Store conn) text before after
         → Keeps (state S.Store again) text before ⊎ Keeps (state S.Store again) text after) }
 {
     let mut store = conn.into_store();

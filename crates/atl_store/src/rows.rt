@@ -1,4 +1,4 @@
-//! The tables, one module each: how a row is put, deleted and read.
+//! The tables, one module each: how a row is put, deleted and read. See docs/FORMATS.md, "Tables".
 
 pub mod books;
 pub mod campaign;

@@ -15,13 +15,14 @@ use atl_tables::Format;
 use indexes::are_indexes;
 use sqlite_schema::schema::{Schema, Table};
 
-/// A table with no foreign key.
+/// Whether the table has no foreign key.
 fn is_free(found: &Table) -> bool
     ensures { IsTrue result ↔ (found.now.references ≡ []) }
 {
     found.references.is_empty()
 }
 
+/// Whether no table has a foreign key.
 fn are_free(tables: &[Table]) -> bool
     ensures { IsTrue result ↔ (AllByRecursion (λ t. t.references ≡ []) tables.now) }
 {
@@ -33,7 +34,7 @@ fn are_free(tables: &[Table]) -> bool
     true
 }
 
-/// So many of the tables of a campaign, and tables without a foreign key behind them.
+/// Whether these are the first `count` tables of a campaign and then tables without a foreign key.
 fn are_tables(tables: &[Table], count: usize) -> bool
     requires { count ≤ length all_tables }
     ensures { IsTrue result ↔ (AreTables count tables.now) }
@@ -41,7 +42,8 @@ fn are_tables(tables: &[Table], count: usize) -> bool
     tables.len() >= count && are_first_tables(tables, count) && are_free(&tables[count..])
 }
 
-/// Whether the schema begins with so many of the tables of a campaign, which have so many indexes.
+/// Whether the schema begins with the first `tables` tables and `keys` indexes of a campaign,
+/// allows what comes after them (`has_all_tables` says what), and has no view.
 fn begins(schema: &Schema, tables: usize, keys: usize) -> bool
     requires tables { tables ≤ length all_tables }
     requires keys { keys ≤ length all_indexes }
@@ -56,7 +58,7 @@ fn begins(schema: &Schema, tables: usize, keys: usize) -> bool
     schema.views.is_empty()
 }
 
-/// Whether the schema begins with the tables of a format, as `has_all_tables` says.
+/// Whether the schema begins with a format's tables; `has_all_tables` says what may follow them.
 pub(crate) fn has_tables_of(schema: &Schema, format: Format) -> bool
     ensures { IsTrue result ↔ (HasTablesOf format schema.now) }
 {
@@ -66,7 +68,7 @@ pub(crate) fn has_tables_of(schema: &Schema, format: Format) -> bool
     }
 }
 
-/// Whether there are just the tables of the first format, and their indexes.
+/// Whether the schema has exactly the tables and indexes of the first format.
 pub(crate) fn is_just_old(schema: &Schema) -> bool
     ensures { IsTrue result ↔ (IsJustOld schema.now) }
 {
@@ -75,9 +77,9 @@ pub(crate) fn is_just_old(schema: &Schema) -> bool
         && has_tables_of(schema, Format::First)
 }
 
-/// Whether the schema begins with the tables of a campaign, made as `create` makes them: after `create` it does. Other
-/// tables without a foreign key and indexes that make nothing of these unique may have come behind them; with a view or
-/// a trigger it does not. See docs/FORMATS.md, "Tables".
+/// Whether the schema begins with the tables of a campaign, made as `create` makes them: after
+/// `create` it does. Other tables without a foreign key, and indexes that make nothing unique in
+/// these, may come after them; with a view or a trigger it does not. See docs/FORMATS.md, "Tables".
 pub fn has_all_tables(schema: &Schema) -> bool
     ensures { IsTrue result ↔ (HasAll schema.now) }
 {

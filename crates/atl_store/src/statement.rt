@@ -1,7 +1,7 @@
-//! One statement inside a transaction.
+//! Runs one statement inside a transaction: all writes of this crate go through `run`.
 ghost use Rattle.sqlite.specs.Values.{bound};
 ghost use Rattle.atl_store.specs.OwnStatements.{Only};
-ghost use Rattle.atl_store.specs.Writes.{Writes, Runs};
+ghost use Rattle.atl_store.specs.Writes.{Writes, RunsStatement};
 
 use sqlite::types::ValueRef;
 use sqlite::{Alter, Error, Transaction};
@@ -12,8 +12,8 @@ pub(crate) fn run<S: Alter>(
     sql: &str,
     params: &[ValueRef<'_>],
 ) -> Result<(), Error>
-    ensures { Writes S.Store (Only sql.now (bound params.now)) (Runs sql.now (bound params.now))
-        result tx.old.conn tx.new.conn }
+    ensures { Writes S.Store (Only sql.now (bound params.now))
+        (RunsStatement sql.now (bound params.now)) result tx.old.conn tx.new.conn }
 {
     tx.execute(sql, params)?;
     Ok(())

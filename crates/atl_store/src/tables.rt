@@ -1,8 +1,8 @@
-//! The tables: the text that creates each, and how it is found in a schema.
+//! Makes the tables of a campaign, and knows them again in a schema. See docs/FORMATS.md, "Tables".
 ghost use Rattle.std.specs.Prelude.{◌≡◌, ◌≤◌, [], length, map, slice_get, take, ◌↔◌, IsTrue};
 ghost use Rattle.atl_store.specs.Tables.{Markets, all_parts, all_tables, campaign_table, creation_of, faction_table};
 ghost use Rattle.atl_store.specs.OwnStatements.{Only, Creations};
-ghost use Rattle.atl_store.specs.Writes.{Writes, Runs};
+ghost use Rattle.atl_store.specs.Writes.{Writes, RunsStatement};
 ghost use Rattle.atl_store.specs.Inside.{Inside, IsBlank};
 ghost use Rattle.atl_store.specs.Making.{AreEmpty};
 
@@ -13,7 +13,8 @@ use crate::statement::run;
 use sqlite::{Alter, Error, Transaction};
 use sqlite_schema::schema::{Kind, Table};
 
-/// How a table is made, and at which tree. Tables and the indexes of their keys take the trees of a file in the order in
+/// A table of a campaign: the text that makes it, its tree, its name and its columns.
+/// Tables and the indexes of their keys take the trees of a file in the order in
 /// which they are made.
 #[derive(Drop, Clone, Copy)]
 pub(crate) struct TableDefinition {
@@ -23,15 +24,16 @@ pub(crate) struct TableDefinition {
     pub(crate) columns: &'static [(&'static [u8], Kind)],
 }
 
-/// Columns in their order: the kind of some that stand side by side, and their names.
+/// A list of columns in their order: a kind, and the names of all that follow each other with it.
 macro_rules! columns {
     ($($kind:ident: $($name:literal)*);*) => {
         &[$($(($name, Kind::$kind),)*)*]
     };
 }
 
-// ---- the tables, with the places of what else is unique in their rows and the tree of its index
+// ---- the tables, and of each unique key its indexes in a stored row (0 is the rowid)
 
+/// The campaign row, of which there is one.
 const CAMPAIGN: TableDefinition = TableDefinition {
     text: "CREATE TABLE campaign (id INTEGER NOT NULL PRIMARY KEY CHECK (id = 1), format INTEGER NOT NULL, month INTEGER NOT NULL, next_faction INTEGER NOT NULL, next_unit INTEGER NOT NULL, next_structure INTEGER NOT NULL, pass TEXT NOT NULL, world TEXT NOT NULL) STRICT",
     tree: 0,
@@ -49,9 +51,10 @@ pub(crate) const FACTION: TableDefinition = TableDefinition {
     columns: columns!(Integer: b"number"; Text: b"joined_as" b"name" b"pass"; Integer: b"gone"),
 };
 
-/// A faction's `joined_as`, which no two factions share.
+/// The unique key of `faction`: `joined_as`.
 pub(crate) const FACTION_UNIQUE: [usize; 1] = [2];
 
+/// The tree of that key's index.
 pub(crate) const FACTION_INDEX: u32 = 2;
 
 const REGION: TableDefinition = TableDefinition {
@@ -70,6 +73,7 @@ const UNIT: TableDefinition = TableDefinition {
     ),
 };
 
+/// What units have: a row for each item and each skill of a unit.
 pub(crate) const HAS: TableDefinition = TableDefinition {
     text: "CREATE TABLE has (unit INTEGER NOT NULL, sort INTEGER NOT NULL, thing INTEGER NOT NULL, amount INTEGER NOT NULL, PRIMARY KEY (unit, sort, thing)) STRICT",
     tree: 5,
@@ -77,9 +81,10 @@ pub(crate) const HAS: TableDefinition = TableDefinition {
     columns: columns!(Integer: b"unit" b"sort" b"thing" b"amount"),
 };
 
-/// `unit`, `sort` and `thing`.
+/// The unique key of `has`: `unit`, `sort` and `thing`.
 pub(crate) const HAS_UNIQUE: [usize; 3] = [1, 2, 3];
 
+/// The tree of that key's index.
 pub(crate) const HAS_INDEX: u32 = 6;
 
 const STRUCTURE: TableDefinition = TableDefinition {
@@ -103,6 +108,7 @@ const REPORT: TableDefinition = TableDefinition {
     columns: columns!(Integer: b"faction"; Text: b"text"),
 };
 
+/// The books: a row for each entry and thing with an amount.
 pub(crate) const BOOKS: TableDefinition = TableDefinition {
     text: "CREATE TABLE books (entry INTEGER NOT NULL, thing INTEGER NOT NULL, amount INTEGER NOT NULL, PRIMARY KEY (entry, thing)) STRICT",
     tree: 10,
@@ -110,12 +116,13 @@ pub(crate) const BOOKS: TableDefinition = TableDefinition {
     columns: columns!(Integer: b"entry" b"thing" b"amount"),
 };
 
-/// `entry` and `thing`.
+/// The unique key of `books`: `entry` and `thing`.
 pub(crate) const BOOKS_UNIQUE: [usize; 2] = [1, 2];
 
+/// The tree of that key's index.
 pub(crate) const BOOKS_INDEX: u32 = 11;
 
-/// The stocks of markets, which the first format hasn't.
+/// The stocks of markets, a table that the first format doesn't have.
 pub(crate) const MARKET: TableDefinition = TableDefinition {
     text: "CREATE TABLE market (region INTEGER NOT NULL, item INTEGER NOT NULL, stock INTEGER NOT NULL, PRIMARY KEY (region, item)) STRICT",
     tree: 12,
@@ -123,29 +130,32 @@ pub(crate) const MARKET: TableDefinition = TableDefinition {
     columns: columns!(Integer: b"region" b"item" b"stock"),
 };
 
-/// `region` and `item`.
+/// The unique key of `market`: `region` and `item`.
 pub(crate) const MARKET_UNIQUE: [usize; 2] = [1, 2];
 
+/// The tree of that key's index.
 pub(crate) const MARKET_INDEX: u32 = 13;
 
-/// All of them, in the order in which they are made.
+/// The ten tables, in the order in which they are made.
 pub(crate) const ALL: [TableDefinition; 10] = [
     CAMPAIGN, FACTION, REGION, UNIT, HAS, STRUCTURE, MAIL, REPORT, BOOKS, MARKET,
 ];
 
+/// How many tables a campaign has: ten.
 pub(crate) const TABLES: usize = ALL.len();
 
-/// How many indexes their keys have.
+/// How many indexes the unique keys of the ten tables have.
 pub(crate) const INDEXES: usize = 4;
 
-/// So many tables and indexes the first format has.
+/// How many tables the first format has.
 pub(crate) const FIRST_TABLES: usize = 9;
 
+/// How many indexes the unique keys of the first format's tables have.
 pub(crate) const FIRST_INDEXES: usize = 3;
 
-// ---- whether a table that is found is made so
+// ---- whether a table of a schema is one of these
 
-/// The table of the campaign's own row, which has a check.
+/// Whether this is the table `campaign`, which has a check.
 fn is_campaign(found: &Table) -> bool
     ensures { IsTrue result ↔ (found.now ≡ campaign_table) }
 {
@@ -155,7 +165,7 @@ fn is_campaign(found: &Table) -> bool
         && is_own_row(&found.checks)
 }
 
-/// The table of factions, of which no two joined under one name.
+/// Whether this is the table `faction`, in which `joined_as` is unique.
 fn is_faction(found: &Table) -> bool
     ensures { IsTrue result ↔ (found.now ≡ faction_table) }
 {
@@ -165,7 +175,7 @@ fn is_faction(found: &Table) -> bool
         && found.checks.roots.is_empty()
 }
 
-/// Whether this is the table with this place among those of a campaign, in the order in which they are made.
+/// Whether this is the `place`th table of a campaign, from 0, in the order in which they are made.
 fn is_table(found: &Table, place: usize) -> bool
     ensures { IsTrue result ↔ (slice_get all_tables place ≡ Some found.now) }
 {
@@ -184,7 +194,7 @@ fn is_table(found: &Table, place: usize) -> bool
     }
 }
 
-/// So many tables are the first that are made.
+/// Whether the first `count` tables are the first `count` of a campaign.
 pub(crate) fn are_first_tables(tables: &[Table], count: usize) -> bool
     requires { count ≤ length tables.now }
     ensures { IsTrue result ↔ (take count tables.now ≡ take count all_tables) }
@@ -199,7 +209,7 @@ pub(crate) fn are_first_tables(tables: &[Table], count: usize) -> bool
 
 // ---- the tables are made
 
-/// Makes the tables of these texts, each with no row, where there is none.
+/// Makes the ten tables by these texts, each without a row, in a database that has no table.
 fn create_each<S: Alter>(
     tx: &mut Transaction<'_, S>,
     tables: &[TableDefinition],
@@ -213,17 +223,17 @@ fn create_each<S: Alter>(
     Ok(())
 }
 
-/// Makes all tables, each with no row, where there is none.
+/// Makes the ten tables, each without a row, in a database that has no table.
 pub(crate) fn create_tables<S: Alter>(tx: &mut Transaction<'_, S>) -> Result<(), Error>
     ensures { Writes S.Store Creations (Inside IsBlank AreEmpty) result tx.old.conn tx.new.conn }
 {
     create_each(tx, &ALL)
 }
 
-/// Makes the table of the stocks of markets.
+/// Makes the table `market`.
 pub(crate) fn create_market<S: Alter>(tx: &mut Transaction<'_, S>) -> Result<(), Error>
-    ensures { Writes S.Store (Only (creation_of Markets) []) (Runs (creation_of Markets) []) result
-        tx.old.conn tx.new.conn }
+    ensures { Writes S.Store (Only (creation_of Markets) [])
+        (RunsStatement (creation_of Markets) []) result tx.old.conn tx.new.conn }
 {
     run(tx, MARKET.text, &[])
 }

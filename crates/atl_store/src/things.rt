@@ -1,4 +1,4 @@
-//! Writes the marked single items and skills of units, row by row.
+//! Writes the single items and skills of units that are marked, row by row.
 ghost use Rattle.std.specs.Prelude.{◌≡◌};
 ghost use Rattle.std.specs.FinMap.{entries};
 ghost use Rattle.atl_store.specs.Rows.{amount_under};
@@ -13,7 +13,7 @@ use atl_state::Campaign;
 use atl_tables::{Entries, Numbered};
 use sqlite::{Alter, Error, Transaction};
 
-/// How much a unit has of a thing; 0 where there is no unit.
+/// How much of an item, or how many days of a skill, a unit has; 0 if there is no such unit.
 fn amount_of(campaign: &Campaign, unit: u32, sort: ThingKind, thing: u32) -> u32
     ensures { result ≡ amount_under campaign.now.value.units unit sort thing }
 {
@@ -26,7 +26,7 @@ fn amount_of(campaign: &Campaign, unit: u32, sort: ThingKind, thing: u32) -> u32
     }
 }
 
-/// Puts the row of a thing of a unit, or deletes it where the unit has none of it.
+/// Puts the row of a unit's item or skill, or deletes it if the unit has none of it.
 fn rewrite_thing<S: Alter>(
     tx: &mut Transaction<'_, S>,
     campaign: &Campaign,
@@ -51,7 +51,7 @@ fn rewrite_thing<S: Alter>(
     put_has(tx, &row)
 }
 
-/// Puts or deletes the rows of these things of a unit.
+/// Puts or deletes the rows of these items or skills of a unit.
 fn rewrite_things<S: Alter>(
     tx: &mut Transaction<'_, S>,
     campaign: &Campaign,
@@ -69,7 +69,7 @@ fn rewrite_things<S: Alter>(
     Ok(())
 }
 
-/// The single things of a sort that are marked.
+/// The single things of a kind that are marked, by unit.
 fn marked_of(campaign: &Campaign, sort: ThingKind) -> Entries<'_, Numbered<()>>
     ensures { result ≡ entries (marked_things campaign.now.marks sort) }
 {
@@ -79,7 +79,7 @@ fn marked_of(campaign: &Campaign, sort: ThingKind) -> Entries<'_, Numbered<()>>
     }
 }
 
-/// Puts or deletes the rows of the single things of a sort that are marked.
+/// Puts or deletes the rows of the single things of a kind that are marked.
 pub(crate) fn rewrite_kind<S: Alter>(
     tx: &mut Transaction<'_, S>,
     campaign: &Campaign,

@@ -1,4 +1,4 @@
-//! Upgrades a file of the first format. See docs/RULES.md, "Upgrading".
+//! Upgrades a file of the first format to the second. See docs/RULES.md, "Upgrading".
 ghost use Rattle.std.specs.Prelude.{◌≡◌, false, IfOk, IfErr, OnOk};
 ghost use Rattle.sqlite.specs.Held.{state};
 ghost use Rattle.sqlite.specs.State.{HasCleanDisk};
@@ -6,8 +6,8 @@ ghost use Rattle.atl_store.specs.Inside.{Inside};
 ghost use Rattle.atl_store.specs.Keeps.{IsLater};
 ghost use Rattle.atl_store.specs.Loading.{LeavesAlone};
 ghost use Rattle.atl_store.specs.OwnStatements.{OfUpgrade};
-ghost use Rattle.atl_store.specs.UpgradeSteps.{IsOld, WritesUpgrade};
-ghost use Rattle.atl_store.specs.Upgrading.{FailsCheck, IsReady, RefusesToUpgrade, Upgrades};
+ghost use Rattle.atl_store.specs.UpgradeSteps.{IsFirstFormat, WritesUpgrade};
+ghost use Rattle.atl_store.specs.Upgrading.{FailsCheck, IsReadyToUpgrade, RefusesToUpgrade, Upgrades};
 ghost use Rattle.atl_store.specs.Writes.{Writes, Transacts};
 
 use crate::campaign_row::upgrade_campaign_row;
@@ -20,27 +20,28 @@ use atl_tables::{Format, World, read_world};
 use sqlite::{Alter, Connection, Error, Transaction};
 use std::alloc::Global;
 
-/// Makes the table of markets, and gives the campaign's own row the second format and this world text.
+/// Makes the table `market`, and sets the campaign row's format and world text.
 fn put_upgrade<S: Alter>(
     tx: &mut Transaction<'_, S>,
     text: &str,
     campaign: &Campaign,
 ) -> Result<(), Error>
     ensures { Writes S.Store (OfUpgrade text.now campaign.now.value)
-        (Inside IsOld (WritesUpgrade text.now campaign.now.value)) result tx.old.conn tx.new.conn }
+        (Inside IsFirstFormat (WritesUpgrade text.now campaign.now.value)) result tx.old.conn
+        tx.new.conn }
 {
     create_market(tx)?;
     upgrade_campaign_row(tx, campaign, text)
 }
 
-/// The transaction of an upgrade.
+/// Makes the table `market` and sets the campaign row in one transaction.
 fn write_upgrade<S: Alter>(
     conn: &mut Connection<S>,
     text: &str,
     campaign: &Campaign,
 ) -> Result<(), Error>
     requires { conn.old.in_transaction ≡ false }
-    ensures { Transacts S.Store (OfUpgrade text.now campaign.now.value) IsOld
+    ensures { Transacts S.Store (OfUpgrade text.now campaign.now.value) IsFirstFormat
         (WritesUpgrade text.now campaign.now.value) result conn.old conn.new }
 {
     let mut tx = conn.transaction();
@@ -48,14 +49,14 @@ fn write_upgrade<S: Alter>(
     tx.commit()
 }
 
-/// The world of the new text with the campaign that the tables hold, where the two worlds differ in markets alone.
+/// The world of the new text, and the campaign that the tables hold, if only markets differ.
 fn world_and_campaign<S: Alter>(
     alloc: Global,
     conn: &mut Connection<S>,
     new_world: &str,
 ) -> Result<(World, Campaign), UpgradeFault>
     ensures ok { IfOk result
-        (λ both. IsReady S.Store new_world.now conn.old conn.new both.0 both.1) }
+        (λ both. IsReadyToUpgrade S.Store new_world.now conn.old conn.new both.0 both.1) }
     ensures err { HasCleanDisk (state S.Store conn.new)
         → IfErr result (FailsCheck S.Store new_world.now conn.old conn.new) }
     ensures alone { LeavesAlone S.Store conn.old conn.new }
@@ -72,16 +73,17 @@ fn world_and_campaign<S: Alter>(
     Ok((world, campaign))
 }
 
-/// Makes a file of the first format one of the second, with this world text, in one transaction: the table of markets
-/// is made, without a row, and the campaign's own row gets the format and the text. With Ok the connection holds the
-/// campaign that the tables held, of which nothing is marked; it is answered with the world of the text, and the
-/// connection is in no transaction. NotACampaign and Damaged are told as by `load`, by the rules of the first format.
-/// NotOld: the campaign's own rows are one, whose format is the second, whatever else it says. World: the new text is
-/// no world. Differs: its world differs from that of the old text in more than markets. Store is told as by `load`,
-/// too; or there are more tables or indexes than those of the first format; or the database gives an error that is not
-/// lack of memory. Memory: there is none. After a fault the tables are as they were while the connection is open, and a
-/// crash leaves what it left before or, where the transaction was begun, the upgraded campaign. See docs/FORMATS.md,
-/// "Upgrading a file".
+/// Makes a file of the first format one of the second, with this world text, in one transaction:
+/// the table of markets is made, without a row, and the campaign row gets the format and the text.
+/// With Ok the connection holds the campaign that the tables held, of which nothing is marked; it
+/// is answered with the world of the text, and the connection is in no transaction. NotACampaign
+/// and Damaged are returned as by `load`, by the rules of the first format. NotOld: `campaign` has
+/// one row, whose format is the second, whatever else it says. World: the new text is no world.
+/// Differs: its world differs from that of the old text in more than markets. Store is returned as
+/// by `load`, too; or there are more tables or indexes than those of the first format; or the
+/// database gives an error that is not lack of memory. Memory: there is none. After a fault the
+/// tables are as they were while the connection is open, and a crash leaves what it left before or,
+/// where the transaction was begun, the upgraded campaign. See docs/FORMATS.md, "Upgrading a file".
 pub fn upgrade<S: Alter>(
     alloc: Global,
     conn: &mut Connection<S>,

@@ -1,4 +1,4 @@
-//! The tables of a campaign's parts, written one after another.
+//! Writes the parts of a campaign but the campaign row, each into its table, one after another.
 ghost use Rattle.std.specs.Prelude.{◌≤◌, ◌++◌, List, [], ◌∷◌};
 ghost use Rattle.atl_records.specs.Limits.{most_things};
 ghost use Rattle.atl_store.specs.Tables.{Part, Units, Goods, Books, Markets};
@@ -18,8 +18,8 @@ use atl_state::{Campaign, Faction, Region, Structure, Unit};
 use atl_tables::{Numbered, Sequence, Text};
 use sqlite::{Alter, Error, Transaction};
 
-/// All parts of a campaign but its own row, in the order in which they are written: factions, reports, regions, structures,
-/// books, stocks, units, what these have, and mail.
+/// All parts of a campaign but the campaign row, in the order in which they are written:
+/// factions, reports, regions, structures, books, stocks, units, what these have, and mail.
 pub(crate) type OtherParts = (
     Numbered<Faction>,
     (
@@ -43,24 +43,24 @@ pub(crate) struct Ledger;
 /// The stocks of all markets.
 pub(crate) struct Stocks;
 
-/// The units themselves, which stand in slots.
+/// The units themselves, which the campaign holds in slots.
 pub(crate) struct UnitRows;
 
-/// What all units have.
+/// The items and skills of all units.
 pub(crate) struct UnitGoods;
 
-/// Parts of a campaign, each with a table.
+/// One or more parts of a campaign that are written together, each into its table.
 pub(crate) trait WrittenPart {
     ghost parts: { List Part };
 
-    /// Puts all their rows.
+    /// Puts all rows of these parts, into tables without a row.
     fn fill<S: Alter>(tx: &mut Transaction<'_, S>, campaign: &Campaign) -> Result<(), Error>
         requires { campaign.now.value.books.things ≤ most_things }
         ensures { Writes S.Store (OfRow campaign.now.value)
             (Inside HasTables (InTurn (FillsPart campaign.now.value) parts)) result tx.old.conn
             tx.new.conn };
 
-    /// Puts the rows of all that is marked of them, and deletes those of what is gone.
+    /// Puts the marked rows of these parts, and deletes those of what is gone.
     fn rewrite<S: Alter>(tx: &mut Transaction<'_, S>, campaign: &Campaign) -> Result<(), Error>
         requires { campaign.now.value.books.things ≤ most_things }
         ensures { Writes S.Store (OfChange campaign.now.value)
@@ -82,7 +82,7 @@ impl<X: WrittenPart, Y: WrittenPart> WrittenPart for (X, Y) {
     }
 }
 
-/// What stands under numbers of its own.
+/// Things that the campaign holds in a map, by number.
 impl<V: Mapped + Drop> WrittenPart for Numbered<V> {
     ghost parts = { V.NumberedRow.part ∷ [] };
 

@@ -1,17 +1,17 @@
-//! Whether what was read is of the tables of a campaign, on a connection that is still open.
+//! Tests, after the reads, that the schema is that of a format and that the connection is open.
 ghost use Rattle.std.specs.Prelude.{◌≡◌, false, OnOk, IfErr};
 ghost use Rattle.sqlite.specs.Held.{state};
 ghost use Rattle.sqlite.specs.State.{HasCleanDisk};
 ghost use Rattle.atl_store.specs.Gathering.{IsSettled, FailsToConfirm, IsConfirmed};
-ghost use Rattle.atl_store.specs.Loading.{Leaves};
+ghost use Rattle.atl_store.specs.Loading.{AfterReads};
 
 use crate::fault::LoadFault;
 use crate::schema::has_tables_of;
 use atl_tables::Format;
 use sqlite::{Alter, Connection};
 
-/// Tests the schema, and that the connection is open: a disk that failed as a reading was rolled back has shut it, and nothing
-/// shows that before the next statement.
+/// Tests that the schema begins with the tables of the format, and that the connection is open.
+/// A disk that failed while a read was rolled back has shut it; only the next statement shows it.
 pub(crate) fn confirm<S: Alter>(conn: &mut Connection<S>, format: Format) -> Result<(), LoadFault>
     requires idle { conn.old.in_transaction ≡ false }
     requires settled { IsSettled (state S.Store conn.old) }
@@ -19,7 +19,7 @@ pub(crate) fn confirm<S: Alter>(conn: &mut Connection<S>, format: Format) -> Res
         → OnOk result (IsConfirmed format (state S.Store conn.old) (state S.Store conn.new)) }
     ensures fails { HasCleanDisk (state S.Store conn.new)
         → IfErr result (FailsToConfirm S.Store conn.old format) }
-    ensures leaves { Leaves S.Store conn.old conn.new }
+    ensures leaves { AfterReads S.Store conn.old conn.new }
 {
     if !has_tables_of(conn.schema(), format) {
         return Err(LoadFault::Store);

@@ -1,4 +1,4 @@
-//! Reads all rows of several tables, with their row ids.
+//! Reads all rows of several tables, and tests that the rowids of a table differ.
 ghost use Rattle.std.specs.Prelude.{◌≡◌, ◌++◌, ℕ, false, [], ◌∷◌, List, map, refl, Ok, Err, if◌then◌else◌, IfOk, IfErr, ◌↔◌, IsTrue};
 ghost use Rattle.std.proofs.Common.{ap, ◌∙◌};
 ghost use Rattle.std.proofs.lemmas.List.{map-append};
@@ -19,19 +19,19 @@ use atl_tables::{Format, Sequence};
 use sqlite::{Alter, Connection};
 use std::alloc::{AllocError, Global};
 
-/// All rows of a table, or those of some tables and then of others. All tables are read: a value of another type in one of
-/// them is told only where none of them fails to be read.
+/// All rows of one table, or of several, one table after another.
+/// All are read before a value of another type is reported, so another fault comes first.
 pub(crate) trait AllRows: Drop + Sized {
     // The parts that the tables are of.
     ghost parts: { List Part };
 
-    // The SELECTs that are asked, each with what its columns are read as.
+    // The SELECTs that are asked, each with the forms of its columns.
     ghost selects: { List (List ℕ × List Form) };
 
     // What was read, as SQL shows it.
     ghost rows: { Self → ReadRows };
 
-    /// All rows; there are none where a value is of another type.
+    /// Reads all rows of the tables; None if a value is of another type than its column.
     fn read_all<S: Alter>(
         alloc: Global,
         conn: &mut Connection<S>,
@@ -41,15 +41,15 @@ pub(crate) trait AllRows: Drop + Sized {
         ensures { ReadsSome S.Store conn.old selects
             (λ all. AreAllRows (state S.Store conn.old).now (rows all)) result conn.new };
 
-    /// No rows.
+    /// No rows of any of the tables.
     fn none(alloc: Global) -> Self
         ensures { AreNone (rows result) };
 
-    // It is of these parts.
+    // The rows are those of these parts.
     ghost of_parts: { (all : Self) → map (λ read. read.0) (rows all) ≡ parts };
 }
 
-/// The rows of a table. There are none where a value is of another type.
+/// What reading a table gives: its rows, None for a value of another type, or the fault of loading.
 fn kept<T: Drop>(rows: Result<Vec<T>, ReadFault>) -> Result<Option<Vec<T>>, LoadFault>
     ensures { result ≡ kept_of rows }
 {
@@ -105,8 +105,8 @@ impl<X: AllRows, Y: AllRows> AllRows for (X, Y) {
     }
 }
 
-/// All rows of some tables, and those of others by the second format alone: by the first there are none. There are none of
-/// all where a value is of another type.
+/// Reads all rows of the tables `X`, and in the second format of `Y`, which the first doesn't have.
+/// The result is None if a value is of another type than its column.
 pub(crate) fn read_by<X: AllRows, Y: AllRows, S: Alter>(
     alloc: Global,
     conn: &mut Connection<S>,
@@ -129,7 +129,7 @@ pub(crate) fn read_by<X: AllRows, Y: AllRows, S: Alter>(
     }
 }
 
-/// The places at which rows are kept.
+/// The rowids of these rows, in their order.
 fn rowids_of<T>(alloc: Global, placed: &[RowWithId<T>]) -> Result<Vec<i64>, AllocError>
     ensures { IfOk result (λ rowids. rowids.items ≡ map (λ s. s.rowid) placed.now) }
 {
@@ -140,7 +140,7 @@ fn rowids_of<T>(alloc: Global, placed: &[RowWithId<T>]) -> Result<Vec<i64>, Allo
     Ok(rowids)
 }
 
-/// Whether no two rows are kept at one place.
+/// Whether no two of these rows have the same rowid.
 fn are_apart<T>(alloc: Global, placed: &[RowWithId<T>]) -> Result<bool, AllocError>
     ensures { IfOk result (λ yes. IsTrue yes ↔ (AreApart placed.now)) }
 {
@@ -148,7 +148,7 @@ fn are_apart<T>(alloc: Global, placed: &[RowWithId<T>]) -> Result<bool, AllocErr
     are_distinct(alloc, &rowids)
 }
 
-/// The rows without their places.
+/// These rows without their rowids.
 fn without_ids<T: Drop>(alloc: Global, placed: Vec<RowWithId<T>>) -> Result<Sequence<T>, AllocError>
     ensures { IfOk result (λ rows. rows ≡ map (λ s. s.row) placed.items) }
 {
@@ -159,7 +159,7 @@ fn without_ids<T: Drop>(alloc: Global, placed: Vec<RowWithId<T>>) -> Result<Sequ
     Ok(Sequence::from_vec(rows))
 }
 
-/// Store, where two rows are kept at one place.
+/// Store, if two rows have the same rowid.
 fn check_apart(are_apart: bool) -> Result<(), LoadFault>
     ensures { result ≡ (if are_apart then Ok tt else Err Store) }
 {
@@ -170,7 +170,7 @@ fn check_apart(are_apart: bool) -> Result<(), LoadFault>
     }
 }
 
-/// The rows without their places, which have to differ.
+/// These rows without their rowids; Store if two of them have the same.
 pub(crate) fn rows_apart<T: Drop>(
     alloc: Global,
     placed: Vec<RowWithId<T>>,

@@ -1,4 +1,4 @@
-//! Reads all tables except `campaign`.
+//! Reads all tables but `campaign`, and puts the rows of all tables together.
 ghost use Rattle.std.specs.Prelude.{◌≡◌, false, IfOk, IfErr};
 ghost use Rattle.sqlite.specs.Held.{state};
 ghost use Rattle.atl_store.specs.Gathering.{IsSettled, AreOfFormat, ReadsSome, Lacks, AreAllApart, IsMadeOf};
@@ -15,7 +15,7 @@ use atl_tables::{Format, Sequence};
 use sqlite::{Alter, Connection};
 use std::alloc::Global;
 
-/// Factions, regions, units and what they have.
+/// The rows of factions, regions, units and what these have.
 type People = (
     Vec<StoredFaction>,
     (
@@ -24,7 +24,7 @@ type People = (
     ),
 );
 
-/// Structures, mail, reports and the books.
+/// The rows of structures, mail, reports and the books.
 type Works = (
     Vec<StoredStructure>,
     (
@@ -33,17 +33,16 @@ type Works = (
     ),
 );
 
-/// Those that both formats have.
+/// The rows of the tables that both formats have.
 type FirstFormatRows = (People, Works);
 
-/// Those that only the second has.
+/// The rows of the table that only the second format has: `market`.
 type SecondFormatRows = Vec<RowWithId<StoredMarket>>;
 
-/// All of them, in the order in which their tables are made.
+/// The rows of all tables but `campaign`, in the order in which the tables are made.
 pub(crate) type OtherRows = (FirstFormatRows, SecondFormatRows);
 
-/// The rows of all of them, those of the last ones only by the second format. There are none where a value of one of them is of
-/// another type.
+/// Reads all tables of the format but `campaign`; None if a value is not of its column's type.
 pub(crate) fn read_others<S: Alter>(
     alloc: Global,
     conn: &mut Connection<S>,
@@ -58,7 +57,7 @@ pub(crate) fn read_others<S: Alter>(
     read_by(alloc, conn, format)
 }
 
-/// The rows of all tables, of which the campaign's own has one.
+/// The rows of all tables, put together. Store if two rows of a table have the same rowid.
 pub(crate) fn parts_with(
     alloc: Global,
     head: StoredCampaignRow,

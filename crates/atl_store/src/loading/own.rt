@@ -1,4 +1,4 @@
-//! Reads the campaign row and its world.
+//! Reads the campaign row and its world, and judges them by the first rule of the tables.
 ghost use Rattle.std.specs.Prelude.{◌≡◌, false, pos, IfOk, IfErr, ◌↔◌, IsTrue};
 ghost use Rattle.sqlite.specs.Held.{state};
 ghost use Rattle.sqlite.specs.Order.{column};
@@ -7,7 +7,7 @@ ghost use Rattle.atl_tables.specs.Faults.{Reads};
 ghost use Rattle.atl_tables.specs.Formats.{format_number};
 ghost use Rattle.atl_tables.specs.World.{world_by};
 ghost use Rattle.atl_store.specs.Gathering.{IsSettled, own_fault, only_of, ReadsWorld, JudgesOwn, JudgesRows, JudgesFormat, OwnRead};
-ghost use Rattle.atl_store.specs.Loading.{Leaves, RefusesToLoadIn, IsOther, other_format};
+ghost use Rattle.atl_store.specs.Loading.{AfterReads, RefusesToLoadIn, IsOther, other_format};
 ghost use Rattle.atl_store.specs.Shown.{int};
 
 use crate::fault::{LoadFault, ReadFault};
@@ -20,7 +20,7 @@ use sqlite::types::ValueRef;
 use sqlite::{Alter, Connection, Row};
 use std::alloc::Global;
 
-/// The fault of a campaign's own row that isn't read.
+/// The fault of loading if the campaign row can't be read.
 fn own_fault(fault: ReadFault) -> LoadFault
     ensures { result ≡ own_fault fault }
 {
@@ -32,7 +32,7 @@ fn own_fault(fault: ReadFault) -> LoadFault
     }
 }
 
-/// The only row, where there is one.
+/// The only row of a list of one, else None.
 fn only(mut rows: Vec<StoredCampaign>) -> Option<StoredCampaign>
     ensures { result ≡ only_of rows.items }
 {
@@ -40,6 +40,7 @@ fn only(mut rows: Vec<StoredCampaign>) -> Option<StoredCampaign>
     if rows.is_empty() { last } else { None }
 }
 
+/// Whether the row has the id 1 and this format.
 fn is_own(head: &StoredCampaignRow, format: Format) -> bool
     ensures { IsTrue result ↔
         ((head.now.id ≡ pos 1) × (head.now.format ≡ pos (format_number format))) }
@@ -57,7 +58,7 @@ fn world_by(alloc: Global, text: &str, format: Format) -> Result<World, WorldFau
     }
 }
 
-/// The world of a text that a campaign keeps.
+/// The world of a campaign row's text; Damaged if it reads as none.
 fn world_from(alloc: Global, text: &str, format: Format) -> Result<World, LoadFault>
     ensures { ReadsWorld format text.now result }
 {
@@ -68,7 +69,7 @@ fn world_from(alloc: Global, text: &str, format: Format) -> Result<World, LoadFa
     }
 }
 
-/// The only row with its world, where it is as it should be.
+/// The only row with its world; Damaged if there isn't one row that keeps the first rule.
 fn check_own_rows(
     alloc: Global,
     rows: Vec<StoredCampaign>,
@@ -86,7 +87,7 @@ fn check_own_rows(
     Ok((own, world))
 }
 
-/// The campaign's own row and its world, of the rows that are shown.
+/// The campaign row and its world, from the rows that SQL shows of `campaign`.
 fn own_of(alloc: Global, rows: &[Row], format: Format) -> Result<(StoredCampaign, World), LoadFault>
     ensures { JudgesRows format rows.now result }
 {
@@ -96,6 +97,7 @@ fn own_of(alloc: Global, rows: &[Row], format: Format) -> Result<(StoredCampaign
     }
 }
 
+/// The other one of the two formats.
 fn other(format: Format) -> Format
     ensures { result ≡ other_format format }
 {
@@ -105,6 +107,7 @@ fn other(format: Format) -> Format
     }
 }
 
+/// Whether the second column of a row of `campaign`, its format, is the number of this one.
 fn says(row: &Row, format: Format) -> bool
     ensures { IsTrue result ↔ (column row.now 1 ≡ int (format_number format)) }
 {
@@ -114,14 +117,14 @@ fn says(row: &Row, format: Format) -> bool
     }
 }
 
-/// Whether the rows that are shown are one of the other format, whatever else it says.
+/// Whether the rows that SQL shows are one, of the other format, whatever else it says.
 fn is_other(rows: &[Row], format: Format) -> bool
     ensures { IsTrue result ↔ (IsOther format rows.now) }
 {
     rows.len() == 1 && says(&rows[0], other(format))
 }
 
-/// The campaign's own row and its world, where the rows that are shown are not one of the other format.
+/// The same, but OtherFormat if the rows are one of the other format.
 fn own_in(alloc: Global, rows: &[Row], format: Format) -> Result<(StoredCampaign, World), LoadFault>
     ensures { JudgesFormat format rows.now result }
 {
@@ -131,7 +134,7 @@ fn own_in(alloc: Global, rows: &[Row], format: Format) -> Result<(StoredCampaign
     own_of(alloc, rows, format)
 }
 
-/// The campaign's own row, and its world. The rows are judged as they are shown, before their values are typed.
+/// Reads the campaign row and its world; its format is judged before its values are typed.
 pub(crate) fn read_own<S: Alter>(
     alloc: Global,
     conn: &mut Connection<S>,
@@ -143,7 +146,7 @@ pub(crate) fn read_own<S: Alter>(
         → IfOk result (λ both. OwnRead S.Store conn.old format both.0 both.1) }
     ensures err { HasCleanDisk (state S.Store conn.new)
         → IfErr result (RefusesToLoadIn format S.Store conn.old) }
-    ensures leaves { Leaves S.Store conn.old conn.new }
+    ensures leaves { AfterReads S.Store conn.old conn.new }
 {
     match select_campaign(conn) {
         Ok(rows) => own_in(alloc, rows.as_slice(), format),

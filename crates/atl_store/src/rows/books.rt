@@ -1,4 +1,4 @@
-//! The table of the books: signed amounts by entry and thing.
+//! The table `books`: signed amounts by entry and thing. See docs/FORMATS.md, "Books".
 ghost use Rattle.std.specs.Prelude.{refl};
 ghost use Rattle.atl_store.specs.Tables.{Books, books_table};
 ghost use Rattle.atl_store.specs.Shown.{books_key, books_stored, books_forms};
@@ -13,7 +13,7 @@ use atl_tables::Format;
 use sqlite::{Alter, Error, Row, Transaction, params};
 use std::alloc::Global;
 
-/// What is booked of a thing under an entry, which is not 0.
+/// A row of `books`: what is booked of a thing under an entry, which is not 0.
 #[derive(Clone, Copy, Debug)]
 pub struct BooksRow {
     /// The number of the entry, from 1 to 16.

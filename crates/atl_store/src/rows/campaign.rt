@@ -14,7 +14,7 @@ ghost use Rattle.atl_store.specs.Reading.{Asks};
 ghost use Rattle.atl_store.specs.UpgradeSteps.{UpgradesCampaignRow};
 
 use crate::fault::ReadFault;
-use crate::rows::columns::{letters, three_integers, words};
+use crate::rows::columns::{text_bytes, three_integers, utf8_text};
 use crate::rows::stored::{HasSelect, Stored, select};
 use crate::statement::run;
 use atl_state::parts::StoredCampaignRow;
@@ -22,7 +22,7 @@ use atl_tables::Format;
 use sqlite::{Alter, Connection, Error, Row, Transaction, params};
 use std::alloc::Global;
 
-/// What the campaign's own row says beside its format, which is 2, and the world text.
+/// What the campaign row says besides its id (1), its format (2) and its world text.
 #[derive(Clone, Copy, Debug)]
 pub struct CampaignRow<'a> {
     /// The month last closed, 0 before the first.
@@ -37,7 +37,7 @@ pub struct CampaignRow<'a> {
     pub pass: &'a str,
 }
 
-/// Inserts the row with this world text. Where the row is there it is changed, and keeps its own world text and format.
+/// Inserts the campaign row with this world text; a row that is there keeps its format and text.
 pub(crate) fn put_campaign<S: Alter>(
     tx: &mut Transaction<'_, S>,
     row: &CampaignRow<'_>,
@@ -62,7 +62,7 @@ pub(crate) fn put_campaign<S: Alter>(
     )
 }
 
-/// Changes the format and the world text of the row that is there.
+/// Sets the format, to 2, and the world text of a campaign row that is there.
 pub(crate) fn put_upgraded<S: Alter>(
     tx: &mut Transaction<'_, S>,
     row: &CampaignRow<'_>,
@@ -87,7 +87,7 @@ pub(crate) fn put_upgraded<S: Alter>(
     )
 }
 
-/// The campaign's own row with its world text as it stands in its table, whoever wrote it.
+/// A row of `campaign` as it is in the table, whoever wrote it, with its world text.
 #[derive(Debug)]
 pub struct StoredCampaign {
     /// All of the row but the world text.
@@ -112,7 +112,7 @@ impl StoredCampaign {
     }
 }
 
-/// The row but for its world text.
+/// Reads the columns of a row of `campaign` but its world text.
 fn head(alloc: Global, row: &Row) -> Result<StoredCampaignRow, Error>
     ensures ok { IfOk result (λ head. campaign_row_stored head ≡ first_columns 7 row.now) }
     ensures typed { IfOk result (λ _. IsTyped campaign_row_forms row.now) }
@@ -128,7 +128,7 @@ fn head(alloc: Global, row: &Row) -> Result<StoredCampaignRow, Error>
         next_faction,
         next_unit,
         next_structure,
-        pass: letters(alloc, row, 6)?,
+        pass: text_bytes(alloc, row, 6)?,
     })
 }
 
@@ -139,16 +139,18 @@ impl Stored for StoredCampaign {
 
     fn from_row(alloc: Global, row: &Row) -> Result<StoredCampaign, Error> {
         let head = head(alloc, row)?;
-        let world = words(row, 7)?;
+        let world = utf8_text(row, 7)?;
         Ok(StoredCampaign { head, world })
     }
 }
 
+/// The SELECT of all rows of `campaign`.
 const ALL: &str =
     "SELECT id, format, month, next_faction, next_unit, next_structure, pass, world FROM campaign ORDER BY id";
 
-/// The campaign's own rows as they are shown, whatever their values are. Each fault is told as `ReadFault` says, OtherType
-/// never; whatever is answered, nothing is changed.
+/// The rows of `campaign` as SQL shows them, whatever their values are.
+/// Each fault is reported as `ReadFault` says, OtherType never; whatever is answered, nothing is
+/// changed.
 pub(crate) fn select_campaign<S: Alter>(conn: &mut Connection<S>) -> Result<Vec<Row>, ReadFault>
     requires { conn.old.in_transaction ≡ false }
     ensures { Asks S.Store (selection campaign_table 1) conn.old result conn.new }

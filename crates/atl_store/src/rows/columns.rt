@@ -3,14 +3,14 @@ ghost use Rattle.std.specs.Prelude.{◌≡◌, ◌+◌, ◌≤◌, IsTrue, not, 
 ghost use Rattle.sqlite.specs.declared.types.Value.TheVariants.{Int, Text, Blob};
 ghost use Rattle.sqlite.specs.Order.{column};
 ghost use Rattle.atl_store.specs.Faults.{is_memory};
-ghost use Rattle.atl_store.specs.Stored.{IsOf, Number, Words, Letters, Bytes};
+ghost use Rattle.atl_store.specs.Stored.{IsOf, Number, Utf8Text, TextBytes, Bytes};
 
 use atl_tables::Sequence;
 use sqlite::types::{Type, ValueRef};
 use sqlite::{Error, ErrorCode, Row};
 use std::alloc::Global;
 
-/// A whole number.
+/// The whole number in a column.
 pub(crate) fn integer(row: &Row, at: usize) -> Result<i64, Error>
     ensures ok { IfOk result (λ n. column row.now at ≡ Int n) }
     ensures other { IfErr result
@@ -20,21 +20,21 @@ pub(crate) fn integer(row: &Row, at: usize) -> Result<i64, Error>
     Ok(number)
 }
 
-/// A text of UTF-8.
-pub(crate) fn words(row: &Row, at: usize) -> Result<String, Error>
+/// The text in a column, which has to be UTF-8.
+pub(crate) fn utf8_text(row: &Row, at: usize) -> Result<String, Error>
     ensures ok { IfOk result (λ s. column row.now at ≡ Text (string_bytes s)) }
     ensures other { IfErr result
-        (λ e. IsTrue (not (is_memory e)) → ¬ IsOf Words (column row.now at)) }
+        (λ e. IsTrue (not (is_memory e)) → ¬ IsOf Utf8Text (column row.now at)) }
 {
     let text = row.get(at)?;
     Ok(text)
 }
 
-/// The bytes of a text, whatever they are.
-pub(crate) fn letters(alloc: Global, row: &Row, at: usize) -> Result<Sequence<u8>, Error>
+/// The bytes of the text in a column, whatever they are.
+pub(crate) fn text_bytes(alloc: Global, row: &Row, at: usize) -> Result<Sequence<u8>, Error>
     ensures ok { IfOk result (λ b. column row.now at ≡ Text b) }
     ensures other { IfErr result
-        (λ e. IsTrue (not (is_memory e)) → ¬ IsOf Letters (column row.now at)) }
+        (λ e. IsTrue (not (is_memory e)) → ¬ IsOf TextBytes (column row.now at)) }
 {
     match row.get_ref(at)? {
         ValueRef::Text(text) => match Sequence::from_slice(alloc, text) {
@@ -45,7 +45,7 @@ pub(crate) fn letters(alloc: Global, row: &Row, at: usize) -> Result<Sequence<u8
     }
 }
 
-/// Bytes.
+/// The bytes of the blob in a column.
 pub(crate) fn bytes(row: &Row, at: usize) -> Result<Sequence<u8>, Error>
     ensures ok { IfOk result (λ b. column row.now at ≡ Blob b) }
     ensures other { IfErr result
@@ -55,7 +55,7 @@ pub(crate) fn bytes(row: &Row, at: usize) -> Result<Sequence<u8>, Error>
     Ok(Sequence::from_vec(bytes))
 }
 
-/// Two whole numbers, from this column on.
+/// The whole numbers in two columns, of which this is the first.
 pub(crate) fn two_integers(row: &Row, first: usize) -> Result<(i64, i64), Error>
     requires { first ≤ 8 }
     ensures ok { IfOk result
@@ -69,7 +69,7 @@ pub(crate) fn two_integers(row: &Row, first: usize) -> Result<(i64, i64), Error>
     Ok((one, two))
 }
 
-/// Three whole numbers, from this column on.
+/// The whole numbers in three columns, of which this is the first.
 pub(crate) fn three_integers(row: &Row, first: usize) -> Result<(i64, i64, i64), Error>
     requires { first ≤ 8 }
     ensures ok { IfOk result

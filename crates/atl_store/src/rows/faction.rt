@@ -1,11 +1,11 @@
-//! The table of factions.
+//! The table `faction`: a row for each faction, gone or not.
 ghost use Rattle.std.specs.Prelude.{refl};
 ghost use Rattle.atl_store.specs.Tables.{Factions};
 ghost use Rattle.atl_store.specs.Rows.{faction_line};
 ghost use Rattle.atl_store.specs.Shown.{faction_stored, faction_forms};
 
 use crate::numbered_rows::{Mapped, NumberedRow};
-use crate::rows::columns::{integer, letters};
+use crate::rows::columns::{integer, text_bytes};
 use crate::rows::stored::{HasSelect, Stored};
 use crate::statement::run;
 use atl_state::parts::StoredFaction;
@@ -72,9 +72,9 @@ impl Stored for StoredFaction {
     fn from_row(alloc: Global, row: &Row) -> Result<StoredFaction, Error> {
         let number = integer(row, 0)?;
         let gone = integer(row, 4)?;
-        let joined_as = letters(alloc, row, 1)?;
-        let name = letters(alloc, row, 2)?;
-        let pass = letters(alloc, row, 3)?;
+        let joined_as = text_bytes(alloc, row, 1)?;
+        let name = text_bytes(alloc, row, 2)?;
+        let pass = text_bytes(alloc, row, 3)?;
         Ok(StoredFaction {
             number,
             joined_as,

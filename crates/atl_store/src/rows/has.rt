@@ -1,4 +1,4 @@
-//! The table of what units have: an amount of an item, or days of a skill.
+//! The table `has`: what units have, an amount of an item or days of a skill in each row.
 ghost use Rattle.std.specs.Prelude.{◌≡◌, [], ◌∷◌, refl};
 ghost use Rattle.atl_store.specs.Tables.{Goods, has_table};
 ghost use Rattle.atl_store.specs.Shown.{int, has_key, has_stored, has_forms};
@@ -13,7 +13,7 @@ use atl_tables::Format;
 use sqlite::{Alter, Error, Row, Transaction, params};
 use std::alloc::Global;
 
-/// What a row of the table is of: an amount of an item, or days of a skill.
+/// The kind of a row of `has`: an amount of an item, or days of a skill.
 #[derive(Clone, Copy, Debug, PartialEq, Eq)]
 pub enum ThingKind {
     Item,
@@ -21,7 +21,7 @@ pub enum ThingKind {
 }
 
 impl ThingKind {
-    /// The number that stands for it in the table.
+    /// The kind's number in the column `sort`: 0 for an item, 1 for a skill.
     pub(crate) fn number(self) -> u32
         ensures { result ≡ sort_number self }
     {
@@ -32,7 +32,7 @@ impl ThingKind {
     }
 }
 
-/// What a unit has of an item or a skill, which is more than 0.
+/// A row of `has`: how much a unit has of an item or a skill, which is more than 0.
 #[derive(Clone, Copy, Debug)]
 pub struct HasRow {
     /// The number of the unit.
@@ -45,7 +45,7 @@ pub struct HasRow {
     pub amount: u32,
 }
 
-/// Inserts the row, or changes the one that has its unit, sort and thing.
+/// Inserts the row, or changes the one that has its unit, kind and thing.
 pub(crate) fn put_has<S: Alter>(tx: &mut Transaction<'_, S>, row: &HasRow) -> Result<(), Error>
     ensures { WritesRow S.Store has_table 3 (has_shown row.now) result tx.old.conn tx.new.conn }
 {
@@ -57,7 +57,7 @@ pub(crate) fn put_has<S: Alter>(tx: &mut Transaction<'_, S>, row: &HasRow) -> Re
     )
 }
 
-/// Deletes the row of this unit, sort and thing, where there is one.
+/// Deletes the row of this unit, kind and thing, if there is one.
 pub(crate) fn drop_has<S: Alter>(
     tx: &mut Transaction<'_, S>,
     unit: u32,

@@ -1,4 +1,4 @@
-//! The table of mail.
+//! The table `mail`: the mailing of each faction that sent one.
 ghost use Rattle.std.specs.Prelude.{refl};
 ghost use Rattle.atl_store.specs.Tables.{Mail, mail_table};
 ghost use Rattle.atl_store.specs.Shown.{mail_row, mail_stored, mail_forms};
@@ -14,7 +14,7 @@ use atl_tables::{Entries, Format, MarkedNumbers, Sequence};
 use sqlite::{Alter, Error, Row, Transaction, params};
 use std::alloc::Global;
 
-/// Inserts the mail of a faction, or puts it in the place of the one that it has.
+/// Inserts the mail of a faction, or replaces the one that it has.
 pub(crate) fn put_mail<S: Alter>(
     tx: &mut Transaction<'_, S>,
     faction: u32,
@@ -30,7 +30,7 @@ pub(crate) fn put_mail<S: Alter>(
     )
 }
 
-/// The mail of a faction.
+/// The mailing of a faction, byte for byte.
 impl NumberedRow for Sequence<u8> {
     ghost part = { Mail };
 

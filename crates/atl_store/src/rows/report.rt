@@ -1,10 +1,10 @@
-//! The table of reports.
+//! The table `report`: the last report of each faction.
 ghost use Rattle.std.specs.Prelude.{refl};
 ghost use Rattle.atl_store.specs.Tables.{Reports};
 ghost use Rattle.atl_store.specs.Shown.{report_row, report_stored, report_forms};
 
 use crate::numbered_rows::{Mapped, NumberedRow};
-use crate::rows::columns::{integer, words};
+use crate::rows::columns::{integer, utf8_text};
 use crate::rows::stored::{HasSelect, Stored};
 use crate::statement::run;
 use atl_state::Campaign;
@@ -13,7 +13,7 @@ use atl_tables::{Entries, Format, MarkedNumbers, Text};
 use sqlite::{Alter, Error, Row, Transaction, params};
 use std::alloc::Global;
 
-/// The report of a faction.
+/// The text of a faction's report.
 impl NumberedRow for Text {
     ghost part = { Reports };
 
@@ -65,7 +65,7 @@ impl Stored for StoredReport {
 
     fn from_row(_alloc: Global, row: &Row) -> Result<StoredReport, Error> {
         let faction = integer(row, 0)?;
-        let text = words(row, 1)?;
+        let text = utf8_text(row, 1)?;
         Ok(StoredReport {
             faction,
             text: Text::from_string(text),

@@ -1,4 +1,4 @@
-//! Reads rows with a SELECT, and parses them.
+//! Reads all rows of a table with a SELECT, and parses each.
 ghost use Rattle.std.specs.Prelude.{◌≡◌, ◌≢◌, List, map, length, false, true, not, IsTrue, IfOk, IfErr};
 ghost use Rattle.sqlite.specs.Given.{IsPlain};
 ghost use Rattle.sqlite.specs.Listing.{understood};
@@ -15,33 +15,34 @@ use atl_tables::Format;
 use sqlite::{Alter, Connection, Error, Row};
 use std::alloc::Global;
 
-/// A row of a table as it stands there, whoever wrote it.
+/// A row of a table as it is stored, whoever wrote it, such as `StoredUnit`.
 pub trait Stored: Drop + Sized {
-    // What the columns of the answer are read as, and the row as SQL shows it.
+    // The forms of the columns, and the row as SQL shows it.
     ghost forms: { List Form };
 
     ghost shown: { Self → SqlRow };
 
-    /// The row whose columns are these. Memory where it finds none, else an error where a value is of another type.
+    /// Parses a row that SQL shows. The error is lack of memory, or a value is of another type.
     fn from_row(alloc: Global, row: &Row) -> Result<Self, Error>
         ensures ok { IfOk result (λ stored. shown stored ≡ first_columns (length forms) row.now) }
         ensures typed { IfOk result (λ _. IsTyped forms row.now) }
         ensures other { IfErr result (λ e. IsTrue (not (is_memory e)) → ¬ IsTyped forms row.now) };
 }
 
-/// A row of a table of which all rows are read at once.
+/// A row of a table that has a SELECT of all its rows.
 pub trait HasSelect: Stored {
     // The part of a campaign that the table is of.
     ghost part: { Part };
 
-    /// The format since which there is the table, and the SELECT of all its columns.
+    /// The first format that has the table, and the SELECT of all its columns.
     fn select_of() -> (Format, &'static str)
         ensures since { result.0 ≡ (listing_of part).since }
         ensures select { result.1.now ≡ (listing_of part).select };
 
-    /// All rows of the table, in the order of its key; those of what units have and of the books with the places that they
-    /// are kept at, and units without their goods. Each fault is told as `ReadFault` says, OtherType also of a report or a
-    /// world text that isn't UTF-8; whatever is answered, nothing is changed.
+    /// Reads all rows of the table, in the order of its key.
+    /// Rows of `has`, `books` and `market` come with their rowids. Each fault is reported as
+    /// `ReadFault` says, OtherType also for a report or a world text that isn't UTF-8; whatever is
+    /// answered, nothing is changed.
     final fn read<S: Alter>(alloc: Global, conn: &mut Connection<S>) -> Result<Vec<Self>, ReadFault>
         requires { conn.old.in_transaction ≡ false }
         ensures select { ReadsRows S.Store (listing_of part).select conn.old Self.forms Self.shown
@@ -53,19 +54,19 @@ pub trait HasSelect: Stored {
         read_all(alloc, conn, since, select)
     }
 
-    // Each column that is shown has its form.
+    // There are as many forms as columns that are shown.
     ghost columns: { length Self.forms ≡ length (listing_of part).names };
 }
 
-/// A row of a table that has no number for its rows, with the place that the database keeps it at.
+/// A row of a table without an INTEGER PRIMARY KEY, with the rowid that the database gave it.
 #[derive(Debug, Drop)]
 pub struct RowWithId<T> {
     pub row: T,
-    /// Where it is kept, which differs from row to row of a table.
+    /// The row's rowid, which no other row of the table should have.
     pub rowid: i64,
 }
 
-/// Each row of an answer.
+/// Parses all rows that a SELECT showed.
 pub(crate) fn parse_rows<T: Stored>(alloc: Global, rows: &[Row]) -> Result<Vec<T>, ReadFault>
     ensures ok { IfOk result
         (λ all. map T.shown all.items ≡ map (first_columns (length T.forms)) rows.now) }
@@ -83,8 +84,8 @@ pub(crate) fn parse_rows<T: Stored>(alloc: Global, rows: &[Row]) -> Result<Vec<T
     Ok(all)
 }
 
-/// The rows that a SELECT shows. It runs in a transaction of its own, which is rolled back, so that it changes nothing
-/// whatever it means.
+/// The rows that a SELECT shows. It runs in a transaction of its own, which is rolled back, so that
+/// it changes nothing, whatever the schema is.
 pub(crate) fn select<S: Alter>(conn: &mut Connection<S>, sql: &str) -> Result<Vec<Row>, ReadFault>
     requires { conn.old.in_transaction ≡ false }
     ensures { Asks S.Store sql.now conn.old result conn.new }
@@ -95,7 +96,7 @@ pub(crate) fn select<S: Alter>(conn: &mut Connection<S>, sql: &str) -> Result<Ve
     Ok(rows)
 }
 
-/// Reads a row and puts it behind others. Tells whether that could be done: a value may be of another type, or memory be wanting.
+/// Parses a row and puts it after the others; false if it can't be parsed or kept.
 fn push_row<T: Stored>(alloc: Global, all: &mut Vec<T>, row: &Row) -> bool
     ensures { result ≡ true → AddsRow T.forms T.shown all.old.items row.now all.new.items }
 {
@@ -105,8 +106,8 @@ fn push_row<T: Stored>(alloc: Global, all: &mut Vec<T>, row: &Row) -> bool
     }
 }
 
-/// All rows that a query shows, each read as it comes. There is none where one of them couldn't be read or kept. Nothing is
-/// changed.
+/// All rows that a query shows, each parsed as it comes; None if one couldn't be parsed or kept.
+/// Nothing is changed.
 fn stream<T: Stored, S: Alter>(
     alloc: Global,
     conn: &mut Connection<S>,
@@ -129,7 +130,7 @@ fn stream<T: Stored, S: Alter>(
     Ok(None)
 }
 
-/// All rows that a SELECT shows, whatever it means, each read.
+/// All rows that a SELECT shows, parsed after all of them have come, whatever the schema is.
 fn read_inside<T: Stored, S: Alter>(
     alloc: Global,
     conn: &mut Connection<S>,
@@ -142,8 +143,10 @@ fn read_inside<T: Stored, S: Alter>(
     parse_rows(alloc, rows.as_slice())
 }
 
-/// All rows that a SELECT shows, each read. Where the tables are those of a format under which it is a mere query, they are
-/// read as they come, and else after all have come, so that the fault is told that comes first.
+/// All rows that a SELECT shows, parsed.
+/// If the tables are those of the format `since`, each is parsed as it comes. Otherwise, or if one
+/// couldn't be parsed or kept, all are parsed after they have come, so that the first fault is
+/// reported.
 pub(crate) fn read_all<T: Stored, S: Alter>(
     alloc: Global,
     conn: &mut Connection<S>,

@@ -1,11 +1,11 @@
-//! The table of structures.
+//! The table `structure`: a row for each structure.
 ghost use Rattle.std.specs.Prelude.{refl};
 ghost use Rattle.atl_store.specs.Tables.{Structures};
 ghost use Rattle.atl_store.specs.Rows.{structure_line};
 ghost use Rattle.atl_store.specs.Shown.{structure_stored, structure_forms};
 
 use crate::numbered_rows::{Mapped, NumberedRow};
-use crate::rows::columns::{letters, three_integers, two_integers};
+use crate::rows::columns::{text_bytes, three_integers, two_integers};
 use crate::rows::stored::{HasSelect, Stored};
 use crate::statement::run;
 use atl_state::parts::StoredStructure;
@@ -76,7 +76,7 @@ impl Stored for StoredStructure {
         Ok(StoredStructure {
             number,
             kind,
-            name: letters(alloc, row, 2)?,
+            name: text_bytes(alloc, row, 2)?,
             region,
             done,
             owner,

@@ -1,4 +1,4 @@
-//! The table of units.
+//! The table `unit`: a row for each unit.
 ghost use Rattle.std.specs.Prelude.{refl};
 ghost use Rattle.atl_store.specs.Tables.{Units, unit_table};
 ghost use Rattle.atl_store.specs.Rows.{lines_of, unit_line};
@@ -6,7 +6,7 @@ ghost use Rattle.atl_store.specs.Shown.{unit_stored, unit_forms};
 ghost use Rattle.atl_store.specs.Writes.{WritesRows};
 
 use crate::numbered_rows::NumberedRow;
-use crate::rows::columns::{letters, three_integers, two_integers};
+use crate::rows::columns::{text_bytes, three_integers, two_integers};
 use crate::rows::stored::{HasSelect, Stored};
 use crate::statement::run;
 use atl_state::parts::StoredUnit;
@@ -88,7 +88,7 @@ impl Stored for StoredUnit {
         Ok(StoredUnit {
             number,
             faction,
-            name: letters(alloc, row, 2)?,
+            name: text_bytes(alloc, row, 2)?,
             region,
             structure,
             men,

@@ -1,4 +1,4 @@
-//! Checks the CHECK clause of the table `campaign`.
+//! Compares the CHECK clause of a table with that of `campaign`, which is `id = 1`.
 ghost use Rattle.std.specs.Prelude.{◌≡◌, ◌≢◌, [], ◌∷◌, ℕ, Some, IfSome, IfNone, pos, ◌↔◌, IsTrue};
 ghost use Rattle.std.specs.Option.{option_copied};
 ghost use Rattle.sqlite.specs.declared.types.Value.TheVariants.{Int};
@@ -15,7 +15,7 @@ use sqlite_sql::ops::{BinaryOp, CompareOp};
 use sqlite_value::keys::Collation;
 use sqlite_value::value::Value;
 
-/// The places of the two sides, where the node says that they are equal.
+/// The indexes, among the nodes, of the two sides of an equation; None if the node is none.
 fn sides(node: Option<&Op>) -> Option<(usize, usize)>
     ensures equal { IfSome result
         (λ two. option_copied node.entry ≡ Some (variant.Binary (Compare Eq Binary) two.0 two.1)) }
@@ -30,20 +30,21 @@ fn sides(node: Option<&Op>) -> Option<(usize, usize)>
     }
 }
 
-/// The number of the row that is checked.
+/// Whether the node is the number of the row that is checked.
 fn is_number(node: Option<&Op>) -> bool
     ensures { IsTrue result ↔ (option_copied node.entry ≡ Some (variant.Column 1 0)) }
 {
     matches!(node, Some(Op::Column(1, 0)))
 }
 
+/// Whether the node is the number 1.
 fn is_one(node: Option<&Op>) -> bool
     ensures { IsTrue result ↔ (option_copied node.entry ≡ Some (variant.Literal (Int (pos 1)))) }
 {
     matches!(node, Some(Op::Literal(Value::Int(1))))
 }
 
-/// The expression at a place among the nodes says that the row has the number 1.
+/// Whether the expression with this root, among the nodes, says that the row has the number 1.
 fn has_number_one(nodes: &[Op], root: usize) -> bool
     ensures { IsTrue result ↔
         (term_in nodes.now root ≡ op2 (Compare Eq Binary) (col 1 0) (lit (Int (pos 1)))) }
@@ -54,7 +55,7 @@ fn has_number_one(nodes: &[Op], root: usize) -> bool
     }
 }
 
-/// The check that the campaign's own row has the number 1, and no other.
+/// Whether the checks are one: that the row has the number 1.
 pub(crate) fn is_own_row(checks: &Terms) -> bool
     ensures { IsTrue result ↔
         (checks.now ≡ op2 (Compare Eq Binary) (col 1 0) (lit (Int (pos 1))) ∷ []) }

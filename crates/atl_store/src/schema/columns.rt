@@ -1,4 +1,4 @@
-//! The columns of a table.
+//! Compares the columns of a table with names and kinds.
 ghost use Rattle.std.specs.Prelude.{◌≡◌, map, ◌↔◌, IsTrue};
 ghost use Rattle.atl_store.specs.Sets.{field};
 
@@ -6,7 +6,7 @@ use sqlite_schema::schema::{Column, Kind};
 use sqlite_value::keys::Collation;
 use sqlite_value::value::Value;
 
-/// A column of a STRICT table, NOT NULL, with this name.
+/// Whether the column is STRICT and NOT NULL, without a default, with this name and kind.
 fn is_field(column: &Column, name: &[u8], kind: Kind) -> bool
     ensures { IsTrue result ↔ (column.now ≡ field name.now kind) }
 {
@@ -18,7 +18,7 @@ fn is_field(column: &Column, name: &[u8], kind: Kind) -> bool
         && column.collation == Collation::Binary
 }
 
-/// Such columns, in this order.
+/// Whether the columns are such ones, with these names and kinds, in this order.
 pub(crate) fn are_fields(columns: &[Column], fields: &[(&[u8], Kind)]) -> bool
     ensures { IsTrue result ↔ (columns.now ≡ map (λ f. field f.0.now f.1) fields.now) }
 {

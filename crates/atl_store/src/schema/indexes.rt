@@ -1,4 +1,4 @@
-//! Checks the indexes of the tables' keys, and indexes that were added later.
+//! Compares the indexes of a schema with those of the tables' keys, and tests all others.
 ghost use Rattle.std.specs.Prelude.{◌≡◌, ◌==◌, ◌≤◌, ◌++◌, true, codes, length, slice_get, take, ◌↔◌, IsTrue};
 ghost use Rattle.std.specs.List.{AllByRecursion, list_any};
 ghost use Rattle.std.specs.Fmt.{decimal};
@@ -12,7 +12,7 @@ use crate::tables::{
 };
 use sqlite_schema::schema::Index;
 
-/// The index that the database makes for a unique key of a table.
+/// Whether this is a unique index of this name, tree, table and columns.
 fn is_index(found: &Index, name: &[u8], tree: u32, table: u32, columns: &[usize]) -> bool
     ensures { IsTrue result ↔
         (found.now ≡ record {
@@ -32,7 +32,7 @@ fn is_index(found: &Index, name: &[u8], tree: u32, table: u32, columns: &[usize]
         && found.is_unique
 }
 
-/// The index of the only unique key of a table.
+/// Whether this is the index that the database makes for the only unique key of a table.
 fn is_index_of(
     found: &Index,
     made: &TableDefinition,
@@ -55,7 +55,7 @@ fn is_index_of(
     is_index(found, name, tree, made.tree, columns)
 }
 
-/// Whether this is the index with this place among those of the keys that are not the row's number.
+/// Whether this is the `place`th index, from 0, of the keys that are not the row's number.
 fn is_key_index(found: &Index, place: usize) -> bool
     ensures { IsTrue result ↔ (slice_get all_indexes place ≡ Some found.now) }
 {
@@ -92,7 +92,7 @@ fn is_key_index(found: &Index, place: usize) -> bool
     }
 }
 
-/// So many indexes are the first that are made.
+/// Whether the first `count` indexes are the first `count` of the tables' keys.
 fn are_first_indexes(indexes: &[Index], count: usize) -> bool
     requires { count ≤ length indexes.now }
     ensures { IsTrue result ↔ (take count indexes.now ≡ take count all_indexes) }
@@ -105,13 +105,14 @@ fn are_first_indexes(indexes: &[Index], count: usize) -> bool
     true
 }
 
+/// Whether the tree is that of one of these tables.
 fn is_among(tree: u32, tables: &[TableDefinition]) -> bool
     ensures { result ≡ list_any (λ t. tree == t.tree) tables.now }
 {
     tables.iter().any(|table| tree == table.tree)
 }
 
-/// Whether a tree is that of one of the first so many tables.
+/// Whether the tree is that of one of the first `count` tables of a campaign.
 fn is_ours(tree: u32, count: usize) -> bool
     requires { count ≤ length all_tables }
     ensures { result ≡ list_any (λ t. tree == t.tree) (take count all_tables) }
@@ -119,7 +120,7 @@ fn is_ours(tree: u32, count: usize) -> bool
     is_among(tree, &ALL[..count])
 }
 
-/// An index that makes nothing of the first so many tables unique.
+/// Whether the index makes nothing unique in the first `count` tables of a campaign.
 fn is_harmless(found: &Index, count: usize) -> bool
     requires { count ≤ length all_tables }
     ensures { IsTrue result ↔ (IsHarmless count found.now) }
@@ -127,6 +128,7 @@ fn is_harmless(found: &Index, count: usize) -> bool
     !found.is_unique || !is_ours(found.table, count)
 }
 
+/// Whether no index makes anything unique in the first `count` tables of a campaign.
 fn are_harmless(indexes: &[Index], count: usize) -> bool
     requires { count ≤ length all_tables }
     ensures { IsTrue result ↔ (AllByRecursion (IsHarmless count) indexes.now) }
@@ -139,7 +141,8 @@ fn are_harmless(indexes: &[Index], count: usize) -> bool
     true
 }
 
-/// The first so many tables' indexes, which are so many, and behind them indexes that make nothing of these tables unique.
+/// Whether these are the first `keys` indexes of a campaign, and then such as make nothing unique
+/// in the first `tables` tables.
 pub(crate) fn are_indexes(indexes: &[Index], tables: usize, keys: usize) -> bool
     requires tables { tables ≤ length all_tables }
     requires keys { keys ≤ length all_indexes }

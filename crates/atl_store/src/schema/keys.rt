@@ -1,4 +1,4 @@
-//! The keys of a table: of its rows' numbers, or of several columns.
+//! Compares the keys of a table: the number of its rows, or several columns.
 ghost use Rattle.std.specs.Prelude.{◌≡◌, [], ◌∷◌, Some, None, ◌↔◌, IsTrue};
 ghost use Rattle.sqlite_value.specs.Keys.{plain};
 
@@ -6,41 +6,41 @@ use sqlite_items::Items;
 use sqlite_schema::schema::Table;
 use sqlite_value::keys::Order;
 
-/// The column that is the row's number, where the rows of a table have one.
+/// The index of the column that is the row's number, among the columns of a table that has one.
 const NUMBER_COLUMN: usize = 0;
 
-/// The place of the row's number in a row. The columns have the places from 1 on.
+/// The index of the row's number in a stored row. The columns have the indexes from 1 on.
 const ROW_NUMBER: usize = 0;
 
-/// The key is the row's number.
+/// Whether the key is the row's number.
 pub(crate) fn is_numbered(found: &Table) -> bool
     ensures { IsTrue result ↔ ((found.now.key ≡ Some 0) × (found.now.primary ≡ 0 ∷ [])) }
 {
     found.key == Some(NUMBER_COLUMN) && found.primary.as_slice() == [ROW_NUMBER].as_slice()
 }
 
-/// The key is of these places, and no column is the row's number.
+/// Whether no column is the row's number, and the key is of these indexes of a stored row.
 pub(crate) fn is_under(found: &Table, places: &[usize]) -> bool
     ensures { IsTrue result ↔ ((found.now.key ≡ None) × (found.now.primary ≡ places.now)) }
 {
     found.key.is_none() && found.primary.as_slice() == places
 }
 
-/// Nothing but the key is unique.
+/// Whether nothing is unique besides the row's number.
 pub(crate) fn has_no_unique(found: &Table) -> bool
     ensures { IsTrue result ↔ ((found.now.uniques ≡ []) × (found.now.orders ≡ [])) }
 {
     found.uniques.is_empty() && found.orders.is_empty()
 }
 
-/// The columns of an index ascend by their bytes.
+/// Whether all columns of an index ascend, by their bytes.
 pub(crate) fn is_plain(order: &Order) -> bool
     ensures { IsTrue result ↔ (order.now ≡ plain) }
 {
     order.digits == 0
 }
 
-/// There is one key, of these columns.
+/// Whether there is one key, of the columns at these indexes of a stored row.
 fn is_one_key(keys: &[Items<usize>], places: &[usize]) -> bool
     ensures { IsTrue result ↔ (keys.now ≡ places.now ∷ []) }
 {
@@ -50,7 +50,7 @@ fn is_one_key(keys: &[Items<usize>], places: &[usize]) -> bool
     }
 }
 
-/// There is one order, which is plain.
+/// Whether there is one order, which is plain.
 fn is_one_order(orders: &[Order]) -> bool
     ensures { IsTrue result ↔ (orders.now ≡ plain ∷ []) }
 {
@@ -60,7 +60,7 @@ fn is_one_order(orders: &[Order]) -> bool
     }
 }
 
-/// These columns are unique, and no others but the row's number.
+/// Whether the columns at these indexes of a stored row are the only unique key but the number.
 pub(crate) fn is_unique(found: &Table, places: &[usize]) -> bool
     ensures { IsTrue result ↔
         ((found.now.uniques ≡ places.now ∷ []) × (found.now.orders ≡ plain ∷ [])) }

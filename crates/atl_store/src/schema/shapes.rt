@@ -1,4 +1,4 @@
-//! What the tables have in common.
+//! Compares a table with a definition, in what the tables of a campaign have in common.
 ghost use Rattle.std.specs.Prelude.{◌≡◌, [], ◌∷◌, map, Some, None, false, ◌↔◌, IsTrue};
 ghost use Rattle.atl_store.specs.Sets.{field, table};
 
@@ -7,14 +7,14 @@ use crate::schema::keys::{has_no_unique, is_numbered, is_under, is_unique};
 use crate::tables::TableDefinition;
 use sqlite_schema::schema::{Stamps, Table};
 
-/// No default reads the time.
+/// Whether no default reads the time.
 fn is_unstamped(stamps: &Stamps) -> bool
     ensures { IsTrue result ↔ (stamps.now ≡ record { places = []; terms = []; formats = [] }) }
 {
     stamps.places.is_empty() && stamps.terms.roots.is_empty() && stamps.formats.is_empty()
 }
 
-/// No foreign key, no default that is computed, and no AUTOINCREMENT.
+/// Whether the table has no foreign key, no default that is computed, and no AUTOINCREMENT.
 fn is_without_more(found: &Table) -> bool
     ensures { IsTrue result ↔
         (found.now ≡ record found.now {
@@ -30,7 +30,7 @@ fn is_without_more(found: &Table) -> bool
         && !found.is_counted
 }
 
-/// A table of such columns, whatever its keys and checks are.
+/// Whether the table is as defined in tree, name and columns, and has no more but keys and checks.
 pub(crate) fn is_strict(found: &Table, made: &TableDefinition) -> bool
     ensures { IsTrue result ↔
         (found.now ≡ record (table made.now.tree made.now.name.now
@@ -43,7 +43,7 @@ pub(crate) fn is_strict(found: &Table, made: &TableDefinition) -> bool
         && is_without_more(found)
 }
 
-/// The same, without a check.
+/// The same, and whether it has no check.
 fn is_unchecked(found: &Table, made: &TableDefinition) -> bool
     ensures { IsTrue result ↔
         (found.now ≡ record (table made.now.tree made.now.name.now
@@ -53,7 +53,7 @@ fn is_unchecked(found: &Table, made: &TableDefinition) -> bool
     is_strict(found, made) && found.checks.roots.is_empty()
 }
 
-/// A table under the number of its rows, with nothing else unique and no check.
+/// Whether the table is as defined, with its row's number as its only key and without a check.
 pub(crate) fn is_simple(found: &Table, made: &TableDefinition) -> bool
     ensures { IsTrue result ↔
         (found.now ≡ table made.now.tree made.now.name.now
@@ -62,7 +62,7 @@ pub(crate) fn is_simple(found: &Table, made: &TableDefinition) -> bool
     is_unchecked(found, made) && is_numbered(found) && has_no_unique(found)
 }
 
-/// A table with a key of several columns, whose rows have no number of their own.
+/// Whether the table is as defined, with a key of several columns and without a check.
 pub(crate) fn is_keyed(found: &Table, made: &TableDefinition, key: &[usize]) -> bool
     ensures { IsTrue result ↔
         (found.now ≡ table made.now.tree made.now.name.now

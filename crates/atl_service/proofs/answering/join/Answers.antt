@@ -3,7 +3,7 @@ use Rattle.sqlite.specs.Held.{state}
 use Rattle.atl_state.specs.Campaign.{CampaignValue, MarkedCampaign}
 use Rattle.atl_store.specs.Causes.{IsTold}
 use Rattle.atl_store.specs.Faults.{write_fault}
-use Rattle.atl_store.specs.Keeps.{Stops}
+use Rattle.atl_store.specs.Keeps.{LeavesAfterFault}
 use Rattle.atl_store.specs.OwnStatements.{OfJoining}
 use Rattle.atl_store.proofs.StayLaws.{on_err}
 use Rattle.atl_service.specs.declared.command.Command.TheVariants.{Join}
@@ -67,7 +67,7 @@ returns-in_err-write_join-clause-err g c = on_err _ (GivesUp g.S.Store c.args.wo
     let done : c.store_report.new.campaign.value ≡ reported w c.join.new.self.value c.in-Ok.numbers.0 = c.in_ok-store_report.ensures.ok in
     let steps = steps_on w old c.args.name.now c.args.pass.now c.args.word c.join.new.self.value c.in-Ok.numbers.0 c.in-Ok.numbers.1 (cc) (cc) is in
     let stops = c.in_err-write_join.ensures.err clean text old keeps (rw done (joining_is w c.args.name.now c.args.pass.now c.args.word old c.join.new.self.value c.in-Ok.numbers.0 c.in-Ok.numbers.1 c.requires.good is)) in
-    subst (λ (after : CampaignValue). Stops (state g.S.Store c.args.conn.now).faults (state g.S.Store c.write_join.new.conn) text old after) (done ∙ sym (ap (λ p. p.0) steps)) stops)
+    subst (λ (after : CampaignValue). LeavesAfterFault (state g.S.Store c.args.conn.now).faults (state g.S.Store c.write_join.new.conn) text old after) (done ∙ sym (ap (λ p. p.0) steps)) stops)
 
 pub write_join-requires-clause-arrived : goal.write_join-requires-clause-arrived
 write_join-requires-clause-arrived g c =

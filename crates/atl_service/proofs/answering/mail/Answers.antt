@@ -3,7 +3,7 @@ use Rattle.sqlite.specs.Held.{state}
 use Rattle.atl_state.specs.Campaign.{CampaignValue, MarkedCampaign, with_mail}
 use Rattle.atl_store.specs.Causes.{IsTold}
 use Rattle.atl_store.specs.Faults.{write_fault}
-use Rattle.atl_store.specs.Keeps.{Stops}
+use Rattle.atl_store.specs.Keeps.{LeavesAfterFault}
 use Rattle.atl_store.specs.OwnStatements.{OfMail}
 use Rattle.atl_store.proofs.StayLaws.{on_err}
 use Rattle.atl_service.specs.declared.command.Command.TheVariants.{Mail}
@@ -28,7 +28,7 @@ pub returns-in_err-write_mail-clause-err : goal.returns-in_err-write_mail-clause
 returns-in_err-write_mail-clause-err g c = on_err _ (GivesUp g.S.Store c.args.world.now c.args.campaign.now.value c.args.conn.now (Mail c.args.faction c.args.pass.now c.args.text.now) c.write_mail.new.conn) (λ clean text keeps.
     let old = c.args.campaign.now.value in
     let stops = rw c.as_slice.ensures at (c.in_err-write_mail.ensures.err clean text old keeps) in
-    subst (λ (after : CampaignValue). Stops (state g.S.Store c.args.conn.now).faults (state g.S.Store c.write_mail.new.conn) text old after) (sym (ap (λ p. p.0) c.in-Ok.ensures.step)) stops)
+    subst (λ (after : CampaignValue). LeavesAfterFault (state g.S.Store c.args.conn.now).faults (state g.S.Store c.write_mail.new.conn) text old after) (sym (ap (λ p. p.0) c.in-Ok.ensures.step)) stops)
 
 pub returns-in_err-write_mail-clause-cause : goal.returns-in_err-write_mail-clause-cause
 returns-in_err-write_mail-clause-cause g c =

@@ -4,7 +4,7 @@ use Rattle.atl_state.specs.Campaign.{CampaignValue, MarkedCampaign}
 use Rattle.atl_state.proofs.CoverLaws.{marks-trans}
 use Rattle.atl_store.specs.Causes.{IsTold}
 use Rattle.atl_store.specs.Faults.{write_fault}
-use Rattle.atl_store.specs.Keeps.{Stops}
+use Rattle.atl_store.specs.Keeps.{LeavesAfterFault}
 use Rattle.atl_store.specs.OwnStatements.{OfChange}
 use Rattle.atl_store.proofs.StayLaws.{on_err}
 use Rattle.atl_service.specs.declared.command.Command.TheVariants.{Close}
@@ -28,7 +28,7 @@ returns-in_err-write_changes-clause-err g c = on_err _ (GivesUp g.S.Store c.args
     let done = rw c.as_slice.ensures at (told_is c.args.world.now old c.turn_month.new.campaign.value after c.as_slice.result.now c.in_ok-outcome.outcome c.in_ok-outcome.ensures.outcome c.in_ok-report_to_all.ensures.what c.in_ok-outcome.ensures.there c.in_ok-outcome.ensures.good) in
     let marks = marks-trans c.args.campaign.now c.turn_month.new.campaign c.report_to_all.new.campaign c.in_ok-outcome.ensures.marks c.in_ok-report_to_all.ensures.marks in
     let stops = c.in_err-write_changes.ensures.err clean text old keeps marks.covers in
-    subst (λ (a : CampaignValue). Stops (state g.S.Store c.args.conn.now).faults (state g.S.Store c.write_changes.new.conn) text old a) (done.0 ∙ sym (ap (λ p. p.0) c.in_default.ensures.ok.step_is)) stops)
+    subst (λ (a : CampaignValue). LeavesAfterFault (state g.S.Store c.args.conn.now).faults (state g.S.Store c.write_changes.new.conn) text old a) (done.0 ∙ sym (ap (λ p. p.0) c.in_default.ensures.ok.step_is)) stops)
 
 pub returns-clause-ok : goal.returns-clause-ok
 returns-clause-ok g c =

@@ -1,16 +1,16 @@
 use Rattle.std.proofs.Common.{rules}
-use Rattle.atl_store.specs.UpgradeSteps.{IsOld, WritesUpgrade}
+use Rattle.atl_store.specs.UpgradeSteps.{IsFirstFormat, WritesUpgrade}
 use Rattle.atl_store.proofs.WholeLaws.{committed, left_off}
 use Rattle.atl_store.proofs.upgrading.write_upgrade.Goals as goal
 
 pub returns : goal.returns
 returns g c =
-    let whole = committed g.S.Store c.args.conn.now c.transaction-tx.result.conn c.put_upgrade.new.tx.conn c.transaction-tx.ensures.begun IsOld (WritesUpgrade c.args.text.now c.args.campaign.now.value) c.commit.new.self.0 c.commit.ensures.ended c.commit.result
+    let whole = committed g.S.Store c.args.conn.now c.transaction-tx.result.conn c.put_upgrade.new.tx.conn c.transaction-tx.ensures.begun IsFirstFormat (WritesUpgrade c.args.text.now c.args.campaign.now.value) c.commit.new.self.0 c.commit.ensures.ended c.commit.result
     c.in_ok-put_upgrade.ensures c.commit.ensures.ok c.commit.ensures.err c.commit.ensures.survives in
     search (rules, whole)
 
 pub returns-in_err-put_upgrade : goal.returns-in_err-put_upgrade
 returns-in_err-put_upgrade g c =
-    let whole = left_off g.S.Store c.args.conn.now c.transaction-tx.result.conn c.put_upgrade.new.tx.conn c.transaction-tx.ensures.begun IsOld (WritesUpgrade c.args.text.now c.args.campaign.now.value) c.drop-tx.new.self.0 c.drop-tx.ensures.ended c.from_residual.result
+    let whole = left_off g.S.Store c.args.conn.now c.transaction-tx.result.conn c.put_upgrade.new.tx.conn c.transaction-tx.ensures.begun IsFirstFormat (WritesUpgrade c.args.text.now c.args.campaign.now.value) c.drop-tx.new.self.0 c.drop-tx.ensures.ended c.from_residual.result
     c.from_residual.ensures c.in_err-put_upgrade.ensures c.drop-tx.ensures.undone c.drop-tx.ensures.survives in
     search (rules, whole)
