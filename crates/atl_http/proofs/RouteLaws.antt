@@ -1,4 +1,4 @@
--- Laws of the routes.
+-- Laws on the routes: the router's lookup of a path, with its parameter, gives the route of `route_of`.
 use Rattle.std.proofs.Common.{add-zero, lit<, get_or, ltb, leb, length-append, ◌&&◌, ◌≡◌, ℕ, ◌+◌, ◌-◌, ◌<◌, ◌≤◌, ◌⊎◌, inl, inr, List, [], ◌∷◌, ◌++◌, length, drop, Option, Some, None, Bool, true, false, refl, sym, ap, ◌∙◌, subst, arith, ◌==◌}
 use Rattle.std.specs.Prelude.{MatchOption, bytes_eq, option_and_then, option_map, codes}
 use Rattle.std.proofs.lemmas.Bool.Decides.{nat_tests}
@@ -22,8 +22,9 @@ use Rattle.std.proofs.lemmas.List.{length-drop, drop_at}
 use Rattle.std.proofs.Math.Seq.{take-length}
 use Rattle.atl_http.proofs.FrontLaws.{behind_is, first_behind, number_row, end_none, ascii_utf8, NumberSays, number_says}
 
--- ---- the text that stands for a number
+-- ---- the text of a number in a path
 
+-- the name of the routes' parameter: number
 abbrev number_text : List ℕ
 number_text = codes "number"
 
@@ -31,10 +32,12 @@ text_step : (b : ℕ) (front : List ℕ) (t : Bool) → ltb b param_token ≡ t 
 text_step b front true e ih h = (grind (arith, nat_tests), ih h)
 text_step b front false e ih h = cc
 
+-- a text of bytes below the parameter's token has no parameter
 is_text : (front : List ℕ) → list_all (λ b. ltb b param_token) front ≡ true → IsText front
 is_text [] h = tt
 is_text (b ∷ front) h = text_step b front (ltb b param_token) refl (λ k. is_text front k) h
 
+-- the router's walk passes a prefix byte by byte
 walk_front : (front : List ℕ) (len t : ℕ) → IsText front → t + length front ≤ len → wild_from (front ++ param_token ∷ []) len t t ≡ (t + length front, t + length front)
 walk_front [] len t h l = rw (add-zero t) refl
 walk_front (b ∷ front) len t h l =
@@ -55,7 +58,7 @@ takes : (pattern text path rest : List ℕ) (start end n : ℕ) → wild_from pa
 takes pattern text path rest start end n at last named_is rest_is h =
     rw (at, last, named_is, part_rest path n h, rest_is) refl
 
--- the number's text, of a path with this front
+-- The route of this key takes `rest` from the path as the parameter `number`.
 abbrev Takes : ℕ → List ℕ → List ℕ → Type 0
 Takes key path rest = walk (kept_at key).pattern (kept_at key).text path (kept_at key).names 0 0 ≡ (number_text, rest) ∷ []
 
@@ -77,13 +80,15 @@ takes_report rest =
     let h = longer 8 (codes "/report/") rest refl in
     takes (codes "/report/" ++ param_token ∷ []) (codes "/report/{number}") (codes "/report/" ++ rest) rest 9 15 8 (walk_front (codes "/report/") (length (codes "/report/" ++ rest)) 0 (is_text (codes "/report/") refl) h) refl refl refl h
 
--- ---- what a path leads to
+-- ---- the route of each path
 
+-- What the router finds for a path: the route Join, a route with a number, or nothing, and `route_of` says the same.
 data Leads (path : List ℕ) : Type 0 where
   to_join : first rows path ≡ Some 1 → IsUtf8 path → route_of path ≡ Some route.Join → Leads path
   to_number : (key : ℕ) → (rest : List ℕ) → first rows path ≡ Some key → Takes key path rest → (IsUtf8 path → IsUtf8 rest) → (route_of path ≡ None) ⊎ IsUtf8 path → route_of path ≡ route_in (kept_at key).value (Some rest) → Leads path
   nowhere : first rows path ≡ None → route_of path ≡ None → Leads path
 
+-- The facts on the prefix of a route with a number that the lookup needs.
 record Fronted (key : ℕ) (front : List ℕ) : Type 0 where
   takes_rest : (rest : List ℕ) → Takes key (front ++ rest) rest
   cut : (rest : List ℕ) → IsUtf8 (front ++ rest) → IsUtf8 rest
@@ -110,7 +115,7 @@ fronted_orders = fronted 2 7 (codes "/orders/") refl (ascii_utf8 (codes "/orders
 fronted_report : Fronted 3 (codes "/report/")
 fronted_report = fronted 3 7 (codes "/report/") refl (ascii_utf8 (codes "/report/") refl) (λ rest. lit< tt) takes_report (λ rest e. ap (option_map route.Report) e)
 
--- the route of what stands behind a front
+-- the route of a key with the number in the rest of a path, if there is a rest
 abbrev in_found : ℕ → Option (List ℕ) → Option Route
 in_found key None = None
 in_found key (Some rest) = route_in (kept_at key).value (Some rest)
@@ -126,9 +131,11 @@ leads_by : (key c : ℕ) (w q : List ℕ) (found : Option (List ℕ)) → after_
 leads_by key c w q None h f a b = nowhere a b
 leads_by key c w q (Some rest) h f a b = leads_number key (47 ∷ c ∷ w) (47 ∷ c ∷ q) rest (ap (λ l. 47 ∷ c ∷ l) (behind_is w q rest h)) f a b (number_says key rest)
 
+-- the rows of the router after the slash that all have in front
 abbrev after_slash : Rows
 after_slash = (codes "close/" ++ param_token ∷ [], 0) ∷ (codes "join", 1) ∷ (codes "orders/" ++ param_token ∷ [], 2) ∷ (codes "report/" ++ param_token ∷ [], 3) ∷ []
 
+-- looking up a path looks up its rest after the slash
 slash_first : (path : List ℕ) → first rows path ≡ option_and_then (λ rest. first after_slash rest) (after_prefix (codes "/") path)
 slash_first path = first_behind (codes "/") after_slash path (lit< tt, tt)
 
@@ -222,6 +229,7 @@ leads_begin a q true e =
     subst (λ x. Leads (x ∷ q)) same (leads_slash q)
 leads_begin a q false e = nowhere (slash_first (a ∷ q) ∙ rw e refl) (rw e refl)
 
+-- the router finds for each path the route of `route_of`
 leads : (path : List ℕ) → Leads path
 unfolding seek route_of
 leads [] = nowhere refl refl
@@ -237,10 +245,11 @@ missing_by path h (to_join e text is) = (let some = kept_first path (Some 1) e i
 missing_by path h (to_number key rest e taken cut text is) = (let some = kept_first path (Some key) e in cc)
 missing_by path h (nowhere e is) = is
 
+-- if the router finds nothing, the path has no route
 pub missing : (path : List ℕ) → first kept path ≡ None → route_of path ≡ None
 missing path h = missing_by path h (leads path)
 
--- what a route says of a path that it was found for
+-- The route found for a path has UTF-8 parameters, and with them gives `route_of` of the path.
 abbrev Says : (path : List ℕ) → RouteOf RouteKey → Type 0
 Says path e = AllText (walk e.pattern e.text path e.names 0 0) × (route_of path ≡ route_in e.value (named (codes "number") (walk e.pattern e.text path e.names 0 0)))
 
@@ -256,7 +265,7 @@ route_by path e text h (nowhere at is) = (let none = kept_first path None at in 
 found : (path : List ℕ) (e : RouteOf RouteKey) → IsUtf8 path → first kept path ≡ Some e → Says path e
 found path e text h = route_by path e text h (leads path)
 
--- what is got of a number's text
+-- This is the result of looking up the parameter `number` among those that were taken.
 abbrev Gets : {A : Type 0} → (A → List ℕ) → Option A → List (List ℕ × List ℕ) → Type 0
 Gets view r taken = AllText taken → MatchOption r (named number_text taken ≡ None) (λ text. named number_text taken ≡ Some (view text))
 
@@ -264,6 +273,7 @@ got_is : {A : Type 0} (view : A → List ℕ) (r : Option A) (text : Option (Lis
 got_is view None text h = h
 got_is view (Some x) text h = h
 
+-- the route by the found key and parameter is that of `route_of`
 pub got : {A : Type 0} (view : A → List ℕ) (r : Option A) (path given : List ℕ) (e : RouteOf RouteKey) (route : Option Route) → given ≡ path → IsUtf8 path → first kept path ≡ Some e → Gets view r (walk e.pattern e.text given e.names 0 0) → route ≡ route_in e.value (option_map view r) → route ≡ route_of path
 got view r path given e route same text at gets is =
     let says : Says path e = found path e text at in
@@ -276,5 +286,6 @@ no_text_by path h (to_number key rest e taken cut (inl none) is) = none
 no_text_by path h (to_number key rest e taken cut (inr text) is) = absurd (h text)
 no_text_by path h (nowhere e is) = is
 
+-- a path that is not UTF-8 has no route
 pub no_text : (path : List ℕ) → (IsUtf8 path → ⊥) → route_of path ≡ None
 no_text path h = no_text_by path h (leads path)

@@ -38,7 +38,7 @@ module _ (w : WorldValue) (c : CampaignValue) (name pass : List ℕ) (word : ℕ
   unfolding step
   steps_on d n m a b e = rw (a, b, e) refl
 
--- if `join_of` succeeds, its result is the third value, that of the join itself
+-- if the two tests of `join_of` let it succeed with `y`, then `y` is the joined campaign `x`
 accepted : {S : Type 0} (taken full : Bool) (x y : S) → cond taken (Err NameTaken) (cond full (Err Full) (Ok x)) ≡ Ok y → x ≡ y
 accepted true full x y e = cc
 accepted false true x y e = cc
