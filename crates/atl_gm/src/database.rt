@@ -125,7 +125,7 @@ fn run_work<S: Alter + Drop, W: Work>(
 }
 
 /// Copies the log into the database file and shuts both, so that the file alone holds all changes.
-fn close<D: Disk + Drop>(conn: Connection<FileStore<D>>) -> Result<(), Failure> {
+fn shut<D: Disk + Drop>(conn: Connection<FileStore<D>>) -> Result<(), Failure> {
     match conn.close() {
         Ok(()) => Ok(()),
         Err(error) => Err(Failure::from(error)),
@@ -135,10 +135,10 @@ fn close<D: Disk + Drop>(conn: Connection<FileStore<D>>) -> Result<(), Failure> 
 /// The result of the work, or the first failure: that of the work, then that of shutting the file.
 fn both_results<T: Drop>(
     done: Result<T, Failure>,
-    closing: Result<(), Failure>,
+    shutting: Result<(), Failure>,
 ) -> Result<T, Failure> {
     let done = done?;
-    closing?;
+    shutting?;
     Ok(done)
 }
 
@@ -157,5 +157,5 @@ pub fn work_on<W: Work>(
     }
     let conn = connect(rt, path, Wary)?;
     let (done, conn) = run_work(rt.alloc(), conn, opening, work);
-    both_results(done, close(conn))
+    both_results(done, shut(conn))
 }
