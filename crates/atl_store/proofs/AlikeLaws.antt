@@ -1,4 +1,4 @@
--- Two good campaigns whose rows one database holds are one campaign.
+-- Law: two good campaigns whose rows one database holds are equal.
 use Rattle.std.proofs.Common.{◌≡◌, ◌≢◌, ◌+◌, ◌∙◌, ℕ, ℤ, zero, suc, pos, negsuc, Bool, true, false, List, Some, inl, inr, refl, sym, ap, arith}
 use Rattle.std.specs.Prelude.{◌⊎◌}
 use Rattle.std.specs.Ordering.{nat_cmp}
@@ -34,12 +34,12 @@ use Rattle.atl_store.proofs.ThingLaws.{same_sort}
 
 -- ---- maps whose rows tell their numbers and values
 
--- two lines are the same only under one number and of one value
+-- A row of a map determines its number and its value: equal rows of the two maps have both equal.
 abbrev Tells : {V : Type 0} → (ℕ → V → Row) → FinMap nat_cmp V → FinMap nat_cmp V → Type 0
 Tells {V} line m k = (n p : ℕ) (v u : V) → get m n ≡ Some v → get k p ≡ Some u → line n v ≡ line p u → (n ≡ p) × (v ≡ u)
 
 module _ {V : Type 0} (line : ℕ → V → Row) (rows : List Row) where
-  -- a line of one map is a line of the other
+  -- an entry of one map has an entry of the other with the same row
   other_line : (m k : FinMap nat_cmp V) → Is rows (RowsOf line m) → Is rows (RowsOf line k) → (n : ℕ) (v : V) → get m n ≡ Some v → RowsOf line k (line n v)
   other_line m k a b n v is = (b (line n v)).0 ((a (line n v)).1 (n, v, is, refl))
 
@@ -52,6 +52,7 @@ module _ {V : Type 0} (line : ℕ → V → Row) (rows : List Row) where
   same_values : (m k : FinMap nat_cmp V) → Tells line m k → Tells line k m → Is rows (RowsOf line m) → Is rows (RowsOf line k) → m ≡ k
   same_values m k there back a b = agree m k (one_way m k there a b) (one_way k m back b a)
 
+-- equal flags of rows are of equal booleans
 same_flag : (a b : Bool) → flag a ≡ flag b → a ≡ b
 same_flag true true is = refl
 same_flag true false is = cc
@@ -85,7 +86,7 @@ reports_tell m k n p s t is there same = (cc, cc)
 
 -- ---- units, with what they have
 
--- of nothing there are none
+-- No entry of a unit's items or skills is 0.
 abbrev HaveSome : FinMap nat_cmp Unit → Type 0
 HaveSome units = Every (λ n u. (sort : ThingKind) → Every (λ thing amount. amount ≢ 0) (things_of sort u.holding)) units
 
@@ -94,7 +95,7 @@ have_some w c good n u is Item thing amount there = let range = (good.sound.stea
 have_some w c good n u is Skill thing amount there = let range = good.sound.steady.days n u is thing amount there in λ none. omega (arith, range.0, none)
 
 module _ (rows : List Row) (m k : FinMap nat_cmp Unit) (a : Is rows (HasRowsOf m)) (b : Is rows (HasRowsOf k)) where
-  -- what a unit has of the one it has of the other
+  -- what a unit has in one map it has in the other
   things_there : HaveSome m → (n : ℕ) (u v : Unit) → get m n ≡ Some u → get k n ≡ Some v → (sort : ThingKind) → Every (λ thing amount. get (things_of sort v.holding) thing ≡ Some amount) (things_of sort u.holding)
   things_there some n u v is there sort thing amount has =
       let row = has_row n (sort_number sort) thing amount in
@@ -133,7 +134,7 @@ module _ (rows goods : List Row) (m k : FinMap nat_cmp Unit) (a : Is rows (RowsO
 
 -- ---- regions, with what is in stock
 
--- of nothing there are none
+-- No entry of a region's stocks is 0.
 abbrev AreInStock : FinMap nat_cmp Region → Type 0
 AreInStock regions = Every (λ n r. Every (λ item stock. stock ≢ 0) r.stocks) regions
 
@@ -141,7 +142,7 @@ are_in_stock : (w : WorldValue) (c : CampaignValue) → IsGood w c → AreInStoc
 are_in_stock w c good n r is item stock there = let range = (good.sound.steady.numbers.regions n r is).stocks item stock there in λ none. omega (arith, range.0, none)
 
 module _ (rows : List Row) (m k : FinMap nat_cmp Region) (a : Is rows (MarketRowsOf m)) (b : Is rows (MarketRowsOf k)) where
-  -- what is in stock in a region of the one is so in that of the other
+  -- the stocks of a region in one map are those in the other
   stocks_there : AreInStock m → (n : ℕ) (r s : Region) → get m n ≡ Some r → get k n ≡ Some s → Every (λ item stock. get s.stocks item ≡ Some stock) r.stocks
   stocks_there some n r s is there item stock has =
       let row = market_row n item stock in
@@ -203,10 +204,11 @@ module _ (db : Trees) (one other : List ℕ) (c d : CampaignValue) (h : Holds db
   one_row : campaign_line one c ≡ campaign_line other d
   one_row = (j.rows Own (campaign_line one c)).0 ((h.rows Own (campaign_line one c)).1 refl)
 
-  -- two texts whose rows one database holds are one text
+  -- two world texts whose rows one database holds are equal
   pub one_text : one ≡ other
   one_text = let own = one_row in cc
 
+-- two good campaigns whose rows one database holds are equal
 pub holds_one : HoldsOne
 holds_one w db one other c d good sound h j =
     let own : campaign_line one c ≡ campaign_line other d = one_row db one other c d h j in

@@ -1,4 +1,4 @@
--- A good campaign that has nothing in stock is good in each world that differs in markets alone.
+-- Law: a good campaign with nothing in stock is good in each world that differs in markets alone.
 use Rattle.std.proofs.Common.{◌≡◌, ℕ, false, Option, Some, None, refl, sym, ap, ◌∙◌, subst}
 use Rattle.std.specs.Prelude.{option_map}
 use Rattle.std.specs.Option.{option_map_or}
@@ -97,6 +97,6 @@ module _ (w : WorldValue) where
     with_good : IsGood (without_markets w) c → IsGood w c
     with_good good = good_with (without_markets w) w.regions c bare (λ n. sym (land_same n)) was_there bared good
 
--- worlds that differ in markets alone
+-- a good campaign with nothing in stock is good in both of two worlds that differ in markets alone
 pub good_either : (v w : WorldValue) (c : CampaignValue) → without_markets w ≡ without_markets v → HasNoStocks c → IsGood v c → IsGood w c
 good_either v w c same bare good = with_good w c bare (subst (λ x. IsGood x c) (sym same) (without_good v c bare good))

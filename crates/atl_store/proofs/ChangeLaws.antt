@@ -1,4 +1,4 @@
--- Tables that hold what is not marked of a campaign hold it all, once what is marked is written.
+-- Laws on `write_changes`: tables that hold what is not dirty of a campaign hold all of it, once what is dirty is written.
 use Rattle.std.proofs.Common.{◌≡◌, ◌+◌, ◌<◌, ◌&&◌, ◌||◌, ℕ, suc, ℤ, Bool, true, false, List, Option, Some, None, unwrap_or, nat_le, refl, sym, ap, subst, ◌∙◌, true≢false, arith}
 use Rattle.std.proofs.lemmas.Bool.Decides.{nat_tests}
 use Rattle.std.proofs.Math.Bool.{or-false}
@@ -35,7 +35,7 @@ use Rattle.atl_store.proofs.MarketLaws.{stock_had, had_stock}
 
 -- ---- a table whose unmarked rows are the campaign's
 
--- once the marked ones are written it has all
+-- a table whose clean rows are the campaign's has all its rows once the dirty ones are written
 all_held : (is_marked : Row → Bool) (After : Row → Type 0) (old new : List Row) → ((r : Row) → is_marked r ≡ false → Has old r ↔ After r) → Is new (rows_after_rewrite is_marked After (Has old)) → Is new After
 all_held is_marked After old new rest now r = (λ there. from (is_marked r) refl ((now r).0 there), λ of. (now r).1 (to (is_marked r) refl of))
   where
@@ -47,7 +47,7 @@ all_held is_marked After old new rest now r = (λ there. from (is_marked r) refl
     to true is of = of
     to false is of = (rest r is).1 of
 
--- it had those of the campaign before, where the two differ only under marked keys
+-- a table of the campaign before has the clean rows of the one after, if the two differ only under dirty keys
 rest_of : (is_marked : Row → Bool) (Before After : Row → Type 0) (old : List Row) → ((r : Row) → is_marked r ≡ false → Before r → After r) → ((r : Row) → is_marked r ≡ false → After r → Before r) → Is old Before
     → (r : Row) → is_marked r ≡ false → Has old r ↔ After r
 rest_of is_marked Before After old ahead back was r is = (λ there. ahead r is ((was r).0 there), λ of. (was r).1 (back r is of))
@@ -55,7 +55,7 @@ rest_of is_marked Before After old ahead back was r is = (λ there. ahead r is (
 -- ---- one row for each number
 
 module _ {V : Type 0} (line : ℕ → V → Row) (marks : FinSet nat_cmp) (heads : (n : ℕ) (v : V) → begins_marked marks (line n v) ≡ contains marks n) where
-  -- what has a row under a number that is not marked has the same row in the other map
+  -- What has a row under a number that is not dirty has the same row in the other map.
   abbrev pub Follows : FinMap nat_cmp V → FinMap nat_cmp V → Type 0
   Follows one other = (n : ℕ) (v : V) → contains marks n ≡ false → get one n ≡ Some v → (w : V) × (get other n ≡ Some w) × (line n w ≡ line n v)
 
@@ -133,6 +133,7 @@ amounts_follow one other marks r same not_marked of =
 
 -- ---- the campaign's own row
 
+-- the campaign row of these numbers and texts
 abbrev head_in : ℕ × (List ℕ × (ℕ × (ℕ × ℕ))) → CampaignRowValue
 head_in row = record { month = row.0; pass = row.1.0; next_faction = row.1.1.0; next_unit = row.1.1.1.0; next_structure = row.1.1.1.1 }
 
@@ -142,7 +143,7 @@ head_held false before after same = ap head_in (sym (same refl))
 
 -- ---- the whole
 
--- whatever stands under marked keys
+-- writing all dirty rows makes tables with the clean rows hold the campaign, whatever was under dirty keys
 pub unmarked_held : (c : MarkedCampaign) (old new : Database) → WritesChanges c old new → (text : List ℕ) → HoldsUnmarked old.trees text c → Holds new.trees text c.value
 unmarked_held c old new changes text rest =
     let did = changes rest.before text rest.campaign in
@@ -151,7 +152,7 @@ unmarked_held c old new changes text rest =
           (subst (λ (h : CampaignRowValue). Is (rows_in (table_of part) new.trees) (rows_after_rewrite (is_marked c.marks part) (rows_for (campaign_row h text) c.value part) (Has (rows_in (table_of part) old.trees)))) rest.head (did.rows part));
     }
 
--- tables that hold a campaign from which only this differs
+-- tables of the campaign before hold the clean rows of the one after, if the dirty set covers all changes
 pub covers_unmarked : (c : MarkedCampaign) (db : Trees) (text : List ℕ) (before : CampaignValue) → Covers c.marks before c.value → Holds db text before → HoldsUnmarked db text c
 covers_unmarked c db text before covers held = record { before = campaign_row_of before; campaign = held.rows Own; head = head_held c.marks.row before c.value covers.row; rest = rest }
   where
@@ -178,5 +179,6 @@ covers_unmarked c db text before covers held = record { before = campaign_row_of
         rest_of (begins_marked c.marks.stocks) (MarketRowsOf before.regions) (MarketRowsOf c.value.regions) _ (λ r is. stocks_follow before.regions c.value.regions c.marks.stocks r covers.stocks is)
         (λ r is. stocks_follow c.value.regions before.regions c.marks.stocks r (λ n item not_marked. sym (covers.stocks n item not_marked)) is) (held.rows Markets)
 
+-- both together: tables of the campaign before hold the one after, once all that is dirty is written
 pub changes_held : (c : MarkedCampaign) (old new : Database) → WritesChanges c old new → (text : List ℕ) (before : CampaignValue) → Covers c.marks before c.value → Holds old.trees text before → Holds new.trees text c.value
 changes_held c old new changes text before covers held = unmarked_held c old new changes text (covers_unmarked c old.trees text before covers held)

@@ -1,4 +1,4 @@
--- The check that a row has the number 1, as its nodes say it.
+-- Laws on the CHECK that a row's id is 1: which nodes of the parsed term say so.
 use Rattle.std.proofs.Common.{◌≡◌, ◌≢◌, ℕ, zero, suc, List, [], ◌∷◌, length, get_or, slice_get, Some, pos, refl, sym, ap}
 use Rattle.std.proofs.lemmas.Option.{get_or_from_slice_get}
 use Rattle.sqlite_value.specs.declared.value.Value.{Value}
@@ -12,12 +12,15 @@ use Rattle.sqlite_schema.specs.Code.{op_term, term_to, term_in}
 use Rattle.sqlite_schema.specs.declared.code.Op.{Op}
 use Rattle.sqlite_schema.specs.declared.code.Op.TheVariants.{Literal, Column, Unary, Binary, Case}
 
+-- the operator = of SQL
 abbrev equals : BinaryOp
 equals = Compare Eq collation.Binary
 
+-- the value 1
 abbrev one : Value
 one = Int (pos 1)
 
+-- the term "id = 1"
 abbrev is_one : Term
 is_one = op2 equals (col 1 0) (lit one)
 
@@ -44,7 +47,7 @@ constant below (Unary op a) says = absurd (cc)
 constant below (Binary op a b) says = absurd (cc)
 constant below (Case t a b) says = absurd (cc)
 
--- what is read past the last node
+-- the node that is read after the last one
 abbrev past : Op
 past = Literal Null
 
@@ -63,6 +66,7 @@ one_at ops (suc depth) at says = there ops at (Literal one) (λ same. absurd (cc
 
 -- ---- the term and the three nodes
 
+-- These nodes are the term "id = 1": a comparison, the column, and the number.
 abbrev Says : List Op → ℕ → ℕ → ℕ → Type 0
 Says ops root a b = (slice_get ops root ≡ Some (Binary equals a b)) × (slice_get ops a ≡ Some (Column 1 0)) × (slice_get ops b ≡ Some (Literal one))
 
@@ -85,7 +89,7 @@ said ops root a b (first, second, third) =
 
 -- ---- what is tested
 
--- the root says that the nodes at two places are equal
+-- the root compares the nodes at these two indexes
 pub compared : (ops : List Op) (root a b : ℕ) → slice_get ops root ≡ Some (Binary equals a b) → (term_in ops root ≡ is_one → (slice_get ops a ≡ Some (Column 1 0)) × (slice_get ops b ≡ Some (Literal one))) × ((slice_get ops a ≡ Some (Column 1 0)) × (slice_get ops b ≡ Some (Literal one)) → term_in ops root ≡ is_one)
 compared ops root a b first = (
   λ says.
@@ -96,7 +100,7 @@ compared ops root a b first = (
   λ both. said ops root a b (first, both.0, both.1),
 )
 
--- it says no such thing
+-- a root that is no comparison is not that of the term
 pub not_compared : (ops : List Op) (root : ℕ) → ((a b : ℕ) → slice_get ops root ≢ Some (Binary equals a b)) → term_in ops root ≢ is_one
 not_compared ops root other says =
     let (a, b, (is, number, constant)) = says_to ops (length ops) root says in

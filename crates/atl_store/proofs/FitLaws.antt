@@ -1,4 +1,4 @@
--- A row under a number, whose values fit their columns.
+-- Laws on a row whose values fit their columns: SQL stores them unchanged, whether the row is put or changed.
 use Rattle.std.proofs.Common.{◌≡◌, ◌++◌, ◌+◌, ◌/◌, ℕ, pos, zero, suc, List, [], ◌∷◌, length, map, take, Some, refl, ap, ◌∙◌, subst, arith, nat_eq, false}
 use Rattle.std.specs.List.{range_with_len}
 use Rattle.std.proofs.Math.Nat.{div_self}
@@ -21,13 +21,14 @@ use Rattle.atl_store.specs.Tables.{number}
 use Rattle.atl_store.specs.Shown.{int}
 use Rattle.atl_store.proofs.Terms.{cast_null, cast_int}
 
--- what a column makes of each value is that value
+-- Each value is of its column's type, so that SQL stores it unchanged.
 abbrev pub Fits : List Column → Row → Type 0
 Fits [] [] = Unit {0}
 Fits [] (v ∷ vs) = ⊥
 Fits (c ∷ cs) [] = ⊥
 Fits (c ∷ cs) (v ∷ vs) = (cast c.kind v ≡ v) × Fits cs vs
 
+-- fitting values are as many as the columns
 pub fits_length : (cs : List Column) (vs : Row) → Fits cs vs → length vs ≡ length cs
 fits_length [] [] fits = refl
 fits_length [] (v ∷ vs) fits = absurd fits
@@ -62,14 +63,15 @@ column_behind (v ∷ vs) x more = column_behind vs x more
 
 -- ---- what the terms make of the parameters, which are a number and so many values
 
--- a row of the parameters, and the row that is there with these values
+-- the terms of the INSERT: the number and the values, from the parameters
 abbrev pub given_row : ℕ → List Term
 given_row width = col 0 0 ∷ lit Null ∷ map (col 0) (range_with_len 1 width)
 
+-- the terms of the UPDATE: the values of the new row for the row that is there
 abbrev pub changed_row : ℕ → List Term
 changed_row width = col 1 0 ∷ lit Null ∷ map (col 0) (range_with_len 1 width)
 
--- the row of this number and these values is what the terms make of them, whether it is put or changed
+-- The terms of both make the row of this number and these values.
 pub record MakesRow (t : Table) (width number : ℕ) (values : Row) : Type 0 where
   pub source : value_rows ((int number ∷ values) ++ []) (width + 2) (length (given_row width) / (width + 2)) (given_row width) ≡ (int number ∷ Null ∷ values) ∷ []
   pub changed : (more r : Row) → eval_all (changed_row width) (((int number ∷ values) ++ more) ∷ r ∷ []) ≡ column r 0 ∷ Null ∷ values
@@ -82,9 +84,11 @@ module _ (tree : ℕ) (name key_name : List ℕ) (columns : List Column) (unique
   t = table tree name (number key_name ∷ columns) (Some 0) (0 ∷ []) uniques []
 
   module _ (n : ℕ) (values : Row) (fits : Fits columns values) where
+    -- the number of values after the row's number
     abbrev width : ℕ
     width = length values
 
+    -- the row as it is stored
     abbrev its_row : Row
     its_row = int n ∷ Null ∷ values
 
@@ -122,5 +126,6 @@ module _ (tree : ℕ) (name key_name : List ℕ) (columns : List Column) (unique
       aimed = λ x more. next_column (int n) (values ++ x ∷ more) width ∙ column_behind values x more;
     }
 
+    -- fitting values make their row
     pub makes_row : MakesRow t (length columns) n values
     makes_row = subst (λ w. MakesRow t w n values) (fits_length columns values fits) made

@@ -1,4 +1,4 @@
--- A joining is written, and a mail: what the tables hold then.
+-- Laws on `write_join` and `write_mail`: tables that held the campaign before hold the one after.
 use Rattle.std.proofs.Common.{◌≡◌, ◌≢◌, ◌⊎◌, ◌+◌, ℕ, ℤ, pos, List, [], ◌∷◌, map, Some, None, false, refl, sym, ap, ◌∙◌, subst, inl, inr, take, arith}
 use Rattle.std.specs.Prelude.{◌+ℤ◌}
 use Rattle.std.specs.Ordering.{nat_cmp}
@@ -41,19 +41,20 @@ beside_booked books e t n f u far = other_amount books e t (amount_in books e t 
 
 -- ---- how the campaign after a joining differs
 
+-- The campaign after a join is the one before with these faction, unit and report, and the money booked.
 record IsArrival (n : ℕ) (f : Faction) (m : ℕ) (u : Unit) (report : List ℕ) (before after : CampaignValue) : Type 0 where
   factions : after.factions ≡ insert before.factions n f
   units : after.units ≡ insert before.units m u
   reports : after.reports ≡ insert before.reports n report
   fresh : get before.units m ≡ None
   bare : (sort : ThingKind) → things_of sort u.holding ≡ empty
-  -- the books once the money is booked
+  -- the books after the first of the two amounts is booked
   half : BooksValue
   money : amount_in half Joining Money ≡ amount_in after.books Joining Money
   first : (e : Entry) (t : Thing) → (entry_index e ≢ 1) ⊎ (thing_index t ≢ 0) → amount_in half e t ≡ amount_in before.books e t
   second : (e : Entry) (t : Thing) → (entry_index e ≢ 1) ⊎ (thing_index t ≢ 1) → amount_in after.books e t ≡ amount_in half e t
 
--- what is found under the number that was inserted is what was inserted
+-- what a map has under the inserted number is what was inserted
 found_is : {V : Type 0} (m after : FinMap nat_cmp V) (n k : ℕ) (v w : V) → after ≡ insert m n v → k ≡ n → get after k ≡ Some w → v ≡ w
 found_is {V} m after n k v w is same got = same_Some v w (sym (get_inserted m n v) ∙ ap (λ (x : FinMap nat_cmp V). get x n) (sym is) ∙ ap (get after) (sym same) ∙ got)
 
@@ -101,13 +102,15 @@ put_campaign_row rows news text before after was made r = (
   λ same. (made r).1 (inl same),
 )
 
+-- The statements that write faction, unit and campaign row.
 abbrev Enrolls : ℕ → Faction → ℕ → Unit → CampaignValue → List ℕ → Database → Database → Type 0
 Enrolls n f m u after world = Both (PutsCampaignRow (campaign_row_of after) world) (Both (Puts faction_table 1 (faction_line n f)) (Puts unit_table 1 (unit_line m u)))
 
+-- The statements that write the report and the amounts of the books.
 abbrev Welcomes : ℕ → List ℕ → CampaignValue → Database → Database → Type 0
 Welcomes n report after = Both (Puts report_table 1 (report_row n report)) (Both (Settles after Joining Money) (Settles after Joining People))
 
--- what came of the rows of a table that the steps before and after left alone
+-- a table that other steps left alone changes by its own step
 rows_moved : (t : Table) (F : List Row → Set) (a b c d : Database) → b.trees t.tree ≡ a.trees t.tree → d.trees t.tree ≡ c.trees t.tree → Is (rows_in t c.trees) (F (rows_in t b.trees)) → Is (rows_in t d.trees) (F (rows_in t a.trees))
 rows_moved t F a b c d first last is = subst (λ rows. Is rows (F (rows_in t a.trees))) (sym (ap (map (visible t)) last)) (subst (λ rows. Is (rows_in t c.trees) (F rows)) (ap (map (visible t)) first) is)
 
@@ -159,7 +162,7 @@ module _ (n : ℕ) (f : Faction) (m : ℕ) (u : Unit) (report : List ℕ) (after
             (λ e. free (inr (inr (inr (inl (same_part part Reports e)))))) (λ e. free (inr (inr (inr (inr (inl (same_part part Books e)))))));
       }
 
-  -- tables that held the campaign before the joining hold the one after it
+  -- tables that held the campaign before the join hold the one after it
   pub join_held : (a d : Database) → WritesJoin n after a d → (text : List ℕ) (before : CampaignValue) → IsJoining before n after → Holds a.trees text before → Holds d.trees text after
   unfolding joined
   join_held a d did text before joining holds = record { rows = rows }
@@ -185,6 +188,7 @@ module _ (n : ℕ) (f : Faction) (m : ℕ) (u : Unit) (report : List ℕ) (after
           (λ there. people.0 ((enters.books r).0 there), λ of. (enters.books r).1 (people.1 of))
       rows part = subst (λ (c : CampaignValue). Is (rows_in (table_of part) d.trees) (rows_for (campaign_line text c) c part)) (sym joining.7) (stays part refl)
 
+-- the three steps write faction, unit and campaign row
 pub enrolling_done : (n : ℕ) (f : Faction) (m : ℕ) (u : Unit) (after : CampaignValue) (world : List ℕ) (start one two three : State) → Inside HasTables (PutsCampaignRow (campaign_row_of after) world) start one → Inside HasTables (Puts faction_table 1 (faction_line n f)) one two
     → Inside HasTables (Puts unit_table 1 (unit_line m u)) two three → Inside HasTables (Both (PutsCampaignRow (campaign_row_of after) world) (Both (Puts faction_table 1 (faction_line n f)) (Puts unit_table 1 (unit_line m u)))) start three
 enrolling_done n f m u after world start one two three first second third =
@@ -192,6 +196,7 @@ enrolling_done n f m u after world start one two three first second third =
     let units = Puts unit_table 1 (unit_line m u) in
     inside_then HasTables (PutsCampaignRow (campaign_row_of after) world) (Both factions units) start one three first (inside_then HasTables factions units one two three second third)
 
+-- the three steps write the report and the books
 pub reporting_done : (n : ℕ) (report : List ℕ) (after : CampaignValue) (start one two three : State) → Inside HasTables (Puts report_table 1 (report_row n report)) start one → Inside HasTables (Settles after Joining Money) one two
     → Inside HasTables (Settles after Joining People) two three → Inside HasTables (Both (Puts report_table 1 (report_row n report)) (Both (Settles after Joining Money) (Settles after Joining People))) start three
 reporting_done n report after start one two three first second third =
@@ -199,6 +204,7 @@ reporting_done n report after start one two three first second third =
     let people = Settles after Joining People in
     inside_then HasTables (Puts report_table 1 (report_row n report)) (Both money people) start one three first (inside_then HasTables money people one two three second third)
 
+-- both together write the join
 pub joining_done : (n : ℕ) (f : Faction) (m : ℕ) (u : Unit) (report : List ℕ) (after : CampaignValue) (world : List ℕ) (start one two : State) → IsFound after n f m u report
     → Inside HasTables (Both (PutsCampaignRow (campaign_row_of after) world) (Both (Puts faction_table 1 (faction_line n f)) (Puts unit_table 1 (unit_line m u)))) start one
     → Inside HasTables (Both (Puts report_table 1 (report_row n report)) (Both (Settles after Joining Money) (Settles after Joining People))) one two → Inside HasTables (WritesJoin n after) start two
@@ -208,7 +214,7 @@ joining_done n f m u report after world start one two found first second =
 
 -- ---- a mail
 
--- tables that held a campaign hold it with this mail
+-- tables that held a campaign hold it with this mailing
 pub mail_held : (faction : ℕ) (mail : List ℕ) (a b : Database) → WritesMail faction mail a b → (text : List ℕ) (before : CampaignValue) → Holds a.trees text before → Holds b.trees text (with_mail before faction mail)
 mail_held faction mail a b did text before holds = record { rows = rows }
   where
