@@ -89,7 +89,7 @@ said ops root a b (first, second, third) =
 
 -- ---- what is tested
 
--- the root compares the nodes at these two indexes
+-- if the root compares nodes `a` and `b`, the term is "id = 1" exactly if `a` is the column and `b` the number 1
 pub compared : (ops : List Op) (root a b : ℕ) → slice_get ops root ≡ Some (Binary equals a b) → (term_in ops root ≡ is_one → (slice_get ops a ≡ Some (Column 1 0)) × (slice_get ops b ≡ Some (Literal one))) × ((slice_get ops a ≡ Some (Column 1 0)) × (slice_get ops b ≡ Some (Literal one)) → term_in ops root ≡ is_one)
 compared ops root a b first = (
   λ says.
@@ -100,7 +100,7 @@ compared ops root a b first = (
   λ both. said ops root a b (first, both.0, both.1),
 )
 
--- a root that is no comparison is not that of the term
+-- a root that is no comparison is not that of "id = 1"
 pub not_compared : (ops : List Op) (root : ℕ) → ((a b : ℕ) → slice_get ops root ≢ Some (Binary equals a b)) → term_in ops root ≢ is_one
 not_compared ops root other says =
     let (a, b, (is, number, constant)) = says_to ops (length ops) root says in

@@ -1,4 +1,4 @@
--- The trees list one schema, where there is no view.
+-- Law: the schema table of a database lists one schema, if there is no view.
 use Rattle.std.proofs.Common.{◌≡◌, ℕ, ◌+◌, ◌<◌, ◌++◌, false, pos, codes, List, [], ◌∷◌, filter, slice_get, Some, refl, sym, ap, ◌∙◌, subst, arith}
 use Rattle.std.specs.Fmt.{decimal}
 use Rattle.std.specs.List.{AllZip}
@@ -94,6 +94,7 @@ no_views (r ∷ rows) none views is one two = absurd (subst (AllZip IsViewRow (r
 
 -- ---- the whole
 
+-- two sound schemas of one database without views are equal
 pub one_schema : (db : Trees) (s t : Schema) → IsSound s db → IsSound t db → s.views ≡ [] → t ≡ s
 one_schema db s t one two none =
     let first = one.lists.listed in

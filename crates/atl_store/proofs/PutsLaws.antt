@@ -1,4 +1,4 @@
--- Rows that are put one after another.
+-- Laws on putting the rows of a list one after another: what is put so far, and with the rest.
 use Rattle.std.proofs.Common.{◌≡◌, ◌≢◌, ◌↔◌, ◌++◌, ℕ, List, [], ◌∷◌, refl, sym, ◌∙◌, subst, inl, inr}
 use Rattle.sqlite.specs.Order.{Row}
 use Rattle.sqlite.specs.Table.{Table}
@@ -10,7 +10,7 @@ use Rattle.atl_store.specs.Tables.{all_tables}
 use Rattle.atl_store.specs.Inside.{Inside, HasTables, Puts, PutsRows}
 use Rattle.atl_store.proofs.CarryLaws.{carries_then, carries_none}
 
--- with the rest put too, all is put
+-- The rows put so far: with the rest put too, all rows of the list are put. Other tables are unchanged.
 pub record Towards (table : Table) (key : ℕ) (rest all : List Row) (old now : Database) : Type 0 where
   pub rows : (r : Row) → puts key rest (Has (rows_in table now.trees)) r ↔ puts key all (Has (rows_in table old.trees)) r
   pub others : (t : Table) → Has all_tables t → t.tree ≢ table.tree → now.trees t.tree ≡ old.trees t.tree
@@ -44,6 +44,7 @@ module _ (table : Table) (key : ℕ) where
   puts_one : (x : Row) (old new : Database) → Puts table key x old new → PutsRows table key (x ∷ []) old new
   puts_one x old new one = record { rows = one.rows; others = one.others }
 
+  -- a part of the rest is put inside the transaction
   pub inside_rows : (xs rest all : List Row) (old mid new : State) → Inside HasTables (Towards table key (xs ++ rest) all) old mid → Inside HasTables (PutsRows table key xs) mid new → Inside HasTables (Towards table key rest all) old new
   inside_rows xs rest all old mid new so_far more = (
     more.0 ∙ so_far.0,
@@ -77,15 +78,15 @@ module _ (table : Table) (key : ℕ) where
         },
   )
 
-  -- no row at all
+  -- a list without rows is put by doing nothing
   pub none_put : (rows : List Row) → rows ≡ [] → (s : State) → Inside HasTables (PutsRows table key rows) s s
   none_put rows none s = all_put rows rows none s s (none_yet rows rows refl s)
 
-  -- one row
+  -- one row is put
   pub one_put : (row : Row) (rows : List Row) → rows ≡ row ∷ [] → (old new : State) → Inside HasTables (Puts table key row) old new → Inside HasTables (PutsRows table key rows) old new
   one_put row rows is old new did = (did.0, λ has. let made = did.1 has in record { does = subst (λ list. PutsRows table key list old.now new.now) (sym is) (puts_one row old.now new.now made.does); tables = made.tables; carries = made.carries })
 
-  -- one list after another
+  -- one list of rows and then another are put
   pub inside_both : (xs ys : List Row) (a b c : State) → Inside HasTables (PutsRows table key xs) a b → Inside HasTables (PutsRows table key ys) b c → Inside HasTables (PutsRows table key (xs ++ ys)) a c
   inside_both xs ys a b c one two = (
     two.0 ∙ one.0,
