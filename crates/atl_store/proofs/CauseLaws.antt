@@ -25,7 +25,7 @@ more_before a b c before more = omega (arith, before, more)
 -- ---- one call
 
 module _ (old new : State) where
-  -- The error was given by a call of this connection for its own statements.
+  -- The call broke the connection, or it was refused with this error.
   abbrev Caused : Error → Type 0
   Caused e = IsBroken old new ⊎ IsRefused e old new
 
@@ -94,7 +94,7 @@ module _ {S : Type 0} (g : Ghosts S) (own more : Statements) (among : (sql : Lis
 -- ---- as it goes up
 
 module _ {S : Type 0} (g : Ghosts S) (own : Statements) (e : Error) where
-  -- a connection in a transaction is its own state after BEGIN
+  -- a connection in a transaction is unchanged by setting its flag `in_transaction`
   as_begun : (old : Held S) → IsTrue (state g old).in_transaction → record old { in_transaction = true } ≡ old
   as_begun old inside = ap (λ b. record old { in_transaction = b }) (sym inside)
 

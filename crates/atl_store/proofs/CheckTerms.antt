@@ -47,7 +47,7 @@ constant below (Unary op a) says = absurd (cc)
 constant below (Binary op a b) says = absurd (cc)
 constant below (Case t a b) says = absurd (cc)
 
--- the node that is read after the last one
+-- the default for a node that is missing, which is no part of the term
 abbrev past : Op
 past = Literal Null
 

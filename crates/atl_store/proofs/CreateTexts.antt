@@ -101,10 +101,10 @@ module _ {X : Type 0} (text : X → List ℕ) (xs : List X) (all : map text xs �
 -- ---- in a transaction
 
 module _ {S A : Type 0} (g : Ghosts S) {r : Result A Error} {a b : MutBor (Held S)} where
-  -- running a text in a transaction makes one more table
+  -- a write by such a text is one by the CREATE statements (`Creations`)
   pub creating : {Does : State → State → Type 0} {before after : Schema} (text : List ℕ) → Makes before after text → Writes g (Only text []) Does r a b → Writes g Creations Does r a b
   creating text makes one = among_only g text [] (makes.0, refl) one
 
-  -- a text that is run is one of the CREATE texts
+  -- running such a text is a write by the CREATE statements that makes one more table
   pub made_by : {before after : Schema} (text : List ℕ) → Makes before after text → Writes g (Only text []) (Runs text []) r a b → Writes g Creations (Extends before after) r a b
   made_by text makes one = weaker g makes.1 (creating text makes one)

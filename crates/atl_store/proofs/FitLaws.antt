@@ -67,7 +67,7 @@ column_behind (v ∷ vs) x more = column_behind vs x more
 abbrev pub given_row : ℕ → List Term
 given_row width = col 0 0 ∷ lit Null ∷ map (col 0) (range_with_len 1 width)
 
--- the terms of the UPDATE: the values of the new row for the row that is there
+-- the terms of the UPDATE: the number of the row that is there, and the values from the parameters
 abbrev pub changed_row : ℕ → List Term
 changed_row width = col 1 0 ∷ lit Null ∷ map (col 0) (range_with_len 1 width)
 

@@ -231,7 +231,7 @@ module _ {S : Type 0} (g : Ghosts S) where
     other_within : AreTold g old more → HasOtherType g old few → HasOtherType g old more
     other_within all other = record { all = all; select = other.select; one = within other.select other.one; rows = other.rows; told = other.told; other = other.other }
 
-  -- selects that gave typed rows gave rows
+  -- SELECTs that gave typed rows gave rows
   told_of : (old : Held S) (selects : List (List ℕ × List Form)) → AreToldTyped g old selects → AreTold g old selects
   told_of old selects typed select one = let told = typed select one in (told.0, told.1)
 
@@ -309,7 +309,7 @@ module _ {S : Type 0} (g : Ghosts S) where
 
   -- ---- by the format
 
-  -- rows that were found together with no rows of the other tables
+  -- rows that were found, paired with other rows that were given
   found_with : {A B : Type 0} (old : Held S) (selects : List (List ℕ × List Form)) (P : A → Type 0) (Q : A × B → Type 0) (b : B) → ((a : A) → P a → Q (a, b)) → (o : Option A) → Found g old selects P o → Found g old selects Q (option_zip o (Some b))
   found_with old selects P Q b weaker (Some a) found = (found.0, weaker a found.1)
   found_with old selects P Q b weaker None found = found

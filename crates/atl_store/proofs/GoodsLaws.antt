@@ -19,13 +19,13 @@ use Rattle.atl_store.proofs.EntryLaws.{apart_append, below_has, less_apart, got_
 
 -- ---- one amount
 
--- a row that is there unless `b` was not left out
+-- a row of an optional list is its one row, and the condition `b` to leave it out is false
 pub optional_has : (b : Bool) (row r : Row) → Has (if b then [] else row ∷ []) r → (b ≡ false) × (r ≡ row)
 optional_has true row r there = absurd there
 optional_has false row r (inl same) = (refl, same)
 optional_has false row r (inr none) = absurd none
 
--- a row is there unless `b`
+-- an optional list has its row if the condition `b` to leave it out is false
 pub has_optional : (b : Bool) (row : Row) → b ≡ false → Has (if b then [] else row ∷ []) row
 has_optional true row is = absurd (true≢false is)
 has_optional false row is = inl refl

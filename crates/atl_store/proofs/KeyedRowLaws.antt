@@ -87,7 +87,8 @@ pub record HasKey (t : Table) (at : ℕ) (places : List ℕ) : Type 0 where
 abbrev pub IsTakeOut : ℕ → ℕ → List ℕ → List Term → Type 0
 IsTakeOut tree at sql filter = (more : List Table) (indexes : List Index) → command_of (understood (all_and more indexes) sql) ≡ Delete at (record { lets = []; body = delete_query tree filter })
 
--- The text is an INSERT of one row of these terms, with an UPDATE of the row that has the key. The last parameter is after the values.
+-- The text is an INSERT of one row of these terms, with an UPDATE of the row that has the key.
+-- The index `hole` is that of the rowid of that row, which comes after the parameters.
 abbrev pub IsPutUnder : ℕ → ℕ → List ℕ → List ℕ → ℕ → List Term → ℕ → List Term → Type 0
 IsPutUnder tree at places sql width terms hole project = (more : List Table) (indexes : List Index)
     → command_of (understood (all_and more indexes) sql) ≡ InsertOr at Abort (Values terms width) (clause_on places (record { lets = []; body = update_query tree hole project }) ∷ [])

@@ -125,7 +125,7 @@ module _ (c : CampaignValue) where
       let places : from ≡ found.0 = sym (place_at from) ∙ keys.1 ∙ place_at found.0 in
       absurd (omega (arith, places, (range_has (from + 1) count found.0 found.1).0)))
 
-  -- the rows of all things are exactly those of the books
+  -- each row of some things is one of the rows of the books
   pub things_rows : (places : List ℕ) (r : Row) → Has (things_lines c places) r → BooksRowsOf c.books r
   things_rows places r there =
       let found = flat_has (λ place. entries_lines c (thing_at place) all_entries) places r there in

@@ -116,7 +116,7 @@ module _ (schema : Schema) (among : (u : Table) → Has all_tables u → Has sch
     abbrev pub Changes : Type 0
     Changes = (r : Row) → Has (old.trees t.tree) r → take key (visible t r) ≡ take key v → visible t (cast_row t (eval_all project (given schema t unlinked limit params target place project plain new r ∷ r ∷ []))) ≡ v
 
-    -- The table has exactly one row, which has the key.
+    -- Two rows of the table with one key have one rowid.
     abbrev pub OneRow : Type 0
     OneRow = (x r : Row) → Has (old.trees t.tree) x → Has (old.trees t.tree) r → take key (visible t x) ≡ take key (visible t r) → is_eq (value_cmp (rowid x) (rowid r)) ≡ true
 

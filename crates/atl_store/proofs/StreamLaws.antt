@@ -90,7 +90,7 @@ module _ {S : Type 0} (g : Ghosts S) (sql : List ℕ) (old : Held S) where
       idle = idle;
     }
 
-    -- the query is ended early
+    -- a query that is ended early streams nothing (`Ok None`)
     pub given_up : {Z : Type 0} (given : List Row) (now : Held S) → IsGiving g sql old given now → Streams g sql old {Z = Z} forms shown (Ok None) now
     given_up given now giving = record {
       rows = λ _. tt;

@@ -165,7 +165,7 @@ module _ {S : Type 0} (g : Ghosts S) (text : List ℕ) (old mid new : Held S) (w
       new_now : Database
       new_now = (state g new).now
 
-  -- the connection after both steps, if the transaction failed
+  -- two calls that leave the tables as they were leave them so together
   spares_both : (was_open : IsTrue (state g new).is_open → IsTrue (state g mid).is_open) → (state g old).faults ≤ (state g mid).faults → (state g mid).faults ≤ (state g new).faults → Spares (state g old) (state g mid) → Spares (state g mid) (state g new) → Spares (state g old) (state g new)
   spares_both was_open early late first second = record {
     same = λ up.

@@ -40,11 +40,11 @@ module _ {S : Type 0} (g : Ghosts S) where
   -- ---- one statement
 
   module _ (old new : MutBor (Held S)) (sql : List ℕ) (params : Row) (same : new.ghost_name ≡ old.ghost_name) (survives : Survives (state g old.now) (state g new.now) (λ _. ⊥)) where
-    -- The statement ended with this result.
+    -- Outside a transaction the statement is refused with TransactionState, and nothing changes.
     abbrev Ended : Result ℕ Error → Type 0
     Ended r = (state g old.now).in_transaction ≡ false → (r ≡ Err (SqliteFailure TransactionState)) × (new.now ≡ old.now)
 
-    -- The statement ran, if the result is Ok.
+    -- If the disk is clean, the statement ran with this result inside a transaction.
     abbrev Ran : Result ℕ Error → Type 0
     Ran r = HasCleanDisk (state g new.now) → IsTrue (state g old.now).in_transaction → ExecutesInside 0 sql params (state g old.now) (state g new.now) r
 
