@@ -45,7 +45,7 @@ module _ {V : Type 0} (lines : ℕ → V → List Row) (more : ℕ) (values : Fi
       let number = same_number e.0 found.0.0 (sym (are.numbered e.0 e.1 x early) ∙ first_of more x y same ∙ are.numbered found.0.0 found.0.1 y found.2) in
       less_apart e.0 found.0.0 (below_has e.0 es found.0 (and_parts _ _ sorted).0 found.1) number)
 
-  -- the rows made of all entries are exactly the wanted ones
+  -- each row made of the entries is a wanted row
   pub groups_rows : (es : List (ℕ × V)) → es ≡ entries values → (r : Row) → Has (groups_of lines es) r → Wanted r
   groups_rows es same r there =
       let found = flat_has (λ (v : ℕ × V). lines v.0 v.1) es r there in

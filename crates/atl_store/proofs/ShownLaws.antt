@@ -13,7 +13,7 @@ use Rattle.atl_store.specs.Faults.{is_memory, value_fault}
 use Rattle.atl_store.specs.Stored.{Form, IsTyped, AreTyped}
 use Rattle.atl_store.specs.declared.fault.ReadFault.TheVariants.{Memory, OtherType}
 
--- if a row of the answer has just the first columns, these are all of it
+-- if the SELECT's rows have just the first columns, cutting them to these changes nothing
 pub whole_shown : (shown first : Row → Row) → ((r : Row) → first (shown r) ≡ shown r) → (tree rows : List Row) → IsPermutation (map shown tree) rows → IsPermutation (map shown tree) (map first rows)
 whole_shown shown first whole tree rows same = subst (λ l. IsPermutation l (map first rows)) (kept tree) (IsPermutation-map first _ rows same)
   where
