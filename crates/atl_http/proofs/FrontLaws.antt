@@ -65,6 +65,7 @@ first_behind (x ∷ w) t (y ∷ p) h =
 abbrev pub number_row : ℕ → Rows
 number_row key = (param_token ∷ [], key) ∷ []
 
+-- a digit and then digits hold no slash
 slash_step : (b : ℕ) (p : List ℕ) (t : Bool) → is_ascii_digit b ≡ t → (list_all is_ascii_digit p ≡ true → has_slash p ≡ false) → (t && list_all is_ascii_digit p) ≡ true → has_slash (b ∷ p) ≡ false
 slash_step b p true e ih h =
     let differ : (b == 47) ≡ false = grind (arith, nat_tests) in
@@ -76,6 +77,7 @@ no_slash : (p : List ℕ) → list_all is_ascii_digit p ≡ true → has_slash p
 no_slash [] h = refl
 no_slash (b ∷ p) h = slash_step b p (is_ascii_digit b) refl (λ k. no_slash p k) h
 
+-- a digit is not the parameter's token
 first_digit : (b : ℕ) (p : List ℕ) (t : Bool) → is_ascii_digit b ≡ t → (t && list_all is_ascii_digit p) ≡ true → (param_token == b) ≡ false
 first_digit b p true e h = grind (arith, nat_tests)
 first_digit b p false e h = cc
@@ -91,6 +93,7 @@ taken_whole key b p e h =
 abbrev IsAt : ℕ → Option ℕ → Type 0
 IsAt key found = (found ≡ Some key) ⊎ (found ≡ None)
 
+-- two look-ups of one key, one after the other, find it or nothing
 or_either : (key : ℕ) (a b : Option ℕ) → IsAt key a → IsAt key b → IsAt key (or_else a b)
 or_either key a b (inl e) h = inl (ap (λ x. or_else x b) e)
 or_either key a b (inr e) h = subst (λ x. IsAt key (or_else x b)) (sym e) h
@@ -100,6 +103,7 @@ pub end_none : (key b : ℕ) (p : List ℕ) → seek 0 (([], key) ∷ []) (b ∷
 unfolding seek
 end_none key b p = simp (seek-empty 0 p, param_step-empty (b ∷ p), seek-empty ((param_step {K = ℕ} [] (b ∷ p)).0 - 1) p)
 
+-- a row that has ended finds its key at the end of the path, or nothing
 end_alone : (key : ℕ) (p : List ℕ) → IsAt key (seek 0 (([], key) ∷ []) p)
 unfolding seek
 end_alone key [] = inl refl
@@ -113,6 +117,7 @@ after_by : (key b : ℕ) (p : List ℕ) (t : Bool) → has_slash (b ∷ p) ≡ t
 after_by key b p true h = inr (after_param-stop [] (Some key) b p refl h)
 after_by key b p false h = inl (after_param-end [] (Some key) b p tt refl h)
 
+-- a parameter finds its key or nothing
 one_or_none : (key b : ℕ) (p : List ℕ) → IsAt key (first (number_row key) (b ∷ p))
 unfolding seek
 one_or_none key b p =
@@ -128,12 +133,14 @@ small_by : (test : ℕ → Bool) (b : ℕ) (t : Bool) → test b ≡ t → (test
 small_by test b true e small h = small e
 small_by test b false e small h = absurd (h refl)
 
+-- a text whose bytes pass a test for ASCII is UTF-8
 all_utf8 : (test : ℕ → Bool) → ((b : ℕ) → test b ≡ true → b < 128) → (p : List ℕ) → list_all test p ≡ true → IsUtf8 p
 all_utf8 test small p h =
     IsUtf8-from_ascii p (IsAscii-from_all p (λ k d l. small_by test (get_or p k d) (test (get_or p k d)) refl (small (get_or p k d)) (λ e.
     let none = list_all_at test p k d l e in
     cc)))
 
+-- digits are UTF-8
 digits_utf8 : (p : List ℕ) → list_all is_ascii_digit p ≡ true → IsUtf8 p
 digits_utf8 p h = all_utf8 is_ascii_digit (λ b e. grind (arith, nat_tests)) p h
 
@@ -149,6 +156,7 @@ found_or_none : (key : ℕ) (rest : List ℕ) → number_of rest ≡ None → Is
 found_or_none key rest none (inl e) = inl (e, inl none)
 found_or_none key rest none (inr e) = inr (e, none)
 
+-- `NumberSays` of a text, where it is known whether it is of digits
 number_by : (key b : ℕ) (p : List ℕ) (t : Bool) → list_all is_ascii_digit (b ∷ p) ≡ t → NumberSays key (b ∷ p)
 unfolding number_of
 number_by key b p true e = inl (taken_whole key b p (first_digit b p (is_ascii_digit b) refl e) (no_slash (b ∷ p) e), inr (digits_utf8 (b ∷ p) e))

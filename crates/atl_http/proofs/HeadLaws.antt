@@ -64,9 +64,11 @@ verdict_is input headers spans head rest at = rw (at.version, at.method, at.path
 
 -- ---- a head that isn't one
 
+-- too many fields stay too many with more bytes
 exceeds_stays : (input more : List ℕ) → RequestExceeds most_fields input → RequestExceeds most_fields (input ++ more)
 exceeds_stays input more (front, rest, e, head, reads, over) = (front, rest ++ more, ap (λ l. l ++ more) e ∙ append_assoc front rest more, head, reads, over)
 
+-- an input whose every head has too many fields stays so with more bytes
 overflows_stays : (input more : List ℕ) → RequestOverflows most_fields input → RequestOverflows most_fields (input ++ more)
 overflows_stays input more over again head rest reads = over (more ++ again) head rest (subst (λ l. ReadsRequest l head rest) (append_assoc input more again) reads)
 
@@ -128,6 +130,7 @@ short_by_one input h (x ∷ more) few = absurd (omega (arith, few))
 pub lacks_one : (input front : List ℕ) → front ≡ take most_head input → length input < most_head → HasNoRequest front × MayBecomeRequest front → ComesTo input (Lacks 1)
 lacks_one input front e h unfinished_front = (omega arith, short_by_one input (judges_more input front e h unfinished_front))
 
+-- a consequence of what holds of the value of a result
 pub if_ok : {T E : Type 0} {P Q : T → Type 0} (r : Result T E) → ((x : T) → P x → Q x) → IfOk r P → IfOk r Q
 if_ok (Ok x) f h = f x h
 if_ok (Err e) f h = tt

@@ -47,6 +47,7 @@ walk_front (b ∷ front) len t h l =
     let same : t + 1 + length front ≡ t + length (b ∷ front) = omega arith in
     rw (byte, inside, walk_front front len (t + 1) h.1 more, same) refl
 
+-- the part of a path from an index to its end is the rest of the path
 part_rest : (path : List ℕ) (n : ℕ) → n ≤ length path → part_of path n (length path) ≡ drop n path
 part_rest path n h =
     let one : leb n (length path) ≡ true = grind (arith, nat_tests) in
@@ -62,19 +63,23 @@ takes pattern text path rest start end n at last named_is rest_is h =
 abbrev Takes : ℕ → List ℕ → List ℕ → Type 0
 Takes key path rest = walk (kept_at key).pattern (kept_at key).text path (kept_at key).names 0 0 ≡ (number_text, rest) ∷ []
 
+-- a prefix is no longer than the path that begins with it
 longer : (n : ℕ) (front rest : List ℕ) → length front ≡ n → n ≤ length (front ++ rest)
 longer n front rest e = let sum = length-append front rest in omega (arith, e, sum)
 
+-- the route of `/close/` takes the rest as its number
 takes_close : (rest : List ℕ) → Takes 0 (codes "/close/" ++ rest) rest
 takes_close rest =
     let h = longer 7 (codes "/close/") rest refl in
     takes (codes "/close/" ++ param_token ∷ []) (codes "/close/{number}") (codes "/close/" ++ rest) rest 8 14 7 (walk_front (codes "/close/") (length (codes "/close/" ++ rest)) 0 (is_text (codes "/close/") refl) h) refl refl refl h
 
+-- the route of `/orders/` takes the rest as its number
 takes_orders : (rest : List ℕ) → Takes 2 (codes "/orders/" ++ rest) rest
 takes_orders rest =
     let h = longer 8 (codes "/orders/") rest refl in
     takes (codes "/orders/" ++ param_token ∷ []) (codes "/orders/{number}") (codes "/orders/" ++ rest) rest 9 15 8 (walk_front (codes "/orders/") (length (codes "/orders/" ++ rest)) 0 (is_text (codes "/orders/") refl) h) refl refl refl h
 
+-- the route of `/report/` takes the rest as its number
 takes_report : (rest : List ℕ) → Takes 3 (codes "/report/" ++ rest) rest
 takes_report rest =
     let h = longer 8 (codes "/report/") rest refl in
@@ -95,6 +100,7 @@ record Fronted (key : ℕ) (front : List ℕ) : Type 0 where
   joins : (rest : List ℕ) → IsUtf8 rest → IsUtf8 (front ++ rest)
   without : (rest : List ℕ) → number_of rest ≡ None → route_in (kept_at key).value (Some rest) ≡ None
 
+-- a prefix of ASCII has these facts
 fronted : (key last : ℕ) (front : List ℕ) → length front ≡ last + 1 → IsUtf8 front → ((rest : List ℕ) → get_or (front ++ rest) last 0 < 128) → ((rest : List ℕ) → Takes key (front ++ rest) rest)
     → ((rest : List ℕ) → number_of rest ≡ None → route_in (kept_at key).value (Some rest) ≡ None) → Fronted key front
 fronted key last front count text ascii takes_rest without = record {
@@ -120,6 +126,7 @@ abbrev in_found : ℕ → Option (List ℕ) → Option Route
 in_found key None = None
 in_found key (Some rest) = route_in (kept_at key).value (Some rest)
 
+-- a path with the prefix leads to the route with its number, or nowhere
 leads_number : (key : ℕ) (front path rest : List ℕ) → path ≡ front ++ rest → Fronted key front → first rows path ≡ first (number_row key) rest → route_of path ≡ route_in (kept_at key).value (Some rest) → NumberSays key rest → Leads path
 leads_number key front path rest p f a b (inl (e, inl none)) =
     to_number key rest (a ∙ e) (subst (λ l. Takes key l rest) (sym p) (f.takes_rest rest)) (λ u. f.cut rest (subst IsUtf8 p u)) (inl (b ∙ f.without rest none)) b
@@ -127,6 +134,7 @@ leads_number key front path rest p f a b (inl (e, inr text)) =
     to_number key rest (a ∙ e) (subst (λ l. Takes key l rest) (sym p) (f.takes_rest rest)) (λ u. f.cut rest (subst IsUtf8 p u)) (inr (subst IsUtf8 (sym p) (f.joins rest text))) b
 leads_number key front path rest p f a b (inr (e, none)) = nowhere (a ∙ e) (b ∙ f.without rest none)
 
+-- the same, where it is known whether the path has the prefix
 leads_by : (key c : ℕ) (w q : List ℕ) (found : Option (List ℕ)) → after_prefix w q ≡ found → Fronted key (47 ∷ c ∷ w) → first rows (47 ∷ c ∷ q) ≡ option_and_then (λ rest. first (number_row key) rest) found → route_of (47 ∷ c ∷ q) ≡ in_found key found → Leads (47 ∷ c ∷ q)
 leads_by key c w q None h f a b = nowhere a b
 leads_by key c w q (Some rest) h f a b = leads_number key (47 ∷ c ∷ w) (47 ∷ c ∷ q) rest (ap (λ l. 47 ∷ c ∷ l) (behind_is w q rest h)) f a b (number_says key rest)
@@ -139,51 +147,62 @@ after_slash = (codes "close/" ++ param_token ∷ [], 0) ∷ (codes "join", 1) �
 slash_first : (path : List ℕ) → first rows path ≡ option_and_then (λ rest. first after_slash rest) (after_prefix (codes "/") path)
 slash_first path = first_behind (codes "/") after_slash path (lit< tt, tt)
 
+-- looking up after the slash goes by the next letter
 letter_step : (c : ℕ) (q : List ℕ) → first after_slash (c ∷ q) ≡ seek 0 (step c after_slash) q
 unfolding seek
 letter_step c q = simp (param_step-empty (c ∷ q), seek-empty ((param_step {K = ℕ} [] (c ∷ q)).0 - 1) q, or_else-none)
 
+-- looking up a path goes by the slash and the next letter
 letter_first : (c : ℕ) (q : List ℕ) → first rows (47 ∷ c ∷ q) ≡ seek 0 (step c after_slash) q
 letter_first c q = slash_first (47 ∷ c ∷ q) ∙ letter_step c q
 
+-- where paths that begin with `/c` lead
 leads_close : (q : List ℕ) → Leads (47 ∷ 99 ∷ q)
 unfolding route_of
 leads_close q =
     let same : (x : Option (List ℕ)) → numbered route.Close x None ≡ in_found 0 x = λ x. elim x as (λ x. numbered route.Close x None ≡ in_found 0 x) [ None ↦ refl | Some r ↦ refl ] in
     leads_by 0 99 (codes "lose/") q (after_prefix (codes "lose/") q) refl fronted_close (letter_first 99 q ∙ first_behind (codes "lose/") (number_row 0) q (is_text (codes "lose/") refl)) (same (after_prefix (codes "lose/") q))
 
+-- where paths that begin with `/o` lead
 leads_orders : (q : List ℕ) → Leads (47 ∷ 111 ∷ q)
 unfolding route_of
 leads_orders q =
     let same : (x : Option (List ℕ)) → numbered route.Orders x None ≡ in_found 2 x = λ x. elim x as (λ x. numbered route.Orders x None ≡ in_found 2 x) [ None ↦ refl | Some r ↦ refl ] in
     leads_by 2 111 (codes "rders/") q (after_prefix (codes "rders/") q) refl fronted_orders (letter_first 111 q ∙ first_behind (codes "rders/") (number_row 2) q (is_text (codes "rders/") refl)) (same (after_prefix (codes "rders/") q))
 
+-- where paths that begin with `/r` lead
 leads_report : (q : List ℕ) → Leads (47 ∷ 114 ∷ q)
 unfolding route_of
 leads_report q =
     let same : (x : Option (List ℕ)) → numbered route.Report x None ≡ in_found 3 x = λ x. elim x as (λ x. numbered route.Report x None ≡ in_found 3 x) [ None ↦ refl | Some r ↦ refl ] in
     leads_by 3 114 (codes "eport/") q (after_prefix (codes "eport/") q) refl fronted_report (letter_first 114 q ∙ first_behind (codes "eport/") (number_row 3) q (is_text (codes "eport/") refl)) (same (after_prefix (codes "eport/") q))
 
+-- the row of `/join` after its prefix
 abbrev join_row : Rows
 join_row = ([], 1) ∷ []
 
+-- a path longer than `/join` finds nothing
 join_none : (q : List ℕ) (found : Option (List ℕ)) → after_prefix (codes "oin") q ≡ found → (q ≡ codes "oin" → ⊥) → option_and_then (λ rest. first join_row rest) found ≡ None
 join_none q None h n = refl
 join_none q (Some []) h n = absurd (n (behind_is (codes "oin") q [] h))
 join_none q (Some (b ∷ rest)) h n = end_none 1 b rest
 
+-- the path `/join` leads to the route Join
 at_join : Leads (codes "/join")
 unfolding seek route_of
 at_join = to_join refl (ascii_utf8 (codes "/join") refl) refl
 
+-- where paths that begin with `/j` lead, if it is known whether the path is `/join`
 join_by : (q : List ℕ) (t : Bool) → bytes_eq q (codes "oin") ≡ t → Leads (47 ∷ 106 ∷ q)
 unfolding route_of
 join_by q true e = subst Leads (ap (λ l. 47 ∷ 106 ∷ l) (sym ((bytes_eq-Decides q (codes "oin")).0 e))) at_join
 join_by q false e = nowhere (letter_first 106 q ∙ first_behind (codes "oin") join_row q (is_text (codes "oin") refl) ∙ join_none q (after_prefix (codes "oin") q) refl (λ k. let yes = (bytes_eq-Decides q (codes "oin")).1 k in cc)) (rw e refl)
 
+-- where paths that begin with `/j` lead
 leads_join : (q : List ℕ) → Leads (47 ∷ 106 ∷ q)
 leads_join q = join_by q (bytes_eq q (codes "oin")) refl
 
+-- paths whose letter after the slash begins no route lead nowhere
 leads_other : (c : ℕ) (q : List ℕ) → (c == 99) ≡ false → (c == 106) ≡ false → (c == 111) ≡ false → (c == 114) ≡ false → Leads (47 ∷ c ∷ q)
 unfolding route_of
 leads_other c q one two three four =
@@ -217,11 +236,13 @@ letter_close c q true e =
     subst (λ x. Leads (47 ∷ x ∷ q)) same (leads_close q)
 letter_close c q false e = letter_join c q e (c == 106) refl
 
+-- where paths that begin with a slash lead
 leads_slash : (q : List ℕ) → Leads (47 ∷ q)
 unfolding seek route_of
 leads_slash [] = nowhere (slash_first (47 ∷ [])) refl
 leads_slash (c ∷ q) = letter_close c q (c == 99) refl
 
+-- where paths that are not empty lead
 leads_begin : (a : ℕ) (q : List ℕ) (t : Bool) → (a == 47) ≡ t → Leads (a ∷ q)
 unfolding route_of
 leads_begin a q true e =
@@ -237,6 +258,7 @@ leads (a ∷ q) = leads_begin a q (a == 47) refl
 
 -- ---- the laws that the code needs
 
+-- the router with its routes finds what its rows with indexes find
 kept_first : (path : List ℕ) (found : Option ℕ) → first rows path ≡ found → first kept path ≡ map_key kept_at found
 kept_first path found e = first-rename kept_at rows path ∙ ap (map_key kept_at) e
 
@@ -253,6 +275,7 @@ missing path h = missing_by path h (leads path)
 abbrev Says : (path : List ℕ) → RouteOf RouteKey → Type 0
 Says path e = AllText (walk e.pattern e.text path e.names 0 0) × (route_of path ≡ route_in e.value (named (codes "number") (walk e.pattern e.text path e.names 0 0)))
 
+-- the route found for a path is right, by what the path leads to
 route_by : (path : List ℕ) (e : RouteOf RouteKey) → IsUtf8 path → first kept path ≡ Some e → Leads path → Says path e
 route_by path e text h (to_join at utf8 is) =
     let same : kept_at 1 ≡ e = (let some = kept_first path (Some 1) at in cc) in
@@ -262,6 +285,7 @@ route_by path e text h (to_number key rest at taken cut utf8 is) =
     subst (λ x. Says path x) same (rw taken (ascii_utf8 (codes "number") refl, cut text, tt), rw taken is)
 route_by path e text h (nowhere at is) = (let none = kept_first path None at in cc)
 
+-- the route found for a path is right
 found : (path : List ℕ) (e : RouteOf RouteKey) → IsUtf8 path → first kept path ≡ Some e → Says path e
 found path e text h = route_by path e text h (leads path)
 
@@ -269,6 +293,7 @@ found path e text h = route_by path e text h (leads path)
 abbrev Gets : {A : Type 0} → (A → List ℕ) → Option A → List (List ℕ × List ℕ) → Type 0
 Gets view r taken = AllText taken → MatchOption r (named number_text taken ≡ None) (λ text. named number_text taken ≡ Some (view text))
 
+-- a look-up of the parameter gives its text
 got_is : {A : Type 0} (view : A → List ℕ) (r : Option A) (text : Option (List ℕ)) → MatchOption r (text ≡ None) (λ x. text ≡ Some (view x)) → text ≡ option_map view r
 got_is view None text h = h
 got_is view (Some x) text h = h

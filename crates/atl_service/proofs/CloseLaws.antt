@@ -50,9 +50,11 @@ module _ (w : WorldValue) (n : ℕ) (text : List ℕ) where
   abbrev pub Names : Result Reading MailFault → Type 0
   Names read = (r : Reading) × (read ≡ Ok r) × (r.faction ≡ n)
 
+  -- a mailing whose header names the faction is read so
   named : (next : ℕ) (rest : List (List ℕ)) → header_from 1 (lines text) ≡ Ok (record { faction = n; next = next; rest = rest }) → Names (after_header w (header_from 1 (lines text)))
   named next rest is = rw is (_, refl, refl)
 
+  -- a mailing of at most 65,536 bytes is not refused as too long
   not_long : (long : Bool) → nat_lt most_bytes (length text) ≡ long → length text ≤ most_bytes → Names (after_header w (header_from 1 (lines text))) → Names (cond long (Err TooLong) (after_header w (header_from 1 (lines text))))
   not_long true is short names = absurd (grind (arith, nat_tests))
   not_long false is short names = names
@@ -88,6 +90,7 @@ module _ (w : WorldValue) where
       let (r, is, own) = reads w e.0 e.1 h.0 in
       ap (λ read. map (λ r. r.faction) (read_of read ++ texts_read es)) is ∙ ap₂ (λ n ns. n ∷ ns) own (factions_read es h.1)
 
+-- mailings and their readings name the same factions
 factions_of : (ms : List Mailing) → map (λ r. r.faction) (map reading_of ms) ≡ map (λ m. m.faction) ms
 factions_of [] = refl
 factions_of (m ∷ ms) = ap (λ ns. m.faction ∷ ns) (factions_of ms)
@@ -129,6 +132,7 @@ module _ (w : WorldValue) (events : List Event) where
   good_reports faults c (n ∷ ns) (here, there) good =
       good_reports faults (reported_to w faults events c n) ns there (IsGood-with_report w c n (report_of w (view_of w c n) (faults n) events) here good)
 
+-- what is true of each faction's number is true of those chosen by a test
 there_among : (P : ℕ → Type 0) (p : Faction → Bool) (es : List (ℕ × Faction)) → EachOf (λ n f. P n) es → AllByRecursion P (numbers_among p es)
 there_among P p [] all = tt
 there_among P p (e ∷ es) (here, all) = at (p e.1) (there_among P p es all)
@@ -153,6 +157,7 @@ closed_is w c after events words faults is wrong =
 
 -- ---- marks
 
+-- the changes are dirty in a campaign equal to one where they are
 marked_as : (c d : MarkedCampaign) (what : CampaignValue) (marks : Marks) → d.value ≡ what → d.marks ≡ marks → MarksChanges c (record { value = what; marks = marks }) → MarksChanges c d
 marked_as c d what marks is m h = subst (MarksChanges c) (sym (ap₂ (λ s n. record { value = s; marks = n }) is m)) h
 

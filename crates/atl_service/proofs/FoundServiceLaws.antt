@@ -29,9 +29,11 @@ use Rattle.atl_service.specs.Found.{Founds, FailsToFound, LeavesByCause, Refuses
 use Rattle.atl_service.proofs.CauseLaws.{creation_failed, creation_lacked}
 
 module _ {S : Type 0} (g : Ghosts S) where
+  -- a connection is a later state of itself
   later_itself : (conn : Held S) → IsLater (state g conn) (state g conn)
   later_itself conn = record { clean = λ clean. clean; counts = omega arith; shield = λ k. k }
 
+  -- an unchanged connection fulfils what a failed founding leaves
   nothing_done : (conn : Held S) (text pass : List ℕ) → FailsToFound g conn text pass conn
   nothing_done conn text pass = record { tables = λ clean. spares_itself (state g conn); unfounded = λ bad. refl; crash = λ clean w is db may. inl may }
 
@@ -74,6 +76,7 @@ module _ {S : Type 0} (g : Ghosts S) where
 
   -- ---- a founding whose tables could not be created
   module _ (old new : Held S) (w : WorldValue) (c : CampaignValue) (text pass : List ℕ) (made : Prepares text pass w c) (later : IsLater (state g old) (state g new)) where
+    -- tables that could not be created fulfil what a failed founding leaves
     failed : FailsToCreate g text c old new → FailsToFound g old text pass new
     failed fails = record {
       tables = fails.tables;

@@ -126,6 +126,7 @@ module _ {S : Type 0} (g : Ghosts S) where
   none_left now (Some c) is holds = ((is, holds), refl)
   none_left now None is holds = (tt, refl)
 
+  -- an empty list runs with no answers and leaves the service
   pub run_none : (now : ServiceValue S) → IfSome now.campaign (λ c. HoldsCampaign g now.conn (text_in g now.conn) c) → RunsAll g now [] [] now
   run_none now holds = record { follows = none_left now now.campaign refl holds; later = record { clean = λ h. h; counts = omega arith; shield = λ s. s } }
 
@@ -174,6 +175,7 @@ module _ {S : Type 0} (g : Ghosts S) where
     tables = simp unary_clauses (simp unary_clauses at h.tables);
   })
 
+  -- answers that follow the commands end so
   ends : (text : List ℕ) (faults : ℕ) (w : WorldValue) (c : CampaignValue) (cs : List Command) (rs : List Answer) (new : ServiceValue S) → Follows g text faults w c cs rs new → Ends text faults w c cs rs new
   ends text faults w c [] [] new f = inl (record { answers_are = refl; campaign_is = f.0; tables = f.1 })
   ends text faults w c [] (a ∷ rs) new f = absurd f
@@ -196,6 +198,7 @@ module _ {S : Type 0} (g : Ghosts S) where
     tables = f.3;
   })
 
+  -- the same of a service that may be closed
   headline_at : (old new : ServiceValue S) (cs : List Command) (rs : List Answer) (o : Option CampaignValue) → FollowsAt g old cs rs new o → HeadlineAt g old cs rs new o
   headline_at old new cs rs (Some c) f = ends (text_in g old.conn) (state g old.conn).faults old.world c cs rs new f.0
   headline_at old new cs rs None f = (all_closed cs rs f.0, f.1)

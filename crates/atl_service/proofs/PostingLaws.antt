@@ -27,10 +27,12 @@ module _ (c : CampaignValue) (faction : ℕ) (text : List ℕ) where
   abbrev StoresIfMailed : CampaignValue × Answer → Type 0
   StoresIfMailed made = IsMailed made.1 → made.0 ≡ with_mail c faction text
 
+  -- `StoresIfMailed` holds with the test that the header names the sender
   kept_own : (other : Bool) (done : CampaignValue × Answer) → StoresIfMailed done → StoresIfMailed (cond other (c, Refused why.WrongFaction) done)
   kept_own true done keeps taken = absurd taken
   kept_own false done keeps taken = keeps taken
 
+  -- `StoresIfMailed` holds of each result of reading the mailing
   kept_read : (read : Result Reading MailFault) → StoresIfMailed (mailed c faction text read)
   kept_read (Ok r) taken = kept_own (not (r.faction == faction)) _ (λ _. refl) taken
   kept_read (Err TooLong) taken = absurd taken
@@ -38,14 +40,17 @@ module _ (c : CampaignValue) (faction : ℕ) (text : List ℕ) where
   kept_read (Err BadHeader) taken = absurd taken
   kept_read (Err Memory) taken = absurd taken
 
+  -- `StoresIfMailed` holds with the test that the faction isn't gone
   kept_here : (gone : Bool) (done : CampaignValue × Answer) → StoresIfMailed done → StoresIfMailed (cond gone (c, Refused why.Gone) done)
   kept_here true done keeps taken = absurd taken
   kept_here false done keeps taken = keeps taken
 
+  -- `StoresIfMailed` holds with the test of number and pass text
   kept_by : (w : WorldValue) (who : Result Faction Refusal) → StoresIfMailed (mailed_by w c faction text who)
   kept_by w (Err refusal) taken = absurd taken
   kept_by w (Ok f) taken = kept_here f.gone (mailed c faction text (reading w text)) (kept_read (reading w text)) taken
 
+  -- a command Mail that is answered Mailed stores its text
   kept : (w : WorldValue) (pass : List ℕ) → StoresIfMailed (step w c (Mail faction pass text))
   unfolding step
   kept w pass = kept_by w (faction_with_pass pass (get c.factions faction))

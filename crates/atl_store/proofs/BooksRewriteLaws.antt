@@ -33,13 +33,16 @@ use Rattle.atl_store.proofs.WholeLaws.{inside_weaker}
 
 -- ---- a row that begins with an entry and a thing
 
+-- a row passes one of two tests of its entry and thing exactly if it passes their disjunction
 accounts_either : (f g : ℕ → ℕ → Bool) (r : Row) → accounts (λ e t. f e t || g e t) r ≡ (accounts f r || accounts g r)
 accounts_either f g (Int (pos (suc e)) ∷ Int (pos t) ∷ row) = refl
 accounts_either f g row = refl
 
+-- equal tests choose the same rows
 accounts_same : (f g : ℕ → ℕ → Bool) → ((e t : ℕ) → f e t ≡ g e t) → (r : Row) → accounts f r ≡ accounts g r
 accounts_same f g same r = ap (λ (h : ℕ → ℕ → Bool). accounts h r) (λ i e t. same e t i)
 
+-- a test that is always false chooses no row
 accounts_none : (f : ℕ → ℕ → Bool) → ((e t : ℕ) → f e t ≡ false) → (r : Row) → accounts f r ≡ false
 accounts_none f never (Int (pos (suc e)) ∷ Int (pos t) ∷ row) = never e t
 accounts_none f never row = refl
@@ -50,6 +53,7 @@ and_or : (p a b c : Bool) → (p && ((a || b) && c)) ≡ ((p && (a && c)) || (p 
 and_or p a b c = ap (λ q. p && q) (and-or_distrib_right a b c) ∙ and-or_distrib_left p (a && c) (b && c)
 
 module _ (marks : FinSet nat_cmp) where
+  -- whether the amount of this entry and thing is dirty
   abbrev marked : ℕ → ℕ → Bool
   marked e t = contains marks (entry_count * t + e)
 
@@ -79,6 +83,7 @@ module _ (marks : FinSet nat_cmp) where
 
   -- ---- all entries and all things
 
+  -- a number within the bounds passes the test for the range
   in_range : (from count i : ℕ) → from ≤ i → i < from + count → is_among (range_with_len from count) i ≡ true
   in_range from zero i least most = absurd (omega (arith, least, most))
   in_range from (suc count) i least most = elim (cases_Bool (eq_by_cmp nat_cmp i from)) [
@@ -91,11 +96,13 @@ module _ (marks : FinSet nat_cmp) where
       past : (m n : ℕ) → m ≤ n → n ≢ m → m + 1 ≤ n
       past m n least apart = grind (arith, least, apart)
 
+  -- a number above the bounds fails it
   beyond : (from count i : ℕ) → from + count ≤ i → is_among (range_with_len from count) i ≡ false
   beyond from zero i past = refl
   beyond from (suc count) i past =
       ap (λ b. b || is_among (range_with_len (from + 1) count) i) (false_from_ne_true (eq_by_cmp nat_cmp i from) (λ is. absurd (omega (arith, past, tied i from is)))) ∙ beyond (from + 1) count i (omega (arith, past))
 
+  -- a number is among the first `count` exactly if it is below `count`
   among_first : (count e : ℕ) → is_among (range_with_len 0 count) e ≡ nat_le (suc e) count
   among_first count e = elim (cases_lt e count) [
     | inl less ↦ in_range 0 count e (omega arith) (omega (arith, less)) ∙ sym (counted less)
@@ -108,6 +115,7 @@ module _ (marks : FinSet nat_cmp) where
       uncounted : count ≤ e → nat_le (suc e) count ≡ false
       uncounted past = grind (arith, nat_tests, past)
 
+  -- a number is an entry's index exactly if it is below the count of entries
   each_entry : (e : ℕ) → is_among (map entry_index all_entries) e ≡ nat_le (suc e) entry_count
   each_entry e = among_first entry_count e
 
@@ -155,6 +163,7 @@ module _ (c : MarkedCampaign) (e : Entry) (t : Thing) where
       let two = and_parts _ _ one.1 in
       true≢false (sym two.1 ∙ ap (λ x. contains c.marks.books (entry_count * x + k)) (tied j (thing_index t) two.0) ∙ ap (λ x. contains c.marks.books (entry_count * thing_index t + x)) (tied k (entry_index e) one.0) ∙ unmarked))) r
 
+  -- the row of the amount has its key
   key_of : (r : Row) → is_here r ≡ true → take 2 r ≡ books_key (entry_index e + 1) (thing_index t)
   key_of (Int (pos (suc place)) ∷ Int (pos thing) ∷ row) is =
       let one = and_parts _ _ is in
@@ -166,6 +175,7 @@ module _ (c : MarkedCampaign) (e : Entry) (t : Thing) where
   key_of row is = absurd (true≢false (sym is))
 
   module _ (marked : contains c.marks.books (amount_number e t) ≡ true) where
+    -- a row with the key is that of the amount
     of_key : (r : Row) → take 2 r ≡ books_key (entry_index e + 1) (thing_index t) → is_here r ≡ true
     of_key [] key = absurd cc
     of_key (v ∷ []) key = absurd cc
@@ -176,6 +186,7 @@ module _ (c : MarkedCampaign) (e : Entry) (t : Thing) where
         ap (λ x. is_here (x ∷ w ∷ row)) (first ∙ ap int place) ∙ ap (λ x. is_here (int (suc (entry_index e)) ∷ x ∷ row)) second
         ∙ ap (λ b. b && (is_number (thing_index t) (thing_index t) && contains c.marks.books (amount_number e t))) (is_itself (entry_index e)) ∙ ap (λ b. b && contains c.marks.books (amount_number e t)) (is_itself (thing_index t)) ∙ marked
 
+    -- writing the amount rewrites its row and no other
     settle_rewrite : (old new : Database) → Settles c.value e t old new
         → RewritesAmounts c (is_number (entry_index e)) (is_number (thing_index t)) old new
     settle_rewrite old new did = rewrites_key is_here (λ r. take 2 r ≡ books_key (entry_index e + 1) (thing_index t)) (Has (amount_lines c.value e t)) (BooksRowsOf c.value.books) key_of of_key

@@ -16,9 +16,11 @@ use Rattle.atl_store.specs.Faults.{is_memory}
 use Rattle.atl_store.specs.OwnStatements.{Statements}
 use Rattle.atl_store.specs.Causes.{IsGiven, IsBroken, IsRefused, Gives, Leads, IsReached}
 
+-- more failures than before stay more later
 more_later : (a b c : ℕ) → b ≤ c → MoreFaults a b → MoreFaults a c
 more_later a b c later more = omega (arith, later, more)
 
+-- more failures than at a later time are more than at an earlier one
 more_before : (a b c : ℕ) → a ≤ b → MoreFaults b c → MoreFaults a c
 more_before a b c before more = omega (arith, before, more)
 
@@ -29,9 +31,11 @@ module _ (old new : State) where
   abbrev Caused : Error → Type 0
   Caused e = IsBroken old new ⊎ IsRefused e old new
 
+  -- an error out of memory passes the test for it
   no_memory : (e : Error) → e ≡ SqliteFailure code.OutOfMemory → is_memory e ≡ false → ⊥
   no_memory e is other = true≢false (sym (ap is_memory is) ∙ other)
 
+  -- an error of the store, other than out of memory, has its cause
   by_cause : (too_big : Type 0) (e : Error) (cause : StoreError) → e ≡ store_error cause → HasCause old new too_big cause → is_memory e ≡ false → Caused e
   by_cause too_big e OutOfMemory is has other = absurd (no_memory e is other)
   by_cause too_big e Io is has other = inl (inl has)
@@ -40,9 +44,11 @@ module _ (old new : State) where
   by_cause too_big e Broken is has other = inl (inr has)
   by_cause too_big e Unstorable is has other = inr (inl is)
 
+  -- an error of a failed call, other than out of memory, has its cause
   by_failure : (too_big : Type 0) (e : Error) → Fails old new too_big e → is_memory e ≡ false → Caused e
   by_failure too_big e failed = by_cause too_big e failed.0 failed.1 failed.2
 
+  -- an error of an executed statement, other than out of memory, has its cause
   by_execution : (sql : List ℕ) (params : Row) (e : Error) → ExecutesIn false sql params old new (Err e) → is_memory e ≡ false → Caused e
   unfolding ExecutesIn IsNotRun
   by_execution sql params e (inl (inl refused)) other = inr (inr refused.1)
@@ -52,6 +58,7 @@ module _ (old new : State) where
     | inr runs ↦ elim (rw runs at ran.2) [ inl refused ↦ inr (inr refused.1) | inr failed ↦ by_failure _ e failed other ]
   ]
 
+  -- an error given by a call, other than out of memory, has its cause
   by_call : (own : Statements) (e : Error) → IsGiven own e old new → is_memory e ≡ false → Caused e
   by_call own e (inl ran) other = elim ran.3 [ inl whole ↦ by_execution ran.0 ran.1 e whole.0 other | inr ends ↦ inr (inr ends.2) ]
   by_call own e (inr (inside, inl failed)) other = by_failure _ e failed other
@@ -68,6 +75,7 @@ module _ {S : Type 0} (g : Ghosts S) (own : Statements) where
 -- ---- statements that are among others
 
 module _ {S : Type 0} (g : Ghosts S) (own more : Statements) (among : (sql : List ℕ) (params : Row) → own sql params → more sql params) where
+  -- some statements that ran are among more
   leads_among : (count : ℕ) (old new : Held S) → Leads g own count old new → Leads g more count old new
   leads_among zero old new same = same
   leads_among (suc count) old new (mid, ran, rest) = (mid, (ran.0, ran.1, among ran.0 ran.1 ran.2, ran.3, ran.4), leads_among count mid new rest)
@@ -76,6 +84,7 @@ module _ {S : Type 0} (g : Ghosts S) (own more : Statements) (among : (sql : Lis
   pub reached_among : (old new : Held S) → IsReached g own old new → IsReached g more old new
   reached_among old new reached = (reached.0, leads_among reached.0 old new reached.1)
 
+  -- an error given by one of some statements is given by one of more
   given_among : (e : Error) (before after : State) → IsGiven own e before after → IsGiven more e before after
   given_among e before after (inl ran) = inl (ran.0, ran.1, among ran.0 ran.1 ran.2, ran.3)
   given_among e before after (inr fails) = inr fails

@@ -33,9 +33,11 @@ module _ (sql : List ℕ) (old new : State) (plain : IsPlain (understood old.now
   unfolding Shown
   shown_unchanged rows h = (subst (ShowsRows old new sql h.0 _ rows) (subst IsPlain h.1.is plain).0 h.2).3
 
+  -- an unchanged connection leaves its tables
   unchanged_stays : IsUnchanged old new → Stays old new
   unchanged_stays h = record { was_open = λ _. h.0.was_open; same = λ _. (h.0.now_is, h.0.committed_is) }
 
+  -- a rollback leaves the tables of a settled connection
   rolled_stays : IsSettled old → HasCleanDisk old → IsRolledBack old new → Stays old new
   rolled_stays settled clean h = record { was_open = h.was_open; same = λ up. let back = h.undone up in (back.0 ∙ sym (settled clean (h.was_open up)), back.1) }
 
@@ -43,6 +45,7 @@ module _ (sql : List ℕ) (old new : State) (plain : IsPlain (understood old.now
   pub shown_stays : (rows : List Row) → Shown sql [] old new rows → Stays old new
   shown_stays rows h = unchanged_stays (shown_unchanged rows h)
 
+  -- a query that fails while it shows rows changes nothing
   fails_stay : (c : _) (row : Row) (e : Error) (what : Option Returning) → what ≡ None → FailsToShow old new sql c row e what → IsUnchanged old new
   fails_stay c row e None is h = h.3
   fails_stay c row e (Some what) is h = absurd (let k = is in cc)
@@ -63,6 +66,7 @@ module _ (sql : List ℕ) (old new : State) (plain : IsPlain (understood old.now
 
 -- the campaign's own row can't be asked for once more
 module _ (f : Format) {S : Type 0} (g : Ghosts S) (old during : Held S) (begins : HasTablesOf f old.schema) (e : Error) (failed : FailsToQuery (selection campaign_table 1) [] (state g old) (state g during) e) where
+  -- the fault of confirming is Memory or Store, by the error
   told_by : (memory : Bool) → is_memory e ≡ memory → FailsToConfirm g old f (cond memory load.Memory load.Store)
   told_by true is = (begins, (during, e, failed, is))
   told_by false is = inr (begins, (during, e, failed, is))

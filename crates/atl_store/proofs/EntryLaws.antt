@@ -34,11 +34,13 @@ module _ {V : Type 0} where
   nothing_there : (v : V) → None ≡ Some v → ⊥
   nothing_there v e = cc
 
+  -- an entry of a list above a number is above it
   pub below_has : (k : ℕ) (es : List (ℕ × V)) (x : ℕ × V) → below_all nat_cmp k es ≡ true → Has es x → is_lt (nat_cmp k x.0) ≡ true
   below_has k [] x below there = absurd there
   below_has k (e ∷ es) x below (inl same) = ap (λ (y : ℕ × V). is_lt (nat_cmp k y.0)) same ∙ (and_parts _ _ below).0
   below_has k (e ∷ es) x below (inr later) = below_has k es x (and_parts _ _ below).1 later
 
+  -- what is found under a number is in the list
   get_has : (es : List (ℕ × V)) (n : ℕ) (v : V) → find nat_cmp n es ≡ Some v → Has es (n, v)
   get_has [] n v got = absurd (nothing_there v got)
   get_has (e ∷ es) n v got = elim (nat_cmp n e.0) as (λ o. nat_cmp n e.0 ≡ o → cond (is_eq o) (Some e.1) (find nat_cmp n es) ≡ Some v → Has (e ∷ es) (n, v)) [
@@ -50,6 +52,7 @@ module _ {V : Type 0} where
     | Greater ↦ λ _ h. inr (get_has es n v h)
   ] refl got
 
+  -- what is in a sorted list is found under its number
   has_get : (es : List (ℕ × V)) (n : ℕ) (v : V) → is_sorted nat_cmp es ≡ true → Has es (n, v) → find nat_cmp n es ≡ Some v
   has_get [] n v sorted there = absurd there
   has_get (e ∷ es) n v sorted (inl same) =
@@ -137,6 +140,7 @@ lines_rows {V} line m es same r there =
     (x.0.0, x.0.1, entry_got m x.0.0 x.0.1 (subst (λ (l : List (ℕ × V)). Has l x.0) same x.1), x.2)
 
 module _ {V : Type 0} (line : ℕ → V → Row) (numbered : (n : ℕ) (v : V) → take 1 (line n v) ≡ int n ∷ []) where
+  -- the rows of sorted entries have different keys
   lines_apart : (es : List (ℕ × V)) → is_sorted nat_cmp es ≡ true → DifferInKey 1 (lines_of line es)
   lines_apart [] sorted = tt
   lines_apart (e ∷ es) sorted = (

@@ -35,6 +35,7 @@ fits_length [] (v ∷ vs) fits = absurd fits
 fits_length (c ∷ cs) [] fits = absurd fits
 fits_length (c ∷ cs) (v ∷ vs) fits = ap suc (fits_length cs vs fits.1)
 
+-- SQL's casts leave fitting values
 fits_cast : (cs : List Column) (vs : Row) → Fits cs vs → cast_all cs vs ≡ vs
 fits_cast [] [] fits = refl
 fits_cast [] (v ∷ vs) fits = absurd fits
@@ -43,20 +44,25 @@ fits_cast (c ∷ cs) (v ∷ vs) fits = let here = fits.0 in let later = fits_cas
 
 -- ---- the columns of a row, one by one
 
+-- mapping a range that begins one higher
 shifted : {X : Type 0} (f g : ℕ → X) → ((k : ℕ) → f (k + 1) ≡ g k) → (a n : ℕ) → map f (range_with_len (a + 1) n) ≡ map g (range_with_len a n)
 shifted f g same a zero = refl
 shifted f g same a (suc n) = let here = same a in let later = shifted f g same (a + 1) n in cc
 
+-- a column of a row is the one before it of the rest
 next_column : (v : Value) (vs : Row) (k : ℕ) → column (v ∷ vs) (k + 1) ≡ column vs k
 next_column v vs k = let next : k + 1 ≡ suc k = omega arith in ap (column (v ∷ vs)) next
 
+-- all columns of a row, one by one, are the row
 each_column : (vs more : Row) → map (column (vs ++ more)) (range_with_len 0 (length vs)) ≡ vs
 each_column [] more = refl
 each_column (v ∷ vs) more = ap (λ (l : Row). v ∷ l) (shifted (column (v ∷ (vs ++ more))) (column (vs ++ more)) (next_column v (vs ++ more)) 0 (length vs) ∙ each_column vs more)
 
+-- all columns after the first, one by one, are the rest
 each_behind : (v : Value) (vs more : Row) → map (column (v ∷ (vs ++ more))) (range_with_len 1 (length vs)) ≡ vs
 each_behind v vs more = shifted (column (v ∷ (vs ++ more))) (column (vs ++ more)) (next_column v (vs ++ more)) 0 (length vs) ∙ each_column vs more
 
+-- the column after the values is the next value
 column_behind : (vs : Row) (x : Value) (more : Row) → column (vs ++ x ∷ more) (length vs) ≡ x
 column_behind [] x more = refl
 column_behind (v ∷ vs) x more = column_behind vs x more

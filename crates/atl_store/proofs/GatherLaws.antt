@@ -26,6 +26,7 @@ use Rattle.atl_store.proofs.ListLaws.{has_map}
 use Rattle.atl_store.proofs.PartLaws.{is_among, not_among}
 use Rattle.atl_store.proofs.PartsLaws.{every_part}
 
+-- a connection that shows rows of a query is open
 shows_open : (old new : State) (sql : List ℕ) (c : _) (row : Row) (rows : List Row) (what : Option Returning) → ShowsRows old new sql c row rows what → IsTrue old.is_open
 shows_open old new sql c row rows None h = h.3.0.was_open
 shows_open old new sql c row rows (Some what) h = h.1.shown.was_open
@@ -47,6 +48,7 @@ store_no_memory is = cc
 refused_no_memory : read.Refused ≢ read.Memory
 refused_no_memory is = cc
 
+-- before any call nothing is committed
 survives_start : (s : State) → Survives s s (λ _. ⊥)
 survives_start s = record { clean = omega arith; shield = λ k. k; counts = omega arith; limit = refl; closes = λ clean up. inl up; crash = λ clean db may. inl may }
 
@@ -57,6 +59,7 @@ each_of_both P xs ys first second x there = elim (has_either xs ys x there) [
   | inr one ↦ second x one
 ]
 
+-- what is true of one element is true of each of the list of it
 each_of_one : {X : Type 0} (P : X → Type 0) (x : X) → P x → (y : X) → Has (x ∷ []) y → P y
 each_of_one P x p y (inl same) = subst P (sym same) p
 each_of_one P x p y (inr none) = absurd none
@@ -91,6 +94,7 @@ module _ {S : Type 0} (g : Ghosts S) where
       let same = stays.same up in
       same.0 ∙ settled (omega (arith, leaves.survives.clean, clean)) (stays.was_open up) ∙ sym same.1
 
+  -- a settled connection at rest leaves its tables
   rests_stays : (old new : State) → IsSettled old → HasCleanDisk old → Rests old new → Stays old new
   rests_stays old new settled clean rests = record {
     was_open = rests.was_open;
@@ -104,12 +108,15 @@ module _ {S : Type 0} (g : Ghosts S) where
     abbrev this_select : List (List ℕ × List Form)
     this_select = (sql, forms) ∷ []
 
+    -- a SELECT that showed rows gave these rows
     tells : (rows : List Row) → Selects g sql old rows → Tells g old sql rows
     tells rows told = record { before = told.0; during = told.1; same = told.2.same; shown = told.3 }
 
+    -- a connection whose SELECT showed rows was open
     selects_open : (rows : List Row) → Selects g sql old rows → IsTrue (state g old).is_open
     selects_open rows told = told.2.was_open (shown_open sql _ _ rows told.3)
 
+    -- rows of one table that were read are found
     found_one : {Z : Type 0} (r : Result (Vec A Z) ReadFault) → ReadsRows g sql old forms shown r new → GivesTable g (listing_of part).since (listing_of part).in_table shown r old new → HasCleanDisk (state g new) → IfOk (kept_of r) (Found g old this_select (λ all. AreAllRows (state g old).now ((part, map shown all.items) ∷ [])))
     found_one (Ok all) reads gives clean =
         let told = reads.rows clean in
@@ -128,6 +135,7 @@ module _ {S : Type 0} (g : Ghosts S) where
     found_one (Err read.Store) reads gives clean = tt
     found_one (Err read.Refused) reads gives clean = tt
 
+    -- a connection that read one table was open
     open_one : {Z : Type 0} (r : Result (Vec A Z) ReadFault) → ReadsRows g sql old forms shown r new → HasCleanDisk (state g new) → IfOk (kept_of r) (λ _. IsTrue (state g old).is_open)
     open_one (Ok all) reads clean = let told = reads.rows clean in selects_open told.0 told.1
     open_one (Err read.OtherType) reads clean = let told = reads.other clean refl in selects_open told.0 told.1
@@ -135,13 +143,16 @@ module _ {S : Type 0} (g : Ghosts S) where
     open_one (Err read.Store) reads clean = tt
     open_one (Err read.Refused) reads clean = tt
 
+    -- a SELECT that is refused refuses the list of it
     refuses : (fault : ReadFault) → RefusesToSelect g sql old fault → RefusesOne g old this_select fault
     refuses fault refused = record { select = (sql, forms); one = inl refl; before = old; leaves = leaves_none old idle; refused = refused }
 
+    -- a read of one table may run out of memory
     wants : RefusesToSelect g sql old read.Memory ⊎ ((rows : List Row) × Selects g sql old rows) → FailsToRead g old this_select Memory
     wants (inl refused) = inl (refuses read.Memory refused)
     wants (inr told) = inr (record { select = (sql, forms); one = inl refl; before = old; leaves = leaves_none old idle; rows = told.0; answered = told.1 })
 
+    -- a fault of reading one table
     fails_one : {Z : Type 0} (r : Result (Vec A Z) ReadFault) → ReadsRows g sql old forms shown r new → HasCleanDisk (state g new) → IfErr (kept_of r) (FailsToRead g old this_select)
     fails_one (Ok all) reads clean = tt
     fails_one (Err read.OtherType) reads clean = tt
@@ -166,12 +177,15 @@ module _ {S : Type 0} (g : Ghosts S) where
   -- ---- two stages, of which the second begins where the first ended
 
   module _ (old mid : Held S) (same : (state g mid).now ≡ (state g old).now) where
+    -- rows that a SELECT gave later it would have given before, since the tables are unchanged
     told_then : (sql : List ℕ) (rows : List Row) → Tells g mid sql rows → Tells g old sql rows
     told_then sql rows told = record { before = told.before; during = told.during; same = told.same ∙ same; shown = told.shown }
 
+    -- the same for several SELECTs
     all_told_then : (selects : List (List ℕ × List Form)) → AreTold g mid selects → AreTold g old selects
     all_told_then selects all select one = let told = all select one in (told.0, told_then select.0 told.0 told.1)
 
+    -- the same for what was found
     found_then : {A : Type 0} (selects : List (List ℕ × List Form)) (P Q : A → Type 0) (o : Option A) → ((a : A) → P a → Q a) → Found g mid selects P o → Found g old selects Q o
     found_then selects P Q (Some a) weaker found = (λ select one. let told = found.0 select one in (told.0, told_then select.0 told.0 told.1, told.2), weaker a found.1)
     found_then selects P Q None weaker found = record {
@@ -183,6 +197,7 @@ module _ {S : Type 0} (g : Ghosts S) where
       other = found.other;
     }
 
+  -- a SELECT refused later is refused from the start
   refuses_then : (old mid : Held S) → Leaves g old mid → (selects : List (List ℕ × List Form)) (fault : ReadFault) → RefusesOne g mid selects fault → RefusesOne g old selects fault
   refuses_then old mid first selects fault refused = record {
     select = refused.select;
@@ -192,6 +207,7 @@ module _ {S : Type 0} (g : Ghosts S) where
     refused = refused.refused;
   }
 
+  -- a SELECT answered later is answered from the start
   answers_then : (old mid : Held S) → Leaves g old mid → (selects : List (List ℕ × List Form)) → AnswersOne g mid selects → AnswersOne g old selects
   answers_then old mid first selects answers = record {
     select = answers.select;
@@ -213,12 +229,15 @@ module _ {S : Type 0} (g : Ghosts S) where
   fails_then old mid first selects Memory (inr answers) = inr (answers_then old mid first selects answers)
 
   module _ (old : Held S) (few more : List (List ℕ × List Form)) (within : (select : List ℕ × List Form) → Has few select → Has more select) where
+    -- a refused SELECT among few is one among more
     refuses_within : (fault : ReadFault) → RefusesOne g old few fault → RefusesOne g old more fault
     refuses_within fault refused = record { select = refused.select; one = within refused.select refused.one; before = refused.before; leaves = refused.leaves; refused = refused.refused }
 
+    -- an answered SELECT among few is one among more
     answers_within : AnswersOne g old few → AnswersOne g old more
     answers_within answers = record { select = answers.select; one = within answers.select answers.one; before = answers.before; leaves = answers.leaves; rows = answers.rows; answered = answers.answered }
 
+    -- a fault of reading few tables is one of reading more
     fails_within : (fault : LoadFault) → FailsToRead g old few fault → FailsToRead g old more fault
     fails_within Store (inl refused) = inl (refuses_within read.Store refused)
     fails_within Store (inr refused) = inr (refuses_within read.Refused refused)
@@ -228,6 +247,7 @@ module _ {S : Type 0} (g : Ghosts S) where
     fails_within Memory (inl refused) = inl (refuses_within read.Memory refused)
     fails_within Memory (inr answers) = inr (answers_within answers)
 
+    -- a value of another type in few tables is one in more
     other_within : AreTold g old more → HasOtherType g old few → HasOtherType g old more
     other_within all other = record { all = all; select = other.select; one = within other.select other.one; rows = other.rows; told = other.told; other = other.other }
 
@@ -235,6 +255,7 @@ module _ {S : Type 0} (g : Ghosts S) where
   told_of : (old : Held S) (selects : List (List ℕ × List Form)) → AreToldTyped g old selects → AreTold g old selects
   told_of old selects typed select one = let told = typed select one in (told.0, told.1)
 
+  -- what two reads found is found together
   found_both : {A B : Type 0} (xs ys : List (List ℕ × List Form)) (P : A → Type 0) (Q : B → Type 0) (old : Held S) (a : Option A) (b : Option B) → Found g old xs P a → Found g old ys Q b → Found g old (xs ++ ys) (λ x. P x.0 × Q x.1) (option_zip a b)
   found_both xs ys P Q old (Some a) (Some b) p q = (each_of_both (λ s. (rows : List Row) × Tells g old s.0 rows × AreTyped s.1 rows) xs ys p.0 q.0, (p.1, q.1))
   found_both xs ys P Q old (Some a) None p q = other_within old ys (xs ++ ys) (has_right xs ys) (each_of_both (λ s. (rows : List Row) × Tells g old s.0 rows) xs ys (told_of old xs p.0) q.all) q
@@ -249,6 +270,7 @@ module _ {S : Type 0} (g : Ghosts S) where
       let same = ((before.stays (omega (arith, reads.leaves.survives.clean, clean))).same up).0 in
       found_then old mid same selects P Q o (weaker same) (subst (λ r. IfOk r (Found g mid selects P)) was (reads.found clean))
 
+  -- a read with a consequence of what it found
   reads_as : {A : Type 0} (selects : List (List ℕ × List Form)) (P Q : A → Type 0) (old new : Held S) (r : Result (Option A) LoadFault) → ((a : A) → P a → Q a) → ReadsSome g old selects P r new → ReadsSome g old selects Q r new
   reads_as {A} selects P Q old new r weaker reads = record { was_open = reads.was_open; found = λ clean. found r (reads.found clean); fails = reads.fails; leaves = reads.leaves }
     where
@@ -314,6 +336,7 @@ module _ {S : Type 0} (g : Ghosts S) where
   found_with old selects P Q b weaker (Some a) found = (found.0, weaker a found.1)
   found_with old selects P Q b weaker None found = found
 
+  -- all rows of some tables and none of the others are the rows of the first format
   of_first : (db : Database) (some others : ReadRows) → AreAllRows db some → map (λ read. read.0) some ≡ other_parts First → AreNone others → map (λ read. read.0) others ≡ late_parts → AreOfFormat First db (some ++ others)
   of_first db some others are early none late = record {
     each =
@@ -380,6 +403,7 @@ same_selects : (some others : List (List ℕ × List Form)) → some ≡ other_s
 same_selects some others first second First = first
 same_selects some others first second Second = second
 
+-- the read of the other tables of a format
 pub reads_others : {A S : Type 0} (g : Ghosts S) (some others : List (List ℕ × List Form)) (P : A → Type 0) (old new : Held S) (r : Result (Option A) LoadFault) (f : Format) → some ≡ other_selects First → some ++ others ≡ other_selects Second
     → ReadsSome g old (selects_by f some others) P r new → ReadsSome g old (other_selects f) P r new
 reads_others g some others P old new r f first second reads = subst (λ selects. ReadsSome g old selects P r new) (same_selects some others first second f) reads

@@ -35,6 +35,7 @@ pub optional_apart : (key : ℕ) (b : Bool) (row : Row) → DifferInKey key (if 
 optional_apart key true row = tt
 optional_apart key false row = (λ y none. absurd none, tt)
 
+-- a number that fails the test for 0 is not 0
 not_zero : (a : ℕ) → (a == 0) ≡ false → a ≢ 0
 not_zero a differs same = grind (arith, nat_tests)
 
@@ -74,12 +75,15 @@ pub three_same : (a b c d e f : ℕ) → ◌≡◌ {A = Row} (has_key a b c) (ha
 three_same a b c d e f same = (cc, cc, cc)
 
 module _ (unit : ℕ) (sort : ThingKind) where
+  -- each row of one kind of thing is of an entry that is not 0
   sort_has : (es : List (ℕ × ℕ)) (r : Row) → Has (kind_lines unit sort es) r → (e : ℕ × ℕ) × Has es e × (e.1 ≢ 0) × (r ≡ has_row unit (sort_number sort) e.0 e.1)
   sort_has = amounts_have (has_row unit (sort_number sort))
 
+  -- each entry of one kind of thing that is not 0 has its row
   has_sort : (es : List (ℕ × ℕ)) (thing amount : ℕ) → Has es (thing, amount) → amount ≢ 0 → Has (kind_lines unit sort es) (has_row unit (sort_number sort) thing amount)
   has_sort = have_amount (has_row unit (sort_number sort))
 
+  -- the rows of one kind of thing have different keys
   sort_apart : (es : List (ℕ × ℕ)) → is_sorted nat_cmp es ≡ true → DifferInKey 3 (kind_lines unit sort es)
   sort_apart = amounts_apart (has_row unit (sort_number sort)) 3 (λ m a n b same. (three_same unit (sort_number sort) m unit (sort_number sort) n same).2)
 
@@ -107,11 +111,13 @@ goods_apart unit held =
     let keys = three_same unit 0 one.0.0 unit 1 two.0.0 (ap (take 3) (sym one.3) ∙ same ∙ ap (take 3) two.3) in
     absurd (omega (arith, keys.1)))
 
+-- each row of a unit begins with its number
 goods_begin : (n : ℕ) (held : HoldingValue) (r : Row) → Has (goods_lines n held) r → take 1 r ≡ int n ∷ []
 goods_begin n held r there = ap (take 1) (goods_has n held r there).4
 
 -- ---- all that all units have
 
+-- each row of a unit of the map is a row of `has`
 goods_rows : (units : FinMap nat_cmp Unit) (n : ℕ) (u : Unit) → get units n ≡ Some u → (r : Row) → Has (goods_lines n u.holding) r → HasRowsOf units r
 goods_rows units n u got r there =
     let row = goods_has n u.holding r there in

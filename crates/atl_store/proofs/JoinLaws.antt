@@ -36,6 +36,7 @@ use Rattle.atl_store.proofs.WholeLaws.{inside_then, inside_weaker}
 
 -- ---- one booking changes one amount
 
+-- booking one amount leaves the amounts of other entries and things
 beside_booked : (books : BooksValue) (e : Entry) (t : Thing) (n : ℤ) (f : Entry) (u : Thing) → (entry_index f ≢ entry_index e) ⊎ (thing_index u ≢ thing_index t) → amount_in (after_booking books e t n) f u ≡ amount_in books f u
 beside_booked books e t n f u far = other_amount books e t (amount_in books e t +ℤ n) f u (elim far [ inl entries ↦ apart_entries (f, u) (e, t) entries | inr things ↦ apart_things (f, u) (e, t) things ])
 
@@ -58,6 +59,7 @@ record IsArrival (n : ℕ) (f : Faction) (m : ℕ) (u : Unit) (report : List ℕ
 found_is : {V : Type 0} (m after : FinMap nat_cmp V) (n k : ℕ) (v w : V) → after ≡ insert m n v → k ≡ n → get after k ≡ Some w → v ≡ w
 found_is {V} m after n k v w is same got = same_Some v w (sym (get_inserted m n v) ∙ ap (λ (x : FinMap nat_cmp V). get x n) (sym is) ∙ ap (get after) (sym same) ∙ got)
 
+-- a join with its first report is such an arrival (`IsArrival`)
 arrives : (n : ℕ) (f : Faction) (m : ℕ) (u : Unit) (report : List ℕ) (before after : CampaignValue) → IsFound after n f m u report → IsJoining before n after → IsArrival n f m u report before after
 unfolding joined
 arrives n f m u report before after found joining =
@@ -96,17 +98,18 @@ arrives n f m u report before after found joining =
 
 -- ---- the statements of a joining
 
+-- a table with one campaign row has the new one alone after it is put
 put_campaign_row : (rows news : List Row) (text : List ℕ) (before after : CampaignRowValue) → Is rows (λ r. r ≡ campaign_row before text) → Is news (put 1 (campaign_row after text) (Has rows)) → Is news (λ r. r ≡ campaign_row after text)
 put_campaign_row rows news text before after was made r = (
   λ there. elim ((made r).0 there) [ inl same ↦ same | inr kept ↦ absurd (kept.1 (ap (take 1) ((was r).0 kept.0))) ],
   λ same. (made r).1 (inl same),
 )
 
--- The statements that write faction, unit and campaign row.
+-- The campaign row, the faction's row and the unit's row are put.
 abbrev Enrolls : ℕ → Faction → ℕ → Unit → CampaignValue → List ℕ → Database → Database → Type 0
 Enrolls n f m u after world = Both (PutsCampaignRow (campaign_row_of after) world) (Both (Puts faction_table 1 (faction_line n f)) (Puts unit_table 1 (unit_line m u)))
 
--- The statements that write the report and the amounts of the books.
+-- The report's row is put, and the two amounts of the books are written.
 abbrev Welcomes : ℕ → List ℕ → CampaignValue → Database → Database → Type 0
 Welcomes n report after = Both (Puts report_table 1 (report_row n report)) (Both (Settles after Joining Money) (Settles after Joining People))
 
@@ -114,6 +117,7 @@ Welcomes n report after = Both (Puts report_table 1 (report_row n report)) (Both
 rows_moved : (t : Table) (F : List Row → Set) (a b c d : Database) → b.trees t.tree ≡ a.trees t.tree → d.trees t.tree ≡ c.trees t.tree → Is (rows_in t c.trees) (F (rows_in t b.trees)) → Is (rows_in t d.trees) (F (rows_in t a.trees))
 rows_moved t F a b c d first last is = subst (λ rows. Is rows (F (rows_in t a.trees))) (sym (ap (map (visible t)) last)) (subst (λ rows. Is (rows_in t c.trees) (F rows)) (ap (map (visible t)) first) is)
 
+-- writing an amount to equal sets of rows gives equal sets
 settled_on : (c : CampaignValue) (e : Entry) (t : Thing) (rows news : List Row) (S : Set) → Is rows S → Is news (settled c e t (Has rows)) → Is news (settled c e t S)
 settled_on c e t rows news S was is r = (
   λ there. elim ((is r).0 there) [ inl new ↦ inl new | inr kept ↦ inr ((was r).0 kept.0, kept.1) ],
@@ -121,6 +125,7 @@ settled_on c e t rows news S was is r = (
 )
 
 module _ (n : ℕ) (f : Faction) (m : ℕ) (u : Unit) (report : List ℕ) (after : CampaignValue) (found : IsFound after n f m u report) where
+  -- both steps together are the writes of a join
   joins : (world : List ℕ) (a b d : Database) → Enrolls n f m u after world a b → Welcomes n report after b d → WritesJoin n after a d
   joins world a b d enrolls reports before text was =
       let x = enrolls.0 in

@@ -35,29 +35,36 @@ use Rattle.atl_store.proofs.LoadLaws.{keyed_by, keyed_shown}
 -- ---- rows by a number that each of them has in a column
 
 module _ {A : Type 0} (shown : A → Row) (number : A → ℤ) (at : ℕ) (is : (a : A) → column (shown a) at ≡ Int (number a)) where
+  -- equality of the columns that show the numbers is equality of the numbers
   same_test : (a b : A) → is_eq (value_cmp (column (shown a) at) (column (shown b) at)) ≡ int_eq (number a) (number b)
   same_test a b = ap (λ v. is_eq (value_cmp v (column (shown b) at))) (is a) ∙ ap (λ v. is_eq (value_cmp (Int (number a)) v)) (is b) ∙ ap is_eq (value_cmp-Int (number a) (number b))
 
+  -- a number that differs from others is shown differently from each
   each_apart : (a : A) (xs : List A) → AllByRecursion (λ n. int_eq (number a) n ≡ false) (map number xs) → AllByRecursion (λ r. is_eq (value_cmp (column (shown a) at) (column r at)) ≡ false) (map shown xs)
   each_apart a [] all = tt
   each_apart a (x ∷ xs) all = (same_test a x ∙ all.0, each_apart a xs all.1)
 
+  -- different numbers are shown in different columns' values
   columns_apart : (xs : List A) → IsDistinct int_eq (map number xs) → IsDistinct (λ a b. is_eq (value_cmp (column a at) (column b at))) (map shown xs)
   unfolding IsDistinct
   columns_apart [] apart = tt
   columns_apart (x ∷ xs) apart = (each_apart x xs apart.0, columns_apart xs apart.1)
 
+  -- the numbers are shown as integers
   are_ints : (xs : List A) → AllByRecursion (λ r. is_int (column r at) ≡ true) (map shown xs)
   are_ints [] = tt
   are_ints (x ∷ xs) = (ap is_int (is x), are_ints xs)
 
+  -- different numbers are shown as different integers (`HaveKeys`)
   numbers_keys : (xs : List A) → IsDistinct int_eq (map number xs) → HaveKeys at (map shown xs)
   numbers_keys xs apart = record { apart = columns_apart xs apart; ints = are_ints xs }
 
+  -- a number shown differently from others differs from each
   each_number_apart : (a : A) (xs : List A) → AllByRecursion (λ r. is_eq (value_cmp (column (shown a) at) (column r at)) ≡ false) (map shown xs) → AllByRecursion (λ n. int_eq (number a) n ≡ false) (map number xs)
   each_number_apart a [] all = tt
   each_number_apart a (x ∷ xs) all = (sym (same_test a x) ∙ all.0, each_number_apart a xs all.1)
 
+  -- numbers that are shown differently differ
   numbers_apart : (xs : List A) → IsDistinct (λ a b. is_eq (value_cmp (column a at) (column b at))) (map shown xs) → IsDistinct int_eq (map number xs)
   unfolding IsDistinct
   numbers_apart [] apart = tt
@@ -68,6 +75,7 @@ module _ {A : Type 0} (shown : A → Row) (number : A → ℤ) (at : ℕ) (is : 
 differ : (m n : ℕ) → m ≢ n → int_eq (pos m) (pos n) ≡ false
 differ m n apart = elim (cases_Bool (int_eq (pos m) (pos n))) [ inl same ↦ absurd (apart (grind (ints, arith))) | inr differs ↦ differs ]
 
+-- the numbers of sorted entries differ
 entries_apart : {V : Type 0} (es : List (ℕ × V)) → is_sorted nat_cmp es ≡ true → IsDistinct int_eq (map (λ (e : ℕ × V). pos e.0) es)
 unfolding IsDistinct
 entries_apart [] sorted = tt
@@ -98,10 +106,12 @@ mapped_twice f g h same (x ∷ xs) = ap (λ y. y ∷ map g (map f xs)) (same x) 
 abbrev placed_row : Part → Row → Row
 placed_row part r = visible (table_of part) r ++ rowid r ∷ []
 
+-- a row without its rowid is the visible row
 cut_row : (part : Part) (r : Row) → take (width part) (placed_row part r) ≡ visible (table_of part) r
 cut_row Own r = refl
 cut_row part r = refl
 
+-- the last column of such a row is its rowid
 row_place : (part : Part) (r : Row) → column (placed_row part r) (width part) ≡ rowid r
 row_place Own r = refl
 row_place part r = refl
@@ -114,9 +124,11 @@ shown_by Books = inl (refl, λ db. refl)
 shown_by Markets = inl (refl, λ db. refl)
 shown_by part = inr (refl, λ db. refl, λ r. refl)
 
+-- the listing of such a part shows each row with its rowid
 in_places : (part : Part) → has_places part ≡ true → (db : Trees) → (listing_of part).in_table db ≡ map (placed_row part) (db (table_of part).tree)
 in_places part is = elim (shown_by part) [ inl places ↦ places.1 | inr whole ↦ absurd (true≢false (sym is ∙ whole.0)) ]
 
+-- if the key is the row's number, the first column is the rowid
 row_number : (part : Part) → has_places part ≡ false → (r : Row) → column (visible (table_of part) r) 0 ≡ rowid r
 row_number part is = elim (shown_by part) [ inl places ↦ absurd (true≢false (sym places.0 ∙ is)) | inr whole ↦ whole.2 ]
 
@@ -129,12 +141,14 @@ pub cut_nothing : (part : Part) (rows : List Row) → has_places part ≡ false 
 cut_nothing part rows is = ap (λ b. if b then map (take (width part)) rows else rows) is
 
 module _ (part : Part) (db : Trees) (rows : List Row) where
+  -- all rows with rowids, cut, are all rows of the table
   without_places : IsPermutation (map (placed_row part) (db (table_of part).tree)) rows → IsPermutation (rows_in (table_of part) db) (map (take (width part)) rows)
   without_places same =
       subst (λ l. IsPermutation l (map (take (width part)) rows)) (mapped_twice (placed_row part) (take (width part)) (visible (table_of part)) (cut_row part) (db (table_of part).tree))
       (IsPermutation-map (take (width part)) (map (placed_row part) (db (table_of part).tree)) rows same)
 
   module _ (is : has_places part ≡ true) (same : IsPermutation ((listing_of part).in_table db) rows) where
+    -- the rows shown are a permutation of all rows with their rowids
     same_placed : IsPermutation (map (placed_row part) (db (table_of part).tree)) rows
     same_placed = subst (λ l. IsPermutation l rows) (in_places part is db) same
 

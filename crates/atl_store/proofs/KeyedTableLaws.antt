@@ -64,6 +64,7 @@ ints_of InHas = goods_ints
 ints_of InBooks = pair_ints 10 (codes "books") (codes "entry") (codes "thing") (codes "amount")
 ints_of InMarket = pair_ints 12 (codes "market") (codes "region") (codes "item") (codes "stock")
 
+-- the primary key of each of these tables is its key (`HasKey`)
 key_is : (k : Keyed) → HasKey (table_of (part_of k)) (place_in (part_of k)) (table_of (part_of k)).primary
 unfolding first_key
 key_is InHas = record { ours = listed Goods; place = λ more. refl; plain = λ db. refl; ints = ints_of InHas; first = λ x. refl; unique = λ indexes rows r passed. not-true _ (and_parts _ _ passed).0; hits = λ indexes new x. refl }
@@ -92,6 +93,7 @@ record Statements (part : Part) : Type 0 where
   clears : IsTakeOut (table_of part).tree (place_in part) (deletion (table_of part) 1) (of_key 1)
   clears_plain : AlwaysPlain (deletion (table_of part) 1)
 
+-- the statements of each of these tables mean what they should
 means : (k : Keyed) → Statements (part_of k)
 unfolding understood everything
 means InHas = record { puts = λ more indexes. refl; puts_plain = λ more indexes. (refl, refl); drops = λ more indexes. refl; drops_plain = λ more indexes. (refl, refl); clears = λ more indexes. refl; clears_plain = λ more indexes. (refl, refl) }

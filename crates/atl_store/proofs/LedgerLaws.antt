@@ -25,6 +25,7 @@ use Rattle.atl_store.proofs.GoodsLaws.{optional_has, has_optional, optional_apar
 
 -- ---- entries by their places
 
+-- the element of an index is in the list
 has_at : {X : Type 0} (xs : List X) (k : ℕ) (x : X) → slice_get xs k ≡ Some x → Has xs x
 has_at [] k x is = absurd (none-some x is)
 has_at (y ∷ ys) zero x is = inl (sym (same_Some y x is))
@@ -91,15 +92,18 @@ module _ (c : CampaignValue) where
   abbrev row_at : Entry → Thing → Row
   row_at e t = books_row (entry_index e + 1) (thing_index t) (amount_in c.books e t)
 
+  -- each row of a thing is of one of its entries with an amount that is not 0
   entries_has : (t : Thing) (es : List Entry) (r : Row) → Has (entries_lines c t es) r → (e : Entry) × Has es e × (amount_in c.books e t ≢ pos 0) × (r ≡ row_at e t)
   entries_has t es r there =
       let found = flat_has (λ e. amount_lines c e t) es r there in
       let row = optional_has (int_eq (amount_in c.books found.0 t) (pos 0)) (row_at found.0 t) r found.2 in
       (found.0, found.1, differs_zero (amount_in c.books found.0 t) row.0, row.1)
 
+  -- each amount of a thing that is not 0 has its row
   has_entries : (t : Thing) (es : List Entry) (e : Entry) → Has es e → amount_in c.books e t ≢ pos 0 → Has (entries_lines c t es) (row_at e t)
   has_entries t es e there some = has_flat (λ e. amount_lines c e t) es e (row_at e t) there (has_optional (int_eq (amount_in c.books e t) (pos 0)) (row_at e t) (is_differing (amount_in c.books e t) some))
 
+  -- the rows of a thing have different keys
   entries_apart : (t : Thing) (es : List Entry) → are_sorted es ≡ true → DifferInKey 2 (entries_lines c t es)
   entries_apart t [] rising = tt
   entries_apart t (e ∷ es) rising =
@@ -113,6 +117,7 @@ module _ (c : CampaignValue) where
 
   -- ---- all things
 
+  -- the rows of all things have different keys
   things_apart : (from count : ℕ) → DifferInKey 2 (things_lines c (range_with_len from count))
   things_apart from zero = tt
   things_apart from (suc count) =

@@ -20,6 +20,7 @@ tree_of part = (table_of part).tree
 
 -- ---- a part by the tree of its table
 
+-- looking up a tree among all parts finds the part
 found_part : (part : Part) → find (λ p. nat_eq (tree_of p) (tree_of part)) all_parts ≡ Some part
 found_part Own = refl
 found_part part = refl
@@ -32,10 +33,12 @@ first_or_later : {X : Type 0} (b : Bool) (y x : X) (later : Option X) → cond b
 first_or_later true y x later is = inl (same_Some x y (sym is))
 first_or_later false y x later is = inr is
 
+-- what is found in a list is in it
 found_has : {X : Type 0} (p : X → Bool) (xs : List X) (x : X) → find p xs ≡ Some x → Has xs x
 found_has p [] x is = absurd cc
 found_has p (y ∷ xs) x is = elim (first_or_later (p y) y x (find p xs) is) [ inl same ↦ inl same | inr later ↦ inr (found_has p xs x later) ]
 
+-- each part is in the list of all parts
 every_part : (part : Part) → Has all_parts part
 every_part part = found_has (λ p. nat_eq (tree_of p) (tree_of part)) all_parts part (found_part part)
 
@@ -53,6 +56,7 @@ is_among parts part = list_any (λ p. nat_eq (tree_of part) (tree_of p)) parts
 abbrev pub are_apart : List Part → List Part → Bool
 are_apart ps qs = list_all (λ p. not (is_among qs p)) ps
 
+-- a part in a list passes the test
 among : (parts : List Part) (part : Part) → Has parts part → is_among parts part ≡ true
 among parts part there = some_from (λ p. nat_eq (tree_of part) (tree_of p)) parts part there (itself (tree_of part))
   where
@@ -67,6 +71,7 @@ one_or_more : (b c : Bool) → (b || c) ≡ true → (b ≡ true) ⊎ (c ≡ tru
 one_or_more true c is = inl refl
 one_or_more false c is = inr is
 
+-- a part that passes the test is in the list
 among_has : (parts : List Part) (part : Part) → is_among parts part ≡ true → Has parts part
 among_has [] part is = absurd cc
 among_has (p ∷ parts) part is = elim (one_or_more (nat_eq (tree_of part) (tree_of p)) (is_among parts part) is) [
@@ -81,6 +86,7 @@ among_has (p ∷ parts) part is = elim (one_or_more (nat_eq (tree_of part) (tree
 pub all_among : (parts : List Part) → list_all (is_among parts) all_parts ≡ true → (part : Part) → Has parts part
 all_among parts all part = among_has parts part (test_has (is_among parts) all_parts part all (every_part part))
 
+-- no part is in two lists that are apart
 not_both : (ps qs : List Part) → are_apart ps qs ≡ true → (part : Part) → Has ps part → ¬ Has qs part
 not_both ps qs apart part there also = true≢false (sym (test_has (λ p. not (is_among qs p)) ps part apart there) ∙ ap not (among qs part also))
 

@@ -15,6 +15,7 @@ pub record Towards (table : Table) (key : ℕ) (rest all : List Row) (old now : 
   pub rows : (r : Row) → puts key rest (Has (rows_in table now.trees)) r ↔ puts key all (Has (rows_in table old.trees)) r
   pub others : (t : Table) → Has all_tables t → t.tree ≢ table.tree → now.trees t.tree ≡ old.trees t.tree
 
+-- putting rows into equal sets gives equal sets
 puts_same : (key : ℕ) (news : List Row) (S T : Set) → ((r : Row) → S r ↔ T r) → (r : Row) → puts key news S r ↔ puts key news T r
 puts_same key [] S T same r = same r
 puts_same key (new ∷ news) S T same r = puts_same key news (put key new S) (put key new T) (λ x. (
@@ -22,15 +23,18 @@ puts_same key (new ∷ news) S T same r = puts_same key news (put key new S) (pu
   λ h. elim h [ inl is ↦ inl is | inr was ↦ inr ((same x).1 was.0, was.1) ],
 )) r
 
+-- putting two lists joined is putting one and then the other
 puts_append : (key : ℕ) (xs ys : List Row) (S : Set) (r : Row) → puts key (xs ++ ys) S r → puts key ys (puts key xs S) r
 puts_append key [] ys S r h = h
 puts_append key (x ∷ xs) ys S r h = puts_append key xs ys (put key x S) r h
 
+-- putting one list and then the other is putting both joined
 append_puts : (key : ℕ) (xs ys : List Row) (S : Set) (r : Row) → puts key ys (puts key xs S) r → puts key (xs ++ ys) S r
 append_puts key [] ys S r h = h
 append_puts key (x ∷ xs) ys S r h = append_puts key xs ys (put key x S) r h
 
 module _ (table : Table) (key : ℕ) where
+  -- putting a part of the rest comes nearer to all
   towards_rows : (xs rest all : List Row) (old mid new : Database) → Towards table key (xs ++ rest) all old mid → PutsRows table key xs mid new → Towards table key rest all old new
   towards_rows xs rest all old mid new so_far more = record {
     rows = λ r.
@@ -41,6 +45,7 @@ module _ (table : Table) (key : ℕ) where
     others = λ t listed other. more.others t listed other ∙ so_far.others t listed other;
   }
 
+  -- putting one row puts a list of one
   puts_one : (x : Row) (old new : Database) → Puts table key x old new → PutsRows table key (x ∷ []) old new
   puts_one x old new one = record { rows = one.rows; others = one.others }
 

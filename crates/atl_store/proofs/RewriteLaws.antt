@@ -26,6 +26,7 @@ use Rattle.atl_store.proofs.WholeLaws.{inside_weaker}
 
 -- ---- one step after another
 
+-- rewriting the rows of one test and then of another rewrites those of both
 chosen_step : (p q : Bool) (W M N : Type 0) → N ↔ Chosen p W M → Chosen q W N ↔ Chosen (p || q) W M
 chosen_step true true W M N same = (λ h. h, λ h. h)
 chosen_step false true W M N same = (λ h. h, λ h. h)
@@ -125,10 +126,12 @@ is_itself n = ap is_eq (tied_itself nat_cmp_total n)
 
 -- ---- a row that begins with a number
 
+-- a row passes one of two tests of its number exactly if it passes their disjunction
 begins_either : (f g : ℕ → Bool) (r : Row) → begins (λ n. f n || g n) r ≡ (begins f r || begins g r)
 begins_either f g (Int (pos n) ∷ row) = refl
 begins_either f g row = refl
 
+-- a test that is always false chooses no row
 begins_none : (r : Row) → begins (λ n. false) r ≡ false
 begins_none (Int (pos n) ∷ row) = refl
 begins_none row = refl
@@ -149,6 +152,7 @@ key_begins n (v ∷ row) key =
 next_number : (n : ℕ) (ns : List ℕ) (r : Row) → begins (is_among (n ∷ ns)) r ≡ (begins (is_number n) r || begins (is_among ns) r)
 next_number n ns r = begins_either (is_number n) (is_among ns) r
 
+-- with no number left no row is chosen
 no_number : (ns : List ℕ) → ns ≡ [] → (r : Row) → begins (is_among ns) r ≡ false
 no_number ns none r = ap (λ l. begins (is_among l) r) none ∙ begins_none r
 
@@ -208,6 +212,7 @@ module _ {V : Type 0} (table : Table) (line : ℕ → V → Row) (numbered : (n 
       let number : of.0 ≡ n = same_number of.0 n (sym (numbered of.0 of.1) ∙ ap (take 1) (sym of.3) ∙ begins_key n r is) in
       (of.1, ap (get values) (sym number) ∙ of.2, of.3 ∙ ap (λ k. line k of.1) number)
 
+  -- putting the row of a number that the map has rewrites its row in the database
   put_rewrites : (old new : Database) (v : V) → get values n ≡ Some v → Puts table 1 (line n v) old new → RewritesNumber table line values n old new
   put_rewrites old new v there did = rewrites_key (begins (is_number n)) (λ r. take 1 r ≡ take 1 (line n v)) (λ r. r ≡ line n v) (RowsOf line values)
       (λ r is. begins_key n r is ∙ sym (numbered n v))
@@ -216,6 +221,7 @@ module _ {V : Type 0} (table : Table) (line : ℕ → V → Row) (numbered : (n 
       (λ r is of. let w = wanted_at r is of in w.2 ∙ ap (line n) (same_Some w.0 v (sym w.1 ∙ there)))
       table old new did.rows did.others
 
+  -- deleting the row of a number that the map lacks rewrites its row in the database
   drop_rewrites : (old new : Database) → get values n ≡ None → Drops table 1 (int n ∷ []) old new → RewritesNumber table line values n old new
   drop_rewrites old new none did = rewrites_key (begins (is_number n)) (λ r. take 1 r ≡ int n ∷ []) (λ r. ⊥) (RowsOf line values) (begins_key n) (key_begins n) (λ r never. absurd never)
       (λ r is of. let w = wanted_at r is of in none-some w.0 (sym none ∙ w.1))

@@ -32,6 +32,7 @@ use Rattle.atl_store.proofs.ShownLaws.{whole_shown}
 
 -- ---- the formats
 
+-- the automatic index of `market` is harmless to the nine tables of the first format
 market_harmless : IsHarmless 9 (automatic market_table 0 market_unique 13)
 market_harmless t there = all_has (λ t. guards (automatic market_table 0 market_unique 13) t ≡ false) (take 9 all_tables) t (refl, (refl, (refl, (refl, (refl, (refl, (refl, (refl, (refl, tt))))))))) there
 
@@ -77,6 +78,7 @@ record IsMeant (part : Part) : Type 0 where
   rows : (db : Trees) → map (λ r. eval_all (columns_of part) ([] ∷ r ∷ [])) (db (table_of part).tree) ≡ (listing_of part).in_table db
   whole : (r : Row) → first_columns (length (listing_of part).names) (eval_all (columns_of part) ([] ∷ r ∷ [])) ≡ eval_all (columns_of part) ([] ∷ r ∷ [])
 
+-- the SELECT of each part means this
 meant : (part : Part) → IsMeant part
 unfolding understood everything
 meant Own = record { command = λ more indexes. refl; plain = λ more indexes. (refl, refl); unlisted = λ more indexes. refl; same = λ db. refl; rows = λ db. refl; whole = λ r. refl }

@@ -21,6 +21,7 @@ use Rattle.atl_store.proofs.ConfirmLaws.{refused_rests, rests_unchanged}
 use Rattle.atl_store.proofs.KeepLaws.{survives_more, if_ok, if_err}
 use Rattle.atl_store.proofs.SelectingLaws.{never_other, no_fewer}
 
+-- a query on an unchanged connection is asked of the same tables
 asked_unchanged : (old now : State) → IsUnchanged old now → Survives old now (λ _. ⊥) → IsAsked old now
 asked_unchanged old now h survives = record { was_open = λ _. h.0.was_open; is_open = λ _. h.0.is_open; same = h.0.now_is; limit = survives.limit; faults = survives.counts }
 
@@ -31,6 +32,7 @@ rests_then old mid new first rests = record {
   same = λ up. let same = rests.same up in (elim same.0 [ inl last ↦ inl (last ∙ first.0.committed_is) | inr as_it_was ↦ inr (as_it_was ∙ first.0.now_is) ], same.1 ∙ first.0.committed_is);
 }
 
+-- two calls that leave the connection at rest do so together
 rests_both : (old mid new : State) → Rests old mid → Rests mid new → Rests old new
 rests_both old mid new one two = record {
   was_open = λ up. one.was_open (two.was_open up);
@@ -45,6 +47,7 @@ rests_both old mid new one two = record {
       );
 }
 
+-- `IsAsked` is transitive
 asked_then : (old mid new : State) → IsAsked old mid → IsAsked mid new → IsAsked old new
 asked_then old mid new one two = record {
   was_open = λ up. one.was_open (two.was_open up);
@@ -58,6 +61,7 @@ asked_then old mid new one two = record {
 pub commits_nothing : (sql : List ℕ) (old new : State) → IsPlain (understood old.now.schema sql) → Survives old new (CommitsShowing sql [] old) → Survives old new (λ _. ⊥)
 commits_nothing sql old new plain = survives_weaker old new _ _ (λ _ db. never_commits sql [] old db plain)
 
+-- `IsUnchanged` is transitive
 unchanged_then : (old mid new : State) → IsUnchanged old mid → IsUnchanged mid new → IsUnchanged old new
 unchanged_then old mid new a b = (
   record { was_open = a.0.was_open; is_open = b.0.is_open; now_is = b.0.now_is ∙ a.0.now_is; committed_is = b.0.committed_is ∙ a.0.committed_is; mode = b.0.mode ∙ a.0.mode },
@@ -65,6 +69,7 @@ unchanged_then old mid new a b = (
   b.2 ∙ a.2,
 )
 
+-- mapping a list with one element more at its end
 map_behind : {A B : Type 0} (f : A → B) (xs : List A) (x : A) → map f (xs ++ x ∷ []) ≡ map f xs ++ f x ∷ []
 map_behind f [] x = refl
 map_behind f (y ∷ xs) x = ap (λ ys. f y ∷ ys) (map_behind f xs x)

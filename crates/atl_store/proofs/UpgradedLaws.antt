@@ -134,6 +134,7 @@ module _ {S : Type 0} (g : Ghosts S) (text : List ℕ) (old new : Held S) where
 -- ---- the transaction
 
 module _ {S : Type 0} (g : Ghosts S) (text : List ℕ) (old mid new : Held S) (w : WorldValue) (c : MarkedCampaign) (alone : LeavesAlone g old mid) (ready : IsReady g text old mid w c) where
+  -- The transaction of the upgrade had this result.
   abbrev Wrote : {A : Type 0} → Result A Error → Type 0
   Wrote r = Transacts g (OfUpgrade text c.value) IsOld (WritesUpgrade text c.value) r mid new
 
@@ -141,6 +142,7 @@ module _ {S : Type 0} (g : Ghosts S) (text : List ℕ) (old mid new : Held S) (w
   is_old : IsJustOld mid.schema → HasCleanDisk (state g mid) → IsOld (state g mid).now
   is_old just clean = let stands = ready.loads.stands clean in record { just = just; keyed = stands.keyed; listed = stands.listed }
 
+  -- a database that the upgrade wrote holds the campaign
   did : (db : Database) → HasCleanDisk (state g mid) → WritesUpgrade text c.value (state g mid).now db → Holds db.trees text c.value
   did db clean wrote = wrote (world_text (state g mid)) (ready.loads.stands clean).rows ready.loads.fits.stocks
 
@@ -179,12 +181,14 @@ module _ {S : Type 0} (g : Ghosts S) (text : List ℕ) (old mid new : Held S) (w
   }
 
   module _ (just : IsJustOld mid.schema) (idle : mid.in_transaction ≡ false) (off : HasCleanDisk (state g new) → LeavesOff (state g mid) (state g new)) (survives : Survives (state g mid) (state g new) (MayLeave IsOld (WritesUpgrade text c.value) (state g mid))) where
+    -- the tables are as they were, if the upgrade failed
     spared : HasCleanDisk (state g new) → Spares (state g old) (state g new)
     spared clean =
         let clean_mid = before survives clean in
         let stands = ready.loads.stands clean_mid in
         spares_both (off clean).was_open alone.survives.counts survives.counts (alone.spares clean_mid) (leaves_spares (state g mid) (state g new) _ clean (off clean) survives idle (λ up. sym stands.settled))
 
+    -- a crash leaves what it left before, or the upgraded campaign
     may_upgrade : HasCleanDisk (state g new) → MayUpgrade (state g old) text (state g new)
     may_upgrade clean db may =
         let clean_mid = before survives clean in
@@ -193,9 +197,11 @@ module _ {S : Type 0} (g : Ghosts S) (text : List ℕ) (old mid new : Held S) (w
           | inr stored ↦ inr (w, c.value, matched g text old mid alone clean_mid w c ready, stored)
         ]
 
+    -- an error of the transaction breaks the upgrade off
     broken_off : (e : Error) (memory : Bool) → is_memory e ≡ memory → Gives g (OfUpgrade text c.value) e mid new → HasCleanDisk (state g mid) → BreaksOff g text old new memory
     broken_off e memory is gave clean_mid = record { world = w; campaign = c.value; matches = matched g text old mid alone clean_mid w c ready; before = mid; alone = alone; error = e; memory_is = is; given = gave }
 
+    -- the fault of the upgrade is that of this error
     fails_to_write : (e : Error) (memory : Bool) → is_memory e ≡ memory → Gives g (OfUpgrade text c.value) e mid new → HasCleanDisk (state g mid) → FailsToWrite g text old new (cond memory upgrade.Memory upgrade.Store)
     fails_to_write e true is gave clean_mid = broken_off e true is gave clean_mid
     fails_to_write e false is gave clean_mid = broken_off e false is gave clean_mid

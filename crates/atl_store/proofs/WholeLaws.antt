@@ -78,6 +78,7 @@ given_err (Ok a) p = tt
 given_err (Err e) p = p
 
 module _ {S : Type 0} (g : Ghosts S) (old : Held S) (begun mid : MutBor (Held S)) (begins : begun.now ≡ record old { in_transaction = true }) (Before : Database → Type 0) (Does : Database → Database → Type 0) (end : Held S) (over : end.in_transaction ≡ false) where
+  -- a rollback leaves the connection as before the transaction
   rolled_back : KeepsCommit (state g begun.now) (state g mid.now) → IsRolledBack (state g mid.now) (state g end) → LeavesOff (state g old) (state g end)
   rolled_back kept back = record {
     was_open = λ up. subst IsTrue (ap (λ (h : Held S). (state g h).is_open) begins) (kept.was_open (back.was_open up));
@@ -88,6 +89,7 @@ module _ {S : Type 0} (g : Ghosts S) (old : Held S) (begun mid : MutBor (Held S)
     idle = over;
   }
 
+  -- after BEGIN the connection is in a transaction
   inside_begun : IsTrue (state g begun.now).in_transaction
   inside_begun = ap (λ (h : Held S). h.in_transaction) begins
 

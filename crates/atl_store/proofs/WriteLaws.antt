@@ -29,6 +29,7 @@ HandsOn e r = IsErr r × IsErrAnd r (λ f. f ≡ e)
 abbrev pub SoFar : {S : Type 0} → Ghosts S → Statements → (State → State → Type 0) → MutBor (Held S) → MutBor (Held S) → Type 0
 SoFar g own Does old new = Writes g own Does {A = Unit {0}} (Ok (tt {0})) old new
 
+-- before any call nothing is committed
 survives_start : (s : State) → Survives s s (λ _. ⊥)
 survives_start s = record { clean = omega arith; shield = λ h. h; counts = omega arith; limit = refl; closes = λ clean up. inl up; crash = λ clean db may. inl may }
 
@@ -48,6 +49,7 @@ module _ {S : Type 0} (g : Ghosts S) where
     abbrev Ran : Result ℕ Error → Type 0
     Ran r = HasCleanDisk (state g new.now) → IsTrue (state g old.now).in_transaction → ExecutesInside 0 sql params (state g old.now) (state g new.now) r
 
+    -- a statement inside a transaction keeps the last commit
     keeps : (r : Result ℕ Error) → Ended r → Ran r → HasCleanDisk (state g new.now) → KeepsCommit (state g old.now) (state g new.now)
     keeps r ended ran clean = elim (cases_Bool (state g old.now).in_transaction) [
       | inl inside ↦ inside_keeps (state g old.now) (state g new.now) 0 false sql params r (ran clean inside)
