@@ -124,7 +124,8 @@ impl<S: Alter> Service<S> {
         Ok(answers)
     }
 
-    /// The campaign, while the service is open. Nothing of it is marked: all that changed has been written.
+    /// The campaign, while the service is open. Its dirty set is empty: all changes have been
+    /// written.
     pub fn campaign(&self) -> Option<&Campaign>
         ensures value { option_map (λ c. c.value) (option_copied result) ≡ self.now.campaign }
         ensures good { IfSome self.now.campaign (IsGood self.now.world) }
